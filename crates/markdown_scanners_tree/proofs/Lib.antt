@@ -1,0 +1,3 @@
+pub mod ColumnLemmas
+pub mod LineRunLemmas
+pub mod SpaceLemmas

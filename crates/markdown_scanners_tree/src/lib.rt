@@ -1,0 +1,4 @@
+//! Scanners of Markdown: the fragments of lines and of inline text.
+#![tactic(auto)]
+
+pub mod line;
