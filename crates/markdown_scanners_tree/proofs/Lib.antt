@@ -1,3 +1,9 @@
+pub mod BlankLemmas
+pub mod BreakLemmas
 pub mod ColumnLemmas
+pub mod FrontLemmas
+pub mod HeadLemmas
+pub mod LineRows
 pub mod LineRunLemmas
 pub mod SpaceLemmas
+pub mod StepLemmas

@@ -1,25 +1,17 @@
 -- A state on a line, and the column of the written out line that it stands for.
-use Rattle.std.proofs.Common.{ℕ, if◌then◌else◌, nat_le, ◌&&◌, zero, suc, not, Option, subst, Some, None, Bool, true, false, cond, ◌≡◌, refl, sym, ◌∙◌, ap, ◌⊎◌, inl, inr, ◌==◌, eqb, List, [], ◌∷◌, ◌++◌, ◌+◌, ◌-◌, ◌*◌, ◌/◌, ◌%◌, ◌<◌, ◌≤◌, min, replicate, length, get_or, take, drop, arith, append_assoc, add-zero, zero-add, length-append, take_while}
-use Rattle.std.specs.List.{prefix_len}
-use Rattle.std.proofs.Math.ListN.{drop_of_length-le}
-use Rattle.std.proofs.lemmas.List.Folds.{length-prefix_len}
-use Rattle.std.proofs.lemmas.Bool.{cases_lt}
+use Rattle.std.proofs.Common.{ℕ, Option, subst, Some, None, ◌≡◌, refl, sym, ◌∙◌, ap, ◌==◌, List, [], ◌∷◌, ◌++◌, ◌+◌, ◌-◌, ◌<◌, ◌≤◌, length, take, drop, arith, append_assoc, zero-add}
 use Rattle.std.proofs.lemmas.Bool.Decides.{nat_tests}
-use Rattle.std.proofs.lemmas.List.{length-replicate, drop-drop, append-nil, drop_more}
-use Rattle.markdown_scanners_tree.specs.Bytes.{begins_with, is_line_ending}
-use Rattle.markdown_scanners_tree.specs.Columns.{column_after, column_past, columns, head_end, is_on_byte, bytes_below, written_byte, written_out, expanded}
-use Rattle.markdown_scanners_tree.specs.LineState.{LineState, unscanned, rest_of, leading_spaces, bytes_for, columns_further, space_within, after_space, bytes_further}
-use Rattle.markdown_scanners_tree.specs.LineOutcome.{after_quote}
-use Rattle.markdown_scanners_tree.specs.Bytes.{is_at_line_end}
-use Rattle.markdown_scanners_tree.specs.PlainStep.{plain_step, quote_step, Step, IsPlainStep}
+use Rattle.std.proofs.lemmas.List.{drop-drop, append-nil}
+use Rattle.markdown_scanners_tree.specs.Columns.{column_past, head_end, is_on_byte, bytes_below, expanded}
+use Rattle.markdown_scanners_tree.specs.LineState.{LineState, unscanned, rest_of, columns_further}
+use Rattle.markdown_scanners_tree.specs.PlainStep.{plain_step}
 use Rattle.markdown_scanners_tree.specs.PlainRun.{plain_run, run_from, after_answer, refusal, Run, stop_at, rest_after, scanned_after}
 use Rattle.markdown_scanners_tree.specs.declared.line.LineAnswer.{LineAnswer}
-use Rattle.markdown_scanners_tree.specs.declared.line.LineAnswer.TheVariants.{Flag, Count}
 use Rattle.markdown_scanners_tree.specs.declared.line.LineCall.{LineCall}
-use Rattle.markdown_scanners_tree.specs.declared.line.LineCall.TheVariants.{Space, Upto, Eol, Quote}
 use Rattle.markdown_scanners_tree.specs.declared.line.LineStop.{LineStop}
-use Rattle.markdown_scanners_tree.proofs.ColumnLemmas.{after-more, bool_cases, written-end, written-cons, head_end-cons, head_end-end, end-more, below-split, on-split, past-fits, on_here, off_before, none_below, Reach, reach_byte, reach_none}
-use Rattle.markdown_scanners_tree.proofs.SpaceLemmas.{state_of, spaces, below-phase, past-phase, written_out-phase}
+use Rattle.markdown_scanners_tree.proofs.ColumnLemmas.{bool_cases, below-split, on-split, past-fits, on_here, off_before, none_below}
+use Rattle.markdown_scanners_tree.proofs.SpaceLemmas.{state_of, further-column}
+use Rattle.markdown_scanners_tree.proofs.HeadLemmas.{step-fits}
 
 -- the state that a run on the line has when it has taken k columns of the written out line; c is the column of its place
 pub record Tied (line : List ℕ) (k c : ℕ) (s : LineState) : Type 0 where
@@ -31,21 +23,6 @@ pub record Tied (line : List ℕ) (k c : ℕ) (s : LineState) : Type 0 where
 
 pub tied_first : (line : List ℕ) → Tied line 0 0 (record { bytes = line; place = 0; pending = 0; phase = 0 })
 tied_first line = record { shape = refl; at = refl; below = λ later h. sym (zero-add _); on = λ later h. refl; rest = refl }
-
--- what columns_further gives, by the column of the place in place of its phase
-pub further-column : (line : List ℕ) (place p c n : ℕ) →
-    let back = drop place line in
-    let m = bytes_below c back (c + n - p) in
-    let c' = column_past c (take m back) in
-    columns_further n (state_of line place p c) ≡ state_of line (place + m) (p + c' - (c + n)) c'
-further-column line place p c n =
-    let back = drop place line in
-    let m = bytes_below c back (c + n - p) in
-    let count : bytes_below (c % 4) back (c % 4 + n - p) ≡ m = below-phase back c n p in
-    let shifted : column_past (c % 4) (take m back) + 4 * (c / 4) ≡ column_past c (take m back) = past-phase (take m back) c in
-    let pending : p + column_past (c % 4) (take m back) - (c % 4 + n) ≡ p + column_past c (take m back) - (c + n) = omega arith in
-    let phase : column_past (c % 4) (take m back) % 4 ≡ column_past c (take m back) % 4 = omega arith in
-    rw (count, pending, phase) refl
 
 module _ (line : List ℕ) (k c place p t : ℕ) (tied : Tied line k c (state_of line place p c))
     (fits : c + t ≤ p + head_end c (drop place line))
@@ -94,65 +71,6 @@ tied_scanned line k c s tied =
     let at = tied.at in
     let none = none_below (drop s.place line) c k (omega arith) in
     tied.below k (omega arith) ∙ rw none (omega arith)
-
--- how many bytes stand before the first line ending
-abbrev pub head_len : List ℕ → ℕ
-head_len r = prefix_len (λ b. not (is_line_ending b)) r
-
-head_len-spaces : (m : ℕ) (w : List ℕ) → head_len (spaces m ++ w) ≡ m + head_len w
-head_len-spaces zero w = omega arith
-head_len-spaces (suc m) w = omega (arith, head_len-spaces m w)
-
--- the head of what is written out ends where the head of the bytes does
-pub head_len-end : (bs : List ℕ) (c : ℕ) → c + head_len (written_out c bs) ≡ head_end c bs
-head_len-end [] c = add-zero c
-head_len-end (b ∷ bs) c =
-    bool_cases (is_line_ending b)
-    (λ ends. rw (written-end c b bs ends, head_end-end c b bs ends, ends) (add-zero c))
-    (λ goes.
-    let rest = head_len-end bs (column_after c b) in
-    let more = after-more c b in
-    bool_cases (b == 9)
-    (λ tab.
-    let w = column_after c b - c in
-    let e : written_byte c b ≡ spaces w = rw tab refl in
-    rw (written-cons c b bs goes, head_end-cons c b bs goes, e, head_len-spaces w (written_out (column_after c b) bs)) (omega arith))
-    (λ plain.
-    let e : written_byte c b ≡ b ∷ [] = rw plain refl in
-    let next : column_after c b ≡ c + 1 = rw plain refl in
-    rw (written-cons c b bs goes, head_end-cons c b bs goes, e, goes) (omega arith)))
-
-pub leading-head : (r : List ℕ) → leading_spaces r ≤ head_len r
-leading-head [] = omega arith
-leading-head (b ∷ r) =
-    bool_cases (b == 32)
-    (λ yes. let e : b ≡ 32 = grind (arith, nat_tests) in rw e (omega (arith, leading-head r)))
-    (λ no. rw no (omega arith))
-
-quote-within : (r : List ℕ) → (quote_step r).taken ≤ head_len r
-quote-within [] = omega arith
-quote-within (b ∷ r) =
-    bool_cases (b == 62)
-    (λ yes. let e : b ≡ 62 = grind (arith, nat_tests) in rw e (omega (arith, leading-head r)))
-    (λ no. rw no (omega arith))
-
--- a call takes nothing past the head of a rest
-pub plain_step-within : (call : LineCall) (r : List ℕ) → (plain_step call r).taken ≤ head_len r
-plain_step-within (Space n) r = omega (arith, leading-head r)
-plain_step-within (Upto n) r = omega (arith, leading-head r)
-plain_step-within Eol r = omega arith
-plain_step-within Quote r = quote-within r
-
--- so it does not on a state
-pub step-fits : (call : LineCall) (line : List ℕ) (place p c : ℕ) →
-    c + (plain_step call (rest_of (state_of line place p c))).taken ≤ p + head_end c (drop place line)
-step-fits call line place p c =
-    let back = drop place line in
-    let within = plain_step-within call (rest_of (state_of line place p c)) in
-    let head : head_len (rest_of (state_of line place p c)) ≡ p + head_len (written_out c back) =
-    head_len-spaces p (written_out (c % 4) back) ∙ ap (λ w. p + head_len w) (written_out-phase back c) in
-    let end = head_len-end back c in
-    omega arith
 
 -- answers before a run
 abbrev pub after_answers : List LineAnswer → Run → Run
@@ -240,156 +158,3 @@ pub so_far_stopped : (line : List ℕ) (calls left : List LineCall) (call : Line
 so_far_stopped line calls left call reason answers s k c so refused =
     let stops = run_from-stops line k call left reason (ap (λ b. refusal b call) (tied_on line k c s so.tied) ∙ refused) in
     rw (so.run, stops, append-nil answers) (refl, refl, sym so.tied.rest, sym (tied_scanned line k c s so.tied))
-
--- nothing taken
-pub none_further : (bytes : List ℕ) (place p c : ℕ) → columns_further 0 (state_of bytes place p c) ≡ state_of bytes place p c
-none_further bytes place p c =
-    let back = drop place bytes in
-    let count : bytes_below (c % 4) back (c % 4 + 0 - p) ≡ 0 = none_below back (c % 4) (c % 4 + 0 - p) (omega arith) in
-    let same : place + 0 ≡ place = omega arith in
-    let pending : p + c % 4 - (c % 4 + 0) ≡ p = omega arith in
-    let phase : c % 4 % 4 ≡ c % 4 = omega arith in
-    rw (count, same, pending, phase) refl
-
--- a line ends where the written out line does
-pub line_end-written : (bs : List ℕ) (c : ℕ) → is_at_line_end (written_out c bs) ≡ is_at_line_end bs
-line_end-written [] c = refl
-line_end-written (b ∷ bs) c =
-    bool_cases (is_line_ending b)
-    (λ ends. ap is_at_line_end (written-end c b bs ends))
-    (λ goes.
-    bool_cases (b == 9)
-    (λ tab.
-    let w = column_after c b - c - 1 in
-    let more = after-more c b in
-    let width : column_after c b - c ≡ suc w = omega arith in
-    let first : written_byte c b ≡ spaces (column_after c b - c) = rw tab refl in
-    let e : written_byte c b ≡ 32 ∷ spaces w = first ∙ ap spaces width in
-    ap is_at_line_end (written-cons c b bs goes) ∙ rw (e, goes) refl)
-    (λ plain.
-    let e : written_byte c b ≡ b ∷ [] = rw plain refl in
-    ap is_at_line_end (written-cons c b bs goes) ∙ rw (e, goes) refl))
-
-pub eol_step : (bytes : List ℕ) (place c : ℕ) (r : Bool) → r ≡ is_at_line_end (drop place bytes) →
-    IsPlainStep Eol (Flag r) (state_of bytes place 0 c) (state_of bytes place 0 c)
-eol_step bytes place c r e = record {
-  answered = ap Flag (e ∙ sym (line_end-written (drop place bytes) (c % 4)));
-  rest = refl;
-  moved = sym (none_further bytes place 0 c);
-}
-
-pub upto_step : (n r : ℕ) (old new : LineState) → r ≡ space_within n old → new ≡ after_space n old →
-    rest_of new ≡ drop r (rest_of old) → IsPlainStep (Upto n) (Count r) old new
-upto_step n r old new answer state rest = record {
-  answered = ap Count answer;
-  rest = rw answer at rest;
-  moved = state;
-}
-
--- the same from a state with its pending columns, where there are none
-pub eol_step-none : (bytes : List ℕ) (place p c : ℕ) (r : Bool) → p ≡ 0 → r ≡ is_at_line_end (drop place bytes) →
-    IsPlainStep Eol (Flag r) (state_of bytes place p c) (state_of bytes place p c)
-eol_step-none bytes place p c r none e = rw none (eol_step bytes place c r e)
-
-pub at_byte : (bytes : List ℕ) (place : ℕ) → place < length bytes → is_at_line_end (drop place bytes) ≡ is_line_ending (get_or bytes place 0)
-at_byte bytes place inside = ap is_at_line_end (drop_more bytes place 0 inside)
-
--- w bytes of one column each, and t columns after them
-pub plain_then : (bytes front : List ℕ) (place c w t : ℕ) → Reach c (drop place bytes) front w (c + w) 0 (drop (place + w) bytes) →
-    columns_further (w + t) (state_of bytes place 0 c) ≡ columns_further t (state_of bytes (place + w) 0 (c + w))
-plain_then bytes front place c w t r =
-    let m' = bytes_below (c + w) (drop (place + w) bytes) (c + w + t - 0) in
-    let sum : c + (w + t) - 0 ≡ c + w + t - 0 = omega arith in
-    let count : bytes_below c (drop place bytes) (c + (w + t) - 0) ≡ w + m' = rw sum (r.below (c + w + t - 0) (omega arith)) in
-    let past : column_past c (take (w + m') (drop place bytes)) ≡ column_past (c + w) (take m' (drop (place + w) bytes)) = r.past m' in
-    let place' : place + (w + m') ≡ place + w + m' = omega arith in
-    let sum' : c + (w + t) ≡ c + w + t = omega arith in
-    further-column bytes place 0 c (w + t) ∙ rw (count, past, place', sum') (sym (further-column bytes (place + w) 0 (c + w) t))
-
-pub bytes_further-column : (bytes : List ℕ) (place p c w : ℕ) → bytes_further w (state_of bytes place p c) ≡ state_of bytes (place + w) p (c + w)
-bytes_further-column bytes place p c w =
-    let phase : (c % 4 + w) % 4 ≡ (c + w) % 4 = omega arith in
-    rw phase refl
-
--- a block quote marker with nothing pending is one plain step
-pub quote_taken : (bytes : List ℕ) (place c : ℕ) (new : LineState) → place < length bytes → get_or bytes place 0 ≡ 62 →
-    let mid = state_of bytes (place + 1) 0 (c + 1) in
-    new ≡ after_space 1 mid → rest_of new ≡ drop (space_within 1 mid) (rest_of mid) →
-    IsPlainStep Quote (Flag true) (state_of bytes place 0 c) new
-quote_taken bytes place c new inside read state rest =
-    let back = drop (place + 1) bytes in
-    let mid = state_of bytes (place + 1) 0 (c + 1) in
-    let t = space_within 1 mid in
-    let split : drop place bytes ≡ 62 ∷ back = rw (drop_more bytes place 0 inside, read) refl in
-    let reach₀ = reach_byte {c₀ = c} {bs₀ = 62 ∷ back} {out = []} {passed = 0} {c = c} {b = 62} {back = back} 0 (reach_none c 0 (62 ∷ back)) refl (omega arith) in
-    let reach : Reach c (drop place bytes) (62 ∷ []) 1 (c + 1) 0 back = rw split reach₀ in
-    let before : rest_of (state_of bytes place 0 c) ≡ 62 ∷ rest_of mid =
-    written_out-phase (drop place bytes) c ∙ ap (written_out c) split ∙ ap (λ w. 62 ∷ w) (sym (written_out-phase back (c + 1))) in
-    let e : 1 + t ≡ suc t = omega arith in
-    record {
-      answered = rw before refl;
-      rest = rw (before, e) rest;
-      moved = rw before (state ∙ sym (plain_then bytes (62 ∷ []) place c 1 t reach));
-    }
-
-pub quote_is : (bytes : List ℕ) (place p c : ℕ) → place < length bytes → get_or bytes place 0 ≡ 62 →
-    after_quote (state_of bytes place p c) ≡ after_space 1 (state_of bytes (place + 1) p (c + 1))
-quote_is bytes place p c inside read =
-    let s = state_of bytes place p c in
-    let split : drop place bytes ≡ 62 ∷ drop (place + 1) bytes = rw (drop_more bytes place 0 inside, read) refl in
-    ap (λ r. cond (begins_with (λ b. b == 62) r) (after_space 1 (bytes_further 1 s)) s) split ∙ ap (after_space 1) (bytes_further-column bytes place p c 1)
-
-pub quote_taken-none : (bytes : List ℕ) (place p c : ℕ) (new : LineState) → place < length bytes → get_or bytes place 0 ≡ 62 → p ≡ 0 →
-    let mid = state_of bytes (place + 1) p (c + 1) in
-    new ≡ after_space 1 mid → rest_of new ≡ drop (space_within 1 mid) (rest_of mid) →
-    IsPlainStep Quote (Flag true) (state_of bytes place p c) new
-quote_taken-none bytes place p c new inside read none state rest =
-    rw none (quote_taken bytes place c new inside read (rw none at state) (rw none at rest))
-
--- `>` begins what is written out where it begins the bytes
-pub quote-written : (bs : List ℕ) (c : ℕ) → begins_with (λ b. b == 62) (written_out c bs) ≡ begins_with (λ b. b == 62) bs
-quote-written [] c = refl
-quote-written (b ∷ bs) c =
-    bool_cases (is_line_ending b)
-    (λ ends. ap (begins_with (λ b. b == 62)) (written-end c b bs ends))
-    (λ goes.
-    bool_cases (b == 9)
-    (λ tab.
-    let w = column_after c b - c - 1 in
-    let more = after-more c b in
-    let width : column_after c b - c ≡ suc w = omega arith in
-    let first : written_byte c b ≡ spaces (column_after c b - c) = rw tab refl in
-    let e : written_byte c b ≡ 32 ∷ spaces w = first ∙ ap spaces width in
-    let other : (b == 62) ≡ false = grind (arith, nat_tests) in
-    ap (begins_with (λ b. b == 62)) (written-cons c b bs goes) ∙ rw (e, other) refl)
-    (λ plain.
-    let e : written_byte c b ≡ b ∷ [] = rw plain refl in
-    ap (begins_with (λ b. b == 62)) (written-cons c b bs goes) ∙ rw e refl))
-
-no_quote : (r : List ℕ) → begins_with (λ b. b == 62) r ≡ false → quote_step r ≡ record { answer = Flag false; taken = 0 }
-no_quote [] h = refl
-no_quote (b ∷ r) h = rw h refl
-
-pub quote_refused : (bytes : List ℕ) (place p c : ℕ) → p ≡ 0 → begins_with (λ b. b == 62) (drop place bytes) ≡ false →
-    IsPlainStep Quote (Flag false) (state_of bytes place p c) (state_of bytes place p c)
-quote_refused bytes place p c none h =
-    let s = state_of bytes place 0 c in
-    let step : quote_step (rest_of s) ≡ record { answer = Flag false; taken = 0 } =
-    no_quote (rest_of s) (quote-written (drop place bytes) (c % 4) ∙ h) in
-    let answered : Flag false ≡ (quote_step (rest_of s)).answer = ap (λ (x : Step). x.answer) (sym step) in
-    let taken : 0 ≡ (quote_step (rest_of s)).taken = ap (λ (x : Step). x.taken) (sym step) in
-    let here : IsPlainStep Quote (Flag false) s s = record {
-      answered = answered;
-      rest = ap (λ t. drop t (rest_of s)) taken;
-      moved = sym (none_further bytes place 0 c) ∙ ap (λ t. columns_further t s) taken;
-    } in
-    rw none here
-
-pub quote_absent : (bytes : List ℕ) (place : ℕ) → length bytes ≤ place → begins_with (λ b. b == 62) (drop place bytes) ≡ false
-quote_absent bytes place h = ap (begins_with (λ b. b == 62)) (drop_of_length-le bytes h)
-
-pub quote_other : (bytes : List ℕ) (place : ℕ) → place < length bytes → (get_or bytes place 0 ≡ 62 → ⊥) → begins_with (λ b. b == 62) (drop place bytes) ≡ false
-quote_other bytes place inside other =
-    let b = get_or bytes place 0 in
-    let no : (b == 62) ≡ false = grind (arith, nat_tests) in
-    ap (begins_with (λ b. b == 62)) (drop_more bytes place 0 inside) ∙ no

@@ -1,7 +1,7 @@
 -- A list of calls on a line, as if its tabs were written out. (CommonMark 0.31.2, section 2.2, tabs)
-use Rattle.std.specs.Prelude.{ℕ, Bool, true, false, ◌&&◌, not, nat_le, List, [], ◌∷◌, ◌++◌, ◌+◌, ◌-◌, ◌^◌, length, drop, Option, Some, None, if◌then◌else◌}
+use Rattle.std.specs.Prelude.{ℕ, Bool, true, false, ◌&&◌, not, List, [], ◌∷◌, ◌+◌, length, drop, Option, Some, None, if◌then◌else◌}
 use Rattle.markdown_scanners_tree.specs.Columns.{expanded, is_on_byte, bytes_below}
-use Rattle.markdown_scanners_tree.specs.PlainStep.{plain_step, Step}
+use Rattle.markdown_scanners_tree.specs.PlainStep.{plain_step}
 use Rattle.markdown_scanners_tree.specs.declared.line.LineAnswer.{LineAnswer}
 use Rattle.markdown_scanners_tree.specs.declared.line.LineCall.{LineCall}
 use Rattle.markdown_scanners_tree.specs.declared.line.LineCall.TheVariants.{Space, Upto}

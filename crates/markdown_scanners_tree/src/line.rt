@@ -1,23 +1,28 @@
 //! A place in a line that is read column by column, with tab stops of four.
-ghost use Rattle.std.specs.Prelude.{◌≡◌, ℕ, ◌+◌, ◌-◌, ◌*◌, ◌/◌, ◌%◌, ◌^◌, ◌<◌, ◌≤◌, ◌↔◌, ◌==◌, true, false, length, drop, replicate, ◌++◌, min, IsTrue, IfOk, if◌then◌else◌};
-ghost use Rattle.markdown_scanners_tree.specs.Bytes.{begins_with};
+//! (CommonMark 0.31.2, section 2.2, tabs)
+ghost use Rattle.std.specs.Prelude.{◌≡◌, ◌+◌, ◌%◌, ◌<◌, ◌≤◌, ◌↔◌, ◌==◌, true, [], ◌∷◌, ◌++◌, length, drop, replicate, IsTrue, IfOk, IfSome, IfNone, ⊤};
+ghost use Rattle.markdown_scanners_tree.specs.Bytes.{begins_with, is_line_ending, is_at_line_end};
 ghost use Rattle.markdown_scanners_tree.specs.Columns.{column_after, written_byte};
-ghost use Rattle.markdown_scanners_tree.specs.LineState.{LineState, unscanned, rest_of, space_within, after_space, columns_further};
-ghost use Rattle.markdown_scanners_tree.specs.Bytes.{is_at_line_end};
+ghost use Rattle.markdown_scanners_tree.specs.LineState.{LineState, unscanned, rest_of, space_within, after_space, bytes_further};
 ghost use Rattle.markdown_scanners_tree.specs.PlainRun.{plain_run, stop_at, rest_after, scanned_after, refusal};
-ghost use Rattle.markdown_scanners_tree.specs.PlainStep.{plain_step, IsPlainStep};
+ghost use Rattle.markdown_scanners_tree.specs.PlainStep.{IsPlainStep};
 ghost use Rattle.markdown_scanners_tree.specs.LineOutcome.{after_all_space, after_quote};
 
 use std::alloc::{AllocError, Global};
 use std::marker::Model;
 
 /// A place in a line, and the columns of a tab before it that are not taken yet.
+///
+/// A column counts bytes, and a tab reaches to the next multiple of four. Contracts see a
+/// `LineState`: the bytes, the place, the pending columns, and the column of the place modulo four.
 #[derive(Drop)]
 pub struct LineStart<'a> {
     bytes: &'a [u8],
     place: usize,
+    // At most four columns a byte, which may be more than a `usize` holds.
     column: u128,
     pending: usize,
+    // No thematic break begins at a place from the present one up to this one.
     no_break_before: usize,
 }
 
@@ -37,7 +42,24 @@ impl<'a> Model for LineStart<'a> {
         × ((k : ℕ) → s.place ≤ k → k < s.no_break_before → is_thematic_break (drop k s.bytes.now) ≡ false) };
 }
 
+impl Clone for LineStart<'_> {
+    ghost is_clone = { λ x y. y ≡ x };
+
+    ghost is_infallible = { λ _. ⊤ };
+
+    fn clone(&self) -> Result<Self, AllocError> {
+        Ok(LineStart {
+            bytes: self.bytes,
+            place: self.place,
+            column: self.column,
+            pending: self.pending,
+            no_break_before: self.no_break_before,
+        })
+    }
+}
+
 impl<'a> LineStart<'a> {
+    /// The start of a line: place 0, with nothing pending.
     pub fn new(bytes: &'a [u8]) -> LineStart<'a>
         ensures { result ≡ record { bytes = bytes.now; place = 0; pending = 0; phase = 0 } }
     {
@@ -50,16 +72,117 @@ impl<'a> LineStart<'a> {
         }
     }
 
+    /// The place: how many bytes have been passed.
     pub fn bytes_scanned(&self) -> usize
-        ensures { result ≡ self.now.place }
+        ensures place { result ≡ self.now.place }
+        ensures within { result ≤ length self.now.bytes }
     {
         self.place
     }
 
+    /// The pending columns: those of the last tab that have not been taken yet.
     pub fn remaining_space(&self) -> usize
-        ensures { result ≡ self.now.pending }
+        ensures pending { result ≡ self.now.pending }
+        ensures within { result < 4 }
     {
         self.pending
+    }
+
+    // The byte at the place, if there is one.
+    fn next_byte(&self) -> Option<u8>
+        ensures byte { IfSome result (λ b. unscanned self.now ≡ b ∷ drop (self.now.place + 1) self.now.bytes) }
+        ensures inside { IfSome result (λ _. self.now.place < length self.now.bytes) }
+        ensures end { IfNone result (unscanned self.now ≡ []) }
+        ensures phase { self.now.phase < 4 }
+    {
+        self.bytes.get(self.place).copied()
+    }
+
+    // Passes the byte at the place as one column.
+    fn pass_byte(&mut self)
+        requires { self.old.place < length self.old.bytes }
+        ensures { self.new ≡ bytes_further 1 self.old }
+    {
+        self.place += 1;
+        self.column += 1;
+    }
+
+    /// Whether a line ending, or the end of the bytes, stands at the place. Pending columns are looked past.
+    pub fn is_at_eol(&self) -> bool
+        ensures answer { IsTrue result ↔ (is_at_line_end (unscanned self.now) ≡ true) }
+        ensures step { self.now.pending ≡ 0 → IsPlainStep LineCall.Eol (LineAnswer.Flag result) self.now self.now }
+    {
+        self.next_byte().is_none_or(ends_line)
+    }
+
+    /// Takes up to `n` columns of space, the pending ones first and then those of spaces and tabs. Answers how many.
+    pub fn scan_space_upto(&mut self, n: usize) -> usize
+        ensures answer { result ≡ space_within n self.old }
+        ensures state { self.new ≡ after_space n self.old }
+        ensures step { IsPlainStep (LineCall.Upto n) (LineAnswer.Count result) self.old self.new }
+    {
+        let from_pending = n.min(self.pending);
+        self.pending -= from_pending;
+        let mut left = n - from_pending;
+        while left > 0 && self.place < self.bytes.len() {
+            match self.bytes[self.place] {
+                b' ' => {
+                    self.place += 1;
+                    self.column += 1;
+                    left -= 1;
+                }
+                b'\t' => {
+                    let width = (4 - self.column % 4) as usize;
+                    let taken = left.min(width);
+                    self.place += 1;
+                    self.column += width as u128;
+                    self.pending = width - taken;
+                    left -= taken;
+                }
+                _ => break,
+            }
+        }
+        n - left
+    }
+
+    /// Takes up to `n` columns of space as `scan_space_upto` does. Answers whether there were so many.
+    pub fn scan_space(&mut self, n: usize) -> bool
+        ensures answer { IsTrue result ↔ (space_within n self.old ≡ n) }
+        ensures state { self.new ≡ after_space n self.old }
+        ensures step { IsPlainStep (LineCall.Space n) (LineAnswer.Flag result) self.old self.new }
+    {
+        self.scan_space_upto(n) == n
+    }
+
+    /// Drops the pending columns and passes all spaces and tabs at the place.
+    ///
+    /// A tab is passed as one column here, so columns are not those of the line from then on.
+    pub fn scan_all_space(&mut self)
+        ensures { self.new ≡ after_all_space self.old }
+    {
+        self.pending = 0;
+        while self
+            .next_byte()
+            .is_some_and(|byte| byte == b' ' || byte == b'\t')
+        {
+            self.pass_byte();
+        }
+    }
+
+    /// Passes a block quote marker: `>` at the place, and at most one column of space after it.
+    /// Answers whether there was one. Pending columns are looked past, and one of them is that space.
+    /// (CommonMark 0.31.2, section 5.1)
+    pub fn scan_blockquote_marker(&mut self) -> bool
+        ensures answer { IsTrue result ↔ (begins_with (λ b. b == 62) (unscanned self.old) ≡ true) }
+        ensures state { self.new ≡ after_quote self.old }
+        ensures step { self.old.pending ≡ 0 → IsPlainStep LineCall.Quote (LineAnswer.Flag result) self.old self.new }
+    {
+        if self.next_byte() != Some(b'>') {
+            return false;
+        }
+        self.pass_byte();
+        self.scan_space(1);
+        true
     }
 
     // What is left of the line, its tabs written out.
@@ -70,93 +193,22 @@ impl<'a> LineStart<'a> {
         push_spaces(&mut rest, self.pending)?;
         let mut phase = (self.column % 4) as usize;
         let unscanned = &self.bytes[self.place..];
-        let mut done = 0;
-        while done < unscanned.len() {
-            let byte = unscanned[done];
-            if byte == b'\n' || byte == b'\r' {
-                break;
+        for (index, byte) in unscanned.iter().enumerate() {
+            if ends_line(*byte) {
+                rest.extend_from_slice(&unscanned[index..])?;
+                return Ok(rest);
             }
-            phase = push_byte(&mut rest, phase, byte)?;
-            done += 1;
+            phase = push_byte(&mut rest, phase, *byte)?;
         }
-        rest.extend_from_slice(&unscanned[done..])?;
         Ok(rest)
     }
+}
 
-    pub fn is_at_eol(&self) -> bool
-        ensures answer { IsTrue result ↔ (is_at_line_end (unscanned self.now) ≡ true) }
-        ensures step { self.now.pending ≡ 0 → IsPlainStep LineCall.Eol (LineAnswer.Flag result) self.now self.now }
-    {
-        if self.place < self.bytes.len() {
-            let byte = self.bytes[self.place];
-            byte == b'\n' || byte == b'\r'
-        } else {
-            true
-        }
-    }
-
-    pub fn scan_space_upto(&mut self, n: usize) -> usize
-        ensures answer { result ≡ space_within n self.old }
-        ensures state { self.new ≡ after_space n self.old }
-        ensures step { IsPlainStep (LineCall.Upto n) (LineAnswer.Count result) self.old self.new }
-    {
-        let from_pending = n.min(self.pending);
-        self.pending -= from_pending;
-        let mut left = n - from_pending;
-        while left > 0 && self.place < self.bytes.len() {
-            let byte = self.bytes[self.place];
-            if byte == b' ' {
-                self.place += 1;
-                self.column += 1;
-                left -= 1;
-            } else if byte == b'\t' {
-                let width = (4 - self.column % 4) as usize;
-                self.place += 1;
-                self.column += width as u128;
-                let taken = left.min(width);
-                self.pending = width - taken;
-                left -= taken;
-            } else {
-                break;
-            }
-        }
-        n - left
-    }
-
-    pub fn scan_space(&mut self, n: usize) -> bool
-        ensures answer { IsTrue result ↔ (space_within n self.old ≡ n) }
-        ensures state { self.new ≡ after_space n self.old }
-        ensures step { IsPlainStep (LineCall.Space n) (LineAnswer.Flag result) self.old self.new }
-    {
-        self.scan_space_upto(n) == n
-    }
-
-    pub fn scan_all_space(&mut self)
-        ensures { self.new ≡ after_all_space self.old }
-    {
-        self.pending = 0;
-        while self.place < self.bytes.len()
-            && (self.bytes[self.place] == b' ' || self.bytes[self.place] == b'\t')
-        {
-            self.place += 1;
-            self.column += 1;
-        }
-    }
-
-    pub fn scan_blockquote_marker(&mut self) -> bool
-        ensures answer { IsTrue result ↔ (begins_with (λ b. b == 62) (unscanned self.old) ≡ true) }
-        ensures state { self.new ≡ after_quote self.old }
-        ensures step { self.old.pending ≡ 0 → IsPlainStep LineCall.Quote (LineAnswer.Flag result) self.old self.new }
-    {
-        if self.place < self.bytes.len() && self.bytes[self.place] == b'>' {
-            self.place += 1;
-            self.column += 1;
-            let _taken = self.scan_space(1);
-            true
-        } else {
-            false
-        }
-    }
+// Whether the byte is one that ends a line: LF or CR.
+fn ends_line(byte: u8) -> bool
+    ensures { result ≡ is_line_ending byte }
+{
+    byte == b'\n' || byte == b'\r'
 }
 
 // Adds spaces at the end.
@@ -187,9 +239,13 @@ fn push_byte(rest: &mut Vec<u8>, phase: usize, byte: u8) -> Result<usize, AllocE
 /// One call of a run.
 #[derive(Debug, PartialEq, Drop)]
 pub enum LineCall {
+    /// `scan_space`
     Space(usize),
+    /// `scan_space_upto`
     Upto(usize),
+    /// `is_at_eol`
     Eol,
+    /// `scan_blockquote_marker`
     Quote,
 }
 
@@ -203,19 +259,27 @@ pub enum LineAnswer {
 /// Why a call is refused.
 #[derive(Debug, PartialEq, Drop)]
 pub enum LineStop {
+    /// Columns of a tab are pending, and the call is not one that takes space.
     SpacePending,
 }
 
 /// What a list of calls on a line gives.
 #[derive(Debug, PartialEq, Drop)]
 pub struct LineRun {
+    /// One for each call that was made, in order.
     pub answers: Vec<LineAnswer>,
+    /// What is left of the line: the pending columns as spaces, then the bytes not scanned, tabs before the line ending written out.
     pub rest: Vec<u8>,
+    /// How many bytes of the line have been passed.
     pub scanned: usize,
+    /// The index of the call that was refused, and why, if one was.
     pub stop: Option<(usize, LineStop)>,
 }
 
-/// Makes the calls in order on a fresh `LineStart` of the line.
+/// Makes the calls in order on a fresh `LineStart` of the line, up to the first that is refused.
+///
+/// Columns count as if the tabs of the line were spaces, up to the next multiple of four.
+/// (CommonMark 0.31.2, section 2.2)
 pub fn run_line(alloc: Global, bytes: &[u8], calls: &[LineCall]) -> Result<LineRun, AllocError>
     ensures answers { IfOk result (λ run. run.answers.items ≡ (plain_run bytes.now calls.now).answers) }
     ensures stop { IfOk result (λ run. run.stop ≡ stop_at (plain_run bytes.now calls.now)) }

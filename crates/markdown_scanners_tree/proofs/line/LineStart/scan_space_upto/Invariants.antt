@@ -1,4 +1,4 @@
-use Rattle.std.proofs.Common.{◌≡◌, ℕ, ◌+◌, ◌-◌, ◌*◌, ◌<◌, ◌≤◌, length, drop, min}
+use Rattle.std.proofs.Common.{◌≡◌, ◌+◌, ◌-◌, ◌*◌, ◌<◌, ◌≤◌, length, drop, min}
 use Rattle.markdown_scanners_tree.proofs.ColumnLemmas.{Reach}
 use Rattle.markdown_scanners_tree.proofs.SpaceLemmas.{spaces}
 use Rattle.markdown_scanners_tree.proofs.line.LineStart.scan_space_upto.Given as goal

@@ -1,0 +1,99 @@
+-- Line endings, heads of lines and blank lines.
+use Rattle.std.proofs.Common.{◌≡◌, ℕ, ◌+◌, Bool, true, false, not, cond, List, [], ◌∷◌, ◌++◌, length, take, drop, refl, sym, ap, ◌∙◌, arith, inl, inr, nat_eq, Some, None}
+use Rattle.std.specs.List.{prefix_len, list_all}
+use Rattle.std.proofs.lemmas.List.{take-append-drop}
+use Rattle.std.proofs.lemmas.List.Folds.{length-prefix_len}
+use Rattle.std.proofs.lemmas.Bool.{cases_Bool, eqb-true}
+use Rattle.std.proofs.lemmas.Bool.Decides.{nat_tests}
+use Rattle.std.proofs.Math.Seq.{drop-append_seam, take-append_seam}
+use Rattle.markdown_scanners_tree.specs.Bytes.{begins_with, is_white_space_in_line, is_line_ending, line_ending, line_head, line_length, IsBlankLine, is_blank, blank_line}
+use Rattle.markdown_scanners_tree.proofs.FrontLemmas.{list_all-run, list_all-implies, begins_with-after_run, prefix_len-parts}
+
+-- a line ending does not begin with white space in the line, nor with any byte but LF and CR
+pub first-line_ending : (p : ℕ → Bool) → p 10 ≡ false → p 13 ≡ false → (rest : List ℕ) (ending : ℕ) → line_ending rest ≡ Some ending → begins_with p rest ≡ false
+first-line_ending p lf cr [] ending h = refl
+first-line_ending p lf cr (b ∷ bs) ending h =
+    elim (cases_Bool (nat_eq b 10)) [
+      | inl lf_is ↦ rw (eqb-true b 10 lf_is) lf
+      | inr no_lf ↦ elim (cases_Bool (nat_eq b 13)) [ inl cr_is ↦ rw (eqb-true b 13 cr_is) cr | inr no_cr ↦ absurd (let refused = rw (no_lf, no_cr) at h in cc) ]
+    ]
+
+-- a byte that ends no line
+abbrev pub ends_no_line : ℕ → Bool
+ends_no_line b = not (is_line_ending b)
+
+-- what ends the head of a line is a line ending
+pub line_ending-exists : (rest : List ℕ) → begins_with ends_no_line rest ≡ false → (ending : ℕ) × (line_ending rest ≡ Some ending)
+line_ending-exists [] stop = (0, refl)
+line_ending-exists (b ∷ bytes) stop =
+    elim (cases_Bool (nat_eq b 10)) [
+      | inl lf ↦ (1, rw lf refl)
+      | inr no_lf ↦ elim (cases_Bool (nat_eq b 13)) [
+        | inl cr ↦ elim (cases_Bool (begins_with (λ c. nat_eq c 10) bytes)) [ inl then_lf ↦ (2, rw (no_lf, cr, then_lf) refl) | inr alone ↦ (1, rw (no_lf, cr, alone) refl) ]
+        | inr no_cr ↦ absurd (let goes_on = rw (no_lf, no_cr) at stop in cc)
+      ]
+    ]
+
+-- bytes that end no line, before a line ending, are the head
+pub head_parts : (front rest : List ℕ) (ending : ℕ) → list_all ends_no_line front ≡ true → line_ending rest ≡ Some ending → prefix_len ends_no_line (front ++ rest) ≡ length front
+head_parts front rest ending all ends = prefix_len-parts ends_no_line front rest all (first-line_ending ends_no_line refl refl rest ending ends)
+
+pub line_head-parts : (front rest : List ℕ) (ending : ℕ) → list_all ends_no_line front ≡ true → line_ending rest ≡ Some ending → line_head (front ++ rest) ≡ front
+line_head-parts front rest ending all ends = rw (head_parts front rest ending all ends) (take-append_seam front rest)
+
+pub line_length-parts : (front rest : List ℕ) (ending : ℕ) → list_all ends_no_line front ≡ true → line_ending rest ≡ Some ending → line_length (front ++ rest) ≡ length front + ending
+line_length-parts front rest ending all ends =
+    let at = head_parts front rest ending all ends in
+    rw (at, take-append_seam front rest, drop-append_seam front rest, ends) refl
+
+abbrev after_space : List ℕ → List ℕ
+after_space bytes = drop (prefix_len is_white_space_in_line bytes) bytes
+
+pub IsBlankLine-found : (bytes : List ℕ) (ending : ℕ) → line_ending (after_space bytes) ≡ Some ending → IsBlankLine bytes (prefix_len is_white_space_in_line bytes + ending)
+IsBlankLine-found bytes ending h = record {
+  space = take (prefix_len is_white_space_in_line bytes) bytes;
+  rest = after_space bytes;
+  ending = ending;
+  parts = sym (take-append-drop (prefix_len is_white_space_in_line bytes) bytes);
+  spaces = list_all-run is_white_space_in_line bytes;
+  ends = h;
+  counted = ap (λ n. n + ending) (sym (length-prefix_len is_white_space_in_line bytes));
+}
+
+-- the parts of a blank line are the run of white space and what follows it
+pub IsBlankLine-only : (bytes : List ℕ) (n : ℕ) → IsBlankLine bytes n → (ending : ℕ) × (line_ending (after_space bytes) ≡ Some ending) × (n ≡ prefix_len is_white_space_in_line bytes + ending)
+IsBlankLine-only bytes n line =
+    let run : prefix_len is_white_space_in_line (line.space ++ line.rest) ≡ length line.space =
+    prefix_len-parts is_white_space_in_line line.space line.rest line.spaces (first-line_ending is_white_space_in_line refl refl line.rest line.ending line.ends) in
+    rw line.parts (rw run (line.ending, rw (drop-append_seam line.space line.rest) line.ends, line.counted))
+
+space_in_line : (b : ℕ) → is_white_space_in_line b ≡ true → ends_no_line b ≡ true
+space_in_line b h = grind (arith, nat_tests)
+
+-- the length of a blank line, and where there is none
+pub blank_line-is : (bytes : List ℕ) (n : ℕ) → IsBlankLine bytes n → blank_line bytes ≡ Some n
+blank_line-is bytes n line =
+    let all = list_all-implies is_white_space_in_line ends_no_line space_in_line line.space line.spaces in
+    let head : line_head (line.space ++ line.rest) ≡ line.space = line_head-parts line.space line.rest line.ending all line.ends in
+    let blank : is_blank bytes ≡ true = rw line.parts (ap (list_all is_white_space_in_line) head ∙ line.spaces) in
+    let counted : line_length bytes ≡ n = rw line.parts (line_length-parts line.space line.rest line.ending all line.ends) ∙ sym line.counted in
+    ap (λ t. cond t (Some (line_length bytes)) None) blank ∙ ap (λ k. Some k) counted
+
+pub blank_line-none : (bytes : List ℕ) → ((n : ℕ) → ¬ IsBlankLine bytes n) → blank_line bytes ≡ None
+blank_line-none bytes absent =
+    elim (cases_Bool (is_blank bytes)) [
+      | inl blank ↦ (
+          let h = prefix_len ends_no_line bytes in
+          let ends = line_ending-exists (drop h bytes) (begins_with-after_run ends_no_line bytes) in
+          absurd (absent (length (take h bytes) + ends.0) (record {
+            space = take h bytes;
+            rest = drop h bytes;
+            ending = ends.0;
+            parts = sym (take-append-drop h bytes);
+            spaces = blank;
+            ends = ends.1;
+            counted = refl;
+          }))
+          )
+      | inr other ↦ ap (λ t. cond t (Some (line_length bytes)) None) other
+    ]

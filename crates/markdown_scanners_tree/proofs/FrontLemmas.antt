@@ -1,0 +1,48 @@
+-- The longest run at the front of a list of bytes, and the parts that it cuts the list into.
+use Rattle.std.proofs.Common.{◌≡◌, ℕ, zero, suc, ◌-◌, Bool, true, false, ◌&&◌, List, [], ◌∷◌, ◌++◌, length, take, drop, refl, arith, inl, inr, one-add}
+use Rattle.std.specs.List.{prefix_len, list_all}
+use Rattle.std.proofs.lemmas.Bool.{cases_Bool}
+use Rattle.std.proofs.lemmas.List.{take_all, length-drop}
+use Rattle.markdown_scanners_tree.specs.Bytes.{begins_with}
+
+pub both_true : (a b : Bool) → (a && b) ≡ true → (a ≡ true) × (b ≡ true)
+both_true true b h = (refl, h)
+both_true false b h = cc
+
+pub list_all-run : (p : ℕ → Bool) (xs : List ℕ) → list_all p (take (prefix_len p xs) xs) ≡ true
+list_all-run p [] = refl
+list_all-run p (x ∷ xs) = elim (cases_Bool (p x)) [ inl passes ↦ rw (passes, one-add, passes) (list_all-run p xs) | inr fails ↦ rw fails ]
+
+pub begins_with-after_run : (p : ℕ → Bool) (xs : List ℕ) → begins_with p (drop (prefix_len p xs) xs) ≡ false
+begins_with-after_run p [] = refl
+begins_with-after_run p (x ∷ xs) = elim (cases_Bool (p x)) [ inl passes ↦ rw (passes, one-add) (begins_with-after_run p xs) | inr fails ↦ rw (fails, fails) ]
+
+-- a front that passes, before a rest that does not begin with what passes, is the run
+pub prefix_len-parts : (p : ℕ → Bool) (front rest : List ℕ) → list_all p front ≡ true → begins_with p rest ≡ false → prefix_len p (front ++ rest) ≡ length front
+prefix_len-parts p [] [] all stop = refl
+prefix_len-parts p [] (x ∷ rest) all stop = rw stop
+prefix_len-parts p (x ∷ front) rest all stop =
+    let both = both_true (p x) (list_all p front) all in
+    let passes : p x ≡ true = both.0 in
+    rw passes (rw (prefix_len-parts p front rest both.1 stop, one-add))
+
+-- `&bytes[i..]`
+pub from_place : (bytes : List ℕ) (i : ℕ) → take (length bytes - i) (drop i bytes) ≡ drop i bytes
+from_place bytes i = take_all (length bytes - i) (drop i bytes) (omega (arith, length-drop i bytes))
+
+module _ (p q : ℕ → Bool) (implies : (b : ℕ) → p b ≡ true → q b ≡ true) where
+  pub list_all-implies : (bytes : List ℕ) → list_all p bytes ≡ true → list_all q bytes ≡ true
+  list_all-implies [] all = refl
+  list_all-implies (b ∷ bytes) all =
+      let both = both_true (p b) (list_all p bytes) all in
+      let first : q b ≡ true = implies b both.0 in
+      rw first (list_all-implies bytes both.1)
+
+  pub begins_with-implies : (bytes : List ℕ) → begins_with q bytes ≡ false → begins_with p bytes ≡ false
+  begins_with-implies [] stop = refl
+  begins_with-implies (b ∷ bytes) stop = elim (cases_Bool (p b)) [ inl passes ↦ absurd (let q_passes = implies b passes in cc) | inr fails ↦ fails ]
+
+pub list_all-drop : (p : ℕ → Bool) (k : ℕ) (bytes : List ℕ) → list_all p bytes ≡ true → list_all p (drop k bytes) ≡ true
+list_all-drop p zero bytes all = all
+list_all-drop p (suc k) [] all = refl
+list_all-drop p (suc k) (b ∷ bytes) all = list_all-drop p k bytes (both_true (p b) (list_all p bytes) all).1
