@@ -1,0 +1,6 @@
+pub mod FaultLemmas
+mod Numbers
+mod Outcomes
+mod Pairs
+mod PrintedRows
+pub mod Texts

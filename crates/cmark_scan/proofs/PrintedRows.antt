@@ -1,0 +1,44 @@
+-- Worked examples of words and of printed text, computed from the definitions.
+use Rattle.std.proofs.Common.{◌≡◌, refl, List, [], ◌∷◌, ◌++◌, Some, None, true}
+use Rattle.std.specs.Prelude.{codes}
+use Rattle.std.specs.Fmt.{digits}
+use Rattle.markdown_scanners_tree.specs.declared.line.LineCall.TheVariants as call
+use Rattle.markdown_scanners_tree.specs.declared.line.LineAnswer.TheVariants as answer
+use Rattle.markdown_scanners_tree.specs.declared.line.LineStop.TheVariants.{SpacePending}
+use Rattle.cmark_scan.specs.Words.{call_of, request_of, scan_line}
+use Rattle.cmark_scan.specs.Printed.{run_text, line_of}
+
+largest_number : call_of (codes "upto:18446744073709551615") ≡ Some (call.Upto 18446744073709551615)
+largest_number = refl
+
+number_too_large : call_of (codes "upto:18446744073709551616") ≡ None
+number_too_large = refl
+
+no_number : call_of (codes "space:") ≡ None
+no_number = refl
+
+signed_number : call_of (codes "space:+1") ≡ None
+signed_number = refl
+
+line_words : request_of (codes "line" ∷ codes "quote" ∷ codes "upto:3" ∷ codes "eol" ∷ []) ≡ Some (scan_line (call.Quote ∷ call.Upto 3 ∷ call.Eol ∷ []))
+line_words = refl
+
+one_other_word : request_of (codes "line" ∷ codes "quote" ∷ codes "quotes" ∷ []) ≡ None
+one_other_word = refl
+
+no_words : request_of [] ≡ None
+no_words = refl
+
+stopped : run_text (call.Upto 3 ∷ call.Eol ∷ []) (record { answers = answer.Count 3 ∷ []; rest = 32 ∷ 120 ∷ []; scanned = 1; stop = Some (1, SpacePending) })
+    ≡ line_of (codes "upto 3") ++ line_of (codes "scanned 1") ++ line_of (codes "rest 2078") ++ line_of (codes "stop 1 SpacePending")
+unfolding digits
+stopped = refl
+
+flags : run_text (call.Space 1 ∷ call.Eol ∷ []) (record { answers = answer.Flag true ∷ answer.Flag true ∷ []; rest = 10 ∷ []; scanned = 1; stop = None })
+    ≡ line_of (codes "space true") ++ line_of (codes "eol true") ++ line_of (codes "scanned 1") ++ line_of (codes "rest 0a")
+unfolding digits
+flags = refl
+
+nothing_left : run_text [] (record { answers = []; rest = []; scanned = 0; stop = None }) ≡ line_of (codes "scanned 0") ++ line_of (codes "rest -")
+unfolding digits
+nothing_left = refl

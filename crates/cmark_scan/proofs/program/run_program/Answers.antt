@@ -1,0 +1,23 @@
+use Rattle.std.proofs.Common.{arith}
+use Rattle.cmark_scan.proofs.FaultLemmas.{nothing_told, before_writing}
+use Rattle.cmark_scan.proofs.program.run_program.Goals as goal
+
+pub returns-in-Ok-Done-clause-unread : goal.returns-in-Ok-Done-clause-unread
+returns-in-Ok-Done-clause-unread g c = λ told. absurd (nothing_told (g.V.Write.contents c.args.faults.now) 114 _ told)
+
+pub returns-in-Ok-Done-clause-no_memory : goal.returns-in-Ok-Done-clause-no_memory
+returns-in-Ok-Done-clause-no_memory g c = λ told. absurd (nothing_told (g.V.Write.contents c.args.faults.now) 111 _ told)
+
+pub returns-in-Ok-Stopped-clause-unread : goal.returns-in-Ok-Stopped-clause-unread
+returns-in-Ok-Stopped-clause-unread g c = λ told. absurd (nothing_told (g.V.Write.contents c.args.faults.now) 114 _ told)
+
+pub returns-in-Ok-Stopped-clause-no_memory : goal.returns-in-Ok-Stopped-clause-no_memory
+returns-in-Ok-Stopped-clause-no_memory g c = λ told. absurd (nothing_told (g.V.Write.contents c.args.faults.now) 111 _ told)
+
+pub returns-clause-unread : goal.returns-clause-unread
+returns-clause-unread g c = λ told. c.in-Err.ensures.unwritten
+    (before_writing (g.V.Write.contents c.args.faults.now) (g.V.Write.contents c.report_fault.new.faults) c.in-Err.fault 114 _ (omega arith) c.report_fault.ensures.line told)
+
+pub returns-clause-no_memory : goal.returns-clause-no_memory
+returns-clause-no_memory g c = λ told. c.in-Err.ensures.unwritten
+    (before_writing (g.V.Write.contents c.args.faults.now) (g.V.Write.contents c.report_fault.new.faults) c.in-Err.fault 111 _ (omega arith) c.report_fault.ensures.line told)

@@ -1,0 +1,6 @@
+pub mod Command
+pub mod Faults
+pub mod Printed
+pub mod Report
+pub mod Run
+pub mod Words

@@ -1,0 +1,75 @@
+-- What the program prints, and the status that it ends with.
+use Rattle.std.specs.Prelude.{ℕ, Bool, false, ◌⊎◌, ◌≡◌, ◌+◌, ◌*◌, ◌/◌, ◌%◌, List, [], ◌∷◌, ◌++◌, Option, None, Some, codes, length, encode_utf8, if◌then◌else◌}
+use Rattle.std.specs.List.{flat_map, zip}
+use Rattle.std.specs.Fmt.{decimal, digit_glyph}
+use Rattle.markdown_scanners_tree.specs.declared.line.LineCall.{LineCall}
+use Rattle.markdown_scanners_tree.specs.declared.line.LineCall.TheVariants as call
+use Rattle.markdown_scanners_tree.specs.declared.line.LineAnswer.{LineAnswer}
+use Rattle.markdown_scanners_tree.specs.declared.line.LineAnswer.TheVariants as answer
+use Rattle.markdown_scanners_tree.specs.declared.line.LineStop.{LineStop}
+use Rattle.markdown_scanners_tree.specs.declared.line.LineStop.TheVariants.{SpacePending}
+use Rattle.cmark_scan.specs.Run.{Run, run_of}
+use Rattle.cmark_scan.specs.Words.{Request, scan_line}
+
+-- a line of output
+abbrev pub line_of : List ℕ → List ℕ
+line_of text = text ++ 10 ∷ []
+
+-- `true` or `false`
+abbrev pub flag_text : Bool → List ℕ
+flag_text b = if b then codes "true" else codes "false"
+
+abbrev pub answer_text : LineAnswer → List ℕ
+answer_text (answer.Flag b) = flag_text b
+answer_text (answer.Count n) = decimal n
+
+-- the word for a call
+abbrev pub call_name : LineCall → List ℕ
+call_name (call.Space n) = codes "space"
+call_name (call.Upto n) = codes "upto"
+call_name call.Eol = codes "eol"
+call_name call.Quote = codes "quote"
+
+-- a call and what it answered
+abbrev pub answer_line : LineCall × LineAnswer → List ℕ
+answer_line asked = line_of (call_name asked.0 ++ codes " " ++ answer_text asked.1)
+
+-- a byte as two lower-case hexadecimal digits
+abbrev pub hex_byte : ℕ → List ℕ
+hex_byte b = digit_glyph false (b / 16) ∷ digit_glyph false (b % 16) ∷ []
+
+-- bytes in hexadecimal digits, or a hyphen where there is none
+abbrev pub hex_text : List ℕ → List ℕ
+hex_text [] = codes "-"
+hex_text (b ∷ bs) = flat_map hex_byte (b ∷ bs)
+
+abbrev pub stop_name : LineStop → List ℕ
+stop_name SpacePending = codes "SpacePending"
+
+-- the index of the call that a run stopped before, and why
+abbrev pub stop_line : Option (ℕ × LineStop) → List ℕ
+stop_line None = []
+stop_line (Some stop) = line_of (codes "stop " ++ decimal stop.0 ++ codes " " ++ stop_name stop.1)
+
+-- a run of calls: a line for each answer, the bytes scanned, the rest, and where it stopped
+abbrev pub run_text : List LineCall → Run → List ℕ
+run_text calls run =
+    flat_map answer_line (zip calls run.answers)
+    ++ line_of (codes "scanned " ++ decimal run.scanned)
+    ++ line_of (codes "rest " ++ hex_text run.rest)
+    ++ stop_line run.stop
+
+-- what is printed, and the status
+pub record Outcome : Type 0 where
+  pub printed : List ℕ
+  pub status : ℕ
+
+-- status 1 where the run stopped, else 0
+abbrev pub stop_status : Option (ℕ × LineStop) → ℕ
+stop_status None = 0
+stop_status (Some stop) = 1
+
+-- what a request prints for an input, and the status that it ends with
+abbrev pub IsOutcome : Request → List ℕ → Outcome → Type 0
+IsOutcome (scan_line calls) input outcome =
+    outcome ≡ record { printed = run_text calls (run_of calls input); status = stop_status (run_of calls input).stop }

@@ -1,0 +1,9 @@
+-- What a command comes to, as the program keeps it.
+use Rattle.std.specs.Prelude.{string_bytes}
+use Rattle.cmark_scan.specs.Printed.{Outcome}
+use Rattle.cmark_scan.specs.declared.program.Report.{Report}
+use Rattle.cmark_scan.specs.declared.program.Report.TheVariants as report
+
+abbrev pub outcome_view : Report → Outcome
+outcome_view (report.Done text) = record { printed = string_bytes text; status = 0 }
+outcome_view (report.Stopped text) = record { printed = string_bytes text; status = 1 }

@@ -1,0 +1,332 @@
+use crate::program::run_program;
+use std::alloc::Global;
+use std::io::{Error, Read, Result, Write};
+use std::process::Abort;
+use std::test::Fail;
+
+const USAGE: &[u8] = b"usage: cmark_scan line CALL.. | html | label | unescape\n";
+
+/// Gives its bytes, one a call, and fails at a read past those that it may answer.
+#[derive(Drop)]
+struct FailingReader<'a> {
+    bytes: &'a [u8],
+    reads_left: usize,
+}
+
+impl Read for FailingReader<'_> {
+    fn read(&mut self, buf: &mut [u8]) -> Result<usize> {
+        if self.reads_left == 0 {
+            return Err(Error::other("read"));
+        }
+        self.reads_left -= 1;
+        if buf.is_empty() {
+            return Ok(0);
+        }
+        let Some((first, others)) = self.bytes.split_first() else {
+            return Ok(0);
+        };
+        buf[0] = *first;
+        self.bytes = others;
+        Ok(1)
+    }
+}
+
+/// Gives one `x` a call, and counts the calls.
+#[derive(Drop)]
+struct EndlessReader {
+    reads: u64,
+}
+
+impl Read for EndlessReader {
+    fn read(&mut self, buf: &mut [u8]) -> Result<usize> {
+        self.reads = self.reads.saturating_add(1);
+        if buf.is_empty() {
+            return Ok(0);
+        }
+        buf[0] = b'x';
+        Ok(1)
+    }
+}
+
+/// Fails at each write, and counts them.
+#[derive(Drop)]
+struct FailingWriter {
+    writes: u64,
+}
+
+impl Write for FailingWriter {
+    fn write(&mut self, _buf: &[u8]) -> Result<usize> {
+        self.writes = self.writes.saturating_add(1);
+        Err(Error::other("write"))
+    }
+
+    fn flush(&mut self) -> Result<()> {
+        Ok(())
+    }
+}
+
+/// Takes one byte a write.
+#[derive(Drop)]
+struct SlowWriter {
+    taken: Vec<u8>,
+}
+
+impl Write for SlowWriter {
+    fn write(&mut self, buf: &[u8]) -> Result<usize> {
+        let Some(first) = buf.first() else {
+            return Ok(0);
+        };
+        self.taken.push(*first)?;
+        Ok(1)
+    }
+
+    fn flush(&mut self) -> Result<()> {
+        Ok(())
+    }
+}
+
+/// A run of the program on words and an input, with its status and what it prints.
+#[derive(Drop)]
+struct Row {
+    words: &'static [&'static str],
+    input: &'static [u8],
+    status: u8,
+    printed: &'static str,
+}
+
+fn assert_rows(rt: &impl Abort, alloc: Global, rows: &[Row]) -> std::result::Result<(), Fail> {
+    for row in rows {
+        let mut input = row.input;
+        let mut output = Vec::new(alloc);
+        let mut faults = Vec::new(alloc);
+        let status = run_program(alloc, row.words, &mut input, &mut output, &mut faults);
+        assert_eq!(rt; status, row.status, "before {}", row.printed);
+        assert_eq!(rt; output.as_slice(), row.printed.as_bytes());
+        assert_eq!(rt; faults.len(), 0);
+    }
+    Ok(())
+}
+
+#[test]
+fn prints_runs_over_spaces(rt: HostRuntime) -> std::result::Result<(), Fail> {
+    let rows = [
+        Row {
+            words: &["line", "upto:2", "space:1", "eol"],
+            input: b"   x",
+            status: 0,
+            printed: "upto 2\nspace true\neol false\nscanned 3\nrest 78\n",
+        },
+        Row {
+            words: &["line", "space:1"],
+            input: b"x",
+            status: 0,
+            printed: "space false\nscanned 0\nrest 78\n",
+        },
+        Row {
+            words: &["line", "upto:9", "eol"],
+            input: b"  \nx",
+            status: 0,
+            printed: "upto 2\neol true\nscanned 2\nrest 0a78\n",
+        },
+        Row {
+            words: &["line", "space:4", "eol"],
+            input: b"   ",
+            status: 0,
+            printed: "space false\neol true\nscanned 3\nrest -\n",
+        },
+        Row {
+            words: &["line"],
+            input: b"a",
+            status: 0,
+            printed: "scanned 0\nrest 61\n",
+        },
+        Row {
+            words: &["line"],
+            input: b"",
+            status: 0,
+            printed: "scanned 0\nrest -\n",
+        },
+        Row {
+            words: &["line", "upto:18446744073709551615"],
+            input: b" x",
+            status: 0,
+            printed: "upto 1\nscanned 1\nrest 78\n",
+        },
+        Row {
+            words: &["line", "upto:00000000000000000000000000000001"],
+            input: b"  x",
+            status: 0,
+            printed: "upto 1\nscanned 1\nrest 2078\n",
+        },
+    ];
+    assert_rows(&rt, rt.alloc(), &rows)
+}
+
+#[test]
+fn prints_runs_over_tabs(rt: HostRuntime) -> std::result::Result<(), Fail> {
+    let rows = [
+        Row {
+            words: &["line", "upto:3", "upto:5"],
+            input: b"\tx",
+            status: 0,
+            printed: "upto 3\nupto 1\nscanned 1\nrest 78\n",
+        },
+        Row {
+            words: &["line", "upto:3", "eol"],
+            input: b"\tx",
+            status: 1,
+            printed: "upto 3\nscanned 1\nrest 2078\nstop 1 SpacePending\n",
+        },
+        Row {
+            words: &["line", "quote", "upto:9"],
+            input: b">\t\tx",
+            status: 0,
+            printed: "quote true\nupto 6\nscanned 3\nrest 78\n",
+        },
+        Row {
+            words: &["line", "quote", "quote"],
+            input: b">\t>",
+            status: 1,
+            printed: "quote true\nscanned 2\nrest 20203e\nstop 1 SpacePending\n",
+        },
+        Row {
+            words: &["line", "quote"],
+            input: b"x",
+            status: 0,
+            printed: "quote false\nscanned 0\nrest 78\n",
+        },
+    ];
+    assert_rows(&rt, rt.alloc(), &rows)
+}
+
+#[test]
+fn reads_more_than_one_buffer(rt: HostRuntime) -> std::result::Result<(), Fail> {
+    let spaces = [b' '; 10_000];
+    let mut input: &[u8] = &spaces;
+    let mut output = Vec::new(rt.alloc());
+    let mut faults = Vec::new(rt.alloc());
+    let words = ["line", "upto:20000", "eol"];
+    let status = run_program(rt.alloc(), &words, &mut input, &mut output, &mut faults);
+    assert_eq!(rt; status, 0);
+    assert_eq!(rt;
+        output.as_slice(),
+        b"upto 10000\neol true\nscanned 10000\nrest -\n".as_slice()
+    );
+    Ok(())
+}
+
+#[test]
+fn refuses_other_words(rt: HostRuntime) -> std::result::Result<(), Fail> {
+    let refused: [&[&str]; 21] = [
+        &[],
+        &[""],
+        &["lines"],
+        &["LINE"],
+        &["html"],
+        &["label"],
+        &["unescape"],
+        &["line", "line"],
+        &["line", ""],
+        &["line", "space"],
+        &["line", "space:"],
+        &["line", "space:+3"],
+        &["line", "space:-3"],
+        &["line", "space: 3"],
+        &["line", "space:3:3"],
+        &["line", "upto:18446744073709551616"],
+        &["line", "eol:1"],
+        &["line", ":3"],
+        &["line", "list:0"],
+        &["line", "def:0"],
+        &["line", "eol", "eols"],
+    ];
+    for words in refused {
+        let mut input = EndlessReader { reads: 0 };
+        let mut output = FailingWriter { writes: 0 };
+        let mut faults = Vec::new(rt.alloc());
+        let status = run_program(rt.alloc(), words, &mut input, &mut output, &mut faults);
+        assert_eq!(rt; status, 2, "at {} words", words.len());
+        assert_eq!(rt; input.reads, 0);
+        assert_eq!(rt; output.writes, 0);
+        assert_eq!(rt; faults.as_slice(), USAGE);
+    }
+    Ok(())
+}
+
+#[test]
+fn reports_a_read_fault(rt: HostRuntime) -> std::result::Result<(), Fail> {
+    for reads_left in [0, 1] {
+        let mut input = FailingReader {
+            bytes: b"xyz",
+            reads_left,
+        };
+        let mut output = FailingWriter { writes: 0 };
+        let mut faults = Vec::new(rt.alloc());
+        let status = run_program(rt.alloc(), &["line"], &mut input, &mut output, &mut faults);
+        assert_eq!(rt; status, 3);
+        assert_eq!(rt; output.writes, 0);
+        assert_eq!(rt; faults.as_slice(), b"read fault\n".as_slice());
+    }
+    Ok(())
+}
+
+#[test]
+fn ends_over_an_endless_reader(rt: HostRuntime) -> std::result::Result<(), Fail> {
+    let mut input = EndlessReader { reads: 0 };
+    let mut output = FailingWriter { writes: 0 };
+    let mut faults = Vec::new(rt.alloc());
+    let status = run_program(rt.alloc(), &["line"], &mut input, &mut output, &mut faults);
+    assert_eq!(rt; status, 3);
+    assert_eq!(rt; input.reads, 1_048_576);
+    assert_eq!(rt; output.writes, 0);
+    assert_eq!(rt; faults.as_slice(), b"read fault\n".as_slice());
+    Ok(())
+}
+
+#[test]
+fn reports_a_write_fault(rt: HostRuntime) -> std::result::Result<(), Fail> {
+    let mut input: &[u8] = b"x";
+    let mut output = FailingWriter { writes: 0 };
+    let mut faults = Vec::new(rt.alloc());
+    let status = run_program(rt.alloc(), &["line"], &mut input, &mut output, &mut faults);
+    assert_eq!(rt; status, 3);
+    assert_eq!(rt; output.writes, 1);
+    assert_eq!(rt; faults.as_slice(), b"write fault\n".as_slice());
+    Ok(())
+}
+
+#[test]
+fn keeps_its_status_where_a_fault_is_not_told(rt: HostRuntime) -> std::result::Result<(), Fail> {
+    let mut output = Vec::new(rt.alloc());
+    let mut faults = FailingWriter { writes: 0 };
+    let mut input: &[u8] = b"x";
+    let status = run_program(rt.alloc(), &["html"], &mut input, &mut output, &mut faults);
+    assert_eq!(rt; status, 2);
+    let mut input = FailingReader {
+        bytes: b"x",
+        reads_left: 0,
+    };
+    let status = run_program(rt.alloc(), &["line"], &mut input, &mut output, &mut faults);
+    assert_eq!(rt; status, 3);
+    assert_eq!(rt; faults.writes, 2);
+    assert_eq!(rt; output.len(), 0);
+    Ok(())
+}
+
+#[test]
+fn tells_a_slow_writer_all(rt: HostRuntime) -> std::result::Result<(), Fail> {
+    let mut input: &[u8] = b"x";
+    let mut output = SlowWriter {
+        taken: Vec::new(rt.alloc()),
+    };
+    let mut faults = SlowWriter {
+        taken: Vec::new(rt.alloc()),
+    };
+    let status = run_program(rt.alloc(), &["line"], &mut input, &mut output, &mut faults);
+    assert_eq!(rt; status, 0);
+    assert_eq!(rt; output.taken.as_slice(), b"scanned 0\nrest 78\n".as_slice());
+    let status = run_program(rt.alloc(), &[], &mut input, &mut output, &mut faults);
+    assert_eq!(rt; status, 2);
+    assert_eq!(rt; faults.taken.as_slice(), USAGE);
+    Ok(())
+}
