@@ -1,0 +1,7 @@
+//! Worked rows and answers of the original crate, run through the public calls of the library.
+#![tactic(auto)]
+
+#[cfg(test)]
+mod line;
+#[cfg(test)]
+mod line_vectors;

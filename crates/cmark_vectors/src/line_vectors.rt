@@ -1,0 +1,332 @@
+//! Answers of pulldown-cmark 0.13.6 for calls on line starts, on random fragments of lines.
+use markdown_scanners_tree::line::LineStart;
+use std::process::Abort;
+
+#[derive(Clone, Copy)]
+enum Call {
+    Space(usize),
+    Upto(usize),
+    AllSpace,
+    Eol,
+    Quote,
+}
+
+#[derive(Clone, Copy, Debug, PartialEq)]
+enum Answer {
+    Flag(bool),
+    Count(usize),
+    Nothing,
+}
+
+/// A call, its answer, and then the bytes scanned and the space that remains.
+type Step = (Call, Answer, usize, usize);
+
+fn make_call(start: &mut LineStart, call: Call) -> Answer {
+    match call {
+        Call::Space(n) => Answer::Flag(start.scan_space(n)),
+        Call::Upto(n) => Answer::Count(start.scan_space_upto(n)),
+        Call::AllSpace => {
+            start.scan_all_space();
+            Answer::Nothing
+        }
+        Call::Eol => Answer::Flag(start.is_at_eol()),
+        Call::Quote => Answer::Flag(start.scan_blockquote_marker()),
+    }
+}
+
+fn assert_steps(rt: &impl Abort, line: &[u8], steps: &[Step]) {
+    let mut start = LineStart::new(line);
+    for (call, answer, scanned, remaining) in steps {
+        assert_eq!(rt; make_call(&mut start, *call), *answer, "on {line:?}");
+        assert_eq!(rt; start.bytes_scanned(), *scanned, "on {line:?}");
+        assert_eq!(rt; start.remaining_space(), *remaining, "on {line:?}");
+    }
+}
+
+#[test]
+fn answers_as_the_original(rt: HostRuntime) {
+    for (line, steps) in LINES {
+        assert_steps(&rt, line, steps);
+    }
+}
+
+const LINES: [(&[u8], &[Step]); 55] = [
+    (
+        b"-    .*---x#[!tip]\n#2\t",
+        &[(Call::Space(9), Answer::Flag(false), 0, 0)],
+    ),
+    (b"", &[(Call::Eol, Answer::Flag(true), 0, 0)]),
+    (
+        b"",
+        &[
+            (Call::Space(5), Answer::Flag(false), 0, 0),
+            (Call::Quote, Answer::Flag(false), 0, 0),
+        ],
+    ),
+    (
+        b"- [!tip]\n---",
+        &[(Call::Space(0), Answer::Flag(true), 0, 0)],
+    ),
+    (b"", &[(Call::AllSpace, Answer::Nothing, 0, 0)]),
+    (
+        b"2 1. a.+",
+        &[
+            (Call::Upto(7), Answer::Count(0), 0, 0),
+            (Call::AllSpace, Answer::Nothing, 0, 0),
+            (Call::Eol, Answer::Flag(false), 0, 0),
+        ],
+    ),
+    (
+        b"",
+        &[
+            (Call::AllSpace, Answer::Nothing, 0, 0),
+            (Call::AllSpace, Answer::Nothing, 0, 0),
+        ],
+    ),
+    (b"\t_! ", &[(Call::Quote, Answer::Flag(false), 0, 0)]),
+    (
+        b"9) )[",
+        &[
+            (Call::AllSpace, Answer::Nothing, 0, 0),
+            (Call::Eol, Answer::Flag(false), 0, 0),
+        ],
+    ),
+    (
+        b"\t.[!tip]\n _> \t:-     \x0b#\t19\r*:\t",
+        &[(Call::Upto(3), Answer::Count(3), 1, 1)],
+    ),
+    (
+        b">![!tip]\n)---[- [x]\t\r\n>->+>a\x0c",
+        &[(Call::Quote, Answer::Flag(true), 1, 0)],
+    ),
+    (
+        b"    \x0c",
+        &[
+            (Call::AllSpace, Answer::Nothing, 4, 0),
+            (Call::Quote, Answer::Flag(false), 4, 0),
+            (Call::AllSpace, Answer::Nothing, 4, 0),
+            (Call::AllSpace, Answer::Nothing, 4, 0),
+            (Call::AllSpace, Answer::Nothing, 4, 0),
+            (Call::Upto(5), Answer::Count(0), 4, 0),
+        ],
+    ),
+    (
+        b"\t",
+        &[
+            (Call::Quote, Answer::Flag(false), 0, 0),
+            (Call::AllSpace, Answer::Nothing, 1, 0),
+        ],
+    ),
+    (
+        b"*\t[x]\r:a\t--  \r\n- ",
+        &[(Call::Quote, Answer::Flag(false), 0, 0)],
+    ),
+    (
+        b"",
+        &[
+            (Call::Eol, Answer::Flag(true), 0, 0),
+            (Call::Quote, Answer::Flag(false), 0, 0),
+            (Call::Space(3), Answer::Flag(false), 0, 0),
+        ],
+    ),
+    (
+        b"",
+        &[
+            (Call::Quote, Answer::Flag(false), 0, 0),
+            (Call::Upto(7), Answer::Count(0), 0, 0),
+            (Call::AllSpace, Answer::Nothing, 0, 0),
+        ],
+    ),
+    (
+        b"\t>\n\x0c#x    \r.#\t).",
+        &[(Call::AllSpace, Answer::Nothing, 1, 0)],
+    ),
+    (
+        b"",
+        &[
+            (Call::Quote, Answer::Flag(false), 0, 0),
+            (Call::Eol, Answer::Flag(true), 0, 0),
+            (Call::Upto(2), Answer::Count(0), 0, 0),
+        ],
+    ),
+    (b"", &[(Call::Space(2), Answer::Flag(false), 0, 0)]),
+    (
+        b"-- [!tip]\nx:\t[!NOTE]- - 1. 1__a.1#- a\x0c",
+        &[
+            (Call::Space(1), Answer::Flag(false), 0, 0),
+            (Call::Eol, Answer::Flag(false), 0, 0),
+        ],
+    ),
+    (
+        b"0[!tip]\n)[ 1",
+        &[(Call::Space(0), Answer::Flag(true), 0, 0)],
+    ),
+    (
+        b"\r11)\x0c\x0c- a*[!tip]\n)9[\t\n*)",
+        &[(Call::AllSpace, Answer::Nothing, 0, 0)],
+    ),
+    (
+        b"#]\t     :1a]",
+        &[
+            (Call::Upto(5), Answer::Count(0), 0, 0),
+            (Call::AllSpace, Answer::Nothing, 0, 0),
+            (Call::Upto(2), Answer::Count(0), 0, 0),
+            (Call::Eol, Answer::Flag(false), 0, 0),
+        ],
+    ),
+    (
+        b"a\n[\t#\t",
+        &[
+            (Call::Quote, Answer::Flag(false), 0, 0),
+            (Call::Eol, Answer::Flag(false), 0, 0),
+            (Call::AllSpace, Answer::Nothing, 0, 0),
+        ],
+    ),
+    (
+        b"\t)\x0c\x0c - 9\x0c[!tip]\n\x0b01#",
+        &[
+            (Call::Upto(2), Answer::Count(2), 1, 2),
+            (Call::Eol, Answer::Flag(false), 1, 2),
+        ],
+    ),
+    (b"", &[(Call::Upto(5), Answer::Count(0), 0, 0)]),
+    (b"\n2a", &[(Call::Space(5), Answer::Flag(false), 0, 0)]),
+    (b"", &[(Call::Quote, Answer::Flag(false), 0, 0)]),
+    (
+        b"",
+        &[
+            (Call::Eol, Answer::Flag(true), 0, 0),
+            (Call::Quote, Answer::Flag(false), 0, 0),
+            (Call::Upto(5), Answer::Count(0), 0, 0),
+        ],
+    ),
+    (b"# \x0c\r\n", &[(Call::Eol, Answer::Flag(false), 0, 0)]),
+    (b"\r\n+\t\n ", &[(Call::AllSpace, Answer::Nothing, 0, 0)]),
+    (
+        b"[9aa[x] ",
+        &[
+            (Call::Quote, Answer::Flag(false), 0, 0),
+            (Call::Eol, Answer::Flag(false), 0, 0),
+        ],
+    ),
+    (
+        b"",
+        &[
+            (Call::Space(7), Answer::Flag(false), 0, 0),
+            (Call::AllSpace, Answer::Nothing, 0, 0),
+            (Call::Quote, Answer::Flag(false), 0, 0),
+            (Call::Upto(1), Answer::Count(0), 0, 0),
+        ],
+    ),
+    (
+        b"",
+        &[
+            (Call::Upto(2), Answer::Count(0), 0, 0),
+            (Call::Eol, Answer::Flag(true), 0, 0),
+        ],
+    ),
+    (
+        b"",
+        &[
+            (Call::Upto(3), Answer::Count(0), 0, 0),
+            (Call::Space(7), Answer::Flag(false), 0, 0),
+        ],
+    ),
+    (
+        b"*[!tip]\n\x0b0:",
+        &[(Call::Upto(4), Answer::Count(0), 0, 0)],
+    ),
+    (
+        b"",
+        &[
+            (Call::Eol, Answer::Flag(true), 0, 0),
+            (Call::Quote, Answer::Flag(false), 0, 0),
+        ],
+    ),
+    (b"+>[ #", &[(Call::Upto(5), Answer::Count(0), 0, 0)]),
+    (
+        b"#2a.20[!NOTE]\x0c\x0b_:---] [!tip]\n1. ---_ 1. ",
+        &[
+            (Call::Space(2), Answer::Flag(false), 0, 0),
+            (Call::Space(2), Answer::Flag(false), 0, 0),
+        ],
+    ),
+    (
+        b"",
+        &[
+            (Call::Eol, Answer::Flag(true), 0, 0),
+            (Call::Upto(1), Answer::Count(0), 0, 0),
+        ],
+    ),
+    (
+        b"\n \r\t!\x0ba\x0c\t)",
+        &[(Call::Quote, Answer::Flag(false), 0, 0)],
+    ),
+    (
+        b".1. \t. 1. ",
+        &[
+            (Call::Space(7), Answer::Flag(false), 0, 0),
+            (Call::Upto(0), Answer::Count(0), 0, 0),
+            (Call::AllSpace, Answer::Nothing, 0, 0),
+        ],
+    ),
+    (
+        b"\r\n ._\r",
+        &[
+            (Call::Quote, Answer::Flag(false), 0, 0),
+            (Call::Quote, Answer::Flag(false), 0, 0),
+        ],
+    ),
+    (
+        b"---91. a]]*- \r\n\r\n\r\n---9+.\n\r\n- ",
+        &[
+            (Call::Quote, Answer::Flag(false), 0, 0),
+            (Call::Upto(0), Answer::Count(0), 0, 0),
+            (Call::Eol, Answer::Flag(false), 0, 0),
+        ],
+    ),
+    (
+        b"_: 9\t\n*\r\n>_\t-\x0c\x0c]\x0c [!tip]\n>",
+        &[
+            (Call::Space(3), Answer::Flag(false), 0, 0),
+            (Call::Upto(3), Answer::Count(0), 0, 0),
+        ],
+    ),
+    (
+        b"\n[!tip]\n >]0\r\n*\t>\r\n\r\n>\n[\n",
+        &[(Call::AllSpace, Answer::Nothing, 0, 0)],
+    ),
+    (b"[!tip]\n1. 9", &[(Call::Upto(1), Answer::Count(0), 0, 0)]),
+    (
+        b"\r \n\r]0\r\n#     )",
+        &[
+            (Call::Eol, Answer::Flag(true), 0, 0),
+            (Call::Quote, Answer::Flag(false), 0, 0),
+        ],
+    ),
+    (b"", &[(Call::Space(1), Answer::Flag(false), 0, 0)]),
+    (
+        b"",
+        &[
+            (Call::Upto(7), Answer::Count(0), 0, 0),
+            (Call::Eol, Answer::Flag(true), 0, 0),
+        ],
+    ),
+    (b"_\t\x0b]*..\r", &[(Call::AllSpace, Answer::Nothing, 0, 0)]),
+    (b" 2", &[(Call::Space(5), Answer::Flag(false), 1, 0)]),
+    (
+        b"-  ![!NOTE][x]9)\t[!NOTE][x]\n\t \r\n[!tip]\n-\x0b",
+        &[(Call::Quote, Answer::Flag(false), 0, 0)],
+    ),
+    (
+        b"00\t0\r\n\t\x0c_1>9---)\x0b1. 0",
+        &[(Call::AllSpace, Answer::Nothing, 0, 0)],
+    ),
+    (
+        b"\t-",
+        &[
+            (Call::Space(0), Answer::Flag(true), 0, 0),
+            (Call::AllSpace, Answer::Nothing, 1, 0),
+        ],
+    ),
+];
