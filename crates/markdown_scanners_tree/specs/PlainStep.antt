@@ -1,4 +1,4 @@
--- What one call answers and takes on a rest of a line whose head has no tab. (CommonMark 0.31.2, sections 5.1 and 5.2)
+-- What one call answers and takes on a rest of a line whose head has no tab. (CommonMark 0.31.2, sections 2.2 and 5.1)
 use Rattle.std.specs.Prelude.{ℕ, ◌≡◌, true, false, ◌==◌, List, [], ◌∷◌, ◌+◌, drop, min, if◌then◌else◌}
 use Rattle.markdown_scanners_tree.specs.Bytes.{is_at_line_end}
 use Rattle.markdown_scanners_tree.specs.LineState.{LineState, leading_spaces, rest_of, columns_further}
