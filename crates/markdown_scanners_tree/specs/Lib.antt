@@ -1,7 +1,12 @@
+pub mod Accepted
 pub mod Bytes
+pub mod Classes
+pub mod CodeFence
 pub mod Columns
 pub mod LineOutcome
 pub mod LineState
+pub mod Lines
+pub mod Metadata
 pub mod PlainRun
 pub mod PlainStep
 pub mod ThematicBreak
