@@ -14,11 +14,11 @@ use Rattle.markdown_scanners_tree.specs.Metadata.{is_closing_byte, IsLineOfThree
 use Rattle.markdown_scanners_tree.proofs.FrontLemmas.{from_place, list_all-run, begins_with-after_run, prefix_len-parts}
 use Rattle.markdown_scanners_tree.proofs.BlankLemmas.{first-line_ending}
 
-not_true : (b : Bool) → not b ≡ true → b ≡ false
+pub not_true : (b : Bool) → not b ≡ true → b ≡ false
 not_true true h = cc
 not_true false h = refl
 
-not_false : (b : Bool) → b ≡ false → not b ≡ true
+pub not_false : (b : Bool) → b ≡ false → not b ≡ true
 not_false b h = rw h refl
 
 pub IfNone-map : {T A B : Type 0} (result : Option T) → (A → B) → IfNone result A → IfNone result B

@@ -1,7 +1,7 @@
 -- What scans of runs, of line endings and of blank lines tell.
-use Rattle.std.proofs.Common.{◌≡◌, ℕ, zero, suc, ◌+◌, ◌-◌, ◌<◌, Bool, true, false, not, List, [], ◌∷◌, length, take, drop, refl, sym, ap, ◌∙◌, arith, inl, inr, ◌==◌, Option, Some, None, one-add}
+use Rattle.std.proofs.Common.{◌≡◌, ℕ, zero, suc, ◌+◌, ◌-◌, ◌<◌, Bool, true, false, not, List, [], ◌∷◌, length, take, drop, refl, sym, ap, ◌∙◌, arith, inl, inr, if◌then◌else◌, ◌==◌, Option, Some, None, one-add}
 use Rattle.std.specs.List.{prefix_len, list_any}
-use Rattle.std.specs.Option.{unwrap_or, is_some}
+use Rattle.std.specs.Option.{unwrap_or, is_some, IfSome, IfNone}
 use Rattle.std.specs.Prelude.{slice_index}
 use Rattle.std.proofs.lemmas.Bool.{cases_Bool}
 use Rattle.memchr.specs.Find.{Nowhere, NoneBefore, Passes, IsFirstByte, is_byte}
@@ -67,3 +67,21 @@ prefix_len-searched byte bytes (Some k) first = prefix_len-found byte bytes k fi
 pub list_any-searched : (byte : ℕ) (bytes : List ℕ) (found : Option ℕ) → IsFirstByte (is_byte byte) bytes found → is_some found ≡ list_any (λ b. b == byte) bytes
 list_any-searched byte bytes None none = sym (list_any-none (is_byte byte) bytes (λ j lt. none j (omega arith) lt))
 list_any-searched byte bytes (Some k) (first, here) = sym (list_any-at (is_byte byte) bytes k first.high here)
+
+-- what `is_some` tells of an answer
+pub IfSome-some : {T : Type 0} (P : T → Type 0) (answer : Option T) → is_some answer ≡ true → IfSome answer P → (x : T) × P x
+IfSome-some P None some holds = cc
+IfSome-some P (Some x) some holds = (x, holds)
+
+pub IfNone-none : {T : Type 0} (P : Type 0) (answer : Option T) → is_some answer ≡ false → IfNone answer P → P
+IfNone-none P None none holds = holds
+IfNone-none P (Some x) none holds = cc
+
+-- what the number of a test tells of it
+pub one_if-true : (test : Bool) (n : ℕ) → n ≡ (if test then 1 else 0) → ¬ (n ≡ 0) → test ≡ true
+one_if-true true n is some = refl
+one_if-true false n is some = absurd (some is)
+
+pub one_if-false : (test : Bool) (n : ℕ) → n ≡ (if test then 1 else 0) → n ≡ 0 → test ≡ false
+one_if-false true n is none = absurd (omega (arith, is, none))
+one_if-false false n is none = refl

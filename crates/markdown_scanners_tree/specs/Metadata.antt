@@ -50,11 +50,15 @@ pub record IsOpeningLine (byte : ℕ) (bytes body : List ℕ) : Type 0 where
   pub parts : rest ≡ space ++ 10 ∷ body
   pub spaces : IsTrue (list_all is_after_opening space)
 
--- A metadata block: its first line, a next line that is neither blank (as the end of the text is) nor closes it, and a later line that closes it.
-pub record IsMetadataBlock (bytes : List ℕ) (yaml pluses : Bool) (byte : ℕ) : Type 0 where
+-- A metadata block that the byte opens: its first line, a next line that is neither blank (as the end of the text is) nor closes it, and a later line that closes it.
+pub record IsBlockOf (byte : ℕ) (bytes : List ℕ) : Type 0 where
   pub body : List ℕ
-  pub allowed : IsTrue ((byte == 45 && yaml) || (byte == 43 && pluses))
   pub opening : IsOpeningLine byte bytes body
   pub not_blank : (n : ℕ) → ¬ IsBlankLine body n
   pub not_closed : (n : ℕ) → ¬ IsClosingMetadataBlock body byte n
   pub closed : HasLaterClose body byte
+
+-- A metadata block of a style that is enabled: `-` opens a block of YAML, `+` one between pluses.
+pub record IsMetadataBlock (bytes : List ℕ) (yaml pluses : Bool) (byte : ℕ) : Type 0 where
+  pub allowed : IsTrue ((byte == 45 && yaml) || (byte == 43 && pluses))
+  pub block : IsBlockOf byte bytes
