@@ -1,150 +1,28 @@
 //! Events, tags and options, and what they are made of.
-ghost use Rattle.std.specs.Prelude.{⊤, ◌≡◌, ◌≤◌, ◌⊎◌, ◌<◌, ◌==◌, ◌&&◌, not, [], ◌∷◌, codes, IsTrue, IfOk, IfErr, IsSome, Some, MatchResult, is_some, is_none, map, option_map};
-ghost use Rattle.markdown_values.specs.Text.{cow_text};
-ghost use Rattle.markdown_values.specs.Links.{unknown_kind};
-ghost use Rattle.markdown_values.specs.Tags.{info_string, tag_view, end_of, attribute_text};
+ghost use Rattle.std.specs.Prelude.{◌≡◌, ◌⊎◌, ◌<◌, IsTrue, IfOk, IsSome, Some, MatchResult, is_some, is_none};
 ghost use Rattle.markdown_values.specs.Events.{event_view};
-ghost use Rattle.std.specs.Int.RustNames.{bit_and, bit_or};
 ghost use Rattle.markdown_values.specs.Headings.{heading_number, heading_name};
-ghost use Rattle.markdown_values.specs.Extensions.{bits_of, extension_table};
+ghost use Rattle.markdown_values.specs.Links.{unknown_kind};
+ghost use Rattle.markdown_values.specs.Tags.{info_string, tag_view, end_of};
+
+mod extensions;
+mod tag_parts;
 
 use crate::strings::CowStr;
-use bitflags::{Flag, Flags};
+pub use extensions::Options;
 use std::alloc::{AllocError, Global};
 use std::fmt;
+use tag_parts::{
+    clone_alignments, clone_attributes, clone_id, clone_texts, static_attributes, static_id,
+    static_texts,
+};
 
-/// Which extensions of the syntax are on.
-#[derive(Clone, Copy, Debug, PartialEq, Eq, PartialOrd, Ord, Hash)]
-pub struct Options(u32);
-
-impl Options {
-    pub const ENABLE_TABLES: Options = Options(2);
-
-    pub const ENABLE_FOOTNOTES: Options = Options(4);
-
-    pub const ENABLE_STRIKETHROUGH: Options = Options(8);
-
-    pub const ENABLE_TASKLISTS: Options = Options(16);
-
-    pub const ENABLE_SMART_PUNCTUATION: Options = Options(32);
-
-    pub const ENABLE_HEADING_ATTRIBUTES: Options = Options(64);
-
-    pub const ENABLE_YAML_STYLE_METADATA_BLOCKS: Options = Options(128);
-
-    pub const ENABLE_PLUSES_DELIMITED_METADATA_BLOCKS: Options = Options(256);
-
-    pub const ENABLE_OLD_FOOTNOTES: Options = Options(516);
-
-    pub const ENABLE_MATH: Options = Options(1024);
-
-    pub const ENABLE_GFM: Options = Options(2048);
-
-    pub const ENABLE_DEFINITION_LIST: Options = Options(4096);
-
-    pub const ENABLE_SUPERSCRIPT: Options = Options(8192);
-
-    pub const ENABLE_SUBSCRIPT: Options = Options(16384);
-
-    pub const ENABLE_WIKILINKS: Options = Options(32768);
-
-    const FLAGS: &'static [Flag<Options>] = &[
-        Flag {
-            name: "ENABLE_TABLES",
-            value: Options::ENABLE_TABLES,
-        },
-        Flag {
-            name: "ENABLE_FOOTNOTES",
-            value: Options::ENABLE_FOOTNOTES,
-        },
-        Flag {
-            name: "ENABLE_STRIKETHROUGH",
-            value: Options::ENABLE_STRIKETHROUGH,
-        },
-        Flag {
-            name: "ENABLE_TASKLISTS",
-            value: Options::ENABLE_TASKLISTS,
-        },
-        Flag {
-            name: "ENABLE_SMART_PUNCTUATION",
-            value: Options::ENABLE_SMART_PUNCTUATION,
-        },
-        Flag {
-            name: "ENABLE_HEADING_ATTRIBUTES",
-            value: Options::ENABLE_HEADING_ATTRIBUTES,
-        },
-        Flag {
-            name: "ENABLE_YAML_STYLE_METADATA_BLOCKS",
-            value: Options::ENABLE_YAML_STYLE_METADATA_BLOCKS,
-        },
-        Flag {
-            name: "ENABLE_PLUSES_DELIMITED_METADATA_BLOCKS",
-            value: Options::ENABLE_PLUSES_DELIMITED_METADATA_BLOCKS,
-        },
-        Flag {
-            name: "ENABLE_OLD_FOOTNOTES",
-            value: Options::ENABLE_OLD_FOOTNOTES,
-        },
-        Flag {
-            name: "ENABLE_MATH",
-            value: Options::ENABLE_MATH,
-        },
-        Flag {
-            name: "ENABLE_GFM",
-            value: Options::ENABLE_GFM,
-        },
-        Flag {
-            name: "ENABLE_DEFINITION_LIST",
-            value: Options::ENABLE_DEFINITION_LIST,
-        },
-        Flag {
-            name: "ENABLE_SUPERSCRIPT",
-            value: Options::ENABLE_SUPERSCRIPT,
-        },
-        Flag {
-            name: "ENABLE_SUBSCRIPT",
-            value: Options::ENABLE_SUBSCRIPT,
-        },
-        Flag {
-            name: "ENABLE_WIKILINKS",
-            value: Options::ENABLE_WIKILINKS,
-        },
-    ];
-
-    /// Whether footnotes follow the rules of GitHub: they are on, and not in their old form.
-    pub fn has_gfm_footnotes(&self) -> bool
-        ensures { result ≡ (bit_and (bits_of self.now) 4 == 4) && not (bit_and (bits_of self.now) 516 == 516) }
-    {
-        self.contains(Options::ENABLE_FOOTNOTES) && !self.contains(Options::ENABLE_OLD_FOOTNOTES)
-    }
-}
-
-impl Flags for Options {
-    type Bits = u32;
-
-    ghost exact = { ⊤ };
-
-    ghost table = { extension_table };
-
-    ghost set_of = { bits_of };
-
-    fn flags<'a>() -> &'a [Flag<Options>] {
-        Options::FLAGS
-    }
-
-    fn bits(&self) -> u32 {
-        self.0
-    }
-
-    fn from_bits_retain(bits: u32) -> Options {
-        Options(bits)
-    }
-}
-
-/// The kind of a code block, with the info string of a fenced one.
+/// The kind of a code block.
 #[derive(Debug, PartialEq, Drop)]
 pub enum CodeBlockKind<'a> {
+    /// By four columns of space. (CommonMark 0.31.2, section 4.4)
     Indented,
+    /// Between fences, with the info string of the first. (CommonMark 0.31.2, section 4.5)
     Fenced(CowStr<'a>),
 }
 
@@ -186,7 +64,7 @@ impl<'a> CodeBlockKind<'a> {
     }
 }
 
-/// The kind of an alert.
+/// The kind of a block quote that begins with a tag, as `[!NOTE]`.
 #[derive(Clone, Copy, Debug, PartialEq, Eq, PartialOrd, Ord, Hash)]
 pub enum BlockQuoteKind {
     Note,
@@ -196,14 +74,16 @@ pub enum BlockQuoteKind {
     Caution,
 }
 
-/// The kind of a metadata block.
+/// The kind of a metadata block, by the lines that enclose it.
 #[derive(Clone, Copy, Debug, PartialEq, Eq, PartialOrd, Ord, Hash)]
 pub enum MetadataBlockKind {
+    /// Three hyphens.
     YamlStyle,
+    /// Three plus signs.
     PlusesStyle,
 }
 
-/// The level of a heading.
+/// The level of a heading. (CommonMark 0.31.2, sections 4.2 and 4.3)
 #[derive(Clone, Copy, Debug, PartialEq, Eq, PartialOrd, Ord, Hash)]
 pub enum HeadingLevel {
     H1 = 1,
@@ -232,11 +112,14 @@ impl TryFrom<usize> for HeadingLevel {
     }
 }
 
+/// The name alone, whatever width a hole asks for.
 impl fmt::Display for HeadingLevel {
     ghost output = { λ level. Some (heading_name level) };
 
+    ghost styled_output = { λ level _. Some (heading_name level) };
+
     fn fmt<W: fmt::Write>(&self, f: &mut fmt::Formatter<W>) -> fmt::Result {
-        f.pad(match self {
+        f.write_str(match self {
             HeadingLevel::H1 => "h1",
             HeadingLevel::H2 => "h2",
             HeadingLevel::H3 => "h3",
@@ -247,36 +130,47 @@ impl fmt::Display for HeadingLevel {
     }
 }
 
-/// A number that is no level of a heading.
+/// A number that is no level of a heading: 0, or above 6.
 #[derive(Clone, Copy, Debug, PartialEq, Eq, PartialOrd, Ord, Hash)]
 pub struct InvalidHeadingLevel(pub usize);
 
-/// The alignment of a table's column.
+/// The alignment of a table's column. (GFM, section 4.10)
 #[derive(Clone, Copy, Debug, PartialEq)]
 pub enum Alignment {
+    /// The delimiter row gives none.
     None,
     Left,
     Center,
     Right,
 }
 
-/// How a link was written.
+/// How a link or an image was written. (CommonMark 0.31.2, sections 6.3 to 6.5)
 #[derive(Clone, Copy, Debug, PartialEq)]
 pub enum LinkType {
+    /// `[text](destination)`
     Inline,
+    /// `[text][label]`
     Reference,
+    /// A reference whose label has no definition.
     ReferenceUnknown,
+    /// `[label][]`
     Collapsed,
+    /// A collapsed reference whose label has no definition.
     CollapsedUnknown,
+    /// `[label]`
     Shortcut,
+    /// A shortcut whose label has no definition.
     ShortcutUnknown,
+    /// `<scheme:address>`
     Autolink,
+    /// `<name@host>`
     Email,
+    /// `[[page]]`, or `[[page|text]]` with a pothole.
     WikiLink { has_pothole: bool },
 }
 
 impl LinkType {
-    /// The kind of the same reference where its label has no definition.
+    /// The same kind of reference, to a label that has no definition.
     pub fn to_unknown(self) -> LinkType
         requires { IsSome (unknown_kind self) }
         ensures { unknown_kind self ≡ Some result }
@@ -290,25 +184,30 @@ impl LinkType {
     }
 }
 
-/// What opens a part of a document.
+/// What opens a part of a document. Each has the end that `to_end` gives.
 #[derive(Debug, PartialEq, Drop)]
 pub enum Tag<'a> {
     Paragraph,
+    /// A heading, with what stands in braces after it: an identifier, classes, and attributes with or without a value.
     Heading {
         level: HeadingLevel,
         id: Option<CowStr<'a>>,
         classes: Vec<CowStr<'a>>,
         attrs: Vec<(CowStr<'a>, Option<CowStr<'a>>)>,
     },
+    /// A block quote, with its kind where it begins with a tag.
     BlockQuote(Option<BlockQuoteKind>),
     CodeBlock(CodeBlockKind<'a>),
     HtmlBlock,
+    /// A list; the number of the first item where the list is ordered.
     List(Option<u64>),
     Item,
+    /// A footnote, with its label.
     FootnoteDefinition(CowStr<'a>),
     DefinitionList,
     DefinitionListTitle,
     DefinitionListDefinition,
+    /// A table, with the alignment of each column.
     Table(Vec<Alignment>),
     TableHead,
     TableRow,
@@ -318,12 +217,14 @@ pub enum Tag<'a> {
     Strikethrough,
     Superscript,
     Subscript,
+    /// A link; `id` is the label of a reference.
     Link {
         link_type: LinkType,
         dest_url: CowStr<'a>,
         title: CowStr<'a>,
         id: CowStr<'a>,
     },
+    /// An image, written as a link is.
     Image {
         link_type: LinkType,
         dest_url: CowStr<'a>,
@@ -471,7 +372,7 @@ impl<'a> Tag<'a> {
                 title,
                 id,
             } => Ok(Tag::Link {
-                link_type: link_type,
+                link_type,
                 dest_url: dest_url.into_static(alloc)?,
                 title: title.into_static(alloc)?,
                 id: id.into_static(alloc)?,
@@ -482,7 +383,7 @@ impl<'a> Tag<'a> {
                 title,
                 id,
             } => Ok(Tag::Image {
-                link_type: link_type,
+                link_type,
                 dest_url: dest_url.into_static(alloc)?,
                 title: title.into_static(alloc)?,
                 id: id.into_static(alloc)?,
@@ -490,94 +391,6 @@ impl<'a> Tag<'a> {
             Tag::MetadataBlock(kind) => Ok(Tag::MetadataBlock(kind)),
         }
     }
-}
-
-// An identifier again.
-fn clone_id<'a>(alloc: Global, id: &Option<CowStr<'a>>) -> Result<Option<CowStr<'a>>, AllocError>
-    ensures same { IfOk result (λ copy. option_map cow_text copy ≡ option_map cow_text id.now) }
-{
-    match id {
-        Some(text) => Ok(Some(text.clone(alloc)?)),
-        None => Ok(None),
-    }
-}
-
-// An identifier with nothing lent.
-fn static_id<'a>(
-    alloc: Global,
-    id: Option<CowStr<'a>>,
-) -> Result<Option<CowStr<'static>>, AllocError>
-    ensures same { IfOk result (λ copy. option_map cow_text copy ≡ option_map cow_text id.entry) }
-{
-    match id {
-        Some(text) => Ok(Some(text.into_static(alloc)?)),
-        None => Ok(None),
-    }
-}
-
-// Texts again.
-fn clone_texts<'a>(alloc: Global, texts: &[CowStr<'a>]) -> Result<Vec<CowStr<'a>>, AllocError>
-    ensures same { IfOk result (λ copy. map cow_text copy.items ≡ map cow_text texts.now) }
-{
-    let mut copy = Vec::new(alloc);
-    'texts: for text in texts {
-        copy.push(text.clone(alloc)?)?;
-    }
-    Ok(copy)
-}
-
-// Texts with nothing lent.
-fn static_texts<'a>(
-    alloc: Global,
-    texts: Vec<CowStr<'a>>,
-) -> Result<Vec<CowStr<'static>>, AllocError>
-    ensures same { IfOk result (λ copy. map cow_text copy.items ≡ map cow_text texts.entry.items) }
-{
-    let mut copy = Vec::new(alloc);
-    'texts: for text in texts {
-        copy.push(text.into_static(alloc)?)?;
-    }
-    Ok(copy)
-}
-
-// Attributes again.
-fn clone_attributes<'a>(
-    alloc: Global,
-    attributes: &[(CowStr<'a>, Option<CowStr<'a>>)],
-) -> Result<Vec<(CowStr<'a>, Option<CowStr<'a>>)>, AllocError>
-    ensures same { IfOk result (λ copy. map attribute_text copy.items ≡ map attribute_text attributes.now) }
-{
-    let mut copy = Vec::new(alloc);
-    'attributes: for attribute in attributes {
-        let name = attribute.0.clone(alloc)?;
-        let value = clone_id(alloc, &attribute.1)?;
-        copy.push((name, value))?;
-    }
-    Ok(copy)
-}
-
-// Attributes with nothing lent.
-fn static_attributes<'a>(
-    alloc: Global,
-    attributes: Vec<(CowStr<'a>, Option<CowStr<'a>>)>,
-) -> Result<Vec<(CowStr<'static>, Option<CowStr<'static>>)>, AllocError>
-    ensures same { IfOk result (λ copy. map attribute_text copy.items ≡ map attribute_text attributes.entry.items) }
-{
-    let mut copy = Vec::new(alloc);
-    'attributes: for attribute in attributes {
-        let (name, value) = attribute;
-        let name = name.into_static(alloc)?;
-        let value = static_id(alloc, value)?;
-        copy.push((name, value))?;
-    }
-    Ok(copy)
-}
-
-// Alignments again.
-fn clone_alignments(alloc: Global, alignments: &[Alignment]) -> Result<Vec<Alignment>, AllocError>
-    ensures same { IfOk result (λ copy. copy.items ≡ alignments.now) }
-{
-    alignments.to_vec(alloc)
 }
 
 /// What closes a part of a document.
@@ -588,6 +401,7 @@ pub enum TagEnd {
     BlockQuote(Option<BlockQuoteKind>),
     CodeBlock,
     HtmlBlock,
+    /// The end of a list: true where it is ordered.
     List(bool),
     Item,
     FootnoteDefinition,
@@ -616,21 +430,29 @@ impl<'a> From<Tag<'a>> for TagEnd {
     }
 }
 
-/// A part of a document, in its order.
+/// A part of a document. A document is read as a list of these.
 #[derive(Debug, PartialEq, Drop)]
 pub enum Event<'a> {
     Start(Tag<'a>),
     End(TagEnd),
     Text(CowStr<'a>),
+    /// A code span. (CommonMark 0.31.2, section 6.1)
     Code(CowStr<'a>),
     InlineMath(CowStr<'a>),
     DisplayMath(CowStr<'a>),
+    /// A line of an HTML block. (CommonMark 0.31.2, section 4.6)
     Html(CowStr<'a>),
+    /// HTML within a line. (CommonMark 0.31.2, section 6.6)
     InlineHtml(CowStr<'a>),
+    /// The label of a footnote, where it is called.
     FootnoteReference(CowStr<'a>),
+    /// (CommonMark 0.31.2, section 6.8)
     SoftBreak,
+    /// (CommonMark 0.31.2, section 6.7)
     HardBreak,
+    /// A thematic break. (CommonMark 0.31.2, section 4.1)
     Rule,
+    /// The box of a task: true where it is checked. (GFM, section 5.3)
     TaskListMarker(bool),
 }
 
@@ -681,4 +503,3 @@ impl<'a> Event<'a> {
         }
     }
 }
-

@@ -1,0 +1,105 @@
+//! The parts of a tag that own memory: copied, or with nothing lent.
+ghost use Rattle.std.specs.Prelude.{◌≡◌, IfOk, map, option_map};
+ghost use Rattle.markdown_values.specs.Text.{cow_text};
+ghost use Rattle.markdown_values.specs.Tags.{attribute_text};
+
+use crate::strings::CowStr;
+use crate::values::Alignment;
+use std::alloc::{AllocError, Global};
+
+// An identifier again.
+pub(crate) fn clone_id<'a>(
+    alloc: Global,
+    id: &Option<CowStr<'a>>,
+) -> Result<Option<CowStr<'a>>, AllocError>
+    ensures same { IfOk result (λ copy. option_map cow_text copy ≡ option_map cow_text id.now) }
+{
+    match id {
+        Some(text) => Ok(Some(text.clone(alloc)?)),
+        None => Ok(None),
+    }
+}
+
+// An identifier with nothing lent.
+pub(crate) fn static_id<'a>(
+    alloc: Global,
+    id: Option<CowStr<'a>>,
+) -> Result<Option<CowStr<'static>>, AllocError>
+    ensures same { IfOk result (λ copy. option_map cow_text copy ≡ option_map cow_text id.entry) }
+{
+    match id {
+        Some(text) => Ok(Some(text.into_static(alloc)?)),
+        None => Ok(None),
+    }
+}
+
+// Texts again.
+pub(crate) fn clone_texts<'a>(
+    alloc: Global,
+    texts: &[CowStr<'a>],
+) -> Result<Vec<CowStr<'a>>, AllocError>
+    ensures same { IfOk result (λ copy. map cow_text copy.items ≡ map cow_text texts.now) }
+{
+    let mut copy = Vec::new(alloc);
+    'texts: for text in texts {
+        copy.push(text.clone(alloc)?)?;
+    }
+    Ok(copy)
+}
+
+// Texts with nothing lent.
+pub(crate) fn static_texts<'a>(
+    alloc: Global,
+    texts: Vec<CowStr<'a>>,
+) -> Result<Vec<CowStr<'static>>, AllocError>
+    ensures same { IfOk result (λ copy. map cow_text copy.items ≡ map cow_text texts.entry.items) }
+{
+    let mut copy = Vec::new(alloc);
+    'texts: for text in texts {
+        copy.push(text.into_static(alloc)?)?;
+    }
+    Ok(copy)
+}
+
+// Attributes again.
+pub(crate) fn clone_attributes<'a>(
+    alloc: Global,
+    attributes: &[(CowStr<'a>, Option<CowStr<'a>>)],
+) -> Result<Vec<(CowStr<'a>, Option<CowStr<'a>>)>, AllocError>
+    ensures same { IfOk result (λ copy. map attribute_text copy.items ≡ map attribute_text attributes.now) }
+{
+    let mut copy = Vec::new(alloc);
+    'attributes: for attribute in attributes {
+        let name = attribute.0.clone(alloc)?;
+        let value = clone_id(alloc, &attribute.1)?;
+        copy.push((name, value))?;
+    }
+    Ok(copy)
+}
+
+// Attributes with nothing lent.
+pub(crate) fn static_attributes<'a>(
+    alloc: Global,
+    attributes: Vec<(CowStr<'a>, Option<CowStr<'a>>)>,
+) -> Result<Vec<(CowStr<'static>, Option<CowStr<'static>>)>, AllocError>
+    ensures same { IfOk result (λ copy. map attribute_text copy.items ≡ map attribute_text attributes.entry.items) }
+{
+    let mut copy = Vec::new(alloc);
+    'attributes: for attribute in attributes {
+        let (name, value) = attribute;
+        let name = name.into_static(alloc)?;
+        let value = static_id(alloc, value)?;
+        copy.push((name, value))?;
+    }
+    Ok(copy)
+}
+
+// Alignments again.
+pub(crate) fn clone_alignments(
+    alloc: Global,
+    alignments: &[Alignment],
+) -> Result<Vec<Alignment>, AllocError>
+    ensures same { IfOk result (λ copy. copy.items ≡ alignments.now) }
+{
+    alignments.to_vec(alloc)
+}
