@@ -3,7 +3,8 @@ ghost use Rattle.std.specs.Prelude.{◌≡◌, ◌⊎◌, ◌<◌, IsTrue, IfOk,
 ghost use Rattle.markdown_values.specs.Events.{event_view};
 ghost use Rattle.markdown_values.specs.Headings.{heading_number, heading_name};
 ghost use Rattle.markdown_values.specs.Links.{unknown_kind};
-ghost use Rattle.markdown_values.specs.Tags.{info_string, tag_view, end_of};
+ghost use Rattle.markdown_values.specs.Tags.{info_view, tag_view, end_of};
+ghost use Rattle.markdown_values.specs.Text.{cow_text, holding_of, clone_holding, static_holding};
 
 mod extensions;
 mod tag_parts;
@@ -29,21 +30,22 @@ pub enum CodeBlockKind<'a> {
 impl<'a> CodeBlockKind<'a> {
     /// Whether the block is indented.
     pub fn is_indented(&self) -> bool
-        ensures { result ≡ is_none (info_string self.now) }
+        ensures { result ≡ is_none (info_view cow_text self.now) }
     {
         matches!(self, CodeBlockKind::Indented)
     }
 
     /// Whether the block is fenced.
     pub fn is_fenced(&self) -> bool
-        ensures { result ≡ is_some (info_string self.now) }
+        ensures { result ≡ is_some (info_view cow_text self.now) }
     {
         matches!(self, CodeBlockKind::Fenced(_))
     }
 
     /// The same kind again.
     pub fn clone(&self, alloc: Global) -> Result<CodeBlockKind<'a>, AllocError>
-        ensures same { IfOk result (λ kind. info_string kind ≡ info_string self.now) }
+        ensures same { IfOk result (λ kind. info_view cow_text kind ≡ info_view cow_text self.now) }
+        ensures holding { IfOk result (λ kind. info_view holding_of kind ≡ info_view clone_holding self.now) }
         ensures equal { IfOk result (λ kind. IsTrue (⟦<CodeBlockKind<'a> as PartialEq>⟧.eq kind self.now)) }
     {
         match self {
@@ -54,7 +56,8 @@ impl<'a> CodeBlockKind<'a> {
 
     /// The same kind with nothing lent.
     pub fn into_static(self, alloc: Global) -> Result<CodeBlockKind<'static>, AllocError>
-        ensures same { IfOk result (λ kind. info_string kind ≡ info_string self.entry) }
+        ensures same { IfOk result (λ kind. info_view cow_text kind ≡ info_view cow_text self.entry) }
+        ensures holding { IfOk result (λ kind. info_view holding_of kind ≡ info_view static_holding self.entry) }
         ensures equal { IfOk result (λ kind. IsTrue (⟦<CodeBlockKind<'a> as PartialEq>⟧.eq kind self.entry)) }
     {
         match self {
@@ -268,7 +271,8 @@ impl<'a> Tag<'a> {
 
     /// The same tag again.
     pub fn clone(&self, alloc: Global) -> Result<Tag<'a>, AllocError>
-        ensures same { IfOk result (λ tag. tag_view tag ≡ tag_view self.now) }
+        ensures same { IfOk result (λ tag. tag_view cow_text tag ≡ tag_view cow_text self.now) }
+        ensures holding { IfOk result (λ tag. tag_view holding_of tag ≡ tag_view clone_holding self.now) }
         ensures equal { IfOk result (λ tag. IsTrue (⟦<Tag<'a> as PartialEq>⟧.eq tag self.now)) }
     {
         match self {
@@ -330,7 +334,8 @@ impl<'a> Tag<'a> {
 
     /// The same tag with nothing lent.
     pub fn into_static(self, alloc: Global) -> Result<Tag<'static>, AllocError>
-        ensures same { IfOk result (λ tag. tag_view tag ≡ tag_view self.entry) }
+        ensures same { IfOk result (λ tag. tag_view cow_text tag ≡ tag_view cow_text self.entry) }
+        ensures holding { IfOk result (λ tag. tag_view holding_of tag ≡ tag_view static_holding self.entry) }
         ensures equal { IfOk result (λ tag. IsTrue (⟦<Tag<'a> as PartialEq>⟧.eq tag self.entry)) }
     {
         match self {
@@ -459,7 +464,8 @@ pub enum Event<'a> {
 impl<'a> Event<'a> {
     /// The same event again.
     pub fn clone(&self, alloc: Global) -> Result<Event<'a>, AllocError>
-        ensures same { IfOk result (λ event. event_view event ≡ event_view self.now) }
+        ensures same { IfOk result (λ event. event_view cow_text event ≡ event_view cow_text self.now) }
+        ensures holding { IfOk result (λ event. event_view holding_of event ≡ event_view clone_holding self.now) }
         ensures equal { IfOk result (λ event. IsTrue (⟦<Event<'a> as PartialEq>⟧.eq event self.now)) }
     {
         match self {
@@ -481,7 +487,8 @@ impl<'a> Event<'a> {
 
     /// The same event with nothing lent.
     pub fn into_static(self, alloc: Global) -> Result<Event<'static>, AllocError>
-        ensures same { IfOk result (λ event. event_view event ≡ event_view self.entry) }
+        ensures same { IfOk result (λ event. event_view cow_text event ≡ event_view cow_text self.entry) }
+        ensures holding { IfOk result (λ event. event_view holding_of event ≡ event_view static_holding self.entry) }
         ensures equal { IfOk result (λ event. IsTrue (⟦<Event<'a> as PartialEq>⟧.eq event self.entry)) }
     {
         match self {

@@ -1,7 +1,7 @@
 //! The parts of a tag that own memory: copied, or with nothing lent.
 ghost use Rattle.std.specs.Prelude.{◌≡◌, IfOk, map, option_map};
-ghost use Rattle.markdown_values.specs.Text.{cow_text};
-ghost use Rattle.markdown_values.specs.Tags.{attribute_text};
+ghost use Rattle.markdown_values.specs.Text.{cow_text, holding_of, clone_holding, static_holding};
+ghost use Rattle.markdown_values.specs.Tags.{attribute_view};
 
 use crate::strings::CowStr;
 use crate::values::Alignment;
@@ -13,6 +13,7 @@ pub(crate) fn clone_id<'a>(
     id: &Option<CowStr<'a>>,
 ) -> Result<Option<CowStr<'a>>, AllocError>
     ensures same { IfOk result (λ copy. option_map cow_text copy ≡ option_map cow_text id.now) }
+    ensures holding { IfOk result (λ copy. option_map holding_of copy ≡ option_map clone_holding id.now) }
 {
     match id {
         Some(text) => Ok(Some(text.clone(alloc)?)),
@@ -26,6 +27,7 @@ pub(crate) fn static_id<'a>(
     id: Option<CowStr<'a>>,
 ) -> Result<Option<CowStr<'static>>, AllocError>
     ensures same { IfOk result (λ copy. option_map cow_text copy ≡ option_map cow_text id.entry) }
+    ensures holding { IfOk result (λ copy. option_map holding_of copy ≡ option_map static_holding id.entry) }
 {
     match id {
         Some(text) => Ok(Some(text.into_static(alloc)?)),
@@ -39,6 +41,7 @@ pub(crate) fn clone_texts<'a>(
     texts: &[CowStr<'a>],
 ) -> Result<Vec<CowStr<'a>>, AllocError>
     ensures same { IfOk result (λ copy. map cow_text copy.items ≡ map cow_text texts.now) }
+    ensures holding { IfOk result (λ copy. map holding_of copy.items ≡ map clone_holding texts.now) }
 {
     let mut copy = Vec::new(alloc);
     'texts: for text in texts {
@@ -53,6 +56,7 @@ pub(crate) fn static_texts<'a>(
     texts: Vec<CowStr<'a>>,
 ) -> Result<Vec<CowStr<'static>>, AllocError>
     ensures same { IfOk result (λ copy. map cow_text copy.items ≡ map cow_text texts.entry.items) }
+    ensures holding { IfOk result (λ copy. map holding_of copy.items ≡ map static_holding texts.entry.items) }
 {
     let mut copy = Vec::new(alloc);
     'texts: for text in texts {
@@ -66,7 +70,8 @@ pub(crate) fn clone_attributes<'a>(
     alloc: Global,
     attributes: &[(CowStr<'a>, Option<CowStr<'a>>)],
 ) -> Result<Vec<(CowStr<'a>, Option<CowStr<'a>>)>, AllocError>
-    ensures same { IfOk result (λ copy. map attribute_text copy.items ≡ map attribute_text attributes.now) }
+    ensures same { IfOk result (λ copy. map (attribute_view cow_text) copy.items ≡ map (attribute_view cow_text) attributes.now) }
+    ensures holding { IfOk result (λ copy. map (attribute_view holding_of) copy.items ≡ map (attribute_view clone_holding) attributes.now) }
 {
     let mut copy = Vec::new(alloc);
     'attributes: for attribute in attributes {
@@ -82,7 +87,8 @@ pub(crate) fn static_attributes<'a>(
     alloc: Global,
     attributes: Vec<(CowStr<'a>, Option<CowStr<'a>>)>,
 ) -> Result<Vec<(CowStr<'static>, Option<CowStr<'static>>)>, AllocError>
-    ensures same { IfOk result (λ copy. map attribute_text copy.items ≡ map attribute_text attributes.entry.items) }
+    ensures same { IfOk result (λ copy. map (attribute_view cow_text) copy.items ≡ map (attribute_view cow_text) attributes.entry.items) }
+    ensures holding { IfOk result (λ copy. map (attribute_view holding_of) copy.items ≡ map (attribute_view static_holding) attributes.entry.items) }
 {
     let mut copy = Vec::new(alloc);
     'attributes: for attribute in attributes {
