@@ -7,8 +7,11 @@ use std::hash::{BuildHasher, BuildHasherDefault, FoldHasher, Hash};
 use std::test::Fail;
 
 const OF_15: &str = "0123456789abcde";
+
 const OF_22: &str = "0123456789abcdefghijkl";
+
 const OF_23: &str = "0123456789abcdefghijklm";
+
 const OF_30: &str = "0123456789abcdefghijklmnopqrst";
 
 // The variant of a text.
@@ -61,7 +64,13 @@ fn inline_texts(rt: HostRuntime) {
     assert_eq!(rt; InlineStr::from('🍔').as_str().len(), 4);
     assert_eq!(rt; InlineStr::from('🍔').as_str(), "🍔");
     assert_eq!(rt; lent(&InlineStr::from('é')), "é");
-    for (text, fits) in [("", true), (OF_15, true), (OF_22, true), (OF_23, false), (OF_30, false)] {
+    for (text, fits) in [
+        ("", true),
+        (OF_15, true),
+        (OF_22, true),
+        (OF_23, false),
+        (OF_30, false),
+    ] {
         match InlineStr::try_from(text) {
             Ok(inline) => {
                 assert!(rt; fits, "at {text}");
@@ -134,7 +143,12 @@ fn copies(rt: HostRuntime) -> Result<(), Fail> {
 }
 
 // The variant and the text of what is lent nowhere.
-fn static_is(alloc: Global, text: CowStr<'_>, wanted: &str, bytes: &str) -> Result<bool, AllocError> {
+fn static_is(
+    alloc: Global,
+    text: CowStr<'_>,
+    wanted: &str,
+    bytes: &str,
+) -> Result<bool, AllocError> {
     let text = text.into_static(alloc)?;
     Ok(variant(&text) == wanted && text.as_str() == bytes)
 }

@@ -11,14 +11,17 @@ use std::test::Fail;
 mod options;
 
 const OF_15: &str = "0123456789abcde";
+
 const OF_30: &str = "0123456789abcdefghijklmnopqrst";
 
 fn printed<T: Display>(alloc: Global, value: &T) -> Result<String, AllocError> {
     format!(in alloc; "{}", value)
 }
 
-fn level_of<T: TryInto<HeadingLevel>>(number: T) -> Option<HeadingLevel> {
-    number.try_into().ok()
+fn level_of<T: TryInto<HeadingLevel, Error = InvalidHeadingLevel>>(
+    number: T,
+) -> Result<HeadingLevel, InvalidHeadingLevel> {
+    number.try_into()
 }
 
 #[test]
@@ -37,9 +40,12 @@ fn levels(rt: HostRuntime) -> Result<(), Fail> {
         assert_eq!(rt; printed(rt.alloc(), &level)?.as_str(), name);
     }
     for number in [0, 7, usize::MAX] {
-        assert_eq!(rt; HeadingLevel::try_from(number), Err(InvalidHeadingLevel(number)));
+        assert_eq!(rt;
+            HeadingLevel::try_from(number),
+            Err(InvalidHeadingLevel(number))
+        );
     }
-    assert_eq!(rt; level_of(6_usize), Some(HeadingLevel::H6));
+    assert_eq!(rt; level_of(6_usize), Ok(HeadingLevel::H6));
     let wide = format!(in rt.alloc(); "<{:>4}>", HeadingLevel::H3)?;
     assert_eq!(rt; wide.as_str(), "<h3>");
     Ok(())
@@ -47,8 +53,14 @@ fn levels(rt: HostRuntime) -> Result<(), Fail> {
 
 #[test]
 fn unknown_kinds_of_links(rt: HostRuntime) {
-    assert_eq!(rt; LinkType::Reference.to_unknown(), LinkType::ReferenceUnknown);
-    assert_eq!(rt; LinkType::Collapsed.to_unknown(), LinkType::CollapsedUnknown);
+    assert_eq!(rt;
+        LinkType::Reference.to_unknown(),
+        LinkType::ReferenceUnknown
+    );
+    assert_eq!(rt;
+        LinkType::Collapsed.to_unknown(),
+        LinkType::CollapsedUnknown
+    );
     assert_eq!(rt; LinkType::Shortcut.to_unknown(), LinkType::ShortcutUnknown);
 }
 
@@ -130,14 +142,23 @@ fn ends_of_tags_with_contents(rt: HostRuntime) -> Result<(), Fail> {
     let alloc = rt.alloc();
     let tag = heading(alloc, "i", "c", ("a", None))?;
     assert!(rt; ends_as(tag, TagEnd::Heading(HeadingLevel::H2)));
-    for kind in [None, Some(BlockQuoteKind::Tip), Some(BlockQuoteKind::Caution)] {
+    for kind in [
+        None,
+        Some(BlockQuoteKind::Tip),
+        Some(BlockQuoteKind::Caution),
+    ] {
         assert!(rt; ends_as(Tag::BlockQuote(kind), TagEnd::BlockQuote(kind)));
     }
     assert!(rt; ends_as(Tag::CodeBlock(CodeBlockKind::Indented), TagEnd::CodeBlock));
     assert!(rt; ends_as(Tag::List(Some(3)), TagEnd::List(true)));
     assert!(rt; ends_as(Tag::List(Some(0)), TagEnd::List(true)));
     assert!(rt; ends_as(Tag::List(None), TagEnd::List(false)));
-    assert!(rt; ends_as(Tag::FootnoteDefinition(CowStr::from("1")), TagEnd::FootnoteDefinition));
+    assert!(rt;
+        ends_as(
+            Tag::FootnoteDefinition(CowStr::from("1")),
+            TagEnd::FootnoteDefinition
+        )
+    );
     assert!(rt; ends_as(table(alloc, Alignment::Left)?, TagEnd::Table));
     assert!(rt; ends_as(link("d", "t", "i"), TagEnd::Link));
     assert!(rt; ends_as(image(LinkType::Email), TagEnd::Image));
@@ -154,7 +175,12 @@ fn ends_of_plain_tags(rt: HostRuntime) {
     assert!(rt; ends_as(Tag::Item, TagEnd::Item));
     assert!(rt; ends_as(Tag::DefinitionList, TagEnd::DefinitionList));
     assert!(rt; ends_as(Tag::DefinitionListTitle, TagEnd::DefinitionListTitle));
-    assert!(rt; ends_as(Tag::DefinitionListDefinition, TagEnd::DefinitionListDefinition));
+    assert!(rt;
+        ends_as(
+            Tag::DefinitionListDefinition,
+            TagEnd::DefinitionListDefinition
+        )
+    );
     assert!(rt; ends_as(Tag::TableHead, TagEnd::TableHead));
     assert!(rt; ends_as(Tag::TableRow, TagEnd::TableRow));
     assert!(rt; ends_as(Tag::TableCell, TagEnd::TableCell));
@@ -199,7 +225,12 @@ fn kept_tags(rt: HostRuntime) -> Result<(), Fail> {
     assert!(rt; tag_is_kept(alloc, Tag::Paragraph)?);
     assert!(rt; tag_is_kept(alloc, heading(alloc, "i", OF_30, ("a", Some(OF_30)))?)?);
     assert!(rt; tag_is_kept(alloc, Tag::BlockQuote(Some(BlockQuoteKind::Note)))?);
-    assert!(rt; tag_is_kept(alloc, Tag::CodeBlock(CodeBlockKind::Fenced(CowStr::from(OF_30))))?);
+    assert!(rt;
+        tag_is_kept(
+            alloc,
+            Tag::CodeBlock(CodeBlockKind::Fenced(CowStr::from(OF_30)))
+        )?
+    );
     assert!(rt; tag_is_kept(alloc, Tag::List(Some(3)))?);
     assert!(rt; tag_is_kept(alloc, Tag::FootnoteDefinition(CowStr::from(OF_15)))?);
     assert!(rt; tag_is_kept(alloc, table(alloc, Alignment::Center)?)?);
