@@ -191,24 +191,48 @@ fn ends_of_plain_tags(rt: HostRuntime) {
     assert!(rt; ends_as(Tag::Subscript, TagEnd::Subscript));
 }
 
+// Whether a heading made of these is the same as the tag.
+fn is_heading(
+    alloc: Global,
+    tag: &Tag<'_>,
+    id: &'static str,
+    class: &'static str,
+    attribute: (&'static str, Option<&'static str>),
+) -> Result<bool, AllocError> {
+    Ok(*tag == heading(alloc, id, class, attribute)?)
+}
+
 // Equality looks at each part of a tag.
 #[test]
-fn unequal_tags(rt: HostRuntime) -> Result<(), Fail> {
+fn unequal_headings(rt: HostRuntime) -> Result<(), Fail> {
     let alloc = rt.alloc();
     let tag = heading(alloc, "i", "c", ("a", Some("v")))?;
-    assert!(rt; tag == heading(alloc, "i", "c", ("a", Some("v")))?);
-    assert!(rt; tag != heading(alloc, "j", "c", ("a", Some("v")))?);
-    assert!(rt; tag != heading(alloc, "i", "d", ("a", Some("v")))?);
-    assert!(rt; tag != heading(alloc, "i", "c", ("b", Some("v")))?);
-    assert!(rt; tag != heading(alloc, "i", "c", ("a", Some("w")))?);
-    assert!(rt; tag != heading(alloc, "i", "c", ("a", None))?);
+    assert!(rt; is_heading(alloc, &tag, "i", "c", ("a", Some("v")))?);
+    assert!(rt; !is_heading(alloc, &tag, "j", "c", ("a", Some("v")))?);
+    assert!(rt; !is_heading(alloc, &tag, "i", "d", ("a", Some("v")))?);
+    assert!(rt; !is_heading(alloc, &tag, "i", "c", ("b", Some("v")))?);
+    assert!(rt; !is_heading(alloc, &tag, "i", "c", ("a", Some("w")))?);
+    assert!(rt; !is_heading(alloc, &tag, "i", "c", ("a", None))?);
+    Ok(())
+}
+
+#[test]
+fn unequal_links(rt: HostRuntime) {
+    assert!(rt; link("d", "t", "i") == link("d", "t", "i"));
     assert!(rt; link("d", "t", "i") != link("e", "t", "i"));
     assert!(rt; link("d", "t", "i") != link("d", "u", "i"));
     assert!(rt; link("d", "t", "i") != link("d", "t", "j"));
     assert!(rt; link("d", "t", "i") != image(LinkType::Inline));
     assert!(rt; image(LinkType::Inline) != image(LinkType::Email));
-    assert!(rt; table(alloc, Alignment::Left)? != table(alloc, Alignment::Right)?);
-    assert!(rt; table(alloc, Alignment::Left)? == table(alloc, Alignment::Left)?);
+}
+
+#[test]
+fn unequal_tables(rt: HostRuntime) -> Result<(), Fail> {
+    let alloc = rt.alloc();
+    let tag = table(alloc, Alignment::Left)?;
+    assert!(rt; tag == table(alloc, Alignment::Left)?);
+    assert!(rt; tag != table(alloc, Alignment::Right)?);
+    assert!(rt; tag != Tag::Table(Vec::new(alloc)));
     Ok(())
 }
 
