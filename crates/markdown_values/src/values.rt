@@ -14,8 +14,8 @@ pub use extensions::Options;
 use std::alloc::{AllocError, Global};
 use std::fmt;
 use tag_parts::{
-    clone_alignments, clone_attributes, clone_id, clone_texts, static_attributes, static_id,
-    static_texts,
+    clone_alignments, clone_attributes, clone_optional, clone_texts, static_attributes,
+    static_optional, static_texts,
 };
 
 /// The kind of a code block.
@@ -45,8 +45,10 @@ impl<'a> CodeBlockKind<'a> {
     /// The same kind again.
     pub fn clone(&self, alloc: Global) -> Result<CodeBlockKind<'a>, AllocError>
         ensures same { IfOk result (λ kind. info_view cow_text kind ≡ info_view cow_text self.now) }
-        ensures holding { IfOk result (λ kind. info_view holding_of kind ≡ info_view clone_holding self.now) }
-        ensures equal { IfOk result (λ kind. IsTrue (⟦<CodeBlockKind<'a> as PartialEq>⟧.eq kind self.now)) }
+        ensures holding { IfOk result (λ kind.
+            info_view holding_of kind ≡ info_view clone_holding self.now) }
+        ensures equal { IfOk result (λ kind.
+            IsTrue (⟦<CodeBlockKind<'a> as PartialEq>⟧.eq kind self.now)) }
     {
         match self {
             CodeBlockKind::Indented => Ok(CodeBlockKind::Indented),
@@ -56,9 +58,12 @@ impl<'a> CodeBlockKind<'a> {
 
     /// The same kind with nothing lent.
     pub fn into_static(self, alloc: Global) -> Result<CodeBlockKind<'static>, AllocError>
-        ensures same { IfOk result (λ kind. info_view cow_text kind ≡ info_view cow_text self.entry) }
-        ensures holding { IfOk result (λ kind. info_view holding_of kind ≡ info_view static_holding self.entry) }
-        ensures equal { IfOk result (λ kind. IsTrue (⟦<CodeBlockKind<'a> as PartialEq>⟧.eq kind self.entry)) }
+        ensures same { IfOk result (λ kind.
+            info_view cow_text kind ≡ info_view cow_text self.entry) }
+        ensures holding { IfOk result (λ kind.
+            info_view holding_of kind ≡ info_view static_holding self.entry) }
+        ensures equal { IfOk result (λ kind.
+            IsTrue (⟦<CodeBlockKind<'a> as PartialEq>⟧.eq kind self.entry)) }
     {
         match self {
             CodeBlockKind::Indented => Ok(CodeBlockKind::Indented),
@@ -100,7 +105,8 @@ pub enum HeadingLevel {
 impl TryFrom<usize> for HeadingLevel {
     type Error = InvalidHeadingLevel;
 
-    ghost try_from_gives = { λ number r. MatchResult r (λ level. heading_number level ≡ number) (λ e. (e.0 ≡ number) × ((number ≡ 0) ⊎ (6 < number))) };
+    ghost try_from_gives = { λ number r. MatchResult r (λ level. heading_number level ≡ number)
+        (λ e. (e.0 ≡ number) × ((number ≡ 0) ⊎ (6 < number))) };
 
     fn try_from(number: usize) -> Result<HeadingLevel, InvalidHeadingLevel> {
         match number {
@@ -191,7 +197,8 @@ impl LinkType {
 #[derive(Debug, PartialEq, Drop)]
 pub enum Tag<'a> {
     Paragraph,
-    /// A heading, with what stands in braces after it: an identifier, classes, and attributes with or without a value.
+    /// A heading, with what stands in braces after it: an identifier, classes, and attributes with or
+    /// without a value.
     Heading {
         level: HeadingLevel,
         id: Option<CowStr<'a>>,
@@ -272,7 +279,8 @@ impl<'a> Tag<'a> {
     /// The same tag again.
     pub fn clone(&self, alloc: Global) -> Result<Tag<'a>, AllocError>
         ensures same { IfOk result (λ tag. tag_view cow_text tag ≡ tag_view cow_text self.now) }
-        ensures holding { IfOk result (λ tag. tag_view holding_of tag ≡ tag_view clone_holding self.now) }
+        ensures holding { IfOk result (λ tag.
+            tag_view holding_of tag ≡ tag_view clone_holding self.now) }
         ensures equal { IfOk result (λ tag. IsTrue (⟦<Tag<'a> as PartialEq>⟧.eq tag self.now)) }
     {
         match self {
@@ -284,7 +292,7 @@ impl<'a> Tag<'a> {
                 attrs,
             } => Ok(Tag::Heading {
                 level: *level,
-                id: clone_id(alloc, id)?,
+                id: clone_optional(alloc, id)?,
                 classes: clone_texts(alloc, classes)?,
                 attrs: clone_attributes(alloc, attrs)?,
             }),
@@ -335,7 +343,8 @@ impl<'a> Tag<'a> {
     /// The same tag with nothing lent.
     pub fn into_static(self, alloc: Global) -> Result<Tag<'static>, AllocError>
         ensures same { IfOk result (λ tag. tag_view cow_text tag ≡ tag_view cow_text self.entry) }
-        ensures holding { IfOk result (λ tag. tag_view holding_of tag ≡ tag_view static_holding self.entry) }
+        ensures holding { IfOk result (λ tag.
+            tag_view holding_of tag ≡ tag_view static_holding self.entry) }
         ensures equal { IfOk result (λ tag. IsTrue (⟦<Tag<'a> as PartialEq>⟧.eq tag self.entry)) }
     {
         match self {
@@ -347,7 +356,7 @@ impl<'a> Tag<'a> {
                 attrs,
             } => Ok(Tag::Heading {
                 level,
-                id: static_id(alloc, id)?,
+                id: static_optional(alloc, id)?,
                 classes: static_texts(alloc, classes)?,
                 attrs: static_attributes(alloc, attrs)?,
             }),
@@ -464,9 +473,12 @@ pub enum Event<'a> {
 impl<'a> Event<'a> {
     /// The same event again.
     pub fn clone(&self, alloc: Global) -> Result<Event<'a>, AllocError>
-        ensures same { IfOk result (λ event. event_view cow_text event ≡ event_view cow_text self.now) }
-        ensures holding { IfOk result (λ event. event_view holding_of event ≡ event_view clone_holding self.now) }
-        ensures equal { IfOk result (λ event. IsTrue (⟦<Event<'a> as PartialEq>⟧.eq event self.now)) }
+        ensures same { IfOk result (λ event.
+            event_view cow_text event ≡ event_view cow_text self.now) }
+        ensures holding { IfOk result (λ event.
+            event_view holding_of event ≡ event_view clone_holding self.now) }
+        ensures equal { IfOk result (λ event.
+            IsTrue (⟦<Event<'a> as PartialEq>⟧.eq event self.now)) }
     {
         match self {
             Event::Start(tag) => Ok(Event::Start(tag.clone(alloc)?)),
@@ -487,9 +499,12 @@ impl<'a> Event<'a> {
 
     /// The same event with nothing lent.
     pub fn into_static(self, alloc: Global) -> Result<Event<'static>, AllocError>
-        ensures same { IfOk result (λ event. event_view cow_text event ≡ event_view cow_text self.entry) }
-        ensures holding { IfOk result (λ event. event_view holding_of event ≡ event_view static_holding self.entry) }
-        ensures equal { IfOk result (λ event. IsTrue (⟦<Event<'a> as PartialEq>⟧.eq event self.entry)) }
+        ensures same { IfOk result (λ event.
+            event_view cow_text event ≡ event_view cow_text self.entry) }
+        ensures holding { IfOk result (λ event.
+            event_view holding_of event ≡ event_view static_holding self.entry) }
+        ensures equal { IfOk result (λ event.
+            IsTrue (⟦<Event<'a> as PartialEq>⟧.eq event self.entry)) }
     {
         match self {
             Event::Start(tag) => Ok(Event::Start(tag.into_static(alloc)?)),

@@ -7,7 +7,8 @@ use bitflags::{Flag, Flags};
 
 /// Which extensions of the syntax are on, as a set of bits.
 ///
-/// The calls on sets, as `union` and `contains`, are those of the trait `Flags` of `bitflags`. Bits that no extension has are kept by `from_bits_retain` alone.
+/// The calls on sets, as `union` and `contains`, are those of the trait `Flags` of `bitflags`. Bits
+/// that no extension has are kept by `from_bits_retain` alone.
 #[derive(Clone, Copy, Debug, PartialEq, Eq, PartialOrd, Ord, Hash)]
 pub struct Options(u32);
 
@@ -123,7 +124,8 @@ impl Options {
 
     /// Whether footnotes follow the rules of GitHub: they are on, and not in their old form.
     pub fn has_gfm_footnotes(&self) -> bool
-        ensures { result ≡ (bit_and (bits_of self.now) 4 == 4) && not (bit_and (bits_of self.now) 516 == 516) }
+        ensures { result
+            ≡ (bit_and (bits_of self.now) 4 == 4) && not (bit_and (bits_of self.now) 516 == 516) }
     {
         self.contains(Options::ENABLE_FOOTNOTES) && !self.contains(Options::ENABLE_OLD_FOOTNOTES)
     }

@@ -7,13 +7,14 @@ use crate::strings::CowStr;
 use crate::values::Alignment;
 use std::alloc::{AllocError, Global};
 
-// An identifier again.
-pub(crate) fn clone_id<'a>(
+// A text again, where there is one.
+pub(crate) fn clone_optional<'a>(
     alloc: Global,
     id: &Option<CowStr<'a>>,
 ) -> Result<Option<CowStr<'a>>, AllocError>
     ensures same { IfOk result (λ copy. option_map cow_text copy ≡ option_map cow_text id.now) }
-    ensures holding { IfOk result (λ copy. option_map holding_of copy ≡ option_map clone_holding id.now) }
+    ensures holding { IfOk result (λ copy.
+        option_map holding_of copy ≡ option_map clone_holding id.now) }
 {
     match id {
         Some(text) => Ok(Some(text.clone(alloc)?)),
@@ -21,13 +22,14 @@ pub(crate) fn clone_id<'a>(
     }
 }
 
-// An identifier with nothing lent.
-pub(crate) fn static_id<'a>(
+// A text with nothing lent, where there is one.
+pub(crate) fn static_optional<'a>(
     alloc: Global,
     id: Option<CowStr<'a>>,
 ) -> Result<Option<CowStr<'static>>, AllocError>
     ensures same { IfOk result (λ copy. option_map cow_text copy ≡ option_map cow_text id.entry) }
-    ensures holding { IfOk result (λ copy. option_map holding_of copy ≡ option_map static_holding id.entry) }
+    ensures holding { IfOk result (λ copy.
+        option_map holding_of copy ≡ option_map static_holding id.entry) }
 {
     match id {
         Some(text) => Ok(Some(text.into_static(alloc)?)),
@@ -41,7 +43,8 @@ pub(crate) fn clone_texts<'a>(
     texts: &[CowStr<'a>],
 ) -> Result<Vec<CowStr<'a>>, AllocError>
     ensures same { IfOk result (λ copy. map cow_text copy.items ≡ map cow_text texts.now) }
-    ensures holding { IfOk result (λ copy. map holding_of copy.items ≡ map clone_holding texts.now) }
+    ensures holding { IfOk result (λ copy.
+        map holding_of copy.items ≡ map clone_holding texts.now) }
 {
     let mut copy = Vec::new(alloc);
     'texts: for text in texts {
@@ -56,7 +59,8 @@ pub(crate) fn static_texts<'a>(
     texts: Vec<CowStr<'a>>,
 ) -> Result<Vec<CowStr<'static>>, AllocError>
     ensures same { IfOk result (λ copy. map cow_text copy.items ≡ map cow_text texts.entry.items) }
-    ensures holding { IfOk result (λ copy. map holding_of copy.items ≡ map static_holding texts.entry.items) }
+    ensures holding { IfOk result (λ copy.
+        map holding_of copy.items ≡ map static_holding texts.entry.items) }
 {
     let mut copy = Vec::new(alloc);
     'texts: for text in texts {
@@ -70,13 +74,16 @@ pub(crate) fn clone_attributes<'a>(
     alloc: Global,
     attributes: &[(CowStr<'a>, Option<CowStr<'a>>)],
 ) -> Result<Vec<(CowStr<'a>, Option<CowStr<'a>>)>, AllocError>
-    ensures same { IfOk result (λ copy. map (attribute_view cow_text) copy.items ≡ map (attribute_view cow_text) attributes.now) }
-    ensures holding { IfOk result (λ copy. map (attribute_view holding_of) copy.items ≡ map (attribute_view clone_holding) attributes.now) }
+    ensures same { IfOk result (λ copy.
+        map (attribute_view cow_text) copy.items ≡ map (attribute_view cow_text) attributes.now) }
+    ensures holding { IfOk result (λ copy.
+        map (attribute_view holding_of) copy.items
+        ≡ map (attribute_view clone_holding) attributes.now) }
 {
     let mut copy = Vec::new(alloc);
     'attributes: for attribute in attributes {
         let name = attribute.0.clone(alloc)?;
-        let value = clone_id(alloc, &attribute.1)?;
+        let value = clone_optional(alloc, &attribute.1)?;
         copy.push((name, value))?;
     }
     Ok(copy)
@@ -87,14 +94,18 @@ pub(crate) fn static_attributes<'a>(
     alloc: Global,
     attributes: Vec<(CowStr<'a>, Option<CowStr<'a>>)>,
 ) -> Result<Vec<(CowStr<'static>, Option<CowStr<'static>>)>, AllocError>
-    ensures same { IfOk result (λ copy. map (attribute_view cow_text) copy.items ≡ map (attribute_view cow_text) attributes.entry.items) }
-    ensures holding { IfOk result (λ copy. map (attribute_view holding_of) copy.items ≡ map (attribute_view static_holding) attributes.entry.items) }
+    ensures same { IfOk result (λ copy.
+        map (attribute_view cow_text) copy.items
+        ≡ map (attribute_view cow_text) attributes.entry.items) }
+    ensures holding { IfOk result (λ copy.
+        map (attribute_view holding_of) copy.items
+        ≡ map (attribute_view static_holding) attributes.entry.items) }
 {
     let mut copy = Vec::new(alloc);
     'attributes: for attribute in attributes {
         let (name, value) = attribute;
         let name = name.into_static(alloc)?;
-        let value = static_id(alloc, value)?;
+        let value = static_optional(alloc, value)?;
         copy.push((name, value))?;
     }
     Ok(copy)
