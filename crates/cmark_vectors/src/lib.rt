@@ -1,0 +1,7 @@
+//! Worked rows and callers of the library, as tests.
+#![tactic(auto)]
+
+#[cfg(test)]
+mod texts;
+#[cfg(test)]
+mod values;
