@@ -2,6 +2,12 @@
 #![tactic(auto)]
 
 #[cfg(test)]
+mod blocks;
+#[cfg(test)]
 mod line;
 #[cfg(test)]
 mod line_vectors;
+#[cfg(test)]
+mod texts;
+#[cfg(test)]
+mod values;

@@ -1,9 +1,16 @@
 pub mod BlankLemmas
 pub mod BreakLemmas
+pub mod BreakScan
+pub mod ClassLemmas
 pub mod ColumnLemmas
 pub mod FrontLemmas
 pub mod HeadLemmas
+pub mod IndentLemmas
 pub mod LineRows
 pub mod LineRunLemmas
+pub mod ListItemLemmas
+pub mod MetadataLemmas
+pub mod RunLemmas
+pub mod ScanLemmas
 pub mod SpaceLemmas
 pub mod StepLemmas

@@ -1,7 +1,16 @@
+pub mod Accepted
 pub mod Bytes
+pub mod Classes
+pub mod CodeFence
 pub mod Columns
+pub mod Indent
 pub mod LineOutcome
 pub mod LineState
+pub mod Lines
+pub mod ListItem
+pub mod ListMarker
+pub mod Metadata
+pub mod Numbers
 pub mod PlainRun
 pub mod PlainStep
 pub mod ThematicBreak

@@ -1,0 +1,195 @@
+//! Texts: what each call answers, in which variant, and that equality and hash see the text alone.
+use markdown_values::strings::{BoxedStr, CowStr, InlineStr, MAX_INLINE_STR_LEN};
+use std::alloc::{AllocError, Global};
+use std::convert::AsStr;
+use std::fmt::Display;
+use std::hash::{BuildHasher, BuildHasherDefault, FoldHasher, Hash};
+use std::test::Fail;
+
+const OF_15: &str = "0123456789abcde";
+
+const OF_22: &str = "0123456789abcdefghijkl";
+
+const OF_23: &str = "0123456789abcdefghijklm";
+
+const OF_30: &str = "0123456789abcdefghijklmnopqrst";
+
+// The variant of a text.
+fn variant(text: &CowStr<'_>) -> &'static str {
+    match text {
+        CowStr::Boxed(_) => "boxed",
+        CowStr::Borrowed(_) => "borrowed",
+        CowStr::Inlined(_) => "inlined",
+    }
+}
+
+fn boxed(alloc: Global, text: &str) -> Result<CowStr<'static>, AllocError> {
+    CowStr::from_string(alloc, String::from_str(alloc, text)?)
+}
+
+fn inlined(text: &str) -> Option<CowStr<'static>> {
+    match InlineStr::try_from(text) {
+        Ok(text) => Some(CowStr::Inlined(text)),
+        Err(_) => None,
+    }
+}
+
+// The calls that stand in traits, each through its bound.
+fn lent<T: AsStr>(text: &T) -> &str {
+    text.as_str()
+}
+
+fn are_equal<T: Eq>(a: &T, b: &T) -> bool {
+    a == b
+}
+
+fn hash_of<T: Hash>(text: &T) -> u64 {
+    let hasher: BuildHasherDefault<FoldHasher> = BuildHasherDefault::default();
+    hasher.hash_one(text)
+}
+
+fn printed<T: Display>(alloc: Global, text: &T) -> Result<String, AllocError> {
+    format!(in alloc; "<{}>", text)
+}
+
+fn printed_wide<T: Display>(alloc: Global, text: &T) -> Result<String, AllocError> {
+    format!(in alloc; "<{:>8}>", text)
+}
+
+#[test]
+fn inline_texts(rt: HostRuntime) {
+    assert!(rt; MAX_INLINE_STR_LEN >= 4);
+    assert_eq!(rt; MAX_INLINE_STR_LEN, OF_22.len());
+    assert_eq!(rt; InlineStr::from('a').as_str(), "a");
+    assert_eq!(rt; InlineStr::from('🍔').as_str().len(), 4);
+    assert_eq!(rt; InlineStr::from('🍔').as_str(), "🍔");
+    assert_eq!(rt; lent(&InlineStr::from('é')), "é");
+    for (text, fits) in [
+        ("", true),
+        (OF_15, true),
+        (OF_22, true),
+        (OF_23, false),
+        (OF_30, false),
+    ] {
+        match InlineStr::try_from(text) {
+            Ok(inline) => {
+                assert!(rt; fits, "at {text}");
+                assert_eq!(rt; inline.as_str(), text);
+                assert_eq!(rt; inline.copy().as_str(), text);
+                assert!(rt; are_equal(&inline, &inline.copy()));
+            }
+            Err(_) => assert!(rt; !fits, "at {text}"),
+        }
+    }
+    assert!(rt; !are_equal(&InlineStr::from('a'), &InlineStr::from('b')));
+}
+
+#[test]
+fn texts_from_a_character_or_a_text(rt: HostRuntime) {
+    let letter = CowStr::from('c');
+    assert_eq!(rt; variant(&letter), "inlined");
+    assert_eq!(rt; letter.as_str(), "c");
+    let sign = CowStr::from('藏');
+    assert_eq!(rt; sign.as_str(), "藏");
+    for text in ["", "a", OF_22, OF_30] {
+        let lent_text = CowStr::from(text);
+        assert_eq!(rt; variant(&lent_text), "borrowed");
+        assert_eq!(rt; lent(&lent_text), text);
+    }
+}
+
+#[test]
+fn strings_from_texts(rt: HostRuntime) -> Result<(), Fail> {
+    let alloc = rt.alloc();
+    let lent_text = CowStr::from("some text").into_string(alloc)?;
+    assert_eq!(rt; lent_text.as_str(), "some text");
+    let inlined_text = CowStr::from('s').into_string(alloc)?;
+    assert_eq!(rt; inlined_text.as_str(), "s");
+    let owned_text = boxed(alloc, "s")?.into_string(alloc)?;
+    assert_eq!(rt; owned_text.as_str(), "s");
+    let sign = CowStr::from('藏').into_string(alloc)?;
+    assert_eq!(rt; sign.as_str(), "藏");
+    Ok(())
+}
+
+#[test]
+fn owned_texts(rt: HostRuntime) -> Result<(), Fail> {
+    let text = boxed(rt.alloc(), "a")?;
+    assert_eq!(rt; variant(&text), "boxed");
+    if let CowStr::Boxed(owned) = &text {
+        let owned: &BoxedStr = owned;
+        assert_eq!(rt; owned.as_str(), "a");
+        assert_eq!(rt; lent(owned), "a");
+    }
+    Ok(())
+}
+
+// The variant and the text of a copy.
+fn copy_is(alloc: Global, text: &CowStr<'_>, wanted: &str) -> Result<bool, AllocError> {
+    let copy = text.clone(alloc)?;
+    Ok(variant(&copy) == wanted && copy == *text && copy.as_str() == text.as_str())
+}
+
+#[test]
+fn copies(rt: HostRuntime) -> Result<(), Fail> {
+    let alloc = rt.alloc();
+    assert!(rt; copy_is(alloc, &boxed(alloc, OF_15)?, "inlined")?);
+    assert!(rt; copy_is(alloc, &boxed(alloc, OF_22)?, "inlined")?);
+    assert!(rt; copy_is(alloc, &boxed(alloc, OF_23)?, "boxed")?);
+    assert!(rt; copy_is(alloc, &CowStr::from(OF_30), "borrowed")?);
+    assert!(rt; copy_is(alloc, &CowStr::from("a"), "borrowed")?);
+    assert!(rt; copy_is(alloc, &CowStr::from('a'), "inlined")?);
+    Ok(())
+}
+
+// The variant and the text of what is lent nowhere.
+fn static_is(
+    alloc: Global,
+    text: CowStr<'_>,
+    wanted: &str,
+    bytes: &str,
+) -> Result<bool, AllocError> {
+    let text = text.into_static(alloc)?;
+    Ok(variant(&text) == wanted && text.as_str() == bytes)
+}
+
+#[test]
+fn static_texts(rt: HostRuntime) -> Result<(), Fail> {
+    let alloc = rt.alloc();
+    assert!(rt; static_is(alloc, CowStr::from(OF_22), "inlined", OF_22)?);
+    assert!(rt; static_is(alloc, CowStr::from(OF_23), "boxed", OF_23)?);
+    assert!(rt; static_is(alloc, boxed(alloc, "a")?, "boxed", "a")?);
+    assert!(rt; static_is(alloc, boxed(alloc, OF_30)?, "boxed", OF_30)?);
+    assert!(rt; static_is(alloc, CowStr::from('a'), "inlined", "a")?);
+    Ok(())
+}
+
+#[test]
+fn equal_texts_in_each_variant(rt: HostRuntime) -> Result<(), Fail> {
+    let owned = boxed(rt.alloc(), "a")?;
+    let lent_text = CowStr::from("a");
+    let inlined_text = CowStr::from('a');
+    assert!(rt; are_equal(&owned, &lent_text));
+    assert!(rt; are_equal(&lent_text, &inlined_text));
+    assert!(rt; are_equal(&inlined_text, &owned));
+    assert_eq!(rt; hash_of(&owned), hash_of(&lent_text));
+    assert_eq!(rt; hash_of(&lent_text), hash_of(&inlined_text));
+    assert_eq!(rt; hash_of(&InlineStr::from('a')), hash_of(&inlined_text));
+    assert!(rt; !are_equal(&lent_text, &CowStr::from('b')));
+    assert!(rt; !are_equal(&lent_text, &CowStr::from("")));
+    assert!(rt; inlined(OF_22) == Some(CowStr::from(OF_22)));
+    assert!(rt; inlined(OF_23).is_none());
+    Ok(())
+}
+
+#[test]
+fn printed_texts(rt: HostRuntime) -> Result<(), Fail> {
+    let alloc = rt.alloc();
+    assert_eq!(rt; printed(alloc, &InlineStr::from('é'))?.as_str(), "<é>");
+    assert_eq!(rt; printed(alloc, &boxed(alloc, "é a")?)?.as_str(), "<é a>");
+    assert_eq!(rt; printed(alloc, &CowStr::from("é a"))?.as_str(), "<é a>");
+    assert_eq!(rt; printed(alloc, &CowStr::from('é'))?.as_str(), "<é>");
+    assert_eq!(rt; printed_wide(alloc, &CowStr::from("a"))?.as_str(), "<a>");
+    assert_eq!(rt; printed_wide(alloc, &InlineStr::from('a'))?.as_str(), "<a>");
+    Ok(())
+}

@@ -1,0 +1,323 @@
+//! Tags, events, headings and links: rows of their calls.
+use markdown_values::strings::CowStr;
+use markdown_values::values::{
+    Alignment, BlockQuoteKind, CodeBlockKind, Event, HeadingLevel, InvalidHeadingLevel, LinkType,
+    MetadataBlockKind, Tag, TagEnd,
+};
+use std::alloc::{AllocError, Global};
+use std::fmt::Display;
+use std::test::Fail;
+
+mod options;
+
+const OF_15: &str = "0123456789abcde";
+
+const OF_30: &str = "0123456789abcdefghijklmnopqrst";
+
+fn printed<T: Display>(alloc: Global, value: &T) -> Result<String, AllocError> {
+    format!(in alloc; "{}", value)
+}
+
+fn level_of<T: TryInto<HeadingLevel, Error = InvalidHeadingLevel>>(
+    number: T,
+) -> Result<HeadingLevel, InvalidHeadingLevel> {
+    number.try_into()
+}
+
+#[test]
+fn levels(rt: HostRuntime) -> Result<(), Fail> {
+    let levels = [
+        (1, HeadingLevel::H1, "h1"),
+        (2, HeadingLevel::H2, "h2"),
+        (3, HeadingLevel::H3, "h3"),
+        (4, HeadingLevel::H4, "h4"),
+        (5, HeadingLevel::H5, "h5"),
+        (6, HeadingLevel::H6, "h6"),
+    ];
+    for (number, level, name) in levels {
+        assert_eq!(rt; HeadingLevel::try_from(number), Ok(level));
+        assert_eq!(rt; level as usize, number);
+        assert_eq!(rt; printed(rt.alloc(), &level)?.as_str(), name);
+    }
+    for number in [0, 7, usize::MAX] {
+        assert_eq!(rt;
+            HeadingLevel::try_from(number),
+            Err(InvalidHeadingLevel(number))
+        );
+    }
+    assert_eq!(rt; level_of(6_usize), Ok(HeadingLevel::H6));
+    let wide = format!(in rt.alloc(); "<{:>4}>", HeadingLevel::H3)?;
+    assert_eq!(rt; wide.as_str(), "<h3>");
+    Ok(())
+}
+
+#[test]
+fn unknown_kinds_of_links(rt: HostRuntime) {
+    assert_eq!(rt;
+        LinkType::Reference.to_unknown(),
+        LinkType::ReferenceUnknown
+    );
+    assert_eq!(rt;
+        LinkType::Collapsed.to_unknown(),
+        LinkType::CollapsedUnknown
+    );
+    assert_eq!(rt; LinkType::Shortcut.to_unknown(), LinkType::ShortcutUnknown);
+}
+
+#[test]
+fn kinds_of_code_blocks(rt: HostRuntime) -> Result<(), Fail> {
+    let alloc = rt.alloc();
+    let indented = CodeBlockKind::Indented;
+    assert!(rt; indented.is_indented() && !indented.is_fenced());
+    let fenced = CodeBlockKind::Fenced(CowStr::from("rust"));
+    assert!(rt; fenced.is_fenced() && !fenced.is_indented());
+    assert!(rt; fenced.clone(alloc)? == fenced);
+    assert!(rt; fenced.clone(alloc)?.into_static(alloc)? == fenced);
+    assert!(rt; indented.clone(alloc)?.into_static(alloc)? == indented);
+    assert!(rt; fenced != indented);
+    assert!(rt; fenced != CodeBlockKind::Fenced(CowStr::from("rus")));
+    Ok(())
+}
+
+fn list_of_one(alloc: Global, text: &'static str) -> Result<Vec<CowStr<'static>>, AllocError> {
+    let mut texts = Vec::new(alloc);
+    texts.push(CowStr::from(text))?;
+    Ok(texts)
+}
+
+// A heading with one class and one attribute.
+fn heading(
+    alloc: Global,
+    id: &'static str,
+    class: &'static str,
+    attribute: (&'static str, Option<&'static str>),
+) -> Result<Tag<'static>, AllocError> {
+    let (name, value) = attribute;
+    let value = match value {
+        Some(value) => Some(CowStr::from(value)),
+        None => None,
+    };
+    let mut attrs = Vec::new(alloc);
+    attrs.push((CowStr::from(name), value))?;
+    Ok(Tag::Heading {
+        level: HeadingLevel::H2,
+        id: Some(CowStr::from(id)),
+        classes: list_of_one(alloc, class)?,
+        attrs,
+    })
+}
+
+fn link(dest_url: &'static str, title: &'static str, id: &'static str) -> Tag<'static> {
+    Tag::Link {
+        link_type: LinkType::Inline,
+        dest_url: CowStr::from(dest_url),
+        title: CowStr::from(title),
+        id: CowStr::from(id),
+    }
+}
+
+fn image(link_type: LinkType) -> Tag<'static> {
+    Tag::Image {
+        link_type,
+        dest_url: CowStr::from("d"),
+        title: CowStr::from("t"),
+        id: CowStr::from("i"),
+    }
+}
+
+fn table(alloc: Global, last: Alignment) -> Result<Tag<'static>, AllocError> {
+    let mut alignments = Vec::new(alloc);
+    alignments.push(Alignment::None)?;
+    alignments.push(last)?;
+    Ok(Tag::Table(alignments))
+}
+
+// A tag is ended by `end`, however it is asked.
+fn ends_as(tag: Tag<'_>, end: TagEnd) -> bool {
+    tag.to_end() == end && TagEnd::from(tag) == end
+}
+
+#[test]
+fn ends_of_tags_with_contents(rt: HostRuntime) -> Result<(), Fail> {
+    let alloc = rt.alloc();
+    let tag = heading(alloc, "i", "c", ("a", None))?;
+    assert!(rt; ends_as(tag, TagEnd::Heading(HeadingLevel::H2)));
+    for kind in [
+        None,
+        Some(BlockQuoteKind::Tip),
+        Some(BlockQuoteKind::Caution),
+    ] {
+        assert!(rt; ends_as(Tag::BlockQuote(kind), TagEnd::BlockQuote(kind)));
+    }
+    assert!(rt; ends_as(Tag::CodeBlock(CodeBlockKind::Indented), TagEnd::CodeBlock));
+    assert!(rt; ends_as(Tag::List(Some(3)), TagEnd::List(true)));
+    assert!(rt; ends_as(Tag::List(Some(0)), TagEnd::List(true)));
+    assert!(rt; ends_as(Tag::List(None), TagEnd::List(false)));
+    assert!(rt;
+        ends_as(
+            Tag::FootnoteDefinition(CowStr::from("1")),
+            TagEnd::FootnoteDefinition
+        )
+    );
+    assert!(rt; ends_as(table(alloc, Alignment::Left)?, TagEnd::Table));
+    assert!(rt; ends_as(link("d", "t", "i"), TagEnd::Link));
+    assert!(rt; ends_as(image(LinkType::Email), TagEnd::Image));
+    for kind in [MetadataBlockKind::YamlStyle, MetadataBlockKind::PlusesStyle] {
+        assert!(rt; ends_as(Tag::MetadataBlock(kind), TagEnd::MetadataBlock(kind)));
+    }
+    Ok(())
+}
+
+#[test]
+fn ends_of_plain_tags(rt: HostRuntime) {
+    assert!(rt; ends_as(Tag::Paragraph, TagEnd::Paragraph));
+    assert!(rt; ends_as(Tag::HtmlBlock, TagEnd::HtmlBlock));
+    assert!(rt; ends_as(Tag::Item, TagEnd::Item));
+    assert!(rt; ends_as(Tag::DefinitionList, TagEnd::DefinitionList));
+    assert!(rt; ends_as(Tag::DefinitionListTitle, TagEnd::DefinitionListTitle));
+    assert!(rt;
+        ends_as(
+            Tag::DefinitionListDefinition,
+            TagEnd::DefinitionListDefinition
+        )
+    );
+    assert!(rt; ends_as(Tag::TableHead, TagEnd::TableHead));
+    assert!(rt; ends_as(Tag::TableRow, TagEnd::TableRow));
+    assert!(rt; ends_as(Tag::TableCell, TagEnd::TableCell));
+    assert!(rt; ends_as(Tag::Emphasis, TagEnd::Emphasis));
+    assert!(rt; ends_as(Tag::Strong, TagEnd::Strong));
+    assert!(rt; ends_as(Tag::Strikethrough, TagEnd::Strikethrough));
+    assert!(rt; ends_as(Tag::Superscript, TagEnd::Superscript));
+    assert!(rt; ends_as(Tag::Subscript, TagEnd::Subscript));
+}
+
+// Whether a heading made of these is the same as the tag.
+fn is_heading(
+    alloc: Global,
+    tag: &Tag<'_>,
+    id: &'static str,
+    class: &'static str,
+    attribute: (&'static str, Option<&'static str>),
+) -> Result<bool, AllocError> {
+    Ok(*tag == heading(alloc, id, class, attribute)?)
+}
+
+// Equality looks at each part of a tag.
+#[test]
+fn unequal_headings(rt: HostRuntime) -> Result<(), Fail> {
+    let alloc = rt.alloc();
+    let tag = heading(alloc, "i", "c", ("a", Some("v")))?;
+    assert!(rt; is_heading(alloc, &tag, "i", "c", ("a", Some("v")))?);
+    assert!(rt; !is_heading(alloc, &tag, "j", "c", ("a", Some("v")))?);
+    assert!(rt; !is_heading(alloc, &tag, "i", "d", ("a", Some("v")))?);
+    assert!(rt; !is_heading(alloc, &tag, "i", "c", ("b", Some("v")))?);
+    assert!(rt; !is_heading(alloc, &tag, "i", "c", ("a", Some("w")))?);
+    assert!(rt; !is_heading(alloc, &tag, "i", "c", ("a", None))?);
+    Ok(())
+}
+
+#[test]
+fn unequal_links(rt: HostRuntime) {
+    assert!(rt; link("d", "t", "i") == link("d", "t", "i"));
+    assert!(rt; link("d", "t", "i") != link("e", "t", "i"));
+    assert!(rt; link("d", "t", "i") != link("d", "u", "i"));
+    assert!(rt; link("d", "t", "i") != link("d", "t", "j"));
+    assert!(rt; link("d", "t", "i") != image(LinkType::Inline));
+    assert!(rt; image(LinkType::Inline) != image(LinkType::Email));
+}
+
+#[test]
+fn unequal_tables(rt: HostRuntime) -> Result<(), Fail> {
+    let alloc = rt.alloc();
+    let tag = table(alloc, Alignment::Left)?;
+    assert!(rt; tag == table(alloc, Alignment::Left)?);
+    assert!(rt; tag != table(alloc, Alignment::Right)?);
+    assert!(rt; tag != Tag::Table(Vec::new(alloc)));
+    Ok(())
+}
+
+// A copy of a tag, and the tag with nothing lent, equal the tag.
+fn tag_is_kept(alloc: Global, tag: Tag<'_>) -> Result<bool, AllocError> {
+    let copy = tag.clone(alloc)?;
+    let is_equal = copy == tag;
+    Ok(is_equal && tag.into_static(alloc)? == copy)
+}
+
+#[test]
+fn kept_tags(rt: HostRuntime) -> Result<(), Fail> {
+    let alloc = rt.alloc();
+    assert!(rt; tag_is_kept(alloc, Tag::Paragraph)?);
+    assert!(rt; tag_is_kept(alloc, heading(alloc, "i", OF_30, ("a", Some(OF_30)))?)?);
+    assert!(rt; tag_is_kept(alloc, Tag::BlockQuote(Some(BlockQuoteKind::Note)))?);
+    assert!(rt;
+        tag_is_kept(
+            alloc,
+            Tag::CodeBlock(CodeBlockKind::Fenced(CowStr::from(OF_30)))
+        )?
+    );
+    assert!(rt; tag_is_kept(alloc, Tag::List(Some(3)))?);
+    assert!(rt; tag_is_kept(alloc, Tag::FootnoteDefinition(CowStr::from(OF_15)))?);
+    assert!(rt; tag_is_kept(alloc, table(alloc, Alignment::Center)?)?);
+    assert!(rt; tag_is_kept(alloc, link(OF_30, OF_15, ""))?);
+    assert!(rt; tag_is_kept(alloc, image(LinkType::WikiLink { has_pothole: true }))?);
+    assert!(rt; tag_is_kept(alloc, Tag::MetadataBlock(MetadataBlockKind::PlusesStyle))?);
+    Ok(())
+}
+
+// The same for an event.
+fn event_is_kept(alloc: Global, event: Event<'_>) -> Result<bool, AllocError> {
+    let copy = event.clone(alloc)?;
+    let is_equal = copy == event;
+    Ok(is_equal && event.into_static(alloc)? == copy)
+}
+
+#[test]
+fn kept_events(rt: HostRuntime) -> Result<(), Fail> {
+    let alloc = rt.alloc();
+    let text = CowStr::from;
+    assert!(rt; event_is_kept(alloc, Event::Start(table(alloc, Alignment::Right)?))?);
+    assert!(rt; event_is_kept(alloc, Event::End(TagEnd::List(true)))?);
+    assert!(rt; event_is_kept(alloc, Event::Text(text(OF_30)))?);
+    assert!(rt; event_is_kept(alloc, Event::Code(text(OF_15)))?);
+    assert!(rt; event_is_kept(alloc, Event::InlineMath(text("x")))?);
+    assert!(rt; event_is_kept(alloc, Event::DisplayMath(text("x")))?);
+    assert!(rt; event_is_kept(alloc, Event::Html(text("<a>")))?);
+    assert!(rt; event_is_kept(alloc, Event::InlineHtml(text("<a>")))?);
+    assert!(rt; event_is_kept(alloc, Event::FootnoteReference(text("1")))?);
+    assert!(rt; event_is_kept(alloc, Event::SoftBreak)?);
+    assert!(rt; event_is_kept(alloc, Event::HardBreak)?);
+    assert!(rt; event_is_kept(alloc, Event::Rule)?);
+    assert!(rt; event_is_kept(alloc, Event::TaskListMarker(true))?);
+    Ok(())
+}
+
+fn is_boxed(text: &CowStr<'_>) -> bool {
+    matches!(text, CowStr::Boxed(_))
+}
+
+fn has_boxed_texts(event: &Event<'_>) -> bool {
+    match event {
+        Event::Start(
+            Tag::Link {
+                dest_url,
+                title,
+                id,
+                ..
+            },
+        ) => is_boxed(dest_url) && is_boxed(title) && is_boxed(id),
+        Event::Text(text) => is_boxed(text),
+        _ => false,
+    }
+}
+
+#[test]
+fn long_texts_of_static_events(rt: HostRuntime) -> Result<(), Fail> {
+    let alloc = rt.alloc();
+    let event = Event::Start(link(OF_30, OF_30, OF_30)).into_static(alloc)?;
+    assert!(rt; event == Event::Start(link(OF_30, OF_30, OF_30)));
+    assert!(rt; has_boxed_texts(&event));
+    let event = Event::Text(CowStr::from(OF_30)).into_static(alloc)?;
+    assert!(rt; event == Event::Text(CowStr::from(OF_30)));
+    assert!(rt; has_boxed_texts(&event));
+    Ok(())
+}

@@ -1,0 +1,245 @@
+//! Options: each call said by bits alone, and the rows of their table.
+ghost use Rattle.std.specs.Prelude.{◌≡◌, ◌-◌, ◌^◌, ◌==◌, ◌↔◌, ◌&&◌, not, if◌then◌else◌, IfSome, IsSome};
+ghost use Rattle.std.specs.Int.RustNames.{bit_and, bit_or, bit_xor};
+
+use bitflags::Flags;
+use markdown_values::values::Options;
+
+// What each call answers, by the bits of its arguments.
+fn bits_of_empty() -> u32
+    ensures { result ≡ 0 }
+{
+    Options::empty().bits()
+}
+
+#[tactic(auto, using(markdown_values::proofs::ExtensionLemmas::all_known))]
+fn bits_of_all() -> u32
+    ensures { result ≡ 65534 }
+{
+    Options::all().bits()
+}
+
+#[tactic(auto, using(markdown_values::proofs::ExtensionLemmas::all_known))]
+fn bits_if_known(bits: u32) -> Option<u32>
+    ensures value { IfSome result (λ b. b ≡ bits) }
+    ensures known { IsSome result ↔ (bit_and bits 65534 ≡ bits) }
+{
+    match Options::from_bits(bits) {
+        Some(options) => Some(options.bits()),
+        None => None,
+    }
+}
+
+#[tactic(auto, using(markdown_values::proofs::ExtensionLemmas::all_known))]
+fn known_bits(bits: u32) -> u32
+    ensures { result ≡ bit_and bits 65534 }
+{
+    Options::from_bits_truncate(bits).bits()
+}
+
+fn retained_bits(bits: u32) -> u32
+    ensures { result ≡ bits }
+{
+    Options::from_bits_retain(bits).bits()
+}
+
+fn is_empty(bits: u32) -> bool
+    ensures { result ≡ (bits == 0) }
+{
+    Options::from_bits_retain(bits).is_empty()
+}
+
+#[tactic(auto, using(markdown_values::proofs::ExtensionLemmas::all_known))]
+fn is_all(bits: u32) -> bool
+    ensures { result ≡ (bit_or 65534 bits == bits) }
+{
+    Options::from_bits_retain(bits).is_all()
+}
+
+fn contains(b: u32, c: u32) -> bool
+    ensures { result ≡ (bit_and b c == c) }
+{
+    Options::from_bits_retain(b).contains(Options::from_bits_retain(c))
+}
+
+fn intersects(b: u32, c: u32) -> bool
+    ensures { result ≡ not (bit_and b c == 0) }
+{
+    Options::from_bits_retain(b).intersects(Options::from_bits_retain(c))
+}
+
+fn union(b: u32, c: u32) -> u32
+    ensures { result ≡ bit_or b c }
+{
+    Options::from_bits_retain(b)
+        .union(Options::from_bits_retain(c))
+        .bits()
+}
+
+fn insert(b: u32, c: u32) -> u32
+    ensures { result ≡ bit_or b c }
+{
+    let mut options = Options::from_bits_retain(b);
+    options.insert(Options::from_bits_retain(c));
+    options.bits()
+}
+
+fn intersection(b: u32, c: u32) -> u32
+    ensures { result ≡ bit_and b c }
+{
+    Options::from_bits_retain(b)
+        .intersection(Options::from_bits_retain(c))
+        .bits()
+}
+
+fn difference(b: u32, c: u32) -> u32
+    ensures { result ≡ bit_and b (2 ^ 32 - 1 - c) }
+{
+    Options::from_bits_retain(b)
+        .difference(Options::from_bits_retain(c))
+        .bits()
+}
+
+fn remove(b: u32, c: u32) -> u32
+    ensures { result ≡ bit_and b (2 ^ 32 - 1 - c) }
+{
+    let mut options = Options::from_bits_retain(b);
+    options.remove(Options::from_bits_retain(c));
+    options.bits()
+}
+
+fn symmetric_difference(b: u32, c: u32) -> u32
+    ensures { result ≡ bit_xor b c }
+{
+    Options::from_bits_retain(b)
+        .symmetric_difference(Options::from_bits_retain(c))
+        .bits()
+}
+
+fn toggle(b: u32, c: u32) -> u32
+    ensures { result ≡ bit_xor b c }
+{
+    let mut options = Options::from_bits_retain(b);
+    options.toggle(Options::from_bits_retain(c));
+    options.bits()
+}
+
+#[tactic(auto, using(markdown_values::proofs::ExtensionLemmas::all_known))]
+fn complement(bits: u32) -> u32
+    ensures { result ≡ bit_and (2 ^ 32 - 1 - bits) 65534 }
+{
+    Options::from_bits_retain(bits).complement().bits()
+}
+
+fn set(b: u32, c: u32, on: bool) -> u32
+    ensures { result ≡ (if on then bit_or b c else bit_and b (2 ^ 32 - 1 - c)) }
+{
+    let mut options = Options::from_bits_retain(b);
+    options.set(Options::from_bits_retain(c), on);
+    options.bits()
+}
+
+fn has_gfm_footnotes(bits: u32) -> bool
+    ensures { result ≡ (bit_and bits 4 == 4) && not (bit_and bits 516 == 516) }
+{
+    Options::from_bits_retain(bits).has_gfm_footnotes()
+}
+
+fn old_footnotes() -> u32
+    ensures { result ≡ 516 }
+{
+    Options::ENABLE_OLD_FOOTNOTES.bits()
+}
+
+#[test]
+fn names_and_bits(rt: HostRuntime) {
+    let rows = [
+        (Options::ENABLE_TABLES, "ENABLE_TABLES", 2),
+        (Options::ENABLE_FOOTNOTES, "ENABLE_FOOTNOTES", 4),
+        (Options::ENABLE_STRIKETHROUGH, "ENABLE_STRIKETHROUGH", 8),
+        (Options::ENABLE_TASKLISTS, "ENABLE_TASKLISTS", 16),
+        (
+            Options::ENABLE_SMART_PUNCTUATION,
+            "ENABLE_SMART_PUNCTUATION",
+            32,
+        ),
+        (
+            Options::ENABLE_HEADING_ATTRIBUTES,
+            "ENABLE_HEADING_ATTRIBUTES",
+            64,
+        ),
+        (
+            Options::ENABLE_YAML_STYLE_METADATA_BLOCKS,
+            "ENABLE_YAML_STYLE_METADATA_BLOCKS",
+            128,
+        ),
+        (
+            Options::ENABLE_PLUSES_DELIMITED_METADATA_BLOCKS,
+            "ENABLE_PLUSES_DELIMITED_METADATA_BLOCKS",
+            256,
+        ),
+        (Options::ENABLE_OLD_FOOTNOTES, "ENABLE_OLD_FOOTNOTES", 516),
+        (Options::ENABLE_MATH, "ENABLE_MATH", 1024),
+        (Options::ENABLE_GFM, "ENABLE_GFM", 2048),
+        (
+            Options::ENABLE_DEFINITION_LIST,
+            "ENABLE_DEFINITION_LIST",
+            4096,
+        ),
+        (Options::ENABLE_SUPERSCRIPT, "ENABLE_SUPERSCRIPT", 8192),
+        (Options::ENABLE_SUBSCRIPT, "ENABLE_SUBSCRIPT", 16384),
+        (Options::ENABLE_WIKILINKS, "ENABLE_WIKILINKS", 32768),
+    ];
+    let flags = Options::flags();
+    assert_eq!(rt; flags.len(), rows.len());
+    for (flag, (options, name, bits)) in flags.iter().zip(rows) {
+        assert_eq!(rt; options.bits(), bits, "at {name}");
+        assert_eq!(rt; flag.name(), name);
+        assert_eq!(rt; flag.value().bits(), bits, "at {name}");
+    }
+}
+
+#[test]
+fn bits_that_are_known(rt: HostRuntime) {
+    assert_eq!(rt; bits_of_empty(), 0);
+    assert_eq!(rt; bits_of_all(), 65534);
+    assert_eq!(rt; bits_if_known(1), None);
+    assert_eq!(rt; bits_if_known(65534), Some(65534));
+    assert_eq!(rt; bits_if_known(512), Some(512));
+    assert!(rt; !Options::from_bits_retain(512).contains(Options::ENABLE_FOOTNOTES));
+    assert_eq!(rt; known_bits(65537), 0);
+    assert_eq!(rt; retained_bits(65537), 65537);
+    assert!(rt; is_empty(0) && !is_empty(1));
+    assert!(rt; is_all(65534) && is_all(65535) && !is_all(65532));
+    assert_eq!(rt; complement(6), 65528);
+    assert_eq!(rt; complement(1), 65534);
+    assert_eq!(rt; old_footnotes(), 516);
+}
+
+#[test]
+fn sets_of_bits(rt: HostRuntime) {
+    assert!(rt; contains(6, 4) && contains(6, 0) && !contains(4, 516));
+    assert!(rt; intersects(4, 516) && !intersects(4, 512) && !intersects(4, 0));
+    let tables_and_footnotes = Options::ENABLE_TABLES.union(Options::ENABLE_FOOTNOTES);
+    assert_eq!(rt; tables_and_footnotes.bits(), 6);
+    assert_eq!(rt; union(6, 12), 14);
+    assert_eq!(rt; insert(6, 12), 14);
+    assert_eq!(rt; intersection(6, 12), 4);
+    assert_eq!(rt; difference(516, 4), 512);
+    let all_but_math = Options::all().difference(Options::ENABLE_MATH);
+    assert_eq!(rt; all_but_math.bits(), 64510);
+    assert_eq!(rt; remove(516, 4), 512);
+    assert_eq!(rt; symmetric_difference(6, 12), 10);
+    assert_eq!(rt; toggle(6, 12), 10);
+    assert_eq!(rt; set(6, 8, true), 14);
+    assert_eq!(rt; set(6, 4, false), 2);
+}
+
+#[test]
+fn footnotes_by_the_rules_of_github(rt: HostRuntime) {
+    assert!(rt; has_gfm_footnotes(4));
+    assert!(rt; !has_gfm_footnotes(0));
+    assert!(rt; !has_gfm_footnotes(512));
+    assert!(rt; !has_gfm_footnotes(516));
+    assert!(rt; !Options::ENABLE_OLD_FOOTNOTES.has_gfm_footnotes());
+}

@@ -1,0 +1,9 @@
+use Rattle.std.proofs.Common.{refl, arith, get_or}
+use Rattle.markdown_scanners_tree.specs.declared.scanners.classes.TheConstants.{CLASSES}
+use Rattle.markdown_scanners_tree.specs.Classes.{class_bits}
+use Rattle.markdown_scanners_tree.proofs.ClassLemmas.{agree_below, agree_at}
+use Rattle.markdown_scanners_tree.proofs.scanners.classes.classes_of.Goals as goal
+
+pub returns : goal.returns
+unfolding agree_below
+returns c = agree_at (λ b. get_or CLASSES b 0) class_bits 256 refl c.args.byte (omega arith)

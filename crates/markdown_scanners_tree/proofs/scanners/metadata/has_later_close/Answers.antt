@@ -1,0 +1,21 @@
+use Rattle.std.proofs.Common.{◌<◌, ◌+◌, ◌-◌, ℕ, length, take, drop, sym, ◌∙◌, arith}
+use Rattle.markdown_scanners_tree.specs.Metadata.{IsClosingMetadataBlock}
+use Rattle.markdown_scanners_tree.proofs.ScanLemmas.{IfSome-some, IfNone-none}
+use Rattle.markdown_scanners_tree.proofs.MetadataLemmas.{line-within, line-closed, line-open, no_line}
+use Rattle.markdown_scanners_tree.proofs.scanners.metadata.has_later_close.Goals as goal
+
+pub returns-then-is_some-clause-found : goal.returns-then-is_some-clause-found
+returns-then-is_some-clause-found c _ =
+    let next = c.loop-line.i + (c.in-Some.line + 1) in
+    let close = IfSome-some (λ n. IsClosingMetadataBlock (take (length c.args.body.now - next) (drop next c.args.body.now)) c.args.byte n) c.scan_closing_metadata_block.result (sym c.is_some.ensures ∙ c.if-is_some.true) c.scan_closing_metadata_block.ensures.found in
+    line-closed c.args.byte c.args.body.now c.loop-line.i c.in-Some.line c.in-Some.ensures close.0 close.1
+
+pub loop-line-preserved : goal.loop-line-preserved
+loop-line-preserved c =
+    let next = c.loop-line.i + (c.in-Some.line + 1) in
+    let inside : c.loop-line.i + c.in-Some.line < length c.args.body.now = line-within c.args.byte c.args.body.now c.loop-line.i c.in-Some.line c.in-Some.ensures in
+    let none = IfNone-none ((n : ℕ) → ¬ IsClosingMetadataBlock (take (length c.args.body.now - next) (drop next c.args.body.now)) c.args.byte n) c.scan_closing_metadata_block.result (sym c.is_some.ensures ∙ c.if-is_some.false) c.scan_closing_metadata_block.ensures.absent in
+    (omega (arith, inside), λ close. line-open c.args.byte c.args.body.now c.loop-line.i c.in-Some.line c.in-Some.ensures none (c.loop-line.invariant.1 close))
+
+pub returns-clause-absent : goal.returns-clause-absent
+returns-clause-absent c _ close = no_line c.args.byte c.args.body.now c.loop-line.i c.in_default.ensures (c.loop-line.invariant.1 close)

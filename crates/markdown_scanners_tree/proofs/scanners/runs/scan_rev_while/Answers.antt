@@ -1,0 +1,42 @@
+use Rattle.std.proofs.Common.{◌<◌, true, false, take, drop, get_or, length, of_calls, rules, arith, sym, reverse}
+use Rattle.std.proofs.lemmas.List.{take_more, take-append-drop, drop_all, length-take-le, get_or-reverse, length-reverse}
+use Rattle.std.proofs.lemmas.Fn.{FoldsTo-push}
+use Rattle.std.proofs.Math.Seq.{drop-cons}
+use Rattle.markdown_scanners_tree.proofs.scanners.runs.scan_rev_while.Goals as goal
+
+pub loop-count-preserved : goal.loop-count-preserved
+loop-count-preserved g c =
+    let before = c.loop-count.invariant in
+    let inside : c.loop-count.count < length c.args.«data».now = omega arith in
+    let below : c.loop-count.count < length (reverse c.args.«data».now) = omega (arith, inside, length-reverse c.args.«data».now) in
+    let called : goal.F-step g c.loop-count.f (get_or (reverse c.args.«data».now) c.loop-count.count 0) true c.f.new.self = rw (get_or-reverse c.args.«data».now c.loop-count.count 0 inside) (search of_calls) in
+    (search (rules, of_calls), omega arith, rw (take_more (reverse c.args.«data».now) c.loop-count.count 0 below) (FoldsTo-push (λ p b q. goal.F-step g p b true q) _ _ _ _ _ before.2 called))
+
+pub returns : goal.returns
+returns g c =
+    let before = c.loop-count.invariant in
+    record {
+      front = take c.loop-count.count (reverse c.args.«data».now);
+      rest = drop c.loop-count.count (reverse c.args.«data».now);
+      parts = sym (take-append-drop c.loop-count.count (reverse c.args.«data».now));
+      count = sym (length-take-le c.loop-count.count (reverse c.args.«data».now) (omega (arith, before.1, length-reverse c.args.«data».now)));
+      between = c.loop-count.f;
+      accepted = before.2;
+      refused = rw (drop_all c.loop-count.count (reverse c.args.«data».now) (omega (arith, length-reverse c.args.«data».now))) tt;
+    }
+
+pub returns-then-not-f : goal.returns-then-not-f
+returns-then-not-f g c =
+    let before = c.loop-count.invariant in
+    let inside : c.loop-count.count < length c.args.«data».now = omega arith in
+    let below : c.loop-count.count < length (reverse c.args.«data».now) = omega (arith, inside, length-reverse c.args.«data».now) in
+    let called : goal.F-step g c.loop-count.f (get_or (reverse c.args.«data».now) c.loop-count.count 0) false c.f.new.self = rw (get_or-reverse c.args.«data».now c.loop-count.count 0 inside) (search of_calls) in
+    record {
+      front = take c.loop-count.count (reverse c.args.«data».now);
+      rest = drop c.loop-count.count (reverse c.args.«data».now);
+      parts = sym (take-append-drop c.loop-count.count (reverse c.args.«data».now));
+      count = sym (length-take-le c.loop-count.count (reverse c.args.«data».now) (omega (arith, before.1, length-reverse c.args.«data».now)));
+      between = c.loop-count.f;
+      accepted = before.2;
+      refused = rw (drop-cons (reverse c.args.«data».now) c.loop-count.count 0) (c.f.new.self, called);
+    }

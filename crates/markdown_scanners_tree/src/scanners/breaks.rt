@@ -1,0 +1,64 @@
+//! Thematic breaks.
+ghost use Rattle.std.specs.Prelude.{◌≡◌, ◌<◌, ◌≤◌, ◌==◌, ℕ, length, drop, count_by, false, IsTrue, IfOk, IfErr};
+ghost use Rattle.std.specs.List.{prefix_len};
+ghost use Rattle.markdown_scanners_tree.specs.Bytes.{begins_with, line_length};
+ghost use Rattle.markdown_scanners_tree.specs.ThematicBreak.{is_break_marker, is_break_byte, is_thematic_break, break_length};
+
+use crate::scanners::lines::scan_eol;
+
+/// The length in bytes of a thematic break at the front, with its line ending.
+///
+/// Where no thematic break stands there, the error is a place before which none begins, so that
+/// a caller need not look again there. (CommonMark 0.31.2, section 4.1.)
+pub fn scan_hrule(bytes: &[u8]) -> Result<usize, usize>
+    ensures found { IfOk result (λ n. IsTrue (is_thematic_break bytes.now) × (n ≡ line_length bytes.now)) }
+    ensures absent { IfErr result (λ n. is_thematic_break bytes.now ≡ false) }
+    ensures stopped { IfErr result (λ n. n ≡ break_length bytes.now) }
+    ensures none_before { IfErr result (λ n. (k : ℕ) → k < n → is_thematic_break (drop k bytes.now) ≡ false) }
+{
+    if bytes.len() < 3 {
+        return Err(0);
+    }
+    match bytes {
+        [b'*', ..] => scan_break_of(bytes, b'*'),
+        [b'-', ..] => scan_break_of(bytes, b'-'),
+        [b'_', ..] => scan_break_of(bytes, b'_'),
+        _ => Err(0),
+    }
+}
+
+// The length of the longest front of the marker, spaces and tabs.
+fn scan_break_bytes(bytes: &[u8], marker: u8) -> usize
+    ensures run { result ≡ prefix_len (is_break_byte marker) bytes.now }
+    ensures within { result ≤ length bytes.now }
+{
+    bytes
+        .iter()
+        .take_while(|b| **b == marker || **b == b' ' || **b == b'\t')
+        .count()
+}
+
+fn count_of(bytes: &[u8], byte: u8) -> usize
+    ensures { result ≡ count_by (λ b. b == byte) bytes.now }
+{
+    bytes.iter().filter(|b| **b == byte).count()
+}
+
+// The same as `scan_hrule`, where the first byte is known.
+fn scan_break_of(bytes: &[u8], marker: u8) -> Result<usize, usize>
+    requires marked { IsTrue (is_break_marker marker) }
+    requires begins { IsTrue (begins_with (λ b. b == marker) bytes.now) }
+    requires enough { 3 ≤ length bytes.now }
+    ensures found { IfOk result (λ n. IsTrue (is_thematic_break bytes.now) × (n ≡ line_length bytes.now)) }
+    ensures absent { IfErr result (λ n. is_thematic_break bytes.now ≡ false) }
+    ensures stopped { IfErr result (λ n. n ≡ break_length bytes.now) }
+    ensures none_before { IfErr result (λ n. (k : ℕ) → k < n → is_thematic_break (drop k bytes.now) ≡ false) }
+{
+    let run = scan_break_bytes(bytes, marker);
+    let markers = count_of(&bytes[..run], marker);
+    match scan_eol(&bytes[run..]) {
+        None => Err(run),
+        Some(ending) if markers >= 3 => Ok(run + ending),
+        Some(ending) => Err(run + ending),
+    }
+}

@@ -1,0 +1,66 @@
+//! The classes of bytes, read from one table.
+ghost use Rattle.std.specs.Prelude.{◌≡◌};
+ghost use Rattle.markdown_scanners_tree.specs.Bytes.{is_white_space, is_white_space_in_line, is_punctuation, is_digit};
+ghost use Rattle.markdown_scanners_tree.specs.Classes.{class_bits};
+
+const WHITE_SPACE: u8 = 1;
+
+const WHITE_SPACE_IN_LINE: u8 = 2;
+
+const PUNCTUATION: u8 = 4;
+
+const DIGIT: u8 = 16;
+
+// For each byte the sum of the bits of its classes.
+const CLASSES: [u8; 256] = [
+    32, 32, 32, 32, 32, 32, 32, 32, 32, 35, 1, 35, 35, 1, 32, 32, 32, 32, 32, 32, 32, 32, 32, 32,
+    32, 32, 32, 32, 32, 32, 32, 32, 3, 36, 4, 36, 36, 36, 36, 4, 36, 36, 36, 36, 36, 36, 36, 36,
+    48, 48, 48, 48, 48, 48, 48, 48, 48, 48, 36, 36, 4, 4, 4, 36, 36, 40, 40, 40, 40, 40, 40, 40,
+    40, 40, 40, 40, 40, 40, 40, 40, 40, 40, 40, 40, 40, 40, 40, 40, 40, 40, 40, 36, 36, 36, 36, 36,
+    4, 40, 40, 40, 40, 40, 40, 40, 40, 40, 40, 40, 40, 40, 40, 40, 40, 40, 40, 40, 40, 40, 40, 40,
+    40, 40, 40, 36, 36, 36, 36, 32, 32, 32, 32, 32, 32, 32, 32, 32, 32, 32, 32, 32, 32, 32, 32, 32,
+    32, 32, 32, 32, 32, 32, 32, 32, 32, 32, 32, 32, 32, 32, 32, 32, 32, 32, 32, 32, 32, 32, 32, 32,
+    32, 32, 32, 32, 32, 32, 32, 32, 32, 32, 32, 32, 32, 32, 32, 32, 32, 32, 32, 32, 32, 32, 32, 32,
+    32, 32, 32, 32, 32, 32, 32, 32, 32, 32, 32, 32, 32, 32, 32, 32, 32, 32, 32, 32, 32, 32, 32, 32,
+    32, 32, 32, 32, 32, 32, 32, 32, 32, 32, 32, 32, 32, 32, 32, 32, 32, 32, 32, 32, 32, 32, 32, 32,
+    32, 32, 32, 32, 32, 32, 32, 32, 32, 32, 32, 32, 32, 32, 32, 32,
+];
+
+// The sum of the bits of the classes that the byte is in.
+fn classes_of(byte: u8) -> u8
+    ensures { result ≡ class_bits byte }
+{
+    CLASSES[byte as usize]
+}
+
+/// Whether the byte is ASCII white space: tab, LF, vertical tab, form feed, CR or space.
+///
+/// (CommonMark 0.31.2, section 2.1; the vertical tab is counted too.)
+pub fn is_ascii_whitespace(c: u8) -> bool
+    ensures { result ≡ is_white_space c }
+{
+    classes_of(c) & WHITE_SPACE != 0
+}
+
+/// Whether the byte is ASCII white space that ends no line: tab, vertical tab, form feed or space.
+pub fn is_ascii_whitespace_no_nl(c: u8) -> bool
+    ensures { result ≡ is_white_space_in_line c }
+{
+    classes_of(c) & WHITE_SPACE_IN_LINE != 0
+}
+
+/// Whether the byte is ASCII punctuation.
+///
+/// (CommonMark 0.31.2, section 2.1.)
+pub fn is_ascii_punctuation(c: u8) -> bool
+    ensures { result ≡ is_punctuation c }
+{
+    classes_of(c) & PUNCTUATION != 0
+}
+
+// Whether the byte is an ASCII digit.
+pub(in crate::scanners) fn is_ascii_digit(c: u8) -> bool
+    ensures { result ≡ is_digit c }
+{
+    classes_of(c) & DIGIT != 0
+}

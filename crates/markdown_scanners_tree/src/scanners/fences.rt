@@ -1,0 +1,83 @@
+//! Fences of code blocks.
+ghost use Rattle.std.specs.Prelude.{◌≡◌, ◌≤◌, ◌==◌, ℕ, length, IsTrue, IfSome, IfNone};
+ghost use Rattle.std.specs.List.{prefix_len};
+ghost use Rattle.markdown_scanners_tree.specs.Bytes.{begins_with};
+ghost use Rattle.markdown_scanners_tree.specs.CodeFence.{IsCodeFence, IsClosingCodeFence, is_fence_byte, is_space_or_tab, has_backtick_in_line};
+
+use crate::scanners::lines::{scan_eol, scan_to_line_feed};
+use crate::scanners::runs::scan_ch_repeat;
+use memchr::memchr;
+
+/// The number of fence bytes of an opening code fence at the front, and that byte.
+///
+/// What follows the fence in its line, the info string, is not looked at but for backticks after
+/// a fence of backticks, and a CR does not end that line. (CommonMark 0.31.2, section 4.5.)
+pub fn scan_code_fence(data: &[u8]) -> Option<(usize, u8)>
+    ensures found { IfSome result (λ r. IsCodeFence «data».now r.0 r.1) }
+    ensures absent { IfNone result ((n byte : ℕ) → ¬ IsCodeFence «data».now n byte) }
+    ensures within { IfSome result (λ r. r.0 ≤ length «data».now) }
+{
+    match data {
+        [b'`', ..] => scan_fence_of(data, b'`'),
+        [b'~', ..] => scan_fence_of(data, b'~'),
+        _ => None,
+    }
+}
+
+// The same, where the first byte is known.
+fn scan_fence_of(data: &[u8], byte: u8) -> Option<(usize, u8)>
+    requires fence { IsTrue (is_fence_byte byte) }
+    requires begins { IsTrue (begins_with (λ b. b == byte) «data».now) }
+    ensures found { IfSome result (λ r. IsCodeFence «data».now r.0 r.1) }
+    ensures absent { IfNone result ((n byte : ℕ) → ¬ IsCodeFence «data».now n byte) }
+    ensures within { IfSome result (λ r. r.0 ≤ length «data».now) }
+{
+    let run = scan_ch_repeat(data, byte);
+    if run < 3 {
+        return None;
+    }
+    if byte == b'`' && has_backtick(&data[run..]) {
+        return None;
+    }
+    Some((run, byte))
+}
+
+// Whether a backtick stands before the first LF.
+fn has_backtick(bytes: &[u8]) -> bool
+    ensures { result ≡ has_backtick_in_line bytes.now }
+{
+    let line = &bytes[..scan_to_line_feed(bytes)];
+    memchr(b'`', line).is_some()
+}
+
+/// The length in bytes of a closing code fence at the front, without the line ending.
+///
+/// It has at least `n_fence_char` bytes `fence_char`, and then spaces and tabs. The end of the
+/// text closes a fence too, with length 0. (CommonMark 0.31.2, section 4.5.)
+pub fn scan_closing_code_fence(bytes: &[u8], fence_char: u8, n_fence_char: usize) -> Option<usize>
+    ensures found { IfSome result (λ n. IsClosingCodeFence bytes.now fence_char n_fence_char n) }
+    ensures absent { IfNone result ((n : ℕ) → ¬ IsClosingCodeFence bytes.now fence_char n_fence_char n) }
+    ensures within { IfSome result (λ n. n ≤ length bytes.now) }
+{
+    if bytes.is_empty() {
+        return Some(0);
+    }
+    let run = scan_ch_repeat(bytes, fence_char);
+    if run < n_fence_char {
+        return None;
+    }
+    let space = scan_spaces_and_tabs(&bytes[run..]);
+    scan_eol(&bytes[run + space..])?;
+    Some(run + space)
+}
+
+// The length of the longest front of spaces and tabs.
+fn scan_spaces_and_tabs(bytes: &[u8]) -> usize
+    ensures run { result ≡ prefix_len is_space_or_tab bytes.now }
+    ensures within { result ≤ length bytes.now }
+{
+    bytes
+        .iter()
+        .take_while(|b| **b == b' ' || **b == b'\t')
+        .count()
+}

@@ -1,0 +1,59 @@
+//! The indent of a line.
+ghost use Rattle.std.specs.Prelude.{◌≡◌, ◌+◌, ◌-◌, ◌*◌, ◌/◌, ◌<◌, ◌≤◌, length};
+ghost use Rattle.markdown_scanners_tree.specs.Columns.{column_after, next_tab_stop};
+ghost use Rattle.markdown_scanners_tree.specs.Indent.{IsIndent, goes_on};
+
+/// The place of the last byte that was looked at, and the columns of the spaces and tabs before
+/// it, with tab stops of four. (CommonMark 0.31.2, section 2.2.)
+///
+/// A space that fills `max` columns is counted and ends the scan. A tab that would go past `max`
+/// ends it unread, as does each other byte. The place is 0 for an empty text.
+pub fn calc_indent(text: &[u8], max: usize) -> (usize, usize)
+    requires { max ≤ usize.MAX / 4 }
+    ensures indent { IsIndent text.now max result.0 result.1 }
+    ensures within { result.0 ≤ length text.now }
+{
+    let mut column = 0;
+    let mut i = 0;
+    while i < text.len() {
+        let byte = text[i];
+        if !space_goes_on(max, column, byte) {
+            return (i, if byte == b' ' { column + 1 } else { column });
+        }
+        column = column_behind(column, byte);
+        i += 1;
+    }
+    (i.saturating_sub(1), column)
+}
+
+// Whether the byte at this column is a space or tab after which the indent goes on.
+fn space_goes_on(max: usize, column: usize, byte: u8) -> bool
+    requires { column < usize.MAX - 4 }
+    ensures { result ≡ goes_on max column byte }
+{
+    match byte {
+        b' ' => column + 1 != max,
+        b'\t' => tab_stop(column) <= max,
+        _ => false,
+    }
+}
+
+// The column after the byte at this column.
+fn column_behind(column: usize, byte: u8) -> usize
+    requires { column < usize.MAX - 4 }
+    ensures { result ≡ column_after column byte }
+{
+    if byte == b'\t' {
+        tab_stop(column)
+    } else {
+        column + 1
+    }
+}
+
+// The next multiple of four above the column.
+fn tab_stop(column: usize) -> usize
+    requires { column < usize.MAX - 4 }
+    ensures { result ≡ next_tab_stop column }
+{
+    column - column % 4 + 4
+}

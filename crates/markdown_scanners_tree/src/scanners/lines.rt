@@ -1,0 +1,73 @@
+//! Line endings, blank lines and the marks at the front of a line.
+ghost use Rattle.std.specs.Prelude.{◌≡◌, ◌≤◌, ◌==◌, ℕ, length, not, IfSome, IfNone};
+ghost use Rattle.std.specs.List.{prefix_len};
+ghost use Rattle.markdown_scanners_tree.specs.Bytes.{line_ending, IsBlankLine, blank_line};
+ghost use Rattle.markdown_scanners_tree.specs.Lines.{is_no_line_feed, next_line, IsBlockQuoteStart};
+
+use crate::scanners::runs::scan_whitespace_no_nl;
+use memchr::memchr;
+
+/// The length in bytes of the line ending at the front: LF, CR LF, or a CR alone.
+///
+/// The end of the bytes counts as a line ending of length 0. (CommonMark 0.31.2, section 2.1.)
+pub fn scan_eol(bytes: &[u8]) -> Option<usize>
+    ensures ending { result ≡ line_ending bytes.now }
+    ensures within { IfSome result (λ n. n ≤ length bytes.now) }
+{
+    match bytes {
+        [] => Some(0),
+        [b'\n', ..] => Some(1),
+        [b'\r', b'\n', ..] => Some(2),
+        [b'\r', ..] => Some(1),
+        _ => None,
+    }
+}
+
+/// The length in bytes of a blank line at the front, with its line ending.
+///
+/// (CommonMark 0.31.2, section 2.1; vertical tabs and form feeds are white space too.)
+pub fn scan_blank_line(bytes: &[u8]) -> Option<usize>
+    ensures found { IfSome result (λ n. IsBlankLine bytes.now n) }
+    ensures absent { IfNone result ((n : ℕ) → ¬ IsBlankLine bytes.now n) }
+    ensures line { result ≡ blank_line bytes.now }
+    ensures within { IfSome result (λ n. n ≤ length bytes.now) }
+{
+    let i = scan_whitespace_no_nl(bytes);
+    let n = scan_eol(&bytes[i..])?;
+    Some(i + n)
+}
+
+/// The place after the first LF, or the length where there is none. A CR ends no line here.
+pub fn scan_nextline(bytes: &[u8]) -> usize
+    ensures next { result ≡ next_line bytes.now }
+    ensures within { result ≤ length bytes.now }
+{
+    match memchr(b'\n', bytes) {
+        Some(place) => place + 1,
+        None => bytes.len(),
+    }
+}
+
+// How many bytes stand before the first LF, or all of them.
+pub(in crate::scanners) fn scan_to_line_feed(bytes: &[u8]) -> usize
+    ensures front { result ≡ prefix_len is_no_line_feed bytes.now }
+    ensures within { result ≤ length bytes.now }
+{
+    memchr(b'\n', bytes).unwrap_or(bytes.len())
+}
+
+/// The length in bytes of a block quote marker, with the space after it, if one follows.
+///
+/// (CommonMark 0.31.2, section 5.1.) A tab after the marker is not taken, since only a part of
+/// it may belong to the marker.
+pub fn scan_blockquote_start(data: &[u8]) -> Option<usize>
+    ensures found { IfSome result (λ n. IsBlockQuoteStart «data».now n) }
+    ensures absent { IfNone result ((n : ℕ) → ¬ IsBlockQuoteStart «data».now n) }
+    ensures within { IfSome result (λ n. n ≤ length «data».now) }
+{
+    match data {
+        [b'>', b' ', ..] => Some(2),
+        [b'>', ..] => Some(1),
+        _ => None,
+    }
+}

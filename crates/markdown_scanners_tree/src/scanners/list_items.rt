@@ -1,0 +1,113 @@
+//! List items.
+ghost use Rattle.std.specs.Prelude.{◌≡◌, ◌+◌, ◌<◌, ◌≤◌, ℕ, length, take, false, IsTrue, IfSome, IfNone};
+ghost use Rattle.std.specs.List.{prefix_len, list_all};
+ghost use Rattle.markdown_scanners_tree.specs.Bytes.{begins_with, is_digit};
+ghost use Rattle.markdown_scanners_tree.specs.ListItem.{IsListMarker, IsItemSpace, IsListItem};
+ghost use Rattle.markdown_scanners_tree.specs.ListMarker.{is_bullet, is_delimiter};
+ghost use Rattle.markdown_scanners_tree.specs.Numbers.{decimal_value};
+
+use crate::scanners::classes::is_ascii_digit;
+use crate::scanners::indent::calc_indent;
+use crate::scanners::lines::scan_blank_line;
+
+/// A list item at the front: the length in bytes of its marker with the space that belongs to
+/// it, its bullet or delimiter, its start number (0 for a bullet), and its indent in columns.
+///
+/// A line that is blank after the marker has an indent one column wider than the marker.
+/// (CommonMark 0.31.2, section 5.2.)
+pub fn scan_listitem(bytes: &[u8]) -> Option<(usize, u8, usize, usize)>
+    ensures found { IfSome result (λ r. IsListItem bytes.now r.0 r.1 r.2 r.3) }
+    ensures absent { IfNone result ((n delimiter start indent : ℕ) → ¬ IsListItem bytes.now n delimiter start indent) }
+    ensures within { IfSome result (λ r. r.0 ≤ length bytes.now) }
+{
+    let (width, delimiter, start) = scan_marker(bytes)?;
+    let (place, space) = scan_item_space(&bytes[width..])?;
+    Some((width + place, delimiter, start, width + space))
+}
+
+// The length of a list marker at the front, its last byte and its start number.
+fn scan_marker(bytes: &[u8]) -> Option<(usize, u8, usize)>
+    ensures found { IfSome result (λ r. IsListMarker (take r.0 bytes.now) r.1 r.2) }
+    ensures absent { IfNone result ((n delimiter start : ℕ) → ¬ IsListMarker (take n bytes.now) delimiter start) }
+    ensures within { IfSome result (λ r. r.0 ≤ length bytes.now) }
+{
+    if begins_with_bullet(bytes) {
+        Some((1, bytes[0], 0))
+    } else {
+        scan_ordered_marker(bytes)
+    }
+}
+
+// Whether a bullet stands at the front.
+fn begins_with_bullet(bytes: &[u8]) -> bool
+    ensures { result ≡ begins_with is_bullet bytes.now }
+{
+    matches!(bytes, [b'-' | b'+' | b'*', ..])
+}
+
+// The same, where no bullet stands at the front.
+fn scan_ordered_marker(bytes: &[u8]) -> Option<(usize, u8, usize)>
+    requires no_bullet { begins_with is_bullet bytes.now ≡ false }
+    ensures found { IfSome result (λ r. IsListMarker (take r.0 bytes.now) r.1 r.2) }
+    ensures absent { IfNone result ((n delimiter start : ℕ) → ¬ IsListMarker (take n bytes.now) delimiter start) }
+    ensures within { IfSome result (λ r. r.0 ≤ length bytes.now) }
+{
+    let digits = scan_digits(bytes);
+    if digits == 0 || digits > 9 {
+        return None;
+    }
+    if digits == bytes.len() || !is_delimiter_byte(bytes[digits]) {
+        return None;
+    }
+    Some((digits + 1, bytes[digits], number_of(&bytes[..digits])))
+}
+
+// Whether the byte ends an ordered list marker.
+fn is_delimiter_byte(byte: u8) -> bool
+    ensures { result ≡ is_delimiter byte }
+{
+    byte == b'.' || byte == b')'
+}
+
+// The length of the longest front of digits.
+fn scan_digits(bytes: &[u8]) -> usize
+    ensures run { result ≡ prefix_len is_digit bytes.now }
+    ensures within { result ≤ length bytes.now }
+{
+    bytes.iter().take_while(|b| is_ascii_digit(**b)).count()
+}
+
+// The number that at most nine digits stand for.
+fn number_of(digits: &[u8]) -> usize
+    requires all { IsTrue (list_all is_digit digits.now) }
+    requires few { length digits.now ≤ 9 }
+    ensures { result ≡ decimal_value digits.now }
+{
+    let mut number = 0;
+    let mut i = 0;
+    while i < digits.len() {
+        number = number * 10 + usize::from(digits[i] - b'0');
+        i += 1;
+    }
+    number
+}
+
+// How much of what follows a list marker in its line belongs to the item's indent, in bytes and
+// in columns.
+fn scan_item_space(rest: &[u8]) -> Option<(usize, usize)>
+    ensures found { IfSome result (λ r. IsItemSpace rest.now r.0 r.1) }
+    ensures absent { IfNone result ((place space : ℕ) → ¬ IsItemSpace rest.now place space) }
+    ensures within { IfSome result (λ r. r.0 ≤ length rest.now) }
+{
+    if scan_blank_line(rest).is_some() {
+        return Some((0, 1));
+    }
+    let (place, space) = calc_indent(rest, 5);
+    if space == 0 {
+        None
+    } else if space > 4 {
+        Some((1, 1))
+    } else {
+        Some((place, space))
+    }
+}

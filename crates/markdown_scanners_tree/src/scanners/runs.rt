@@ -1,0 +1,70 @@
+//! Runs of bytes at the front or the back.
+ghost use Rattle.std.specs.Prelude.{◌≡◌, ◌≤◌, ◌==◌, length, reverse, if◌then◌else◌};
+ghost use Rattle.std.specs.List.{prefix_len};
+ghost use Rattle.markdown_scanners_tree.specs.Bytes.{begins_with, is_white_space_in_line};
+ghost use Rattle.markdown_scanners_tree.specs.Accepted.{IsAccepted};
+
+use crate::scanners::classes::is_ascii_whitespace_no_nl;
+
+/// 1 where the first byte is `c`, else 0.
+pub fn scan_ch(data: &[u8], c: u8) -> usize
+    ensures first { result ≡ (if begins_with (λ b. b == c) «data».now then 1 else 0) }
+    ensures within { result ≤ length «data».now }
+{
+    match data {
+        [first, ..] if *first == c => 1,
+        _ => 0,
+    }
+}
+
+/// How many bytes from the front `f` accepts before it first refuses one.
+///
+/// `f` is asked once for each byte, in order, and no more after it has refused one.
+pub fn scan_while<F: FnMut(u8) -> bool>(data: &[u8], mut f: F) -> usize
+    requires { F.IsAlwaysCallable f }
+    ensures { IsAccepted (λ p b r q. F.step p b r q) f «data».now result }
+{
+    let mut count = 0;
+    while count < data.len() {
+        if !f(data[count]) {
+            return count;
+        }
+        count += 1;
+    }
+    count
+}
+
+/// How many bytes from the back `f` accepts before it first refuses one.
+///
+/// `f` is asked once for each byte, from the last one on, and no more after it has refused one.
+pub fn scan_rev_while<F: FnMut(u8) -> bool>(data: &[u8], mut f: F) -> usize
+    requires { F.IsAlwaysCallable f }
+    ensures { IsAccepted (λ p b r q. F.step p b r q) f (reverse «data».now) result }
+{
+    let mut count = 0;
+    while count < data.len() {
+        if !f(data[data.len() - 1 - count]) {
+            return count;
+        }
+        count += 1;
+    }
+    count
+}
+
+/// The length of the longest front of the byte `c`.
+pub fn scan_ch_repeat(data: &[u8], c: u8) -> usize
+    ensures run { result ≡ prefix_len (λ b. b == c) «data».now }
+    ensures within { result ≤ length «data».now }
+{
+    data.iter().take_while(|b| **b == c).count()
+}
+
+/// The length of the longest front of white space that ends no line.
+pub fn scan_whitespace_no_nl(data: &[u8]) -> usize
+    ensures run { result ≡ prefix_len is_white_space_in_line «data».now }
+    ensures within { result ≤ length «data».now }
+{
+    data.iter()
+        .take_while(|b| is_ascii_whitespace_no_nl(**b))
+        .count()
+}

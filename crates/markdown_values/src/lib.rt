@@ -1,0 +1,5 @@
+//! Texts and values that a reader of Markdown hands out.
+#![tactic(auto)]
+
+pub mod strings;
+pub mod values;
