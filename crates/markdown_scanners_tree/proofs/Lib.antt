@@ -6,6 +6,7 @@ pub mod ColumnLemmas
 pub mod FrontLemmas
 pub mod HeadLemmas
 pub mod IndentLemmas
+pub mod ItemLemmas
 pub mod LineRows
 pub mod LineRunLemmas
 pub mod ListItemLemmas
@@ -14,3 +15,5 @@ pub mod RunLemmas
 pub mod ScanLemmas
 pub mod SpaceLemmas
 pub mod StepLemmas
+pub mod TagLemmas
+pub mod WrittenLemmas

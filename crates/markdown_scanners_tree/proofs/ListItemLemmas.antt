@@ -25,7 +25,7 @@ digit_no_bullet : (b : ℕ) → is_digit b ≡ true → is_bullet b ≡ false
 digit_no_bullet b is = grind (arith, nat_tests)
 
 -- what stands before and at the delimiter of an ordered list marker
-ordered-front : (digits : List ℕ) (delimiter : ℕ) (rest : List ℕ) → 1 ≤ length digits → list_all is_digit digits ≡ true → is_delimiter delimiter ≡ true
+pub ordered-front : (digits : List ℕ) (delimiter : ℕ) (rest : List ℕ) → 1 ≤ length digits → list_all is_digit digits ≡ true → is_delimiter delimiter ≡ true
     → (begins_with is_bullet ((digits ++ delimiter ∷ []) ++ rest) ≡ false)
     × (prefix_len is_digit ((digits ++ delimiter ∷ []) ++ rest) ≡ length digits)
     × (drop (length digits) ((digits ++ delimiter ∷ []) ++ rest) ≡ delimiter ∷ rest)

@@ -1,12 +1,12 @@
 -- A list of calls on a line, as if its tabs were written out. (CommonMark 0.31.2, section 2.2, tabs)
-use Rattle.std.specs.Prelude.{ℕ, Bool, true, false, ◌&&◌, not, List, [], ◌∷◌, ◌+◌, length, drop, Option, Some, None, if◌then◌else◌}
+use Rattle.std.specs.Prelude.{ℕ, Bool, true, false, ◌&&◌, not, nat_le, List, [], ◌∷◌, ◌+◌, ◌-◌, ◌^◌, length, drop, Option, Some, None, if◌then◌else◌}
 use Rattle.markdown_scanners_tree.specs.Columns.{expanded, is_on_byte, bytes_below}
 use Rattle.markdown_scanners_tree.specs.PlainStep.{plain_step}
 use Rattle.markdown_scanners_tree.specs.declared.line.LineAnswer.{LineAnswer}
 use Rattle.markdown_scanners_tree.specs.declared.line.LineCall.{LineCall}
-use Rattle.markdown_scanners_tree.specs.declared.line.LineCall.TheVariants.{Space, Upto}
+use Rattle.markdown_scanners_tree.specs.declared.line.LineCall.TheVariants.{Space, Upto, List as ItemCall, Definition as DefinitionCall}
 use Rattle.markdown_scanners_tree.specs.declared.line.LineStop.{LineStop}
-use Rattle.markdown_scanners_tree.specs.declared.line.LineStop.TheVariants.{SpacePending}
+use Rattle.markdown_scanners_tree.specs.declared.line.LineStop.TheVariants.{SpacePending, IndentTooLarge}
 
 -- the calls that only take space may be made at every column
 abbrev pub takes_space : LineCall → Bool
@@ -14,10 +14,17 @@ takes_space (Space _) = true
 takes_space (Upto _) = true
 takes_space _ = false
 
+-- the indent of a call leaves room for the columns that it may add
+abbrev pub is_indent_small : LineCall → Bool
+is_indent_small (ItemCall indent) = nat_le indent (2 ^ 64 - 17)
+is_indent_small (DefinitionCall indent) = nat_le indent (2 ^ 64 - 17)
+is_indent_small _ = true
+
 -- why a call is refused, if it is, where a byte or the end of the head stands at the column that is reached, or where none does
 abbrev pub refusal : Bool → LineCall → Option LineStop
 refusal on_byte call =
     if not (takes_space call) && not on_byte then Some SpacePending
+    else if not (is_indent_small call) then Some IndentTooLarge
     else None
 
 -- the answers, the column of the written out line that is reached, and why the next call is refused, if one is

@@ -1,13 +1,20 @@
 //! A place in a line that is read column by column, with tab stops of four.
 //! (CommonMark 0.31.2, section 2.2, tabs)
-ghost use Rattle.std.specs.Prelude.{◌≡◌, ◌+◌, ◌%◌, ◌<◌, ◌≤◌, ◌↔◌, ◌==◌, true, [], ◌∷◌, ◌++◌, length, drop, replicate, IsTrue, IfOk, IfSome, IfNone, ⊤};
-ghost use Rattle.markdown_scanners_tree.specs.Bytes.{begins_with, is_line_ending, is_at_line_end};
+ghost use Rattle.std.specs.Prelude.{◌≡◌, ◌+◌, ◌-◌, ◌%◌, ◌<◌, ◌≤◌, ◌↔◌, ◌==◌, true, [], ◌∷◌, ◌++◌, length, take, drop, replicate, IsTrue, IfOk, IfSome, IfNone, if◌then◌else◌, ⊤};
+ghost use Rattle.markdown_scanners_tree.specs.Bytes.{begins_with, is_line_ending, is_at_line_end, is_blank};
 ghost use Rattle.markdown_scanners_tree.specs.Columns.{column_after, written_byte};
-ghost use Rattle.markdown_scanners_tree.specs.LineState.{LineState, unscanned, rest_of, space_within, after_space, bytes_further};
+ghost use Rattle.markdown_scanners_tree.specs.LineState.{LineState, unscanned, rest_of, leading_spaces, space_within, after_space, bytes_further};
 ghost use Rattle.markdown_scanners_tree.specs.PlainRun.{plain_run, stop_at, rest_after, scanned_after, refusal};
-ghost use Rattle.markdown_scanners_tree.specs.PlainStep.{IsPlainStep};
-ghost use Rattle.markdown_scanners_tree.specs.LineOutcome.{after_all_space, after_quote};
+ghost use Rattle.markdown_scanners_tree.specs.ListItem.{IsListMarker};
+ghost use Rattle.markdown_scanners_tree.specs.ListMarker.{list_marker};
+ghost use Rattle.markdown_scanners_tree.specs.ThematicBreak.{is_thematic_break};
+ghost use Rattle.markdown_scanners_tree.specs.PlainStep.{IsPlainStep, definition_spaces, marker_spaces};
+ghost use Rattle.markdown_scanners_tree.specs.LineOutcome.{after_all_space, after_quote, item_outcome, definition_outcome, space_or_end_follows, task_box, task_outcome, is_tag_name, tag_name, tag_line, tag_outcome};
 
+use crate::scanners::{
+    is_ascii_whitespace, is_ascii_whitespace_no_nl, scan_blank_line, scan_hrule, scan_marker,
+};
+use markdown_values::values::BlockQuoteKind;
 use std::alloc::{AllocError, Global};
 use std::marker::Model;
 
@@ -48,13 +55,7 @@ impl Clone for LineStart<'_> {
     ghost is_infallible = { λ _. ⊤ };
 
     fn clone(&self) -> Result<Self, AllocError> {
-        Ok(LineStart {
-            bytes: self.bytes,
-            place: self.place,
-            column: self.column,
-            pending: self.pending,
-            no_break_before: self.no_break_before,
-        })
+        Ok(self.copy())
     }
 }
 
@@ -88,6 +89,19 @@ impl<'a> LineStart<'a> {
         self.pending
     }
 
+    // The same place again.
+    fn copy(&self) -> LineStart<'a>
+        ensures { result ≡ self.now }
+    {
+        LineStart {
+            bytes: self.bytes,
+            place: self.place,
+            column: self.column,
+            pending: self.pending,
+            no_break_before: self.no_break_before,
+        }
+    }
+
     // The byte at the place, if there is one.
     fn next_byte(&self) -> Option<u8>
         ensures byte { IfSome result (λ b. unscanned self.now ≡ b ∷ drop (self.now.place + 1) self.now.bytes) }
@@ -96,6 +110,15 @@ impl<'a> LineStart<'a> {
         ensures phase { self.now.phase < 4 }
     {
         self.bytes.get(self.place).copied()
+    }
+
+    // Passes bytes as one column each.
+    fn pass_bytes(&mut self, count: usize)
+        requires { self.old.place + count ≤ length self.old.bytes }
+        ensures { self.new ≡ bytes_further count self.old }
+    {
+        self.place += count;
+        self.column += count as u128;
     }
 
     // Passes the byte at the place as one column.
@@ -185,6 +208,157 @@ impl<'a> LineStart<'a> {
         true
     }
 
+    /// Passes a list item's marker and the space that belongs to it, at an indent in columns.
+    /// Answers the bullet or the delimiter, the start number (0 for a bullet), and the indent of the item's content.
+    ///
+    /// One column of space, or a line ending, has to follow the marker. Of further space fewer
+    /// than four columns are taken, unless the rest of the line is blank.
+    /// (CommonMark 0.31.2, section 5.2)
+    pub fn scan_list_marker_with_indent(&mut self, indent: usize) -> Option<(u8, u64, usize)>
+        requires { indent ≤ usize.MAX - 16 }
+        ensures answer { result ≡ (item_outcome indent self.old).answer }
+        ensures state { self.new ≡ (item_outcome indent self.old).state }
+        ensures step { self.old.pending ≡ 0 → IsPlainStep (LineCall.List indent) (LineAnswer.List result) self.old self.new }
+    {
+        let (width, delimiter, start) = self.list_marker()?;
+        let before = self.copy();
+        self.pass_bytes(width);
+        if !self.scan_space_or_end() {
+            *self = before;
+            return None;
+        }
+        let further = self.scan_marker_space();
+        Some((delimiter, start, indent + width + 1 + further))
+    }
+
+    /// Passes a definition's marker, `:` and the space that belongs to it, at an indent in columns.
+    /// Answers the indent of the definition's content.
+    ///
+    /// Up to four columns of space are taken, and one alone where there are more.
+    pub fn scan_definition_list_definition_marker_with_indent(
+        &mut self,
+        indent: usize,
+    ) -> Option<usize>
+        requires { indent ≤ usize.MAX - 16 }
+        ensures answer { result ≡ (definition_outcome indent self.old).answer }
+        ensures state { self.new ≡ (definition_outcome indent self.old).state }
+        ensures step { self.old.pending ≡ 0 → IsPlainStep (LineCall.Definition indent) (LineAnswer.Definition result) self.old self.new }
+    {
+        if self.next_byte() != Some(b':') {
+            return None;
+        }
+        self.pass_byte();
+        let columns = self.scan_definition_space();
+        Some(indent + 1 + columns)
+    }
+
+    // The list marker at the place, if one stands there: its width, its bullet or delimiter, and its start number.
+    fn list_marker(&mut self) -> Option<(usize, u8, u64)>
+        ensures found { IfSome result (λ r. list_marker (unscanned self.old) ≡ Some (record { width = r.0; delimiter = r.1; start = r.2 })) }
+        ensures marker { IfSome result (λ r. IsListMarker (take r.0 (unscanned self.old)) r.1 r.2) }
+        ensures inside { IfSome result (λ r. (self.old.place + r.0 ≤ length self.old.bytes) × (r.0 ≤ 10)) }
+        ensures none { IfNone result (list_marker (unscanned self.old) ≡ None) }
+        ensures state { self.new ≡ self.old }
+        ensures phase { self.old.phase < 4 }
+    {
+        let (width, delimiter, start) = scan_marker(&self.bytes[self.place..])?;
+        // A bullet alone is one byte wide.
+        if width == 1 && self.begins_break() {
+            return None;
+        }
+        Some((width, delimiter, start as u64))
+    }
+
+    // Whether a thematic break begins at the place. Where none does, the bytes that were read need not be read again.
+    fn begins_break(&mut self) -> bool
+        ensures answer { result ≡ is_thematic_break (unscanned self.old) }
+        ensures state { self.new ≡ self.old }
+    {
+        if self.place < self.no_break_before {
+            return false;
+        }
+        match scan_hrule(&self.bytes[self.place..]) {
+            Ok(_) => true,
+            Err(length) => {
+                self.no_break_before = self.place + length;
+                false
+            }
+        }
+    }
+
+    // Takes one column of space. Answers whether there was one, or else the line ends at the place.
+    fn scan_space_or_end(&mut self) -> bool
+        ensures answer { result ≡ space_or_end_follows self.old }
+        ensures state { self.new ≡ after_space 1 self.old }
+        ensures rest { rest_of self.new ≡ drop (space_within 1 self.old) (rest_of self.old) }
+    {
+        self.scan_space(1) || self.is_at_eol()
+    }
+
+    // The space that belongs to a definition's marker: one column where five or more stand, else all.
+    fn scan_definition_space(&mut self) -> usize
+        ensures columns { result ≡ definition_spaces (leading_spaces (rest_of self.old)) }
+        ensures state { self.new ≡ after_space result self.old }
+        ensures rest { rest_of self.new ≡ drop result (rest_of self.old) }
+    {
+        let before = self.copy();
+        let columns = self.scan_space_upto(5);
+        if columns < 5 {
+            return columns;
+        }
+        *self = before;
+        self.scan_space(1);
+        1
+    }
+
+    // The further space that belongs to a list marker whose one column has been taken: none on a blank
+    // line, none where four columns or more stand, else all.
+    fn scan_marker_space(&mut self) -> usize
+        ensures columns { result ≡ (if is_blank (unscanned self.old) then 0 else marker_spaces (leading_spaces (rest_of self.old))) }
+        ensures state { self.new ≡ after_space result self.old }
+        ensures rest { rest_of self.new ≡ drop result (rest_of self.old) }
+    {
+        if scan_blank_line(&self.bytes[self.place..]).is_some() {
+            return 0;
+        }
+        let before = self.copy();
+        let columns = self.scan_space_upto(4);
+        if columns == 4 {
+            *self = before;
+            return 0;
+        }
+        columns
+    }
+
+    /// Passes a task list item's box: up to three columns of space, `[`, white space or `x` or `X`, and `]`,
+    /// where white space follows. Answers whether the box is checked.
+    ///
+    /// The byte between the brackets may be any white space that ends no line. The white space after
+    /// the box is not taken. (GitHub Flavored Markdown 0.29, section 5.3)
+    pub fn scan_task_list_marker(&mut self) -> Option<bool>
+        ensures answer { result ≡ (task_outcome self.old).answer }
+        ensures state { self.new ≡ (task_outcome self.old).state }
+    {
+        let before = self.copy();
+        self.scan_space(3);
+        let Some(checked) = task_box(&self.bytes[self.place..]) else {
+            *self = before;
+            return None;
+        };
+        self.pass_bytes(3);
+        Some(checked)
+    }
+
+    /// Passes an alert's tag, as `[!NOTE]` in any ASCII case, with the blank rest of its line and the line ending.
+    pub fn scan_blockquote_tag(&mut self) -> Option<BlockQuoteKind>
+        ensures answer { result ≡ (tag_outcome self.old).answer }
+        ensures state { self.new ≡ (tag_outcome self.old).state }
+    {
+        let (kind, length) = scan_tag(&self.bytes[self.place..])?;
+        self.pass_bytes(length);
+        Some(kind)
+    }
+
     // What is left of the line, its tabs written out.
     fn written_rest(&self, alloc: Global) -> Result<Vec<u8>, AllocError>
         ensures { IfOk result (λ rest. rest.items ≡ rest_of self.now) }
@@ -202,6 +376,64 @@ impl<'a> LineStart<'a> {
         }
         Ok(rest)
     }
+}
+
+// Whether a task list item's box at the front is checked, if one stands there.
+fn task_box(bytes: &[u8]) -> Option<bool>
+    ensures answer { result ≡ task_box bytes.now }
+    ensures inside { IfSome result (λ _. 3 ≤ length bytes.now) }
+{
+    match bytes {
+        [b'[', mark, b']', after, ..] if is_ascii_whitespace(*after) => match *mark {
+            b'x' | b'X' => Some(true),
+            mark if is_ascii_whitespace_no_nl(mark) => Some(false),
+            _ => None,
+        },
+        _ => None,
+    }
+}
+
+// The kind of the alert whose tag stands at the front alone in its line, and the length of that line.
+fn scan_tag(bytes: &[u8]) -> Option<(BlockQuoteKind, usize)>
+    ensures tag { result ≡ tag_line bytes.now }
+    ensures within { IfSome result (λ tag. tag.1 ≤ length bytes.now) }
+{
+    let name = bytes.strip_prefix(b"[!")?;
+    let (kind, length) = scan_tag_name(name)?;
+    let rest = scan_blank_line(&name[length..])?;
+    Some((kind, 2 + length + rest))
+}
+
+// The kind of the alert whose name and `]` stand at the front, and the length of both.
+fn scan_tag_name(bytes: &[u8]) -> Option<(BlockQuoteKind, usize)>
+    ensures name { result ≡ tag_name bytes.now }
+    ensures within { IfSome result (λ tag. tag.1 ≤ length bytes.now) }
+{
+    if begins_with_name(bytes, b"note") {
+        Some((BlockQuoteKind::Note, 5))
+    } else if begins_with_name(bytes, b"tip") {
+        Some((BlockQuoteKind::Tip, 4))
+    } else if begins_with_name(bytes, b"important") {
+        Some((BlockQuoteKind::Important, 10))
+    } else if begins_with_name(bytes, b"warning") {
+        Some((BlockQuoteKind::Warning, 8))
+    } else if begins_with_name(bytes, b"caution") {
+        Some((BlockQuoteKind::Caution, 8))
+    } else {
+        None
+    }
+}
+
+// Whether the name stands at the front, in any ASCII case, and `]` after it.
+fn begins_with_name(bytes: &[u8], name: &[u8]) -> bool
+    requires { length name.now ≤ 9 }
+    ensures name { result ≡ is_tag_name name.now bytes.now }
+    ensures within { IsTrue result → length name.now < length bytes.now }
+{
+    if bytes.len() <= name.len() {
+        return false;
+    }
+    bytes[..name.len()].eq_ignore_ascii_case(name) && bytes[name.len()] == b']'
 }
 
 // Whether the byte is one that ends a line: LF or CR.
@@ -247,6 +479,10 @@ pub enum LineCall {
     Eol,
     /// `scan_blockquote_marker`
     Quote,
+    /// `scan_list_marker_with_indent`
+    List(usize),
+    /// `scan_definition_list_definition_marker_with_indent`
+    Definition(usize),
 }
 
 /// What a call answers.
@@ -254,6 +490,8 @@ pub enum LineCall {
 pub enum LineAnswer {
     Flag(bool),
     Count(usize),
+    List(Option<(u8, u64, usize)>),
+    Definition(Option<usize>),
 }
 
 /// Why a call is refused.
@@ -261,6 +499,8 @@ pub enum LineAnswer {
 pub enum LineStop {
     /// Columns of a tab are pending, and the call is not one that takes space.
     SpacePending,
+    /// The indent is above `usize::MAX - 16`, so that the columns of a marker might not be added.
+    IndentTooLarge,
 }
 
 /// What a list of calls on a line gives.
@@ -306,7 +546,12 @@ fn refused(start: &LineStart, call: &LineCall) -> Option<LineStop>
     if !takes_space && start.remaining_space() > 0 {
         return Some(LineStop::SpacePending);
     }
-    None
+    match call {
+        LineCall::List(indent) | LineCall::Definition(indent) if *indent > usize::MAX - 16 => Some(
+            LineStop::IndentTooLarge,
+        ),
+        _ => None,
+    }
 }
 
 // Makes one call that is not refused.
@@ -319,6 +564,10 @@ fn make_call(start: &mut LineStart, call: &LineCall) -> LineAnswer
         LineCall::Upto(n) => LineAnswer::Count(start.scan_space_upto(*n)),
         LineCall::Eol => LineAnswer::Flag(start.is_at_eol()),
         LineCall::Quote => LineAnswer::Flag(start.scan_blockquote_marker()),
+        LineCall::List(indent) => LineAnswer::List(start.scan_list_marker_with_indent(*indent)),
+        LineCall::Definition(indent) => LineAnswer::Definition(
+            start.scan_definition_list_definition_marker_with_indent(*indent),
+        ),
     }
 }
 

@@ -1,5 +1,5 @@
 //! Thematic breaks.
-ghost use Rattle.std.specs.Prelude.{◌≡◌, ◌<◌, ◌≤◌, ◌==◌, ℕ, length, drop, count_by, false, IsTrue, IfOk, IfErr};
+ghost use Rattle.std.specs.Prelude.{◌≡◌, ◌<◌, ◌≤◌, ◌==◌, ℕ, length, drop, count_by, false, IsTrue, IfOk, IfErr, MatchResult};
 ghost use Rattle.std.specs.List.{prefix_len};
 ghost use Rattle.markdown_scanners_tree.specs.Bytes.{begins_with, line_length};
 ghost use Rattle.markdown_scanners_tree.specs.ThematicBreak.{is_break_marker, is_break_byte, is_thematic_break, break_length};
@@ -15,6 +15,7 @@ pub fn scan_hrule(bytes: &[u8]) -> Result<usize, usize>
     ensures absent { IfErr result (λ n. is_thematic_break bytes.now ≡ false) }
     ensures stopped { IfErr result (λ n. n ≡ break_length bytes.now) }
     ensures none_before { IfErr result (λ n. (k : ℕ) → k < n → is_thematic_break (drop k bytes.now) ≡ false) }
+    ensures within { MatchResult result (λ n. n ≤ length bytes.now) (λ n. n ≤ length bytes.now) }
 {
     if bytes.len() < 3 {
         return Err(0);
@@ -53,6 +54,7 @@ fn scan_break_of(bytes: &[u8], marker: u8) -> Result<usize, usize>
     ensures absent { IfErr result (λ n. is_thematic_break bytes.now ≡ false) }
     ensures stopped { IfErr result (λ n. n ≡ break_length bytes.now) }
     ensures none_before { IfErr result (λ n. (k : ℕ) → k < n → is_thematic_break (drop k bytes.now) ≡ false) }
+    ensures within { MatchResult result (λ n. n ≤ length bytes.now) (λ n. n ≤ length bytes.now) }
 {
     let run = scan_break_bytes(bytes, marker);
     let markers = count_of(&bytes[..run], marker);

@@ -26,7 +26,7 @@ pub fn scan_listitem(bytes: &[u8]) -> Option<(usize, u8, usize, usize)>
 }
 
 // The length of a list marker at the front, its last byte and its start number.
-fn scan_marker(bytes: &[u8]) -> Option<(usize, u8, usize)>
+pub(crate) fn scan_marker(bytes: &[u8]) -> Option<(usize, u8, usize)>
     ensures found { IfSome result (λ r. IsListMarker (take r.0 bytes.now) r.1 r.2) }
     ensures absent { IfNone result ((n delimiter start : ℕ) → ¬ IsListMarker (take n bytes.now) delimiter start) }
     ensures within { IfSome result (λ r. r.0 ≤ length bytes.now) }

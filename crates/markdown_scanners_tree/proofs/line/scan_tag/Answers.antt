@@ -1,0 +1,12 @@
+use Rattle.std.proofs.Common.{◌∙◌, ap}
+use Rattle.markdown_scanners_tree.specs.Bytes.{blank_line}
+use Rattle.markdown_scanners_tree.proofs.FrontLemmas.{from_place}
+use Rattle.markdown_scanners_tree.proofs.TagLemmas.{tag_line-found}
+use Rattle.markdown_scanners_tree.proofs.line.scan_tag.Goals as goal
+
+pub returns-clause-tag : goal.returns-clause-tag
+returns-clause-tag c =
+    let name = c.in_ok-name.name.now in
+    let after = c.in_ok-name.ensures.cases in
+    tag_line-found c.args.bytes.now name c.in_ok-kind.kind c.in_ok-kind.length c.in_ok-rest.rest after.0 after.1 c.in_ok-kind.ensures.name
+    (c.in_ok-rest.ensures.line ∙ ap blank_line (from_place name c.in_ok-kind.length))
