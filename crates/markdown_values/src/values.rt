@@ -42,7 +42,7 @@ impl<'a> CodeBlockKind<'a> {
         matches!(self, CodeBlockKind::Fenced(_))
     }
 
-    /// The same kind again.
+    /// The same kind again, with its text as `CowStr::clone` gives it.
     pub fn clone(&self, alloc: Global) -> Result<CodeBlockKind<'a>, AllocError>
         ensures same { IfOk result (λ kind. info_view cow_text kind ≡ info_view cow_text self.now) }
         ensures holding { IfOk result (λ kind.
@@ -56,7 +56,7 @@ impl<'a> CodeBlockKind<'a> {
         }
     }
 
-    /// The same kind with nothing lent.
+    /// The same kind with nothing lent, its text as `CowStr::into_static` gives it.
     pub fn into_static(self, alloc: Global) -> Result<CodeBlockKind<'static>, AllocError>
         ensures same { IfOk result (λ kind.
             info_view cow_text kind ≡ info_view cow_text self.entry) }
@@ -179,7 +179,8 @@ pub enum LinkType {
 }
 
 impl LinkType {
-    /// The same kind of reference, to a label that has no definition.
+    /// The same kind of reference, to a label that has no definition. Only a `Reference`, `Collapsed` or
+    /// `Shortcut` has one.
     pub fn to_unknown(self) -> LinkType
         requires { IsSome (unknown_kind self) }
         ensures { unknown_kind self ≡ Some result }
@@ -276,7 +277,7 @@ impl<'a> Tag<'a> {
         }
     }
 
-    /// The same tag again.
+    /// The same tag again, with each text as `CowStr::clone` gives it.
     pub fn clone(&self, alloc: Global) -> Result<Tag<'a>, AllocError>
         ensures same { IfOk result (λ tag. tag_view cow_text tag ≡ tag_view cow_text self.now) }
         ensures holding { IfOk result (λ tag.
@@ -340,7 +341,7 @@ impl<'a> Tag<'a> {
         }
     }
 
-    /// The same tag with nothing lent.
+    /// The same tag with nothing lent, each text as `CowStr::into_static` gives it.
     pub fn into_static(self, alloc: Global) -> Result<Tag<'static>, AllocError>
         ensures same { IfOk result (λ tag. tag_view cow_text tag ≡ tag_view cow_text self.entry) }
         ensures holding { IfOk result (λ tag.
@@ -471,7 +472,7 @@ pub enum Event<'a> {
 }
 
 impl<'a> Event<'a> {
-    /// The same event again.
+    /// The same event again, with each text as `CowStr::clone` gives it.
     pub fn clone(&self, alloc: Global) -> Result<Event<'a>, AllocError>
         ensures same { IfOk result (λ event.
             event_view cow_text event ≡ event_view cow_text self.now) }
@@ -497,7 +498,7 @@ impl<'a> Event<'a> {
         }
     }
 
-    /// The same event with nothing lent.
+    /// The same event with nothing lent, each text as `CowStr::into_static` gives it.
     pub fn into_static(self, alloc: Global) -> Result<Event<'static>, AllocError>
         ensures same { IfOk result (λ event.
             event_view cow_text event ≡ event_view cow_text self.entry) }
