@@ -20,7 +20,7 @@ no_number = refl
 signed_number : call_of (codes "space:+1") ≡ None
 signed_number = refl
 
-line_words : request_of (codes "line" ∷ codes "quote" ∷ codes "upto:3" ∷ codes "eol" ∷ []) ≡ Some (scan_line (call.Quote ∷ call.Upto 3 ∷ call.Eol ∷ []))
+line_words : request_of (codes "line" ∷ codes "quote" ∷ codes "upto:3" ∷ codes "list:2" ∷ []) ≡ Some (scan_line (call.Quote ∷ call.Upto 3 ∷ call.List 2 ∷ []))
 line_words = refl
 
 one_other_word : request_of (codes "line" ∷ codes "quote" ∷ codes "quotes" ∷ []) ≡ None

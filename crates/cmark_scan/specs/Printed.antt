@@ -7,7 +7,7 @@ use Rattle.markdown_scanners_tree.specs.declared.line.LineCall.TheVariants as ca
 use Rattle.markdown_scanners_tree.specs.declared.line.LineAnswer.{LineAnswer}
 use Rattle.markdown_scanners_tree.specs.declared.line.LineAnswer.TheVariants as answer
 use Rattle.markdown_scanners_tree.specs.declared.line.LineStop.{LineStop}
-use Rattle.markdown_scanners_tree.specs.declared.line.LineStop.TheVariants.{SpacePending}
+use Rattle.markdown_scanners_tree.specs.declared.line.LineStop.TheVariants.{SpacePending, IndentTooLarge}
 use Rattle.cmark_scan.specs.Run.{Run, run_of}
 use Rattle.cmark_scan.specs.Words.{Request, scan_line}
 
@@ -19,9 +19,21 @@ line_of text = text ++ 10 ∷ []
 abbrev pub flag_text : Bool → List ℕ
 flag_text b = if b then codes "true" else codes "false"
 
+-- a list marker as its delimiter, its number and the indent of its content
+abbrev pub marker_text : Option (ℕ × ℕ × ℕ) → List ℕ
+marker_text None = codes "none"
+marker_text (Some m) = encode_utf8 m.0 ++ codes " " ++ decimal m.1 ++ codes " " ++ decimal m.2
+
+-- a number, or `none`
+abbrev pub number_text : Option ℕ → List ℕ
+number_text None = codes "none"
+number_text (Some n) = decimal n
+
 abbrev pub answer_text : LineAnswer → List ℕ
 answer_text (answer.Flag b) = flag_text b
 answer_text (answer.Count n) = decimal n
+answer_text (answer.List m) = marker_text m
+answer_text (answer.Definition indent) = number_text indent
 
 -- the word for a call
 abbrev pub call_name : LineCall → List ℕ
@@ -29,6 +41,8 @@ call_name (call.Space n) = codes "space"
 call_name (call.Upto n) = codes "upto"
 call_name call.Eol = codes "eol"
 call_name call.Quote = codes "quote"
+call_name (call.List indent) = codes "list"
+call_name (call.Definition indent) = codes "def"
 
 -- a call and what it answered
 abbrev pub answer_line : LineCall × LineAnswer → List ℕ
@@ -45,6 +59,7 @@ hex_text (b ∷ bs) = flat_map hex_byte (b ∷ bs)
 
 abbrev pub stop_name : LineStop → List ℕ
 stop_name SpacePending = codes "SpacePending"
+stop_name IndentTooLarge = codes "IndentTooLarge"
 
 -- the index of the call that a run stopped before, and why
 abbrev pub stop_line : Option (ℕ × LineStop) → List ℕ

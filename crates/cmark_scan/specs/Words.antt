@@ -19,7 +19,9 @@ abbrev pub numbered_call : List ℕ → ℕ → Option LineCall
 numbered_call name n =
     if bytes_eq name (codes "space") then Some (call.Space n)
     else (if bytes_eq name (codes "upto") then Some (call.Upto n)
-    else None)
+    else (if bytes_eq name (codes "list") then Some (call.List n)
+    else (if bytes_eq name (codes "def") then Some (call.Definition n)
+    else None)))
 
 -- the call that a word asks for: a bare name, or a name, a colon and a number
 abbrev pub call_of : List ℕ → Option LineCall

@@ -47,6 +47,12 @@ fn push_answer(text: &mut String, call: &LineCall, answer: &LineAnswer) -> Resul
     match answer {
         LineAnswer::Flag(flag) => writeln!(text, "{name} {}", *flag),
         LineAnswer::Count(count) => writeln!(text, "{name} {}", *count),
+        LineAnswer::List(Some((delimiter, start, indent))) => {
+            let delimiter = char::from(*delimiter);
+            writeln!(text, "{name} {delimiter} {} {}", *start, *indent)
+        }
+        LineAnswer::Definition(Some(indent)) => writeln!(text, "{name} {}", *indent),
+        LineAnswer::List(None) | LineAnswer::Definition(None) => writeln!(text, "{name} none"),
     }
 }
 
@@ -58,6 +64,8 @@ fn call_name(call: &LineCall) -> &'static str
         LineCall::Upto(_) => "upto",
         LineCall::Eol => "eol",
         LineCall::Quote => "quote",
+        LineCall::List(_) => "list",
+        LineCall::Definition(_) => "def",
     }
 }
 
@@ -66,6 +74,7 @@ fn stop_name(stop: &LineStop) -> &'static str
 {
     match stop {
         LineStop::SpacePending => "SpacePending",
+        LineStop::IndentTooLarge => "IndentTooLarge",
     }
 }
 

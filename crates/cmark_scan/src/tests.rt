@@ -200,6 +200,110 @@ fn prints_runs_over_tabs(rt: HostRuntime) -> std::result::Result<(), Fail> {
 }
 
 #[test]
+fn prints_markers(rt: HostRuntime) -> std::result::Result<(), Fail> {
+    let rows = [
+        Row {
+            words: &["line", "list:0"],
+            input: b"-\tx",
+            status: 0,
+            printed: "list - 0 4\nscanned 2\nrest 78\n",
+        },
+        Row {
+            words: &["line", "list:0", "list:0"],
+            input: b"- * * *",
+            status: 0,
+            printed: "list - 0 2\nlist none\nscanned 2\nrest 2a202a202a\n",
+        },
+        Row {
+            words: &["line", "list:0"],
+            input: b"123456789. x",
+            status: 0,
+            printed: "list . 123456789 11\nscanned 11\nrest 78\n",
+        },
+        Row {
+            words: &["line", "list:0"],
+            input: b"1234567890. x",
+            status: 0,
+            printed: "list none\nscanned 0\nrest 313233343536373839302e2078\n",
+        },
+        Row {
+            words: &["line", "list:0"],
+            input: b"-",
+            status: 0,
+            printed: "list - 0 2\nscanned 1\nrest -\n",
+        },
+        Row {
+            words: &["line", "def:0"],
+            input: b":    x",
+            status: 0,
+            printed: "def 5\nscanned 5\nrest 78\n",
+        },
+        Row {
+            words: &["line", "def:0"],
+            input: b":     x",
+            status: 0,
+            printed: "def 2\nscanned 2\nrest 2020202078\n",
+        },
+        Row {
+            words: &["line", "def:0"],
+            input: b"x",
+            status: 0,
+            printed: "def none\nscanned 0\nrest 78\n",
+        },
+    ];
+    assert_rows(&rt, rt.alloc(), &rows)
+}
+
+#[test]
+fn prints_markers_after_tabs(rt: HostRuntime) -> std::result::Result<(), Fail> {
+    let rows = [
+        Row {
+            words: &["line", "quote", "list:0"],
+            input: b">\t- x",
+            status: 1,
+            printed: "quote true\nscanned 2\nrest 20202d2078\nstop 1 SpacePending\n",
+        },
+        Row {
+            words: &["line", "quote", "upto:3", "list:2"],
+            input: b">\t- x",
+            status: 0,
+            printed: "quote true\nupto 2\nlist - 0 4\nscanned 4\nrest 78\n",
+        },
+        Row {
+            words: &["line", "list:0"],
+            input: b"-\t\tx",
+            status: 0,
+            printed: "list - 0 2\nscanned 2\nrest 20202020202078\n",
+        },
+        Row {
+            words: &["line", "list:0", "eol"],
+            input: b"-\t",
+            status: 1,
+            printed: "list - 0 2\nscanned 2\nrest 2020\nstop 1 SpacePending\n",
+        },
+        Row {
+            words: &["line", "list:18446744073709551615"],
+            input: b"- x",
+            status: 1,
+            printed: "scanned 0\nrest 2d2078\nstop 0 IndentTooLarge\n",
+        },
+        Row {
+            words: &["line", "list:18446744073709551599"],
+            input: b"- x",
+            status: 0,
+            printed: "list - 0 18446744073709551601\nscanned 2\nrest 78\n",
+        },
+        Row {
+            words: &["line", "upto:1", "list:18446744073709551615"],
+            input: b"\tx",
+            status: 1,
+            printed: "upto 1\nscanned 1\nrest 20202078\nstop 1 SpacePending\n",
+        },
+    ];
+    assert_rows(&rt, rt.alloc(), &rows)
+}
+
+#[test]
 fn reads_more_than_one_buffer(rt: HostRuntime) -> std::result::Result<(), Fail> {
     let spaces = [b' '; 10_000];
     let mut input: &[u8] = &spaces;
@@ -236,8 +340,8 @@ fn refuses_other_words(rt: HostRuntime) -> std::result::Result<(), Fail> {
         &["line", "upto:18446744073709551616"],
         &["line", "eol:1"],
         &["line", ":3"],
-        &["line", "list:0"],
-        &["line", "def:0"],
+        &["line", "list:"],
+        &["line", "definition:0"],
         &["line", "eol", "eols"],
     ];
     for words in refused {

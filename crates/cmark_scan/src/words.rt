@@ -70,6 +70,10 @@ fn parse_call(word: &str) -> Option<LineCall>
         Some(LineCall::Space(n))
     } else if name == "upto" {
         Some(LineCall::Upto(n))
+    } else if name == "list" {
+        Some(LineCall::List(n))
+    } else if name == "def" {
+        Some(LineCall::Definition(n))
     } else {
         None
     }

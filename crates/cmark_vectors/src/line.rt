@@ -1,5 +1,6 @@
 //! Line starts and runs of calls.
 use markdown_scanners_tree::line::{LineAnswer, LineCall, LineRun, LineStart, LineStop, run_line};
+use markdown_values::values::BlockQuoteKind;
 use std::alloc::Global;
 use std::process::Abort;
 use std::test::Fail;
@@ -130,6 +131,253 @@ fn runs_over_tabs(rt: HostRuntime) -> Result<(), Fail> {
         },
     ];
     assert_rows(&rt, rt.alloc(), &rows)
+}
+
+#[test]
+fn runs_over_markers(rt: HostRuntime) -> Result<(), Fail> {
+    let rows = [
+        Row {
+            line: b"-\tx",
+            calls: &[LineCall::List(0)],
+            answers: &[LineAnswer::List(Some((b'-', 0, 4)))],
+            scanned: 2,
+            rest: b"x",
+            stop: None,
+        },
+        Row {
+            line: b"- * * *",
+            calls: &[LineCall::List(0), LineCall::List(0)],
+            answers: &[LineAnswer::List(Some((b'-', 0, 2))), LineAnswer::List(None)],
+            scanned: 2,
+            rest: b"* * *",
+            stop: None,
+        },
+        Row {
+            line: b"123456789. x",
+            calls: &[LineCall::List(0)],
+            answers: &[LineAnswer::List(Some((b'.', 123_456_789, 11)))],
+            scanned: 11,
+            rest: b"x",
+            stop: None,
+        },
+        Row {
+            line: b"1234567890. x",
+            calls: &[LineCall::List(0)],
+            answers: &[LineAnswer::List(None)],
+            scanned: 0,
+            rest: b"1234567890. x",
+            stop: None,
+        },
+        Row {
+            line: b"-",
+            calls: &[LineCall::List(0)],
+            answers: &[LineAnswer::List(Some((b'-', 0, 2)))],
+            scanned: 1,
+            rest: b"",
+            stop: None,
+        },
+        Row {
+            line: b":    x",
+            calls: &[LineCall::Definition(0)],
+            answers: &[LineAnswer::Definition(Some(5))],
+            scanned: 5,
+            rest: b"x",
+            stop: None,
+        },
+        Row {
+            line: b":     x",
+            calls: &[LineCall::Definition(0)],
+            answers: &[LineAnswer::Definition(Some(2))],
+            scanned: 2,
+            rest: b"    x",
+            stop: None,
+        },
+    ];
+    assert_rows(&rt, rt.alloc(), &rows)
+}
+
+#[test]
+fn runs_over_markers_and_tabs(rt: HostRuntime) -> Result<(), Fail> {
+    let rows = [
+        Row {
+            line: b">\t- x",
+            calls: &[LineCall::Quote, LineCall::List(0)],
+            answers: &[LineAnswer::Flag(true)],
+            scanned: 2,
+            rest: b"  - x",
+            stop: Some((1, LineStop::SpacePending)),
+        },
+        Row {
+            line: b">\t- x",
+            calls: &[LineCall::Quote, LineCall::Upto(3), LineCall::List(2)],
+            answers: &[
+                LineAnswer::Flag(true),
+                LineAnswer::Count(2),
+                LineAnswer::List(Some((b'-', 0, 4))),
+            ],
+            scanned: 4,
+            rest: b"x",
+            stop: None,
+        },
+        Row {
+            line: b"-\t\tx",
+            calls: &[LineCall::List(0)],
+            answers: &[LineAnswer::List(Some((b'-', 0, 2)))],
+            scanned: 2,
+            rest: b"      x",
+            stop: None,
+        },
+        Row {
+            line: b"-\t",
+            calls: &[LineCall::List(0), LineCall::Eol],
+            answers: &[LineAnswer::List(Some((b'-', 0, 2)))],
+            scanned: 2,
+            rest: b"  ",
+            stop: Some((1, LineStop::SpacePending)),
+        },
+        Row {
+            line: b"- x",
+            calls: &[LineCall::List(usize::MAX)],
+            answers: &[],
+            scanned: 0,
+            rest: b"- x",
+            stop: Some((0, LineStop::IndentTooLarge)),
+        },
+        Row {
+            line: b"- x",
+            calls: &[LineCall::List(18_446_744_073_709_551_599)],
+            answers: &[LineAnswer::List(Some((b'-', 0, 18_446_744_073_709_551_601)))],
+            scanned: 2,
+            rest: b"x",
+            stop: None,
+        },
+        Row {
+            line: b"\tx",
+            calls: &[LineCall::Upto(1), LineCall::List(usize::MAX)],
+            answers: &[LineAnswer::Count(1)],
+            scanned: 1,
+            rest: b"   x",
+            stop: Some((1, LineStop::SpacePending)),
+        },
+        Row {
+            line: b": x",
+            calls: &[LineCall::Definition(18_446_744_073_709_551_600)],
+            answers: &[],
+            scanned: 0,
+            rest: b": x",
+            stop: Some((0, LineStop::IndentTooLarge)),
+        },
+    ];
+    assert_rows(&rt, rt.alloc(), &rows)
+}
+
+/// A call for a list item's marker on a fresh line, its answer, and the bytes scanned and the space that remains.
+type Marker = (&'static [u8], Option<(u8, u64, usize)>, usize, usize);
+
+#[test]
+fn passes_list_markers(rt: HostRuntime) {
+    let rows: [Marker; 7] = [
+        (b"1)\n", Some((b')', 1, 3)), 2, 0),
+        (b"*    x", Some((b'*', 0, 5)), 5, 0),
+        (b"*     x", Some((b'*', 0, 2)), 2, 0),
+        (b"-\t\tx", Some((b'-', 0, 2)), 2, 2),
+        (b"+x", None, 0, 0),
+        (b"--", None, 0, 0),
+        (b"---", None, 0, 0),
+    ];
+    for (line, answer, scanned, remaining) in rows {
+        let mut start = LineStart::new(line);
+        assert_eq!(rt;
+            start.scan_list_marker_with_indent(0),
+            answer,
+            "on {line:?}"
+        );
+        assert_eq!(rt; start.bytes_scanned(), scanned);
+        assert_eq!(rt; start.remaining_space(), remaining);
+    }
+}
+
+#[test]
+fn passes_a_definition_marker_and_a_tab(rt: HostRuntime) {
+    let mut start = LineStart::new(b":\tx");
+    assert_eq!(rt;
+        start.scan_definition_list_definition_marker_with_indent(0),
+        Some(4)
+    );
+    assert_eq!(rt; start.bytes_scanned(), 2);
+    assert_eq!(rt; start.remaining_space(), 0);
+}
+
+/// A call for a task box on a fresh line, its answer, and the bytes scanned and the space that remains.
+type TaskBox = (&'static [u8], Option<bool>, usize, usize);
+
+#[test]
+fn passes_task_boxes(rt: HostRuntime) {
+    let rows: [TaskBox; 5] = [
+        (b"\t[x] a", Some(true), 4, 1),
+        (b"[x]", None, 0, 0),
+        (b"[X]\n", Some(true), 3, 0),
+        (b"[\x0b] a", Some(false), 3, 0),
+        (b"    [x] a", None, 0, 0),
+    ];
+    for (line, answer, scanned, remaining) in rows {
+        let mut start = LineStart::new(line);
+        assert_eq!(rt; start.scan_task_list_marker(), answer, "on {line:?}");
+        assert_eq!(rt; start.bytes_scanned(), scanned);
+        assert_eq!(rt; start.remaining_space(), remaining);
+    }
+}
+
+#[test]
+fn passes_tags_of_alerts(rt: HostRuntime) {
+    let rows: [(&'static [u8], Option<BlockQuoteKind>, usize); 7] = [
+        (b"[!Note]  \nx", Some(BlockQuoteKind::Note), 10),
+        (b"[!caution]", Some(BlockQuoteKind::Caution), 10),
+        (b"[!TIP]x", None, 0),
+        (b"[!tip]\r\n", Some(BlockQuoteKind::Tip), 8),
+        (b"[!IMPORTANT]", Some(BlockQuoteKind::Important), 12),
+        (b"[!WARNING] \x0c", Some(BlockQuoteKind::Warning), 12),
+        (b"[!notes]", None, 0),
+    ];
+    for (line, answer, scanned) in rows {
+        let mut start = LineStart::new(line);
+        assert_eq!(rt; start.scan_blockquote_tag(), answer, "on {line:?}");
+        assert_eq!(rt; start.bytes_scanned(), scanned);
+    }
+}
+
+fn run_bullets(alloc: Global, count: usize) -> Result<LineRun, Fail> {
+    let mut line = Vec::new(alloc);
+    let mut calls = Vec::new(alloc);
+    for _ in 0..count {
+        line.extend_from_slice(b"- ")?;
+        calls.push(LineCall::List(0))?;
+    }
+    line.push(b'x')?;
+    Ok(run_line(alloc, &line, &calls)?)
+}
+
+#[test]
+fn passes_ten_thousand_bullets(rt: HostRuntime) -> Result<(), Fail> {
+    let run = run_bullets(rt.alloc(), 10_000)?;
+    assert_eq!(rt; run.answers.len(), 10_000);
+    for answer in &run.answers {
+        assert_eq!(rt; *answer, LineAnswer::List(Some((b'-', 0, 2))));
+    }
+    assert_eq!(rt; run.scanned, 20_000);
+    assert_eq!(rt; run.rest.as_slice(), b"x".as_slice());
+    assert_eq!(rt; run.stop, None);
+    Ok(())
+}
+
+// Each bullet looks as if a thematic break began there, up to the end of the line. Were each looked at
+// to the end, this run would read some 10^11 bytes and not end within a test's time.
+#[test]
+fn looks_for_a_thematic_break_once(rt: HostRuntime) -> Result<(), Fail> {
+    let run = run_bullets(rt.alloc(), 400_000)?;
+    assert_eq!(rt; run.answers.len(), 400_000);
+    assert_eq!(rt; run.scanned, 800_000);
+    Ok(())
 }
 
 #[test]

@@ -1,5 +1,6 @@
 //! Answers of pulldown-cmark 0.13.6 for calls on line starts, on random fragments of lines.
 use markdown_scanners_tree::line::LineStart;
+use markdown_values::values::BlockQuoteKind;
 use std::process::Abort;
 
 #[derive(Clone, Copy)]
@@ -9,6 +10,10 @@ enum Call {
     AllSpace,
     Eol,
     Quote,
+    List(u8),
+    Definition(u8),
+    Task,
+    Tag,
 }
 
 #[derive(Clone, Copy, Debug, PartialEq)]
@@ -16,6 +21,10 @@ enum Answer {
     Flag(bool),
     Count(usize),
     Nothing,
+    List(Option<(u8, u64, usize)>),
+    Definition(Option<usize>),
+    Task(Option<bool>),
+    Tag(Option<BlockQuoteKind>),
 }
 
 /// A call, its answer, and then the bytes scanned and the space that remains.
@@ -31,6 +40,12 @@ fn make_call(start: &mut LineStart, call: Call) -> Answer {
         }
         Call::Eol => Answer::Flag(start.is_at_eol()),
         Call::Quote => Answer::Flag(start.scan_blockquote_marker()),
+        Call::List(indent) => Answer::List(start.scan_list_marker_with_indent(usize::from(indent))),
+        Call::Definition(indent) => Answer::Definition(
+            start.scan_definition_list_definition_marker_with_indent(usize::from(indent)),
+        ),
+        Call::Task => Answer::Task(start.scan_task_list_marker()),
+        Call::Tag => Answer::Tag(start.scan_blockquote_tag()),
     }
 }
 
@@ -50,10 +65,35 @@ fn answers_as_the_original(rt: HostRuntime) {
     }
 }
 
-const LINES: [(&[u8], &[Step]); 55] = [
+const LINES: [(&[u8], &[Step]); 120] = [
     (
         b"-    .*---x#[!tip]\n#2\t",
-        &[(Call::Space(9), Answer::Flag(false), 0, 0)],
+        &[
+            (Call::Space(9), Answer::Flag(false), 0, 0),
+            (Call::Definition(7), Answer::Definition(None), 0, 0),
+            (Call::Task, Answer::Task(None), 0, 0),
+            (Call::Upto(3), Answer::Count(0), 0, 0),
+            (Call::Definition(5), Answer::Definition(None), 0, 0),
+            (Call::Quote, Answer::Flag(false), 0, 0),
+            (Call::Task, Answer::Task(None), 0, 0),
+        ],
+    ),
+    (
+        b"",
+        &[
+            (Call::List(7), Answer::List(None), 0, 0),
+            (Call::Task, Answer::Task(None), 0, 0),
+            (Call::Space(3), Answer::Flag(false), 0, 0),
+            (Call::Definition(2), Answer::Definition(None), 0, 0),
+            (Call::Task, Answer::Task(None), 0, 0),
+        ],
+    ),
+    (
+        b"",
+        &[
+            (Call::Definition(3), Answer::Definition(None), 0, 0),
+            (Call::Task, Answer::Task(None), 0, 0),
+        ],
     ),
     (b"", &[(Call::Eol, Answer::Flag(true), 0, 0)]),
     (
@@ -61,13 +101,34 @@ const LINES: [(&[u8], &[Step]); 55] = [
         &[
             (Call::Space(5), Answer::Flag(false), 0, 0),
             (Call::Quote, Answer::Flag(false), 0, 0),
+            (Call::Task, Answer::Task(None), 0, 0),
+            (Call::AllSpace, Answer::Nothing, 0, 0),
         ],
     ),
     (
         b"- [!tip]\n---",
         &[(Call::Space(0), Answer::Flag(true), 0, 0)],
     ),
-    (b"", &[(Call::AllSpace, Answer::Nothing, 0, 0)]),
+    (
+        b"    ",
+        &[
+            (Call::Tag, Answer::Tag(None), 0, 0),
+            (Call::AllSpace, Answer::Nothing, 4, 0),
+            (Call::Eol, Answer::Flag(true), 4, 0),
+            (Call::Upto(4), Answer::Count(0), 4, 0),
+            (Call::Task, Answer::Task(None), 4, 0),
+        ],
+    ),
+    (
+        b"",
+        &[
+            (Call::AllSpace, Answer::Nothing, 0, 0),
+            (Call::Definition(7), Answer::Definition(None), 0, 0),
+            (Call::List(4), Answer::List(None), 0, 0),
+            (Call::AllSpace, Answer::Nothing, 0, 0),
+            (Call::AllSpace, Answer::Nothing, 0, 0),
+        ],
+    ),
     (
         b"2 1. a.+",
         &[
@@ -81,23 +142,144 @@ const LINES: [(&[u8], &[Step]); 55] = [
         &[
             (Call::AllSpace, Answer::Nothing, 0, 0),
             (Call::AllSpace, Answer::Nothing, 0, 0),
+            (Call::Tag, Answer::Tag(None), 0, 0),
+            (Call::Eol, Answer::Flag(true), 0, 0),
+            (Call::Upto(1), Answer::Count(0), 0, 0),
+            (Call::Quote, Answer::Flag(false), 0, 0),
+            (Call::Definition(5), Answer::Definition(None), 0, 0),
+            (Call::Tag, Answer::Tag(None), 0, 0),
         ],
     ),
-    (b"\t_! ", &[(Call::Quote, Answer::Flag(false), 0, 0)]),
+    (
+        b"_-9:    :[!tip]\n \t",
+        &[
+            (Call::Definition(2), Answer::Definition(None), 0, 0),
+            (Call::Definition(9), Answer::Definition(None), 0, 0),
+        ],
+    ),
+    (
+        b"\t)![!NOTE])!",
+        &[
+            (Call::Definition(0), Answer::Definition(None), 0, 0),
+            (Call::Eol, Answer::Flag(false), 0, 0),
+            (Call::List(1), Answer::List(None), 0, 0),
+        ],
+    ),
+    (
+        b" +_    [!tip]\n------]",
+        &[(Call::Task, Answer::Task(None), 0, 0)],
+    ),
+    (
+        b"",
+        &[
+            (Call::Tag, Answer::Tag(None), 0, 0),
+            (Call::Quote, Answer::Flag(false), 0, 0),
+            (Call::Task, Answer::Task(None), 0, 0),
+            (Call::Upto(0), Answer::Count(0), 0, 0),
+            (Call::Definition(7), Answer::Definition(None), 0, 0),
+            (Call::Definition(9), Answer::Definition(None), 0, 0),
+            (Call::AllSpace, Answer::Nothing, 0, 0),
+        ],
+    ),
+    (
+        b"\t_! ",
+        &[
+            (Call::Quote, Answer::Flag(false), 0, 0),
+            (Call::Tag, Answer::Tag(None), 0, 0),
+            (Call::Space(1), Answer::Flag(true), 1, 3),
+            (Call::Eol, Answer::Flag(false), 1, 3),
+            (Call::Quote, Answer::Flag(false), 1, 3),
+            (Call::Upto(5), Answer::Count(3), 1, 0),
+            (Call::Space(0), Answer::Flag(true), 1, 0),
+        ],
+    ),
+    (
+        b" 12>.[     ]*_[!tip]\n**\x0b!",
+        &[
+            (Call::Definition(2), Answer::Definition(None), 0, 0),
+            (Call::Eol, Answer::Flag(false), 0, 0),
+            (Call::Tag, Answer::Tag(None), 0, 0),
+            (Call::List(2), Answer::List(None), 0, 0),
+            (Call::AllSpace, Answer::Nothing, 1, 0),
+        ],
+    ),
     (
         b"9) )[",
         &[
             (Call::AllSpace, Answer::Nothing, 0, 0),
             (Call::Eol, Answer::Flag(false), 0, 0),
+            (Call::List(3), Answer::List(Some((b')', 9, 6))), 3, 0),
         ],
     ),
     (
+        b"",
+        &[
+            (Call::Eol, Answer::Flag(true), 0, 0),
+            (Call::List(9), Answer::List(None), 0, 0),
+        ],
+    ),
+    (
+        b"# ",
+        &[
+            (Call::Tag, Answer::Tag(None), 0, 0),
+            (Call::Eol, Answer::Flag(false), 0, 0),
+            (Call::Quote, Answer::Flag(false), 0, 0),
+            (Call::Eol, Answer::Flag(false), 0, 0),
+            (Call::Space(3), Answer::Flag(false), 0, 0),
+            (Call::Eol, Answer::Flag(false), 0, 0),
+        ],
+    ),
+    (
+        b"",
+        &[
+            (Call::Tag, Answer::Tag(None), 0, 0),
+            (Call::Definition(7), Answer::Definition(None), 0, 0),
+            (Call::AllSpace, Answer::Nothing, 0, 0),
+            (Call::AllSpace, Answer::Nothing, 0, 0),
+            (Call::Tag, Answer::Tag(None), 0, 0),
+            (Call::Eol, Answer::Flag(true), 0, 0),
+            (Call::List(9), Answer::List(None), 0, 0),
+            (Call::Eol, Answer::Flag(true), 0, 0),
+        ],
+    ),
+    (b">-\x0c", &[(Call::List(0), Answer::List(None), 0, 0)]),
+    (
         b"\t.[!tip]\n _> \t:-     \x0b#\t19\r*:\t",
-        &[(Call::Upto(3), Answer::Count(3), 1, 1)],
+        &[
+            (Call::Upto(3), Answer::Count(3), 1, 1),
+            (Call::Tag, Answer::Tag(None), 1, 1),
+            (Call::Upto(4), Answer::Count(1), 1, 0),
+            (Call::Definition(7), Answer::Definition(None), 1, 0),
+            (Call::Tag, Answer::Tag(None), 1, 0),
+        ],
+    ),
+    (
+        b"",
+        &[
+            (Call::Eol, Answer::Flag(true), 0, 0),
+            (Call::Task, Answer::Task(None), 0, 0),
+        ],
     ),
     (
         b">![!tip]\n)---[- [x]\t\r\n>->+>a\x0c",
-        &[(Call::Quote, Answer::Flag(true), 1, 0)],
+        &[
+            (Call::Quote, Answer::Flag(true), 1, 0),
+            (Call::Task, Answer::Task(None), 1, 0),
+            (Call::Task, Answer::Task(None), 1, 0),
+            (Call::Task, Answer::Task(None), 1, 0),
+            (Call::Upto(2), Answer::Count(0), 1, 0),
+            (Call::List(7), Answer::List(None), 1, 0),
+            (Call::List(2), Answer::List(None), 1, 0),
+            (Call::AllSpace, Answer::Nothing, 1, 0),
+        ],
+    ),
+    (
+        b"",
+        &[
+            (Call::Definition(4), Answer::Definition(None), 0, 0),
+            (Call::Task, Answer::Task(None), 0, 0),
+            (Call::Space(5), Answer::Flag(false), 0, 0),
+        ],
     ),
     (
         b"    \x0c",
@@ -115,11 +297,66 @@ const LINES: [(&[u8], &[Step]); 55] = [
         &[
             (Call::Quote, Answer::Flag(false), 0, 0),
             (Call::AllSpace, Answer::Nothing, 1, 0),
+            (Call::Task, Answer::Task(None), 1, 0),
+            (Call::Space(3), Answer::Flag(false), 1, 0),
+            (Call::AllSpace, Answer::Nothing, 1, 0),
+            (Call::AllSpace, Answer::Nothing, 1, 0),
         ],
     ),
     (
         b"*\t[x]\r:a\t--  \r\n- ",
         &[(Call::Quote, Answer::Flag(false), 0, 0)],
+    ),
+    (
+        b"a])9",
+        &[
+            (Call::Task, Answer::Task(None), 0, 0),
+            (Call::Task, Answer::Task(None), 0, 0),
+            (Call::Space(1), Answer::Flag(false), 0, 0),
+            (Call::List(0), Answer::List(None), 0, 0),
+            (Call::Upto(2), Answer::Count(0), 0, 0),
+            (Call::AllSpace, Answer::Nothing, 0, 0),
+            (Call::Tag, Answer::Tag(None), 0, 0),
+            (Call::Task, Answer::Task(None), 0, 0),
+        ],
+    ),
+    (
+        b"a*\ta[!tip]\n",
+        &[
+            (Call::Definition(9), Answer::Definition(None), 0, 0),
+            (Call::Definition(3), Answer::Definition(None), 0, 0),
+        ],
+    ),
+    (
+        b"-\t 02]9\t 2",
+        &[
+            (Call::Tag, Answer::Tag(None), 0, 0),
+            (Call::Eol, Answer::Flag(false), 0, 0),
+            (Call::List(0), Answer::List(Some((b'-', 0, 5))), 3, 0),
+            (Call::Space(9), Answer::Flag(false), 3, 0),
+            (Call::Quote, Answer::Flag(false), 3, 0),
+            (Call::List(1), Answer::List(None), 3, 0),
+        ],
+    ),
+    (b"", &[(Call::AllSpace, Answer::Nothing, 0, 0)]),
+    (
+        b"",
+        &[
+            (Call::Eol, Answer::Flag(true), 0, 0),
+            (Call::Tag, Answer::Tag(None), 0, 0),
+            (Call::Task, Answer::Task(None), 0, 0),
+        ],
+    ),
+    (
+        b"",
+        &[
+            (Call::List(3), Answer::List(None), 0, 0),
+            (Call::List(0), Answer::List(None), 0, 0),
+            (Call::AllSpace, Answer::Nothing, 0, 0),
+            (Call::Eol, Answer::Flag(true), 0, 0),
+            (Call::Upto(1), Answer::Count(0), 0, 0),
+            (Call::Quote, Answer::Flag(false), 0, 0),
+        ],
     ),
     (
         b"",
@@ -139,7 +376,11 @@ const LINES: [(&[u8], &[Step]); 55] = [
     ),
     (
         b"\t>\n\x0c#x    \r.#\t).",
-        &[(Call::AllSpace, Answer::Nothing, 1, 0)],
+        &[
+            (Call::AllSpace, Answer::Nothing, 1, 0),
+            (Call::Tag, Answer::Tag(None), 1, 0),
+            (Call::Eol, Answer::Flag(false), 1, 0),
+        ],
     ),
     (
         b"",
@@ -147,9 +388,34 @@ const LINES: [(&[u8], &[Step]); 55] = [
             (Call::Quote, Answer::Flag(false), 0, 0),
             (Call::Eol, Answer::Flag(true), 0, 0),
             (Call::Upto(2), Answer::Count(0), 0, 0),
+            (Call::List(9), Answer::List(None), 0, 0),
+            (Call::Eol, Answer::Flag(true), 0, 0),
+            (Call::Eol, Answer::Flag(true), 0, 0),
         ],
     ),
-    (b"", &[(Call::Space(2), Answer::Flag(false), 0, 0)]),
+    (
+        b"0    \t ",
+        &[
+            (Call::Task, Answer::Task(None), 0, 0),
+            (Call::List(2), Answer::List(None), 0, 0),
+            (Call::Quote, Answer::Flag(false), 0, 0),
+            (Call::Quote, Answer::Flag(false), 0, 0),
+            (Call::List(2), Answer::List(None), 0, 0),
+        ],
+    ),
+    (
+        b"",
+        &[
+            (Call::Space(2), Answer::Flag(false), 0, 0),
+            (Call::Task, Answer::Task(None), 0, 0),
+            (Call::Tag, Answer::Tag(None), 0, 0),
+            (Call::List(3), Answer::List(None), 0, 0),
+            (Call::Quote, Answer::Flag(false), 0, 0),
+            (Call::Task, Answer::Task(None), 0, 0),
+            (Call::List(4), Answer::List(None), 0, 0),
+            (Call::List(3), Answer::List(None), 0, 0),
+        ],
+    ),
     (
         b"-- [!tip]\nx:\t[!NOTE]- - 1. 1__a.1#- a\x0c",
         &[
@@ -159,11 +425,20 @@ const LINES: [(&[u8], &[Step]); 55] = [
     ),
     (
         b"0[!tip]\n)[ 1",
-        &[(Call::Space(0), Answer::Flag(true), 0, 0)],
+        &[
+            (Call::Space(0), Answer::Flag(true), 0, 0),
+            (Call::Tag, Answer::Tag(None), 0, 0),
+            (Call::Tag, Answer::Tag(None), 0, 0),
+            (Call::Space(3), Answer::Flag(false), 0, 0),
+        ],
     ),
     (
         b"\r11)\x0c\x0c- a*[!tip]\n)9[\t\n*)",
-        &[(Call::AllSpace, Answer::Nothing, 0, 0)],
+        &[
+            (Call::AllSpace, Answer::Nothing, 0, 0),
+            (Call::Definition(5), Answer::Definition(None), 0, 0),
+            (Call::List(2), Answer::List(None), 0, 0),
+        ],
     ),
     (
         b"#]\t     :1a]",
@@ -172,6 +447,41 @@ const LINES: [(&[u8], &[Step]); 55] = [
             (Call::AllSpace, Answer::Nothing, 0, 0),
             (Call::Upto(2), Answer::Count(0), 0, 0),
             (Call::Eol, Answer::Flag(false), 0, 0),
+            (Call::List(3), Answer::List(None), 0, 0),
+            (Call::Tag, Answer::Tag(None), 0, 0),
+        ],
+    ),
+    (
+        b"",
+        &[
+            (Call::Task, Answer::Task(None), 0, 0),
+            (Call::AllSpace, Answer::Nothing, 0, 0),
+            (Call::Tag, Answer::Tag(None), 0, 0),
+            (Call::Tag, Answer::Tag(None), 0, 0),
+        ],
+    ),
+    (
+        b"[x]a1. \t>[x]\nxx---+",
+        &[
+            (Call::Definition(5), Answer::Definition(None), 0, 0),
+            (Call::Space(4), Answer::Flag(false), 0, 0),
+            (Call::AllSpace, Answer::Nothing, 0, 0),
+            (Call::List(3), Answer::List(None), 0, 0),
+            (Call::AllSpace, Answer::Nothing, 0, 0),
+            (Call::Definition(1), Answer::Definition(None), 0, 0),
+        ],
+    ),
+    (
+        b"",
+        &[
+            (Call::Task, Answer::Task(None), 0, 0),
+            (Call::Task, Answer::Task(None), 0, 0),
+            (Call::Upto(1), Answer::Count(0), 0, 0),
+            (Call::Task, Answer::Task(None), 0, 0),
+            (Call::Tag, Answer::Tag(None), 0, 0),
+            (Call::Task, Answer::Task(None), 0, 0),
+            (Call::List(4), Answer::List(None), 0, 0),
+            (Call::Space(4), Answer::Flag(false), 0, 0),
         ],
     ),
     (
@@ -180,6 +490,19 @@ const LINES: [(&[u8], &[Step]); 55] = [
             (Call::Quote, Answer::Flag(false), 0, 0),
             (Call::Eol, Answer::Flag(false), 0, 0),
             (Call::AllSpace, Answer::Nothing, 0, 0),
+            (Call::List(2), Answer::List(None), 0, 0),
+            (Call::Quote, Answer::Flag(false), 0, 0),
+        ],
+    ),
+    (
+        b"",
+        &[
+            (Call::Tag, Answer::Tag(None), 0, 0),
+            (Call::Upto(0), Answer::Count(0), 0, 0),
+            (Call::Quote, Answer::Flag(false), 0, 0),
+            (Call::AllSpace, Answer::Nothing, 0, 0),
+            (Call::Upto(4), Answer::Count(0), 0, 0),
+            (Call::Definition(0), Answer::Definition(None), 0, 0),
         ],
     ),
     (
@@ -187,26 +510,220 @@ const LINES: [(&[u8], &[Step]); 55] = [
         &[
             (Call::Upto(2), Answer::Count(2), 1, 2),
             (Call::Eol, Answer::Flag(false), 1, 2),
+            (Call::Tag, Answer::Tag(None), 1, 2),
+            (Call::Quote, Answer::Flag(false), 1, 2),
         ],
     ),
-    (b"", &[(Call::Upto(5), Answer::Count(0), 0, 0)]),
-    (b"\n2a", &[(Call::Space(5), Answer::Flag(false), 0, 0)]),
-    (b"", &[(Call::Quote, Answer::Flag(false), 0, 0)]),
+    (
+        b"",
+        &[
+            (Call::Eol, Answer::Flag(true), 0, 0),
+            (Call::Definition(5), Answer::Definition(None), 0, 0),
+            (Call::Quote, Answer::Flag(false), 0, 0),
+            (Call::Eol, Answer::Flag(true), 0, 0),
+            (Call::Eol, Answer::Flag(true), 0, 0),
+        ],
+    ),
+    (
+        b"",
+        &[
+            (Call::Upto(5), Answer::Count(0), 0, 0),
+            (Call::List(5), Answer::List(None), 0, 0),
+            (Call::Task, Answer::Task(None), 0, 0),
+            (Call::Task, Answer::Task(None), 0, 0),
+            (Call::Upto(2), Answer::Count(0), 0, 0),
+            (Call::Space(0), Answer::Flag(true), 0, 0),
+        ],
+    ),
+    (
+        b"",
+        &[
+            (Call::Task, Answer::Task(None), 0, 0),
+            (Call::Task, Answer::Task(None), 0, 0),
+            (Call::Tag, Answer::Tag(None), 0, 0),
+            (Call::Space(3), Answer::Flag(false), 0, 0),
+            (Call::Eol, Answer::Flag(true), 0, 0),
+            (Call::AllSpace, Answer::Nothing, 0, 0),
+        ],
+    ),
+    (
+        b"\n2a",
+        &[
+            (Call::Space(5), Answer::Flag(false), 0, 0),
+            (Call::Task, Answer::Task(None), 0, 0),
+            (Call::List(1), Answer::List(None), 0, 0),
+            (Call::List(7), Answer::List(None), 0, 0),
+            (Call::Upto(5), Answer::Count(0), 0, 0),
+        ],
+    ),
+    (
+        b"\x0c    [!tip]\n*0    *   *\x0b\r)-",
+        &[
+            (Call::Task, Answer::Task(None), 0, 0),
+            (Call::Definition(0), Answer::Definition(None), 0, 0),
+            (Call::Task, Answer::Task(None), 0, 0),
+        ],
+    ),
+    (
+        b"1. +_>\t ",
+        &[
+            (Call::Tag, Answer::Tag(None), 0, 0),
+            (Call::Eol, Answer::Flag(false), 0, 0),
+            (Call::Space(5), Answer::Flag(false), 0, 0),
+            (Call::Definition(1), Answer::Definition(None), 0, 0),
+            (Call::Eol, Answer::Flag(false), 0, 0),
+            (Call::Definition(3), Answer::Definition(None), 0, 0),
+        ],
+    ),
+    (
+        b"",
+        &[
+            (Call::Quote, Answer::Flag(false), 0, 0),
+            (Call::Task, Answer::Task(None), 0, 0),
+            (Call::Definition(5), Answer::Definition(None), 0, 0),
+            (Call::Space(9), Answer::Flag(false), 0, 0),
+            (Call::Definition(2), Answer::Definition(None), 0, 0),
+            (Call::Tag, Answer::Tag(None), 0, 0),
+            (Call::Eol, Answer::Flag(true), 0, 0),
+            (Call::Definition(3), Answer::Definition(None), 0, 0),
+        ],
+    ),
+    (
+        b"",
+        &[
+            (Call::Definition(9), Answer::Definition(None), 0, 0),
+            (Call::Task, Answer::Task(None), 0, 0),
+            (Call::Eol, Answer::Flag(true), 0, 0),
+            (Call::Space(0), Answer::Flag(true), 0, 0),
+            (Call::Quote, Answer::Flag(false), 0, 0),
+            (Call::AllSpace, Answer::Nothing, 0, 0),
+            (Call::Tag, Answer::Tag(None), 0, 0),
+        ],
+    ),
     (
         b"",
         &[
             (Call::Eol, Answer::Flag(true), 0, 0),
             (Call::Quote, Answer::Flag(false), 0, 0),
             (Call::Upto(5), Answer::Count(0), 0, 0),
+            (Call::Tag, Answer::Tag(None), 0, 0),
+            (Call::Quote, Answer::Flag(false), 0, 0),
         ],
     ),
-    (b"# \x0c\r\n", &[(Call::Eol, Answer::Flag(false), 0, 0)]),
-    (b"\r\n+\t\n ", &[(Call::AllSpace, Answer::Nothing, 0, 0)]),
+    (
+        b"# \x0c\r\n",
+        &[
+            (Call::Eol, Answer::Flag(false), 0, 0),
+            (Call::Tag, Answer::Tag(None), 0, 0),
+            (Call::Task, Answer::Task(None), 0, 0),
+        ],
+    ),
+    (
+        b"",
+        &[
+            (Call::Task, Answer::Task(None), 0, 0),
+            (Call::List(0), Answer::List(None), 0, 0),
+            (Call::List(4), Answer::List(None), 0, 0),
+            (Call::AllSpace, Answer::Nothing, 0, 0),
+            (Call::Definition(2), Answer::Definition(None), 0, 0),
+            (Call::Quote, Answer::Flag(false), 0, 0),
+            (Call::Definition(2), Answer::Definition(None), 0, 0),
+        ],
+    ),
+    (
+        b"",
+        &[
+            (Call::Tag, Answer::Tag(None), 0, 0),
+            (Call::Quote, Answer::Flag(false), 0, 0),
+            (Call::Definition(2), Answer::Definition(None), 0, 0),
+            (Call::Definition(3), Answer::Definition(None), 0, 0),
+            (Call::Task, Answer::Task(None), 0, 0),
+            (Call::List(5), Answer::List(None), 0, 0),
+            (Call::Tag, Answer::Tag(None), 0, 0),
+        ],
+    ),
+    (
+        b"x :\t1\r\n    2\t_a*:x1\x0b[!NOTE]",
+        &[
+            (Call::Task, Answer::Task(None), 0, 0),
+            (Call::Quote, Answer::Flag(false), 0, 0),
+            (Call::AllSpace, Answer::Nothing, 0, 0),
+            (Call::Task, Answer::Task(None), 0, 0),
+        ],
+    ),
+    (
+        b" )\n[!tip]\n",
+        &[
+            (Call::Definition(4), Answer::Definition(None), 0, 0),
+            (Call::Eol, Answer::Flag(false), 0, 0),
+        ],
+    ),
+    (
+        b"[x] )    \t\n1. - 00+]\n    \x0c-",
+        &[
+            (Call::List(9), Answer::List(None), 0, 0),
+            (Call::AllSpace, Answer::Nothing, 0, 0),
+            (Call::List(9), Answer::List(None), 0, 0),
+            (Call::AllSpace, Answer::Nothing, 0, 0),
+            (Call::List(3), Answer::List(None), 0, 0),
+        ],
+    ),
+    (
+        b"0-",
+        &[
+            (Call::Definition(3), Answer::Definition(None), 0, 0),
+            (Call::Space(2), Answer::Flag(false), 0, 0),
+            (Call::AllSpace, Answer::Nothing, 0, 0),
+            (Call::Task, Answer::Task(None), 0, 0),
+        ],
+    ),
+    (
+        b"-!2**[x]",
+        &[
+            (Call::Task, Answer::Task(None), 0, 0),
+            (Call::Space(1), Answer::Flag(false), 0, 0),
+        ],
+    ),
+    (
+        b"][!tip]\n",
+        &[
+            (Call::List(7), Answer::List(None), 0, 0),
+            (Call::List(2), Answer::List(None), 0, 0),
+            (Call::Quote, Answer::Flag(false), 0, 0),
+            (Call::Eol, Answer::Flag(false), 0, 0),
+            (Call::Definition(5), Answer::Definition(None), 0, 0),
+            (Call::Tag, Answer::Tag(None), 0, 0),
+            (Call::Quote, Answer::Flag(false), 0, 0),
+            (Call::Eol, Answer::Flag(false), 0, 0),
+        ],
+    ),
+    (
+        b"\r\n+\t\n ",
+        &[
+            (Call::AllSpace, Answer::Nothing, 0, 0),
+            (Call::Tag, Answer::Tag(None), 0, 0),
+            (Call::Space(3), Answer::Flag(false), 0, 0),
+        ],
+    ),
+    (
+        b"",
+        &[
+            (Call::Eol, Answer::Flag(true), 0, 0),
+            (Call::List(5), Answer::List(None), 0, 0),
+            (Call::Quote, Answer::Flag(false), 0, 0),
+            (Call::Tag, Answer::Tag(None), 0, 0),
+            (Call::AllSpace, Answer::Nothing, 0, 0),
+            (Call::Upto(0), Answer::Count(0), 0, 0),
+            (Call::List(1), Answer::List(None), 0, 0),
+        ],
+    ),
     (
         b"[9aa[x] ",
         &[
             (Call::Quote, Answer::Flag(false), 0, 0),
             (Call::Eol, Answer::Flag(false), 0, 0),
+            (Call::Tag, Answer::Tag(None), 0, 0),
+            (Call::Task, Answer::Task(None), 0, 0),
         ],
     ),
     (
@@ -223,6 +740,12 @@ const LINES: [(&[u8], &[Step]); 55] = [
         &[
             (Call::Upto(2), Answer::Count(0), 0, 0),
             (Call::Eol, Answer::Flag(true), 0, 0),
+            (Call::Tag, Answer::Tag(None), 0, 0),
+            (Call::List(4), Answer::List(None), 0, 0),
+            (Call::AllSpace, Answer::Nothing, 0, 0),
+            (Call::Quote, Answer::Flag(false), 0, 0),
+            (Call::Eol, Answer::Flag(true), 0, 0),
+            (Call::Definition(0), Answer::Definition(None), 0, 0),
         ],
     ),
     (
@@ -243,12 +766,84 @@ const LINES: [(&[u8], &[Step]); 55] = [
             (Call::Quote, Answer::Flag(false), 0, 0),
         ],
     ),
-    (b"+>[ #", &[(Call::Upto(5), Answer::Count(0), 0, 0)]),
+    (
+        b"\x0b\r\na-",
+        &[
+            (Call::Task, Answer::Task(None), 0, 0),
+            (Call::Quote, Answer::Flag(false), 0, 0),
+            (Call::Tag, Answer::Tag(None), 0, 0),
+            (Call::Upto(2), Answer::Count(0), 0, 0),
+            (Call::Eol, Answer::Flag(false), 0, 0),
+            (Call::AllSpace, Answer::Nothing, 0, 0),
+            (Call::Eol, Answer::Flag(false), 0, 0),
+        ],
+    ),
+    (
+        b"+>[ #",
+        &[
+            (Call::Upto(5), Answer::Count(0), 0, 0),
+            (Call::Task, Answer::Task(None), 0, 0),
+            (Call::AllSpace, Answer::Nothing, 0, 0),
+            (Call::Tag, Answer::Tag(None), 0, 0),
+            (Call::Tag, Answer::Tag(None), 0, 0),
+        ],
+    ),
+    (
+        b"0a>. [_)",
+        &[
+            (Call::List(3), Answer::List(None), 0, 0),
+            (Call::Tag, Answer::Tag(None), 0, 0),
+        ],
+    ),
+    (
+        b"1 \x0c0  ",
+        &[
+            (Call::Definition(3), Answer::Definition(None), 0, 0),
+            (Call::Space(9), Answer::Flag(false), 0, 0),
+            (Call::AllSpace, Answer::Nothing, 0, 0),
+            (Call::Definition(1), Answer::Definition(None), 0, 0),
+        ],
+    ),
+    (
+        b"\n\x0b 1a    :\r)",
+        &[
+            (Call::Task, Answer::Task(None), 0, 0),
+            (Call::Upto(2), Answer::Count(0), 0, 0),
+            (Call::Tag, Answer::Tag(None), 0, 0),
+        ],
+    ),
     (
         b"#2a.20[!NOTE]\x0c\x0b_:---] [!tip]\n1. ---_ 1. ",
         &[
             (Call::Space(2), Answer::Flag(false), 0, 0),
             (Call::Space(2), Answer::Flag(false), 0, 0),
+            (Call::Task, Answer::Task(None), 0, 0),
+        ],
+    ),
+    (
+        b"",
+        &[
+            (Call::Task, Answer::Task(None), 0, 0),
+            (Call::Tag, Answer::Tag(None), 0, 0),
+            (Call::Quote, Answer::Flag(false), 0, 0),
+            (Call::AllSpace, Answer::Nothing, 0, 0),
+            (Call::Upto(4), Answer::Count(0), 0, 0),
+            (Call::Task, Answer::Task(None), 0, 0),
+            (Call::Upto(0), Answer::Count(0), 0, 0),
+            (Call::Quote, Answer::Flag(false), 0, 0),
+        ],
+    ),
+    (
+        b" 2---a)91.  ",
+        &[
+            (Call::Task, Answer::Task(None), 0, 0),
+            (Call::Eol, Answer::Flag(false), 0, 0),
+            (Call::Space(9), Answer::Flag(false), 1, 0),
+            (Call::Upto(1), Answer::Count(0), 1, 0),
+            (Call::Tag, Answer::Tag(None), 1, 0),
+            (Call::AllSpace, Answer::Nothing, 1, 0),
+            (Call::Upto(4), Answer::Count(0), 1, 0),
+            (Call::Definition(1), Answer::Definition(None), 1, 0),
         ],
     ),
     (
@@ -256,11 +851,32 @@ const LINES: [(&[u8], &[Step]); 55] = [
         &[
             (Call::Eol, Answer::Flag(true), 0, 0),
             (Call::Upto(1), Answer::Count(0), 0, 0),
+            (Call::Tag, Answer::Tag(None), 0, 0),
+            (Call::AllSpace, Answer::Nothing, 0, 0),
+            (Call::Tag, Answer::Tag(None), 0, 0),
+        ],
+    ),
+    (
+        b"---:",
+        &[
+            (Call::Task, Answer::Task(None), 0, 0),
+            (Call::List(9), Answer::List(None), 0, 0),
+            (Call::Tag, Answer::Tag(None), 0, 0),
+            (Call::Tag, Answer::Tag(None), 0, 0),
+            (Call::AllSpace, Answer::Nothing, 0, 0),
+            (Call::Space(7), Answer::Flag(false), 0, 0),
         ],
     ),
     (
         b"\n \r\t!\x0ba\x0c\t)",
-        &[(Call::Quote, Answer::Flag(false), 0, 0)],
+        &[
+            (Call::Quote, Answer::Flag(false), 0, 0),
+            (Call::Definition(2), Answer::Definition(None), 0, 0),
+            (Call::Task, Answer::Task(None), 0, 0),
+            (Call::Upto(9), Answer::Count(0), 0, 0),
+            (Call::Space(1), Answer::Flag(false), 0, 0),
+            (Call::Upto(2), Answer::Count(0), 0, 0),
+        ],
     ),
     (
         b".1. \t. 1. ",
@@ -268,6 +884,8 @@ const LINES: [(&[u8], &[Step]); 55] = [
             (Call::Space(7), Answer::Flag(false), 0, 0),
             (Call::Upto(0), Answer::Count(0), 0, 0),
             (Call::AllSpace, Answer::Nothing, 0, 0),
+            (Call::Definition(1), Answer::Definition(None), 0, 0),
+            (Call::Task, Answer::Task(None), 0, 0),
         ],
     ),
     (
@@ -278,6 +896,16 @@ const LINES: [(&[u8], &[Step]); 55] = [
         ],
     ),
     (
+        b"",
+        &[
+            (Call::List(2), Answer::List(None), 0, 0),
+            (Call::Quote, Answer::Flag(false), 0, 0),
+            (Call::Upto(9), Answer::Count(0), 0, 0),
+            (Call::List(1), Answer::List(None), 0, 0),
+        ],
+    ),
+    (b"", &[(Call::Quote, Answer::Flag(false), 0, 0)]),
+    (
         b"---91. a]]*- \r\n\r\n\r\n---9+.\n\r\n- ",
         &[
             (Call::Quote, Answer::Flag(false), 0, 0),
@@ -286,47 +914,253 @@ const LINES: [(&[u8], &[Step]); 55] = [
         ],
     ),
     (
+        b"     \x0c \r[!tip]\n",
+        &[
+            (Call::Tag, Answer::Tag(None), 0, 0),
+            (Call::Upto(7), Answer::Count(5), 5, 0),
+            (Call::List(2), Answer::List(None), 5, 0),
+            (Call::Definition(0), Answer::Definition(None), 5, 0),
+        ],
+    ),
+    (
+        b"12 \x0b\t\tx)a\t\t0  9",
+        &[
+            (Call::Tag, Answer::Tag(None), 0, 0),
+            (Call::Tag, Answer::Tag(None), 0, 0),
+            (Call::Quote, Answer::Flag(false), 0, 0),
+            (Call::Eol, Answer::Flag(false), 0, 0),
+            (Call::Space(2), Answer::Flag(false), 0, 0),
+        ],
+    ),
+    (
+        b"\t.[x]2\t\x0b2-\x0c1. \x0b[!tip]\n- [!tip]\n[x]9*",
+        &[
+            (Call::Task, Answer::Task(None), 0, 0),
+            (Call::Definition(2), Answer::Definition(None), 0, 0),
+        ],
+    ),
+    (
         b"_: 9\t\n*\r\n>_\t-\x0c\x0c]\x0c [!tip]\n>",
         &[
             (Call::Space(3), Answer::Flag(false), 0, 0),
             (Call::Upto(3), Answer::Count(0), 0, 0),
+            (Call::Tag, Answer::Tag(None), 0, 0),
+            (Call::Definition(9), Answer::Definition(None), 0, 0),
+            (Call::Space(0), Answer::Flag(true), 0, 0),
+            (Call::Space(7), Answer::Flag(false), 0, 0),
+        ],
+    ),
+    (
+        b"",
+        &[
+            (Call::Eol, Answer::Flag(true), 0, 0),
+            (Call::Definition(1), Answer::Definition(None), 0, 0),
+            (Call::Upto(0), Answer::Count(0), 0, 0),
         ],
     ),
     (
         b"\n[!tip]\n >]0\r\n*\t>\r\n\r\n>\n[\n",
-        &[(Call::AllSpace, Answer::Nothing, 0, 0)],
+        &[
+            (Call::AllSpace, Answer::Nothing, 0, 0),
+            (Call::Definition(1), Answer::Definition(None), 0, 0),
+        ],
     ),
-    (b"[!tip]\n1. 9", &[(Call::Upto(1), Answer::Count(0), 0, 0)]),
+    (
+        b"[!tip]\n1. 9",
+        &[
+            (Call::Upto(1), Answer::Count(0), 0, 0),
+            (Call::Tag, Answer::Tag(Some(BlockQuoteKind::Tip)), 7, 0),
+            (Call::Space(7), Answer::Flag(false), 7, 0),
+        ],
+    ),
+    (
+        b"0    !1)\n",
+        &[
+            (Call::Definition(2), Answer::Definition(None), 0, 0),
+            (Call::List(4), Answer::List(None), 0, 0),
+            (Call::AllSpace, Answer::Nothing, 0, 0),
+            (Call::Upto(5), Answer::Count(0), 0, 0),
+            (Call::Tag, Answer::Tag(None), 0, 0),
+        ],
+    ),
+    (
+        b"",
+        &[(Call::Definition(4), Answer::Definition(None), 0, 0)],
+    ),
     (
         b"\r \n\r]0\r\n#     )",
         &[
             (Call::Eol, Answer::Flag(true), 0, 0),
             (Call::Quote, Answer::Flag(false), 0, 0),
+            (Call::Definition(4), Answer::Definition(None), 0, 0),
+            (Call::AllSpace, Answer::Nothing, 0, 0),
+            (Call::Upto(1), Answer::Count(0), 0, 0),
+            (Call::Quote, Answer::Flag(false), 0, 0),
         ],
     ),
-    (b"", &[(Call::Space(1), Answer::Flag(false), 0, 0)]),
+    (
+        b"-  >\t2",
+        &[
+            (Call::Task, Answer::Task(None), 0, 0),
+            (Call::Quote, Answer::Flag(false), 0, 0),
+            (Call::Task, Answer::Task(None), 0, 0),
+            (Call::Task, Answer::Task(None), 0, 0),
+            (Call::Upto(7), Answer::Count(0), 0, 0),
+            (Call::Quote, Answer::Flag(false), 0, 0),
+            (Call::AllSpace, Answer::Nothing, 0, 0),
+        ],
+    ),
+    (
+        b"--->\t   9*1. _ ]    *  ",
+        &[
+            (Call::Definition(9), Answer::Definition(None), 0, 0),
+            (Call::Space(3), Answer::Flag(false), 0, 0),
+        ],
+    ),
+    (
+        b"",
+        &[
+            (Call::Space(1), Answer::Flag(false), 0, 0),
+            (Call::List(2), Answer::List(None), 0, 0),
+            (Call::Quote, Answer::Flag(false), 0, 0),
+            (Call::Eol, Answer::Flag(true), 0, 0),
+            (Call::Eol, Answer::Flag(true), 0, 0),
+            (Call::Quote, Answer::Flag(false), 0, 0),
+        ],
+    ),
+    (
+        b"a",
+        &[
+            (Call::Tag, Answer::Tag(None), 0, 0),
+            (Call::Upto(2), Answer::Count(0), 0, 0),
+            (Call::Task, Answer::Task(None), 0, 0),
+            (Call::Quote, Answer::Flag(false), 0, 0),
+            (Call::Quote, Answer::Flag(false), 0, 0),
+            (Call::List(5), Answer::List(None), 0, 0),
+            (Call::Quote, Answer::Flag(false), 0, 0),
+        ],
+    ),
     (
         b"",
         &[
             (Call::Upto(7), Answer::Count(0), 0, 0),
             (Call::Eol, Answer::Flag(true), 0, 0),
+            (Call::Task, Answer::Task(None), 0, 0),
+            (Call::Eol, Answer::Flag(true), 0, 0),
         ],
     ),
-    (b"_\t\x0b]*..\r", &[(Call::AllSpace, Answer::Nothing, 0, 0)]),
-    (b" 2", &[(Call::Space(5), Answer::Flag(false), 1, 0)]),
+    (b")---", &[(Call::List(2), Answer::List(None), 0, 0)]),
+    (b"1. ]", &[(Call::Tag, Answer::Tag(None), 0, 0)]),
+    (
+        b"",
+        &[
+            (Call::AllSpace, Answer::Nothing, 0, 0),
+            (Call::Task, Answer::Task(None), 0, 0),
+            (Call::List(4), Answer::List(None), 0, 0),
+        ],
+    ),
+    (
+        b"_\t\x0b]*..\r",
+        &[
+            (Call::AllSpace, Answer::Nothing, 0, 0),
+            (Call::Tag, Answer::Tag(None), 0, 0),
+            (Call::Quote, Answer::Flag(false), 0, 0),
+            (Call::Eol, Answer::Flag(false), 0, 0),
+            (Call::Space(0), Answer::Flag(true), 0, 0),
+            (Call::Eol, Answer::Flag(false), 0, 0),
+            (Call::AllSpace, Answer::Nothing, 0, 0),
+            (Call::List(9), Answer::List(None), 0, 0),
+        ],
+    ),
+    (
+        b" 2",
+        &[
+            (Call::Space(5), Answer::Flag(false), 1, 0),
+            (Call::List(0), Answer::List(None), 1, 0),
+            (Call::Task, Answer::Task(None), 1, 0),
+        ],
+    ),
     (
         b"-  ![!NOTE][x]9)\t[!NOTE][x]\n\t \r\n[!tip]\n-\x0b",
-        &[(Call::Quote, Answer::Flag(false), 0, 0)],
+        &[
+            (Call::Quote, Answer::Flag(false), 0, 0),
+            (Call::Tag, Answer::Tag(None), 0, 0),
+            (Call::Quote, Answer::Flag(false), 0, 0),
+            (Call::Upto(5), Answer::Count(0), 0, 0),
+            (Call::Upto(1), Answer::Count(0), 0, 0),
+            (Call::AllSpace, Answer::Nothing, 0, 0),
+            (Call::Space(7), Answer::Flag(false), 0, 0),
+            (Call::Tag, Answer::Tag(None), 0, 0),
+        ],
+    ),
+    (
+        b"",
+        &[
+            (Call::List(2), Answer::List(None), 0, 0),
+            (Call::List(4), Answer::List(None), 0, 0),
+            (Call::Task, Answer::Task(None), 0, 0),
+            (Call::Eol, Answer::Flag(true), 0, 0),
+            (Call::Upto(9), Answer::Count(0), 0, 0),
+            (Call::Definition(7), Answer::Definition(None), 0, 0),
+            (Call::Definition(2), Answer::Definition(None), 0, 0),
+        ],
+    ),
+    (
+        b" >[",
+        &[
+            (Call::Definition(5), Answer::Definition(None), 0, 0),
+            (Call::Space(0), Answer::Flag(true), 0, 0),
+            (Call::Eol, Answer::Flag(false), 0, 0),
+            (Call::Upto(2), Answer::Count(1), 1, 0),
+        ],
     ),
     (
         b"00\t0\r\n\t\x0c_1>9---)\x0b1. 0",
-        &[(Call::AllSpace, Answer::Nothing, 0, 0)],
+        &[
+            (Call::AllSpace, Answer::Nothing, 0, 0),
+            (Call::Task, Answer::Task(None), 0, 0),
+            (Call::Quote, Answer::Flag(false), 0, 0),
+            (Call::AllSpace, Answer::Nothing, 0, 0),
+            (Call::Task, Answer::Task(None), 0, 0),
+            (Call::Eol, Answer::Flag(false), 0, 0),
+            (Call::Eol, Answer::Flag(false), 0, 0),
+        ],
+    ),
+    (
+        b"#\n[!tip]\n \x0b\r0] \na2]\r\n\x0b\r! \n\t",
+        &[(Call::Definition(1), Answer::Definition(None), 0, 0)],
+    ),
+    (
+        b"",
+        &[
+            (Call::List(3), Answer::List(None), 0, 0),
+            (Call::List(0), Answer::List(None), 0, 0),
+        ],
+    ),
+    (
+        b"] ):\x0ca\t-\r    \t- \t:[!tip]\n[!NOTE]\r\n[!NOTE]",
+        &[
+            (Call::Definition(0), Answer::Definition(None), 0, 0),
+            (Call::Tag, Answer::Tag(None), 0, 0),
+            (Call::Eol, Answer::Flag(false), 0, 0),
+            (Call::Tag, Answer::Tag(None), 0, 0),
+            (Call::AllSpace, Answer::Nothing, 0, 0),
+            (Call::List(5), Answer::List(None), 0, 0),
+            (Call::Upto(2), Answer::Count(0), 0, 0),
+            (Call::Tag, Answer::Tag(None), 0, 0),
+        ],
     ),
     (
         b"\t-",
         &[
             (Call::Space(0), Answer::Flag(true), 0, 0),
             (Call::AllSpace, Answer::Nothing, 1, 0),
+            (Call::Task, Answer::Task(None), 1, 0),
+            (Call::Task, Answer::Task(None), 1, 0),
+            (Call::Quote, Answer::Flag(false), 1, 0),
+            (Call::List(7), Answer::List(Some((b'-', 0, 9))), 2, 0),
+            (Call::Space(5), Answer::Flag(false), 2, 0),
+            (Call::Task, Answer::Task(None), 2, 0),
         ],
     ),
 ];
