@@ -5,11 +5,13 @@ pub mod ClassLemmas
 pub mod ColumnLemmas
 pub mod FrontLemmas
 pub mod HeadLemmas
+pub mod HeadingLemmas
 pub mod IndentLemmas
 pub mod LineRows
 pub mod LineRunLemmas
 pub mod ListItemLemmas
 pub mod MetadataLemmas
+pub mod RowLemmas
 pub mod RunLemmas
 pub mod ScanLemmas
 pub mod SpaceLemmas
