@@ -1,6 +1,6 @@
 -- ATX headings, and underlines of setext headings.
-use Rattle.std.proofs.Common.{◌≡◌, ℕ, zero, suc, ◌+◌, ◌-◌, ◌≤◌, true, false, ◌==◌, List, [], ◌∷◌, ◌++◌, length, take, drop, replicate, refl, sym, ap, subst, ◌∙◌, arith, inl, inr, Some}
-use Rattle.std.specs.List.{prefix_len, list_all}
+use Rattle.std.proofs.Common.{◌≡◌, ℕ, ◌+◌, ◌-◌, ◌≤◌, true, false, ◌==◌, List, [], ◌∷◌, ◌++◌, length, take, drop, replicate, refl, sym, ap, subst, ◌∙◌, arith, inl, inr, Some}
+use Rattle.std.specs.List.{prefix_len}
 use Rattle.std.proofs.lemmas.Bool.{cases_Bool, eqb-true}
 use Rattle.std.proofs.lemmas.List.{take-append-drop, length-replicate}
 use Rattle.std.proofs.lemmas.List.Folds.{length-prefix_len}
@@ -10,14 +10,10 @@ use Rattle.markdown_values.specs.declared.values.HeadingLevel.{HeadingLevel}
 use Rattle.markdown_values.specs.declared.values.HeadingLevel.TheVariants.{H1, H2, H3, H4, H5, H6}
 use Rattle.markdown_scanners_tree.specs.Bytes.{begins_with, ends_or_begins_with, is_white_space, IsBlankLine}
 use Rattle.markdown_scanners_tree.specs.HeadingLines.{IsAtxHeading, underline_byte, IsSetextUnderline}
-use Rattle.markdown_scanners_tree.proofs.FrontLemmas.{from_place, both_true, list_all-run, prefix_len-parts}
-use Rattle.markdown_scanners_tree.proofs.RunLemmas.{run-scanned, run-only, not_empty, begun_by}
+use Rattle.markdown_scanners_tree.proofs.FrontLemmas.{from_place, list_all-run, prefix_len-parts}
+use Rattle.markdown_scanners_tree.proofs.RunLemmas.{list_all-replicate, replicate-all, run-scanned, run-only, not_empty, begun_by}
 
 -- the run of `#` of a heading has the level's number
-hashes_all : (n : ℕ) → list_all (λ b. b == 35) (replicate n 35) ≡ true
-hashes_all zero = refl
-hashes_all (suc n) = hashes_all n
-
 no_hash : (rest : List ℕ) → ends_or_begins_with is_white_space rest ≡ true → begins_with (λ b. b == 35) rest ≡ false
 no_hash [] ends = refl
 no_hash (b ∷ rest) ends = elim (cases_Bool (b == 35)) [ inl hash ↦ absurd (let space = rw (eqb-true b 35 hash) at ends in cc) | inr other ↦ other ]
@@ -27,22 +23,12 @@ pub atx-only : (bytes : List ℕ) (level : HeadingLevel) → IsAtxHeading bytes 
 atx-only bytes level heading =
     let hashes = replicate (heading_number level) 35 in
     let counted : length hashes ≡ heading_number level = length-replicate (heading_number level) 35 in
-    let run : prefix_len (λ b. b == 35) bytes ≡ length hashes = ap (prefix_len (λ b. b == 35)) heading.parts ∙ prefix_len-parts (λ b. b == 35) hashes heading.rest (hashes_all (heading_number level)) (no_hash heading.rest heading.ends) in
+    let run : prefix_len (λ b. b == 35) bytes ≡ length hashes = ap (prefix_len (λ b. b == 35)) heading.parts ∙ prefix_len-parts (λ b. b == 35) hashes heading.rest (list_all-replicate (λ b. b == 35) (heading_number level) 35 refl) (no_hash heading.rest heading.ends) in
     let rest : drop (prefix_len (λ b. b == 35) bytes) bytes ≡ heading.rest = ap (λ n. drop n bytes) run ∙ ap (drop (length hashes)) heading.parts ∙ drop-append_seam hashes heading.rest in
     (run ∙ counted, ap (ends_or_begins_with is_white_space) rest ∙ heading.ends)
 
 run_is_hashes : (bytes : List ℕ) → take (prefix_len (λ b. b == 35) bytes) bytes ≡ replicate (prefix_len (λ b. b == 35) bytes) 35
-run_is_hashes bytes = all_hashes (take (prefix_len (λ b. b == 35) bytes) bytes) (prefix_len (λ b. b == 35) bytes) (length-prefix_len (λ b. b == 35) bytes) (list_all-run (λ b. b == 35) bytes)
-  where
-    all_hashes : (bytes : List ℕ) (n : ℕ) → length bytes ≡ n → list_all (λ b. b == 35) bytes ≡ true → bytes ≡ replicate n 35
-    all_hashes [] zero counted all = refl
-    all_hashes [] (suc n) counted all = absurd (omega (arith, counted))
-    all_hashes (b ∷ bytes) zero counted all = absurd (omega (arith, counted))
-    all_hashes (b ∷ bytes) (suc n) counted all =
-        let both = both_true (b == 35) (list_all (λ b. b == 35) bytes) all in
-        let hash : b ≡ 35 = eqb-true b 35 both.0 in
-        let tail : bytes ≡ replicate n 35 = all_hashes bytes n (omega (arith, counted)) both.1 in
-        cc
+run_is_hashes bytes = replicate-all 35 (take (prefix_len (λ b. b == 35) bytes) bytes) (list_all-run (λ b. b == 35) bytes) ∙ ap (λ n. replicate n 35) (length-prefix_len (λ b. b == 35) bytes)
 
 pub atx-scanned : (bytes : List ℕ) (run : ℕ) → run ≡ prefix_len (λ b. b == 35) bytes → ends_or_begins_with is_white_space (drop run bytes) ≡ true
     → (level : HeadingLevel) → run ≡ heading_number level → IsAtxHeading bytes level

@@ -1,5 +1,5 @@
 -- Delimiter rows of tables.
-use Rattle.std.proofs.Common.{◌≡◌, ℕ, zero, suc, ◌+◌, ◌-◌, ◌≤◌, ◌<◌, Bool, true, false, not, cond, ◌&&◌, ◌||◌, ◌==◌, List, [], ◌∷◌, ◌++◌, map, length, take, drop, get_or, refl, sym, ap, ◌∙◌, arith, inl, inr, Some, None, one-add, add-one, append_assoc}
+use Rattle.std.proofs.Common.{◌≡◌, ℕ, suc, ◌+◌, ◌-◌, ◌≤◌, ◌<◌, Bool, true, false, not, cond, ◌&&◌, ◌||◌, ◌==◌, List, [], ◌∷◌, ◌++◌, map, length, take, drop, get_or, refl, sym, ap, ◌∙◌, arith, inl, inr, Some, None, one-add, add-one, append_assoc}
 use Rattle.std.specs.List.{prefix_len, list_all, list_any, flat_map, filter}
 use Rattle.std.proofs.lemmas.List.{take-append-drop, length-drop, length-take, drop-drop, append-nil, map-append}
 use Rattle.std.proofs.lemmas.List.Folds.{length-prefix_len}
@@ -17,6 +17,7 @@ use Rattle.markdown_scanners_tree.specs.Bytes.{line_ending}
 use Rattle.markdown_scanners_tree.specs.DelimiterRow.{is_cell_byte, is_cell, alignment, alignment_by, ended, row, counted, counted_last, is_empty, IsCells, AreScanned, IsDelimiterRow}
 use Rattle.markdown_scanners_tree.proofs.FrontLemmas.{from_place, both_true, list_all-run, begins_with-after_run, prefix_len-parts}
 use Rattle.markdown_scanners_tree.proofs.BlankLemmas.{first-line_ending}
+use Rattle.markdown_scanners_tree.proofs.RunLemmas.{not_true, list_all-replicate, replicate-all}
 
 abbrev is_space : ℕ → Bool
 is_space b = b == 32
@@ -259,17 +260,6 @@ not_piped bytes ((b ∷ c) ∷ more) last rest ending are =
     let all = both_true (list_all is_cell_byte (b ∷ c)) (list_any (λ x. x == 45) (b ∷ c)) both.0 in
     rw are.parts (cell_byte_no_pipe b (both_true (is_cell_byte b) (list_all is_cell_byte c) all.0).0)
 
-list_all-replicate : (p : ℕ → Bool) (n b : ℕ) → p b ≡ true → list_all p (replicate n b) ≡ true
-list_all-replicate p zero b passes = refl
-list_all-replicate p (suc n) b passes = rw passes (list_all-replicate p n b passes)
-
-replicate-all : (bytes : List ℕ) → list_all is_space bytes ≡ true → bytes ≡ replicate (length bytes) 32
-replicate-all [] all = refl
-replicate-all (b ∷ bytes) all =
-    let both = both_true (is_space b) (list_all is_space bytes) all in
-    let is : b ≡ 32 = eqb-true b 32 both.0 in
-    rw is (ap (λ x. 32 ∷ x) (replicate-all bytes both.1))
-
 begins_with-append : (p : ℕ → Bool) (front rest : List ℕ) → begins_with p front ≡ false → begins_with p rest ≡ false → begins_with p (front ++ rest) ≡ false
 begins_with-append p [] rest first second = second
 begins_with-append p (b ∷ front) rest first second = first
@@ -297,10 +287,6 @@ IsDelimiterRow-only bytes n alignments it =
     let whole = row_rest it.piped it.cells it.last it.rest in
     (run, rw (run, dropped, whole) (piped_is it.piped (flat_map ended it.cells ++ (it.last ++ it.rest)) (not_piped _ it.cells it.last it.rest it.ending (cells_of _ refl))), rw (run, dropped, whole) (cells_of _ (after_pipe it.piped (flat_map ended it.cells ++ (it.last ++ it.rest)))))
   where
-    not_true : (b : Bool) → not b ≡ true → b ≡ false
-    not_true true h = cc
-    not_true false h = refl
-
     piped_is : (piped : Bool) (flat : List ℕ) → begins_with is_pipe flat ≡ false → begins_with is_pipe (cond piped (124 ∷ []) [] ++ flat) ≡ piped
     piped_is true flat none = refl
     piped_is false flat none = none
@@ -331,7 +317,7 @@ pub IsDelimiterRow-from : (bytes : List ℕ) (piped : Bool) (cells : List (List 
 IsDelimiterRow-from bytes piped cells last rest ending n at_most begins are a_pipe a_hyphen counted_n =
     let k = prefix_len is_space bytes in
     let after : drop (prefix_len is_space bytes) bytes ≡ row piped cells last ++ rest = drop_row piped (drop (prefix_len is_space bytes) bytes) cells last rest begins are.parts in
-    let spaces : take (prefix_len is_space bytes) bytes ≡ replicate (prefix_len is_space bytes) 32 = replicate-all (take (prefix_len is_space bytes) bytes) (list_all-run is_space bytes) ∙ ap (λ m. replicate m 32) (length-prefix_len is_space bytes) in
+    let spaces : take (prefix_len is_space bytes) bytes ≡ replicate (prefix_len is_space bytes) 32 = replicate-all 32 (take (prefix_len is_space bytes) bytes) (list_all-run is_space bytes) ∙ ap (λ m. replicate m 32) (length-prefix_len is_space bytes) in
     let parts : bytes ≡ (replicate (prefix_len is_space bytes) 32 ++ row piped cells last) ++ rest =
     sym (take-append-drop (prefix_len is_space bytes) bytes) ∙ ap (λ x. x ++ drop (prefix_len is_space bytes) bytes) spaces ∙ ap (λ x. replicate (prefix_len is_space bytes) 32 ++ x) after ∙ sym (append_assoc (replicate (prefix_len is_space bytes) 32) (row piped cells last) rest) in
     let stop : begins_with is_space (row piped cells last) ≡ false = begins_with-front is_space (row piped cells last) rest (rw after at (begins_with-after_run is_space bytes)) in

@@ -15,6 +15,7 @@ pub fn scan_hrule(bytes: &[u8]) -> Result<usize, usize>
     ensures absent { IfErr result (λ n. is_thematic_break bytes.now ≡ false) }
     ensures stopped { IfErr result (λ n. n ≡ break_length bytes.now) }
     ensures none_before { IfErr result (λ n. (k : ℕ) → k < n → is_thematic_break (drop k bytes.now) ≡ false) }
+    ensures within { IfOk result (λ n. n ≤ length bytes.now) }
 {
     if bytes.len() < 3 {
         return Err(0);
@@ -53,6 +54,7 @@ fn scan_break_of(bytes: &[u8], marker: u8) -> Result<usize, usize>
     ensures absent { IfErr result (λ n. is_thematic_break bytes.now ≡ false) }
     ensures stopped { IfErr result (λ n. n ≡ break_length bytes.now) }
     ensures none_before { IfErr result (λ n. (k : ℕ) → k < n → is_thematic_break (drop k bytes.now) ≡ false) }
+    ensures within { IfOk result (λ n. n ≤ length bytes.now) }
 {
     let run = scan_break_bytes(bytes, marker);
     let markers = count_of(&bytes[..run], marker);

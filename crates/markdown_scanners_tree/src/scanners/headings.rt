@@ -1,5 +1,6 @@
 //! Headings.
 ghost use Rattle.std.specs.Prelude.{◌≡◌, ◌≤◌, ◌==◌, ℕ, length, Some, IsTrue, IfSome, IfNone};
+ghost use Rattle.markdown_values.specs.Headings.{heading_number};
 ghost use Rattle.markdown_scanners_tree.specs.Bytes.{begins_with, ends_or_begins_with, is_white_space};
 ghost use Rattle.markdown_scanners_tree.specs.HeadingLines.{IsAtxHeading, IsSetextUnderline, underline_byte};
 
@@ -14,6 +15,7 @@ use markdown_values::values::HeadingLevel;
 pub fn scan_atx_heading(data: &[u8]) -> Option<HeadingLevel>
     ensures found { IfSome result (λ level. IsAtxHeading «data».now level) }
     ensures absent { IfNone result ((level : _) → ¬ IsAtxHeading «data».now level) }
+    ensures within { IfSome result (λ level. heading_number level ≤ length «data».now) }
 {
     let run = scan_ch_repeat(data, b'#');
     if !ends_or_begins_with_space(&data[run..]) {

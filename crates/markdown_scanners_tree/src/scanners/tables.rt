@@ -5,7 +5,7 @@ ghost use Rattle.markdown_scanners_tree.specs.Bytes.{begins_with};
 ghost use Rattle.markdown_scanners_tree.specs.DelimiterRow.{is_cell_byte, alignment, alignment_by, counted_last, IsCells, AreScanned, IsDelimiterRow};
 
 use crate::scanners::lines::scan_eol;
-use crate::scanners::runs::{scan_ch, scan_ch_repeat};
+use crate::scanners::runs::{has_byte, scan_ch, scan_ch_repeat};
 use markdown_values::values::Alignment;
 use std::alloc::{AllocError, Global};
 
@@ -36,15 +36,17 @@ pub fn scan_table_head(alloc: Global, data: &[u8]) -> Result<(usize, Vec<Alignme
     }
 }
 
-// A pipe and a hyphen stand in the row.
+// Whether a pipe and a hyphen stand in the row: a cell that a pipe ended has a hyphen.
 fn is_row(piped: bool, ended: bool, hyphen: bool) -> bool
     ensures { result ≡ ((piped || ended) && (ended || hyphen)) }
 {
     (piped || ended) && (ended || hyphen)
 }
 
+// What a scan of a row's cells tells of them.
 #[derive(Drop)]
 struct Cells {
+    // the bytes of the cells, with their pipes and the line ending
     length: usize,
     alignments: Vec<Alignment>,
     // a pipe ended some cell
@@ -53,6 +55,7 @@ struct Cells {
     hyphen: bool,
 }
 
+// The cells of a row after its indent and the pipe in front; None where they are none of a row.
 fn scan_cells(alloc: Global, row: &[u8]) -> Result<Option<Cells>, AllocError>
     ensures { IfOk result (λ r. MatchOption r ((cells : _) (last rest : _) (ending : ℕ) → ¬ IsCells row.now cells last rest ending) (λ c. AreScanned row.now c.length c.alignments.items c.ended c.hyphen × (c.length ≤ length row.now))) }
 {
@@ -123,12 +126,7 @@ fn scan_ended_cell(bytes: &[u8]) -> Option<usize>
     }
 }
 
-fn has_byte(bytes: &[u8], byte: u8) -> bool
-    ensures { result ≡ list_any (λ b. b == byte) bytes.now }
-{
-    bytes.iter().any(|b| *b == byte)
-}
-
+// The alignment that a cell stands for.
 fn alignment_of(cell: &[u8]) -> Alignment
     ensures { result ≡ alignment cell.now }
 {
@@ -141,6 +139,7 @@ fn alignment_of(cell: &[u8]) -> Alignment
     alignment_by(begins, later)
 }
 
+// The alignment by a colon at the front and one later.
 fn alignment_by(begins: bool, later: bool) -> Alignment
     ensures { result ≡ alignment_by begins later }
 {
