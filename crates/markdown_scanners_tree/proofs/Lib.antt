@@ -1,4 +1,5 @@
 pub mod BlankLemmas
+pub mod BlockRows
 pub mod BreakLemmas
 pub mod BreakScan
 pub mod ClassLemmas
