@@ -388,3 +388,14 @@ module _ (bytes : List ℕ) (indent pipe : ℕ) (run : indent ≡ prefix_len is_
         let hyphens : (some_ended || hyphen) ≡ true = rw (scanned.ended_is, scanned.hyphen_is, ← same.0, ← same.1) (hyphen_somewhere it.cells it.last it.a_hyphen) in
         let refused = rw (pipes, hyphens) at test in
         cc
+
+-- a row has at least its pipe
+row_length : (piped : Bool) (cells : List (List ℕ)) (last : List ℕ) → (piped || not (is_empty cells)) ≡ true → 1 ≤ length (row piped cells last)
+row_length true cells last pipe = omega arith
+row_length false [] last pipe = cc
+row_length false (c ∷ cells) last pipe =
+    let joined : length (row false (c ∷ cells) last) ≡ length c + 1 + length (flat_map ended cells) + length last = simp length-append (omega arith) in
+    omega (arith, joined)
+
+pub IsDelimiterRow-some : (bytes : List ℕ) (n : ℕ) (alignments : List Alignment) → IsDelimiterRow bytes n alignments → ¬ (n ≡ 0)
+IsDelimiterRow-some bytes n alignments it none = let some = row_length it.piped it.cells it.last it.a_pipe in let counted = it.length_is in omega (arith, some, counted, none)

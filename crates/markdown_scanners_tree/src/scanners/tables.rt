@@ -17,7 +17,9 @@ const MOST_SPACES: usize = 3;
 ///
 /// The error is want of memory for the alignments. (GitHub Flavored Markdown 0.29, section 4.10.)
 pub fn scan_table_head(alloc: Global, data: &[u8]) -> Result<(usize, Vec<Alignment>), AllocError>
-    ensures row { IfOk result (λ r. IsDelimiterRow «data».now r.0 r.1.items ⊎ (((n : ℕ) (alignments : _) → ¬ IsDelimiterRow «data».now n alignments) × (r.0 ≡ 0) × (r.1.items ≡ []))) }
+    ensures found { IfOk result (λ r. 0 < r.0 → IsDelimiterRow «data».now r.0 r.1.items) }
+    ensures absent { IfOk result (λ r. r.0 ≡ 0 → (n : ℕ) (row : _) → ¬ IsDelimiterRow «data».now n row) }
+    ensures empty { IfOk result (λ r. r.0 ≡ 0 → r.1.items ≡ []) }
     ensures within { IfOk result (λ r. r.0 ≤ length «data».now) }
 {
     let indent = scan_ch_repeat(data, b' ');
