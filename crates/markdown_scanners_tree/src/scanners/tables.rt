@@ -59,7 +59,9 @@ struct Cells {
 
 // The cells of a row after its indent and the pipe in front; None where they are none of a row.
 fn scan_cells(alloc: Global, row: &[u8]) -> Result<Option<Cells>, AllocError>
-    ensures { IfOk result (λ r. MatchOption r ((cells : _) (last rest : _) (ending : ℕ) → ¬ IsCells row.now cells last rest ending) (λ c. AreScanned row.now c.length c.alignments.items c.ended c.hyphen × (c.length ≤ length row.now))) }
+    ensures found { IfOk result (λ r. IfSome r (λ c. AreScanned row.now c.length c.alignments.items c.ended c.hyphen)) }
+    ensures absent { IfOk result (λ r. IfNone r ((cells : _) (last rest : _) (ending : ℕ) → ¬ IsCells row.now cells last rest ending)) }
+    ensures within { IfOk result (λ r. IfSome r (λ c. c.length ≤ length row.now)) }
 {
     let mut alignments = Vec::new(alloc);
     let mut i = 0;
@@ -117,7 +119,9 @@ fn scan_cell_bytes(bytes: &[u8]) -> usize
 
 // The length of that front, where a pipe ends it.
 fn scan_ended_cell(bytes: &[u8]) -> Option<usize>
-    ensures some { IfSome result (λ n. (n ≡ prefix_len is_cell_byte bytes.now) × (n < length bytes.now) × IsTrue (begins_with (λ b. b == 124) (drop n bytes.now))) }
+    ensures run { IfSome result (λ n. n ≡ prefix_len is_cell_byte bytes.now) }
+    ensures inside { IfSome result (λ n. n < length bytes.now) }
+    ensures piped { IfSome result (λ n. IsTrue (begins_with (λ b. b == 124) (drop n bytes.now))) }
     ensures none { IfNone result (begins_with (λ b. b == 124) (drop (prefix_len is_cell_byte bytes.now) bytes.now) ≡ false) }
 {
     let n = scan_cell_bytes(bytes);
