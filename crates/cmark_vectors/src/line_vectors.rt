@@ -59,13 +59,48 @@ fn assert_steps(rt: &impl Abort, line: &[u8], steps: &[Step]) {
 }
 
 #[test]
-fn answers_as_the_original(rt: HostRuntime) {
-    for (line, steps) in LINES {
+fn answers_as_the_original_on_the_first_lines(rt: HostRuntime) {
+    for (line, steps) in FIRST_LINES {
         assert_steps(&rt, line, steps);
     }
 }
 
-const LINES: [(&[u8], &[Step]); 120] = [
+#[test]
+fn answers_as_the_original_on_the_second_lines(rt: HostRuntime) {
+    for (line, steps) in SECOND_LINES {
+        assert_steps(&rt, line, steps);
+    }
+}
+
+#[test]
+fn answers_as_the_original_on_the_third_lines(rt: HostRuntime) {
+    for (line, steps) in THIRD_LINES {
+        assert_steps(&rt, line, steps);
+    }
+}
+
+#[test]
+fn answers_as_the_original_on_the_fourth_lines(rt: HostRuntime) {
+    for (line, steps) in FOURTH_LINES {
+        assert_steps(&rt, line, steps);
+    }
+}
+
+#[test]
+fn answers_as_the_original_on_the_fifth_lines(rt: HostRuntime) {
+    for (line, steps) in FIFTH_LINES {
+        assert_steps(&rt, line, steps);
+    }
+}
+
+#[test]
+fn answers_as_the_original_on_the_sixth_lines(rt: HostRuntime) {
+    for (line, steps) in SIXTH_LINES {
+        assert_steps(&rt, line, steps);
+    }
+}
+
+const FIRST_LINES: [(&[u8], &[Step]); 20] = [
     (
         b"-    .*---x#[!tip]\n#2\t",
         &[
@@ -241,8 +276,12 @@ const LINES: [(&[u8], &[Step]); 120] = [
             (Call::List(9), Answer::List(None), 0, 0),
             (Call::Eol, Answer::Flag(true), 0, 0),
         ],
+];
+
+const SECOND_LINES: [(&[u8], &[Step]); 20] = [
     ),
-    (b">-\x0c", &[(Call::List(0), Answer::List(None), 0, 0)]),
+    (b">-\x0c", &[(Call::List(0), Answer::List(None), 0, 0)],
+    ),
     (
         b"\t.[!tip]\n _> \t:-     \x0b#\t19\r*:\t",
         &[
@@ -338,7 +377,8 @@ const LINES: [(&[u8], &[Step]); 120] = [
             (Call::List(1), Answer::List(None), 3, 0),
         ],
     ),
-    (b"", &[(Call::AllSpace, Answer::Nothing, 0, 0)]),
+    (b"", &[(Call::AllSpace, Answer::Nothing, 0, 0)],
+    ),
     (
         b"",
         &[
@@ -415,6 +455,9 @@ const LINES: [(&[u8], &[Step]); 120] = [
             (Call::List(4), Answer::List(None), 0, 0),
             (Call::List(3), Answer::List(None), 0, 0),
         ],
+];
+
+const THIRD_LINES: [(&[u8], &[Step]); 20] = [
     ),
     (
         b"-- [!tip]\nx:\t[!NOTE]- - 1. 1__a.1#- a\x0c",
@@ -617,6 +660,9 @@ const LINES: [(&[u8], &[Step]); 120] = [
             (Call::Tag, Answer::Tag(None), 0, 0),
             (Call::Task, Answer::Task(None), 0, 0),
         ],
+];
+
+const FOURTH_LINES: [(&[u8], &[Step]); 20] = [
     ),
     (
         b"",
@@ -803,6 +849,9 @@ const LINES: [(&[u8], &[Step]); 120] = [
             (Call::AllSpace, Answer::Nothing, 0, 0),
             (Call::Definition(1), Answer::Definition(None), 0, 0),
         ],
+];
+
+const FIFTH_LINES: [(&[u8], &[Step]); 20] = [
     ),
     (
         b"\n\x0b 1a    :\r)",
@@ -904,7 +953,8 @@ const LINES: [(&[u8], &[Step]); 120] = [
             (Call::List(1), Answer::List(None), 0, 0),
         ],
     ),
-    (b"", &[(Call::Quote, Answer::Flag(false), 0, 0)]),
+    (b"", &[(Call::Quote, Answer::Flag(false), 0, 0)],
+    ),
     (
         b"---91. a]]*- \r\n\r\n\r\n---9+.\n\r\n- ",
         &[
@@ -982,6 +1032,9 @@ const LINES: [(&[u8], &[Step]); 120] = [
             (Call::Upto(5), Answer::Count(0), 0, 0),
             (Call::Tag, Answer::Tag(None), 0, 0),
         ],
+];
+
+const SIXTH_LINES: [(&[u8], &[Step]); 20] = [
     ),
     (
         b"",
@@ -1049,8 +1102,10 @@ const LINES: [(&[u8], &[Step]); 120] = [
             (Call::Eol, Answer::Flag(true), 0, 0),
         ],
     ),
-    (b")---", &[(Call::List(2), Answer::List(None), 0, 0)]),
-    (b"1. ]", &[(Call::Tag, Answer::Tag(None), 0, 0)]),
+    (b")---", &[(Call::List(2), Answer::List(None), 0, 0)],
+    ),
+    (b"1. ]", &[(Call::Tag, Answer::Tag(None), 0, 0)],
+    ),
     (
         b"",
         &[
@@ -1162,5 +1217,4 @@ const LINES: [(&[u8], &[Step]); 120] = [
             (Call::Space(5), Answer::Flag(false), 2, 0),
             (Call::Task, Answer::Task(None), 2, 0),
         ],
-    ),
 ];

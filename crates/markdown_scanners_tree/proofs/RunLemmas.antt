@@ -1,5 +1,5 @@
 -- Runs of one byte, fronts before a line ending, and the lines that begin with a run.
-use Rattle.std.proofs.Common.{◌≡◌, ◌⊎◌, ℕ, ◌+◌, ◌-◌, ◌≤◌, ◌<◌, Bool, true, false, not, ◌==◌, List, [], ◌∷◌, ◌++◌, length, take, drop, refl, sym, ap, subst, ◌∙◌, arith, inl, inr, Option, Some, None, nat_eq}
+use Rattle.std.proofs.Common.{◌≡◌, ◌⊎◌, ℕ, ◌+◌, ◌-◌, ◌≤◌, ◌<◌, Bool, true, false, not, ◌==◌, List, [], ◌∷◌, ◌++◌, length, take, drop, refl, sym, ap, subst, ◌∙◌, arith, inl, inr, Option, Some, None, nat_eq, zero, suc, replicate}
 use Rattle.std.specs.List.{prefix_len, list_all}
 use Rattle.std.specs.Option.{IfNone}
 use Rattle.std.proofs.lemmas.Bool.{cases_Bool, eqb-true}
@@ -11,7 +11,7 @@ use Rattle.markdown_scanners_tree.specs.Bytes.{begins_with, line_ending}
 use Rattle.markdown_scanners_tree.specs.Lines.{IsRunOf}
 use Rattle.markdown_scanners_tree.specs.CodeFence.{IsFenceClose, IsClosingCodeFence, is_space_or_tab, IsCodeFence, is_fence_byte, has_backtick_in_line}
 use Rattle.markdown_scanners_tree.specs.Metadata.{is_closing_byte, IsLineOfThree, IsClosingMetadataBlock}
-use Rattle.markdown_scanners_tree.proofs.FrontLemmas.{from_place, list_all-run, begins_with-after_run, prefix_len-parts}
+use Rattle.markdown_scanners_tree.proofs.FrontLemmas.{from_place, both_true, list_all-run, begins_with-after_run, prefix_len-parts}
 use Rattle.markdown_scanners_tree.proofs.BlankLemmas.{first-line_ending}
 
 pub not_true : (b : Bool) → not b ≡ true → b ≡ false
@@ -24,6 +24,19 @@ not_false b h = rw h refl
 pub IfNone-map : {T A B : Type 0} (result : Option T) → (A → B) → IfNone result A → IfNone result B
 IfNone-map None f a = f a
 IfNone-map (Some x) f a = tt
+
+-- a list of one byte
+pub list_all-replicate : (p : ℕ → Bool) (n b : ℕ) → p b ≡ true → list_all p (replicate n b) ≡ true
+list_all-replicate p zero b passes = refl
+list_all-replicate p (suc n) b passes = rw passes (list_all-replicate p n b passes)
+
+pub replicate-all : (byte : ℕ) (bytes : List ℕ) → list_all (λ b. b == byte) bytes ≡ true → bytes ≡ replicate (length bytes) byte
+replicate-all byte [] all = refl
+replicate-all byte (b ∷ bytes) all =
+    let both = both_true (b == byte) (list_all (λ x. x == byte) bytes) all in
+    let is : b ≡ byte = eqb-true b byte both.0 in
+    let tail : bytes ≡ replicate (length bytes) byte = replicate-all byte bytes both.1 in
+    cc
 
 -- A run is the longest front of its byte.
 module _ (byte : ℕ) (bytes : List ℕ) where

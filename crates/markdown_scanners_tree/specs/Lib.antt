@@ -3,6 +3,8 @@ pub mod Bytes
 pub mod Classes
 pub mod CodeFence
 pub mod Columns
+pub mod DelimiterRow
+pub mod HeadingLines
 pub mod Indent
 pub mod LineOutcome
 pub mod LineState

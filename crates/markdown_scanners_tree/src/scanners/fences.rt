@@ -5,8 +5,7 @@ ghost use Rattle.markdown_scanners_tree.specs.Bytes.{begins_with};
 ghost use Rattle.markdown_scanners_tree.specs.CodeFence.{IsCodeFence, IsClosingCodeFence, is_fence_byte, is_space_or_tab, has_backtick_in_line};
 
 use crate::scanners::lines::{scan_eol, scan_to_line_feed};
-use crate::scanners::runs::scan_ch_repeat;
-use memchr::memchr;
+use crate::scanners::runs::{has_byte, scan_ch_repeat};
 
 /// The number of fence bytes of an opening code fence at the front, and that byte.
 ///
@@ -47,7 +46,7 @@ fn has_backtick(bytes: &[u8]) -> bool
     ensures { result ≡ has_backtick_in_line bytes.now }
 {
     let line = &bytes[..scan_to_line_feed(bytes)];
-    memchr(b'`', line).is_some()
+    has_byte(line, b'`')
 }
 
 /// The length in bytes of a closing code fence at the front, without the line ending.

@@ -45,7 +45,7 @@ fn begins_with_bullet(bytes: &[u8]) -> bool
     matches!(bytes, [b'-' | b'+' | b'*', ..])
 }
 
-// The same, where no bullet stands at the front.
+// The same as `scan_marker`, where no bullet stands at the front.
 fn scan_ordered_marker(bytes: &[u8]) -> Option<(usize, u8, usize)>
     requires no_bullet { begins_with is_bullet bytes.now ≡ false }
     ensures found { IfSome result (λ r. IsListMarker (take r.0 bytes.now) r.1 r.2) }

@@ -1,10 +1,11 @@
 //! Runs of bytes at the front or the back.
 ghost use Rattle.std.specs.Prelude.{◌≡◌, ◌≤◌, ◌==◌, length, reverse, if◌then◌else◌};
-ghost use Rattle.std.specs.List.{prefix_len};
+ghost use Rattle.std.specs.List.{prefix_len, list_any};
 ghost use Rattle.markdown_scanners_tree.specs.Bytes.{begins_with, is_white_space_in_line};
 ghost use Rattle.markdown_scanners_tree.specs.Accepted.{IsAccepted};
 
 use crate::scanners::classes::is_ascii_whitespace_no_nl;
+use memchr::memchr;
 
 /// 1 where the first byte is `c`, else 0.
 pub fn scan_ch(data: &[u8], c: u8) -> usize
@@ -22,7 +23,8 @@ pub fn scan_ch(data: &[u8], c: u8) -> usize
 /// `f` is asked once for each byte, in order, and no more after it has refused one.
 pub fn scan_while<F: FnMut(u8) -> bool>(data: &[u8], mut f: F) -> usize
     requires { F.IsAlwaysCallable f }
-    ensures { IsAccepted (λ p b r q. F.step p b r q) f «data».now result }
+    ensures accepted { IsAccepted (λ p b r q. F.step p b r q) f «data».now result }
+    ensures within { result ≤ length «data».now }
 {
     let mut count = 0;
     while count < data.len() {
@@ -39,7 +41,8 @@ pub fn scan_while<F: FnMut(u8) -> bool>(data: &[u8], mut f: F) -> usize
 /// `f` is asked once for each byte, from the last one on, and no more after it has refused one.
 pub fn scan_rev_while<F: FnMut(u8) -> bool>(data: &[u8], mut f: F) -> usize
     requires { F.IsAlwaysCallable f }
-    ensures { IsAccepted (λ p b r q. F.step p b r q) f (reverse «data».now) result }
+    ensures accepted { IsAccepted (λ p b r q. F.step p b r q) f (reverse «data».now) result }
+    ensures within { result ≤ length «data».now }
 {
     let mut count = 0;
     while count < data.len() {
@@ -67,4 +70,11 @@ pub fn scan_whitespace_no_nl(data: &[u8]) -> usize
     data.iter()
         .take_while(|b| is_ascii_whitespace_no_nl(**b))
         .count()
+}
+
+// Whether the byte stands somewhere in the bytes.
+pub(in crate::scanners) fn has_byte(bytes: &[u8], byte: u8) -> bool
+    ensures { result ≡ list_any (λ b. b == byte) bytes.now }
+{
+    memchr(byte, bytes).is_some()
 }

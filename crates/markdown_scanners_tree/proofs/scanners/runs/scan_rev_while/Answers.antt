@@ -12,8 +12,8 @@ loop-count-preserved g c =
     let called : goal.F-step g c.loop-count.f (get_or (reverse c.args.«data».now) c.loop-count.count 0) true c.f.new.self = rw (get_or-reverse c.args.«data».now c.loop-count.count 0 inside) (search of_calls) in
     (search (rules, of_calls), omega arith, rw (take_more (reverse c.args.«data».now) c.loop-count.count 0 below) (FoldsTo-push (λ p b q. goal.F-step g p b true q) _ _ _ _ _ before.2 called))
 
-pub returns : goal.returns
-returns g c =
+pub returns-clause-accepted : goal.returns-clause-accepted
+returns-clause-accepted g c =
     let before = c.loop-count.invariant in
     record {
       front = take c.loop-count.count (reverse c.args.«data».now);
@@ -25,8 +25,8 @@ returns g c =
       refused = rw (drop_all c.loop-count.count (reverse c.args.«data».now) (omega (arith, length-reverse c.args.«data».now))) tt;
     }
 
-pub returns-then-not-f : goal.returns-then-not-f
-returns-then-not-f g c =
+pub returns-then-not-f-clause-accepted : goal.returns-then-not-f-clause-accepted
+returns-then-not-f-clause-accepted g c =
     let before = c.loop-count.invariant in
     let inside : c.loop-count.count < length c.args.«data».now = omega arith in
     let below : c.loop-count.count < length (reverse c.args.«data».now) = omega (arith, inside, length-reverse c.args.«data».now) in

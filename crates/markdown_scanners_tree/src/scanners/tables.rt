@@ -1,0 +1,158 @@
+//! The delimiter row of a table.
+ghost use Rattle.std.specs.Prelude.{◌≡◌, ◌+◌, ◌<◌, ◌≤◌, ◌⊎◌, ◌==◌, ℕ, [], ◌∷◌, length, drop, ◌++◌, map, IsTrue, MatchOption, false, not, ◌||◌, ◌&&◌, OnOk, IfSome, IfNone, IfOk, if◌then◌else◌};
+ghost use Rattle.std.specs.List.{prefix_len, list_any};
+ghost use Rattle.markdown_scanners_tree.specs.Bytes.{begins_with};
+ghost use Rattle.markdown_scanners_tree.specs.DelimiterRow.{is_cell_byte, alignment, alignment_by, counted_last, IsCells, AreScanned, IsDelimiterRow};
+
+use crate::scanners::lines::scan_eol;
+use crate::scanners::runs::{has_byte, scan_ch, scan_ch_repeat};
+use markdown_values::values::Alignment;
+use std::alloc::{AllocError, Global};
+
+// How many spaces may stand before a row.
+const MOST_SPACES: usize = 3;
+
+/// The length in bytes of a table's delimiter row at the front, with its line ending, and the
+/// alignment of each of its columns; 0 and no alignments where no such row stands there.
+///
+/// The error is want of memory for the alignments. (GitHub Flavored Markdown 0.29, section 4.10.)
+pub fn scan_table_head(alloc: Global, data: &[u8]) -> Result<(usize, Vec<Alignment>), AllocError>
+    ensures found { IfOk result (λ r. 0 < r.0 → IsDelimiterRow «data».now r.0 r.1.items) }
+    ensures absent { IfOk result (λ r. r.0 ≡ 0 → (n : ℕ) (row : _) → ¬ IsDelimiterRow «data».now n row) }
+    ensures empty { IfOk result (λ r. r.0 ≡ 0 → r.1.items ≡ []) }
+    ensures within { IfOk result (λ r. r.0 ≤ length «data».now) }
+{
+    let indent = scan_ch_repeat(data, b' ');
+    if indent > MOST_SPACES {
+        return Ok((0, Vec::new(alloc)));
+    }
+    let piped = scan_ch(&data[indent..], b'|');
+    let start = indent + piped;
+    let Some(cells) = scan_cells(alloc, &data[start..])? else {
+        return Ok((0, Vec::new(alloc)));
+    };
+    if is_row(piped == 1, cells.ended, cells.hyphen) {
+        Ok((start + cells.length, cells.alignments))
+    } else {
+        Ok((0, Vec::new(alloc)))
+    }
+}
+
+// Whether a pipe and a hyphen stand in the row: a cell that a pipe ended has a hyphen.
+fn is_row(piped: bool, ended: bool, hyphen: bool) -> bool
+    ensures { result ≡ ((piped || ended) && (ended || hyphen)) }
+{
+    (piped || ended) && (ended || hyphen)
+}
+
+// What a scan of a row's cells tells of them.
+#[derive(Drop)]
+struct Cells {
+    // the bytes of the cells, with their pipes and the line ending
+    length: usize,
+    alignments: Vec<Alignment>,
+    // a pipe ended some cell
+    ended: bool,
+    // the last cell has a hyphen
+    hyphen: bool,
+}
+
+// The cells of a row after its indent and the pipe in front; None where they are none of a row.
+fn scan_cells(alloc: Global, row: &[u8]) -> Result<Option<Cells>, AllocError>
+    ensures found { IfOk result (λ r. IfSome r (λ c. AreScanned row.now c.length c.alignments.items c.ended c.hyphen)) }
+    ensures absent { IfOk result (λ r. IfNone r ((cells : _) (last rest : _) (ending : ℕ) → ¬ IsCells row.now cells last rest ending)) }
+    ensures within { IfOk result (λ r. IfSome r (λ c. c.length ≤ length row.now)) }
+{
+    let mut alignments = Vec::new(alloc);
+    let mut i = 0;
+    while let Some(len) = scan_ended_cell(&row[i..]) {
+        let cell = &row[i..i + len];
+        if !has_byte(cell, b'-') {
+            return Ok(None);
+        }
+        alignments.push(alignment_of(cell))?;
+        i += len + 1;
+    }
+    let ended = !alignments.is_empty();
+    let len = scan_cell_bytes(&row[i..]);
+    let last = &row[i..i + len];
+    let Some(ending) = scan_eol(&row[i + len..]) else {
+        return Ok(None);
+    };
+    let hyphen = has_byte(last, b'-');
+    push_last(&mut alignments, last)?;
+    Ok(Some(Cells {
+        length: i + len + ending,
+        alignments,
+        ended,
+        hyphen,
+    }))
+}
+
+// Adds the alignment of a last cell that counts.
+fn push_last(alignments: &mut Vec<Alignment>, last: &[u8]) -> Result<(), AllocError>
+    ensures { OnOk result (alignments.new.items ≡ alignments.old.items ++ map alignment (counted_last last.now)) }
+{
+    if counts(last) {
+        alignments.push(alignment_of(last))?;
+    }
+    Ok(())
+}
+
+// Whether the last cell has a byte that is no space.
+fn counts(last: &[u8]) -> bool
+    ensures { result ≡ list_any (λ b. not (b == 32)) last.now }
+{
+    last.iter().any(|b| *b != b' ')
+}
+
+// The length of the longest front of bytes of a cell.
+fn scan_cell_bytes(bytes: &[u8]) -> usize
+    ensures run { result ≡ prefix_len is_cell_byte bytes.now }
+    ensures within { result ≤ length bytes.now }
+{
+    bytes
+        .iter()
+        .take_while(|b| **b == b' ' || **b == b':' || **b == b'-')
+        .count()
+}
+
+// The length of that front, where a pipe ends it.
+fn scan_ended_cell(bytes: &[u8]) -> Option<usize>
+    ensures run { IfSome result (λ n. n ≡ prefix_len is_cell_byte bytes.now) }
+    ensures inside { IfSome result (λ n. n < length bytes.now) }
+    ensures piped { IfSome result (λ n. IsTrue (begins_with (λ b. b == 124) (drop n bytes.now))) }
+    ensures none { IfNone result (begins_with (λ b. b == 124) (drop (prefix_len is_cell_byte bytes.now) bytes.now) ≡ false) }
+{
+    let n = scan_cell_bytes(bytes);
+    if n < bytes.len() && bytes[n] == b'|' {
+        Some(n)
+    } else {
+        None
+    }
+}
+
+// The alignment that a cell stands for.
+fn alignment_of(cell: &[u8]) -> Alignment
+    ensures { result ≡ alignment cell.now }
+{
+    let i = scan_ch_repeat(cell, b' ');
+    if i == cell.len() {
+        return Alignment::None;
+    }
+    let begins = cell[i] == b':';
+    let later = has_byte(&cell[i + 1..], b':');
+    alignment_by(begins, later)
+}
+
+// The alignment by a colon at the front and one later.
+fn alignment_by(begins: bool, later: bool) -> Alignment
+    ensures { result ≡ alignment_by begins later }
+{
+    match (begins, later) {
+        (false, false) => Alignment::None,
+        (true, false) => Alignment::Left,
+        (false, true) => Alignment::Right,
+        (true, true) => Alignment::Center,
+    }
+}
