@@ -276,12 +276,11 @@ const FIRST_LINES: [(&[u8], &[Step]); 20] = [
             (Call::List(9), Answer::List(None), 0, 0),
             (Call::Eol, Answer::Flag(true), 0, 0),
         ],
+    ),
 ];
 
 const SECOND_LINES: [(&[u8], &[Step]); 20] = [
-    ),
-    (b">-\x0c", &[(Call::List(0), Answer::List(None), 0, 0)],
-    ),
+    (b">-\x0c", &[(Call::List(0), Answer::List(None), 0, 0)]),
     (
         b"\t.[!tip]\n _> \t:-     \x0b#\t19\r*:\t",
         &[
@@ -377,8 +376,7 @@ const SECOND_LINES: [(&[u8], &[Step]); 20] = [
             (Call::List(1), Answer::List(None), 3, 0),
         ],
     ),
-    (b"", &[(Call::AllSpace, Answer::Nothing, 0, 0)],
-    ),
+    (b"", &[(Call::AllSpace, Answer::Nothing, 0, 0)]),
     (
         b"",
         &[
@@ -455,10 +453,10 @@ const SECOND_LINES: [(&[u8], &[Step]); 20] = [
             (Call::List(4), Answer::List(None), 0, 0),
             (Call::List(3), Answer::List(None), 0, 0),
         ],
+    ),
 ];
 
 const THIRD_LINES: [(&[u8], &[Step]); 20] = [
-    ),
     (
         b"-- [!tip]\nx:\t[!NOTE]- - 1. 1__a.1#- a\x0c",
         &[
@@ -660,10 +658,10 @@ const THIRD_LINES: [(&[u8], &[Step]); 20] = [
             (Call::Tag, Answer::Tag(None), 0, 0),
             (Call::Task, Answer::Task(None), 0, 0),
         ],
+    ),
 ];
 
 const FOURTH_LINES: [(&[u8], &[Step]); 20] = [
-    ),
     (
         b"",
         &[
@@ -849,10 +847,10 @@ const FOURTH_LINES: [(&[u8], &[Step]); 20] = [
             (Call::AllSpace, Answer::Nothing, 0, 0),
             (Call::Definition(1), Answer::Definition(None), 0, 0),
         ],
+    ),
 ];
 
 const FIFTH_LINES: [(&[u8], &[Step]); 20] = [
-    ),
     (
         b"\n\x0b 1a    :\r)",
         &[
@@ -953,8 +951,7 @@ const FIFTH_LINES: [(&[u8], &[Step]); 20] = [
             (Call::List(1), Answer::List(None), 0, 0),
         ],
     ),
-    (b"", &[(Call::Quote, Answer::Flag(false), 0, 0)],
-    ),
+    (b"", &[(Call::Quote, Answer::Flag(false), 0, 0)]),
     (
         b"---91. a]]*- \r\n\r\n\r\n---9+.\n\r\n- ",
         &[
@@ -1032,10 +1029,10 @@ const FIFTH_LINES: [(&[u8], &[Step]); 20] = [
             (Call::Upto(5), Answer::Count(0), 0, 0),
             (Call::Tag, Answer::Tag(None), 0, 0),
         ],
+    ),
 ];
 
 const SIXTH_LINES: [(&[u8], &[Step]); 20] = [
-    ),
     (
         b"",
         &[(Call::Definition(4), Answer::Definition(None), 0, 0)],
@@ -1102,10 +1099,8 @@ const SIXTH_LINES: [(&[u8], &[Step]); 20] = [
             (Call::Eol, Answer::Flag(true), 0, 0),
         ],
     ),
-    (b")---", &[(Call::List(2), Answer::List(None), 0, 0)],
-    ),
-    (b"1. ]", &[(Call::Tag, Answer::Tag(None), 0, 0)],
-    ),
+    (b")---", &[(Call::List(2), Answer::List(None), 0, 0)]),
+    (b"1. ]", &[(Call::Tag, Answer::Tag(None), 0, 0)]),
     (
         b"",
         &[
@@ -1217,4 +1212,5 @@ const SIXTH_LINES: [(&[u8], &[Step]); 20] = [
             (Call::Space(5), Answer::Flag(false), 2, 0),
             (Call::Task, Answer::Task(None), 2, 0),
         ],
+    ),
 ];

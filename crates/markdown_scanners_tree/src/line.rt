@@ -307,7 +307,7 @@ impl<'a> LineStart<'a> {
             return columns;
         }
         *self = before;
-        self.scan_space(1);
+        self.scan_space_upto(1);
         1
     }
 
