@@ -218,6 +218,7 @@ impl<'a> LineStart<'a> {
         requires { indent ≤ usize.MAX - 16 }
         ensures answer { result ≡ (item_outcome indent self.old).answer }
         ensures state { self.new ≡ (item_outcome indent self.old).state }
+        ensures unchanged { IfNone result (self.new ≡ self.old) }
         ensures step { self.old.pending ≡ 0 → IsPlainStep (LineCall.List indent) (LineAnswer.List result) self.old self.new }
     {
         let (width, delimiter, start) = self.list_marker()?;
@@ -242,6 +243,7 @@ impl<'a> LineStart<'a> {
         requires { indent ≤ usize.MAX - 16 }
         ensures answer { result ≡ (definition_outcome indent self.old).answer }
         ensures state { self.new ≡ (definition_outcome indent self.old).state }
+        ensures unchanged { IfNone result (self.new ≡ self.old) }
         ensures step { self.old.pending ≡ 0 → IsPlainStep (LineCall.Definition indent) (LineAnswer.Definition result) self.old self.new }
     {
         if self.next_byte() != Some(b':') {
@@ -338,6 +340,7 @@ impl<'a> LineStart<'a> {
     pub fn scan_task_list_marker(&mut self) -> Option<bool>
         ensures answer { result ≡ (task_outcome self.old).answer }
         ensures state { self.new ≡ (task_outcome self.old).state }
+        ensures unchanged { IfNone result (self.new ≡ self.old) }
     {
         let before = self.copy();
         self.scan_space(3);
@@ -353,6 +356,7 @@ impl<'a> LineStart<'a> {
     pub fn scan_blockquote_tag(&mut self) -> Option<BlockQuoteKind>
         ensures answer { result ≡ (tag_outcome self.old).answer }
         ensures state { self.new ≡ (tag_outcome self.old).state }
+        ensures unchanged { IfNone result (self.new ≡ self.old) }
     {
         let (kind, length) = scan_tag(&self.bytes[self.place..])?;
         self.pass_bytes(length);
