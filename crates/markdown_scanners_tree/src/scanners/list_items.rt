@@ -10,6 +10,9 @@ use crate::scanners::classes::is_ascii_digit;
 use crate::scanners::indent::calc_indent;
 use crate::scanners::lines::scan_blank_line;
 
+// How many digits the number of an ordered list item may have.
+const MOST_DIGITS: usize = 9;
+
 /// A list item at the front: the length in bytes of its marker with the space that belongs to
 /// it, its bullet or delimiter, its start number (0 for a bullet), and its indent in columns.
 ///
@@ -53,7 +56,7 @@ fn scan_ordered_marker(bytes: &[u8]) -> Option<(usize, u8, usize)>
     ensures within { IfSome result (λ r. r.0 ≤ length bytes.now) }
 {
     let digits = scan_digits(bytes);
-    if digits == 0 || digits > 9 {
+    if digits == 0 || digits > MOST_DIGITS {
         return None;
     }
     if digits == bytes.len() || !is_delimiter_byte(bytes[digits]) {

@@ -4,14 +4,14 @@ use Rattle.markdown_scanners_tree.specs.ListMarker.{is_delimiter}
 use Rattle.markdown_scanners_tree.proofs.FrontLemmas.{list_all-run}
 use Rattle.markdown_scanners_tree.proofs.ListItemLemmas.{ordered-taken, ordered-scanned}
 use Rattle.markdown_scanners_tree.proofs.scanners.list_items.scan_ordered_marker.Goals as goal
-use Rattle.markdown_scanners_tree.proofs.scanners.list_items.scan_ordered_marker.Goals.{then-digits-eq0-via-then-digits-eq0, then-digits-eq0-via-else-digits-eq0+then-digits-gt9, then-digits-bytes-via-then-digits-bytes, then-digits-bytes-via-else-digits-bytes+then-not-is_delimiter_byte}
+use Rattle.markdown_scanners_tree.proofs.scanners.list_items.scan_ordered_marker.Goals.{then-digits-eq0-via-then-digits-eq0, then-digits-eq0-via-else-digits-eq0+then-digits-gt-MOST_DIGITS, then-digits-bytes-via-then-digits-bytes, then-digits-bytes-via-else-digits-bytes+then-not-is_delimiter_byte}
 
 pub returns-then-digits-eq0-clause-absent : goal.returns-then-digits-eq0-clause-absent
 returns-then-digits-eq0-clause-absent c n delimiter start marker =
     let taken = ordered-taken c.args.bytes.now n delimiter start c.scan_digits-digits.result c.scan_digits-digits.ensures.run c.requires.no_bullet marker in
     elim c.then-digits-eq0.branch [
       | then-digits-eq0-via-then-digits-eq0 w ↦ omega (arith, w.if-digits-eq0.true, taken.0)
-      | then-digits-eq0-via-else-digits-eq0+then-digits-gt9 w ↦ omega (arith, w.if-digits-gt9.true, taken.1)
+      | then-digits-eq0-via-else-digits-eq0+then-digits-gt-MOST_DIGITS w ↦ omega (arith, w.if-digits-gt-MOST_DIGITS.true, taken.1)
     ]
 
 pub returns-then-digits-bytes-clause-absent : goal.returns-then-digits-bytes-clause-absent
