@@ -5,10 +5,17 @@ pub mod BreakScan
 pub mod ClassLemmas
 pub mod ColumnLemmas
 pub mod FrontLemmas
+pub mod GuardsKept
 pub mod HeadLemmas
 pub mod HeadingLemmas
 pub mod IndentLemmas
+pub mod InlineHtmlBudget
+pub mod InlineHtmlOpenings
+pub mod InlineHtmlRows
+pub mod InlineHtmlRuns
+pub mod InlineHtmlScans
 pub mod ItemLemmas
+pub mod LeastPlaces
 pub mod LineRows
 pub mod LineRunLemmas
 pub mod ListItemLemmas
@@ -19,4 +26,5 @@ pub mod ScanLemmas
 pub mod SpaceLemmas
 pub mod StepLemmas
 pub mod TagLemmas
+pub mod TrueGuards
 pub mod WrittenLemmas

@@ -3,9 +3,14 @@ pub mod Bytes
 pub mod Classes
 pub mod CodeFence
 pub mod Columns
+pub mod CountedBytes
 pub mod DelimiterRow
 pub mod HeadingLines
 pub mod Indent
+pub mod InlineHtml
+pub mod InlineHtmlGuard
+pub mod InlineHtmlKept
+pub mod InlineHtmlRun
 pub mod LineOutcome
 pub mod LineState
 pub mod Lines

@@ -1,0 +1,209 @@
+//! Scans of inline HTML that begins with `<!` or `<?`: comments, CDATA sections, declarations and processing
+//! instructions (CommonMark 0.31.2, section 6.6). A guard remembers that a search found nothing, so that many
+//! openers cost hardly more than one.
+ghost use Rattle.std.specs.Prelude.{◌≡◌, ◌≤◌, ◌<◌, ◌+◌, ◌*◌, ◌^◌, ℕ, true, length, IsTrue, Some, slice_get};
+ghost use Rattle.markdown_scanners_tree.specs.CountedBytes.{passing};
+ghost use Rattle.markdown_scanners_tree.specs.InlineHtml.{Begins, Declaration, Processing, ends_opener, declared_at, cost};
+ghost use Rattle.markdown_scanners_tree.specs.InlineHtmlGuard.{is_stopped, guarded_answer, guard_after, IsTrueGuard, IsTrueScan};
+
+mod counted_text;
+mod run;
+
+pub use counted_text::CountedText;
+pub use run::{HtmlRun, InlineHtmlRun, run_inline_html};
+
+/// For each kind the place up to which a scan searches for no closer of it: a scan of a comment, a CDATA section
+/// or a declaration below that place, and one of a processing instruction at it or below it. Where a search found no
+/// closer, that is the length of the text. One guard serves one text, at places that rise.
+#[derive(Drop)]
+pub struct HtmlScanGuard {
+    pub comment: usize,
+    pub cdata: usize,
+    pub declaration: usize,
+    pub processing: usize,
+}
+
+/// Why a run refuses a place; the first of these that holds.
+#[derive(Clone, Copy, Debug, PartialEq)]
+pub enum HtmlStop {
+    /// The place is past the end, or not just after `<!` or `<?`.
+    NoOpener,
+    /// The place is not above the last accepted one.
+    NotRising,
+    /// The place is below the end of the last find.
+    InsideFind,
+}
+
+impl HtmlScanGuard {
+    /// The guard to begin a text with: all its places are 0, so it stops no scan that comes after an opener.
+    pub fn new() -> HtmlScanGuard
+        ensures start { result ≡ record { comment = 0; cdata = 0; declaration = 0; processing = 0 } }
+    {
+        HtmlScanGuard {
+            comment: 0,
+            cdata: 0,
+            declaration: 0,
+            processing: 0,
+        }
+    }
+}
+
+/// The place after the comment, CDATA section or declaration that begins at `place`, just after `<!`; None where
+/// none does, or where the guard stops its kind. A guard that is true at `place` stops no piece that is closed, and
+/// is left true at each later place that isn't below the answer. (CommonMark 0.31.2, section 6.6)
+pub fn scan_inline_html_comment(
+    bytes: &[u8],
+    place: usize,
+    guard: &mut HtmlScanGuard,
+) -> Option<usize>
+    ensures answer { result ≡ guarded_answer bytes.now guard.old (declared_at bytes.now place) place }
+    ensures guards { guard.new ≡ guard_after bytes.now guard.old (declared_at bytes.now place) place }
+    ensures finds { IsTrue (ends_opener 33 bytes.now place) → IsTrueGuard bytes.now guard.old place
+        → IsTrueScan bytes.now place result guard.new }
+{
+    let mut text = CountedText::new(bytes);
+    scan_inline_html_comment_counted(&mut text, place, guard)
+}
+
+/// The place after the processing instruction that begins at `place`, just after `<?`; None where it isn't closed,
+/// or where the guard stops its kind. The guard is as in `scan_inline_html_comment`. (CommonMark 0.31.2, section 6.6)
+pub fn scan_inline_html_processing(
+    bytes: &[u8],
+    place: usize,
+    guard: &mut HtmlScanGuard,
+) -> Option<usize>
+    requires within { place ≤ length bytes.now }
+    ensures answer { result ≡ guarded_answer bytes.now guard.old (Begins Processing) place }
+    ensures guards { guard.new ≡ guard_after bytes.now guard.old (Begins Processing) place }
+    ensures finds { IsTrue (ends_opener 63 bytes.now place) → IsTrueGuard bytes.now guard.old place
+        → IsTrueScan bytes.now place result guard.new }
+{
+    let mut text = CountedText::new(bytes);
+    scan_inline_html_processing_counted(&mut text, place, guard)
+}
+
+/// As `scan_inline_html_comment`, over a text that counts the bytes passed over.
+pub fn scan_inline_html_comment_counted(
+    text: &mut CountedText,
+    place: usize,
+    guard: &mut HtmlScanGuard,
+) -> Option<usize>
+    requires room { text.old.passed < 2 ^ 119 }
+    ensures answer { result ≡ guarded_answer text.old.text guard.old (declared_at text.old.text place) place }
+    ensures guards { guard.new ≡ guard_after text.old.text guard.old (declared_at text.old.text place) place }
+    ensures counts { text.new ≡ passing text.old (cost text.old.text (is_stopped guard.old place) (declared_at text.old.text place) place) }
+    ensures finds { IsTrue (ends_opener 33 text.old.text place) → IsTrueGuard text.old.text guard.old place
+        → IsTrueScan text.old.text place result guard.new }
+{
+    match text.look(place) {
+        Some(b'-') => scan_comment(text, place, guard),
+        Some(b'[') => scan_cdata(text, place, guard),
+        Some(byte) if byte.is_ascii_alphabetic() => scan_declaration(text, place, guard),
+        _ => None,
+    }
+}
+
+/// As `scan_inline_html_processing`, over a text that counts the bytes passed over.
+pub fn scan_inline_html_processing_counted(
+    text: &mut CountedText,
+    place: usize,
+    guard: &mut HtmlScanGuard,
+) -> Option<usize>
+    requires room { text.old.passed < 2 ^ 119 }
+    requires within { place ≤ length text.old.text }
+    ensures answer { result ≡ guarded_answer text.old.text guard.old (Begins Processing) place }
+    ensures guards { guard.new ≡ guard_after text.old.text guard.old (Begins Processing) place }
+    ensures counts { text.new ≡ passing text.old (cost text.old.text (is_stopped guard.old place) (Begins Processing) place) }
+    ensures finds { IsTrue (ends_opener 63 text.old.text place) → IsTrueGuard text.old.text guard.old place
+        → IsTrueScan text.old.text place result guard.new }
+{
+    if place <= guard.processing {
+        return None;
+    }
+    match text.find(b"?>", place) {
+        Some(hit) => Some(hit + 2),
+        None => {
+            guard.processing = text.len();
+            None
+        }
+    }
+}
+
+/// The rest of a scan whose first byte, looked at already, is a hyphen.
+fn scan_comment(text: &mut CountedText, place: usize, guard: &mut HtmlScanGuard) -> Option<usize>
+    requires room { text.old.passed < 2 ^ 119 + 1 }
+    requires sized { length text.old.text < 2 ^ 64 }
+    requires stands { slice_get text.old.text place ≡ Some 45 }
+    ensures answer { result ≡ guarded_answer text.old.text guard.old (declared_at text.old.text place) place }
+    ensures guards { guard.new ≡ guard_after text.old.text guard.old (declared_at text.old.text place) place }
+    ensures counts { passing text.new 1 ≡ passing text.old (cost text.old.text (is_stopped guard.old place) (declared_at text.old.text place) place) }
+{
+    if place < guard.comment {
+        return None;
+    }
+    let second = text.look(place + 1);
+    if second != Some(b'-') {
+        return None;
+    }
+    match text.find(b"-->", place) {
+        Some(hit) => {
+            guard.comment = hit + 1;
+            Some(hit + 3)
+        }
+        None => {
+            guard.comment = text.len();
+            None
+        }
+    }
+}
+
+/// The rest of a scan whose first byte, looked at already, is an opening bracket.
+fn scan_cdata(text: &mut CountedText, place: usize, guard: &mut HtmlScanGuard) -> Option<usize>
+    requires room { text.old.passed < 2 ^ 119 + 1 }
+    requires sized { length text.old.text < 2 ^ 64 }
+    requires stands { slice_get text.old.text place ≡ Some 91 }
+    ensures answer { result ≡ guarded_answer text.old.text guard.old (declared_at text.old.text place) place }
+    ensures guards { guard.new ≡ guard_after text.old.text guard.old (declared_at text.old.text place) place }
+    ensures counts { passing text.new 1 ≡ passing text.old (cost text.old.text (is_stopped guard.old place) (declared_at text.old.text place) place) }
+{
+    let begins = text.starts(place + 1, b"CDATA[");
+    if !begins {
+        return None;
+    }
+    if place < guard.cdata {
+        return None;
+    }
+    match text.find(b"]]>", place + 7) {
+        Some(hit) => Some(hit + 3),
+        None => {
+            guard.cdata = text.len();
+            None
+        }
+    }
+}
+
+/// The rest of a scan whose first byte, looked at already, is a letter.
+fn scan_declaration(
+    text: &mut CountedText,
+    place: usize,
+    guard: &mut HtmlScanGuard,
+) -> Option<usize>
+    requires room { text.old.passed < 2 ^ 119 + 1 }
+    requires sized { length text.old.text < 2 ^ 64 }
+    requires stands { declared_at text.old.text place ≡ Begins Declaration }
+    requires within { place < length text.old.text }
+    ensures answer { result ≡ guarded_answer text.old.text guard.old (declared_at text.old.text place) place }
+    ensures guards { guard.new ≡ guard_after text.old.text guard.old (declared_at text.old.text place) place }
+    ensures counts { passing text.new 1 ≡ passing text.old (cost text.old.text (is_stopped guard.old place) (declared_at text.old.text place) place) }
+{
+    if place < guard.declaration {
+        return None;
+    }
+    match text.find(b">", place + 1) {
+        Some(hit) => Some(hit + 1),
+        None => {
+            guard.declaration = text.len();
+            None
+        }
+    }
+}

@@ -1,0 +1,105 @@
+//! A text whose bytes are reached by counted calls alone.
+ghost use Rattle.std.specs.Prelude.{◌≡◌, ◌<◌, ◌+◌, ◌^◌, ◌&&◌, length, slice_get};
+ghost use Rattle.memchr.specs.Find.{FindsNeedle, occurs_at};
+ghost use Rattle.markdown_scanners_tree.specs.CountedBytes.{CountedBytes, passing, searched_bytes};
+ghost use Rattle.markdown_scanners_tree.specs.InlineHtml.{first_place, opener_before};
+
+use memchr::memmem;
+use std::marker::Model;
+
+/// A text, and how many of its bytes were passed over. No call lends the bytes.
+#[derive(Drop)]
+pub struct CountedText<'a> {
+    bytes: &'a [u8],
+    passed: u128,
+}
+
+impl<'a> Model for CountedText<'a> {
+    ghost Value = { CountedBytes };
+
+    ghost view = { λ t. record { text = t.bytes.now; passed = t.passed } };
+}
+
+impl<'a> CountedText<'a> {
+    /// The text of these bytes, of which none was passed over yet.
+    pub fn new(bytes: &'a [u8]) -> CountedText<'a>
+        ensures start { result ≡ record { text = bytes.now; passed = 0 } }
+    {
+        CountedText { bytes, passed: 0 }
+    }
+
+    /// How many bytes the text has.
+    pub fn len(&self) -> usize
+        ensures value { result ≡ length self.now.text }
+    {
+        self.bytes.len()
+    }
+
+    /// How many bytes the counted calls, `look`, `starts` and `find`, have passed over so far.
+    pub fn passed(&self) -> u128
+        ensures value { result ≡ self.now.passed }
+    {
+        self.passed
+    }
+
+    /// The mark, `!` or `?`, of the opener `<!` or `<?` that ends at `place`; None where none does. Nothing is counted.
+    pub fn opener_before(&self, place: usize) -> Option<u8>
+        ensures answer { result ≡ opener_before self.now.text place }
+        ensures sized { length self.now.text < 2 ^ 64 }
+    {
+        if place < 2 || place > self.bytes.len() || self.bytes[place - 2] != b'<' {
+            return None;
+        }
+        match self.bytes[place - 1] {
+            b'!' => Some(b'!'),
+            b'?' => Some(b'?'),
+            _ => None,
+        }
+    }
+
+    /// The byte at `place`, or None at the end of the text and past it. It counts as one byte.
+    pub fn look(&mut self, place: usize) -> Option<u8>
+        requires room { self.old.passed < 2 ^ 120 }
+        ensures answer { result ≡ slice_get self.old.text place }
+        ensures counts { self.new ≡ passing self.old 1 }
+        ensures sized { length self.old.text < 2 ^ 64 }
+    {
+        self.passed += 1;
+        self.bytes.get(place).copied()
+    }
+
+    /// Whether `part` stands at `place`. It counts as the length of `part`, whatever the answer.
+    pub fn starts(&mut self, place: usize, part: &[u8]) -> bool
+        requires room { self.old.passed < 2 ^ 120 }
+        ensures answer { result ≡ occurs_at self.old.text part.now place }
+        ensures counts { self.new ≡ passing self.old (length part.now) }
+    {
+        self.passed += part.len() as u128;
+        place <= self.bytes.len() && self.bytes[place..].starts_with(part)
+    }
+
+    /// The first place from `from` on at which `needle`, which isn't empty, stands; None where it stands at none.
+    /// It counts the bytes from `from` to the end of that needle, or to the end of the text; past that end, none.
+    pub fn find(&mut self, needle: &[u8], from: usize) -> Option<usize>
+        requires some_needle { 0 < length needle.now }
+        requires room { self.old.passed < 2 ^ 120 }
+        ensures answer { result ≡ first_place self.old.text needle.now from }
+        ensures first { FindsNeedle self.old.text needle.now from result }
+        ensures counts { self.new ≡ passing self.old (searched_bytes self.old.text needle.now from result) }
+        ensures sized { length self.old.text < 2 ^ 64 }
+    {
+        if from > self.bytes.len() {
+            return None;
+        }
+        match memmem::find(&self.bytes[from..], needle) {
+            Some(offset) => {
+                self.passed += (offset + needle.len()) as u128;
+                Some(from + offset)
+            }
+            None => {
+                self.passed += (self.bytes.len() - from) as u128;
+                None
+            }
+        }
+    }
+}

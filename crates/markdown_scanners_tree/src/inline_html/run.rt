@@ -1,0 +1,175 @@
+//! Runs of scans of inline HTML over rising places of one text.
+ghost use Rattle.std.specs.Prelude.{◌≡◌, ◌≤◌, ◌<◌, ◌+◌, ◌*◌, ◌^◌, ℕ, length, IfOk, None, Some};
+ghost use Rattle.markdown_scanners_tree.specs.CountedBytes.{passing};
+ghost use Rattle.markdown_scanners_tree.specs.InlineHtml.{cost, opener_before, opening_at};
+ghost use Rattle.markdown_scanners_tree.specs.InlineHtmlGuard.{is_stopped, guarded_answer, guard_after, IsTrueGuard, IsTrueScan};
+ghost use Rattle.markdown_scanners_tree.specs.InlineHtmlRun.{new_run, refusal, answer_of, run_after, run_answers, run_passed, run_stop, IsWithinBudget};
+
+use crate::inline_html::{
+    CountedText, HtmlScanGuard, HtmlStop, scan_inline_html_comment_counted,
+    scan_inline_html_processing_counted,
+};
+use std::alloc::{AllocError, Global};
+use std::marker::Model;
+
+/// A text, and the scans of inline HTML made in it at rising places, outside what earlier scans found. However many
+/// places are tried, the steps pass over at most four bytes for each byte of the text, and eight for each step.
+#[derive(Drop)]
+pub struct InlineHtmlRun<'a> {
+    text: CountedText<'a>,
+    guard: HtmlScanGuard,
+    last: usize,
+    find_end: usize,
+    steps: usize,
+}
+
+impl<'a> Model for InlineHtmlRun<'a> {
+    ghost use Rattle.markdown_scanners_tree.specs.InlineHtmlRun.{Run};
+
+    ghost Value = { Run };
+
+    ghost use Rattle.markdown_scanners_tree.specs.InlineHtmlKept.{run_of, IsKept};
+
+    ghost view = { λ r. run_of r.text r.guard r.last r.find_end r.steps };
+
+    ghost invariant = { λ r. IsKept r.text r.guard r.last r.find_end r.steps };
+}
+
+impl<'a> InlineHtmlRun<'a> {
+    /// A run over these bytes in which no step was made yet.
+    pub fn new(bytes: &'a [u8]) -> InlineHtmlRun<'a>
+        ensures start { result ≡ new_run bytes.now }
+        ensures budget { IsWithinBudget result }
+    {
+        InlineHtmlRun {
+            text: CountedText::new(bytes),
+            guard: HtmlScanGuard::new(),
+            last: 0,
+            find_end: 0,
+            steps: 0,
+        }
+    }
+
+    /// The place after what begins at `place`, just after an opener, or None where nothing does or where it isn't
+    /// closed. A place that is refused leaves the run as it was. (CommonMark 0.31.2, section 6.6)
+    pub fn step(&mut self, place: usize) -> Result<Option<usize>, HtmlStop>
+        ensures answer { result ≡ answer_of self.old place (refusal self.old place) }
+        ensures after { self.new ≡ run_after self.old place (refusal self.old place) }
+        ensures budget { IsWithinBudget self.new }
+    {
+        let mark = match self.text.opener_before(place) {
+            Some(mark) => mark,
+            None => return Err(HtmlStop::NoOpener),
+        };
+        if place <= self.last {
+            return Err(HtmlStop::NotRising);
+        }
+        if place < self.find_end {
+            return Err(HtmlStop::InsideFind);
+        }
+        let found = scan_after(mark, &mut self.text, place, &mut self.guard);
+        self.last = place;
+        self.find_end = found.unwrap_or(self.find_end);
+        self.steps += 1;
+        Ok(found)
+    }
+
+    /// How many bytes the accepted steps passed over.
+    pub fn passed(&self) -> u128
+        ensures value { result ≡ self.now.passed }
+        ensures budget { IsWithinBudget self.now }
+    {
+        self.text.passed()
+    }
+
+    /// How many steps were accepted.
+    pub fn steps(&self) -> usize
+        ensures value { result ≡ self.now.steps }
+        ensures budget { IsWithinBudget self.now }
+    {
+        self.steps
+    }
+}
+
+/// Scans what begins at `place`, just after an opener with this mark.
+fn scan_after(
+    mark: u8,
+    text: &mut CountedText,
+    place: usize,
+    guard: &mut HtmlScanGuard,
+) -> Option<usize>
+    requires room { text.old.passed < 2 ^ 119 }
+    requires opener { opener_before text.old.text place ≡ Some mark }
+    ensures answer { result ≡ guarded_answer text.old.text guard.old (opening_at text.old.text place) place }
+    ensures guards { guard.new ≡ guard_after text.old.text guard.old (opening_at text.old.text place) place }
+    ensures counts { text.new ≡ passing text.old (cost text.old.text (is_stopped guard.old place) (opening_at text.old.text place) place) }
+    ensures finds { IsTrueGuard text.old.text guard.old place → IsTrueScan text.old.text place result guard.new }
+{
+    if mark == b'!' {
+        scan_inline_html_comment_counted(text, place, guard)
+    } else {
+        scan_inline_html_processing_counted(text, place, guard)
+    }
+}
+
+/// The answers at the places before the first refused one, how many bytes those steps passed over, and the index of
+/// that place among the places, with the reason.
+#[derive(Debug, Drop, PartialEq)]
+pub struct HtmlRun {
+    pub answers: Vec<Option<usize>>,
+    pub passed: u128,
+    pub stop: Option<(usize, HtmlStop)>,
+}
+
+/// Makes a step at each of the places in turn, and ends before the first one that is refused. It takes memory for the
+/// answers alone.
+pub fn run_inline_html(alloc: Global, bytes: &[u8], places: &[usize]) -> Result<HtmlRun, AllocError>
+    ensures answers { IfOk result (λ run. run.answers.items ≡ run_answers (new_run bytes.now) places.now) }
+    ensures passed { IfOk result (λ run. run.passed ≡ run_passed (new_run bytes.now) places.now) }
+    ensures stop { IfOk result (λ run. run.stop ≡ run_stop (new_run bytes.now) 0 places.now) }
+    ensures budget { IfOk result (λ run. run.passed ≤ 4 * length bytes.now + 8 * length run.answers.items) }
+{
+    let mut run = InlineHtmlRun::new(bytes);
+    let mut answers = Vec::new(alloc);
+    for (index, place) in places.iter().enumerate() {
+        match run.step(*place) {
+            Ok(answer) => answers.push(answer)?,
+            Err(stop) => {
+                return Ok(HtmlRun {
+                    answers,
+                    passed: run.passed(),
+                    stop: Some((index, stop)),
+                });
+            }
+        }
+    }
+    Ok(HtmlRun {
+        answers,
+        passed: run.passed(),
+        stop: None,
+    })
+}
+
+#[cfg(test)]
+mod tests {
+    use super::*;
+    use std::test::Fail;
+
+    #[test]
+    fn a_run_has_these_fields_and_no_other(rt: HostRuntime) -> Result<(), Fail> {
+        let run = InlineHtmlRun::new(b"<!a>");
+        let InlineHtmlRun {
+            text,
+            guard,
+            last,
+            find_end,
+            steps,
+        } = run;
+        let counted: CountedText = text;
+        let kept: HtmlScanGuard = guard;
+        let _numbers: (usize, usize, usize) = (last, find_end, steps);
+        assert_eq!(rt; counted.passed(), 0);
+        assert_eq!(rt; kept.comment, 0);
+        Ok(())
+    }
+}
