@@ -14,6 +14,7 @@ pub mod InlineHtmlOpenings
 pub mod InlineHtmlRows
 pub mod InlineHtmlRuns
 pub mod InlineHtmlScans
+pub mod InlineHtmlSums
 pub mod ItemLemmas
 pub mod LeastPlaces
 pub mod LineRows

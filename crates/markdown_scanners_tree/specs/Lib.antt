@@ -10,6 +10,7 @@ pub mod Indent
 pub mod InlineHtml
 pub mod InlineHtmlGuard
 pub mod InlineHtmlKept
+pub mod InlineHtmlPassed
 pub mod InlineHtmlRun
 pub mod LineOutcome
 pub mod LineState

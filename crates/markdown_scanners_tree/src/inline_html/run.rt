@@ -1,8 +1,9 @@
 //! Runs of scans of inline HTML over rising places of one text.
-ghost use Rattle.std.specs.Prelude.{◌≡◌, ◌≤◌, ◌<◌, ◌+◌, ◌*◌, ◌^◌, ℕ, length, IfOk, None, Some};
+ghost use Rattle.std.specs.Prelude.{◌≡◌, ◌≤◌, ◌<◌, ◌+◌, ◌*◌, ◌^◌, ℕ, length, take, IfOk, None, Some};
 ghost use Rattle.markdown_scanners_tree.specs.CountedBytes.{passing};
 ghost use Rattle.markdown_scanners_tree.specs.InlineHtml.{cost, opener_before, opening_at};
 ghost use Rattle.markdown_scanners_tree.specs.InlineHtmlGuard.{is_stopped, guarded_answer, guard_after, IsTrueGuard, IsTrueScan};
+ghost use Rattle.markdown_scanners_tree.specs.InlineHtmlPassed.{bytes_passed};
 ghost use Rattle.markdown_scanners_tree.specs.InlineHtmlRun.{new_run, refusal, answer_of, run_after, run_answers, run_passed, run_stop, IsWithinBudget};
 
 use crate::inline_html::{
@@ -126,6 +127,7 @@ pub struct HtmlRun {
 pub fn run_inline_html(alloc: Global, bytes: &[u8], places: &[usize]) -> Result<HtmlRun, AllocError>
     ensures answers { IfOk result (λ run. run.answers.items ≡ run_answers (new_run bytes.now) places.now) }
     ensures passed { IfOk result (λ run. run.passed ≡ run_passed (new_run bytes.now) places.now) }
+    ensures counted { IfOk result (λ run. run.passed ≡ bytes_passed bytes.now (take (length run.answers.items) places.now)) }
     ensures stop { IfOk result (λ run. run.stop ≡ run_stop (new_run bytes.now) 0 places.now) }
     ensures budget { IfOk result (λ run. run.passed ≤ 4 * length bytes.now + 8 * length run.answers.items) }
 {
