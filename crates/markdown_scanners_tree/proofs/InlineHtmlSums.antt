@@ -1,5 +1,5 @@
 -- The bytes passed over, summed over the states of a run, are those of the list of accepted places.
-use Rattle.std.proofs.Common.{◌≡◌, ℕ, ◌+◌, Bool, false, List, [], ◌∷◌, length, take, refl, ap, ◌∙◌, arith, Option, Some, None}
+use Rattle.std.proofs.Common.{◌≡◌, ℕ, ◌+◌, Bool, List, [], ◌∷◌, length, take, refl, ap, ◌∙◌, arith, Option, Some, None}
 use Rattle.std.specs.Prelude.{◌&&◌, ◌||◌, is_none}
 use Rattle.std.proofs.Math.Bool.{and-false}
 use Rattle.markdown_scanners_tree.specs.declared.inline_html.HtmlStop.{HtmlStop}

@@ -1,14 +1,13 @@
 -- A list item's marker that a line start passes.
-use Rattle.std.proofs.Common.{ℕ, ◌≢◌, zero, suc, not, if◌then◌else◌, cond, Bool, true, false, ◌≡◌, refl, sym, ◌∙◌, ap, subst, ◌⊎◌, inl, inr, ◌==◌, ◌||◌, ◌&&◌, List, [], ◌∷◌, ◌++◌, ◌+◌, ◌-◌, ◌%◌, ◌<◌, ◌≤◌, min, length, take, drop, get_or, nat_le, nat_lt, Option, Some, None, arith, length-append, append_assoc}
-use Rattle.std.specs.List.{list_all, prefix_len, take_while}
-use Rattle.std.proofs.lemmas.Bool.{cases_lt, le-leb, leb-true, lt-ltb, ltb-false}
+use Rattle.std.proofs.Common.{ℕ, ◌≢◌, not, if◌then◌else◌, cond, Bool, true, false, ◌≡◌, refl, sym, ◌∙◌, ap, ◌==◌, ◌||◌, ◌&&◌, List, [], ◌∷◌, ◌++◌, ◌+◌, ◌-◌, ◌<◌, ◌≤◌, min, length, take, drop, get_or, nat_le, nat_lt, Option, Some, None, arith, length-append, append_assoc}
+use Rattle.std.specs.List.{list_all, prefix_len}
+use Rattle.std.proofs.lemmas.Bool.{le-leb, leb-true, lt-ltb}
 use Rattle.std.proofs.lemmas.Bool.Decides.{nat_tests}
 use Rattle.std.proofs.lemmas.List.{drop-drop, take-append-drop, length-take-le}
 use Rattle.std.proofs.lemmas.List.Folds.{list_all-append, length-prefix_len}
-use Rattle.std.proofs.Math.Seq.{take-append_seam, drop-append_seam}
 use Rattle.markdown_scanners_tree.specs.Bytes.{begins_with, is_digit, is_line_ending, is_at_line_end, is_blank}
 use Rattle.markdown_scanners_tree.specs.Columns.{bytes_below, head_end, written_out}
-use Rattle.markdown_scanners_tree.specs.LineOutcome.{item_outcome, item_outcome_by, item_outcome_after, not_found, space_or_end_follows, Outcome}
+use Rattle.markdown_scanners_tree.specs.LineOutcome.{item_outcome, item_outcome_by, item_outcome_after, not_found, space_or_end_follows}
 use Rattle.markdown_scanners_tree.specs.LineState.{LineState, unscanned, rest_of, leading_spaces, bytes_further, columns_further, space_within, after_space}
 use Rattle.markdown_scanners_tree.specs.ListItem.{IsListMarker, bullet, ordered}
 use Rattle.markdown_scanners_tree.specs.ListMarker.{Marker, is_bullet, is_delimiter, bullet_marker, ordered_marker, ordered_marker_of, list_marker, is_space_or_line_end}

@@ -1,5 +1,5 @@
 -- Each call is one plain step.
-use Rattle.std.proofs.Common.{ℕ, suc, not, subst, Option, Some, None, IfSome, IfNone, nat_eq, if◌then◌else◌, Bool, true, false, ◌≡◌, refl, sym, ◌∙◌, ap, ◌==◌, List, [], ◌∷◌, ◌++◌, ◌+◌, ◌-◌, ◌%◌, ◌<◌, take, drop, arith, ◌≤◌, length, zero, ◌&&◌, add-zero, zero-add, take-add}
+use Rattle.std.proofs.Common.{ℕ, suc, not, subst, Option, Some, None, IfSome, IfNone, nat_eq, Bool, true, false, ◌≡◌, refl, sym, ◌∙◌, ap, ◌==◌, List, [], ◌∷◌, ◌++◌, ◌+◌, ◌-◌, ◌%◌, ◌<◌, take, drop, arith, ◌≤◌, length, zero-add, take-add}
 use Rattle.std.specs.List.{list_all}
 use Rattle.std.specs.Option.{option_eq}
 use Rattle.std.proofs.lemmas.List.{take-append-drop, length-take-le, drop-drop}
@@ -17,7 +17,7 @@ use Rattle.markdown_scanners_tree.proofs.ColumnLemmas.{bool_cases, none_below, w
 use Rattle.markdown_scanners_tree.proofs.FrontLemmas.{both_true}
 use Rattle.markdown_scanners_tree.proofs.HeadLemmas.{definition_spaces-within}
 use Rattle.markdown_scanners_tree.proofs.WrittenLemmas.{line_end-written, begins-written, is_plain}
-use Rattle.markdown_scanners_tree.proofs.SpaceLemmas.{state_of, spaces, further-column, written_out-phase}
+use Rattle.markdown_scanners_tree.proofs.SpaceLemmas.{state_of, further-column, written_out-phase}
 
 -- a state is made of its parts
 pub state_is : (s : LineState) → s.phase < 4 → state_of s.bytes s.place s.pending s.phase ≡ s

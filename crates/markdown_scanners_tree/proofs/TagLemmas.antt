@@ -1,5 +1,5 @@
 -- Names of alerts, and the lines that they stand in.
-use Rattle.std.proofs.Common.{ℕ, cond, nat_eq, Bool, true, false, ◌≡◌, refl, sym, ap, ◌∙◌, ◌==◌, ◌&&◌, ◌↔◌, List, [], ◌∷◌, ◌+◌, ◌-◌, ◌<◌, ◌≤◌, length, take, drop, map, get_or, arith, IsTrue, Option, Some, None}
+use Rattle.std.proofs.Common.{ℕ, cond, Bool, true, false, ◌≡◌, refl, sym, ap, ◌∙◌, ◌==◌, ◌&&◌, ◌↔◌, List, [], ◌∷◌, ◌+◌, ◌<◌, ◌≤◌, length, take, drop, map, get_or, IsTrue, Some, None}
 use Rattle.std.specs.Bool.{one_answer}
 use Rattle.std.specs.Char.{to_ascii_lowercase}
 use Rattle.std.specs.Option.{option_map}

@@ -1,6 +1,6 @@
 -- What a line that is written out has in common with the line.
-use Rattle.std.proofs.Common.{ℕ, zero, suc, not, if◌then◌else◌, cond, Bool, true, false, ◌≡◌, refl, sym, ◌∙◌, ap, ◌==◌, ◌||◌, ◌&&◌, List, [], ◌∷◌, ◌++◌, ◌+◌, ◌-◌, length, take, drop, nat_le, Option, Some, None, arith, one-add, add-zero, zero-add}
-use Rattle.std.specs.List.{list_all, count_by, prefix_len, take_while}
+use Rattle.std.proofs.Common.{ℕ, zero, suc, not, if◌then◌else◌, cond, Bool, true, false, ◌≡◌, refl, sym, ◌∙◌, ap, ◌==◌, ◌&&◌, List, [], ◌∷◌, ◌++◌, ◌+◌, ◌-◌, length, take, drop, nat_le, Option, Some, None, arith, zero-add}
+use Rattle.std.specs.List.{list_all, count_by, prefix_len}
 use Rattle.std.proofs.lemmas.Bool.Decides.{nat_tests}
 use Rattle.std.proofs.lemmas.List.{take-append-drop}
 use Rattle.std.proofs.lemmas.List.Folds.{length-prefix_len}
@@ -9,7 +9,6 @@ use Rattle.std.proofs.Math.Seq.{take-append_seam, drop-append_seam}
 use Rattle.markdown_scanners_tree.specs.Bytes.{begins_with, is_digit, is_line_ending, is_at_line_end, line_head, is_blank}
 use Rattle.markdown_scanners_tree.specs.Columns.{column_after, written_byte, written_out}
 use Rattle.markdown_scanners_tree.specs.ListMarker.{Marker, is_bullet, is_delimiter, bullet_marker, ordered_marker, ordered_marker_of, list_marker}
-use Rattle.markdown_scanners_tree.specs.Numbers.{decimal_value}
 use Rattle.markdown_scanners_tree.specs.ThematicBreak.{is_break_marker, is_break_byte, is_break_head, is_thematic_break}
 use Rattle.markdown_scanners_tree.proofs.ColumnLemmas.{after-more, bool_cases, written-end, written-cons}
 use Rattle.markdown_scanners_tree.proofs.FrontLemmas.{both_true, list_all-implies, list_all-run}

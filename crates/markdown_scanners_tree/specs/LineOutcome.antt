@@ -1,5 +1,5 @@
 -- What the calls that look for a marker answer, and the state after them, from every state. (CommonMark 0.31.2, sections 5.1 to 5.3)
-use Rattle.std.specs.Prelude.{ℕ, Bool, true, false, ◌||◌, ◌&&◌, ◌==◌, nat_lt, List, [], ◌∷◌, ◌+◌, ◌%◌, length, drop, Option, Some, None, if◌then◌else◌, take, nat_eq, codes}
+use Rattle.std.specs.Prelude.{ℕ, Bool, true, false, ◌||◌, ◌&&◌, ◌==◌, nat_lt, List, ◌∷◌, ◌+◌, length, drop, Option, Some, None, if◌then◌else◌, take, codes}
 use Rattle.std.specs.List.{prefix_len}
 use Rattle.std.specs.Option.{option_map}
 use Rattle.std.specs.Str.{bytes_eq, str_eq_ignore_ascii_case}

@@ -1,4 +1,3 @@
-use Rattle.std.proofs.Common.{◌≡◌}
 use Rattle.markdown_scanners_tree.proofs.ItemLemmas.{item_allowed}
 use Rattle.markdown_scanners_tree.proofs.line.make_call.Goals as goal
 

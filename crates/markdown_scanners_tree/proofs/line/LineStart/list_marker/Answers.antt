@@ -1,7 +1,6 @@
-use Rattle.std.proofs.Common.{◌≡◌, ◌-◌, ◌≤◌, ℕ, true, false, sym, ap, subst, ◌∙◌, take, drop, length, List, arith}
+use Rattle.std.proofs.Common.{◌≡◌, ◌-◌, ◌≤◌, false, sym, ap, ◌∙◌, take, drop, length, arith}
 use Rattle.std.proofs.lemmas.List.{length-drop, length-take-le}
 use Rattle.markdown_scanners_tree.specs.LineState.{unscanned}
-use Rattle.markdown_scanners_tree.specs.ListItem.{IsListMarker}
 use Rattle.markdown_scanners_tree.specs.ThematicBreak.{is_thematic_break}
 use Rattle.markdown_scanners_tree.proofs.FrontLemmas.{from_place}
 use Rattle.markdown_scanners_tree.proofs.ItemLemmas.{marker-found, marker-none, marker-width}

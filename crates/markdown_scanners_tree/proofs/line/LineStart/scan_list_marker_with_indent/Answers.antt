@@ -1,4 +1,4 @@
-use Rattle.std.proofs.Common.{◌≡◌, ◌≤◌, ◌<◌, ◌+◌, ◌-◌, ℕ, true, false, sym, ap, ◌∙◌, length, drop, arith, if◌then◌else◌, Some}
+use Rattle.std.proofs.Common.{◌≡◌, ◌≤◌, ◌+◌, ℕ, true, false, sym, ap, ◌∙◌, length, drop, arith, if◌then◌else◌, Some}
 use Rattle.std.proofs.lemmas.List.{length-drop}
 use Rattle.markdown_scanners_tree.specs.Bytes.{is_blank}
 use Rattle.markdown_scanners_tree.specs.LineOutcome.{Outcome, item_outcome, space_or_end_follows}

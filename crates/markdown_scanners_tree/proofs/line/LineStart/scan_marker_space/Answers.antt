@@ -1,4 +1,4 @@
-use Rattle.std.proofs.Common.{◌<◌, sym, ◌∙◌, arith}
+use Rattle.std.proofs.Common.{◌<◌, ◌∙◌, arith}
 use Rattle.markdown_scanners_tree.proofs.StepLemmas.{no_space_taken}
 use Rattle.markdown_scanners_tree.proofs.line.LineStart.scan_marker_space.Goals as goal
 
