@@ -1,5 +1,5 @@
 -- What was told of a fault says which fault it was.
-use Rattle.std.proofs.Common.{◌≡◌, ℕ, List, [], ◌∷◌, ◌++◌, ◌+◌, length, Option, Some, None, refl, sym, ap, ◌∙◌, arith, length-append}
+use Rattle.std.proofs.Common.{◌≡◌, ℕ, List, ◌∷◌, ◌++◌, ◌+◌, length, Option, Some, None, sym, ap, ◌∙◌, arith, length-append}
 use Rattle.std.proofs.lemmas.List.{append_cancel_left}
 use Rattle.cmark_scan.specs.Faults.{AppendsFront, Tells, IsBeforeWriting, fault_line}
 use Rattle.cmark_scan.specs.declared.faults.Fault.{Fault}

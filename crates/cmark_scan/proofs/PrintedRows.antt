@@ -1,5 +1,5 @@
 -- Worked examples of words and of printed text, computed from the definitions.
-use Rattle.std.proofs.Common.{◌≡◌, refl, List, [], ◌∷◌, ◌++◌, Some, None, true}
+use Rattle.std.proofs.Common.{◌≡◌, refl, [], ◌∷◌, ◌++◌, Some, None, true}
 use Rattle.std.specs.Prelude.{codes}
 use Rattle.std.specs.Fmt.{digits}
 use Rattle.markdown_scanners_tree.specs.declared.line.LineCall.TheVariants as call

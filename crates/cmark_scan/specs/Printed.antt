@@ -1,5 +1,5 @@
 -- What the program prints, and the status that it ends with.
-use Rattle.std.specs.Prelude.{ℕ, Bool, false, ◌⊎◌, ◌≡◌, ◌+◌, ◌*◌, ◌/◌, ◌%◌, List, [], ◌∷◌, ◌++◌, Option, None, Some, codes, length, encode_utf8, if◌then◌else◌}
+use Rattle.std.specs.Prelude.{ℕ, Bool, false, ◌≡◌, ◌/◌, ◌%◌, List, [], ◌∷◌, ◌++◌, Option, None, Some, codes, encode_utf8, if◌then◌else◌}
 use Rattle.std.specs.List.{flat_map, zip}
 use Rattle.std.specs.Fmt.{decimal, digit_glyph}
 use Rattle.markdown_scanners_tree.specs.declared.line.LineCall.{LineCall}
