@@ -12,6 +12,7 @@ mod tables;
 
 pub use breaks::scan_hrule;
 pub use classes::{is_ascii_punctuation, is_ascii_whitespace, is_ascii_whitespace_no_nl};
+pub(crate) use fences::scan_spaces_and_tabs;
 pub use fences::{scan_closing_code_fence, scan_code_fence};
 pub use headings::{scan_atx_heading, scan_setext_heading};
 pub use indent::calc_indent;
