@@ -1,5 +1,7 @@
 pub mod BlankLemmas
+pub mod BlockNames
 pub mod BlockRows
+pub mod BlockStart
 pub mod BreakLemmas
 pub mod BreakScan
 pub mod ClassLemmas

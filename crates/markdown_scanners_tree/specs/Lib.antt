@@ -5,13 +5,16 @@ pub mod CodeFence
 pub mod Columns
 pub mod CountedBytes
 pub mod DelimiterRow
+pub mod Handler
 pub mod HeadingLines
+pub mod HtmlBlock
 pub mod Indent
 pub mod InlineHtml
 pub mod InlineHtmlGuard
 pub mod InlineHtmlKept
 pub mod InlineHtmlPassed
 pub mod InlineHtmlRun
+pub mod Kept
 pub mod LineOutcome
 pub mod LineState
 pub mod Lines

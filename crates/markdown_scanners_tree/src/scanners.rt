@@ -1,8 +1,9 @@
-//! Scanners of the fragments that lines are made of.
+//! Scanners of the fragments that lines and inline texts are made of.
 mod breaks;
 mod classes;
 mod fences;
 mod headings;
+mod html_block;
 mod indent;
 mod lines;
 mod list_items;
@@ -14,6 +15,7 @@ pub use breaks::scan_hrule;
 pub use classes::{is_ascii_punctuation, is_ascii_whitespace, is_ascii_whitespace_no_nl};
 pub use fences::{scan_closing_code_fence, scan_code_fence};
 pub use headings::{scan_atx_heading, scan_setext_heading};
+pub use html_block::starts_html_block_type_6;
 pub use indent::calc_indent;
 pub use lines::{scan_blank_line, scan_blockquote_start, scan_eol, scan_nextline};
 pub use list_items::scan_listitem;
