@@ -8,6 +8,7 @@ pub mod DelimiterRow
 pub mod Handler
 pub mod HeadingLines
 pub mod HtmlBlock
+pub mod HtmlTag
 pub mod Indent
 pub mod InlineHtml
 pub mod InlineHtmlGuard
@@ -24,4 +25,5 @@ pub mod Metadata
 pub mod Numbers
 pub mod PlainRun
 pub mod PlainStep
+pub mod TagMachine
 pub mod ThematicBreak

@@ -10,6 +10,7 @@ mod list_items;
 mod metadata;
 mod runs;
 mod tables;
+mod tag_state;
 
 pub use breaks::scan_hrule;
 pub use classes::{is_ascii_punctuation, is_ascii_whitespace, is_ascii_whitespace_no_nl};
