@@ -18,6 +18,7 @@ pub mod InlineHtmlRuns
 pub mod InlineHtmlScans
 pub mod InlineHtmlSums
 pub mod ItemLemmas
+pub mod KeptStep
 pub mod LeastPlaces
 pub mod LineRows
 pub mod LineRunLemmas
@@ -28,6 +29,9 @@ pub mod RunLemmas
 pub mod ScanLemmas
 pub mod SpaceLemmas
 pub mod StepLemmas
+pub mod TagEnds
 pub mod TagLemmas
+pub mod TagReading
+pub mod TagWhole
 pub mod TrueGuards
 pub mod WrittenLemmas

@@ -16,6 +16,7 @@ pub mod InlineHtmlKept
 pub mod InlineHtmlPassed
 pub mod InlineHtmlRun
 pub mod Kept
+pub mod KeptTag
 pub mod LineOutcome
 pub mod LineState
 pub mod Lines
