@@ -18,6 +18,7 @@ pub mod InlineHtmlRuns
 pub mod InlineHtmlScans
 pub mod InlineHtmlSums
 pub mod ItemLemmas
+pub mod KeptReading
 pub mod KeptStep
 pub mod LeastPlaces
 pub mod LineRows
@@ -32,6 +33,7 @@ pub mod StepLemmas
 pub mod TagEnds
 pub mod TagLemmas
 pub mod TagReading
+pub mod TagScan
 pub mod TagWhole
 pub mod TrueGuards
 pub mod WrittenLemmas

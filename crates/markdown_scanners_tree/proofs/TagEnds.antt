@@ -136,6 +136,6 @@ return_ends_none Refused endings = refl
 
 pub line_ending_ends_none : (s : TagState) (b endings : ℕ) → is_line_ending b ≡ true → is_tag_end (next_state s b) endings ≡ false
 line_ending_ends_none s b endings e = elim (cases_Bool (b == 10)) [
-      | inl lf ↦ ap (λ z. is_tag_end (next_state s z) endings) (eqb-true b 10 lf) ∙ line_feed_ends_none s endings
-      | inr no_lf ↦ ap (λ z. is_tag_end (next_state s z) endings) (eqb-true b 13 (rw no_lf at e)) ∙ return_ends_none s endings
-    ]
+  | inl lf ↦ ap (λ z. is_tag_end (next_state s z) endings) (eqb-true b 10 lf) ∙ line_feed_ends_none s endings
+  | inr no_lf ↦ ap (λ z. is_tag_end (next_state s z) endings) (eqb-true b 13 (rw no_lf at e)) ∙ return_ends_none s endings
+]

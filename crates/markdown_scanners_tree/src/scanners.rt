@@ -4,6 +4,7 @@ mod classes;
 mod fences;
 mod headings;
 mod html_block;
+mod html_tag;
 mod indent;
 mod lines;
 mod list_items;
