@@ -99,9 +99,9 @@ module _ (answers : List ℕ → ℕ → Type 0) (place : ℕ) where
       record {
         forth = λ c t r. reads_end answers place b bs ends.0 ends.1 ends.2 skip (c ∷ t) a r;
         back = λ c t r. (
-          let read = reads_from_end answers place b bs ends.0 ends.1 ends.2 c t r in
-          (read.0, subst (λ n. Reads answers (place + (1 + n)) (drop n bs) t) (only read.1 read.2) read.3)
-          );
+            let read = reads_from_end answers place b bs ends.0 ends.1 ends.2 c t r in
+            (read.0, subst (λ n. Reads answers (place + (1 + n)) (drop n bs) t) (only read.1 read.2) read.3)
+            );
       }
 
   -- where no skip is answered nothing is read

@@ -18,6 +18,7 @@ pub mod InlineHtmlRuns
 pub mod InlineHtmlScans
 pub mod InlineHtmlSums
 pub mod ItemLemmas
+pub mod KeptCopy
 pub mod KeptReading
 pub mod KeptStep
 pub mod LeastPlaces

@@ -24,13 +24,13 @@ EndsTag front = is_tag_end (state_after Start (bytes_of front)) (line_endings fr
 
 -- A front of a kept text is a tag exactly where it is read and the scanner comes to its end with it.
 tag_read : (answers : List ℕ → ℕ → Type 0) (source : List ℕ) (front : List KeptByte) → IsKeptTag answers source front → Reads answers 0 source front
-tag_read answers source front k = record { skips = k.skips; rest = k.rest; answered = k.answered; begins = k.begins }
+tag_read answers source front k = record { skips = k.kept.skips; rest = k.kept.rest; answered = k.kept.answered; begins = k.kept.begins }
 
 tag_ends : (answers : List ℕ → ℕ → Type 0) (source : List ℕ) (front : List KeptByte) → IsKeptTag answers source front → EndsTag front
 tag_ends answers source front k = (tag_exactly (bytes_of front) (line_endings front)).0 k.tag
 
 tag_from : (answers : List ℕ → ℕ → Type 0) (source : List ℕ) (front : List KeptByte) → Reads answers 0 source front → EndsTag front → IsKeptTag answers source front
-tag_from answers source front r e = record { skips = r.skips; rest = r.rest; answered = r.answered; begins = r.begins; tag = (tag_exactly (bytes_of front) (line_endings front)).1 e }
+tag_from answers source front r e = record { kept = record { skips = r.skips; rest = r.rest; answered = r.answered; begins = r.begins }; tag = (tag_exactly (bytes_of front) (line_endings front)).1 e }
 
 -- one more byte at the end
 marks_more : (passed : List KeptByte) (k : KeptByte) → line_endings (passed ++ k ∷ []) ≡ line_endings passed + cond k.ends_line 1 0
