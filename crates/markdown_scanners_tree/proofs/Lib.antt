@@ -31,6 +31,7 @@ pub mod RunLemmas
 pub mod ScanLemmas
 pub mod SpaceLemmas
 pub mod StepLemmas
+pub mod TagBuffer
 pub mod TagEnds
 pub mod TagLemmas
 pub mod TagReading

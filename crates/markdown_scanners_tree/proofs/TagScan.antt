@@ -197,29 +197,42 @@ module _ (answers : List ℕ → ℕ → Type 0) (source : List ℕ) (place kept
           | inl ending ↦ absurd (let none : is_tag_end (next_state state (get_or source place 0)) marks ≡ false = line_ending_ends_none state (get_or source place 0) marks (ap is_line_ending (sym turn.byte) ∙ ending) in cc)
         ]
 
+    found_place : is_tag_end after marks ≡ true → next ≡ place_after 0 more
+    unfolding more
+    found_place e = (turn.alone (plain e)).0 ∙ ap (λ z. z + 1) (sym turn.at) ∙ sym (after_more 0 s.passed turn.kept)
+
     pub scan_finds : is_tag_end (next_state state (get_or source place 0)) marks ≡ true → (front : List KeptByte) × IsKeptTag answers source front × (kept + 1 ≡ length front) × (next ≡ place_after 0 front)
     unfolding after more
-    scan_finds e =
-        let alone = turn.alone (plain e) in
-        (more, tag_from answers source more (s.forth turn.kept [] alone.1) (ends_more e), counted_more, alone.0 ∙ ap (λ z. z + 1) (sym turn.at) ∙ sym (after_more 0 s.passed turn.kept))
+    scan_finds e = (more, tag_from answers source more (s.forth turn.kept [] (turn.alone (plain e)).1) (ends_more e), counted_more, found_place e)
 
-    -- no tag is what is passed, and none goes on from a final state
-    nowhere : is_final after ≡ true → is_tag_end after marks ≡ false → (front : List KeptByte) → EndsTag front → (t : List KeptByte) → front ≡ more ++ t → ⊥
-    nowhere final none front e [] is =
-        let same : front ≡ more = is ∙ append-nil more in
-        let whole : is_tag_end after marks ≡ true = sym (ap (λ z. is_tag_end z (line_endings more)) state_is ∙ ap (is_tag_end after) marks_are) ∙ ap (λ z. is_tag_end (state_after Start (bytes_of z)) (line_endings z)) (sym same) ∙ e in
-        cc
-    nowhere final none front e (x ∷ u) is =
+    -- no tag goes on after a final state
+    nowhere : is_final after ≡ true → (front : List KeptByte) → EndsTag front → (x : KeptByte) (u : List KeptByte) → front ≡ more ++ x ∷ u → ⊥
+    nowhere final front e x u is =
         let run : state_after Start (bytes_of (more ++ x ∷ u)) ≡ state_after after (x.byte ∷ bytes_of u) = ap (state_after Start) (map-append (λ z. z.byte) more (x ∷ u)) ∙ state_after_append Start (bytes_of more) (x.byte ∷ bytes_of u) ∙ ap (λ z. state_after z (x.byte ∷ bytes_of u)) state_is in
         let whole : is_tag_end (state_after after (x.byte ∷ bytes_of u)) (line_endings (more ++ x ∷ u)) ≡ true = ap (λ z. is_tag_end z (line_endings (more ++ x ∷ u))) (sym run) ∙ ap (λ z. is_tag_end (state_after Start (bytes_of z)) (line_endings z)) (sym is) ∙ e in
         let other : is_tag_end (state_after after (x.byte ∷ bytes_of u)) (line_endings (more ++ x ∷ u)) ≡ false = final_goes_nowhere after x.byte (bytes_of u) (line_endings (more ++ x ∷ u)) final in
         cc
 
+    -- so a tag is what is passed, and that alone
+    all_passed : is_final after ≡ true → (front : List KeptByte) → IsKeptTag answers source front → front ≡ more
+    all_passed final front k = let l = left_more front (tag_read answers source front k) (tag_ends answers source front k) in by l.0 l.1
+      where
+        by : (t : List KeptByte) → front ≡ more ++ t → front ≡ more
+        by [] is = is ∙ append-nil more
+        by (x ∷ u) is = absurd (nowhere final front (tag_ends answers source front k) x u is)
+
     pub scan_stops : is_final (next_state state (get_or source place 0)) ≡ true → is_tag_end (next_state state (get_or source place 0)) marks ≡ false → (front : List KeptByte) → IsKeptTag answers source front → ⊥
     unfolding after
     scan_stops final none front k =
-        let l = left_more front (tag_read answers source front k) (tag_ends answers source front k) in
-        nowhere final none front (tag_ends answers source front k) l.0 l.1
+        let same : front ≡ more = all_passed final front k in
+        let whole : is_tag_end after marks ≡ true = sym (ap (λ z. is_tag_end z (line_endings more)) state_is ∙ ap (is_tag_end after) marks_are) ∙ ap (λ z. is_tag_end (state_after Start (bytes_of z)) (line_endings z)) (sym same) ∙ tag_ends answers source front k in
+        cc
+
+    pub scan_only : is_tag_end (next_state state (get_or source place 0)) marks ≡ true → (front : List KeptByte) → IsKeptTag answers source front → (kept + 1 ≡ length front) × (next ≡ place_after 0 front)
+    unfolding after more
+    scan_only e front k =
+        let same : front ≡ more = all_passed (end_is_final after marks e) front k in
+        (counted_more ∙ ap length (sym same), found_place e ∙ ap (place_after 0) (sym same))
 
 -- without a handler no line end is kept
 pub no_handler_stops : {F : Type 0} (g : Shared F (Bor (List ℕ) × Unit {0}) ℕ) (handler : Option (Bor F)) (source : List ℕ) (place kept endings : ℕ) (state : TagState) → Scanned (AnswersIfAny g handler) source place kept endings state → place < length source → handler ≡ None → ends_source_line (take (length source - place) (drop place source)) ≡ true → (front : List KeptByte) → IsKeptTag (AnswersIfAny g handler) source front → ⊥

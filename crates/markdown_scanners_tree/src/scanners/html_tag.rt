@@ -36,6 +36,9 @@ fn measure_tag<F: Fn(&[u8]) -> usize>(data: &[u8], handler: Option<&F>) -> Optio
     ensures found { IfSome result (λ tag. (front : List KeptByte)
         × IsKeptTag (AnswersIfAny F.Fn handler.entry) «data».now front
         × (tag.kept ≡ length front) × (tag.end ≡ place_after 0 front)) }
+    ensures only { IfSome result (λ tag. (front : List KeptByte)
+        → IsKeptTag (AnswersIfAny F.Fn handler.entry) «data».now front
+        → (tag.kept ≡ length front) × (tag.end ≡ place_after 0 front)) }
     ensures none { IfNone result ((front : List KeptByte)
         → IsKeptTag (AnswersIfAny F.Fn handler.entry) «data».now front → ⊥) }
     ensures whole { IfSome result (λ tag. IfNone handler.entry (tag.kept ≡ tag.end)) }
@@ -114,6 +117,9 @@ pub fn scan_html_block_inner<F: Fn(&[u8]) -> usize>(
     ensures found { IfOk result (λ answer. IfSome answer (λ tag. (front : List KeptByte)
         × IsKeptTag (AnswersIfAny F.Fn handler.entry) «data».now front
         × (tag.0.items ≡ tag_buffer front) × (tag.1 ≡ place_after 0 front))) }
+    ensures only { IfOk result (λ answer. IfSome answer (λ tag. (front : List KeptByte)
+        → IsKeptTag (AnswersIfAny F.Fn handler.entry) «data».now front
+        → (tag.0.items ≡ tag_buffer front) × (tag.1 ≡ place_after 0 front))) }
     ensures none { IfOk result (λ answer. IfNone answer ((front : List KeptByte)
         → IsKeptTag (AnswersIfAny F.Fn handler.entry) «data».now front → ⊥)) }
     ensures memory { OnErr result ((front : List KeptByte)

@@ -3,18 +3,10 @@ use Rattle.std.proofs.lemmas.List.{length-drop}
 use Rattle.markdown_scanners_tree.specs.Handler.{Answers, IsSteady}
 use Rattle.markdown_scanners_tree.specs.KeptTag.{AnswersIfAny}
 use Rattle.markdown_scanners_tree.specs.TagMachine.{next_state, is_tag_end, is_final}
-use Rattle.markdown_scanners_tree.proofs.TagScan.{Turn, Scanned, turn_with_skip, turn_without, skip_inside, scan_starts, scan_goes_on, scan_finds, scan_stops, scan_ends, no_handler_stops}
+use Rattle.markdown_scanners_tree.proofs.TagBuffer.{if_none, none_given}
+use Rattle.markdown_scanners_tree.proofs.TagScan.{Turn, Scanned, turn_with_skip, turn_without, skip_inside, scan_starts, scan_goes_on, scan_finds, scan_only, scan_stops, scan_ends, no_handler_stops}
 use Rattle.markdown_scanners_tree.proofs.scanners.html_tag.measure_tag.Goals.{then-is_last+in_ok-skips, else-is_last}
 use Rattle.markdown_scanners_tree.proofs.scanners.html_tag.measure_tag.Goals as goal
-
--- one number for another, where there is no handler
-if_none : {A : Type 0} (handler : Option A) (m n : ℕ) → (handler ≡ None → m ≡ n) → IfNone handler (m ≡ n)
-if_none None m n f = f refl
-if_none (Some f) m n e = tt
-
-none_given : {A : Type 0} (handler : Option A) (m n : ℕ) → IfNone handler (m ≡ n) → handler ≡ None → m ≡ n
-none_given None m n f e = f
-none_given (Some f) m n t e = cc
 
 pub loop-place-init : goal.loop-place-init
 loop-place-init g c = (scan_starts _ _, omega arith, omega arith, omega arith, if_none c.args.handler 0 0 (λ e. refl))
@@ -41,11 +33,23 @@ returns-then-is_tag_end-clause-found g c =
     ] in
     scan_finds _ _ _ _ _ _ c.loop-place.invariant.0 _ _ turn (ap (λ s. is_tag_end s c.if-is_last.endings) (sym c.next-state.ensures) ∙ sym c.is_tag_end.ensures ∙ c.if-is_tag_end.true)
 
+pub returns-then-is_tag_end-clause-only : goal.returns-then-is_tag_end-clause-only
+returns-then-is_tag_end-clause-only g c =
+    let turn : Turn (AnswersIfAny g.F.Fn c.args.handler) c.args.data.now c.loop-place.place c.loop-place.endings c.if-is_last.place c.if-is_last.endings =
+    elim c.if-is_last.branch [
+      | then-is_last+in_ok-skips w ↦ (
+          let answer : Answers g.F.Fn w.in_ok-skips.skips.now (take (length c.args.data.now - (c.loop-place.place + 1)) (drop (c.loop-place.place + 1) c.args.data.now)) w.skips-place.result = search (rules, of_calls) in
+          rw (w.place-is, w.endings-is) (turn_with_skip g.F.Fn c.args.handler c.args.data.now c.loop-place.place c.loop-place-test.true c.loop-place.endings w.in_ok-skips.skips w.skips-place.result (w.in_ok-skips.was {u = tt}) c.requires.steady (sym c.ends_line-is_last.ensures ∙ w.if-is_last.true) answer)
+          )
+      | else-is_last w ↦ rw (w.place-is, w.endings-is) (turn_without g.F.Fn c.args.handler c.args.data.now c.loop-place.place c.loop-place-test.true c.loop-place.endings (sym c.ends_line-is_last.ensures ∙ w.if-is_last.false))
+    ] in
+    scan_only _ _ _ _ _ _ c.loop-place.invariant.0 _ _ turn (ap (λ s. is_tag_end s c.if-is_last.endings) (sym c.next-state.ensures) ∙ sym c.is_tag_end.ensures ∙ c.if-is_tag_end.true)
+
 pub returns-then-is_tag_end-clause-whole : goal.returns-then-is_tag_end-clause-whole
 returns-then-is_tag_end-clause-whole g c = if_none c.args.handler (c.loop-place.kept + 1) c.if-is_last.place (λ e. elim c.if-is_last.branch [
-  | then-is_last+in_ok-skips w ↦ absurd (let some = w.in_ok-skips.was {u = tt} in cc)
-  | else-is_last w ↦ (let same : c.loop-place.kept ≡ c.loop-place.place = none_given c.args.handler _ _ c.loop-place.invariant.4 e in rw w.place-is (ap (λ z. z + 1) same))
-])
+      | then-is_last+in_ok-skips w ↦ absurd (let some = w.in_ok-skips.was {u = tt} in cc)
+      | else-is_last w ↦ (let same : c.loop-place.kept ≡ c.loop-place.place = none_given c.args.handler _ _ c.loop-place.invariant.4 e in rw w.place-is (ap (λ z. z + 1) same))
+    ])
 
 pub returns-then-is_final-clause-none : goal.returns-then-is_final-clause-none
 returns-then-is_final-clause-none g c =
@@ -70,16 +74,11 @@ loop-place-preserved g c =
       | else-is_last w ↦ rw (w.place-is, w.endings-is) (turn_without g.F.Fn c.args.handler c.args.data.now c.loop-place.place c.loop-place-test.true c.loop-place.endings (sym c.ends_line-is_last.ensures ∙ w.if-is_last.false))
     ] in
     let state : Scanned (AnswersIfAny g.F.Fn c.args.handler) c.args.data.now c.if-is_last.place (c.loop-place.kept + 1) c.if-is_last.endings c.next-state.result =
-    subst (λ s. Scanned (AnswersIfAny g.F.Fn c.args.handler) c.args.data.now c.if-is_last.place (c.loop-place.kept + 1) c.if-is_last.endings s) (sym c.next-state.ensures) (scan_goes_on _ _ _ _ _ _ c.loop-place.invariant.0 _ _ turn (ap is_final (sym c.next-state.ensures) ∙ sym c.is_final.ensures ∙ c.if-is_final.false)) in (
-      state,
-      turn.inside,
-      (let f = turn.further in omega arith),
-      (let f = turn.few in omega arith),
-      if_none c.args.handler (c.loop-place.kept + 1) c.if-is_last.place (λ e. elim c.if-is_last.branch [
-        | then-is_last+in_ok-skips w ↦ absurd (let some = w.in_ok-skips.was {u = tt} in cc)
-        | else-is_last w ↦ (let same : c.loop-place.kept ≡ c.loop-place.place = none_given c.args.handler _ _ c.loop-place.invariant.4 e in rw w.place-is (ap (λ z. z + 1) same))
-      ]),
-    )
+    subst (λ s. Scanned (AnswersIfAny g.F.Fn c.args.handler) c.args.data.now c.if-is_last.place (c.loop-place.kept + 1) c.if-is_last.endings s) (sym c.next-state.ensures) (scan_goes_on _ _ _ _ _ _ c.loop-place.invariant.0 _ _ turn (ap is_final (sym c.next-state.ensures) ∙ sym c.is_final.ensures ∙ c.if-is_final.false)) in
+    (state, turn.inside, (let f = turn.further in omega arith), (let f = turn.few in omega arith), if_none c.args.handler (c.loop-place.kept + 1) c.if-is_last.place (λ e. elim c.if-is_last.branch [
+      | then-is_last+in_ok-skips w ↦ absurd (let some = w.in_ok-skips.was {u = tt} in cc)
+      | else-is_last w ↦ (let same : c.loop-place.kept ≡ c.loop-place.place = none_given c.args.handler _ _ c.loop-place.invariant.4 e in rw w.place-is (ap (λ z. z + 1) same))
+    ]))
 
 pub returns-clause-none : goal.returns-clause-none
 returns-clause-none g c = scan_ends _ _ _ _ _ _ c.loop-place.invariant.0 c.loop-place-test.false
