@@ -1,9 +1,9 @@
 -- The table of block names is in order, and a binary search of it finds what it holds.
-use Rattle.std.proofs.Common.{ℕ, zero, suc, List, [], ◌∷◌, ◌≡◌, Bool, true, false, ◌&&◌, ◌↔◌, IsTrue, not, length, map, refl, sym, ap, ◌∙◌, subst, get_or, Ordering, Less, Equal, Greater, Result, Ok, Err, Contains, cond, Bor, ◌⊎◌, inl, inr, ◌<◌, ◌≤◌, ◌+◌, arith, add-one}
-use Rattle.std.specs.Ordering.{nat_cmp, is_lt, is_eq}
+use Rattle.std.proofs.Common.{ℕ, zero, suc, List, [], ◌∷◌, ◌≡◌, true, ◌↔◌, IsTrue, length, refl, sym, ◌∙◌, get_or, Less, Equal, Greater, Result, Ok, Err, Contains, Bor, ◌⊎◌, inl, inr, ◌<◌, ◌≤◌, arith}
+use Rattle.std.specs.Ordering.{nat_cmp, is_lt}
 use Rattle.std.specs.Cmp.Lexicographic.{slice_cmp}
 use Rattle.std.specs.Result.{is_ok}
-use Rattle.std.specs.List.Sorted.{IsSortedBy, IsBinarySearchResult, IsSearchInRange, IsNonDecreasingBy}
+use Rattle.std.specs.List.Sorted.{IsSortedBy, IsBinarySearchResult, IsSearchInRange}
 use Rattle.std.proofs.lemmas.List.Sorted.{searchable_from_sorted}
 use Rattle.std.proofs.lemmas.Cmp.{nat_list_cmp_total}
 use Rattle.std.proofs.lemmas.List.{get_or-map, length-map}

@@ -1,5 +1,5 @@
 -- How much of a kept text is copied.
-use Rattle.std.proofs.Common.{ℕ, List, [], ◌∷◌, ◌++◌, ◌+◌, ◌<◌, ◌≤◌, ◌≡◌, length, drop, get_or, map, refl, sym, ap, ◌∙◌, subst, append_assoc, length-append, inl, inr, arith}
+use Rattle.std.proofs.Common.{ℕ, List, [], ◌∷◌, ◌++◌, ◌+◌, ◌<◌, ◌≤◌, ◌≡◌, length, drop, get_or, refl, sym, ap, ◌∙◌, subst, append_assoc, length-append, inl, inr, arith}
 use Rattle.std.proofs.lemmas.Bool.{cases_lt}
 use Rattle.std.proofs.lemmas.List.{drop_all, append-nil, map-append, length-map}
 use Rattle.markdown_scanners_tree.specs.Kept.{KeptByte, bytes_of}
@@ -52,17 +52,17 @@ module _ (answers : List ℕ → ℕ → Type 0) (source : List ℕ) (place kept
   pub copy_goes_on : (endings next marks : ℕ) → length copied < kept → Turn answers source place endings next marks → Copied answers source next kept (copied ++ get_or source place 0 ∷ [])
   copy_goes_on endings next marks low turn = record {
     each = λ front k e. (
-      let split = s.each front k e in
-      let left = next_left answers source place kept copied front split e low in
-      let back = turn.step.back left.0 left.1 (subst (λ z. Reads answers place (drop place source) z) left.2 split.reads) in
-      record {
-        passed = split.passed ++ turn.kept ∷ [];
-        left = left.1;
-        is = split.is ∙ ap (λ z. split.passed ++ z) (left.2 ∙ ap (λ c. c ∷ left.1) back.0) ∙ sym (append_assoc split.passed (turn.kept ∷ []) left.1);
-        same = ap (λ z. z ++ get_or source place 0 ∷ []) split.same ∙ ap (λ b. bytes_of split.passed ++ b ∷ []) (sym turn.byte) ∙ sym (map-append (λ k. k.byte) split.passed (turn.kept ∷ []));
-        reads = back.1;
-      }
-    );
+        let split = s.each front k e in
+        let left = next_left answers source place kept copied front split e low in
+        let back = turn.step.back left.0 left.1 (subst (λ z. Reads answers place (drop place source) z) left.2 split.reads) in
+        record {
+          passed = split.passed ++ turn.kept ∷ [];
+          left = left.1;
+          is = split.is ∙ ap (λ z. split.passed ++ z) (left.2 ∙ ap (λ c. c ∷ left.1) back.0) ∙ sym (append_assoc split.passed (turn.kept ∷ []) left.1);
+          same = ap (λ z. z ++ get_or source place 0 ∷ []) split.same ∙ ap (λ b. bytes_of split.passed ++ b ∷ []) (sym turn.byte) ∙ sym (map-append (λ k. k.byte) split.passed (turn.kept ∷ []));
+          reads = back.1;
+        }
+        );
   }
 
   pub copy_ends : kept ≤ length copied → (front : List KeptByte) → IsKeptFront answers source front → kept ≡ length front → copied ≡ bytes_of front

@@ -1,12 +1,10 @@
 -- A kept text is read from one place of its source to the next.
-use Rattle.std.proofs.Common.{ℕ, suc, List, [], ◌∷◌, ◌++◌, ◌+◌, ◌<◌, ◌≤◌, ◌≡◌, Bool, true, false, not, ◌||◌, ◌&&◌, ◌==◌, cond, length, drop, get_or, refl, sym, ap, ◌∙◌, subst, inl, inr, arith}
-use Rattle.std.specs.List.{list_any}
+use Rattle.std.proofs.Common.{ℕ, suc, List, [], ◌∷◌, ◌++◌, ◌+◌, ◌≡◌, Bool, true, false, not, ◌==◌, drop, refl, sym, ap, ◌∙◌, subst, inl, inr, arith}
 use Rattle.std.proofs.lemmas.Bool.{cases_Bool, eqb-true}
-use Rattle.std.proofs.lemmas.List.{drop_more, drop-drop, length-drop}
 use Rattle.markdown_scanners_tree.specs.Bytes.{begins_with, is_line_ending}
-use Rattle.markdown_scanners_tree.specs.Kept.{KeptByte, in_line, at_line_end, kept_line, kept_from, line_len, AreSkips, line_endings}
+use Rattle.markdown_scanners_tree.specs.Kept.{KeptByte, in_line, at_line_end, kept_line, kept_from, line_len, AreSkips}
 use Rattle.markdown_scanners_tree.specs.TagMachine.{ends_source_line}
-use Rattle.markdown_scanners_tree.proofs.KeptStep.{Reads, reads_more, reads_less, reads_end, reads_from_end, line_feed_ends, return_ends, kept_from-return}
+use Rattle.markdown_scanners_tree.proofs.KeptStep.{Reads, reads_more, reads_less, reads_end, reads_from_end, kept_from-return}
 use Rattle.markdown_scanners_tree.proofs.RunLemmas.{not_true}
 
 -- The byte at the place is kept, and what follows it is read from the next place.

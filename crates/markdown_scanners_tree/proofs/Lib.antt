@@ -31,10 +31,12 @@ pub mod RunLemmas
 pub mod ScanLemmas
 pub mod SpaceLemmas
 pub mod StepLemmas
+pub mod TagAlone
 pub mod TagBuffer
 pub mod TagEnds
 pub mod TagLemmas
 pub mod TagReading
+pub mod TagRows
 pub mod TagScan
 pub mod TagWhole
 pub mod TrueGuards

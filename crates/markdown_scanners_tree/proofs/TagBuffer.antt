@@ -1,5 +1,5 @@
 -- The text of a tag that is handed back, by its length and the place after it.
-use Rattle.std.proofs.Common.{ℕ, List, [], ◌∷◌, ◌≡◌, ◌==◌, Bool, true, false, cond, length, refl, sym, ap, ◌∙◌, subst, Option, Some, None, IfNone, arith}
+use Rattle.std.proofs.Common.{ℕ, List, [], ◌≡◌, ◌==◌, true, false, cond, length, refl, sym, ap, subst, Option, Some, None, IfNone, arith}
 use Rattle.std.specs.Fn.{Shared}
 use denote.Ref.{Bor}
 use Rattle.std.proofs.lemmas.Bool.Decides.{nat_tests}

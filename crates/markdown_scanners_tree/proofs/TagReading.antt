@@ -1,14 +1,13 @@
 -- What the bytes read so far are, in each state of the tag scanner.
 use Rattle.std.proofs.Common.{ℕ, List, [], ◌∷◌, ◌++◌, ◌≡◌, Bool, true, false, cond, not, ◌&&◌, ◌||◌, ◌==◌, refl, sym, ap, ◌∙◌, subst, append_assoc, inl, inr, ◌⊎◌}
-use Rattle.std.specs.List.{list_all}
 use Rattle.std.proofs.lemmas.List.Folds.{list_all-append}
 use Rattle.std.proofs.lemmas.List.{append-nil}
 use Rattle.std.proofs.lemmas.Bool.{eqb-true}
 use Rattle.markdown_scanners_tree.proofs.FrontLemmas.{both_true}
 use Rattle.markdown_scanners_tree.proofs.RunLemmas.{not_false}
-use Rattle.markdown_scanners_tree.specs.Bytes.{is_letter, is_unquoted, is_white_space, is_white_space_in_line}
-use Rattle.markdown_scanners_tree.specs.HtmlTag.{AllPassing, BeginsWithout, IsName, IsTagName, IsAttributeName, IsQuotedValue, IsUnquotedValue, IsValueSpecification, IsAttribute, joined, AreAttributes, IsOpenTag, IsClosingTag, IsLineEndingOrNone, is_tag_name_byte, is_attribute_start, is_attribute_byte}
-use Rattle.markdown_scanners_tree.specs.TagMachine.{next_state, after_part, state_after}
+use Rattle.markdown_scanners_tree.specs.Bytes.{is_unquoted, is_white_space, is_white_space_in_line}
+use Rattle.markdown_scanners_tree.specs.HtmlTag.{AllPassing, IsName, IsTagName, IsAttributeName, IsQuotedValue, IsUnquotedValue, IsAttribute, joined, AreAttributes, IsOpenTag, IsClosingTag, IsLineEndingOrNone}
+use Rattle.markdown_scanners_tree.specs.TagMachine.{next_state, after_part}
 use Rattle.markdown_scanners_tree.specs.declared.scanners.tag_state.TagState.{TagState}
 use Rattle.markdown_scanners_tree.specs.declared.scanners.tag_state.TagState.TheVariants.{Start, Opened, Name, Spaced, AttributeName, AfterName, BeforeValue, Unquoted, Quoted, AfterValue, Slashed, Open, Closing, ClosingName, ClosingSpaced, ClosingReturned, ClosingEnded, Closed, Refused}
 

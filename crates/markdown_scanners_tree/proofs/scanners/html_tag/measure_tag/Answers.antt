@@ -1,8 +1,7 @@
-use Rattle.std.proofs.Common.{rules, of_calls, ◌≡◌, ◌∙◌, ◌≤◌, ◌+◌, ◌-◌, ℕ, List, length, take, drop, slice_index_or, refl, sym, ap, subst, true, false, Option, Some, None, IfNone, IfSome, arith, Bor}
-use Rattle.std.proofs.lemmas.List.{length-drop}
-use Rattle.markdown_scanners_tree.specs.Handler.{Answers, IsSteady}
+use Rattle.std.proofs.Common.{rules, of_calls, ◌≡◌, ◌∙◌, ◌≤◌, ◌+◌, ◌-◌, length, take, drop, refl, sym, ap, subst, arith}
+use Rattle.markdown_scanners_tree.specs.Handler.{Answers}
 use Rattle.markdown_scanners_tree.specs.KeptTag.{AnswersIfAny}
-use Rattle.markdown_scanners_tree.specs.TagMachine.{next_state, is_tag_end, is_final}
+use Rattle.markdown_scanners_tree.specs.TagMachine.{is_tag_end, is_final}
 use Rattle.markdown_scanners_tree.proofs.TagBuffer.{if_none, none_given}
 use Rattle.markdown_scanners_tree.proofs.TagScan.{Turn, Scanned, turn_with_skip, turn_without, skip_inside, scan_starts, scan_goes_on, scan_finds, scan_only, scan_stops, scan_ends, no_handler_stops}
 use Rattle.markdown_scanners_tree.proofs.scanners.html_tag.measure_tag.Goals.{then-is_last+in_ok-skips, else-is_last}
@@ -47,9 +46,9 @@ returns-then-is_tag_end-clause-only g c =
 
 pub returns-then-is_tag_end-clause-whole : goal.returns-then-is_tag_end-clause-whole
 returns-then-is_tag_end-clause-whole g c = if_none c.args.handler (c.loop-place.kept + 1) c.if-is_last.place (λ e. elim c.if-is_last.branch [
-      | then-is_last+in_ok-skips w ↦ absurd (let some = w.in_ok-skips.was {u = tt} in cc)
-      | else-is_last w ↦ (let same : c.loop-place.kept ≡ c.loop-place.place = none_given c.args.handler _ _ c.loop-place.invariant.4 e in rw w.place-is (ap (λ z. z + 1) same))
-    ])
+  | then-is_last+in_ok-skips w ↦ absurd (let some = w.in_ok-skips.was {u = tt} in cc)
+  | else-is_last w ↦ (let same : c.loop-place.kept ≡ c.loop-place.place = none_given c.args.handler _ _ c.loop-place.invariant.4 e in rw w.place-is (ap (λ z. z + 1) same))
+])
 
 pub returns-then-is_final-clause-none : goal.returns-then-is_final-clause-none
 returns-then-is_final-clause-none g c =
@@ -74,11 +73,16 @@ loop-place-preserved g c =
       | else-is_last w ↦ rw (w.place-is, w.endings-is) (turn_without g.F.Fn c.args.handler c.args.data.now c.loop-place.place c.loop-place-test.true c.loop-place.endings (sym c.ends_line-is_last.ensures ∙ w.if-is_last.false))
     ] in
     let state : Scanned (AnswersIfAny g.F.Fn c.args.handler) c.args.data.now c.if-is_last.place (c.loop-place.kept + 1) c.if-is_last.endings c.next-state.result =
-    subst (λ s. Scanned (AnswersIfAny g.F.Fn c.args.handler) c.args.data.now c.if-is_last.place (c.loop-place.kept + 1) c.if-is_last.endings s) (sym c.next-state.ensures) (scan_goes_on _ _ _ _ _ _ c.loop-place.invariant.0 _ _ turn (ap is_final (sym c.next-state.ensures) ∙ sym c.is_final.ensures ∙ c.if-is_final.false)) in
-    (state, turn.inside, (let f = turn.further in omega arith), (let f = turn.few in omega arith), if_none c.args.handler (c.loop-place.kept + 1) c.if-is_last.place (λ e. elim c.if-is_last.branch [
-      | then-is_last+in_ok-skips w ↦ absurd (let some = w.in_ok-skips.was {u = tt} in cc)
-      | else-is_last w ↦ (let same : c.loop-place.kept ≡ c.loop-place.place = none_given c.args.handler _ _ c.loop-place.invariant.4 e in rw w.place-is (ap (λ z. z + 1) same))
-    ]))
+    subst (λ s. Scanned (AnswersIfAny g.F.Fn c.args.handler) c.args.data.now c.if-is_last.place (c.loop-place.kept + 1) c.if-is_last.endings s) (sym c.next-state.ensures) (scan_goes_on _ _ _ _ _ _ c.loop-place.invariant.0 _ _ turn (ap is_final (sym c.next-state.ensures) ∙ sym c.is_final.ensures ∙ c.if-is_final.false)) in (
+      state,
+      turn.inside,
+      (let f = turn.further in omega arith),
+      (let f = turn.few in omega arith),
+      if_none c.args.handler (c.loop-place.kept + 1) c.if-is_last.place (λ e. elim c.if-is_last.branch [
+        | then-is_last+in_ok-skips w ↦ absurd (let some = w.in_ok-skips.was {u = tt} in cc)
+        | else-is_last w ↦ (let same : c.loop-place.kept ≡ c.loop-place.place = none_given c.args.handler _ _ c.loop-place.invariant.4 e in rw w.place-is (ap (λ z. z + 1) same))
+      ]),
+    )
 
 pub returns-clause-none : goal.returns-clause-none
 returns-clause-none g c = scan_ends _ _ _ _ _ _ c.loop-place.invariant.0 c.loop-place-test.false
