@@ -18,6 +18,7 @@ pub use classes::{is_ascii_punctuation, is_ascii_whitespace, is_ascii_whitespace
 pub use fences::{scan_closing_code_fence, scan_code_fence};
 pub use headings::{scan_atx_heading, scan_setext_heading};
 pub use html_block::starts_html_block_type_6;
+pub use html_tag::{scan_html_block_inner, scan_html_type_7};
 pub use indent::calc_indent;
 pub use lines::{scan_blank_line, scan_blockquote_start, scan_eol, scan_nextline};
 pub use list_items::scan_listitem;
