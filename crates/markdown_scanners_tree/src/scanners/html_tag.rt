@@ -1,5 +1,5 @@
 //! Open and closing tags, over the lines of containers or alone in a line.
-ghost use Rattle.std.specs.Prelude.{◌≡◌, ◌≢◌, ◌≤◌, [], IfOk, OnErr, ℕ, List, IfSome, IfNone, length};
+ghost use Rattle.std.specs.Prelude.{IsOk, ◌≡◌, ◌≢◌, ◌≤◌, [], IfOk, OnErr, ℕ, List, IfSome, IfNone, length};
 ghost use Rattle.markdown_scanners_tree.specs.Handler.{Answers, IsSteady};
 ghost use Rattle.markdown_scanners_tree.specs.Kept.{KeptByte, bytes_of};
 ghost use Rattle.markdown_scanners_tree.specs.HtmlTag.{IsTagAloneInLine};
@@ -124,6 +124,7 @@ pub fn scan_html_block_inner<F: Fn(&[u8]) -> usize>(
         → IsKeptTag (AnswersIfAny F.Fn handler.entry) «data».now front → ⊥)) }
     ensures memory { OnErr result ((front : List KeptByte)
         × IsKeptTag (AnswersIfAny F.Fn handler.entry) «data».now front × (tag_buffer front ≢ [])) }
+    ensures without_handler { IfNone handler.entry (IsOk result) }
     ensures within { IfOk result (λ answer. IfSome answer (λ tag. tag.1 ≤ length «data».now)) }
 {
     let Some(tag) = measure_tag(data, handler) else {
