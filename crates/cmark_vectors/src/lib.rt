@@ -10,6 +10,8 @@ mod line;
 #[cfg(test)]
 mod line_vectors;
 #[cfg(test)]
+mod tags;
+#[cfg(test)]
 mod texts;
 #[cfg(test)]
 mod values;

@@ -1,5 +1,7 @@
 pub mod BlankLemmas
+pub mod BlockNames
 pub mod BlockRows
+pub mod BlockStart
 pub mod BreakLemmas
 pub mod BreakScan
 pub mod ClassLemmas
@@ -16,6 +18,9 @@ pub mod InlineHtmlRuns
 pub mod InlineHtmlScans
 pub mod InlineHtmlSums
 pub mod ItemLemmas
+pub mod KeptCopy
+pub mod KeptReading
+pub mod KeptStep
 pub mod LeastPlaces
 pub mod LineRows
 pub mod LineRunLemmas
@@ -26,6 +31,13 @@ pub mod RunLemmas
 pub mod ScanLemmas
 pub mod SpaceLemmas
 pub mod StepLemmas
+pub mod TagAlone
+pub mod TagBuffer
+pub mod TagEnds
 pub mod TagLemmas
+pub mod TagReading
+pub mod TagRows
+pub mod TagScan
+pub mod TagWhole
 pub mod TrueGuards
 pub mod WrittenLemmas

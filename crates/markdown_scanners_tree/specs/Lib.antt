@@ -5,13 +5,18 @@ pub mod CodeFence
 pub mod Columns
 pub mod CountedBytes
 pub mod DelimiterRow
+pub mod Handler
 pub mod HeadingLines
+pub mod HtmlBlock
+pub mod HtmlTag
 pub mod Indent
 pub mod InlineHtml
 pub mod InlineHtmlGuard
 pub mod InlineHtmlKept
 pub mod InlineHtmlPassed
 pub mod InlineHtmlRun
+pub mod Kept
+pub mod KeptTag
 pub mod LineOutcome
 pub mod LineState
 pub mod Lines
@@ -21,4 +26,5 @@ pub mod Metadata
 pub mod Numbers
 pub mod PlainRun
 pub mod PlainStep
+pub mod TagMachine
 pub mod ThematicBreak
