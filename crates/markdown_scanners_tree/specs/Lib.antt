@@ -1,4 +1,5 @@
 pub mod Accepted
+pub mod BackslashEscape
 pub mod Bytes
 pub mod Classes
 pub mod CodeFence
