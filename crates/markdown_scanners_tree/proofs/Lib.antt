@@ -4,6 +4,8 @@ pub mod BreakLemmas
 pub mod BreakScan
 pub mod ClassLemmas
 pub mod ColumnLemmas
+pub mod DigitLemmas
+pub mod FirstPieceLemmas
 pub mod FrontLemmas
 pub mod GuardsKept
 pub mod HeadLemmas
@@ -21,6 +23,9 @@ pub mod LineRows
 pub mod LineRunLemmas
 pub mod ListItemLemmas
 pub mod MetadataLemmas
+pub mod PieceLemmas
+pub mod ReferenceLemmas
+pub mod ReferenceUnique
 pub mod RowLemmas
 pub mod RunLemmas
 pub mod ScanLemmas
@@ -28,4 +33,5 @@ pub mod SpaceLemmas
 pub mod StepLemmas
 pub mod TagLemmas
 pub mod TrueGuards
+pub mod UnitLemmas
 pub mod WrittenLemmas

@@ -1,11 +1,14 @@
 pub mod Accepted
 pub mod BackslashEscape
 pub mod Bytes
+pub mod CharacterReference
 pub mod Classes
 pub mod CodeFence
 pub mod Columns
 pub mod CountedBytes
 pub mod DelimiterRow
+pub mod Digits
+pub mod FirstPiece
 pub mod HeadingLines
 pub mod Indent
 pub mod InlineHtml
@@ -23,3 +26,4 @@ pub mod Numbers
 pub mod PlainRun
 pub mod PlainStep
 pub mod ThematicBreak
+pub mod Unescaping
