@@ -1,3 +1,4 @@
+pub mod BareLemmas
 pub mod BlankLemmas
 pub mod BlockRows
 pub mod BreakLemmas
@@ -21,9 +22,11 @@ pub mod ItemLemmas
 pub mod LeastPlaces
 pub mod LineRows
 pub mod LineRunLemmas
+pub mod LinkLemmas
 pub mod ListItemLemmas
 pub mod MetadataLemmas
 pub mod PieceLemmas
+pub mod PointedLemmas
 pub mod ReferenceLemmas
 pub mod ReferenceUnique
 pub mod RowLemmas

@@ -1,4 +1,5 @@
 pub mod Accepted
+pub mod Autolink
 pub mod BackslashEscape
 pub mod Bytes
 pub mod CharacterReference
@@ -19,6 +20,7 @@ pub mod InlineHtmlRun
 pub mod LineOutcome
 pub mod LineState
 pub mod Lines
+pub mod LinkDestination
 pub mod ListItem
 pub mod ListMarker
 pub mod Metadata
