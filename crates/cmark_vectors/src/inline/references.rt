@@ -138,15 +138,17 @@ const SECOND_TEXTS: [Unescaped; 30] = [
     ("\\||\u{e9}http:X!\\\\|\\&#65;", false, false, "||\u{e9}http:X!\\|&#65;"),
 ];
 
+fn assert_reference(rt: &impl Abort, bytes: &[u8], len: usize, text: Option<&'static str>) {
+    assert!(rt; bytes.len() > 0);
+    let (found, found_text) = scan_entity(bytes, &KNOWN);
+    assert_eq!(rt; found, len, "on {bytes:?}");
+    assert_eq!(rt; found_text, text.map(|text| CowStr::from(text)), "on {bytes:?}");
+}
+
 #[test]
 fn references(rt: HostRuntime) {
     for (bytes, len, text) in REFERENCES {
-        assert!(rt; !bytes.is_empty());
-        assert_eq!(rt;
-            scan_entity(bytes, &KNOWN),
-            (len, text.map(|text| CowStr::from(text))),
-            "on {bytes:?}"
-        );
+        assert_reference(&rt, bytes, len, text);
     }
 }
 
