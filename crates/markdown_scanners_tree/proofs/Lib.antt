@@ -18,6 +18,7 @@ pub mod InlineHtmlRows
 pub mod InlineHtmlRuns
 pub mod InlineHtmlScans
 pub mod InlineHtmlSums
+pub mod InlineRows
 pub mod ItemLemmas
 pub mod LeastPlaces
 pub mod LineRows

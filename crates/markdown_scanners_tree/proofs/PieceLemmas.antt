@@ -253,3 +253,14 @@ built_end in_table known text i run base base_len out out_len is past ps are =
     let none : old.0 ≡ [] = no_piece in_table known (drop i text) old.0 (omega (arith, length-drop i text, past)) old.1 in
     let whole : take (i - run) (drop run text) ≡ drop run text = take_all (i - run) (drop run text) (omega (arith, length-drop run text, past)) in
     sym (old.2 ∙ ap (λ r. out ++ r) (ap (λ qs. take (i - run) (drop run text) ++ joined_meanings qs) none ∙ (append-nil (take (i - run) (drop run text)) ∙ whole)))
+
+-- the pieces of a text are one list
+pub same_pieces : (in_table : Bool) (known : Lookup) (text : List ℕ) (ps qs : List Piece) → ArePieces in_table known text ps → ArePieces in_table known text qs → ps ≡ qs
+same_pieces in_table known text [] [] are are' = refl
+same_pieces in_table known text [] (q ∷ qs) are are' = sym (no_piece in_table known text (q ∷ qs) (ap length are) are')
+same_pieces in_table known text (p ∷ ps) [] are are' = no_piece in_table known text (p ∷ ps) (ap length are') are
+same_pieces in_table known text (p ∷ ps) (q ∷ qs) are are' =
+    let same = same_first in_table known text p q are.0 are'.0 are.1 are'.1 are.2 are'.2 in
+    let rest : are.0 ≡ are'.0 = append_cancel_left q.source are.0 are'.0 (ap (λ s. s ++ are.0) (sym same.0) ∙ (sym are.1 ∙ are'.1)) in
+    let tail : ps ≡ qs = same_pieces in_table known are'.0 ps qs (subst (λ r. ArePieces in_table known r ps) rest are.3) are'.3 in
+    λ i. record { source = same.0 i; meaning = same.1 i } ∷ tail i
