@@ -25,10 +25,7 @@ impl Entities for Table {
     ghost known = { λ table name. option_map (λ row. row.1.now) (find (λ row. bytes_eq row.0.now name) table.rows.now) };
 
     fn get(&self, name: &[u8]) -> Option<&'static str> {
-        self.rows
-            .iter()
-            .find(|row| row.0 == name)
-            .map(|row| row.1)
+        self.rows.iter().find(|row| row.0 == name).map(|row| row.1)
     }
 }
 
@@ -86,7 +83,10 @@ fn autolink<'a>(
 fn references_by_number(rt: HostRuntime) {
     let unknown = || Some(CowStr::from('\u{fffd}'));
     assert_eq!(rt; scan_entity(b"&#0;", &KNOWN), (4, unknown()));
-    assert_eq!(rt; scan_entity(b"&#x1F354;", &KNOWN), (9, Some(CowStr::from('\u{1f354}'))));
+    assert_eq!(rt;
+        scan_entity(b"&#x1F354;", &KNOWN),
+        (9, Some(CowStr::from('\u{1f354}')))
+    );
     assert_eq!(rt; scan_entity(b"&#12345678;", &KNOWN), (0, None));
     assert_eq!(rt; scan_entity(b"&#xD800;", &KNOWN), (8, unknown()));
     assert_eq!(rt; scan_entity(b"&#x110000;", &KNOWN), (10, unknown()));

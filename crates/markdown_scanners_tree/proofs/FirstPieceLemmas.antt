@@ -1,8 +1,8 @@
 -- The first piece of a text, by what stands in front.
-use Rattle.std.proofs.Common.{◌≡◌, ◌≢◌, ℕ, zero, suc, ◌+◌, ◌-◌, ◌<◌, ◌≤◌, Bool, true, false, List, [], ◌∷◌, ◌++◌, length, take, drop, get_or, refl, ap, ◌∙◌, sym, subst, arith, inl, inr, ◌⊎◌, eqb}
+use Rattle.std.proofs.Common.{◌≡◌, ◌≢◌, ℕ, ◌+◌, ◌-◌, ◌<◌, ◌≤◌, Bool, true, false, List, [], ◌∷◌, ◌++◌, length, get_or, refl, ap, ◌∙◌, sym, subst, arith, inl, inr, ◌⊎◌, eqb}
 use Rattle.std.specs.Prelude.{◌&&◌}
 use Rattle.std.proofs.lemmas.List.{append-nil, drop_all, length-append, get_or_append_left, get_or_at}
-use Rattle.std.proofs.lemmas.Bool.{false≢true, and_parts, and_from, eqb-true, eq-eqb}
+use Rattle.std.proofs.lemmas.Bool.{false≢true, and_parts, and_from, eqb-true}
 use Rattle.markdown_scanners_tree.specs.Bytes.{is_punctuation}
 use Rattle.markdown_scanners_tree.specs.BackslashEscape.{starts_escape}
 use Rattle.markdown_scanners_tree.specs.CharacterReference.{Lookup, StartsWithReference, IsReference}

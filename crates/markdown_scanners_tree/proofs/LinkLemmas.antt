@@ -1,15 +1,15 @@
 -- Pipes of wikilinks, and absolute URIs in angle brackets.
-use Rattle.std.proofs.Common.{◌≡◌, ℕ, suc, ◌+◌, ◌-◌, ◌<◌, ◌≤◌, Bool, true, false, not, ◌==◌, ◌||◌, min, List, [], ◌∷◌, ◌++◌, length, take, drop, get_or, refl, sym, ap, ◌∙◌, subst, arith, inl, inr, Option, Some, None, append_assoc, one-add, add-one}
+use Rattle.std.proofs.Common.{◌≡◌, ℕ, suc, ◌+◌, ◌-◌, ◌<◌, ◌≤◌, true, ◌==◌, min, List, [], ◌∷◌, ◌++◌, length, take, drop, get_or, refl, sym, ap, ◌∙◌, subst, arith, inl, inr, Option, Some, None, append_assoc, one-add}
 use Rattle.std.specs.Prelude.{position, IfNone}
-use Rattle.std.specs.List.{prefix_len, list_all}
-use Rattle.std.proofs.lemmas.Bool.{false≢true, lt-ltb, le-ltb, cases_lt}
+use Rattle.std.specs.List.{prefix_len}
+use Rattle.std.proofs.lemmas.Bool.{lt-ltb, le-ltb, cases_lt}
 use Rattle.std.proofs.lemmas.List.{length-append, take-append-drop, take_all, take_rest, take_at, drop_at, get_or_at, get_or-drop}
 use Rattle.std.proofs.lemmas.List.Folds.{length-prefix_len}
-use Rattle.std.proofs.Math.Seq.{drop-cons, drop-append_seam}
+use Rattle.std.proofs.Math.Seq.{drop-cons}
 use Rattle.memchr.specs.Find.{IsFirstByte, is_byte}
 use Rattle.markdown_scanners_tree.specs.Bytes.{is_letter}
 use Rattle.markdown_scanners_tree.specs.LinkDestination.{IsPointedFrom, IsBareFrom, IsLinkDestination}
-use Rattle.markdown_scanners_tree.specs.Autolink.{is_scheme_byte, is_uri_byte, IsScheme, IsSchemeInFront, IsUriAutolink}
+use Rattle.markdown_scanners_tree.specs.Autolink.{is_scheme_byte, is_uri_byte, IsSchemeInFront, IsUriAutolink}
 use Rattle.markdown_scanners_tree.proofs.FrontLemmas.{list_all-run, prefix_len-parts}
 use Rattle.markdown_scanners_tree.proofs.ScanLemmas.{prefix_len-found, prefix_len-not_found}
 

@@ -1,5 +1,5 @@
 -- The pieces of a text, found one after another.
-use Rattle.std.proofs.Common.{◌≡◌, ℕ, ◌+◌, ◌-◌, ◌^◌, ◌<◌, ◌≤◌, Bool, true, false, min, nat_lt, if◌then◌else◌, List, [], ◌∷◌, ◌++◌, length, take, drop, get_or, refl, ap, ◌∙◌, sym, subst, arith, append_assoc, take-add, inl, inr, ◌⊎◌}
+use Rattle.std.proofs.Common.{◌≡◌, ℕ, ◌+◌, ◌-◌, ◌^◌, ◌<◌, ◌≤◌, Bool, false, min, nat_lt, if◌then◌else◌, List, [], ◌∷◌, ◌++◌, length, take, drop, get_or, refl, ap, ◌∙◌, sym, subst, arith, append_assoc, take-add, inl, inr}
 use Rattle.std.specs.Str.{IsUtf8, IsCharBoundary}
 use Rattle.std.proofs.lemmas.Str.{IsCharBoundary-after_ascii, IsCharBoundary-before_ascii, IsCharBoundary-start}
 use Rattle.std.proofs.lemmas.List.{length-append, length-drop, append-nil, append_cancel_left, drop-drop, drop_at, take_at, drop_all, take_all, get_or-drop, drop-take}
@@ -88,6 +88,7 @@ measured_start in_table known text = record {
   forth = λ qs are. (qs, are);
   back = λ ps are. (ps, are, omega arith, λ selves. (refl, selves), λ _ selves. selves);
 }
+
 pub measured_more : (in_table : Bool) (known : Lookup) (text : List ℕ) (i n dropped : ℕ) (instead : List ℕ) (changes changes' : Bool) (len len' : ℕ) → IsMeasured in_table known text i changes len
     → IsFirstPiece in_table known (drop i text) n dropped instead → (changes' ≡ false → (changes ≡ false) × (dropped ≡ 0)) → (changes ≡ false → dropped ≡ 0 → changes' ≡ false)
     → len' ≡ min (len + (length instead + (n - dropped))) (2 ^ 64 - 1) → IsMeasured in_table known text (i + n) changes' len'

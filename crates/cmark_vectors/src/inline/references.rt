@@ -74,34 +74,84 @@ type Unescaped = (&'static str, bool, bool, &'static str);
 
 const FIRST_TEXTS: [Unescaped; 30] = [
     ("", false, true, ""),
-    ("mailto:x>[a@b.c>a@b.c>;&ngE;a\u{e9}>&amp;&&lt;", true, false, "mailto:x>[a@b.c>a@b.c>;\u{2267}\u{338}a\u{e9}>&&<"),
+    (
+        "mailto:x>[a@b.c>a@b.c>;&ngE;a\u{e9}>&amp;&&lt;",
+        true,
+        false,
+        "mailto:x>[a@b.c>a@b.c>;\u{2267}\u{338}a\u{e9}>&&<",
+    ),
     ("&#0;a", true, false, "\u{fffd}a"),
     ("aX[\r", false, false, "aX["),
     ("[", false, true, "["),
-    ("x&lt;>!&lt;!\r&amp;http:\u{e9}[&", true, false, "x<>!<!&http:\u{e9}[&"),
+    (
+        "x&lt;>!&lt;!\r&amp;http:\u{e9}[&",
+        true,
+        false,
+        "x<>!<!&http:\u{e9}[&",
+    ),
     ("", true, true, ""),
     ("\\|&#x110000;a", false, false, "|\u{fffd}a"),
     ("mailto:x>", true, true, "mailto:x>"),
     ("\\\\|(", false, false, "\\|("),
-    ("&ngE;&ngE;>&#65;&ngE;", false, false, "\u{2267}\u{338}\u{2267}\u{338}>A\u{2267}\u{338}"),
-    ("\\\\|&#x41;&#x41;]X\n;;&#x110000;\ta@b.c>&#0;", true, false, "|AA]X\n;;\u{fffd}\ta@b.c>\u{fffd}"),
+    (
+        "&ngE;&ngE;>&#65;&ngE;",
+        false,
+        false,
+        "\u{2267}\u{338}\u{2267}\u{338}>A\u{2267}\u{338}",
+    ),
+    (
+        "\\\\|&#x41;&#x41;]X\n;;&#x110000;\ta@b.c>&#0;",
+        true,
+        false,
+        "|AA]X\n;;\u{fffd}\ta@b.c>\u{fffd}",
+    ),
     ("x", false, true, "x"),
     ("\\\\|[&", false, false, "\\|[&"),
     ("X[", true, true, "X["),
-    ("http:http:&#0;\\|&ngE;&#x110000;&&ngE;\\\\|1", false, false, "http:http:\u{fffd}|\u{2267}\u{338}\u{fffd}&\u{2267}\u{338}\\|1"),
+    (
+        "http:http:&#0;\\|&ngE;&#x110000;&&ngE;\\\\|1",
+        false,
+        false,
+        "http:http:\u{fffd}|\u{2267}\u{338}\u{fffd}&\u{2267}\u{338}\\|1",
+    ),
     ("&ngE;x", false, false, "\u{2267}\u{338}x"),
-    ("&ngE;&amp;]&&#65;x;&#0;\\\\|", false, false, "\u{2267}\u{338}&]&Ax;\u{fffd}\\|"),
+    (
+        "&ngE;&amp;]&&#65;x;&#0;\\\\|",
+        false,
+        false,
+        "\u{2267}\u{338}&]&Ax;\u{fffd}\\|",
+    ),
     ("<\r", true, false, "<"),
     ("http:", true, true, "http:"),
-    ("X\u{e9}a@b.c><[&#x41;1>&#x41;", true, false, "X\u{e9}a@b.c><[A1>A"),
+    (
+        "X\u{e9}a@b.c><[&#x41;1>&#x41;",
+        true,
+        false,
+        "X\u{e9}a@b.c><[A1>A",
+    ),
     ("&amp;\u{85cf}a\\|&|", true, false, "&\u{85cf}a|&|"),
     ("!", true, true, "!"),
     ("&#x110000;&#65;", false, false, "\u{fffd}A"),
     ("(&", true, true, "(&"),
-    ("&amp;&|<)!\\|[&#0;&#x41;>\u{e9}x&#65;X", false, false, "&&|<)!|[\u{fffd}A>\u{e9}xAX"),
-    ("&#x41;]1\\\\|x&ngE;\u{e9}\t\\&#xD800;&lt;", true, false, "A]1|x\u{2267}\u{338}\u{e9}\t&#xD800;<"),
+    (
+        "&amp;&|<)!\\|[&#0;&#x41;>\u{e9}x&#65;X",
+        false,
+        false,
+        "&&|<)!|[\u{fffd}A>\u{e9}xAX",
+    ),
+    (
+        "&#x41;]1\\\\|x&ngE;\u{e9}\t\\&#xD800;&lt;",
+        true,
+        false,
+        "A]1|x\u{2267}\u{338}\u{e9}\t&#xD800;<",
+    ),
     ("]\\|X>", true, false, "]|X>"),
-    ("mailto:x>\\&#x41;&#x110000;", true, false, "mailto:x>&#x41;\u{fffd}"),
+    (
+        "mailto:x>\\&#x41;&#x110000;",
+        true,
+        false,
+        "mailto:x>&#x41;\u{fffd}",
+    ),
     ("\n&ngE;", true, false, "\n\u{2267}\u{338}"),
 ];
 
@@ -112,37 +162,86 @@ const SECOND_TEXTS: [Unescaped; 30] = [
     ("Xmailto:x>&#x110000;!", false, false, "Xmailto:x>\u{fffd}!"),
     (";&lt;\t\\\\|X", true, false, ";<\t|X"),
     ("1\u{85cf}[\\\\|", false, false, "1\u{85cf}[\\|"),
-    ("&amp;&ngE;#&#x110000;>", false, false, "&\u{2267}\u{338}#\u{fffd}>"),
+    (
+        "&amp;&ngE;#&#x110000;>",
+        false,
+        false,
+        "&\u{2267}\u{338}#\u{fffd}>",
+    ),
     ("&#x110000;http:http:", true, false, "\u{fffd}http:http:"),
     ("&#65;", false, false, "A"),
     ("]X\tmailto:x>", true, true, "]X\tmailto:x>"),
     ("([\t", true, true, "([\t"),
-    ("!>X&#x41;1mailto:x>|[\n", false, false, "!>XA1mailto:x>|[\n"),
+    (
+        "!>X&#x41;1mailto:x>|[\n",
+        false,
+        false,
+        "!>XA1mailto:x>|[\n",
+    ),
     ("|\r", false, false, "|"),
     ("x&#xD800;a ;", true, false, "x\u{fffd}a ;"),
     ("mailto:x>(\u{e9}&#x41;", false, false, "mailto:x>(\u{e9}A"),
-    ("&ngE;a@b.c>\\|&amp;&#0;\\\\|mailto:x>http:", true, false, "\u{2267}\u{338}a@b.c>|&\u{fffd}|mailto:x>http:"),
-    ("\u{e9}&#x41;\u{85cf}&#65;&#65;&#65;http:1|&lt;)", true, false, "\u{e9}A\u{85cf}AAAhttp:1|<)"),
-    ("mailto:x>ahttp:&#0;http:(", false, false, "mailto:x>ahttp:\u{fffd}http:("),
+    (
+        "&ngE;a@b.c>\\|&amp;&#0;\\\\|mailto:x>http:",
+        true,
+        false,
+        "\u{2267}\u{338}a@b.c>|&\u{fffd}|mailto:x>http:",
+    ),
+    (
+        "\u{e9}&#x41;\u{85cf}&#65;&#65;&#65;http:1|&lt;)",
+        true,
+        false,
+        "\u{e9}A\u{85cf}AAAhttp:1|<)",
+    ),
+    (
+        "mailto:x>ahttp:&#0;http:(",
+        false,
+        false,
+        "mailto:x>ahttp:\u{fffd}http:(",
+    ),
     ("&lt;\u{85cf}", false, false, "<\u{85cf}"),
     ("&#xD800;", true, false, "\u{fffd}"),
-    ("\u{e9}&#xD800;);&amp;&#xD800;|<>", true, false, "\u{e9}\u{fffd});&\u{fffd}|<>"),
-    ("mailto:x>\\\\|&&#65;a@b.c>!&#0;\\\t mailto:x>&ngE;&#x41;", false, false, "mailto:x>\\|&Aa@b.c>!\u{fffd}\\\t mailto:x>\u{2267}\u{338}A"),
+    (
+        "\u{e9}&#xD800;);&amp;&#xD800;|<>",
+        true,
+        false,
+        "\u{e9}\u{fffd});&\u{fffd}|<>",
+    ),
+    (
+        "mailto:x>\\\\|&&#65;a@b.c>!&#0;\\\t mailto:x>&ngE;&#x41;",
+        false,
+        false,
+        "mailto:x>\\|&Aa@b.c>!\u{fffd}\\\t mailto:x>\u{2267}\u{338}A",
+    ),
     ("\\\\|\u{85cf}", false, false, "\\|\u{85cf}"),
     ("(&&#x110000;>", true, false, "(&\u{fffd}>"),
     ("\\&lt;\\\\|\r\t", true, false, "&lt;|\t"),
-    ("\t#&#65;\u{e9}\n;\t] &#xD800;&#0;", true, false, "\t#A\u{e9}\n;\t] \u{fffd}\u{fffd}"),
+    (
+        "\t#&#65;\u{e9}\n;\t] &#xD800;&#0;",
+        true,
+        false,
+        "\t#A\u{e9}\n;\t] \u{fffd}\u{fffd}",
+    ),
     ("\\|X!&&#65;\r1", true, false, "|X!&A1"),
     ("<&#0;]!", false, false, "<\u{fffd}]!"),
     ("1(", false, true, "1("),
-    ("\\||\u{e9}http:X!\\\\|\\&#65;", false, false, "||\u{e9}http:X!\\|&#65;"),
+    (
+        "\\||\u{e9}http:X!\\\\|\\&#65;",
+        false,
+        false,
+        "||\u{e9}http:X!\\|&#65;",
+    ),
 ];
 
 fn assert_reference(rt: &impl Abort, bytes: &[u8], len: usize, text: Option<&'static str>) {
     assert!(rt; bytes.len() > 0);
     let (found, found_text) = scan_entity(bytes, &KNOWN);
     assert_eq!(rt; found, len, "on {bytes:?}");
-    assert_eq!(rt; found_text, text.map(|text| CowStr::from(text)), "on {bytes:?}");
+    assert_eq!(rt;
+        found_text,
+        text.map(|text| CowStr::from(text)),
+        "on {bytes:?}"
+    );
 }
 
 #[test]
@@ -156,7 +255,11 @@ fn assert_unescaped(rt: &impl Abort, alloc: Global, row: Unescaped) -> Result<()
     let (text, is_in_table, is_same, answer) = row;
     let found = unescaped(alloc, text, is_in_table)?;
     assert_eq!(rt; found.as_str(), answer, "on {text:?}");
-    assert_eq!(rt; matches!(found, CowStr::Borrowed(_)), is_same, "on {text:?}");
+    assert_eq!(rt;
+        matches!(found, CowStr::Borrowed(_)),
+        is_same,
+        "on {text:?}"
+    );
     assert_eq!(rt; matches!(found, CowStr::Boxed(_)), !is_same, "on {text:?}");
     Ok(())
 }

@@ -1,5 +1,5 @@
 //! Backslash escapes and character references in a text.
-ghost use Rattle.std.specs.Prelude.{◌≡◌, ◌+◌, ◌-◌, ◌<◌, ◌≤◌, ◌^◌, ◌++◌, ℕ, List, Ok, IfOk, IsOk, OnOk, IfSome, IfNone, IsTrue, true, false, length, slice_index, slice_range, min, nat_lt, if◌then◌else◌};
+ghost use Rattle.std.specs.Prelude.{◌≡◌, ◌+◌, ◌-◌, ◌<◌, ◌≤◌, ◌^◌, ◌++◌, ℕ, List, Ok, IfOk, IsOk, OnOk, IfSome, IfNone, false, length, slice_index, slice_range, min, nat_lt, if◌then◌else◌};
 ghost use Rattle.std.specs.Str.{IsCharBoundary};
 ghost use Rattle.std.specs.String.{string_bytes, string_len, string_capacity};
 ghost use Rattle.markdown_values.specs.Text.{cow_text, IsBoxed};

@@ -1,7 +1,7 @@
-use Rattle.std.proofs.Common.{◌≡◌, List, ℕ, false, subst, ◌∙◌, string_bytes}
+use Rattle.std.proofs.Common.{◌≡◌, false, subst, ◌∙◌}
 use Rattle.std.specs.Prelude.{Result, Ok, Err, IfOk}
 use Rattle.markdown_values.specs.Text.{cow_text}
-use Rattle.markdown_scanners_tree.specs.Unescaping.{Piece, ArePieces, joined_meanings}
+use Rattle.markdown_scanners_tree.specs.Unescaping.{ArePieces, joined_meanings}
 use Rattle.cmark_scan.specs.EntityTexts.{entity_text}
 use Rattle.cmark_scan.proofs.unescaping.unescaped_text.Goals as goal
 

@@ -1,4 +1,4 @@
-use Rattle.std.proofs.Common.{◌≡◌, ◌+◌, arith, refl, sym, ap, ◌∙◌, Some, None, subst, encode_utf8}
+use Rattle.std.proofs.Common.{◌+◌, arith, sym, ap, ◌∙◌, subst, encode_utf8}
 use Rattle.markdown_scanners_tree.specs.CharacterReference.{StartsWithReference}
 use Rattle.markdown_scanners_tree.specs.Digits.{IsNumberInFront}
 use Rattle.markdown_scanners_tree.proofs.ReferenceLemmas.{no_hexadecimal, no_decimal, hexadecimal_found, decimal_found}
@@ -10,21 +10,21 @@ use Rattle.markdown_scanners_tree.proofs.scanners.entities.scan_entity.Goals.{el
 pub returns-in_default-clause-absent : goal.returns-in_default-clause-absent
 returns-in_default-clause-absent g c =
     λ n meaning is.
-      no_hexadecimal (g.E.Entities.known c.args.entities.now) c.args.bytes.now n meaning c.if-bytes-ne35.false
-      (sym c.is_hexadecimal_mark.ensures ∙ c.if-is_hexadecimal_mark.true)
-      (λ k number there. c.in_default.ensures.absent k number (subst (λ bs. IsNumberInFront 16 6 bs k number) (sym (take_rest c.args.bytes.now 3)) there))
-      is
+    no_hexadecimal (g.E.Entities.known c.args.entities.now) c.args.bytes.now n meaning c.if-bytes-ne35.false
+    (sym c.is_hexadecimal_mark.ensures ∙ c.if-is_hexadecimal_mark.true)
+    (λ k number there. c.in_default.ensures.absent k number (subst (λ bs. IsNumberInFront 16 6 bs k number) (sym (take_rest c.args.bytes.now 3)) there))
+    is
 
 pub returns-in_default-scan_number-clause-absent : goal.returns-in_default-scan_number-clause-absent
 returns-in_default-scan_number-clause-absent g c =
     λ n meaning is.
-      no_decimal (g.E.Entities.known c.args.entities.now) c.args.bytes.now n meaning c.if-bytes-ne35.false
-      (λ long letter. elim c.else-bytes-gt2.branch [
-        | else-bytes-gt2-via-then-bytes-gt2+else-is_hexadecimal_mark w ↦ false≢true (sym w.if-is_hexadecimal_mark.false ∙ (w.is_hexadecimal_mark.ensures ∙ letter))
-        | else-bytes-gt2-via-else-bytes-gt2 w ↦ absurd (omega (arith, long, w.if-bytes-gt2.false))
-      ])
-      (λ k number there. c.in_default-scan_number.ensures.absent k number (subst (λ bs. IsNumberInFront 10 7 bs k number) (sym (take_rest c.args.bytes.now 2)) there))
-      is
+    no_decimal (g.E.Entities.known c.args.entities.now) c.args.bytes.now n meaning c.if-bytes-ne35.false
+    (λ long letter. elim c.else-bytes-gt2.branch [
+      | else-bytes-gt2-via-then-bytes-gt2+else-is_hexadecimal_mark w ↦ false≢true (sym w.if-is_hexadecimal_mark.false ∙ (w.is_hexadecimal_mark.ensures ∙ letter))
+      | else-bytes-gt2-via-else-bytes-gt2 w ↦ absurd (omega (arith, long, w.if-bytes-gt2.false))
+    ])
+    (λ k number there. c.in_default-scan_number.ensures.absent k number (subst (λ bs. IsNumberInFront 10 7 bs k number) (sym (take_rest c.args.bytes.now 2)) there))
+    is
 
 pub returns-then-is_hexadecimal_mark-clause-found : goal.returns-then-is_hexadecimal_mark-clause-found
 returns-then-is_hexadecimal_mark-clause-found g c =

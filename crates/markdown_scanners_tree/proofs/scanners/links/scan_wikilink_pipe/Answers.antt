@@ -1,4 +1,4 @@
-use Rattle.std.proofs.Common.{◌≡◌, ◌==◌, ap, ◌∙◌, sym, Some, None, arith}
+use Rattle.std.proofs.Common.{◌==◌, ap, ◌∙◌, sym, Some, None, arith}
 use Rattle.std.specs.Prelude.{position}
 use Rattle.markdown_scanners_tree.proofs.LinkLemmas.{IfNone-anyway, position-searched, window_is}
 use Rattle.markdown_scanners_tree.proofs.scanners.links.scan_wikilink_pipe.Goals as goal

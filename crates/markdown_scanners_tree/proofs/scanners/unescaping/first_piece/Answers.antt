@@ -1,4 +1,4 @@
-use Rattle.std.proofs.Common.{◌≡◌, arith, refl, sym, ap, ◌∙◌, subst, false, Bool, []}
+use Rattle.std.proofs.Common.{◌≡◌, sym, ◌∙◌, subst, false, []}
 use Rattle.std.specs.Prelude.{◌&&◌}
 use Rattle.std.proofs.lemmas.Bool.{and_left, and_right}
 use Rattle.markdown_values.specs.Text.{cow_text}

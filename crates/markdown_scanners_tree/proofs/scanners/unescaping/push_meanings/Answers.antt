@@ -1,4 +1,4 @@
-use Rattle.std.proofs.Common.{◌≡◌, ◌+◌, ◌-◌, ◌++◌, ◌≤◌, ◌<◌, arith, sym, ap, subst, ◌∙◌, length, take, drop, List, ℕ, refl, if◌then◌else◌}
+use Rattle.std.proofs.Common.{◌≡◌, ◌-◌, ◌++◌, arith, ap, subst, ◌∙◌, length, take, drop, List, ℕ, if◌then◌else◌}
 use Rattle.std.specs.Prelude.{Result, Ok, Err, OnOk, is_ok}
 use Rattle.std.proofs.lemmas.List.{take_rest}
 use Rattle.std.proofs.lemmas.Bool.{false≢true}
@@ -27,8 +27,8 @@ returns-in_err-run-clause-room g c = λ ps are room.
     take_rest c.as_bytes-bytes.result.now c.loop-i.i ∙ ap (drop c.loop-i.i) c.as_bytes-bytes.ensures.value in
     let is = subst (λ bs. IsFirstPiece c.args.is_in_table known bs p.length p.dropped (replacement p.text)) at c.first_piece-piece.ensures in
     absurd (false≢true (c.in_err-run.ensures.room (λ _.
-        built_room c.args.is_in_table known c.args.text.now c.loop-i.i p.length c.loop-i.run (string_bytes c.args.out.now) (string_len c.args.out.now) (string_bytes c.loop-i.out) (string_len c.loop-i.out) c.loop-i.invariant.built
-        p.dropped (replacement p.text) ps (string_capacity c.loop-i.out) is are (omega (arith, room, c.loop-i.invariant.capacity)))))
+    built_room c.args.is_in_table known c.args.text.now c.loop-i.i p.length c.loop-i.run (string_bytes c.args.out.now) (string_len c.args.out.now) (string_bytes c.loop-i.out) (string_len c.loop-i.out) c.loop-i.invariant.built
+    p.dropped (replacement p.text) ps (string_capacity c.loop-i.out) is are (omega (arith, room, c.loop-i.invariant.capacity)))))
 
 pub loop-i-preserved : goal.loop-i-preserved
 loop-i-preserved g c =
