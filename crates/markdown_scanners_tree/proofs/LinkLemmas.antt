@@ -3,14 +3,13 @@ use Rattle.std.proofs.Common.{◌≡◌, ℕ, suc, ◌+◌, ◌-◌, ◌<◌, �
 use Rattle.std.specs.Prelude.{position, IfNone}
 use Rattle.std.specs.List.{prefix_len}
 use Rattle.std.proofs.lemmas.Bool.{lt-ltb, le-ltb, cases_lt}
-use Rattle.std.proofs.lemmas.List.{length-append, take-append-drop, take_all, take_rest, take_at, drop_at, get_or_at, get_or-drop}
+use Rattle.std.proofs.lemmas.List.{length-append, take_all, take_rest, take_at, drop_at, get_or_at, get_or-drop}
 use Rattle.std.proofs.lemmas.List.Folds.{length-prefix_len}
-use Rattle.std.proofs.Math.Seq.{drop-cons}
 use Rattle.memchr.specs.Find.{IsFirstByte, is_byte}
 use Rattle.markdown_scanners_tree.specs.Bytes.{is_letter}
 use Rattle.markdown_scanners_tree.specs.LinkDestination.{IsPointedFrom, IsBareFrom, IsLinkDestination}
 use Rattle.markdown_scanners_tree.specs.Autolink.{is_scheme_byte, is_uri_byte, IsSchemeInFront, IsUriAutolink}
-use Rattle.markdown_scanners_tree.proofs.FrontLemmas.{list_all-run, prefix_len-parts}
+use Rattle.markdown_scanners_tree.proofs.FrontLemmas.{list_all-run, prefix_len-parts, split_at}
 use Rattle.markdown_scanners_tree.proofs.ScanLemmas.{prefix_len-found, prefix_len-not_found}
 
 -- a search by `memchr` answers the first position
@@ -34,10 +33,6 @@ window_is bytes text start n m same least =
       | inl less ↦ ap (λ k. take k xs) (omega (arith, less))
       | inr more ↦ take_all (min n (length xs)) xs (omega (arith, more)) ∙ sym (take_all n xs more)
     ]
-
-split_at : (bytes : List ℕ) (n byte : ℕ) → n < length bytes → get_or bytes n 0 ≡ byte → bytes ≡ take n bytes ++ byte ∷ drop (suc n) bytes
-split_at bytes n byte inside here =
-    sym (ap (λ r. take n bytes ++ r) (sym (drop-cons bytes n 0 inside ∙ ap (λ b. b ∷ drop (suc n) bytes) here)) ∙ take-append-drop n bytes)
 
 -- what holds anyway holds where nothing is answered
 pub IfNone-anyway : {T : Type 0} (P : Type 0) (answer : Option T) → P → IfNone answer P

@@ -1,7 +1,7 @@
 -- The pieces of a text, found one after another.
-use Rattle.std.proofs.Common.{◌≡◌, ℕ, ◌+◌, ◌-◌, ◌^◌, ◌<◌, ◌≤◌, Bool, false, min, nat_lt, if◌then◌else◌, List, [], ◌∷◌, ◌++◌, length, take, drop, get_or, refl, ap, ◌∙◌, sym, subst, arith, append_assoc, take-add, inl, inr}
+use Rattle.std.proofs.Common.{◌≡◌, ℕ, ◌+◌, ◌-◌, ◌^◌, ◌<◌, ◌≤◌, Bool, false, min, nat_lt, if◌then◌else◌, List, [], ◌∷◌, ◌++◌, length, take, drop, refl, ap, ◌∙◌, sym, subst, arith, append_assoc, take-add, inl, inr}
 use Rattle.std.specs.Str.{IsUtf8, IsCharBoundary}
-use Rattle.std.proofs.lemmas.Str.{IsCharBoundary-after_ascii, IsCharBoundary-before_ascii, IsCharBoundary-start}
+use Rattle.std.proofs.lemmas.Str.{IsCharBoundary-after_ascii, IsCharBoundary-start}
 use Rattle.std.proofs.lemmas.List.{length-append, length-drop, append-nil, append_cancel_left, drop-drop, drop_at, take_at, drop_all, take_all, get_or-drop, drop-take}
 use Rattle.std.proofs.lemmas.Bool.{cases_lt, lt-ltb, le-ltb}
 use Rattle.markdown_scanners_tree.specs.CharacterReference.{Lookup}
@@ -29,11 +29,6 @@ module _ (in_table : Bool) (known : Lookup) (text : List ℕ) (i n dropped : ℕ
 
   pub first_within : i ≤ length text → i + n ≤ length text
   first_within in' = omega (arith, is.long, ap length is.splits, length-append is.piece.source is.rest, length-drop i text, in')
-
-  -- where it is changed, the text may be cut before it
-  pub place_cut : 0 < dropped → i < length text → IsCharBoundary text i
-  place_cut some in' =
-      IsCharBoundary-before_ascii text i in' (subst (λ b. b < 128) (get_or-drop i text 0 0 ∙ ap (λ k. get_or text k 0) (omega arith)) (is.from_ascii some))
 
   -- and after what is dropped of it
   dropped_cut : IsUtf8 text → 0 < dropped → i + n ≤ length text → IsCharBoundary text (i + dropped)
@@ -79,15 +74,6 @@ pub record IsMeasured (in_table : Bool) (known : Lookup) (text : List ℕ) (i : 
   pub forth : (qs : List Piece) → ArePieces in_table known (drop i text) qs → (ps : List Piece) × ArePieces in_table known text ps
   pub back : (ps : List Piece) → ArePieces in_table known text ps → (qs : List Piece) × ArePieces in_table known (drop i text) qs
       × (length (joined_meanings ps) ≡ total + length (joined_meanings qs)) × (AreThemselves ps → (changes ≡ false) × AreThemselves qs) × (changes ≡ false → AreThemselves qs → AreThemselves ps)
-
-pub measured_start : (in_table : Bool) (known : Lookup) (text : List ℕ) → IsMeasured in_table known text 0 false 0
-measured_start in_table known text = record {
-  within = omega arith;
-  total = 0;
-  counted = omega arith;
-  forth = λ qs are. (qs, are);
-  back = λ ps are. (ps, are, omega arith, λ selves. (refl, selves), λ _ selves. selves);
-}
 
 pub measured_more : (in_table : Bool) (known : Lookup) (text : List ℕ) (i n dropped : ℕ) (instead : List ℕ) (changes changes' : Bool) (len len' : ℕ) → IsMeasured in_table known text i changes len
     → IsFirstPiece in_table known (drop i text) n dropped instead → (changes' ≡ false → (changes ≡ false) × (dropped ≡ 0)) → (changes ≡ false → dropped ≡ 0 → changes' ≡ false)

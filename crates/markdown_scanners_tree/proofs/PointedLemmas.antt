@@ -36,13 +36,6 @@ pub record IsPointedSoFar (i : ℕ) (bytes : List ℕ) : Type 0 where
   pub forth : (n : ℕ) → IsPointedFrom (drop i bytes) n → IsPointedFrom bytes (i + n)
   pub back : (n : ℕ) → IsPointedFrom bytes n → (m : ℕ) × (n ≡ i + m) × IsPointedFrom (drop i bytes) m
 
-pub pointed_start : (bytes : List ℕ) → IsPointedSoFar 0 bytes
-pointed_start bytes = record {
-  within = omega arith;
-  forth = λ n is. subst (IsPointedFrom bytes) (omega arith) is;
-  back = λ n is. (n, omega arith, is);
-}
-
 pointed_more : (i j : ℕ) (bytes u : List ℕ) → IsPointedSoFar i bytes → units (drop i bytes) ≡ u ∷ units (drop j bytes) → j ≡ i + length u → j ≤ length bytes
     → stands_pointed u ≡ true → u ≢ 62 ∷ [] → IsPointedSoFar j bytes
 pointed_more i j bytes u is first long in' stands other = record {

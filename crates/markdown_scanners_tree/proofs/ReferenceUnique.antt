@@ -1,14 +1,13 @@
 -- A text begins with one character reference at most, and that has one meaning.
 use Rattle.std.proofs.Common.{◌≡◌, ℕ, ◌<◌, ◌≤◌, Bool, true, not, List, [], ◌∷◌, ◌++◌, length, take, drop, refl, ap, ◌∙◌, sym, subst, arith, inl, inr, Some, append_assoc, ◌==◌, ◌||◌, ◌⊎◌, encode_utf8}
-use Rattle.std.specs.List.{prefix_len, list_all, AllPass}
+use Rattle.std.specs.List.{prefix_len, list_all}
 use Rattle.std.specs.Char.{digit_value}
 use Rattle.std.specs.Str.Parse.{AllDigits, digits_value}
 use Rattle.std.proofs.lemmas.Bool.{false≢true, ne_eqb}
 use Rattle.std.proofs.lemmas.List.{append_cancel_right, append-nil, take_at, length-append}
-use Rattle.std.proofs.lemmas.List.Elements.{All-head, All-tail}
 use Rattle.markdown_scanners_tree.specs.Bytes.{is_alphanumeric}
 use Rattle.markdown_scanners_tree.specs.CharacterReference.{Lookup, referenced_char, IsReference, IsDecimalReference, IsHexadecimalReference, IsEntityReference}
-use Rattle.markdown_scanners_tree.proofs.FrontLemmas.{prefix_len-parts}
+use Rattle.markdown_scanners_tree.proofs.FrontLemmas.{both_true, prefix_len-parts}
 use Rattle.markdown_scanners_tree.proofs.ReferenceLemmas.{decimal_at, hexadecimal_at, entity_at, entity_no_mark, decimal_no_letter}
 
 -- no semicolon stands there
@@ -21,12 +20,12 @@ clear_digits radix (d ∷ digits) low made =
     let other : d ≡ 59 → ⊥ = λ is. absurd (omega (arith, low, subst (λ b. digit_value b < radix) is made.0)) in
     rw (ne_eqb d 59 other) (clear_digits radix digits low made.1)
 
-clear_name : (name : List ℕ) → AllPass is_alphanumeric name → list_all is_clear name ≡ true
+clear_name : (name : List ℕ) → list_all is_alphanumeric name ≡ true → list_all is_clear name ≡ true
 clear_name [] made = refl
 clear_name (b ∷ name) made =
-    let first : is_alphanumeric b ≡ true = All-head (λ x. is_alphanumeric x ≡ true) b name made in
-    let other : b ≡ 59 → ⊥ = λ is. false≢true (ap is_alphanumeric (sym is) ∙ first) in
-    rw (ne_eqb b 59 other) (clear_name name (All-tail (λ x. is_alphanumeric x ≡ true) b name made))
+    let both = both_true (is_alphanumeric b) (list_all is_alphanumeric name) made in
+    let other : b ≡ 59 → ⊥ = λ is. false≢true (ap is_alphanumeric (sym is) ∙ both.0) in
+    rw (ne_eqb b 59 other) (clear_name name both.1)
 
 -- A reference is a byte, bytes that are no semicolon, and a semicolon.
 record IsEnclosed (front : List ℕ) : Type 0 where
