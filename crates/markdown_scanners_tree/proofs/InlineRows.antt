@@ -1,11 +1,10 @@
 -- Worked examples of the definitions for inline text.
 use Rattle.std.proofs.Common.{◌≡◌, ℕ, [], ◌∷◌, refl, arith, encode_utf8}
 use Rattle.std.specs.Prelude.{codes}
-use Rattle.std.proofs.lemmas.List.Sums.{AllPass-from_list_all}
 use Rattle.markdown_scanners_tree.specs.Autolink.{IsUriAutolink}
 use Rattle.markdown_scanners_tree.specs.BackslashEscape.{units}
 use Rattle.markdown_scanners_tree.specs.CharacterReference.{Lookup, referenced_char, StartsWithReference}
-use Rattle.markdown_scanners_tree.specs.LinkDestination.{IsBareFrom, IsPointedDestination, stands_pointed}
+use Rattle.markdown_scanners_tree.specs.LinkDestination.{IsBareFrom, IsPointedDestination}
 use Rattle.markdown_scanners_tree.proofs.ReferenceLemmas.{decimal_found, hexadecimal_found}
 use Rattle.markdown_scanners_tree.proofs.BareLemmas.{step_forth, step_back, bare_here, too_deep}
 
@@ -22,7 +21,7 @@ pointed_row = record {
     inner = codes "a" ∷ codes "\\>" ∷ codes "b" ∷ [];
     more = codes "c" ∷ [];
     splits = refl;
-    made = AllPass-from_list_all stands_pointed (codes "a" ∷ codes "\\>" ∷ codes "b" ∷ []) refl;
+    made = refl;
     long = refl;
   };
   long = refl;

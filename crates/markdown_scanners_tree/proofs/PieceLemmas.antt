@@ -30,7 +30,7 @@ module _ (in_table : Bool) (known : Lookup) (text : List ℕ) (i n dropped : ℕ
   pub first_within : i ≤ length text → i + n ≤ length text
   first_within in' = omega (arith, is.long, ap length is.splits, length-append is.piece.source is.rest, length-drop i text, in')
 
-  -- and after what is dropped of it
+  -- where it is changed, the text may be cut after what is dropped of it
   dropped_cut : IsUtf8 text → 0 < dropped → i + n ≤ length text → IsCharBoundary text (i + dropped)
   dropped_cut utf8 some in' =
       let at : i + (dropped - 1) + 1 ≡ i + dropped = omega (arith, some) in

@@ -1,9 +1,9 @@
 -- A destination in angle brackets, read unit by unit.
 use Rattle.std.proofs.Common.{◌≡◌, ℕ, ◌+◌, ◌<◌, ◌≤◌, ◌≢◌, Bool, true, false, List, [], ◌∷◌, ◌++◌, length, drop, get_or, refl, ap, ◌∙◌, sym, subst, arith, ◌||◌, ◌==◌}
-use Rattle.std.specs.List.{concat, AllPass}
+use Rattle.std.specs.List.{concat, list_all}
 use Rattle.std.proofs.lemmas.List.{length-append, drop_all}
-use Rattle.std.proofs.lemmas.List.Elements.{All-nil, All-cons, All-head, All-tail}
-use Rattle.std.proofs.lemmas.Bool.{false≢true}
+use Rattle.markdown_scanners_tree.proofs.FrontLemmas.{both_true}
+use Rattle.std.proofs.lemmas.Bool.{false≢true, and_from}
 use Rattle.std.proofs.lemmas.Bool.Decides.{nat_tests}
 use Rattle.markdown_scanners_tree.specs.BackslashEscape.{units, starts_escape}
 use Rattle.markdown_scanners_tree.specs.LinkDestination.{stands_pointed, IsPointedFrom}
@@ -15,19 +15,19 @@ pointed_forth n t t' u first stands is = record {
   inner = u ∷ is.inner;
   more = is.more;
   splits = first ∙ ap (λ us. u ∷ us) is.splits;
-  made = All-cons (λ x. stands_pointed x ≡ true) u is.inner stands is.made;
+  made = and_from (stands_pointed u) (list_all stands_pointed is.inner) stands is.made;
   long = omega (arith, is.long, length-append u (concat is.inner));
 }
 
 pointed_back : (n : ℕ) (t t' u : List ℕ) → units t ≡ u ∷ units t' → u ≢ 62 ∷ [] → IsPointedFrom t n → (m : ℕ) × (n ≡ length u + m) × IsPointedFrom t' m
 pointed_back n t t' u first other is = go is.inner is.splits is.made is.long where
-  go : (inner : List (List ℕ)) → units t ≡ inner ++ (62 ∷ []) ∷ is.more → AllPass stands_pointed inner → n ≡ length (concat inner) → (m : ℕ) × (n ≡ length u + m) × IsPointedFrom t' m
+  go : (inner : List (List ℕ)) → units t ≡ inner ++ (62 ∷ []) ∷ is.more → list_all stands_pointed inner ≡ true → n ≡ length (concat inner) → (m : ℕ) × (n ≡ length u + m) × IsPointedFrom t' m
   go [] splits made long = absurd (other (ap head_of (sym first ∙ splits)))
   go (v ∷ inner) splits made long =
       let both : u ∷ units t' ≡ v ∷ (inner ++ (62 ∷ []) ∷ is.more) = sym first ∙ splits in (
         length (concat inner),
         omega (arith, long, length-append v (concat inner), ap length (ap head_of both)),
-        record { inner = inner; more = is.more; splits = ap (drop 1) both; made = All-tail (λ x. stands_pointed x ≡ true) v inner made; long = refl },
+        record { inner = inner; more = is.more; splits = ap (drop 1) both; made = (both_true (stands_pointed v) (list_all stands_pointed inner) made).1; long = refl },
       )
 
 -- After i bytes: the whole text's destinations are those of the rest.
@@ -75,9 +75,9 @@ pointed_refused i bytes is in' plain refused other n there =
     let first = units_single_at bytes i in' plain in
     go rest.inner rest.more (sym first ∙ rest.splits) rest.made
   where
-    go : (inner more : List (List ℕ)) → (get_or bytes i 0 ∷ []) ∷ units (drop (i + 1) bytes) ≡ inner ++ (62 ∷ []) ∷ more → AllPass stands_pointed inner → ⊥
+    go : (inner more : List (List ℕ)) → (get_or bytes i 0 ∷ []) ∷ units (drop (i + 1) bytes) ≡ inner ++ (62 ∷ []) ∷ more → list_all stands_pointed inner ≡ true → ⊥
     go [] more splits made = other (ap (λ us. get_or (head_of us) 0 0) splits)
-    go (v ∷ inner) more splits made = false≢true (sym (stands_not (get_or bytes i 0) refused) ∙ (ap stands_pointed (ap head_of splits) ∙ All-head (λ x. stands_pointed x ≡ true) v inner made))
+    go (v ∷ inner) more splits made = false≢true (sym (stands_not (get_or bytes i 0) refused) ∙ (ap stands_pointed (ap head_of splits) ∙ (both_true (stands_pointed v) (list_all stands_pointed inner) made).0))
 
 -- the end of the text: no destination
 pub pointed_open : (i : ℕ) (bytes : List ℕ) → IsPointedSoFar i bytes → length bytes ≤ i → (n : ℕ) → IsPointedFrom bytes n → ⊥
@@ -94,6 +94,6 @@ pointed_here i bytes is in' close =
       inner = [];
       more = units (drop (i + 1) bytes);
       splits = units_single_at bytes i in' plain ∙ ap (λ b. (b ∷ []) ∷ units (drop (i + 1) bytes)) close;
-      made = All-nil (λ x. stands_pointed x ≡ true);
+      made = refl;
       long = refl;
     }))
