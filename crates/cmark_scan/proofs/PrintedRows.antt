@@ -5,7 +5,8 @@ use Rattle.std.specs.Fmt.{digits}
 use Rattle.markdown_scanners_tree.specs.declared.line.LineCall.TheVariants as call
 use Rattle.markdown_scanners_tree.specs.declared.line.LineAnswer.TheVariants as answer
 use Rattle.markdown_scanners_tree.specs.declared.line.LineStop.TheVariants.{SpacePending}
-use Rattle.cmark_scan.specs.Words.{call_of, request_of, scan_line, scan_html}
+use Rattle.cmark_scan.specs.Words.{call_of, request_of, scan_line, scan_html, scan_unescape}
+use Rattle.cmark_scan.specs.EntityTexts.{entity_text}
 use Rattle.cmark_scan.specs.HtmlScans.{scans_from, scans_of}
 use Rattle.cmark_scan.specs.Printed.{run_text, html_text, line_of}
 use Rattle.markdown_scanners_tree.specs.InlineHtml.{declared_at, opening_at, least_place, cost}
@@ -59,3 +60,15 @@ scans = refl
 no_scans : html_text [] (scans_of []) ≡ line_of (codes "passed 0 of 0")
 unfolding digits declared_at opening_at least_place cost scans_from
 no_scans = refl
+
+unescape_word : request_of (codes "unescape" ∷ []) ≡ Some scan_unescape
+unescape_word = refl
+
+word_after_unescape : request_of (codes "unescape" ∷ codes "" ∷ []) ≡ None
+word_after_unescape = refl
+
+quotation_mark : entity_text (codes "quot") ≡ Some (34 ∷ [])
+quotation_mark = refl
+
+unknown_entity : entity_text (codes "copy") ≡ None
+unknown_entity = refl

@@ -1,4 +1,5 @@
 mod html;
+mod unescaping;
 
 use crate::program::run_program;
 use std::alloc::Global;
@@ -333,7 +334,7 @@ fn refuses_other_words(rt: HostRuntime) -> std::result::Result<(), Fail> {
         &["html", ""],
         &["line", "html"],
         &["label"],
-        &["unescape"],
+        &["unescape", ""],
         &["line", "line"],
         &["line", ""],
         &["line", "space"],

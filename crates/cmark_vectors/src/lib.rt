@@ -4,6 +4,8 @@
 #[cfg(test)]
 mod blocks;
 #[cfg(test)]
+mod inline;
+#[cfg(test)]
 mod inline_html;
 #[cfg(test)]
 mod line;

@@ -1,3 +1,4 @@
+pub mod BareLemmas
 pub mod BlankLemmas
 pub mod BlockNames
 pub mod BlockRows
@@ -6,6 +7,8 @@ pub mod BreakLemmas
 pub mod BreakScan
 pub mod ClassLemmas
 pub mod ColumnLemmas
+pub mod DigitLemmas
+pub mod FirstPieceLemmas
 pub mod FrontLemmas
 pub mod GuardsKept
 pub mod HeadLemmas
@@ -17,6 +20,7 @@ pub mod InlineHtmlRows
 pub mod InlineHtmlRuns
 pub mod InlineHtmlScans
 pub mod InlineHtmlSums
+pub mod InlineRows
 pub mod ItemLemmas
 pub mod KeptCopy
 pub mod KeptReading
@@ -24,8 +28,13 @@ pub mod KeptStep
 pub mod LeastPlaces
 pub mod LineRows
 pub mod LineRunLemmas
+pub mod LinkLemmas
 pub mod ListItemLemmas
 pub mod MetadataLemmas
+pub mod PieceLemmas
+pub mod PointedLemmas
+pub mod ReferenceLemmas
+pub mod ReferenceUnique
 pub mod RowLemmas
 pub mod RunLemmas
 pub mod ScanLemmas
@@ -40,4 +49,5 @@ pub mod TagRows
 pub mod TagScan
 pub mod TagWhole
 pub mod TrueGuards
+pub mod UnitLemmas
 pub mod WrittenLemmas

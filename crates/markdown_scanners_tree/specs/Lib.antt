@@ -1,10 +1,15 @@
 pub mod Accepted
+pub mod Autolink
+pub mod BackslashEscape
 pub mod Bytes
+pub mod CharacterReference
 pub mod Classes
 pub mod CodeFence
 pub mod Columns
 pub mod CountedBytes
 pub mod DelimiterRow
+pub mod Digits
+pub mod FirstPiece
 pub mod Handler
 pub mod HeadingLines
 pub mod HtmlBlock
@@ -20,6 +25,7 @@ pub mod KeptTag
 pub mod LineOutcome
 pub mod LineState
 pub mod Lines
+pub mod LinkDestination
 pub mod ListItem
 pub mod ListMarker
 pub mod Metadata
@@ -28,3 +34,4 @@ pub mod PlainRun
 pub mod PlainStep
 pub mod TagMachine
 pub mod ThematicBreak
+pub mod Unescaping
