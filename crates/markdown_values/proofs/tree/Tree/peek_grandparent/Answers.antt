@@ -1,0 +1,12 @@
+use Rattle.std.proofs.Common.{◌≡◌, length, arith}
+use Rattle.markdown_values.proofs.TreeLemmas.{last-but_last, last-but_last-none}
+use Rattle.markdown_values.proofs.tree.Tree.peek_grandparent.Goals as goal
+
+pub returns-then-count-ge2-clause-grandparent : goal.returns-then-count-ge2-clause-grandparent
+returns-then-count-ge2-clause-grandparent g c =
+    let counted : c.len-count.result ≡ length c.self.inside.spine.items = omega arith in
+    rw (← c.self.view_is) (last-but_last c.self.inside.spine.items _ (omega arith) (rw counted at c.index.ensures))
+
+pub returns-else-count-ge2-clause-grandparent : goal.returns-else-count-ge2-clause-grandparent
+returns-else-count-ge2-clause-grandparent g c =
+    rw (← c.self.view_is) (last-but_last-none c.self.inside.spine.items (omega arith))
