@@ -12,4 +12,6 @@ mod line_vectors;
 #[cfg(test)]
 mod texts;
 #[cfg(test)]
+mod tree;
+#[cfg(test)]
 mod values;
