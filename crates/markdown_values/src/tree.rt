@@ -44,7 +44,7 @@ impl Add<usize> for TreeIndex {
 
     fn add(self, rhs: usize) -> TreeIndex {
         TreeIndex {
-            value: self.value + rhs,
+            value: self.get() + rhs,
         }
     }
 }
@@ -58,7 +58,7 @@ impl Sub<usize> for TreeIndex {
 
     fn sub(self, rhs: usize) -> TreeIndex {
         TreeIndex {
-            value: self.value - rhs,
+            value: self.get() - rhs,
         }
     }
 }
@@ -135,6 +135,7 @@ impl<T: Drop> Tree<T> {
         ensures focus { result ≡ self.now.focus }
         ensures within { IsLinkWithin (length self.now.nodes) result }
     {
+        // None: the next node becomes the only child of the parent.
         self.focus
     }
 
@@ -221,9 +222,9 @@ impl<T: Drop> Tree<T> {
         ensures state { self.new ≡ popped self.old }
         ensures forest { (f : Focused) → StandsFor self.old f → StandsFor self.new (forest.popped f) }
     {
-        let parent = self.spine.pop()?;
-        self.focus = Some(parent);
-        Some(parent)
+        let popped = self.spine.pop()?;
+        self.focus = Some(popped);
+        Some(popped)
     }
 
     /// As `pop`, and drops the node that was made last and the parent's child link.
@@ -254,7 +255,7 @@ impl<T: Drop> Tree<T> {
         ensures grandparent { result ≡ last (but_last self.now.spine) }
         ensures within { IsLinkWithin (length self.now.nodes) result }
     {
-        let count = self.spine.len();
+        let count = self.spine_len();
         if count >= 2 {
             Some(self.spine[count - 2])
         } else {
@@ -282,7 +283,7 @@ impl<T: Drop> Tree<T> {
         ensures state { self.new ≡ reset_of self.old }
         ensures forest { (f : Focused) → StandsFor self.old f → StandsFor self.new (forest.reset_of f) }
     {
-        self.focus = if self.nodes.len() <= 1 {
+        self.focus = if self.is_empty() {
             None
         } else {
             Some(TreeIndex { value: 1 })
@@ -464,9 +465,9 @@ impl<T: SpanItem + Drop> Tree<T> {
         ensures { FindsOther T.span end self.now.nodes (child_of self.now.nodes parent) result.0 result.1 }
     {
         let mut previous: Option<TreeIndex> = None;
-        let mut next = self.nodes[parent.get()].child;
+        let mut next = self[parent].child;
         while let Some(ix) = next {
-            let node = &self.nodes[ix.get()];
+            let node = &self[ix];
             if node.item.end() >= end {
                 return (previous, next);
             }
@@ -492,7 +493,7 @@ impl<T: SpanItem + Drop> Tree<T> {
         ensures state { IfSome (slice_get self.old.nodes ix) (λ node. self.new
             ≡ cut_tree T.span T.with_range end parent previous (ix, node) self.old) }
     {
-        let item = &self.nodes[ix.get()].item;
+        let item = &self[ix].item;
         let start = item.start();
         let old_end = item.end();
         let escaped = item.backslash_escaped();

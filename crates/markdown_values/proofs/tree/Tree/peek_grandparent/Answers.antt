@@ -4,9 +4,8 @@ use Rattle.markdown_values.proofs.tree.Tree.peek_grandparent.Goals as goal
 
 pub returns-then-count-ge2-clause-grandparent : goal.returns-then-count-ge2-clause-grandparent
 returns-then-count-ge2-clause-grandparent g c =
-    let counted : c.len-count.result ≡ length c.self.inside.spine.items = omega arith in
+    let counted : c.spine_len-count.result ≡ length c.self.inside.spine.items = rw (← c.self.view_is) at c.spine_len-count.ensures in
     rw (← c.self.view_is) (last-but_last c.self.inside.spine.items _ (omega arith) (rw counted at c.index.ensures))
 
 pub returns-else-count-ge2-clause-grandparent : goal.returns-else-count-ge2-clause-grandparent
-returns-else-count-ge2-clause-grandparent g c =
-    rw (← c.self.view_is) (last-but_last-none c.self.inside.spine.items (omega arith))
+returns-else-count-ge2-clause-grandparent g c = last-but_last-none c.args.self.now.spine (omega arith)
