@@ -1,9 +1,9 @@
 -- Lists, and the links of a `Tree`.
 use Rattle.std.proofs.Common.{◌≡◌, ◌≢◌, ℕ, zero, suc, ◌-◌, ◌<◌, ◌≤◌, List, [], ◌∷◌, ◌++◌, length, get_or, take, refl, ap, sym, ◌∙◌, arith, Option, Some, None, subst}
 use Rattle.std.specs.Prelude.{slice_get, slice_set, All}
-use Rattle.std.proofs.lemmas.Option.{get_or_from_slice_get, slice_get_within}
+use Rattle.std.proofs.lemmas.Option.{get_or_from_slice_get, slice_get_read, slice_get_within}
 use Rattle.markdown_values.specs.declared.tree.Node.{Node}
-use Rattle.markdown_values.specs.Tree.{last, but_last, update_at, IsLinkWithin, IsNodeWithin, IsWithin, child_of, next_of, linked_from_focus, linked_from_parent, first_root}
+use Rattle.markdown_values.specs.Tree.{last, but_last, update_at, IsLinkWithin, IsNodeWithin, child_of, linked_from_focus, linked_from_parent, first_root}
 
 module _ {A : Type 0} where
   -- the last of a list that ends in x
@@ -22,11 +22,6 @@ module _ {A : Type 0} where
   update_at-read f [] i x h e = absurd (omega arith)
   update_at-read f (y ∷ ys) zero x h e = ap (λ (v : A). f v ∷ ys) (sym e)
   update_at-read f (y ∷ ys) (suc i) x h e = ap (λ (l : List A). y ∷ l) (update_at-read f ys i x (omega arith) e)
-
-  pub slice_get-read : (xs : List A) (i : ℕ) (x : A) → i < length xs → x ≡ get_or xs i x → slice_get xs i ≡ Some x
-  slice_get-read [] i x h e = absurd (omega arith)
-  slice_get-read (y ∷ ys) zero x h e = ap Some (sym e)
-  slice_get-read (y ∷ ys) (suc i) x h e = slice_get-read ys i x (omega arith) e
 
   pub length-update_at : (f : A → A) (xs : List A) (i : ℕ) → length (update_at f xs i) ≡ length xs
   length-update_at f [] i = refl
@@ -113,16 +108,7 @@ module _ {T : Type 0} where
   first_root-some (n ∷ m ∷ ns) h = refl
 
   pub child_of-read : (nodes : List (Node T)) (i : ℕ) (node : Node T) → i < length nodes → node ≡ get_or nodes i node → node.child ≡ child_of nodes i
-  child_of-read nodes i node h e = rw (slice_get-read nodes i node h e)
-
-  pub next_of-read : (nodes : List (Node T)) (i : ℕ) (node : Node T) → i < length nodes → node ≡ get_or nodes i node → node.next ≡ next_of nodes i
-  next_of-read nodes i node h e = rw (slice_get-read nodes i node h e)
-
-  -- an update below the end leaves what follows
-  pub update_at-push : (f : Node T → Node T) (nodes : List (Node T)) (i : ℕ) (node : Node T) → i < length nodes → update_at f (nodes ++ node ∷ []) i ≡ update_at f nodes i ++ node ∷ []
-  update_at-push f [] i node h = absurd (omega arith)
-  update_at-push f (n ∷ ns) zero node h = refl
-  update_at-push f (n ∷ ns) (suc i) node h = ap (λ (l : List (Node T)). n ∷ l) (update_at-push f ns i node (omega arith))
+  child_of-read nodes i node h e = rw (slice_get_read nodes (length nodes) i node refl h e)
 
   pub length-linked : (nodes : List (Node T)) (focus : Option ℕ) (spine : List ℕ) (link : Option ℕ) → length (linked_from_focus nodes focus spine link) ≡ length nodes
   length-linked nodes (Some f) spine link = length-update_at _ nodes f
@@ -132,19 +118,9 @@ module _ {T : Type 0} where
       length-linked_under nodes None link = refl
       length-linked_under nodes (Some p) link = length-update_at _ nodes p
 
-  -- the new node may be added before or after the link to it
-  pub linked-push : (nodes : List (Node T)) (spine : List ℕ) (focus link : Option ℕ) (node : Node T) → IsWithin nodes spine focus → linked_from_focus (nodes ++ node ∷ []) focus spine link ≡ linked_from_focus nodes focus spine link ++ node ∷ []
-  linked-push nodes spine (Some f) link node h = update_at-push _ nodes f node h.focus_leads
-  linked-push nodes spine None link node h = under_parent (last spine) refl
-    where
-      under_parent : (parent : Option ℕ) → last spine ≡ parent → linked_from_parent (nodes ++ node ∷ []) parent link ≡ linked_from_parent nodes parent link ++ node ∷ []
-      under_parent None e = refl
-      under_parent (Some p) e =
-          update_at-push (λ n. record n { child = link }) nodes p node (All-last (λ ix. ix < length nodes) spine p h.spine_leads e)
-
   -- the next link of a node within leads to a node
   pub next-within : (nodes : List (Node T)) (i : ℕ) (node : Node T) → All (IsNodeWithin (length nodes)) nodes → i < length nodes → node ≡ get_or nodes i node → IsLinkWithin (length nodes) node.next
-  next-within nodes i node all h e = (All-at (IsNodeWithin (length nodes)) nodes i node all (slice_get-read nodes i node h e)).next
+  next-within nodes i node all h e = (All-at (IsNodeWithin (length nodes)) nodes i node all (slice_get_read nodes (length nodes) i node refl h e)).next
 
 pub last-within : (count : ℕ) (spine : List ℕ) → All (λ ix. ix < count) spine → IsLinkWithin count (last spine)
 last-within count spine h = by_last (last spine) refl
