@@ -377,7 +377,7 @@ impl<T: Clone> Clone for Tree<T> {
     ghost is_clone = { IsTreeClone T.is_clone };
 
     fn clone(&self) -> Result<Tree<T>, AllocError> {
-        let mut nodes = Vec::new(*self.nodes.allocator());
+        let mut nodes = Vec::with_capacity(*self.nodes.allocator(), self.nodes.len())?;
         for node in &self.nodes {
             nodes.push(Node {
                 child: node.child,
