@@ -16,4 +16,6 @@ mod tags;
 #[cfg(test)]
 mod texts;
 #[cfg(test)]
+mod tree;
+#[cfg(test)]
 mod values;
