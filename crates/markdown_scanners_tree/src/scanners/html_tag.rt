@@ -48,7 +48,7 @@ fn measure_tag<F: Fn(&[u8]) -> usize>(data: &[u8], handler: Option<&F>) -> Optio
     let mut place = 0;
     let mut kept = 0;
     let mut endings = 0;
-    while place < data.len() {
+    while place < data.len() && !state.is_final() {
         let is_last = ends_line(&data[place..]);
         state = state.next(data[place]);
         place += 1;
@@ -58,14 +58,12 @@ fn measure_tag<F: Fn(&[u8]) -> usize>(data: &[u8], handler: Option<&F>) -> Optio
             place += skips(&data[place..]);
             endings += 1;
         }
-        if state.is_tag_end(endings) {
-            return Some(TagLength { kept, end: place });
-        }
-        if state.is_final() {
-            return None;
-        }
     }
-    None
+    if state.is_tag_end(endings) {
+        Some(TagLength { kept, end: place })
+    } else {
+        None
+    }
 }
 
 // The first bytes of the data that are kept, by one request for memory.
