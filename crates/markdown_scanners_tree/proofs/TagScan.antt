@@ -1,5 +1,5 @@
 -- How far a scan of a tag over lines has come, and what that says of its end.
-use Rattle.std.proofs.Common.{ℕ, List, [], ◌∷◌, ◌++◌, ◌+◌, ◌-◌, ◌<◌, ◌≤◌, ◌≡◌, true, false, cond, length, take, drop, get_or, Option, Some, None, IfSome, refl, sym, ap, ◌∙◌, subst, append_assoc, length-append, inl, inr, arith}
+use Rattle.std.proofs.Common.{ℕ, List, [], ◌∷◌, ◌++◌, ◌+◌, ◌-◌, ◌<◌, ◌≤◌, ◌≡◌, true, false, cond, length, take, drop, get_or, Option, Some, None, IfSome, refl, sym, ap, ◌∙◌, subst, append_assoc, length-append, inl, inr, ◌⊎◌, arith}
 use Rattle.std.proofs.lemmas.Bool.{cases_Bool}
 use Rattle.std.proofs.lemmas.List.{drop_more, drop-drop, drop_all, length-drop, append-nil, map-append}
 use Rattle.std.proofs.lemmas.List.Sums.{sum_by-append}
@@ -52,8 +52,6 @@ pub record Turn (answers : List ℕ → ℕ → Type 0) (source : List ℕ) (pla
   pub at : kept.place ≡ place
   pub step : Step answers place (drop place source) kept next (drop next source)
   pub marked : marks ≡ endings + cond kept.ends_line 1 0
-  pub further : place + 1 ≤ next
-  pub few : marks ≤ endings + 1
   pub inside : next ≤ length source
   pub alone : is_line_ending kept.byte ≡ false → (next ≡ place + 1) × Reads answers place (drop place source) (kept ∷ [])
 
@@ -70,8 +68,6 @@ module _ (answers : List ℕ → ℕ → Type 0) (source : List ℕ) (place endi
         at = refl;
         step = rw begins (step_in_line answers place (get_or source place 0) (drop (place + 1) source) plain);
         marked = omega arith;
-        few = omega arith;
-        further = omega arith;
         inside = omega arith;
         alone = λ e. (refl, rw begins (last_read answers place (get_or source place 0) (drop (place + 1) source) e));
       }
@@ -89,8 +85,6 @@ module _ (answers : List ℕ → ℕ → Type 0) (source : List ℕ) (place endi
         at = refl;
         step = subst (λ z. Step answers place z (at_line_end byte place) (place + 1 + skip) (drop (place + 1 + skip) source)) (sym begins) (subst (λ z. Step answers place (byte ∷ drop (place + 1) source) (at_line_end byte place) (place + 1 + skip) z) rest (subst (λ z. Step answers place (byte ∷ drop (place + 1) source) (at_line_end byte place) z (drop skip (drop (place + 1) source))) next step));
         marked = refl;
-        few = omega arith;
-        further = omega arith;
         inside = (let l : length (drop (place + 1) source) ≡ length source - (place + 1) = length-drop (place + 1) source in omega arith);
         alone = λ e. absurd (let t : is_line_ending byte ≡ true = (ends_alone place byte (drop (place + 1) source) ends).0 in cc);
       }
@@ -124,117 +118,103 @@ pub record Scanned (answers : List ℕ → ℕ → Type 0) (source : List ℕ) (
   pub counted : kept ≡ length passed
   pub ended : endings ≡ line_endings passed
   pub reached : state ≡ state_after Start (bytes_of passed)
-  pub unfinished : is_final state ≡ false
+  pub whole : is_tag_end state endings ≡ true → Reads answers 0 source passed × (place ≡ place_after 0 passed)
   pub forth : (c : KeptByte) (t : List KeptByte) → Reads answers place (drop place source) (c ∷ t) → Reads answers 0 source (passed ++ c ∷ t)
   pub left : (front : List KeptByte) → Reads answers 0 source front → EndsTag front → (t : List KeptByte) × (front ≡ passed ++ t) × Reads answers place (drop place source) t
 
 pub scan_starts : (answers : List ℕ → ℕ → Type 0) (source : List ℕ) → Scanned answers source 0 0 0 Start
-scan_starts answers source = record { passed = []; counted = refl; ended = refl; reached = refl; unfinished = refl; forth = λ c t r. r; left = λ front r e. (front, refl, r) }
+scan_starts answers source = record { passed = []; counted = refl; ended = refl; reached = refl; whole = λ e. cc; forth = λ c t r. r; left = λ front r e. (front, refl, r) }
 
 module _ (answers : List ℕ → ℕ → Type 0) (source : List ℕ) (place kept endings : ℕ) (state : TagState) (s : Scanned answers source place kept endings state) where
-  -- a tag goes on after what is passed
-  goes_on : (front : List KeptByte) → Reads answers 0 source front → EndsTag front → (c : KeptByte) × (t : List KeptByte) × (front ≡ s.passed ++ c ∷ t) × Reads answers place (drop place source) (c ∷ t)
-  goes_on front r e = let l = s.left front r e in by l.0 l.1 l.2
+  -- what is passed is a tag exactly where the state says so
+  ends_passed : is_tag_end state endings ≡ is_tag_end (state_after Start (bytes_of s.passed)) (line_endings s.passed)
+  ends_passed = ap (λ z. is_tag_end z endings) s.reached ∙ ap (is_tag_end (state_after Start (bytes_of s.passed))) s.ended
+
+  -- a tag goes on after what is passed, where that is none
+  goes_on : is_tag_end state endings ≡ false → (front : List KeptByte) → Reads answers 0 source front → EndsTag front → (c : KeptByte) × (t : List KeptByte) × (front ≡ s.passed ++ c ∷ t) × Reads answers place (drop place source) (c ∷ t)
+  goes_on none front r e = let l = s.left front r e in by l.0 l.1 l.2
     where
       by : (t : List KeptByte) → front ≡ s.passed ++ t → Reads answers place (drop place source) t → (c : KeptByte) × (t : List KeptByte) × (front ≡ s.passed ++ c ∷ t) × Reads answers place (drop place source) (c ∷ t)
       by [] is rest =
-          let whole : is_tag_end state (line_endings s.passed) ≡ true = ap (λ z. is_tag_end z (line_endings s.passed)) s.reached ∙ ap (λ z. is_tag_end (state_after Start (bytes_of z)) (line_endings z)) (sym (append-nil s.passed) ∙ sym is) ∙ e in
-          absurd (let final : is_final state ≡ true = end_is_final state _ whole in let other = s.unfinished in cc)
+          let whole : is_tag_end state endings ≡ true = ends_passed ∙ ap (λ z. is_tag_end (state_after Start (bytes_of z)) (line_endings z)) (sym (append-nil s.passed) ∙ sym is) ∙ e in
+          cc
       by (c ∷ t) is rest = (c, t, is, rest)
 
-  pub scan_ends : length source ≤ place → (front : List KeptByte) → IsKeptTag answers source front → ⊥
-  scan_ends high front k =
-      let l = goes_on front (tag_read answers source front k) (tag_ends answers source front k) in
-      nothing_read answers place l.0 l.1 (subst (λ z. Reads answers place z (l.0 ∷ l.1)) (drop_all place source high) l.3)
+  -- and none goes on after a final state
+  nowhere : is_final state ≡ true → (front : List KeptByte) → EndsTag front → (x : KeptByte) (u : List KeptByte) → front ≡ s.passed ++ x ∷ u → ⊥
+  nowhere final front e x u is =
+      let run : state_after Start (bytes_of (s.passed ++ x ∷ u)) ≡ state_after state (x.byte ∷ bytes_of u) = ap (state_after Start) (map-append (λ z. z.byte) s.passed (x ∷ u)) ∙ state_after_append Start (bytes_of s.passed) (x.byte ∷ bytes_of u) ∙ ap (λ z. state_after z (x.byte ∷ bytes_of u)) (sym s.reached) in
+      let whole : is_tag_end (state_after state (x.byte ∷ bytes_of u)) (line_endings (s.passed ++ x ∷ u)) ≡ true = ap (λ z. is_tag_end z (line_endings (s.passed ++ x ∷ u))) (sym run) ∙ ap (λ z. is_tag_end (state_after Start (bytes_of z)) (line_endings z)) (sym is) ∙ e in
+      let other : is_tag_end (state_after state (x.byte ∷ bytes_of u)) (line_endings (s.passed ++ x ∷ u)) ≡ false = final_goes_nowhere state x.byte (bytes_of u) (line_endings (s.passed ++ x ∷ u)) final in
+      cc
 
-  pub scan_has_no_skip : place < length source → ends_source_line (drop place source) ≡ true → ((n : ℕ) → answers (drop (place + 1) source) n → ⊥) → (front : List KeptByte) → IsKeptTag answers source front → ⊥
-  scan_has_no_skip low h none front k =
-      let l = goes_on front (tag_read answers source front k) (tag_ends answers source front k) in
-      no_turn answers source place endings low h none l.0 l.1 l.3
+  pub scan_finds : is_tag_end state endings ≡ true → (front : List KeptByte) × IsKeptTag answers source front × (kept ≡ length front) × (place ≡ place_after 0 front)
+  scan_finds e = let whole = s.whole e in (s.passed, tag_from answers source s.passed whole.0 (sym ends_passed ∙ e), s.counted, whole.1)
 
-  module _ (next marks : ℕ) (turn : Turn answers source place endings next marks) where
-    after : TagState
-    after = next_state state (get_or source place 0)
+  pub scan_only : is_tag_end state endings ≡ true → (front : List KeptByte) → IsKeptTag answers source front → (kept ≡ length front) × (place ≡ place_after 0 front)
+  scan_only e front k = let l = s.left front (tag_read answers source front k) (tag_ends answers source front k) in by l.0 l.1
+    where
+      by : (t : List KeptByte) → front ≡ s.passed ++ t → (kept ≡ length front) × (place ≡ place_after 0 front)
+      by [] is = let same : s.passed ≡ front = sym (append-nil s.passed) ∙ sym is in (s.counted ∙ ap length same, (s.whole e).1 ∙ ap (place_after 0) same)
+      by (x ∷ u) is = absurd (nowhere (end_is_final state endings e) front (tag_ends answers source front k) x u is)
 
-    more : List KeptByte
-    more = s.passed ++ turn.kept ∷ []
+  pub scan_ends : is_tag_end state endings ≡ false → (length source ≤ place) ⊎ (is_final state ≡ true) → (front : List KeptByte) → IsKeptTag answers source front → ⊥
+  scan_ends none end front k = let l = goes_on none front (tag_read answers source front k) (tag_ends answers source front k) in by end l.0 l.1 l.2 l.3
+    where
+      by : (length source ≤ place) ⊎ (is_final state ≡ true) → (c : KeptByte) (t : List KeptByte) → front ≡ s.passed ++ c ∷ t → Reads answers place (drop place source) (c ∷ t) → ⊥
+      by (inl high) c t is r = nothing_read answers place c t (subst (λ z. Reads answers place z (c ∷ t)) (drop_all place source high) r)
+      by (inr final) c t is r = nowhere final front (tag_ends answers source front k) c t is
 
-    state_is : state_after Start (bytes_of more) ≡ after
-    unfolding after more
-    state_is = state_more s.passed turn.kept ∙ ap (λ z. next_state z turn.kept.byte) (sym s.reached) ∙ ap (next_state state) turn.byte
+  module _ (unfinished : is_final state ≡ false) where
+    no_end : is_tag_end state endings ≡ false
+    no_end = elim (cases_Bool (is_tag_end state endings)) [ inl e ↦ absurd (let final : is_final state ≡ true = end_is_final state endings e in cc) | inr e ↦ e ]
 
-    marks_are : line_endings more ≡ marks
-    unfolding more
-    marks_are = marks_more s.passed turn.kept ∙ ap (λ z. z + cond turn.kept.ends_line 1 0) (sym s.ended) ∙ sym turn.marked
+    pub scan_has_no_skip : place < length source → ends_source_line (drop place source) ≡ true → ((n : ℕ) → answers (drop (place + 1) source) n → ⊥) → (front : List KeptByte) → IsKeptTag answers source front → ⊥
+    scan_has_no_skip low h none front k =
+        let l = goes_on no_end front (tag_read answers source front k) (tag_ends answers source front k) in
+        no_turn answers source place endings low h none l.0 l.1 l.3
 
-    left_more : (front : List KeptByte) → Reads answers 0 source front → EndsTag front → (t : List KeptByte) × (front ≡ more ++ t) × Reads answers next (drop next source) t
-    unfolding more
-    left_more front r e =
-        let l = goes_on front r e in
-        let back = turn.step.back l.0 l.1 l.3 in
-        (l.1, l.2 ∙ ap (λ c. s.passed ++ c ∷ l.1) back.0 ∙ sym (append_assoc s.passed (turn.kept ∷ []) l.1), back.1)
+    module _ (next marks : ℕ) (turn : Turn answers source place endings next marks) where
+      after : TagState
+      after = next_state state (get_or source place 0)
 
-    forth_more : (c : KeptByte) (t : List KeptByte) → Reads answers next (drop next source) (c ∷ t) → Reads answers 0 source (more ++ c ∷ t)
-    unfolding more
-    forth_more c t r = subst (λ z. Reads answers 0 source z) (sym (append_assoc s.passed (turn.kept ∷ []) (c ∷ t))) (s.forth turn.kept (c ∷ t) (turn.step.forth c t r))
+      more : List KeptByte
+      more = s.passed ++ turn.kept ∷ []
 
-    counted_more : kept + 1 ≡ length more
-    unfolding more
-    counted_more = ap (λ z. z + 1) s.counted ∙ sym (length-append s.passed (turn.kept ∷ []))
+      plain : is_tag_end after marks ≡ true → is_line_ending turn.kept.byte ≡ false
+      unfolding after
+      plain e =
+          elim (cases_Bool (is_line_ending turn.kept.byte)) [
+            | inr other ↦ other
+            | inl ending ↦ absurd (let none : is_tag_end (next_state state (get_or source place 0)) marks ≡ false = line_ending_ends_none state (get_or source place 0) marks (ap is_line_ending (sym turn.byte) ∙ ending) in cc)
+          ]
 
-    pub scan_goes_on : is_final (next_state state (get_or source place 0)) ≡ false → Scanned answers source next (kept + 1) marks (next_state state (get_or source place 0))
-    unfolding after
-    scan_goes_on o = record { passed = more; counted = counted_more; ended = sym marks_are; reached = sym state_is; unfinished = o; forth = forth_more; left = left_more }
+      whole_more : is_tag_end after marks ≡ true → Reads answers 0 source more × (next ≡ place_after 0 more)
+      unfolding more
+      whole_more e =
+          let alone = turn.alone (plain e) in
+          (s.forth turn.kept [] alone.1, alone.0 ∙ ap (λ z. z + 1) (sym turn.at) ∙ sym (after_more 0 s.passed turn.kept))
 
-    ends_more : is_tag_end after marks ≡ true → EndsTag more
-    ends_more e = ap (λ z. is_tag_end z (line_endings more)) state_is ∙ ap (is_tag_end after) marks_are ∙ e
+      left_more : (front : List KeptByte) → Reads answers 0 source front → EndsTag front → (t : List KeptByte) × (front ≡ more ++ t) × Reads answers next (drop next source) t
+      unfolding more
+      left_more front r e =
+          let l = goes_on no_end front r e in
+          let back = turn.step.back l.0 l.1 l.3 in
+          (l.1, l.2 ∙ ap (λ c. s.passed ++ c ∷ l.1) back.0 ∙ sym (append_assoc s.passed (turn.kept ∷ []) l.1), back.1)
 
-    plain : is_tag_end after marks ≡ true → is_line_ending turn.kept.byte ≡ false
-    unfolding after
-    plain e =
-        elim (cases_Bool (is_line_ending turn.kept.byte)) [
-          | inr other ↦ other
-          | inl ending ↦ absurd (let none : is_tag_end (next_state state (get_or source place 0)) marks ≡ false = line_ending_ends_none state (get_or source place 0) marks (ap is_line_ending (sym turn.byte) ∙ ending) in cc)
-        ]
-
-    found_place : is_tag_end after marks ≡ true → next ≡ place_after 0 more
-    unfolding more
-    found_place e = (turn.alone (plain e)).0 ∙ ap (λ z. z + 1) (sym turn.at) ∙ sym (after_more 0 s.passed turn.kept)
-
-    pub scan_finds : is_tag_end (next_state state (get_or source place 0)) marks ≡ true → (front : List KeptByte) × IsKeptTag answers source front × (kept + 1 ≡ length front) × (next ≡ place_after 0 front)
-    unfolding after more
-    scan_finds e = (more, tag_from answers source more (s.forth turn.kept [] (turn.alone (plain e)).1) (ends_more e), counted_more, found_place e)
-
-    -- no tag goes on after a final state
-    nowhere : is_final after ≡ true → (front : List KeptByte) → EndsTag front → (x : KeptByte) (u : List KeptByte) → front ≡ more ++ x ∷ u → ⊥
-    nowhere final front e x u is =
-        let run : state_after Start (bytes_of (more ++ x ∷ u)) ≡ state_after after (x.byte ∷ bytes_of u) = ap (state_after Start) (map-append (λ z. z.byte) more (x ∷ u)) ∙ state_after_append Start (bytes_of more) (x.byte ∷ bytes_of u) ∙ ap (λ z. state_after z (x.byte ∷ bytes_of u)) state_is in
-        let whole : is_tag_end (state_after after (x.byte ∷ bytes_of u)) (line_endings (more ++ x ∷ u)) ≡ true = ap (λ z. is_tag_end z (line_endings (more ++ x ∷ u))) (sym run) ∙ ap (λ z. is_tag_end (state_after Start (bytes_of z)) (line_endings z)) (sym is) ∙ e in
-        let other : is_tag_end (state_after after (x.byte ∷ bytes_of u)) (line_endings (more ++ x ∷ u)) ≡ false = final_goes_nowhere after x.byte (bytes_of u) (line_endings (more ++ x ∷ u)) final in
-        cc
-
-    -- so a tag is what is passed, and that alone
-    all_passed : is_final after ≡ true → (front : List KeptByte) → IsKeptTag answers source front → front ≡ more
-    all_passed final front k = let l = left_more front (tag_read answers source front k) (tag_ends answers source front k) in by l.0 l.1
-      where
-        by : (t : List KeptByte) → front ≡ more ++ t → front ≡ more
-        by [] is = is ∙ append-nil more
-        by (x ∷ u) is = absurd (nowhere final front (tag_ends answers source front k) x u is)
-
-    pub scan_stops : is_final (next_state state (get_or source place 0)) ≡ true → is_tag_end (next_state state (get_or source place 0)) marks ≡ false → (front : List KeptByte) → IsKeptTag answers source front → ⊥
-    unfolding after
-    scan_stops final none front k =
-        let same : front ≡ more = all_passed final front k in
-        let whole : is_tag_end after marks ≡ true = sym (ap (λ z. is_tag_end z (line_endings more)) state_is ∙ ap (is_tag_end after) marks_are) ∙ ap (λ z. is_tag_end (state_after Start (bytes_of z)) (line_endings z)) (sym same) ∙ tag_ends answers source front k in
-        cc
-
-    pub scan_only : is_tag_end (next_state state (get_or source place 0)) marks ≡ true → (front : List KeptByte) → IsKeptTag answers source front → (kept + 1 ≡ length front) × (next ≡ place_after 0 front)
-    unfolding after more
-    scan_only e front k =
-        let same : front ≡ more = all_passed (end_is_final after marks e) front k in
-        (counted_more ∙ ap length (sym same), found_place e ∙ ap (place_after 0) (sym same))
+      pub scan_goes_on : Scanned answers source next (kept + 1) marks (next_state state (get_or source place 0))
+      unfolding after more
+      scan_goes_on = record {
+        passed = more;
+        counted = ap (λ z. z + 1) s.counted ∙ sym (length-append s.passed (turn.kept ∷ []));
+        ended = turn.marked ∙ ap (λ z. z + cond turn.kept.ends_line 1 0) s.ended ∙ sym (marks_more s.passed turn.kept);
+        reached = ap (next_state state) (sym turn.byte) ∙ ap (λ z. next_state z turn.kept.byte) s.reached ∙ sym (state_more s.passed turn.kept);
+        whole = whole_more;
+        forth = λ c t r. subst (λ z. Reads answers 0 source z) (sym (append_assoc s.passed (turn.kept ∷ []) (c ∷ t))) (s.forth turn.kept (c ∷ t) (turn.step.forth c t r));
+        left = left_more;
+      }
 
 -- without a handler no line end is kept
-pub no_handler_stops : {F : Type 0} (g : Shared F (Bor (List ℕ) × Unit {0}) ℕ) (handler : Option (Bor F)) (source : List ℕ) (place kept endings : ℕ) (state : TagState) → Scanned (AnswersIfAny g handler) source place kept endings state → place < length source → handler ≡ None → ends_source_line (take (length source - place) (drop place source)) ≡ true → (front : List KeptByte) → IsKeptTag (AnswersIfAny g handler) source front → ⊥
-no_handler_stops g handler source place kept endings state s low none h =
-    scan_has_no_skip (AnswersIfAny g handler) source place kept endings state s low (ap ends_source_line (sym (from_place source place)) ∙ h) (λ n a. subst (λ z. AnswersIfAny g z (drop (place + 1) source) n) none a)
+pub no_handler_stops : {F : Type 0} (g : Shared F (Bor (List ℕ) × Unit {0}) ℕ) (handler : Option (Bor F)) (source : List ℕ) (place kept endings : ℕ) (state : TagState) → Scanned (AnswersIfAny g handler) source place kept endings state → is_final state ≡ false → place < length source → handler ≡ None → ends_source_line (take (length source - place) (drop place source)) ≡ true → (front : List KeptByte) → IsKeptTag (AnswersIfAny g handler) source front → ⊥
+no_handler_stops g handler source place kept endings state s unfinished low none h =
+    scan_has_no_skip (AnswersIfAny g handler) source place kept endings state s unfinished low (ap ends_source_line (sym (from_place source place)) ∙ h) (λ n a. subst (λ z. AnswersIfAny g z (drop (place + 1) source) n) none a)

@@ -48,7 +48,7 @@ fn measure_tag<F: Fn(&[u8]) -> usize>(data: &[u8], handler: Option<&F>) -> Optio
     let mut place = 0;
     let mut kept = 0;
     let mut endings = 0;
-    while place < data.len() {
+    while place < data.len() && !state.is_final() {
         let is_last = ends_line(&data[place..]);
         state = state.next(data[place]);
         place += 1;
@@ -58,17 +58,15 @@ fn measure_tag<F: Fn(&[u8]) -> usize>(data: &[u8], handler: Option<&F>) -> Optio
             place += skips(&data[place..]);
             endings += 1;
         }
-        if state.is_tag_end(endings) {
-            return Some(TagLength { kept, end: place });
-        }
-        if state.is_final() {
-            return None;
-        }
     }
-    None
+    if state.is_tag_end(endings) {
+        Some(TagLength { kept, end: place })
+    } else {
+        None
+    }
 }
 
-// The first bytes of the data that are kept, by one request for memory.
+// The first bytes of the data that are kept. Memory is asked for once, for that many bytes.
 fn copy_kept<F: Fn(&[u8]) -> usize>(
     alloc: Global,
     data: &[u8],
@@ -137,9 +135,10 @@ pub fn scan_html_block_inner<F: Fn(&[u8]) -> usize>(
     Ok(Some((buffer, tag.end)))
 }
 
-/// The length in bytes of a tag that stands alone in the first line of the data.
+/// The length in bytes of the tag that the data begin with, where the rest of its line is blank.
 ///
-/// (CommonMark 0.31.2, section 4.6, start condition 7.)
+/// The tag holds no line ending, and the blank rest is not counted. (CommonMark 0.31.2, section
+/// 4.6, start condition 7; the tag names that other start conditions take are not left out here.)
 pub fn scan_html_type_7(data: &[u8]) -> Option<usize>
     ensures found { IfSome result (λ n. IsTagAloneInLine «data».now n) }
     ensures absent { IfNone result ((n : ℕ) → ¬ IsTagAloneInLine «data».now n) }
