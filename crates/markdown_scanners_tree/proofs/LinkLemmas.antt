@@ -2,9 +2,11 @@
 use Rattle.std.proofs.Common.{◌≡◌, ℕ, suc, ◌+◌, ◌-◌, ◌<◌, ◌≤◌, true, ◌==◌, min, List, [], ◌∷◌, ◌++◌, length, take, drop, get_or, refl, sym, ap, ◌∙◌, subst, arith, inl, inr, Option, Some, None, append_assoc, one-add}
 use Rattle.std.specs.Prelude.{position, IfNone}
 use Rattle.std.specs.List.{prefix_len}
-use Rattle.std.proofs.lemmas.Bool.{lt-ltb, le-ltb, cases_lt}
-use Rattle.std.proofs.lemmas.List.{length-append, take_all, take_rest, take_at, drop_at, get_or_at, get_or-drop}
+use Rattle.std.proofs.lemmas.Bool.{lt-ltb, le-ltb, cases_lt, eqb-true}
+use Rattle.std.proofs.lemmas.List.{length-append, take_all, take_rest, take_at, drop_at, get_or_at, get_or-drop, length-drop, length-take, get_or-take}
 use Rattle.std.proofs.lemmas.List.Folds.{length-prefix_len}
+use Rattle.std.specs.Str.{IsUtf8, IsCharBoundary}
+use Rattle.std.proofs.lemmas.Str.{IsCharBoundary-after_ascii}
 use Rattle.memchr.specs.Find.{IsFirstByte, is_byte}
 use Rattle.markdown_scanners_tree.specs.Bytes.{is_letter}
 use Rattle.markdown_scanners_tree.specs.LinkDestination.{IsPointedFrom, IsBareFrom, IsLinkDestination}
@@ -150,3 +152,16 @@ no_bare most text unpointed none taken destination (inr bare) = none taken bare.
 pub opened_by : (text : List ℕ) → get_or text 0 0 ≡ 60 → text ≡ 60 ∷ drop 1 text
 opened_by [] first = absurd (omega (arith, first))
 opened_by (b ∷ text) first = ap (λ x. x ∷ text) first
+
+-- the text may be cut behind an ASCII byte of what stands from a place on
+pub cut_behind : (bytes text : List ℕ) (start n : ℕ) → bytes ≡ drop start text → IsUtf8 text → n < length bytes → get_or bytes n 0 < 128 → IsCharBoundary text (start + n + 1)
+cut_behind bytes text start n same utf8 inside ascii =
+    IsCharBoundary-after_ascii text (start + n) utf8 (omega (arith, inside, ap length same, length-drop start text)) (subst (λ b. b < 128) (ap (λ t. get_or t n 0) same ∙ get_or-drop start text n 0) ascii)
+
+-- and behind a byte that was found among the first k of them
+pub cut_behind_first : (bytes text : List ℕ) (start k n byte : ℕ) → bytes ≡ take k (drop start text) → IsUtf8 text → n < length bytes → is_byte byte (get_or bytes n 0) ≡ true → byte < 128
+    → IsCharBoundary text (start + n + 1)
+cut_behind_first bytes text start k n byte same utf8 inside here ascii =
+    let few : n < k = omega (arith, inside, ap length same, length-take k (drop start text)) in
+    let at : get_or (drop start text) n 0 ≡ byte = sym (get_or-take k (drop start text) n 0 few) ∙ (ap (λ t. get_or t n 0) (sym same) ∙ eqb-true (get_or bytes n 0) byte here) in
+    cut_behind (drop start text) text start n refl utf8 (omega (arith, inside, ap length same, length-take k (drop start text))) (omega (arith, at, ascii))

@@ -18,6 +18,7 @@ pub fn scan_wikilink_pipe(data: &str, start: usize, len: usize) -> Option<(usize
     ensures found { IfSome result (λ r. position (λ b. b == 124) (take len (drop start «data».now)) ≡ Some (length r.1.now)) }
     ensures place { IfSome result (λ r. r.0 ≡ start + length r.1.now + 1) }
     ensures lies { IfSome result (λ r. r.1.now ≡ slice_range «data».now start (r.0 - 1)) }
+    ensures boundary { IfSome result (λ r. IsCharBoundary «data».now r.0) }
     ensures absent { IfNone result (position (λ b. b == 124) (take len (drop start «data».now)) ≡ None) }
 {
     let rest = &data.as_bytes()[start..];
@@ -35,6 +36,7 @@ pub fn scan_link_dest(data: &str, start: usize, max_next: usize) -> Option<(usiz
     ensures found { IfSome result (λ r. IsLinkDestination (max_next + 1) (drop start «data».now) r.0 r.1.now) }
     ensures absent { IfNone result ((taken : ℕ) (destination : List ℕ)
         → ¬ IsLinkDestination (max_next + 1) (drop start «data».now) taken destination) }
+    ensures boundary { IfSome result (λ r. IsCharBoundary «data».now (start + r.0)) }
 {
     let bytes = &data.as_bytes()[start..];
     if !bytes.is_empty() && bytes[0] == b'<' {
@@ -115,6 +117,7 @@ pub fn scan_autolink<'a>(text: &'a str, start: usize) -> Option<(usize, CowStr<'
     ensures found { IfSome result (λ r. IsUriAutolink (drop start text.now) (cow_text r.1)) }
     ensures place { IfSome result (λ r. r.0 ≡ start + length (cow_text r.1) + 1) }
     ensures lies { IfSome result (λ r. cow_text r.1 ≡ slice_range text.now start (r.0 - 1)) }
+    ensures boundary { IfSome result (λ r. IsCharBoundary text.now r.0) }
     ensures lent { IfSome result (λ r. IsBorrowed r.1) }
     ensures kind { IfSome result (λ r. r.2 ≡ LinkType.Autolink) }
     ensures absent { IfNone result ((uri : List ℕ) → ¬ IsUriAutolink (drop start text.now) uri) }

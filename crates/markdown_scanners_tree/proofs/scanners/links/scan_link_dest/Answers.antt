@@ -1,9 +1,10 @@
 use Rattle.std.proofs.Common.{◌≡◌, ◌+◌, ◌<◌, ap, ◌∙◌, sym, subst, take, drop, length, length-drop, get_or, arith, inr}
 use Rattle.std.proofs.lemmas.Bool.{eqb-true}
-use Rattle.std.proofs.lemmas.List.{take_rest, get_or-drop}
+use Rattle.std.proofs.lemmas.List.{take_rest, get_or-drop, drop-drop}
 use Rattle.std.proofs.lemmas.Str.{IsCharBoundary-after_ascii}
+use Rattle.std.specs.Str.{IsCharBoundary}
 use Rattle.markdown_scanners_tree.specs.LinkDestination.{IsPointedFrom, IsBareFrom}
-use Rattle.markdown_scanners_tree.proofs.LinkLemmas.{IfNone-anyway, no_pointed, no_bare, opened_by, text_from}
+use Rattle.markdown_scanners_tree.proofs.LinkLemmas.{IfNone-anyway, no_pointed, no_bare, opened_by, text_from, cut_behind}
 use Rattle.markdown_scanners_tree.proofs.scanners.links.scan_link_dest.Goals as goal
 use Rattle.markdown_scanners_tree.proofs.scanners.links.scan_link_dest.Goals.{else-not-is_empty-via-then-not-is_empty+else-bytes-eq60, else-not-is_empty-via-else-not-is_empty}
 
@@ -47,3 +48,10 @@ returns-clause-found c =
       bare = subst (λ t. IsBareFrom (c.args.max_next + 1) 0 t n) read c.in_ok-n-2.ensures.found;
       lies = c.range-2.ensures.value ∙ ap (λ k. take k (drop c.args.start c.args.data.now)) (omega arith);
     })
+
+pub returns-then-bytes-eq60-clause-boundary : goal.returns-then-bytes-eq60-clause-boundary
+returns-then-bytes-eq60-clause-boundary c =
+    let read = text_from c.as_bytes.result.now c.args.data.now c.args.start c.as_bytes.ensures.value in
+    let after = take_rest _ 1 ∙ (ap (drop 1) read ∙ drop-drop 1 c.args.start c.args.data.now) in
+    subst (IsCharBoundary c.args.data.now) (omega arith)
+    (cut_behind _ c.args.data.now (c.args.start + 1) c.in_ok-n.n after c.utf8.data c.in_ok-n.ensures.within (omega (arith, c.in_ok-n.ensures.cut)))
