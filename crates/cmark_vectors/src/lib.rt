@@ -6,6 +6,8 @@ mod blocks;
 #[cfg(test)]
 mod inline_html;
 #[cfg(test)]
+mod label;
+#[cfg(test)]
 mod line;
 #[cfg(test)]
 mod line_vectors;

@@ -16,6 +16,7 @@ pub mod InlineHtmlRuns
 pub mod InlineHtmlScans
 pub mod InlineHtmlSums
 pub mod ItemLemmas
+pub mod LabelKeys
 pub mod LeastPlaces
 pub mod LineRows
 pub mod LineRunLemmas

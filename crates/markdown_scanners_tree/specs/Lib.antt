@@ -12,6 +12,7 @@ pub mod InlineHtmlGuard
 pub mod InlineHtmlKept
 pub mod InlineHtmlPassed
 pub mod InlineHtmlRun
+pub mod LabelKey
 pub mod LineOutcome
 pub mod LineState
 pub mod Lines
