@@ -16,7 +16,15 @@ pub mod InlineHtmlRuns
 pub mod InlineHtmlScans
 pub mod InlineHtmlSums
 pub mod ItemLemmas
+pub mod KeptStep
+pub mod LabelCells
 pub mod LabelKeys
+pub mod LabelMeasure
+pub mod LabelRuns
+pub mod LabelScan
+pub mod LabelSeen
+pub mod LabelSteps
+pub mod LabelWords
 pub mod LeastPlaces
 pub mod LineRows
 pub mod LineRunLemmas

@@ -5,6 +5,7 @@ pub mod CodeFence
 pub mod Columns
 pub mod CountedBytes
 pub mod DelimiterRow
+pub mod Handler
 pub mod HeadingLines
 pub mod Indent
 pub mod InlineHtml
@@ -12,7 +13,12 @@ pub mod InlineHtmlGuard
 pub mod InlineHtmlKept
 pub mod InlineHtmlPassed
 pub mod InlineHtmlRun
+pub mod Kept
+pub mod Label
+pub mod LabelAnswer
+pub mod LabelFront
 pub mod LabelKey
+pub mod LabelPass
 pub mod LineOutcome
 pub mod LineState
 pub mod Lines
