@@ -25,6 +25,7 @@ pub mod LabelScan
 pub mod LabelSeen
 pub mod LabelSteps
 pub mod LabelWords
+pub mod LabelWriting
 pub mod LeastPlaces
 pub mod LineRows
 pub mod LineRunLemmas

@@ -125,7 +125,7 @@ pub fn scan_link_label_rest<'t, F: Fn(&[u8]) -> Option<usize>>(
     };
     let taken = measure.close + 1;
     if measure.is_plain {
-        let label = without_outer_spaces(&text[..measure.close]);
+        let label = up_to_last_space(past_first_space(&text[..measure.close]));
         return Ok(Some((taken, CowStr::from(label))));
     }
     let mut label = String::with_capacity(alloc, measure.length)?;
@@ -328,18 +328,24 @@ fn measure_label<F: Fn(&[u8]) -> Option<usize>>(
     }
 }
 
-// A text without a space at its front and one at its end.
-fn without_outer_spaces(text: &str) -> &str
-    ensures { result.now ≡ without_last_space (without_first_space text.now) }
+// A text after the space at its front, if one stands there.
+fn past_first_space(text: &str) -> &str
+    ensures { result.now ≡ without_first_space text.now }
 {
-    let inner = match text.as_bytes() {
-        [b' ', ..] => &text[1..],
-        _ => text,
-    };
-    match inner.as_bytes() {
-        [.., b' '] => &inner[..inner.len() - 1],
-        _ => inner,
+    if text.is_empty() || text.as_bytes()[0] != b' ' {
+        return text;
     }
+    &text[1..]
+}
+
+// A text up to the space at its end, if one stands there.
+fn up_to_last_space(text: &str) -> &str
+    ensures { result.now ≡ without_last_space text.now }
+{
+    if text.is_empty() || text.as_bytes()[text.len() - 1] != b' ' {
+        return text;
+    }
+    &text[..text.len() - 1]
 }
 
 // The second pass: appends the label's text.
