@@ -132,6 +132,9 @@ module _ (a : List ℕ → ℕ → Type 0) (source : List ℕ) where
     pub none_at_closing : IsBracket escaped rest 93 → is_label_content seen ≡ false → (t : Bool) (label : Label) → IsLabel a source t label → ⊥
     none_at_closing o h t label l = (let e = from_closing o t label l in cc (rw h at e))
 
+pub same_take : (xs : List ℕ) (m n : ℕ) → m ≡ n → take m xs ≡ take n xs
+same_take xs m n e = ap (λ k. take k xs) e
+
 -- the rest from a place, as a slice gives it
 pub rest_is : (xs : List ℕ) (i : ℕ) → take (length xs - i) (drop i xs) ≡ drop i xs
 rest_is xs i = ap (λ n. take n (drop i xs)) (sym (length-drop i xs)) ∙ take-length (drop i xs)

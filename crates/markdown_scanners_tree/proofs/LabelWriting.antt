@@ -9,7 +9,7 @@ use Rattle.markdown_scanners_tree.specs.Label.{Label, IsLabel, Bracketed, label_
 use Rattle.markdown_scanners_tree.specs.LabelFront.{IsBracket, IsEnding, IsSpace, IsWord}
 use Rattle.markdown_scanners_tree.specs.LabelPass.{starts_dropped}
 use Rattle.markdown_scanners_tree.proofs.LabelCells.{space_of}
-use Rattle.markdown_scanners_tree.proofs.LabelScan.{IsAt, from_closing, cut_after}
+use Rattle.markdown_scanners_tree.proofs.LabelScan.{IsAt, from_closing, cut_after, same_take}
 use Rattle.markdown_scanners_tree.proofs.LabelSeen.{Written, Written-word, Written-space, Written-ending, all_written}
 
 text_of_label : (t : Bool) (b : Bracketed) (label : Label) → label_between t (Some b) ≡ Some label → label.text ≡ joined_words (in_cell t b.content)
@@ -24,9 +24,6 @@ pub label_written : (a : List ℕ → ℕ → Type 0) (source : List ℕ) (t esc
     → IsAt a source escaped seen ix rest → IsBracket escaped rest 93 → Written t seen ix rest w r pushed → (label : Label) → IsLabel a source t label → label.text ≡ pushed
 label_written a source t escaped seen ix rest w r pushed here o s label l =
     text_of_label t (record { content = seen; close = ix }) label (from_closing a source escaped seen ix rest here o t label l) ∙ all_written t seen ix o.1.0 w r pushed (subst (λ z. Written t seen ix z w r pushed) o.1.1 s)
-
-same_take : (xs : List ℕ) (m n : ℕ) → m ≡ n → take m xs ≡ take n xs
-same_take xs m n e = ap (λ k. take k xs) e
 
 same_get : (xs : List ℕ) (m n : ℕ) → m ≡ n → get_or xs m 0 ≡ get_or xs n 0
 same_get xs m n e = ap (λ k. get_or xs k 0) e

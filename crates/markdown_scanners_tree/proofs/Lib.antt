@@ -20,6 +20,7 @@ pub mod KeptStep
 pub mod LabelCells
 pub mod LabelKeys
 pub mod LabelMeasure
+pub mod LabelReads
 pub mod LabelRuns
 pub mod LabelScan
 pub mod LabelSeen

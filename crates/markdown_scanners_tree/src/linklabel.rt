@@ -7,7 +7,7 @@ ghost use Rattle.std.specs.Hash as fed;
 ghost use Rattle.std.proofs.Common.{rules};
 ghost use Rattle.markdown_values.specs.Text.{cow_text};
 ghost use Rattle.markdown_scanners_tree.specs.Handler.{Skips, IsSteadyAtChars};
-ghost use Rattle.markdown_scanners_tree.specs.Label.{Label, IsLabel};
+ghost use Rattle.markdown_scanners_tree.specs.Label.{Label, IsLabel, ends_in_backslash, ReadsBack};
 ghost use Rattle.markdown_scanners_tree.specs.LabelAnswer.{IsAnswer};
 ghost use Rattle.markdown_scanners_tree.specs.LabelFront.{IsFront};
 ghost use Rattle.markdown_scanners_tree.specs.LabelKey.{label_key};
@@ -117,6 +117,7 @@ pub fn scan_link_label_rest<'t, F: Fn(&[u8]) -> Option<usize>>(
     requires steady { IsSteadyAtChars F.Fn handler.now }
     ensures found { IfOk result (λ found. IfSome found (λ r. (label : Label) × IsLabel (Skips F.Fn handler.now) text.entry.now is_in_table label × IsAnswer label r.0 r.1)) }
     ensures none { IfOk result (λ found. IfNone found ((label : Label) → ¬ IsLabel (Skips F.Fn handler.now) text.entry.now is_in_table label)) }
+    ensures reads_back { IfOk result (λ found. IfSome found (λ r. is_in_table ≡ false → ends_in_backslash (cow_text r.1) ≡ false → ReadsBack (cow_text r.1))) }
     ensures lent { (label : Label) → IsLabel (Skips F.Fn handler.now) text.entry.now is_in_table label → label.plain ≡ true → IsOk result }
     ensures no_label { ((label : Label) → ¬ IsLabel (Skips F.Fn handler.now) text.entry.now is_in_table label) → IsOk result }
 {

@@ -1,6 +1,9 @@
 -- The two passes together.
-use Rattle.std.proofs.Common.{◌≡◌, ◌++◌, true, false, refl, sym, ◌∙◌, ap, true≢false}
+use Rattle.std.proofs.Common.{◌≡◌, ◌++◌, ◌-◌, arith, true, false, refl, sym, ◌∙◌, ap, true≢false}
 use Rattle.markdown_scanners_tree.specs.Label.{Label}
+use Rattle.markdown_scanners_tree.specs.LabelPass.{without_first_space, without_last_space}
+use Rattle.markdown_scanners_tree.proofs.LabelReads.{label_reads_back}
+use Rattle.markdown_scanners_tree.proofs.LabelScan.{same_take}
 use Rattle.markdown_scanners_tree.proofs.linklabel.scan_link_label_rest.Goals as goal
 
 pub returns-in_err-label-clause-lent : goal.returns-in_err-label-clause-lent
@@ -23,3 +26,15 @@ returns-clause-found g c =
       lent = λ h. absurd (true≢false (sym h ∙ sym m.same ∙ c.if-measure.false));
       built = λ h. c.in_ok-from_string.ensures.boxed;
     })
+
+pub returns-clause-reads_back : goal.returns-clause-reads_back
+returns-clause-reads_back g c =
+    let m = c.in-Some.ensures.found in
+    label_reads_back _ _ _ m.label _ m.is (c.in_ok-from_string.ensures.text ∙ c.in_ok-write_label.ensures.written m.label m.is ∙ ap (λ z. z ++ m.label.text) c.in_ok-label.ensures.bytes)
+
+pub returns-then-measure-clause-reads_back : goal.returns-then-measure-clause-reads_back
+returns-then-measure-clause-reads_back g c =
+    let m = c.in-Some.ensures.found in
+    let inner = c.range.ensures.value ∙ same_take c.args.text.now (c.in-Some.measure.close - 0) c.in-Some.measure.close (omega arith) in
+    let text = c.from.ensures.0 ∙ c.up_to_last_space-label.ensures ∙ ap without_last_space (c.past_first_space.ensures ∙ ap without_first_space inner) in
+    label_reads_back _ _ _ m.label _ m.is (text ∙ sym (m.stands (sym m.same ∙ c.if-measure.true)))

@@ -2,11 +2,9 @@
 use Rattle.std.proofs.Common.{ℕ, zero, suc, List, [], ◌∷◌, ◌==◌, ◌≡◌, ◌+◌, ◌-◌, true, false, refl, sym, ◌∙◌, ap, cond, arith, length, take, get_or, Bool}
 use Rattle.std.proofs.lemmas.Bool.Decides.{nat_tests}
 use Rattle.markdown_scanners_tree.specs.LabelPass.{without_last_space}
+use Rattle.markdown_scanners_tree.proofs.LabelScan.{same_take}
 use Rattle.markdown_scanners_tree.proofs.linklabel.up_to_last_space.Goals as goal
 use Rattle.markdown_scanners_tree.proofs.linklabel.up_to_last_space.Goals.{then-is_empty-via-then-is_empty, then-is_empty-via-else-is_empty+then-as_bytes-text-ne32}
-
-same_take : (xs : List ℕ) (m n : ℕ) → m ≡ n → take m xs ≡ take n xs
-same_take xs m n e = ap (λ k. take k xs) e
 
 last_space : (xs : List ℕ) (n : ℕ) → length xs ≡ suc n → without_last_space xs ≡ cond (get_or xs n 0 == 32) (take n xs) xs
 last_space [] n e = cc
