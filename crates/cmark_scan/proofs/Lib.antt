@@ -3,4 +3,5 @@ mod Numbers
 mod Outcomes
 mod Pairs
 mod PrintedRows
+mod ScanLemmas
 pub mod Texts

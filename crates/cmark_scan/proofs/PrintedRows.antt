@@ -5,8 +5,10 @@ use Rattle.std.specs.Fmt.{digits}
 use Rattle.markdown_scanners_tree.specs.declared.line.LineCall.TheVariants as call
 use Rattle.markdown_scanners_tree.specs.declared.line.LineAnswer.TheVariants as answer
 use Rattle.markdown_scanners_tree.specs.declared.line.LineStop.TheVariants.{SpacePending}
-use Rattle.cmark_scan.specs.Words.{call_of, request_of, scan_line}
-use Rattle.cmark_scan.specs.Printed.{run_text, line_of}
+use Rattle.cmark_scan.specs.Words.{call_of, request_of, scan_line, scan_html}
+use Rattle.cmark_scan.specs.HtmlScans.{scans_from, scans_of}
+use Rattle.cmark_scan.specs.Printed.{run_text, html_text, line_of}
+use Rattle.markdown_scanners_tree.specs.InlineHtml.{declared_at, opening_at, least_place, cost}
 
 largest_number : call_of (codes "upto:18446744073709551615") ≡ Some (call.Upto 18446744073709551615)
 largest_number = refl
@@ -42,3 +44,18 @@ flags = refl
 nothing_left : run_text [] (record { answers = []; rest = []; scanned = 0; stop = None }) ≡ line_of (codes "scanned 0") ++ line_of (codes "rest -")
 unfolding digits
 nothing_left = refl
+
+html_word : request_of (codes "html" ∷ []) ≡ Some scan_html
+html_word = refl
+
+word_after_html : request_of (codes "html" ∷ codes "line" ∷ []) ≡ None
+word_after_html = refl
+
+scans : html_text (codes "<!-- <!x> <!-- <![CDATA[ ]]>") (scans_of (codes "<!-- <!x> <!-- <![CDATA[ ]]>"))
+    ≡ line_of (codes "2 none") ++ line_of (codes "7 9") ++ line_of (codes "12 none") ++ line_of (codes "17 28") ++ line_of (codes "passed 42 of 144")
+unfolding digits declared_at opening_at least_place cost scans_from
+scans = refl
+
+no_scans : html_text [] (scans_of []) ≡ line_of (codes "passed 0 of 0")
+unfolding digits declared_at opening_at least_place cost scans_from
+no_scans = refl

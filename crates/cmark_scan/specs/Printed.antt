@@ -1,5 +1,5 @@
 -- What the program prints, and the status that it ends with.
-use Rattle.std.specs.Prelude.{ℕ, Bool, false, ◌≡◌, ◌/◌, ◌%◌, List, [], ◌∷◌, ◌++◌, Option, None, Some, codes, encode_utf8, if◌then◌else◌}
+use Rattle.std.specs.Prelude.{ℕ, Bool, false, ◌≡◌, ◌+◌, ◌*◌, ◌/◌, ◌%◌, length, List, [], ◌∷◌, ◌++◌, Option, None, Some, codes, encode_utf8, if◌then◌else◌}
 use Rattle.std.specs.List.{flat_map, zip}
 use Rattle.std.specs.Fmt.{decimal, digit_glyph}
 use Rattle.markdown_scanners_tree.specs.declared.line.LineCall.{LineCall}
@@ -8,8 +8,10 @@ use Rattle.markdown_scanners_tree.specs.declared.line.LineAnswer.{LineAnswer}
 use Rattle.markdown_scanners_tree.specs.declared.line.LineAnswer.TheVariants as answer
 use Rattle.markdown_scanners_tree.specs.declared.line.LineStop.{LineStop}
 use Rattle.markdown_scanners_tree.specs.declared.line.LineStop.TheVariants.{SpacePending, IndentTooLarge}
+use Rattle.markdown_scanners_tree.specs.InlineHtmlPassed.{bytes_passed}
+use Rattle.cmark_scan.specs.HtmlScans.{scans_of, places_of}
 use Rattle.cmark_scan.specs.Run.{Run, run_of}
-use Rattle.cmark_scan.specs.Words.{Request, scan_line}
+use Rattle.cmark_scan.specs.Words.{Request, scan_line, scan_html}
 
 -- a line of output
 abbrev pub line_of : List ℕ → List ℕ
@@ -74,6 +76,16 @@ run_text calls run =
     ++ line_of (codes "rest " ++ hex_text run.rest)
     ++ stop_line run.stop
 
+-- the place of a scan, and the end of the find there
+abbrev pub scan_text : ℕ × Option ℕ → List ℕ
+scan_text scan = line_of (decimal scan.0 ++ codes " " ++ number_text scan.1)
+
+-- scans of raw HTML: a line for each, and the bytes passed over, of four for each byte of the text and eight for each scan
+abbrev pub html_text : List ℕ → List (ℕ × Option ℕ) → List ℕ
+html_text text scans =
+    flat_map scan_text scans
+    ++ line_of (codes "passed " ++ decimal (bytes_passed text (places_of scans)) ++ codes " of " ++ decimal (4 * length text + 8 * length scans))
+
 -- what is printed, and the status
 pub record Outcome : Type 0 where
   pub printed : List ℕ
@@ -88,3 +100,4 @@ stop_status (Some stop) = 1
 abbrev pub IsOutcome : Request → List ℕ → Outcome → Type 0
 IsOutcome (scan_line calls) input outcome =
     outcome ≡ record { printed = run_text calls (run_of calls input); status = stop_status (run_of calls input).stop }
+IsOutcome scan_html input outcome = outcome ≡ record { printed = html_text input (scans_of input); status = 0 }

@@ -43,8 +43,12 @@ calls_of = filter_map call_of
 -- what the command line asks for
 pub data Request : Type 0 where
   scan_line : List LineCall → Request
+  scan_html : Request
 
--- the request that the words make, where they make one: `line` and words that each ask for a call
+-- the request that the words make, where they make one: `line` and words that each ask for a call; `html` alone
 abbrev pub request_of : List (List ℕ) → Option Request
 request_of [] = None
-request_of (word ∷ words) = if bytes_eq word (codes "line") && are_calls words then Some (scan_line (calls_of words)) else None
+request_of (word ∷ words) =
+    if bytes_eq word (codes "line") && are_calls words then Some (scan_line (calls_of words))
+    else (if bytes_eq word (codes "html") && length words == 0 then Some scan_html
+    else None)

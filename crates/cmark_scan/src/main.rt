@@ -2,6 +2,7 @@
 #![tactic(auto)]
 
 mod faults;
+mod html;
 mod printing;
 pub mod program;
 mod reading;

@@ -8,6 +8,7 @@ ghost use Rattle.cmark_scan.specs.Report.{outcome_view};
 ghost use Rattle.cmark_scan.specs.Faults.{fault_line, IsBeforeWriting, Tells};
 
 use crate::faults::{Fault, complain, report_fault};
+use crate::html::html_text;
 use crate::printing::run_text;
 use crate::reading::read_all;
 use crate::words::{Command, parse_calls, parse_command};
@@ -90,6 +91,7 @@ fn report_on(alloc: Global, command: Command<'_>, bytes: &[u8]) -> Result<Report
 {
     match command {
         Command::Line(words) => report_on_line(alloc, words, bytes),
+        Command::Html => Ok(Report::Done(html_text(alloc, bytes)?)),
     }
 }
 

@@ -1,3 +1,5 @@
+mod html;
+
 use crate::program::run_program;
 use std::alloc::Global;
 use std::io::{Error, Read, Result, Write};
@@ -321,12 +323,15 @@ fn reads_more_than_one_buffer(rt: HostRuntime) -> std::result::Result<(), Fail> 
 
 #[test]
 fn refuses_other_words(rt: HostRuntime) -> std::result::Result<(), Fail> {
-    let refused: [&[&str]; 21] = [
+    let refused: [&[&str]; 24] = [
         &[],
         &[""],
         &["lines"],
         &["LINE"],
-        &["html"],
+        &["htm"],
+        &["html", "html"],
+        &["html", ""],
+        &["line", "html"],
         &["label"],
         &["unescape"],
         &["line", "line"],
@@ -404,7 +409,7 @@ fn keeps_its_status_where_a_fault_is_not_told(rt: HostRuntime) -> std::result::R
     let mut output = Vec::new(rt.alloc());
     let mut faults = FailingWriter { writes: 0 };
     let mut input: &[u8] = b"x";
-    let status = run_program(rt.alloc(), &["html"], &mut input, &mut output, &mut faults);
+    let status = run_program(rt.alloc(), &["other"], &mut input, &mut output, &mut faults);
     assert_eq!(rt; status, 2);
     let mut input = FailingReader {
         bytes: b"x",

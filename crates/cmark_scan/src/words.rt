@@ -12,16 +12,19 @@ use std::alloc::{AllocError, Global};
 #[derive(Clone, Copy)]
 pub(crate) enum Command<'a> {
     Line(&'a [&'a str]),
+    Html,
 }
 
 /// What the words ask for. No memory is taken.
-#[tactic(auto, using(crate::proofs::Texts::are_calls_texts, crate::proofs::Texts::calls_of_texts))]
+#[tactic(auto, using(crate::proofs::Texts::are_calls_texts, crate::proofs::Texts::calls_of_texts, crate::proofs::Texts::length_texts))]
 pub(crate) fn parse_command<'a>(words: &'a [&'a str]) -> Option<Command<'a>>
     ensures { option_map request_view result ≡ request_of (texts words.now) }
 {
     let (first, others) = words.split_first()?;
     if *first == "line" && are_calls(others) {
         Some(Command::Line(others))
+    } else if *first == "html" && others.is_empty() {
+        Some(Command::Html)
     } else {
         None
     }
