@@ -1,5 +1,5 @@
 -- The text that is still to be written of a label, in a table or out of one.
-use Rattle.std.proofs.Common.{ℕ, Bool, true, false, ◌||◌, ◌&&◌, ◌==◌, not, List, [], ◌∷◌, ◌++◌, ◌≡◌, ◌+◌, refl, sym, ◌∙◌, ap, subst, cond, append_assoc, append-nil, true≢false, eqb-true, eq-eqb}
+use Rattle.std.proofs.Common.{ℕ, Bool, true, false, ◌||◌, ◌&&◌, ◌==◌, List, [], ◌∷◌, ◌++◌, ◌≡◌, ◌+◌, refl, sym, ◌∙◌, ap, subst, cond, append_assoc, true≢false, eqb-true, eq-eqb}
 use Rattle.std.proofs.Math.Bool.{and-true, and-false, and-or_distrib_left}
 use Rattle.std.proofs.lemmas.Bool.{and_parts}
 use Rattle.markdown_scanners_tree.specs.Bytes.{begins_with, is_line_ending, is_white_space}
@@ -102,10 +102,10 @@ module _ (t has_word in_run : Bool) where
   gap_of_return ix [] ks = gap_of_one ix (at_line_end 13 ix) ks refl refl
   gap_of_return ix (b ∷ bs) ks = elim (b == 10) as (λ v. IsGap ix (cond v (in_line 13 ix ∷ at_line_end 10 (ix + 1) ∷ []) (at_line_end 13 ix ∷ [])) ks) [
     | true ↦ record {
-        text = text_from-white t has_word in_run (in_line 13 ix) (at_line_end 10 (ix + 1) ∷ ks) refl ∙ text_from-white t has_word true (at_line_end 10 (ix + 1)) ks refl;
-        starts = refl;
-        drops = refl;
-      }
+      text = text_from-white t has_word in_run (in_line 13 ix) (at_line_end 10 (ix + 1) ∷ ks) refl ∙ text_from-white t has_word true (at_line_end 10 (ix + 1)) ks refl;
+      starts = refl;
+      drops = refl;
+    }
     | false ↦ gap_of_one ix (at_line_end 13 ix) ks refl refl
   ]
 

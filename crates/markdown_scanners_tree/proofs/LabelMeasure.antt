@@ -1,5 +1,5 @@
 -- What the first pass over a label has found at the closing bracket.
-use Rattle.std.proofs.Common.{ℕ, Bool, true, false, ◌&&◌, not, nat_le, List, ◌∷◌, ◌++◌, ◌≡◌, ◌+◌, ◌≤◌, Option, Some, refl, sym, ◌∙◌, ap, subst, arith, drop, take, length, length-append, length-drop}
+use Rattle.std.proofs.Common.{ℕ, Bool, true, false, ◌&&◌, not, nat_le, List, ◌∷◌, ◌++◌, ◌≡◌, ◌+◌, ◌≤◌, Some, refl, sym, ◌∙◌, ap, subst, arith, drop, take, length, length-append, length-drop}
 use Rattle.std.proofs.Math.Seq.{take-append_seam}
 use Rattle.std.proofs.lemmas.Bool.Decides.{nat_tests}
 use Rattle.markdown_scanners_tree.specs.Kept.{KeptByte, bytes_of}
@@ -26,7 +26,6 @@ module _ (a : List ℕ → ℕ → Type 0) (source : List ℕ) (t escaped : Bool
 
   content : is_label_content seen ≡ (nat_le y.characters 999 && y.has_word)
   content = content_of_seen t source seen ix (93 ∷ bracket.1.0) y at_bracket
-
 
   pub measured : ix ≤ length source → y.has_word ≡ true → y.characters ≤ 999 → IsMeasure a source t (record { close = ix; length = y.length; is_plain = y.is_spaced && not y.is_rewritten })
   measured within word few =

@@ -1,11 +1,11 @@
 -- A label that was read out of a table and does not end in a backslash is the label of itself.
 use Rattle.std.proofs.Common.{ℕ, suc, Bool, true, false, ◌||◌, ◌&&◌, ◌==◌, not, nat_le, List, [], ◌∷◌, ◌++◌, ◌≡◌, ◌≤◌, ◌+◌, Option, Some, None, refl, sym, ◌∙◌, ap, subst, cond, arith, length, true≢false, eqb-true, add-zero, if◌then◌else◌}
-use Rattle.std.proofs.Math.Bool.{and-true, and-false, not-not}
+use Rattle.std.proofs.Math.Bool.{and-false, not-not}
 use Rattle.std.proofs.lemmas.Bool.{and_parts}
 use Rattle.std.proofs.lemmas.Bool.Decides.{nat_tests}
 use Rattle.std.proofs.lemmas.List.Sums.{sum_by-cons}
 use Rattle.std.specs.List.{list_all}
-use Rattle.markdown_scanners_tree.specs.Bytes.{is_line_ending, is_white_space, is_punctuation, is_between}
+use Rattle.markdown_scanners_tree.specs.Bytes.{is_line_ending, is_white_space, is_punctuation}
 use Rattle.markdown_scanners_tree.specs.Kept.{KeptByte, in_line, bytes_of, kept_head, kept_text}
 use Rattle.markdown_scanners_tree.specs.Label.{Label, IsLabel, Piece, escaped, single, pieces, Bracketed, preceded, bracketed, is_white, white_runs, characters, is_one_space, is_label_content, joined_words, label_between, label_of, ends_in_backslash, ReadsBack}
 use Rattle.markdown_scanners_tree.specs.LabelPass.{begun, space_len}
@@ -238,7 +238,7 @@ module _ (ks : List KeptByte) (content : is_label_content ks ≡ true) where
       let few_left = and_parts _ (nat_le (characters ks) 999) first.0 in
       let bound : nat_le (characters (placed 0 (text_from false false ks))) 999 ≡ true = (let c = m.counts in let d = few_left.1 in grind (arith, nat_tests, c, d)) in
       subst (λ z. is_label_content (placed 0 z) ≡ true) (sym (joined_words-from ks))
-          (λ i. ((few-white_runs (placed 0 (text_from false false ks)) ∙ m.few_again) i && bound i) && (ap not m.white_again ∙ first.1) i)
+      (λ i. ((few-white_runs (placed 0 (text_from false false ks)) ∙ m.few_again) i && bound i) && (ap not m.white_again ∙ first.1) i)
 
   again_text : joined_words (placed 0 (joined_words ks)) ≡ joined_words ks
   again_text = joined_words-from (placed 0 (joined_words ks)) ∙ subst (λ z. text_from false false (placed 0 z) ≡ z) (sym (joined_words-from ks)) (again ks false false 0).text

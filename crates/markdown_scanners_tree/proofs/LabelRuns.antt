@@ -6,7 +6,7 @@ use Rattle.std.proofs.lemmas.List.Sums.{sum_by-cons}
 use Rattle.std.specs.List.{list_all}
 use Rattle.markdown_scanners_tree.specs.Bytes.{begins_with, is_line_ending}
 use Rattle.markdown_scanners_tree.specs.Kept.{KeptByte, in_line, at_line_end, kept_line, kept_return, line_endings}
-use Rattle.markdown_scanners_tree.specs.Label.{is_white, onto_runs, runs_of, white_runs, is_one_space}
+use Rattle.markdown_scanners_tree.specs.Label.{is_white, onto_runs, white_runs, is_one_space}
 
 -- a line ending may still come in this run
 abbrev pub few : Bool → List KeptByte → Bool

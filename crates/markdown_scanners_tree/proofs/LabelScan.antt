@@ -5,7 +5,7 @@ use Rattle.std.proofs.Math.Seq.{take-length}
 use Rattle.std.proofs.lemmas.Bool.{and_parts}
 use Rattle.std.proofs.lemmas.Bool.Decides.{nat_tests}
 use Rattle.std.proofs.lemmas.List.{drop-drop, length-drop, get_or-drop}
-use Rattle.std.proofs.lemmas.Str.{IsCharBoundary-before_ascii, IsCharBoundary-after_ascii, IsCharBoundary-from_rest, IsUtf8-drop}
+use Rattle.std.proofs.lemmas.Str.{IsCharBoundary-before_ascii, IsCharBoundary-after_ascii}
 use Rattle.std.specs.Str.{IsUtf8, IsCharBoundary}
 use Rattle.markdown_scanners_tree.specs.Bytes.{begins_with, is_line_ending, is_white_space, is_punctuation}
 use Rattle.markdown_scanners_tree.specs.Kept.{KeptByte, in_line, kept_line, line_len, return_len, kept_from, kept_text, AreSkips}
@@ -14,7 +14,7 @@ use Rattle.markdown_scanners_tree.specs.LabelFront.{IsBracket, IsEnding, IsSpace
 use Rattle.markdown_scanners_tree.specs.LabelPass.{IsOnlySkip, begun, space_len, starts_dropped}
 use Rattle.markdown_scanners_tree.specs.declared.linklabel.Front.{Front}
 use Rattle.markdown_scanners_tree.specs.declared.linklabel.Tally.{Tally}
-use Rattle.markdown_scanners_tree.proofs.LabelSteps.{Goes, past_byte, at_byte, no_label_at_end, no_label_at_opening, label_at_closing, closing_label, past_ending, at_ending, no_label_at_ending, ending_seen, label_from, bracketed_after}
+use Rattle.markdown_scanners_tree.proofs.LabelSteps.{Goes, past_byte, at_byte, no_label_at_end, no_label_at_opening, label_at_closing, closing_label, past_ending, at_ending, no_label_at_ending, ending_seen, label_from}
 use Rattle.markdown_scanners_tree.proofs.LabelSeen.{Seen, Seen-word, Seen-space, Seen-ending, two_endings}
 
 preceded-nil : (b : Option Bracketed) → preceded [] b ≡ b

@@ -1,5 +1,5 @@
 -- What a scan keeps of the bytes that it has seen, and how it tells the facts of a label.
-use Rattle.std.proofs.Common.{ℕ, suc, Bool, true, false, ◌||◌, ◌&&◌, ◌==◌, not, nat_le, List, [], ◌∷◌, ◌++◌, ◌≡◌, ◌+◌, refl, sym, ◌∙◌, ap, subst, cond, arith, append_assoc, append-nil, true≢false, eqb-true, length, length-append, map}
+use Rattle.std.proofs.Common.{ℕ, suc, Bool, true, false, ◌||◌, ◌&&◌, ◌==◌, not, nat_le, List, [], ◌∷◌, ◌++◌, ◌≡◌, ◌+◌, refl, sym, ◌∙◌, ap, subst, cond, arith, append_assoc, append-nil, true≢false, eqb-true, length, length-append}
 use Rattle.std.proofs.Math.Bool.{and-true, and-false, and_assoc, or_assoc, or-false, not-not}
 use Rattle.std.proofs.lemmas.Bool.{and_parts}
 use Rattle.std.proofs.lemmas.Bool.Decides.{nat_tests}
@@ -7,14 +7,14 @@ use Rattle.std.proofs.lemmas.List.{map-append}
 use Rattle.std.proofs.lemmas.List.Folds.{list_all-append}
 use Rattle.std.proofs.lemmas.List.Sums.{fold-append, sum_by-append}
 use Rattle.std.specs.List.{list_all}
-use Rattle.markdown_scanners_tree.specs.Bytes.{begins_with, is_line_ending, is_white_space}
+use Rattle.markdown_scanners_tree.specs.Bytes.{is_line_ending, is_white_space}
 use Rattle.markdown_scanners_tree.specs.Kept.{KeptByte, in_line, at_line_end, kept_line, kept_return, return_len, line_len, bytes_of}
-use Rattle.markdown_scanners_tree.specs.Label.{is_white, white_runs, characters, is_one_space, is_label_content, has_pipe_backslash, in_cell, joined_words, is_plain}
+use Rattle.markdown_scanners_tree.specs.Label.{is_white, characters, is_label_content, has_pipe_backslash, in_cell, joined_words, is_plain}
 use Rattle.markdown_scanners_tree.specs.LabelPass.{begun, space_len, starts_dropped, without_first_space, without_last_space}
 use Rattle.markdown_scanners_tree.specs.declared.linklabel.Tally.{Tally}
 use Rattle.markdown_scanners_tree.proofs.LabelRuns.{few, few-white_runs, few_at_ending, lone, lone_runs}
 use Rattle.markdown_scanners_tree.proofs.LabelWords.{text_from, joined_words-from, lone_outer}
-use Rattle.markdown_scanners_tree.proofs.LabelCells.{is_pipe, Follows, follows_byte, space_of, text_from-white, text_from-word, has_dropped-byte, not_dropped-white, IsGap, gap_of_line, in_cell-same}
+use Rattle.markdown_scanners_tree.proofs.LabelCells.{is_pipe, Follows, follows_byte, space_of, text_from-white, text_from-word, has_dropped-byte, not_dropped-white, gap_of_line, in_cell-same}
 
 -- what was written of the text, and what is still to be written of it, whatever comes
 pub record Written (t : Bool) (seen : List KeptByte) (ix : ℕ) (rest : List ℕ) (has_word in_run : Bool) (pushed : List ℕ) : Type 0 where

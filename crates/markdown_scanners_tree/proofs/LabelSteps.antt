@@ -1,8 +1,7 @@
 -- What a kept text begins with, byte by byte.
-use Rattle.std.proofs.Common.{ℕ, zero, suc, Bool, true, false, ◌||◌, ◌&&◌, ◌==◌, not, List, [], ◌∷◌, ◌++◌, ◌≡◌, ◌+◌, Option, Some, None, refl, sym, ◌∙◌, ap, subst, drop, cond, arith, append_assoc, append-nil, true≢false, eqb-true}
-use Rattle.std.specs.List.{list_any}
+use Rattle.std.proofs.Common.{ℕ, Bool, true, false, ◌||◌, ◌&&◌, ◌==◌, not, List, [], ◌∷◌, ◌++◌, ◌≡◌, ◌+◌, Option, Some, None, refl, sym, ◌∙◌, ap, subst, drop, cond, append_assoc, append-nil, true≢false, eqb-true}
 use Rattle.markdown_scanners_tree.specs.Bytes.{begins_with, is_line_ending, is_punctuation}
-use Rattle.markdown_scanners_tree.specs.Kept.{KeptByte, in_line, at_line_end, kept_head, kept_line, kept_return, return_len, line_len, kept_from, AreSkips}
+use Rattle.markdown_scanners_tree.specs.Kept.{KeptByte, in_line, at_line_end, kept_head, kept_line, kept_return, line_len, kept_from, AreSkips}
 use Rattle.markdown_scanners_tree.proofs.KeptStep.{kept_from-in_line, AreSkips-in_line}
 use Rattle.std.proofs.lemmas.Bool.{and_parts}
 use Rattle.markdown_scanners_tree.specs.Label.{Piece, escaped, single, pieces, Bracketed, preceded, bracketed, Label, label_between}

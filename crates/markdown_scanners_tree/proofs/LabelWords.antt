@@ -4,7 +4,7 @@ use Rattle.std.proofs.lemmas.Bool.{and_parts}
 use Rattle.std.specs.List.{join_with_byte}
 use Rattle.markdown_scanners_tree.specs.Bytes.{begins_with, is_white_space}
 use Rattle.markdown_scanners_tree.specs.Kept.{KeptByte, bytes_of}
-use Rattle.markdown_scanners_tree.specs.Label.{is_white, onto_runs, runs_of, words, joined_words}
+use Rattle.markdown_scanners_tree.specs.Label.{is_white, onto_runs, words, joined_words}
 use Rattle.markdown_scanners_tree.specs.LabelPass.{without_first_space, without_last_space}
 use Rattle.markdown_scanners_tree.proofs.LabelRuns.{lone}
 

@@ -1,5 +1,5 @@
 -- What the second pass over a label has written.
-use Rattle.std.proofs.Common.{ℕ, suc, Bool, true, false, ◌&&◌, ◌==◌, List, [], ◌∷◌, ◌++◌, ◌≡◌, ◌≤◌, ◌<◌, ◌+◌, ◌-◌, Option, Some, None, Result, Ok, Err, is_ok, OnOk, refl, sym, ◌∙◌, ap, subst, cond, arith, append_assoc, append-nil, drop, take, get_or, length, length-drop, true≢false, eqb-true, if◌then◌else◌}
+use Rattle.std.proofs.Common.{ℕ, suc, Bool, true, false, ◌&&◌, ◌==◌, List, [], ◌∷◌, ◌++◌, ◌≡◌, ◌≤◌, ◌<◌, ◌+◌, ◌-◌, Some, None, Result, Ok, Err, is_ok, OnOk, refl, sym, ◌∙◌, ap, subst, cond, arith, append_assoc, append-nil, drop, take, get_or, length, length-drop, eqb-true}
 use Rattle.std.proofs.Math.Seq.{take-suc}
 use Rattle.std.proofs.lemmas.Bool.{and_parts}
 use Rattle.std.proofs.lemmas.List.{get_or-drop}

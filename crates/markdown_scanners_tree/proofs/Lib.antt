@@ -21,6 +21,7 @@ pub mod LabelCells
 pub mod LabelKeys
 pub mod LabelMeasure
 pub mod LabelReads
+pub mod LabelRows
 pub mod LabelRuns
 pub mod LabelScan
 pub mod LabelSeen

@@ -1,13 +1,11 @@
 -- The first pass over a label.
-use Rattle.std.proofs.Common.{ℕ, ◌≡◌, ◌≤◌, ◌+◌, ◌∷◌, ◌++◌, Some, None, true, false, [], List, Bool, refl, sym, ◌∙◌, ap, subst, cond, drop, length, arith, nat_le, ◌&&◌, ◌||◌, not, inl, inr, IfNone, Option}
+use Rattle.std.proofs.Common.{ℕ, ◌≡◌, ◌≤◌, ◌+◌, ◌∷◌, ◌++◌, Some, None, true, false, [], List, Bool, sym, ◌∙◌, ap, subst, cond, drop, length, arith, nat_le, ◌&&◌, ◌||◌, not, inl, inr, IfNone, Option}
 use Rattle.std.proofs.lemmas.Bool.Decides.{nat_tests}
 use Rattle.std.proofs.lemmas.List.{drop-drop}
-use Rattle.std.specs.Str.{IsCharBoundary}
 use Rattle.markdown_scanners_tree.specs.Bytes.{is_between}
 use Rattle.markdown_scanners_tree.specs.Handler.{Skips}
 use Rattle.markdown_scanners_tree.specs.Kept.{KeptByte, in_line, kept_line}
-use Rattle.markdown_scanners_tree.specs.Label.{Label, IsLabel}
-use Rattle.markdown_scanners_tree.specs.LabelFront.{IsFront, IsWord, IsSpace, IsEnding, IsBracket}
+use Rattle.markdown_scanners_tree.specs.LabelFront.{IsFront}
 use Rattle.markdown_scanners_tree.specs.LabelPass.{IsMeasure, IsOnlySkip, begun, space_len, starts_dropped}
 use Rattle.markdown_scanners_tree.specs.declared.linklabel.Front.TheVariants.{End, Open, Close, Ending, Space, Word}
 use Rattle.markdown_scanners_tree.proofs.LabelMeasure.{measured, not_measured}
@@ -42,7 +40,7 @@ returns-then-tally-le999-clause-found g c =
     let o : IsFront c.loop-len.escaped (drop c.loop-len.ix c.args.text.now) Close = front_at _ _ _ _ _ _ c.as_bytes-bytes.ensures.value c.front_of.ensures c.in-Close.is in
     let within : c.loop-len.ix ≤ length c.args.text.now = rw (ap length c.as_bytes-bytes.ensures.value) at c.loop-len.invariant.within in
     subst (λ p. IsMeasure (Skips g.F.Fn c.args.handler.now) c.args.text.now c.args.is_in_table (record { close = c.loop-len.ix; length = c.loop-len.tally.length; is_plain = p })) (sym c.is_plain.ensures)
-        (measured _ _ _ _ _ _ _ c.loop-len.invariant.at o c.loop-len.invariant.told within c.if-tally.true c.if-tally-le999.true)
+    (measured _ _ _ _ _ _ _ c.loop-len.invariant.at o c.loop-len.invariant.told within c.if-tally.true c.if-tally-le999.true)
 
 pub returns-in-Close-clause-none : goal.returns-in-Close-clause-none
 returns-in-Close-clause-none g c =
@@ -75,14 +73,14 @@ loop-len-preserved-in-Ending g c =
     let word = at_most_one (c.loop-len.tally.has_word && true) in
     let bounds = ending_fits c.args.text.now c.loop-len.ix c.in-Ending.len o in
     subst (λ y. record { within : jx ≤ length c.as_bytes-bytes.result.now; few : y.characters ≤ jx; short : y.length + space_len y.has_word y.in_run ≤ jx; seen : List KeptByte; at : IsAt (Skips g.F.Fn c.args.handler.now) c.args.text.now c.loop-len.escaped seen jx (drop jx c.args.text.now); told : Seen c.args.is_in_table c.args.text.now seen jx (drop jx c.args.text.now) y }) (sym c.past_ending-tally.ensures)
-        (record {
-          within = omega (arith, ap length c.as_bytes-bytes.ensures.value, c.in_ok-skip-in-Ending.ensures.cut.0);
-          few = omega (arith, c.loop-len.invariant.few);
-          short = omega (arith, c.loop-len.invariant.short, bounds.1);
-          seen = c.loop-len.invariant.seen ++ kept_line c.loop-len.ix (drop c.loop-len.ix c.args.text.now);
-          at = subst (IsAt _ _ _ _ jx) (drop-drop (c.in-Ending.len + c.in_ok-skip-in-Ending.skip) c.loop-len.ix c.args.text.now) (after_ending _ _ _ _ _ _ c.loop-len.invariant.at _ o _ only);
-          told = told_ending _ _ _ _ _ _ _ c.loop-len.invariant.told jx _ o c.if-tally-2.false;
-        })
+    (record {
+      within = omega (arith, ap length c.as_bytes-bytes.ensures.value, c.in_ok-skip-in-Ending.ensures.cut.0);
+      few = omega (arith, c.loop-len.invariant.few);
+      short = omega (arith, c.loop-len.invariant.short, bounds.1);
+      seen = c.loop-len.invariant.seen ++ kept_line c.loop-len.ix (drop c.loop-len.ix c.args.text.now);
+      at = subst (IsAt _ _ _ _ jx) (drop-drop (c.in-Ending.len + c.in_ok-skip-in-Ending.skip) c.loop-len.ix c.args.text.now) (after_ending _ _ _ _ _ _ c.loop-len.invariant.at _ o _ only);
+      told = told_ending _ _ _ _ _ _ _ c.loop-len.invariant.told jx _ o c.if-tally-2.false;
+    })
 
 pub loop-len-preserved-in-Space : goal.loop-len-preserved-in-Space
 loop-len-preserved-in-Space g c =
@@ -92,14 +90,14 @@ loop-len-preserved-in-Space g c =
     let fits = byte_fits c.args.text.now c.loop-len.ix c.in-Space.byte o.others o.is in
     let word = at_most_one (c.loop-len.tally.has_word && true) in
     subst (λ y. record { within : jx ≤ length c.as_bytes-bytes.result.now; few : y.characters ≤ jx; short : y.length + space_len y.has_word y.in_run ≤ jx; seen : List KeptByte; at : IsAt (Skips g.F.Fn c.args.handler.now) c.args.text.now c.loop-len.escaped seen jx (drop jx c.args.text.now); told : Seen c.args.is_in_table c.args.text.now seen jx (drop jx c.args.text.now) y }) (sym c.past_space-tally.ensures)
-        (record {
-          within = omega (arith, ap length c.as_bytes-bytes.ensures.value, fits);
-          few = omega (arith, c.loop-len.invariant.few);
-          short = omega (arith, c.loop-len.invariant.short);
-          seen = c.loop-len.invariant.seen ++ in_line c.in-Space.byte c.loop-len.ix ∷ [];
-          at = after_space _ _ _ _ _ _ c.loop-len.invariant.at _ _ o next;
-          told = told_space _ _ _ _ _ _ _ c.loop-len.invariant.told _ o next;
-        })
+    (record {
+      within = omega (arith, ap length c.as_bytes-bytes.ensures.value, fits);
+      few = omega (arith, c.loop-len.invariant.few);
+      short = omega (arith, c.loop-len.invariant.short);
+      seen = c.loop-len.invariant.seen ++ in_line c.in-Space.byte c.loop-len.ix ∷ [];
+      at = after_space _ _ _ _ _ _ c.loop-len.invariant.at _ _ o next;
+      told = told_space _ _ _ _ _ _ _ c.loop-len.invariant.told _ o next;
+    })
 
 pub loop-len-preserved : goal.loop-len-preserved
 loop-len-preserved g c =
@@ -111,11 +109,11 @@ loop-len-preserved g c =
     let begins = at_most_one (not (is_between 128 191 c.in-Word.byte)) in
     let writes = one_or_none (starts_dropped c.args.is_in_table (drop c.loop-len.ix c.args.text.now)) in
     subst (λ y. record { within : jx ≤ length c.as_bytes-bytes.result.now; few : y.characters ≤ jx; short : y.length + space_len y.has_word y.in_run ≤ jx; seen : List KeptByte; at : IsAt (Skips g.F.Fn c.args.handler.now) c.args.text.now c.in-Word.escapes seen jx (drop jx c.args.text.now); told : Seen c.args.is_in_table c.args.text.now seen jx (drop jx c.args.text.now) y }) (sym (c.past_word-tally.ensures ∙ ap (λ d. record c.loop-len.tally { characters = c.loop-len.tally.characters + begun c.in-Word.byte; length = c.loop-len.tally.length + space_len c.loop-len.tally.has_word c.loop-len.tally.in_run + cond d 0 1; has_word = true; in_run = false; has_ending = false; is_rewritten = c.loop-len.tally.is_rewritten || d }) drops))
-        (record {
-          within = omega (arith, ap length c.as_bytes-bytes.ensures.value, fits);
-          few = omega (arith, c.loop-len.invariant.few, begins);
-          short = omega (arith, c.loop-len.invariant.short, writes);
-          seen = c.loop-len.invariant.seen ++ in_line c.in-Word.byte c.loop-len.ix ∷ [];
-          at = after_word _ _ _ _ _ _ c.loop-len.invariant.at _ _ _ o next;
-          told = told_word _ _ _ _ _ _ _ c.loop-len.invariant.told _ _ _ o next;
-        })
+    (record {
+      within = omega (arith, ap length c.as_bytes-bytes.ensures.value, fits);
+      few = omega (arith, c.loop-len.invariant.few, begins);
+      short = omega (arith, c.loop-len.invariant.short, writes);
+      seen = c.loop-len.invariant.seen ++ in_line c.in-Word.byte c.loop-len.ix ∷ [];
+      at = after_word _ _ _ _ _ _ c.loop-len.invariant.at _ _ _ o next;
+      told = told_word _ _ _ _ _ _ _ c.loop-len.invariant.told _ _ _ o next;
+    })

@@ -1,4 +1,4 @@
-use Rattle.std.proofs.Common.{length, ◌-◌, ◌≡◌, ◌≤◌, ◌+◌, ◌<◌, ℕ, false, [], List, drop}
+use Rattle.std.proofs.Common.{length, ◌-◌, ◌≤◌, ◌+◌, List, drop}
 use Rattle.markdown_scanners_tree.specs.Kept.{KeptByte}
 use Rattle.markdown_scanners_tree.specs.Handler.{Skips}
 use Rattle.markdown_scanners_tree.specs.LabelPass.{space_len}

@@ -1,5 +1,5 @@
 -- The two passes together.
-use Rattle.std.proofs.Common.{◌≡◌, ◌++◌, ◌-◌, arith, true, false, refl, sym, ◌∙◌, ap, true≢false}
+use Rattle.std.proofs.Common.{◌++◌, ◌-◌, arith, sym, ◌∙◌, ap, true≢false}
 use Rattle.markdown_scanners_tree.specs.Label.{Label}
 use Rattle.markdown_scanners_tree.specs.LabelPass.{without_first_space, without_last_space}
 use Rattle.markdown_scanners_tree.proofs.LabelReads.{label_reads_back}
@@ -20,12 +20,16 @@ returns-in_err-write_label-clause-no_label g c = λ none. (let m = c.in-Some.ens
 
 pub returns-clause-found : goal.returns-clause-found
 returns-clause-found g c =
-    let m = c.in-Some.ensures.found in (m.label, m.is, record {
-      taken_all = m.taken;
-      same_text = c.in_ok-from_string.ensures.text ∙ c.in_ok-write_label.ensures.written m.label m.is ∙ ap (λ z. z ++ m.label.text) c.in_ok-label.ensures.bytes;
-      lent = λ h. absurd (true≢false (sym h ∙ sym m.same ∙ c.if-measure.false));
-      built = λ h. c.in_ok-from_string.ensures.boxed;
-    })
+    let m = c.in-Some.ensures.found in (
+      m.label,
+      m.is,
+      record {
+        taken_all = m.taken;
+        same_text = c.in_ok-from_string.ensures.text ∙ c.in_ok-write_label.ensures.written m.label m.is ∙ ap (λ z. z ++ m.label.text) c.in_ok-label.ensures.bytes;
+        lent = λ h. absurd (true≢false (sym h ∙ sym m.same ∙ c.if-measure.false));
+        built = λ h. c.in_ok-from_string.ensures.boxed;
+      },
+    )
 
 pub returns-clause-reads_back : goal.returns-clause-reads_back
 returns-clause-reads_back g c =

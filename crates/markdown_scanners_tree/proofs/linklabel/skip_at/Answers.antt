@@ -1,5 +1,5 @@
 -- A handler gives one answer for one rest, and a skip ends at a character boundary.
-use Rattle.std.proofs.Common.{ℕ, ◌≡◌, ◌≤◌, ◌+◌, ◌∙◌, Option, Some, None, IfSome, IfNone, ap, arith, drop, length, length-drop}
+use Rattle.std.proofs.Common.{ℕ, ◌≡◌, ◌+◌, ◌∙◌, Option, Some, None, IfSome, IfNone, ap, drop}
 use Rattle.std.proofs.lemmas.Str.{IsUtf8-drop, IsCharBoundary-from_rest}
 use Rattle.std.specs.Fn.{FnReturnsAt}
 use Rattle.std.specs.Str.{IsUtf8, IsCharBoundary}

@@ -1,5 +1,5 @@
 -- The space at the end, by its place.
-use Rattle.std.proofs.Common.{ℕ, zero, suc, List, [], ◌∷◌, ◌==◌, ◌≡◌, ◌+◌, ◌-◌, true, false, refl, sym, ◌∙◌, ap, cond, arith, length, take, get_or, Bool}
+use Rattle.std.proofs.Common.{ℕ, zero, suc, List, [], ◌∷◌, ◌==◌, ◌≡◌, ◌-◌, true, false, refl, sym, ◌∙◌, ap, cond, arith, length, take, get_or}
 use Rattle.std.proofs.lemmas.Bool.Decides.{nat_tests}
 use Rattle.markdown_scanners_tree.specs.LabelPass.{without_last_space}
 use Rattle.markdown_scanners_tree.proofs.LabelScan.{same_take}

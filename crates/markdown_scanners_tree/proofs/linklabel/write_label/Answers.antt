@@ -1,19 +1,18 @@
 -- The second pass over a label.
-use Rattle.std.proofs.Common.{ℕ, ◌≡◌, ◌≤◌, ◌+◌, ◌-◌, ◌∷◌, ◌++◌, ◌&&◌, Some, None, true, false, [], List, Bool, refl, sym, ◌∙◌, ap, subst, cond, drop, take, length, arith, inl, inr, append-nil, is_ok, true≢false}
+use Rattle.std.proofs.Common.{ℕ, ◌≡◌, ◌+◌, ◌-◌, ◌∷◌, ◌++◌, ◌&&◌, [], refl, sym, ◌∙◌, ap, subst, cond, drop, take, length, arith, inl, inr, is_ok, true≢false}
 use Rattle.std.proofs.lemmas.List.{drop-drop}
 use Rattle.std.proofs.lemmas.Str.{IsCharBoundary-start}
 use Rattle.std.specs.Str.{IsCharBoundary}
 use Rattle.std.specs.String.{string_bytes}
 use Rattle.markdown_scanners_tree.specs.Handler.{Skips}
-use Rattle.markdown_scanners_tree.specs.Kept.{KeptByte, in_line, kept_line}
-use Rattle.markdown_scanners_tree.specs.Label.{Label, IsLabel}
+use Rattle.markdown_scanners_tree.specs.Kept.{in_line, kept_line}
 use Rattle.markdown_scanners_tree.specs.LabelFront.{IsFront}
 use Rattle.markdown_scanners_tree.specs.LabelPass.{IsOnlySkip, starts_dropped}
 use Rattle.markdown_scanners_tree.specs.declared.linklabel.Front.TheVariants.{End, Open, Close, Ending, Space, Word}
 use Rattle.markdown_scanners_tree.proofs.LabelScan.{IsAt, at_start, none_at_end, none_at_opening, none_at_ending, after_word, after_space, after_ending, front_at, rest_is, byte_fits, byte_rest, cut_after, cut_after_ending, white_small}
-use Rattle.markdown_scanners_tree.proofs.LabelSeen.{Written, Written-none}
+use Rattle.markdown_scanners_tree.proofs.LabelSeen.{Written-none}
 use Rattle.markdown_scanners_tree.proofs.LabelCells.{space_of}
-use Rattle.markdown_scanners_tree.proofs.LabelWriting.{label_written, slice_more, no_slice, word_written, space_after, appended, cut_after_dropped, ending_written, space_written, word_follows, flushed_out, MarkIs, mark_dropped, mark_kept, spaced_out, not_spaced_out}
+use Rattle.markdown_scanners_tree.proofs.LabelWriting.{label_written, no_slice, word_written, space_after, appended, ending_written, space_written, word_follows, flushed_out, MarkIs, mark_dropped, mark_kept, spaced_out, not_spaced_out}
 use Rattle.markdown_scanners_tree.proofs.linklabel.write_label.Goals as goal
 use Rattle.markdown_scanners_tree.proofs.linklabel.write_label.Goals.{then-has_word+then-in_run+in_ok-push_str-in-Word, else-has_word, then-is_dropped+in_ok-push_str-in-Word-2, else-is_dropped}
 
@@ -34,8 +33,8 @@ returns-in-End g c = record {
       | inr e ↦ (let f : IsFront c.loop-out.escaped (drop c.loop-out.ix c.args.text.now) Close = front_at _ _ _ _ _ _ c.as_bytes-bytes.ensures.value c.front_of.ensures e in label_written _ _ _ _ _ _ _ _ _ _ c.loop-out.invariant.at f c.loop-out.invariant.written label l)
     ]
   ] in
-  appended (string_bytes c.args.out.now) (string_bytes c.loop-out.out) (take (c.loop-out.ix - c.loop-out.mark) (drop c.loop-out.mark c.args.text.now)) (string_bytes c.push_str.new.self) c.loop-out.invariant.pushed label.text c.push_str.result
-    c.loop-out.invariant.same (c.push_str.ensures.bytes ∙ ap (λ z. cond (is_ok c.push_str.result) (string_bytes c.loop-out.out ++ z) (string_bytes c.loop-out.out)) c.range.ensures.value) pushed);
+      appended (string_bytes c.args.out.now) (string_bytes c.loop-out.out) (take (c.loop-out.ix - c.loop-out.mark) (drop c.loop-out.mark c.args.text.now)) (string_bytes c.push_str.new.self) c.loop-out.invariant.pushed label.text c.push_str.result
+      c.loop-out.invariant.same (c.push_str.ensures.bytes ∙ ap (λ z. cond (is_ok c.push_str.result) (string_bytes c.loop-out.out ++ z) (string_bytes c.loop-out.out)) c.range.ensures.value) pushed);
 }
 
 pub returns-in_default : goal.returns-in_default
