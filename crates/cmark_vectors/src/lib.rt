@@ -8,6 +8,8 @@ mod inline;
 #[cfg(test)]
 mod inline_html;
 #[cfg(test)]
+mod label;
+#[cfg(test)]
 mod line;
 #[cfg(test)]
 mod line_vectors;

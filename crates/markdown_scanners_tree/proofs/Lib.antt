@@ -25,6 +25,17 @@ pub mod ItemLemmas
 pub mod KeptCopy
 pub mod KeptReading
 pub mod KeptStep
+pub mod LabelCells
+pub mod LabelKeys
+pub mod LabelMeasure
+pub mod LabelReads
+pub mod LabelRows
+pub mod LabelRuns
+pub mod LabelScan
+pub mod LabelSeen
+pub mod LabelSteps
+pub mod LabelWords
+pub mod LabelWriting
 pub mod LeastPlaces
 pub mod LineRows
 pub mod LineRunLemmas

@@ -22,6 +22,11 @@ pub mod InlineHtmlPassed
 pub mod InlineHtmlRun
 pub mod Kept
 pub mod KeptTag
+pub mod Label
+pub mod LabelAnswer
+pub mod LabelFront
+pub mod LabelKey
+pub mod LabelPass
 pub mod LineOutcome
 pub mod LineState
 pub mod Lines

@@ -1,0 +1,20 @@
+use Rattle.std.proofs.Common.{length, ◌-◌, ◌≤◌, ◌+◌, List, drop}
+use Rattle.markdown_scanners_tree.specs.Kept.{KeptByte}
+use Rattle.markdown_scanners_tree.specs.Handler.{Skips}
+use Rattle.markdown_scanners_tree.specs.LabelPass.{space_len}
+use Rattle.markdown_scanners_tree.proofs.LabelScan.{IsAt}
+use Rattle.markdown_scanners_tree.proofs.LabelSeen.{Seen}
+use Rattle.markdown_scanners_tree.proofs.linklabel.measure_label.Given as goal
+
+abbrev pub invariant-loop-len : goal.invariant-loop-len
+invariant-loop-len g l = record {
+  within : l.ix ≤ length l.bytes;
+  few : l.tally.characters ≤ l.ix;
+  short : l.tally.length + space_len l.tally.has_word l.tally.in_run ≤ l.ix;
+  seen : List KeptByte;
+  at : IsAt (Skips g.F.Fn l.handler) l.fn.text l.escaped seen l.ix (drop l.ix l.fn.text);
+  told : Seen l.is_in_table l.fn.text seen l.ix (drop l.ix l.fn.text) l.tally;
+}
+
+abbrev pub decreases-loop-len : goal.decreases-loop-len
+decreases-loop-len g l = length l.bytes - l.ix

@@ -1,0 +1,112 @@
+-- The second pass over a label.
+use Rattle.std.proofs.Common.{ℕ, ◌≡◌, ◌+◌, ◌-◌, ◌∷◌, ◌++◌, ◌&&◌, [], refl, sym, ◌∙◌, ap, subst, cond, drop, take, length, arith, inl, inr, is_ok, true≢false}
+use Rattle.std.proofs.lemmas.List.{drop-drop}
+use Rattle.std.proofs.lemmas.Str.{IsCharBoundary-start}
+use Rattle.std.specs.Str.{IsCharBoundary}
+use Rattle.std.specs.String.{string_bytes}
+use Rattle.markdown_scanners_tree.specs.Handler.{Skips}
+use Rattle.markdown_scanners_tree.specs.Kept.{in_line, kept_line}
+use Rattle.markdown_scanners_tree.specs.LabelFront.{IsFront}
+use Rattle.markdown_scanners_tree.specs.LabelPass.{IsOnlySkip, starts_dropped}
+use Rattle.markdown_scanners_tree.specs.declared.linklabel.Front.TheVariants.{End, Open, Close, Ending, Space, Word}
+use Rattle.markdown_scanners_tree.proofs.LabelScan.{IsAt, at_start, none_at_end, none_at_opening, none_at_ending, after_word, after_space, after_ending, front_at, rest_is, byte_fits, byte_rest, cut_after, cut_after_ending, white_small}
+use Rattle.markdown_scanners_tree.proofs.LabelSeen.{Written-none}
+use Rattle.markdown_scanners_tree.proofs.LabelCells.{space_of}
+use Rattle.markdown_scanners_tree.proofs.LabelWriting.{label_written, no_slice, word_written, space_after, appended, ending_written, space_written, word_follows, flushed_out, MarkIs, mark_dropped, mark_kept, spaced_out, not_spaced_out}
+use Rattle.markdown_scanners_tree.proofs.linklabel.write_label.Goals as goal
+use Rattle.markdown_scanners_tree.proofs.linklabel.write_label.Goals.{then-has_word+then-in_run+in_ok-push_str-in-Word, else-has_word, then-is_dropped+in_ok-push_str-in-Word-2, else-is_dropped}
+
+pub loop-out-init : goal.loop-out-init
+loop-out-init g c = record { within = omega arith; behind = omega arith; cut = IsCharBoundary-start c.args.text.now c.utf8.text; flushed = λ h. refl; seen = []; at = at_start _ _; pushed = []; written = Written-none _ _; same = refl }
+
+pub skip_at-requires-clause-cut : goal.skip_at-requires-clause-cut
+skip_at-requires-clause-cut g c =
+    let o : IsFront c.loop-out.escaped (drop c.loop-out.ix c.args.text.now) (Ending c.in-Ending.len) = front_at _ _ _ _ _ _ c.as_bytes-bytes.ensures.value c.front_of.ensures c.in-Ending.is in
+    cut_after_ending c.args.text.now c.loop-out.ix c.in-Ending.len c.utf8.text o
+
+pub returns-in-End : goal.returns-in-End
+returns-in-End g c = record {
+  written = λ label l. (let pushed : label.text ≡ c.loop-out.invariant.pushed = elim c.in-End.is [
+    | inl e ↦ (let f : IsFront c.loop-out.escaped (drop c.loop-out.ix c.args.text.now) End = front_at _ _ _ _ _ _ c.as_bytes-bytes.ensures.value c.front_of.ensures e in absurd (none_at_end _ _ _ _ _ _ c.loop-out.invariant.at f _ label l))
+    | inr d ↦ elim d [
+      | inl e ↦ (let f : IsFront c.loop-out.escaped (drop c.loop-out.ix c.args.text.now) Open = front_at _ _ _ _ _ _ c.as_bytes-bytes.ensures.value c.front_of.ensures e in absurd (none_at_opening _ _ _ _ _ _ c.loop-out.invariant.at f _ label l))
+      | inr e ↦ (let f : IsFront c.loop-out.escaped (drop c.loop-out.ix c.args.text.now) Close = front_at _ _ _ _ _ _ c.as_bytes-bytes.ensures.value c.front_of.ensures e in label_written _ _ _ _ _ _ _ _ _ _ c.loop-out.invariant.at f c.loop-out.invariant.written label l)
+    ]
+  ] in
+      appended (string_bytes c.args.out.now) (string_bytes c.loop-out.out) (take (c.loop-out.ix - c.loop-out.mark) (drop c.loop-out.mark c.args.text.now)) (string_bytes c.push_str.new.self) c.loop-out.invariant.pushed label.text c.push_str.result
+      c.loop-out.invariant.same (c.push_str.ensures.bytes ∙ ap (λ z. cond (is_ok c.push_str.result) (string_bytes c.loop-out.out ++ z) (string_bytes c.loop-out.out)) c.range.ensures.value) pushed);
+}
+
+pub returns-in_default : goal.returns-in_default
+returns-in_default g c =
+    let o : IsFront c.loop-out.escaped (drop c.loop-out.ix c.args.text.now) (Ending c.in-Ending.len) = front_at _ _ _ _ _ _ c.as_bytes-bytes.ensures.value c.front_of.ensures c.in-Ending.is in
+    let lacks : (m : ℕ) → Skips g.F.Fn c.args.handler.now (drop c.in-Ending.len (drop c.loop-out.ix c.args.text.now)) m → ⊥ = λ m k. c.in_default.ensures.none m (subst (λ r. Skips g.F.Fn c.args.handler.now r m) (drop-drop c.in-Ending.len c.loop-out.ix c.args.text.now) k) in
+    record { written = λ label l. absurd (none_at_ending _ _ _ _ _ _ c.loop-out.invariant.at _ o lacks _ label l) }
+
+pub loop-out-preserved-in-Ending : goal.loop-out-preserved-in-Ending
+loop-out-preserved-in-Ending g c =
+    let o : IsFront c.loop-out.escaped (drop c.loop-out.ix c.args.text.now) (Ending c.in-Ending.len) = front_at _ _ _ _ _ _ c.as_bytes-bytes.ensures.value c.front_of.ensures c.in-Ending.is in
+    let jx = c.loop-out.ix + (c.in-Ending.len + c.in-Some.skip) in
+    let only : IsOnlySkip (Skips g.F.Fn c.args.handler.now) (drop c.in-Ending.len (drop c.loop-out.ix c.args.text.now)) c.in-Some.skip = subst (λ r. IsOnlySkip (Skips g.F.Fn c.args.handler.now) r c.in-Some.skip) (sym (drop-drop c.in-Ending.len c.loop-out.ix c.args.text.now)) c.in-Some.ensures.found in
+    record {
+      within = omega (arith, ap length c.as_bytes-bytes.ensures.value, c.in-Some.ensures.cut.0);
+      behind = omega arith;
+      cut = subst (IsCharBoundary c.args.text.now) (omega arith) c.in-Some.ensures.cut;
+      flushed = λ h. refl;
+      seen = c.loop-out.invariant.seen ++ kept_line c.loop-out.ix (drop c.loop-out.ix c.args.text.now);
+      at = subst (IsAt _ _ _ _ jx) (drop-drop (c.in-Ending.len + c.in-Some.skip) c.loop-out.ix c.args.text.now) (after_ending _ _ _ _ _ _ c.loop-out.invariant.at _ o _ only);
+      pushed = c.loop-out.invariant.pushed;
+      written = ending_written _ _ _ jx _ _ _ _ _ _ o c.loop-out.invariant.written;
+      same = c.loop-out.invariant.same ∙ flushed_out c.args.text.now (string_bytes c.loop-out.out) (take (c.loop-out.ix - c.loop-out.mark) (drop c.loop-out.mark c.args.text.now)) (string_bytes c.push_str-in-Ending.new.self) jx (c.in_ok-push_str-in-Ending.ensures.bytes ∙ ap (λ z. string_bytes c.loop-out.out ++ z) c.range-in-Ending.ensures.value);
+    }
+
+pub loop-out-preserved-in-Space : goal.loop-out-preserved-in-Space
+loop-out-preserved-in-Space g c =
+    let o : IsFront c.loop-out.escaped (drop c.loop-out.ix c.args.text.now) (Space c.in-Space.field-0) = front_at _ _ _ _ _ _ c.as_bytes-bytes.ensures.value c.front_of.ensures c.in-Space.is in
+    let next = byte_rest c.args.text.now c.loop-out.ix c.in-Space.field-0 o.others o.is in
+    let fits = byte_fits c.args.text.now c.loop-out.ix c.in-Space.field-0 o.others o.is in
+    record {
+      within = omega (arith, ap length c.as_bytes-bytes.ensures.value, fits);
+      behind = omega arith;
+      cut = cut_after c.args.text.now c.loop-out.ix c.in-Space.field-0 o.others c.utf8.text o.is (white_small c.in-Space.field-0 o.white);
+      flushed = λ h. refl;
+      seen = c.loop-out.invariant.seen ++ in_line c.in-Space.field-0 c.loop-out.ix ∷ [];
+      at = after_space _ _ _ _ _ _ c.loop-out.invariant.at _ _ o next;
+      pushed = c.loop-out.invariant.pushed;
+      written = space_written _ _ _ _ _ _ _ _ _ o next c.loop-out.invariant.written;
+      same = c.loop-out.invariant.same ∙ flushed_out c.args.text.now (string_bytes c.loop-out.out) (take (c.loop-out.ix - c.loop-out.mark) (drop c.loop-out.mark c.args.text.now)) (string_bytes c.push_str-in-Space.new.self) (c.loop-out.ix + 1) (c.in_ok-push_str-in-Space.ensures.bytes ∙ ap (λ z. string_bytes c.loop-out.out ++ z) c.range-in-Space.ensures.value);
+    }
+
+pub loop-out-preserved : goal.loop-out-preserved
+loop-out-preserved g c =
+    let o : IsFront c.loop-out.escaped (drop c.loop-out.ix c.args.text.now) (Word c.in-Word.field-0 c.in-Word.escapes) = front_at _ _ _ _ _ _ c.as_bytes-bytes.ensures.value c.front_of.ensures c.in-Word.is in
+    let b = c.in-Word.field-0 in
+    let next = byte_rest c.args.text.now c.loop-out.ix c.in-Word.field-0 o.others o.is in
+    let fits = byte_fits c.args.text.now c.loop-out.ix c.in-Word.field-0 o.others o.is in
+    let text = c.args.text.now in
+    let mark = c.loop-out.mark in
+    let ix = c.loop-out.ix in
+    let out = string_bytes c.loop-out.out in
+    let slice = take (ix - mark) (drop mark text) in
+    let drops : c.is_dropped.result ≡ starts_dropped c.args.is_in_table (drop c.loop-out.ix c.args.text.now) = c.is_dropped.ensures ∙ ap (starts_dropped c.args.is_in_table) (rest_is c.as_bytes-bytes.result.now c.loop-out.ix ∙ ap (drop c.loop-out.ix) c.as_bytes-bytes.ensures.value) in
+    let spaced : string_bytes c.if-has_word.out ≡ out ++ space_of c.loop-out.has_word c.loop-out.in_run = elim c.if-has_word.branch [
+      | then-has_word+then-in_run+in_ok-push_str-in-Word w ↦ spaced_out (string_bytes c.if-has_word.out) (string_bytes c.loop-out.out) _ _ w.if-has_word.true w.if-in_run.true (ap string_bytes w.out-is ∙ w.in_ok-push_str-in-Word.ensures.bytes)
+      | else-has_word w ↦ not_spaced_out (string_bytes c.if-has_word.out) (string_bytes c.loop-out.out) c.loop-out.has_word c.loop-out.in_run (elim w.else-has_word.either [ inl h ↦ (λ i. h.0 i && h.1 i) | inr h ↦ ap (λ v. v && c.loop-out.in_run) h ]) (ap string_bytes w.out-is)
+    ] in
+    let first = space_after out (string_bytes c.if-has_word.out) slice c.loop-out.has_word c.loop-out.in_run spaced (λ h. no_slice text mark ix (c.loop-out.invariant.flushed h)) in
+    let rest : MarkIs text ix b (c.if-is_dropped.mark) (string_bytes c.if-has_word.out ++ slice) (string_bytes c.if-is_dropped.out) (starts_dropped c.args.is_in_table (drop c.loop-out.ix c.args.text.now)) = elim c.if-is_dropped.branch [
+      | then-is_dropped+in_ok-push_str-in-Word-2 w ↦ mark_dropped c.args.is_in_table c.args.text.now c.loop-out.ix c.in-Word.field-0 o.others o.is c.if-is_dropped.mark (string_bytes c.if-is_dropped.out) (string_bytes c.if-has_word.out ++ take (c.loop-out.ix - c.loop-out.mark) (drop c.loop-out.mark c.args.text.now)) c.utf8.text (sym drops ∙ w.if-is_dropped.true) w.mark-is
+          (ap string_bytes w.out-is ∙ w.in_ok-push_str-in-Word-2.ensures.bytes ∙ ap (λ z. string_bytes c.if-has_word.out ++ z) w.range-then-is_dropped.ensures.value)
+      | else-is_dropped w ↦ mark_kept c.args.is_in_table c.args.text.now c.loop-out.ix c.in-Word.field-0 o.others o.is c.if-is_dropped.mark (string_bytes c.if-is_dropped.out) c.loop-out.mark (string_bytes c.if-has_word.out) c.loop-out.invariant.behind c.loop-out.invariant.cut (sym drops ∙ w.if-is_dropped.false) w.mark-is (ap string_bytes w.out-is)
+    ] in
+    record {
+      within = omega (arith, ap length c.as_bytes-bytes.ensures.value, fits);
+      behind = rest.behind;
+      cut = rest.cut;
+      flushed = λ h. absurd (true≢false (sym h));
+      seen = c.loop-out.invariant.seen ++ in_line c.in-Word.field-0 c.loop-out.ix ∷ [];
+      at = after_word _ _ _ _ _ _ c.loop-out.invariant.at _ _ _ o next;
+      pushed = c.loop-out.invariant.pushed ++ (space_of c.loop-out.has_word c.loop-out.in_run ++ cond (starts_dropped c.args.is_in_table (drop c.loop-out.ix c.args.text.now)) [] (b ∷ []));
+      written = word_follows _ _ _ _ _ _ _ _ _ _ _ o next c.loop-out.invariant.written;
+      same = word_written (string_bytes c.args.out.now) c.loop-out.invariant.pushed out (string_bytes c.if-has_word.out) (string_bytes c.if-is_dropped.out) slice _ _ _ c.loop-out.invariant.same first rest.same;
+    }

@@ -1,0 +1,24 @@
+use Rattle.std.proofs.Common.{length, ◌-◌, ◌≡◌, ◌≤◌, ◌++◌, true, ℕ, List, drop, take}
+use Rattle.std.specs.Str.{IsCharBoundary}
+use Rattle.std.specs.String.{string_bytes}
+use Rattle.markdown_scanners_tree.specs.Kept.{KeptByte}
+use Rattle.markdown_scanners_tree.specs.Handler.{Skips}
+use Rattle.markdown_scanners_tree.proofs.LabelScan.{IsAt}
+use Rattle.markdown_scanners_tree.proofs.LabelSeen.{Written}
+use Rattle.markdown_scanners_tree.proofs.linklabel.write_label.Given as goal
+
+abbrev pub invariant-loop-out : goal.invariant-loop-out
+invariant-loop-out g l = record {
+  within : l.ix ≤ length l.bytes;
+  behind : l.mark ≤ l.ix;
+  cut : IsCharBoundary l.fn.text l.mark;
+  flushed : l.in_run ≡ true → l.mark ≡ l.ix;
+  seen : List KeptByte;
+  at : IsAt (Skips g.F.Fn l.handler) l.fn.text l.escaped seen l.ix (drop l.ix l.fn.text);
+  pushed : List ℕ;
+  written : Written l.is_in_table seen l.ix (drop l.ix l.fn.text) l.has_word l.in_run pushed;
+  same : string_bytes l.initial.out ++ pushed ≡ string_bytes l.out ++ take (l.ix - l.mark) (drop l.mark l.fn.text);
+}
+
+abbrev pub decreases-loop-out : goal.decreases-loop-out
+decreases-loop-out g l = length l.bytes - l.ix

@@ -1,0 +1,402 @@
+//! Link labels: the bracketed names by which references and footnotes are matched.
+ghost use Rattle.std.specs.Prelude.{length, take, drop, ◌≡◌, ◌≤◌, ◌+◌, ◌∷◌, ◌++◌, ◌==◌, ◌&&◌, ◌||◌, not, ℕ, true, false, Some, IfOk, OnOk, IsOk, IfSome, IfNone, string_bytes, encode_utf8_all, nat_eq, IsCharBoundary, if◌then◌else◌};
+ghost use Rattle.std.specs.Cmp.{on_equiv, on_per, partial_equiv_from_equiv};
+ghost use Rattle.std.specs.Cmp.Lexicographic.{pointwise, nat_list_eq_equiv};
+ghost use Rattle.std.specs.Cmp.Rules.{hashing};
+ghost use Rattle.std.specs.Hash as fed;
+ghost use Rattle.std.proofs.Common.{rules};
+ghost use Rattle.markdown_values.specs.Text.{cow_text};
+ghost use Rattle.markdown_scanners_tree.specs.Handler.{Skips, IsSteadyAtChars};
+ghost use Rattle.markdown_scanners_tree.specs.Label.{Label, IsLabel, ends_in_backslash, ReadsBack};
+ghost use Rattle.markdown_scanners_tree.specs.LabelAnswer.{IsAnswer};
+ghost use Rattle.markdown_scanners_tree.specs.LabelFront.{IsFront};
+ghost use Rattle.markdown_scanners_tree.specs.LabelKey.{label_key};
+ghost use Rattle.markdown_scanners_tree.specs.LabelPass.{begun, space_len, starts_dropped, IsOnlySkip, without_first_space, without_last_space, IsMeasure};
+
+use crate::scanners::{is_ascii_punctuation, is_ascii_whitespace};
+use caseless::default_case_fold_str;
+use markdown_values::strings::CowStr;
+use std::alloc::{AllocError, Global};
+use std::hash::{Hash, Hasher};
+use std::marker::Model;
+
+/// What a label in brackets names.
+#[derive(Debug, Drop)]
+pub enum ReferenceLabel<'a> {
+    /// The definition of a link.
+    Link(CowStr<'a>),
+    /// The definition of a footnote.
+    Footnote(CowStr<'a>),
+}
+
+/// A label by which references find their definitions. Two are equal where their texts have the same full case
+/// folding (CommonMark 0.31.2, section 6.3, link labels). The folding is kept beside the text, so that
+/// comparing and hashing take no memory.
+#[derive(Drop)]
+pub struct LinkLabel<'a> {
+    text: CowStr<'a>,
+    key: String,
+}
+
+impl<'a> Model for LinkLabel<'a> {
+    ghost use Rattle.std.specs.Prelude.{ℕ, List, ◌≡◌, encode_utf8_all};
+    ghost use Rattle.std.specs.String.{string_bytes};
+    ghost use Rattle.markdown_values.specs.Text.{cow_text};
+    ghost use Rattle.markdown_scanners_tree.specs.LabelKey.{label_key};
+
+    ghost Value = { List ℕ };
+
+    ghost view = { λ l. cow_text l.text };
+
+    ghost invariant = { λ l. string_bytes l.key ≡ encode_utf8_all (label_key (cow_text l.text)) };
+}
+
+impl<'a> LinkLabel<'a> {
+    /// The label with this text. The error says that memory for the folding was refused; the text is dropped then.
+    pub fn new(alloc: Global, text: CowStr<'a>) -> Result<LinkLabel<'a>, AllocError>
+        ensures { IfOk result (λ label. label ≡ cow_text text.entry) }
+    {
+        let key = default_case_fold_str(alloc, text.as_str())?;
+        Ok(LinkLabel { text, key })
+    }
+
+    /// The text as it was given, its case unchanged.
+    pub fn as_str(&self) -> &str
+        ensures { result.now ≡ self.now }
+    {
+        self.text.as_str()
+    }
+}
+
+impl<'a> PartialEq for LinkLabel<'a> {
+    ghost eq = { λ a b. pointwise nat_eq (label_key a) (label_key b) };
+
+    ghost laws = { on_per label_key (partial_equiv_from_equiv nat_list_eq_equiv) };
+
+    fn eq(&self, other: &LinkLabel<'a>) -> bool {
+        self.key.as_str() == other.key.as_str()
+    }
+}
+
+impl<'a> Eq for LinkLabel<'a> {
+    ghost laws = { on_equiv label_key nat_list_eq_equiv };
+}
+
+impl<'a> Hash for LinkLabel<'a> {
+    ghost hash_input = { λ l. fed.str (encode_utf8_all (label_key l)) };
+
+    ghost respects_eq = { Prim.search (hashing, rules) };
+
+    fn hash<H: Hasher>(&self, state: &mut H) {
+        self.key.as_str().hash(state);
+    }
+}
+
+/// The label of a footnote, which is matched as a link's is.
+pub type FootnoteLabel<'a> = LinkLabel<'a>;
+
+/// Reads a label whose opening bracket has been read: up to the first closing bracket that no backslash escapes
+/// (CommonMark 0.31.2, section 6.3, link labels). Answers how many bytes were taken, the closing bracket counted, and
+/// the label with each run of white space as one space and none at its ends.
+///
+/// There is no label where no such bracket comes, where an opening bracket comes first that no backslash escapes, for
+/// two line endings in one run of white space, for white space alone, and for more than 999 characters.
+///
+/// After each line ending `handler` is given the bytes that follow, and answers how many of them belong to the
+/// containers of the text and are no part of the label, or None where the text ends there. In a table a pipe drops the
+/// one backslash before it, as cells are read (GitHub Flavored Markdown 0.29, section 4.10).
+///
+/// The error says that memory for a label was refused that does not stand in the text as it is.
+pub fn scan_link_label_rest<'t, F: Fn(&[u8]) -> Option<usize>>(
+    alloc: Global,
+    text: &'t str,
+    handler: &F,
+    is_in_table: bool,
+) -> Result<Option<(usize, CowStr<'t>)>, AllocError>
+    requires callable { F.IsAlwaysCallable handler.now }
+    requires steady { IsSteadyAtChars F.Fn handler.now }
+    ensures found { IfOk result (λ found. IfSome found (λ r. (label : Label) × IsLabel (Skips F.Fn handler.now) text.entry.now is_in_table label × IsAnswer label r.0 r.1)) }
+    ensures none { IfOk result (λ found. IfNone found ((label : Label) → ¬ IsLabel (Skips F.Fn handler.now) text.entry.now is_in_table label)) }
+    ensures reads_back { IfOk result (λ found. IfSome found (λ r. is_in_table ≡ false → ends_in_backslash (cow_text r.1) ≡ false → ReadsBack (cow_text r.1))) }
+    ensures lent { (label : Label) → IsLabel (Skips F.Fn handler.now) text.entry.now is_in_table label → label.plain ≡ true → IsOk result }
+    ensures no_label { ((label : Label) → ¬ IsLabel (Skips F.Fn handler.now) text.entry.now is_in_table label) → IsOk result }
+{
+    let Some(measure) = measure_label(text, handler, is_in_table) else {
+        return Ok(None);
+    };
+    let taken = measure.close + 1;
+    if measure.is_plain {
+        let label = up_to_last_space(past_first_space(&text[..measure.close]));
+        return Ok(Some((taken, CowStr::from(label))));
+    }
+    let mut label = String::with_capacity(alloc, measure.length)?;
+    write_label(&mut label, text, handler, is_in_table)?;
+    Ok(Some((taken, CowStr::from_string(alloc, label)?)))
+}
+
+// What stands at the front of the bytes that are left; of a word's byte also whether it escapes the next one.
+#[derive(Clone, Copy, Drop)]
+enum Front {
+    End,
+    Open,
+    Close,
+    Ending(usize),
+    Space(u8),
+    Word(u8, bool),
+}
+
+// What stands at the front, where the byte before it was or was not a backslash that escapes.
+fn front_of(rest: &[u8], escaped: bool) -> Front
+    ensures { IsFront escaped rest.now result }
+{
+    match rest {
+        [] => Front::End,
+        [b'\n', ..] => Front::Ending(1),
+        [b'\r', b'\n', ..] => Front::Ending(2),
+        [b'\r', ..] => Front::Ending(1),
+        [b, ..] if is_ascii_whitespace(*b) => Front::Space(*b),
+        [b, ..] if escaped => Front::Word(*b, false),
+        [b'[', ..] => Front::Open,
+        [b']', ..] => Front::Close,
+        [b'\\', next, ..] => Front::Word(b'\\', is_ascii_punctuation(*next)),
+        [b, ..] => Front::Word(*b, false),
+    }
+}
+
+// Whether a backslash stands at the front that a cell of a table drops.
+fn is_dropped(rest: &[u8], is_in_table: bool) -> bool
+    ensures { result ≡ starts_dropped is_in_table rest.now }
+{
+    is_in_table && rest.len() > 1 && rest[0] == b'\\' && rest[1] == b'|'
+}
+
+// How many bytes the handler skips at the start of a line, if the text goes on there.
+fn skip_at<F: Fn(&[u8]) -> Option<usize>>(text: &str, place: usize, handler: &F) -> Option<usize>
+    requires callable { F.IsAlwaysCallable handler.now }
+    requires steady { IsSteadyAtChars F.Fn handler.now }
+    requires cut { IsCharBoundary text.now place }
+    ensures found { IfSome result (IsOnlySkip (Skips F.Fn handler.now) (drop place text.now)) }
+    ensures cut { IfSome result (λ skip. IsCharBoundary text.now (place + skip)) }
+    ensures none { IfNone result ((skip : ℕ) → ¬ Skips F.Fn handler.now (drop place text.now) skip) }
+{
+    handler(&text.as_bytes()[place..])
+}
+
+// What is known of the bytes of a label that were read: how many characters they are, how long a text their words
+// make, whether there is a word, whether a run of white space ends them and whether a line ending is in it, whether
+// each run is one space, and whether a backslash was dropped.
+#[derive(Clone, Copy, Drop)]
+struct Tally {
+    characters: usize,
+    length: usize,
+    has_word: bool,
+    in_run: bool,
+    has_ending: bool,
+    is_spaced: bool,
+    is_rewritten: bool,
+}
+
+impl Tally {
+    fn new() -> Tally
+        ensures { result ≡ record { characters = 0; length = 0; has_word = false; in_run = false; has_ending = false; is_spaced = true; is_rewritten = false } }
+    {
+        Tally {
+            characters: 0,
+            length: 0,
+            has_word: false,
+            in_run: false,
+            has_ending: false,
+            is_spaced: true,
+            is_rewritten: false,
+        }
+    }
+
+    // After a line ending of this many bytes.
+    fn past_ending(self, len: usize) -> Tally
+        requires { self.characters + len ≤ usize.MAX }
+        ensures { result ≡ record self { characters = self.characters + len; in_run = true; has_ending = true; is_spaced = false } }
+    {
+        Tally {
+            characters: self.characters + len,
+            in_run: true,
+            has_ending: true,
+            is_spaced: false,
+            ..self
+        }
+    }
+
+    // After a byte of white space that ends no line.
+    fn past_space(self, byte: u8) -> Tally
+        requires { self.characters + 1 ≤ usize.MAX }
+        ensures { result ≡ record self { characters = self.characters + 1; in_run = true; is_spaced = self.is_spaced && (byte == 32 && not self.in_run) } }
+    {
+        Tally {
+            characters: self.characters + 1,
+            in_run: true,
+            is_spaced: self.is_spaced && byte == b' ' && !self.in_run,
+            ..self
+        }
+    }
+
+    // After a byte of a word, which is or is not dropped.
+    fn past_word(self, byte: u8, dropped: bool) -> Tally
+        requires few { self.characters + 1 ≤ usize.MAX }
+        requires short { self.length + space_len self.has_word self.in_run + 1 ≤ usize.MAX }
+        ensures { result ≡ record self { characters = self.characters + begun byte; length = self.length + space_len self.has_word self.in_run + (if dropped then 0 else 1); has_word = true; in_run = false; has_ending = false; is_rewritten = self.is_rewritten || dropped } }
+    {
+        let space = if self.has_word && self.in_run { 1 } else { 0 };
+        Tally {
+            characters: self.characters + begun_at(byte),
+            length: self.length + space + if dropped { 0 } else { 1 },
+            has_word: true,
+            in_run: false,
+            has_ending: false,
+            is_rewritten: self.is_rewritten || dropped,
+            ..self
+        }
+    }
+
+    // Whether what was read stands in a label as it is.
+    fn is_plain(self) -> bool
+        ensures { result ≡ (self.is_spaced && not self.is_rewritten) }
+    {
+        self.is_spaced && !self.is_rewritten
+    }
+}
+
+// How many characters begin at this byte.
+fn begun_at(byte: u8) -> usize
+    ensures { result ≡ begun byte }
+{
+    if byte < 128 || byte > 191 { 1 } else { 0 }
+}
+
+// What the first pass over a label finds: the place of the closing bracket, how long the label is, and whether it
+// stands in the text as it is.
+#[derive(Clone, Copy, Drop)]
+struct Measure {
+    close: usize,
+    length: usize,
+    is_plain: bool,
+}
+
+// The first pass over a label, which takes no memory.
+fn measure_label<F: Fn(&[u8]) -> Option<usize>>(
+    text: &str,
+    handler: &F,
+    is_in_table: bool,
+) -> Option<Measure>
+    requires callable { F.IsAlwaysCallable handler.now }
+    requires steady { IsSteadyAtChars F.Fn handler.now }
+    ensures found { IfSome result (IsMeasure (Skips F.Fn handler.now) text.now is_in_table) }
+    ensures none { IfNone result ((label : Label) → ¬ IsLabel (Skips F.Fn handler.now) text.now is_in_table label) }
+{
+    let bytes = text.as_bytes();
+    let mut ix = 0;
+    let mut escaped = false;
+    let mut tally = Tally::new();
+    loop {
+        match front_of(&bytes[ix..], escaped) {
+            Front::End | Front::Open => return None,
+            Front::Close => {
+                if tally.has_word && tally.characters <= 999 {
+                    return Some(Measure {
+                        close: ix,
+                        length: tally.length,
+                        is_plain: tally.is_plain(),
+                    });
+                }
+                return None;
+            }
+            Front::Ending(len) => {
+                if tally.has_ending {
+                    return None;
+                }
+                let skip = skip_at(text, ix + len, handler)?;
+                tally = tally.past_ending(len);
+                ix += len + skip;
+            }
+            Front::Space(byte) => {
+                tally = tally.past_space(byte);
+                ix += 1;
+            }
+            Front::Word(byte, escapes) => {
+                tally = tally.past_word(byte, is_dropped(&bytes[ix..], is_in_table));
+                escaped = escapes;
+                ix += 1;
+            }
+        }
+    }
+}
+
+// A text after the space at its front, if one stands there.
+fn past_first_space(text: &str) -> &str
+    ensures { result.now ≡ without_first_space text.now }
+{
+    if text.is_empty() || text.as_bytes()[0] != b' ' {
+        return text;
+    }
+    &text[1..]
+}
+
+// A text up to the space at its end, if one stands there.
+fn up_to_last_space(text: &str) -> &str
+    ensures { result.now ≡ without_last_space text.now }
+{
+    if text.is_empty() || text.as_bytes()[text.len() - 1] != b' ' {
+        return text;
+    }
+    &text[..text.len() - 1]
+}
+
+// The second pass: appends the label's text.
+fn write_label<F: Fn(&[u8]) -> Option<usize>>(
+    out: &mut String,
+    text: &str,
+    handler: &F,
+    is_in_table: bool,
+) -> Result<(), AllocError>
+    requires callable { F.IsAlwaysCallable handler.now }
+    requires steady { IsSteadyAtChars F.Fn handler.now }
+    ensures written { (label : Label) → IsLabel (Skips F.Fn handler.now) text.now is_in_table label → OnOk result (string_bytes out.new ≡ string_bytes out.old ++ label.text) }
+{
+    let bytes = text.as_bytes();
+    let mut ix = 0;
+    let mut mark = 0;
+    let mut escaped = false;
+    let mut has_word = false;
+    let mut in_run = false;
+    loop {
+        match front_of(&bytes[ix..], escaped) {
+            Front::End | Front::Open | Front::Close => return out.push_str(&text[mark..ix]),
+            Front::Ending(len) => {
+                let Some(skip) = skip_at(text, ix + len, handler) else {
+                    return Ok(());
+                };
+                out.push_str(&text[mark..ix])?;
+                ix += len + skip;
+                mark = ix;
+                in_run = true;
+            }
+            Front::Space(_) => {
+                out.push_str(&text[mark..ix])?;
+                ix += 1;
+                mark = ix;
+                in_run = true;
+            }
+            Front::Word(_, escapes) => {
+                if has_word && in_run {
+                    out.push_str(" ")?;
+                }
+                if is_dropped(&bytes[ix..], is_in_table) {
+                    out.push_str(&text[mark..ix])?;
+                    mark = ix + 1;
+                }
+                has_word = true;
+                in_run = false;
+                escaped = escapes;
+                ix += 1;
+            }
+        }
+    }
+}
