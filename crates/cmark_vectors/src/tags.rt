@@ -1,5 +1,7 @@
 //! Tags over lines and starts of HTML blocks: worked rows, hostile handlers, and answers of
 //! pulldown-cmark 0.13.6.
+ghost use Rattle.std.specs.Prelude.{◌≡◌};
+
 use markdown_scanners_tree::scanners::{
     scan_html_block_inner, scan_html_type_7, starts_html_block_type_6,
 };
@@ -121,6 +123,30 @@ fn handlers_that_skip_all(rt: HostRuntime) -> Result<(), Fail> {
     for row in rows.iter() {
         assert_tag(&rt, rt.alloc(), row)?;
     }
+    Ok(())
+}
+
+/// A function by its name as a handler: its contract says that it has one answer for one rest.
+fn skip_none(_: &[u8]) -> usize
+    ensures { result ≡ 0 }
+{
+    0
+}
+
+#[test]
+fn handlers_of_other_forms(rt: HostRuntime) -> Result<(), Fail> {
+    let most = 2;
+    let at_most = |rest: &[u8]| -> usize { if rest.len() < most { rest.len() } else { most } };
+    let two = scan_html_block_inner(rt.alloc(), b"<a\n> b>", Some(&at_most))?;
+    let tag = two
+        .as_ref()
+        .map(|(text, length)| (text.as_slice(), *length));
+    assert_eq!(rt; tag, Some((b"<a\nb>".as_slice(), 7)));
+    let none = scan_html_block_inner(rt.alloc(), b"<a\n b>", Some(&skip_none))?;
+    let tag = none
+        .as_ref()
+        .map(|(text, length)| (text.as_slice(), *length));
+    assert_eq!(rt; tag, Some((b"".as_slice(), 6)));
     Ok(())
 }
 

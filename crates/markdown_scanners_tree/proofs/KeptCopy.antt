@@ -1,7 +1,7 @@
 -- How much of a kept text is copied.
-use Rattle.std.proofs.Common.{ℕ, List, [], ◌∷◌, ◌++◌, ◌+◌, ◌<◌, ◌≤◌, ◌≡◌, length, drop, get_or, refl, sym, ap, ◌∙◌, subst, append_assoc, length-append, inl, inr, arith}
+use Rattle.std.proofs.Common.{ℕ, List, [], ◌∷◌, ◌++◌, ◌+◌, ◌<◌, ◌≡◌, length, drop, get_or, refl, sym, ap, ◌∙◌, subst, append_assoc, length-append, inl, inr, arith}
 use Rattle.std.proofs.lemmas.Bool.{cases_lt}
-use Rattle.std.proofs.lemmas.List.{drop_all, append-nil, map-append, length-map}
+use Rattle.std.proofs.lemmas.List.{drop_all, map-append, length-map}
 use Rattle.markdown_scanners_tree.specs.Kept.{KeptByte, bytes_of}
 use Rattle.markdown_scanners_tree.specs.KeptTag.{IsKeptFront}
 use Rattle.markdown_scanners_tree.proofs.KeptStep.{Reads}
@@ -64,12 +64,3 @@ module _ (answers : List ℕ → ℕ → Type 0) (source : List ℕ) (place kept
         }
         );
   }
-
-  pub copy_ends : kept ≤ length copied → (front : List KeptByte) → IsKeptFront answers source front → kept ≡ length front → copied ≡ bytes_of front
-  copy_ends high front k e =
-      let split = s.each front k e in
-      split.same ∙ ap bytes_of (sym (append-nil split.passed) ∙ ap (λ z. split.passed ++ z) (sym (by split.left (lengths answers source place kept copied front split e))) ∙ sym split.is)
-    where
-      by : (left : List KeptByte) → kept ≡ length copied + length left → left ≡ []
-      by [] f = refl
-      by (c ∷ t) f = absurd (omega arith)
