@@ -1,6 +1,7 @@
 pub mod Command
 pub mod Faults
 pub mod HtmlScans
+pub mod LabelRun
 pub mod Printed
 pub mod Report
 pub mod Run

@@ -1,5 +1,5 @@
 -- What a command comes to, as the program keeps it.
-use Rattle.std.specs.Prelude.{string_bytes}
+use Rattle.std.specs.Prelude.{[], string_bytes}
 use Rattle.cmark_scan.specs.Printed.{Outcome}
 use Rattle.cmark_scan.specs.declared.program.Report.{Report}
 use Rattle.cmark_scan.specs.declared.program.Report.TheVariants as report
@@ -7,3 +7,4 @@ use Rattle.cmark_scan.specs.declared.program.Report.TheVariants as report
 abbrev pub outcome_view : Report → Outcome
 outcome_view (report.Done text) = record { printed = string_bytes text; status = 0 }
 outcome_view (report.Stopped text) = record { printed = string_bytes text; status = 1 }
+outcome_view report.NotText = record { printed = []; status = 1 }

@@ -9,12 +9,15 @@ ghost use Rattle.cmark_scan.specs.Faults.{fault_line, IsBeforeWriting, Tells};
 
 use crate::faults::{Fault, complain, report_fault};
 use crate::html::html_text;
+use crate::label::label_report;
 use crate::printing::run_text;
 use crate::reading::read_all;
 use crate::words::{Command, parse_calls, parse_command};
 use markdown_scanners_tree::line::run_line;
 use std::alloc::Global;
 use std::io::{Read, Write};
+
+const NOT_TEXT: &str = "not UTF-8\n";
 
 const USAGE: &str = "usage: cmark_scan line CALL.. | html | label | unescape\n";
 
@@ -23,11 +26,12 @@ const USAGE: &str = "usage: cmark_scan line CALL.. | html | label | unescape\n";
 pub(crate) enum Report {
     Done(String),
     Stopped(String),
+    NotText,
 }
 
 /// Runs the program on its words, without its name, and answers its status.
 ///
-/// 0: done. 1: the run stopped before one of its calls. 2: other words, and the input is not read.
+/// 0: done. 1: the run stopped before one of its calls, there is no label, or the input is no text. 2: other words, and the input is not read.
 /// 3: a fault of the reader, of memory or of the writer. All output is built before any of it is written.
 pub fn run_program<R: Read, W: Write, V: Write>(
     alloc: Global,
@@ -56,6 +60,10 @@ pub fn run_program<R: Read, W: Write, V: Write>(
     match answer(alloc, command, input, output) {
         Ok(Report::Done(_)) => 0,
         Ok(Report::Stopped(_)) => 1,
+        Ok(Report::NotText) => {
+            complain(faults, NOT_TEXT);
+            1
+        }
         Err(fault) => report_fault(faults, fault),
     }
 }
@@ -80,6 +88,7 @@ fn answer<R: Read, W: Write>(
                 return Err(Fault::Write);
             }
         }
+        Report::NotText => {}
     }
     Ok(report)
 }
@@ -92,6 +101,7 @@ fn report_on(alloc: Global, command: Command<'_>, bytes: &[u8]) -> Result<Report
     match command {
         Command::Line(words) => report_on_line(alloc, words, bytes),
         Command::Html => Ok(Report::Done(html_text(alloc, bytes)?)),
+        Command::Label => Ok(label_report(alloc, bytes)?),
     }
 }
 

@@ -1,4 +1,5 @@
 mod html;
+mod label;
 
 use crate::program::run_program;
 use std::alloc::Global;
@@ -332,7 +333,7 @@ fn refuses_other_words(rt: HostRuntime) -> std::result::Result<(), Fail> {
         &["html", "html"],
         &["html", ""],
         &["line", "html"],
-        &["label"],
+        &["label", "label"],
         &["unescape"],
         &["line", "line"],
         &["line", ""],
