@@ -30,7 +30,3 @@ pub before_writing : (old new : Option (List ℕ)) (f : Fault) (b : ℕ) (bs : L
 before_writing old new fault.Read b bs other line told = λ same. cc
 before_writing old new fault.Memory b bs other line told = λ same. cc
 before_writing old new fault.Write b bs other line told = absurd (other (told_first old new 119 b _ bs line told))
-
--- another line was told
-pub other_line : (old new : Option (List ℕ)) (a b : ℕ) (tail bs : List ℕ) → (a ≡ b → ⊥) → AppendsFront old new (a ∷ tail) → Tells old new (b ∷ bs) → ⊥
-other_line old new a b tail bs other line told = other (told_first old new a b tail bs line told)

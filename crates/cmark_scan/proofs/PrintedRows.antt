@@ -5,7 +5,8 @@ use Rattle.std.specs.Fmt.{digits}
 use Rattle.markdown_scanners_tree.specs.declared.line.LineCall.TheVariants as call
 use Rattle.markdown_scanners_tree.specs.declared.line.LineAnswer.TheVariants as answer
 use Rattle.markdown_scanners_tree.specs.declared.line.LineStop.TheVariants.{SpacePending}
-use Rattle.cmark_scan.specs.Words.{call_of, request_of, scan_line, scan_html, scan_label}
+use Rattle.cmark_scan.specs.Words.{call_of, request_of, scan_line, scan_html, scan_unescape, scan_label}
+use Rattle.cmark_scan.specs.EntityTexts.{entity_text}
 use Rattle.cmark_scan.specs.HtmlScans.{scans_from, scans_of}
 use Rattle.cmark_scan.specs.Printed.{run_text, html_text, label_lines, line_of}
 use Rattle.markdown_scanners_tree.specs.InlineHtml.{declared_at, opening_at, least_place, cost}
@@ -69,3 +70,15 @@ word_after_label = refl
 label : label_lines 9 false (codes "Foo Bar") ≡ line_of (codes "bytes 9") ++ line_of (codes "borrowed false") ++ line_of (codes "label Foo Bar")
 unfolding digits
 label = refl
+
+unescape_word : request_of (codes "unescape" ∷ []) ≡ Some scan_unescape
+unescape_word = refl
+
+word_after_unescape : request_of (codes "unescape" ∷ codes "" ∷ []) ≡ None
+word_after_unescape = refl
+
+quotation_mark : entity_text (codes "quot") ≡ Some (34 ∷ [])
+quotation_mark = refl
+
+unknown_entity : entity_text (codes "copy") ≡ None
+unknown_entity = refl

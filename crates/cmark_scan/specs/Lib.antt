@@ -1,4 +1,5 @@
 pub mod Command
+pub mod EntityTexts
 pub mod Faults
 pub mod HtmlScans
 pub mod LabelRun

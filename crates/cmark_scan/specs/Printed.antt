@@ -1,7 +1,8 @@
 -- What the program prints, and the status that it ends with.
-use Rattle.std.specs.Prelude.{ℕ, Bool, false, ◌≡◌, ◌+◌, ◌*◌, ◌/◌, ◌%◌, length, List, [], ◌∷◌, ◌++◌, Option, None, Some, codes, encode_utf8, IsUtf8, ◌⊎◌, if◌then◌else◌}
+use Rattle.std.specs.Prelude.{ℕ, Bool, false, ◌≡◌, ◌⊎◌, ◌+◌, ◌*◌, ◌/◌, ◌%◌, length, List, [], ◌∷◌, ◌++◌, Option, None, Some, codes, encode_utf8, if◌then◌else◌}
 use Rattle.std.specs.List.{flat_map, zip}
 use Rattle.std.specs.Fmt.{decimal, digit_glyph}
+use Rattle.std.specs.Str.{IsUtf8}
 use Rattle.markdown_scanners_tree.specs.declared.line.LineCall.{LineCall}
 use Rattle.markdown_scanners_tree.specs.declared.line.LineCall.TheVariants as call
 use Rattle.markdown_scanners_tree.specs.declared.line.LineAnswer.{LineAnswer}
@@ -9,11 +10,13 @@ use Rattle.markdown_scanners_tree.specs.declared.line.LineAnswer.TheVariants as 
 use Rattle.markdown_scanners_tree.specs.declared.line.LineStop.{LineStop}
 use Rattle.markdown_scanners_tree.specs.declared.line.LineStop.TheVariants.{SpacePending, IndentTooLarge}
 use Rattle.markdown_scanners_tree.specs.InlineHtmlPassed.{bytes_passed}
+use Rattle.markdown_scanners_tree.specs.Unescaping.{Piece, ArePieces, joined_meanings}
+use Rattle.cmark_scan.specs.EntityTexts.{entity_text}
 use Rattle.cmark_scan.specs.HtmlScans.{scans_of, places_of}
 use Rattle.markdown_scanners_tree.specs.Label.{Label}
 use Rattle.cmark_scan.specs.LabelRun.{IsLabelOf}
 use Rattle.cmark_scan.specs.Run.{Run, run_of}
-use Rattle.cmark_scan.specs.Words.{Request, scan_line, scan_html, scan_label}
+use Rattle.cmark_scan.specs.Words.{Request, scan_line, scan_html, scan_unescape, scan_label}
 
 -- a line of output
 abbrev pub line_of : List ℕ → List ℕ
@@ -112,9 +115,16 @@ IsLabelOutcome input outcome =
     ⊎ (IsUtf8 input × ((label : Label) → ¬ IsLabelOf input label) × (outcome ≡ record { printed = line_of (codes "none"); status = 1 }))
     ⊎ ((¬ IsUtf8 input) × (outcome ≡ record { printed = []; status = 1 }))
 
+-- for `unescape`: what the pieces of the input mean, or nothing and status 1 where it isn't UTF-8
+abbrev pub IsUnescaped : List ℕ → Outcome → Type 0
+IsUnescaped input outcome =
+    (IsUtf8 input × ((pieces : List Piece) × ArePieces false entity_text input pieces × (outcome ≡ record { printed = joined_meanings pieces; status = 0 })))
+    ⊎ ((¬ IsUtf8 input) × (outcome ≡ record { printed = []; status = 1 }))
+
 -- what a request prints for an input, and the status that it ends with
 abbrev pub IsOutcome : Request → List ℕ → Outcome → Type 0
 IsOutcome (scan_line calls) input outcome =
     outcome ≡ record { printed = run_text calls (run_of calls input); status = stop_status (run_of calls input).stop }
 IsOutcome scan_html input outcome = outcome ≡ record { printed = html_text input (scans_of input); status = 0 }
+IsOutcome scan_unescape input outcome = IsUnescaped input outcome
 IsOutcome scan_label input outcome = IsLabelOutcome input outcome

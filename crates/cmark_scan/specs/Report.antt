@@ -1,5 +1,5 @@
 -- What a command comes to, as the program keeps it.
-use Rattle.std.specs.Prelude.{[], string_bytes}
+use Rattle.std.specs.Prelude.{string_bytes, []}
 use Rattle.cmark_scan.specs.Printed.{Outcome}
 use Rattle.cmark_scan.specs.declared.program.Report.{Report}
 use Rattle.cmark_scan.specs.declared.program.Report.TheVariants as report

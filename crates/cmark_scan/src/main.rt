@@ -9,6 +9,7 @@ pub mod program;
 mod reading;
 #[cfg(test)]
 mod tests;
+mod unescaping;
 mod words;
 
 use faults::{Fault, report_fault};

@@ -1,7 +1,7 @@
 //! What the program does with its words, its input and its output.
 ghost use Rattle.std.specs.Prelude.{◌≡◌, ◌≢◌, IfOk, IfSome, IfErr, OnOk, IsSome, IsNone};
 ghost use Rattle.std.specs.Io.KnownBytes.{Appends, IsAtEnd};
-ghost use Rattle.cmark_scan.specs.Words.{request_of, scan_line, calls_of};
+ghost use Rattle.cmark_scan.specs.Words.{request_of, scan_line, scan_unescape, calls_of};
 ghost use Rattle.cmark_scan.specs.Command.{texts, request_view};
 ghost use Rattle.cmark_scan.specs.Printed.{Outcome, IsOutcome};
 ghost use Rattle.cmark_scan.specs.Report.{outcome_view};
@@ -12,26 +12,29 @@ use crate::html::html_text;
 use crate::label::label_report;
 use crate::printing::run_text;
 use crate::reading::read_all;
+use crate::unescaping::unescaped_text;
 use crate::words::{Command, parse_calls, parse_command};
 use markdown_scanners_tree::line::run_line;
 use std::alloc::Global;
 use std::io::{Read, Write};
-
-const NOT_TEXT: &str = "not UTF-8\n";
+use std::str::from_utf8;
 
 const USAGE: &str = "usage: cmark_scan line CALL.. | html | label | unescape\n";
+
+const NOT_TEXT: &str = "not UTF-8\n";
 
 /// What a command comes to.
 #[derive(Drop)]
 pub(crate) enum Report {
     Done(String),
     Stopped(String),
+    /// The input isn't UTF-8.
     NotText,
 }
 
 /// Runs the program on its words, without its name, and answers its status.
 ///
-/// 0: done. 1: the run stopped before one of its calls, there is no label, or the input is no text. 2: other words, and the input is not read.
+/// 0: done. 1: the run stopped before one of its calls, there is no label, or the input of `unescape` or `label` isn't UTF-8. 2: other words, and the input is not read.
 /// 3: a fault of the reader, of memory or of the writer. All output is built before any of it is written.
 pub fn run_program<R: Read, W: Write, V: Write>(
     alloc: Global,
@@ -79,6 +82,7 @@ fn answer<R: Read, W: Write>(
     ensures written { IfOk result (λ report. Appends (W.contents output.old) (W.contents output.new) (outcome_view report).printed) }
     ensures read { OnOk result (IsAtEnd (R.remaining input.new)) }
     ensures unwritten { IfErr result (λ fault. IsBeforeWriting fault → output.new ≡ output.old) }
+    ensures no_text { IfOk result (λ report. report ≡ Report.NotText → output.new ≡ output.old) }
 {
     let bytes = read_all(alloc, input)?;
     let report = report_on(alloc, command, &bytes)?;
@@ -101,6 +105,7 @@ fn report_on(alloc: Global, command: Command<'_>, bytes: &[u8]) -> Result<Report
     match command {
         Command::Line(words) => report_on_line(alloc, words, bytes),
         Command::Html => Ok(Report::Done(html_text(alloc, bytes)?)),
+        Command::Unescape => report_on_text(alloc, bytes),
         Command::Label => Ok(label_report(alloc, bytes)?),
     }
 }
@@ -117,4 +122,16 @@ fn report_on_line(alloc: Global, words: &[&str], bytes: &[u8]) -> Result<Report,
         Some(_) => Ok(Report::Stopped(text)),
         None => Ok(Report::Done(text)),
     }
+}
+
+// What the input comes to with its escapes and references resolved.
+fn report_on_text(alloc: Global, bytes: &[u8]) -> Result<Report, Fault>
+    ensures outcome { IfOk result (λ report. IsOutcome scan_unescape bytes.now (outcome_view report)) }
+    ensures fault { IfErr result IsBeforeWriting }
+{
+    let Ok(text) = from_utf8(bytes) else {
+        return Ok(Report::NotText);
+    };
+    let unescaped = unescaped_text(alloc, text)?;
+    Ok(Report::Done(unescaped))
 }

@@ -1,5 +1,6 @@
 mod html;
 mod label;
+mod unescaping;
 
 use crate::program::run_program;
 use std::alloc::Global;
@@ -334,7 +335,7 @@ fn refuses_other_words(rt: HostRuntime) -> std::result::Result<(), Fail> {
         &["html", ""],
         &["line", "html"],
         &["label", "label"],
-        &["unescape"],
+        &["unescape", ""],
         &["line", "line"],
         &["line", ""],
         &["line", "space"],

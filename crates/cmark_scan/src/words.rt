@@ -13,6 +13,7 @@ use std::alloc::{AllocError, Global};
 pub(crate) enum Command<'a> {
     Line(&'a [&'a str]),
     Html,
+    Unescape,
     Label,
 }
 
@@ -26,6 +27,8 @@ pub(crate) fn parse_command<'a>(words: &'a [&'a str]) -> Option<Command<'a>>
         Some(Command::Line(others))
     } else if *first == "html" && others.is_empty() {
         Some(Command::Html)
+    } else if *first == "unescape" && others.is_empty() {
+        Some(Command::Unescape)
     } else if *first == "label" && others.is_empty() {
         Some(Command::Label)
     } else {

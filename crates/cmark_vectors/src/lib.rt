@@ -4,6 +4,8 @@
 #[cfg(test)]
 mod blocks;
 #[cfg(test)]
+mod inline;
+#[cfg(test)]
 mod inline_html;
 #[cfg(test)]
 mod label;
@@ -12,6 +14,10 @@ mod line;
 #[cfg(test)]
 mod line_vectors;
 #[cfg(test)]
+mod tags;
+#[cfg(test)]
 mod texts;
+#[cfg(test)]
+mod tree;
 #[cfg(test)]
 mod values;

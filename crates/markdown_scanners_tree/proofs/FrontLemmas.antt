@@ -1,8 +1,9 @@
 -- The longest run at the front of a list of bytes, and the parts that it cuts the list into.
-use Rattle.std.proofs.Common.{◌≡◌, ℕ, zero, suc, ◌-◌, Bool, true, false, ◌&&◌, List, [], ◌∷◌, ◌++◌, length, take, drop, refl, arith, inl, inr, one-add}
+use Rattle.std.proofs.Common.{◌≡◌, ℕ, zero, suc, ◌-◌, ◌<◌, Bool, true, false, ◌&&◌, List, [], ◌∷◌, ◌++◌, length, take, drop, get_or, refl, sym, ap, ◌∙◌, arith, inl, inr, one-add}
 use Rattle.std.specs.List.{prefix_len, list_all}
 use Rattle.std.proofs.lemmas.Bool.{cases_Bool}
-use Rattle.std.proofs.lemmas.List.{take_all, length-drop}
+use Rattle.std.proofs.lemmas.List.{take_all, length-drop, take-append-drop}
+use Rattle.std.proofs.Math.Seq.{drop-cons}
 use Rattle.markdown_scanners_tree.specs.Bytes.{begins_with}
 
 pub both_true : (a b : Bool) → (a && b) ≡ true → (a ≡ true) × (b ≡ true)
@@ -46,3 +47,8 @@ pub list_all-drop : (p : ℕ → Bool) (k : ℕ) (bytes : List ℕ) → list_all
 list_all-drop p zero bytes all = all
 list_all-drop p (suc k) [] all = refl
 list_all-drop p (suc k) (b ∷ bytes) all = list_all-drop p k bytes (both_true (p b) (list_all p bytes) all).1
+
+-- the bytes before a place, the byte there, and those after it
+pub split_at : (bytes : List ℕ) (n byte : ℕ) → n < length bytes → get_or bytes n 0 ≡ byte → bytes ≡ take n bytes ++ byte ∷ drop (suc n) bytes
+split_at bytes n byte inside here =
+    sym (ap (λ r. take n bytes ++ r) (sym (drop-cons bytes n 0 inside ∙ ap (λ b. b ∷ drop (suc n) bytes) here)) ∙ take-append-drop n bytes)

@@ -13,6 +13,7 @@ ghost use Rattle.markdown_scanners_tree.specs.LineOutcome.{after_all_space, afte
 
 use crate::scanners::{
     is_ascii_whitespace, is_ascii_whitespace_no_nl, scan_blank_line, scan_hrule, scan_marker,
+    scan_spaces_and_tabs,
 };
 use markdown_values::values::BlockQuoteKind;
 use std::alloc::{AllocError, Global};
@@ -184,12 +185,8 @@ impl<'a> LineStart<'a> {
         ensures { self.new ≡ after_all_space self.old }
     {
         self.pending = 0;
-        while self
-            .next_byte()
-            .is_some_and(|byte| byte == b' ' || byte == b'\t')
-        {
-            self.pass_byte();
-        }
+        let space = scan_spaces_and_tabs(&self.bytes[self.place..]);
+        self.pass_bytes(space);
     }
 
     /// Passes a block quote marker: `>` at the place, and at most one column of space after it.

@@ -1,2 +1,9 @@
+pub mod ChainLemmas
+pub mod CloneLemmas
 pub mod ExtensionLemmas
+pub mod ForestLemmas
+pub mod RemovalLemmas
 pub mod SameTexts
+pub mod TreeLemmas
+pub mod TreeRows
+pub mod TruncateLemmas

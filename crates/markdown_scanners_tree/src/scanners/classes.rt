@@ -1,6 +1,6 @@
 //! The classes of bytes, read from one table.
 ghost use Rattle.std.specs.Prelude.{◌≡◌};
-ghost use Rattle.markdown_scanners_tree.specs.Bytes.{is_white_space, is_white_space_in_line, is_punctuation, is_digit};
+ghost use Rattle.markdown_scanners_tree.specs.Bytes.{is_white_space, is_white_space_in_line, is_punctuation, is_letter, is_digit, is_alphanumeric, is_unquoted};
 ghost use Rattle.markdown_scanners_tree.specs.Classes.{class_bits};
 
 const WHITE_SPACE: u8 = 1;
@@ -9,7 +9,11 @@ const WHITE_SPACE_IN_LINE: u8 = 2;
 
 const PUNCTUATION: u8 = 4;
 
+const LETTER: u8 = 8;
+
 const DIGIT: u8 = 16;
+
+const UNQUOTED: u8 = 32;
 
 // For each byte the sum of the bits of its classes.
 const CLASSES: [u8; 256] = [
@@ -63,6 +67,27 @@ pub(in crate::scanners) fn is_ascii_digit(c: u8) -> bool
     ensures { result ≡ is_digit c }
 {
     classes_of(c) & DIGIT != 0
+}
+
+// Whether the byte is an ASCII letter.
+pub(in crate::scanners) fn is_ascii_letter(c: u8) -> bool
+    ensures { result ≡ is_letter c }
+{
+    classes_of(c) & LETTER != 0
+}
+
+// Whether the byte is an ASCII letter or digit.
+pub(in crate::scanners) fn is_ascii_alphanumeric(c: u8) -> bool
+    ensures { result ≡ is_alphanumeric c }
+{
+    classes_of(c) & (LETTER | DIGIT) != 0
+}
+
+// Whether the byte can stand in an unquoted attribute value.
+pub(in crate::scanners) fn is_unquoted_byte(c: u8) -> bool
+    ensures { result ≡ is_unquoted c }
+{
+    classes_of(c) & UNQUOTED != 0
 }
 
 #[cfg(test)]

@@ -71,7 +71,7 @@ pub fn scan_closing_code_fence(bytes: &[u8], fence_char: u8, n_fence_char: usize
 }
 
 // The length of the longest front of spaces and tabs.
-fn scan_spaces_and_tabs(bytes: &[u8]) -> usize
+pub(crate) fn scan_spaces_and_tabs(bytes: &[u8]) -> usize
     ensures run { result ≡ prefix_len is_space_or_tab bytes.now }
     ensures within { result ≤ length bytes.now }
 {

@@ -1,5 +1,5 @@
 use Rattle.std.proofs.Common.{arith}
-use Rattle.cmark_scan.proofs.FaultLemmas.{nothing_told, before_writing, other_line}
+use Rattle.cmark_scan.proofs.FaultLemmas.{nothing_told, before_writing}
 use Rattle.cmark_scan.proofs.program.run_program.Goals as goal
 
 pub returns-in-Ok-Done-clause-unread : goal.returns-in-Ok-Done-clause-unread
@@ -21,9 +21,3 @@ returns-clause-unread g c = λ told. c.in-Err.ensures.unwritten
 pub returns-clause-no_memory : goal.returns-clause-no_memory
 returns-clause-no_memory g c = λ told. c.in-Err.ensures.unwritten
     (before_writing (g.V.Write.contents c.args.faults.now) (g.V.Write.contents c.report_fault.new.faults) c.in-Err.fault 111 _ (omega arith) c.report_fault.ensures.line told)
-
-pub returns-in-Ok-NotText-clause-unread : goal.returns-in-Ok-NotText-clause-unread
-returns-in-Ok-NotText-clause-unread g c = λ told. absurd (other_line (g.V.Write.contents c.args.faults.now) (g.V.Write.contents c.complain-in-Ok-NotText.new.faults) 110 114 _ _ (omega arith) c.complain-in-Ok-NotText.ensures told)
-
-pub returns-in-Ok-NotText-clause-no_memory : goal.returns-in-Ok-NotText-clause-no_memory
-returns-in-Ok-NotText-clause-no_memory g c = λ told. absurd (other_line (g.V.Write.contents c.args.faults.now) (g.V.Write.contents c.complain-in-Ok-NotText.new.faults) 110 111 _ _ (omega arith) c.complain-in-Ok-NotText.ensures told)

@@ -1,0 +1,313 @@
+//! Answers of the original crate: link destinations, pipes of wikilinks and autolinks.
+use super::{autolink, destination, wikilink_pipe};
+use markdown_values::strings::CowStr;
+use markdown_values::values::LinkType;
+
+/// A text, a place, a number, and the place and the text that are answered.
+type Asked = (&'static str, usize, usize, Option<(usize, &'static str)>);
+
+const DESTINATIONS: [Asked; 60] = [
+    (")>\n&#x110000;a!", 12, usize::MAX, Some((3, ";a!"))),
+    ("", 0, 31, Some((0, ""))),
+    ("\\|&#0;&#xD800;", 0, 0, Some((14, "\\|&#0;&#xD800;"))),
+    ("", 0, 1, Some((0, ""))),
+    ("\\\\|\t))>", 6, 1, Some((1, ">"))),
+    ("", 0, 2, Some((0, ""))),
+    ("<&#65;&", 7, 31, Some((0, ""))),
+    ("<", 1, 2, Some((0, ""))),
+    (
+        " ((\na<mailto:x>&#x110000;))",
+        20,
+        usize::MAX,
+        Some((5, "0000;")),
+    ),
+    ("\\|!Xa@b.c>;", 0, usize::MAX, Some((11, "\\|!Xa@b.c>;"))),
+    ("!\\", 0, 31, Some((2, "!\\"))),
+    ("<", 1, 31, Some((0, ""))),
+    (" 1&#xD800;", 0, 0, Some((0, ""))),
+    ("< 1a@b.c>mailto:x>)\n)\\|# )", 0, 1, Some((9, " 1a@b.c"))),
+    ("<\\|>\r&#0;] &#x110000;", 0, usize::MAX, Some((4, "\\|"))),
+    ("\u{e9}a>&&#xD800;", 0, 31, Some((13, "\u{e9}a>&&#xD800;"))),
+    ("\n))\r()[!]1", 0, 1, Some((0, ""))),
+    ("<\\&\\\\|)", 4, 0, Some((2, "\\|"))),
+    ("<", 1, 1, Some((0, ""))),
+    ("mailto:x><", 0, 0, Some((10, "mailto:x><"))),
+    ("\\\u{85cf}", 4, usize::MAX, Some((0, ""))),
+    ("", 0, usize::MAX, Some((0, ""))),
+    ("]\\&amp; \\|", 0, 31, Some((7, "]\\&amp;"))),
+    ("[\t;&amp;&", 0, 31, Some((1, "["))),
+    ("<\u{85cf}&amp;", 7, 2, Some((2, "p;"))),
+    ("", 0, 0, Some((0, ""))),
+    ("Xx)\n&", 0, 2, Some((2, "Xx"))),
+    ("]|<\n&#0;", 5, usize::MAX, Some((3, "#0;"))),
+    (
+        "&#0;&#xD800;\rmailto:x>&#x41;\n>",
+        21,
+        31,
+        Some((7, ">&#x41;")),
+    ),
+    ("&#x41;)\r \\|#", 0, 1, Some((6, "&#x41;"))),
+    ("<<a@b.c>><!&amp;! \u{85cf}&", 1, 0, Some((7, "a@b.c"))),
+    ("&#0;", 0, 2, Some((4, "&#0;"))),
+    ("<", 1, 0, Some((0, ""))),
+    ("&#x110000;", 1, usize::MAX, Some((9, "#x110000;"))),
+    ("<x\u{85cf}a@b.c>", 11, 31, Some((0, ""))),
+    ("<a@b.c>Xmailto:x>", 0, 31, Some((7, "a@b.c"))),
+    ("&ngE;&)a\u{85cf}", 0, 1, Some((6, "&ngE;&"))),
+    (
+        "<\t)!&#65;&#x110000;)\thttp:1>\na&#0;",
+        1,
+        31,
+        Some((0, "")),
+    ),
+    (
+        "<)&amp;#&#x41;)mailto:x>",
+        0,
+        2,
+        Some((24, ")&amp;#&#x41;)mailto:x")),
+    ),
+    (");&#x110000;&#x110000;)&#65;", 0, usize::MAX, Some((0, ""))),
+    ("<\u{85cf}\\\\|)http:]http:", 0, 1, None),
+    ("<!\u{85cf}&#x41;a<mailto:x>\t\r&#0;&X", 0, usize::MAX, None),
+    ("<", 0, 2, None),
+    ("<", 0, 31, None),
+    ("<X1&#65;!a(1\u{e9}[#\n)", 0, 0, None),
+    ("<&#x41;\\|\r(\\|http:\u{e9}\t)&#x110000;", 0, 2, None),
+    ("&ngE;&#0;(aX<|\t)(", 5, 2, None),
+    ("<X&lt;", 0, usize::MAX, None),
+    ("<\\|http:&amp;&#65;![&ngE;\\|", 0, usize::MAX, None),
+    ("<", 0, 1, None),
+    ("(http:\\|(a@b.c>(", 0, usize::MAX, None),
+    ("<", 0, 0, None),
+    ("<\t|", 0, 1, None),
+    ("<\\\\|#!&#xD800;(http:", 0, 2, None),
+    (
+        "<&#65;\n&#xD800;http:\n&ngE;[&#xD800;(&\u{85cf}!]1",
+        0,
+        31,
+        None,
+    ),
+    ("<", 0, usize::MAX, None),
+    ("<\\|\t", 0, 31, None),
+    ("<(<&(&lt;&#0;", 2, 0, None),
+    ("<a\r&#xD800;", 0, 31, None),
+    ("<!\t)\r<;", 0, 1, None),
+];
+
+const PIPES: [Asked; 60] = [
+    ("&amp;\\|#)", 4, 7, Some((7, ";\\"))),
+    ("X<\\\\|", 4, 8, Some((5, ""))),
+    ("[\\|!&amp;", 0, 3, Some((3, "[\\"))),
+    ("\\|(", 1, 9, Some((2, ""))),
+    ("a@b.c>\rx!\n\\|", 11, 10, Some((12, ""))),
+    ("]\\\\|X>", 1, 12, Some((4, "\\\\"))),
+    ("&ngE;|&#0;\\|", 10, 10, Some((12, "\\"))),
+    ("\u{e9}\\\\|&|(", 0, 9, Some((5, "\u{e9}\\\\"))),
+    ("#\\|<[\u{85cf}", 2, 8, Some((3, ""))),
+    (
+        " http:<!\u{85cf}a@b.c>&#xD800;\\|&#x110000;X",
+        22,
+        12,
+        Some((27, "00;\\")),
+    ),
+    ("\\\u{85cf}1http:&#x41;|[ ", 14, 5, Some((17, "1;"))),
+    ("\\|", 0, 10, Some((2, "\\"))),
+    (" ;|", 2, 12, Some((3, ""))),
+    ("&lt;&#xD800;\\|\t&#65;;>", 5, 9, Some((14, "#xD800;\\"))),
+    ("\\|>\u{85cf}&ngE;\r", 0, 6, Some((2, "\\"))),
+    ("&#0;|1\u{85cf}", 1, 8, Some((5, "#0;"))),
+    ("\\|\n|&amp;\\\\|", 1, 9, Some((2, ""))),
+    ("\\\\|a@b.c>)&&lt;", 1, 8, Some((3, "\\"))),
+    ("\na\\\\|", 3, 8, Some((5, "\\"))),
+    ("|", 0, 2, Some((1, ""))),
+    ("&lt;\u{e9}&ngE;\\\\|", 12, 2, Some((14, "\\"))),
+    ("&#0;x!\\|", 6, 3, Some((8, "\\"))),
+    ("\\\\|](\u{e9}[mailto:x>[&#65;\\|", 1, 3, Some((3, "\\"))),
+    ("\t\\|] ", 1, 8, Some((3, "\\"))),
+    ("&amp;)\\\\|\\\\|", 6, 12, Some((9, "\\\\"))),
+    ("a@b.c>a@b.c>1[&ngE;|] ;", 16, 7, Some((20, "gE;"))),
+    ("a1 \\\\|<", 1, 8, Some((6, "1 \\\\"))),
+    ("\\|\nX>\\", 1, 7, Some((2, ""))),
+    ("&#x41;\t\r\\|", 5, 12, Some((10, ";\t\r\\"))),
+    ("\\|>mailto:x>]\\|", 14, 9, Some((15, ""))),
+    (";\t&#xD800;!(;\\| ", 9, 8, Some((15, ";!(;\\"))),
+    ("&ngE;X|", 5, 6, Some((7, "X"))),
+    ("\\|\\\\|http: ", 3, 6, Some((5, "\\"))),
+    (">a@b.c>&#x41;|", 11, 6, Some((14, "1;"))),
+    (
+        " ]&amp;|&#xD800;1&ngE;&#xD800;1>",
+        2,
+        12,
+        Some((8, "&amp;")),
+    ),
+    ("\\\\|\\x(", 2, 9, Some((3, ""))),
+    ("\\\\|&#0;", 0, 3, Some((3, "\\\\"))),
+    ("\\\\|\\||);&#65;>)", 0, 12, Some((3, "\\\\"))),
+    ("\\\\|\r|\u{e9}", 1, 3, Some((3, "\\"))),
+    ("&#x110000;X&#x41;a\\\\| ", 12, 11, Some((21, "#x41;a\\\\"))),
+    ("", 0, 1, None),
+    ("|x\n&#0;x\u{85cf}", 5, 3, None),
+    ("", 0, 0, None),
+    ("", 0, 11, None),
+    ("&#0;\u{85cf}", 4, 5, None),
+    ("&>x 1", 4, 2, None),
+    ("\\\\|&lt;]\t", 0, 0, None),
+    ("", 0, 6, None),
+    ("&#x110000;[|&#xD800;1", 19, 10, None),
+    (" ", 0, 11, None),
+    ("<;\u{e9}", 1, 7, None),
+    ("!<]http:\u{e9}", 10, 2, None),
+    ("", 0, 2, None),
+    ("\t&#x41;)\\|\t", 4, 2, None),
+    ("<&#x41; (a\nmailto:x><\u{85cf}&#65;", 5, 10, None),
+    ("\\|", 2, 6, None),
+    ("&#0;&ngE;a&#x110000;\u{e9}[\u{85cf}", 20, 7, None),
+    ("", 0, 4, None),
+    ("mailto:x>", 4, 11, None),
+    ("\u{e9}1", 2, 3, None),
+];
+
+const AUTOLINKS: [(&str, usize, Option<(usize, &str)>); 60] = [
+    ("<http:>", 1, Some((7, "http:"))),
+    ("<a+b-c.d:>", 1, Some((10, "a+b-c.d:"))),
+    (
+        "<aaaaaaaaaaaaaaaaaaaaaaaaaaaa:&lt;>",
+        1,
+        Some((35, "aaaaaaaaaaaaaaaaaaaaaaaaaaaa:&lt;")),
+    ),
+    ("<http:\u{e9}X|>", 1, Some((11, "http:\u{e9}X|"))),
+    ("<a+b-c.d:a@b.c>X>", 1, Some((15, "a+b-c.d:a@b.c"))),
+    ("<http:(&&#xD800;(>", 3, Some((18, "tp:(&&#xD800;("))),
+    (
+        "<aaaaaaaaaaaaaaaaaaaaaamailto:x>\t",
+        1,
+        Some((32, "aaaaaaaaaaaaaaaaaaaaaamailto:x")),
+    ),
+    (
+        "<aaaaaaaaaaaa:&lt;\u{e9};&#x110000;>>",
+        1,
+        Some((32, "aaaaaaaaaaaa:&lt;\u{e9};&#x110000;")),
+    ),
+    (
+        "<aaaaaaaaaaaaaaaaaaaa:&#x110000;#1&#xD800;>",
+        1,
+        Some((43, "aaaaaaaaaaaaaaaaaaaa:&#x110000;#1&#xD800;")),
+    ),
+    (
+        "<a+b-c.dmailto:x>!&amp;x>",
+        1,
+        Some((17, "a+b-c.dmailto:x")),
+    ),
+    ("<a+b-c.d:!>", 1, Some((11, "a+b-c.d:!"))),
+    ("<aaaaaaaa:>", 1, Some((11, "aaaaaaaa:"))),
+    ("<a+b-c.d:a@b.c>&X\\\\|", 1, Some((15, "a+b-c.d:a@b.c"))),
+    ("<:&ngE;mailto:x> <>;x", 11, Some((16, "to:x"))),
+    ("<a+b-c.d:a@b.c>]", 1, Some((15, "a+b-c.d:a@b.c"))),
+    ("<httphttp:&#0;a@b.c>", 1, Some((20, "httphttp:&#0;a@b.c"))),
+    (
+        "<http:&#xD800;http:\u{85cf}>",
+        1,
+        Some((23, "http:&#xD800;http:\u{85cf}")),
+    ),
+    (
+        "<a+b-c.d:X&lt;Xa@b.c>a@b.c>",
+        3,
+        Some((21, "b-c.d:X&lt;Xa@b.c")),
+    ),
+    ("<a+b-c.d:\u{e9}>\\\\1&", 1, Some((12, "a+b-c.d:\u{e9}"))),
+    (
+        "<aaaaaaaaaaaaaaaaa:]&&#x110000;mailto:x>&#x110000;>",
+        1,
+        Some((40, "aaaaaaaaaaaaaaaaa:]&&#x110000;mailto:x")),
+    ),
+    ("<http:[mailto:x>", 1, Some((16, "http:[mailto:x"))),
+    (
+        "<a+b-c.d:(&#xD800;X\\|>",
+        1,
+        Some((22, "a+b-c.d:(&#xD800;X\\|")),
+    ),
+    (
+        "<a+b-c.d:\\|\\|http:http:&a@b.c>>",
+        1,
+        Some((30, "a+b-c.d:\\|\\|http:http:&a@b.c")),
+    ),
+    ("<http:]!>\r>", 1, Some((9, "http:]!"))),
+    ("<http:x>", 1, Some((8, "http:x"))),
+    ("<aaaaaaaaaaaaaaa:>", 12, Some((18, "aaaa:"))),
+    ("<http:);X&\u{85cf}[>", 1, Some((15, "http:);X&\u{85cf}["))),
+    (
+        "<aaaaaaaaaaaaaaaaaaa:&#0;(1><&",
+        1,
+        Some((28, "aaaaaaaaaaaaaaaaaaa:&#0;(1")),
+    ),
+    ("<:;\t]mailto:x>;http:>", 16, Some((21, "ttp:"))),
+    ("<a+b-c.d:a@b.c>\\\\|", 1, Some((15, "a+b-c.d:a@b.c"))),
+    (
+        "<a+b-c.d:&(&#0;\u{e9}a@b.c>>",
+        1,
+        Some((23, "a+b-c.d:&(&#0;\u{e9}a@b.c")),
+    ),
+    ("<http:&#xD800;&lt;>", 1, Some((19, "http:&#xD800;&lt;"))),
+    ("<a+b-c.d:&#65;>&ngE;>", 1, Some((15, "a+b-c.d:&#65;"))),
+    ("<a+b-c.d:[>", 1, Some((11, "a+b-c.d:["))),
+    ("<a+b-c.d:|1>", 1, Some((12, "a+b-c.d:|1"))),
+    ("<a+b-c.d:&#65;>", 1, Some((15, "a+b-c.d:&#65;"))),
+    (
+        "<a+b-c.d:[(\u{e9}\u{e9}>",
+        1,
+        Some((16, "a+b-c.d:[(\u{e9}\u{e9}")),
+    ),
+    ("<aaaaaaaaamailto:x>&< &amp;x>", 14, Some((19, "to:x"))),
+    ("<http:>", 3, Some((7, "tp:"))),
+    (
+        "<aaaaaaaaaaaaaaaaaaaaa:&#x41;mailto:x>;http:\r",
+        1,
+        Some((38, "aaaaaaaaaaaaaaaaaaaaa:&#x41;mailto:x")),
+    ),
+    ("<: >", 1, None),
+    ("<aaaaaaaaaaaaa:", 13, None),
+    ("<a+b-c.d", 1, None),
+    ("<http:]&#x41;", 4, None),
+    ("<aa:](\r\\(>", 0, None),
+    ("<aaaaaaaaaaaaaaaaaaaaaaaaaaaaaa:", 1, None),
+    ("<aaaaaaaaaaaaaaaaaaaaaa:<mailto:x>#&lt;", 1, None),
+    ("<1a:\r\t\u{e9}&lt;&#x41;", 0, None),
+    ("<aaaaaaaaaaaaaaaaaaaaaaa&#x41;", 1, None),
+    ("<a+b-c.d \t>>", 0, None),
+    ("<1a&lt;&ngE;)\n &", 0, None),
+    ("<httphttp:<&#xD800;mailto:x>>", 1, None),
+    ("<http>", 1, None),
+    ("<1a&ngE;http:]\\|http:|>", 0, None),
+    ("<http", 1, None),
+    ("<http:\\xhttp:http:1", 13, None),
+    ("<a+b-c.d:\t&#x41;>&#x41;>", 1, None),
+    ("<a+b-c.d&ngE;X&#x41;|", 0, None),
+    ("<a+b-c.d&#65;\u{85cf}\\|&amp;>", 0, None),
+    ("<a+b-c.d:", 1, None),
+];
+
+#[test]
+fn destinations(rt: HostRuntime) {
+    for (text, start, max_next, answer) in DESTINATIONS {
+        assert_eq!(rt;
+            destination(&rt, text, start, max_next),
+            answer,
+            "on {text:?}"
+        );
+    }
+}
+
+#[test]
+fn pipes(rt: HostRuntime) {
+    for (text, start, len, answer) in PIPES {
+        assert_eq!(rt; wikilink_pipe(&rt, text, start, len), answer, "on {text:?}");
+    }
+}
+
+#[test]
+fn autolinks(rt: HostRuntime) {
+    for (text, start, answer) in AUTOLINKS {
+        let answer = answer.map(|(place, uri)| (place, CowStr::from(uri), LinkType::Autolink));
+        assert_eq!(rt; autolink(&rt, text, start), answer, "on {text:?}");
+    }
+}

@@ -1,0 +1,395 @@
+//! Trees: runs of calls, their nodes, spine and focus, and children that are cut.
+ghost use Rattle.std.specs.Prelude.{◌≡◌, ◌∷◌, [], length, IfOk, IfSome};
+ghost use Rattle.markdown_values.specs.Truncate.{first_other, CanCut};
+ghost use Rattle.cmark_vectors.specs.Pieces.{spans_of, IsParent};
+
+use markdown_values::tree::{Node, SpanItem, Tree, TreeIndex};
+use std::alloc::{AllocError, Global};
+use std::ops::Index;
+use std::test::Fail;
+
+// A piece of text, by its name and the bytes that it covers.
+#[derive(Clone, Default, Drop)]
+struct Piece {
+    name: char,
+    start: usize,
+    end: usize,
+    escaped: bool,
+}
+
+impl SpanItem for Piece {
+    ghost span = { λ p. record { start = p.start; end = p.end; escaped = p.escaped } };
+
+    ghost with_range = { λ p start end. record p { start = start; end = end } };
+
+    ghost use Rattle.std.specs.Prelude.{refl};
+
+    ghost sets_range = { λ p start end. refl };
+
+    fn start(&self) -> usize {
+        self.start
+    }
+
+    fn end(&self) -> usize {
+        self.end
+    }
+
+    fn set_range(&mut self, start: usize, end: usize) {
+        self.start = start;
+        self.end = end;
+    }
+
+    fn backslash_escaped(&self) -> bool {
+        self.escaped
+    }
+}
+
+fn named(name: char) -> Piece {
+    Piece {
+        name,
+        start: 0,
+        end: 0,
+        escaped: false,
+    }
+}
+
+fn covering(name: char, start: usize, end: usize, escaped: bool) -> Piece
+    ensures { result ≡ record { name = name; start = start; end = end; escaped = escaped } }
+{
+    Piece {
+        name,
+        start,
+        end,
+        escaped,
+    }
+}
+
+// All that is reached from the first node: names, and the children of a node in brackets.
+fn forest(alloc: Global, tree: &mut Tree<Piece>) -> Result<String, AllocError> {
+    let mut text = String::new(alloc);
+    tree.reset();
+    for _ in 0..32 {
+        if let Some(ix) = tree.cur() {
+            text.push(tree[ix].item.name)?;
+            if tree[ix].child.is_some() {
+                text.push('(')?;
+                tree.push()?;
+            } else {
+                tree.next_sibling(ix);
+            }
+        } else if let Some(parent) = tree.pop() {
+            text.push(')')?;
+            tree.next_sibling(parent);
+        } else {
+            break;
+        }
+    }
+    Ok(text)
+}
+
+// A, in it B, and in that C and D, of which D is in focus.
+fn nested(alloc: Global) -> Result<(Tree<Piece>, [TreeIndex; 4]), AllocError>
+    ensures count { IfOk result (λ made. length made.0.nodes ≡ 5) }
+    ensures indices { IfOk result (λ made. made.1 ≡ 1 ∷ 2 ∷ 3 ∷ 4 ∷ []) }
+{
+    let mut tree = Tree::with_capacity(alloc, 5)?;
+    let a = tree.append(named('A'))?;
+    tree.push()?;
+    let b = tree.append(named('B'))?;
+    tree.push()?;
+    let c = tree.append(named('C'))?;
+    let d = tree.append(named('D'))?;
+    Ok((tree, [a, b, c, d]))
+}
+
+#[test]
+fn appending_after_a_node_cuts_what_followed(rt: HostRuntime) -> Result<(), Fail> {
+    let alloc = rt.alloc();
+    let mut tree: Tree<Piece> = Tree::with_capacity(alloc, 4)?;
+    let a = tree.append(named('A'))?;
+    assert_eq!(rt; tree.push()?, a);
+    let b = tree.append(named('B'))?;
+    let c = tree.append(named('C'))?;
+    assert_eq!(rt; tree.pop(), Some(a));
+    if tree.cur().is_some() {
+        assert_eq!(rt; tree.push()?, a);
+    }
+    assert_eq!(rt; tree.cur(), Some(b));
+    let d = tree.append(named('D'))?;
+    assert_eq!(rt; tree.cur(), Some(d));
+    assert_eq!(rt; tree[b].next, Some(d));
+    assert_eq!(rt; tree[c].item.name, 'C');
+    assert_eq!(rt; forest(alloc, &mut tree)?.as_str(), "A(BD)");
+    Ok(())
+}
+
+#[test]
+fn spines(rt: HostRuntime) -> Result<(), Fail> {
+    let (mut tree, [a, b, c, d]) = nested(rt.alloc())?;
+    assert_eq!(rt; tree.cur(), Some(d));
+    assert_eq!(rt; tree.peek_up(), Some(b));
+    assert_eq!(rt; tree.peek_grandparent(), Some(a));
+    assert_eq!(rt; tree.spine_len(), 2);
+    let mut spine = tree.walk_spine();
+    assert_eq!(rt; spine.next(), Some(&a));
+    assert_eq!(rt; spine.next(), Some(&b));
+    assert_eq!(rt; spine.next(), None);
+    assert_eq!(rt; tree.pop(), Some(b));
+    assert_eq!(rt; tree.peek_grandparent(), None);
+    tree.truncate_to_parent(c);
+    assert_eq!(rt; tree.cur(), Some(d));
+    assert_eq!(rt; forest(rt.alloc(), &mut tree)?.as_str(), "A(B(C)D)");
+    Ok(())
+}
+
+#[test]
+fn trees_of_few_nodes(rt: HostRuntime) -> Result<(), Fail> {
+    let alloc = rt.alloc();
+    let mut tree: Tree<Piece> = Tree::with_capacity(alloc, 0)?;
+    assert!(rt; tree.is_empty());
+    tree.reset();
+    assert_eq!(rt; tree.cur(), None);
+    assert_eq!(rt; tree.pop(), None);
+    assert_eq!(rt; tree.remove_node(), None);
+    assert_eq!(rt; tree.peek_up(), None);
+    assert_eq!(rt; tree.peek_grandparent(), None);
+    assert_eq!(rt; tree.spine_len(), 0);
+    assert!(rt; tree.is_empty());
+    let a = tree.create_node(named('A'))?;
+    assert!(rt; !tree.is_empty());
+    assert_eq!(rt; tree.cur(), None);
+    let b = tree.append(named('B'))?;
+    assert_eq!(rt; tree.cur(), Some(b));
+    tree.reset();
+    assert_eq!(rt; tree.cur(), Some(a));
+    assert_eq!(rt; tree[a].next, None);
+    assert_eq!(rt; tree.next_sibling(b), None);
+    assert_eq!(rt; tree.cur(), None);
+    Ok(())
+}
+
+#[test]
+fn a_removed_node_is_gone(rt: HostRuntime) -> Result<(), Fail> {
+    let alloc = rt.alloc();
+    let mut tree: Tree<Piece> = Tree::with_capacity(alloc, 2)?;
+    let a = tree.append(named('A'))?;
+    tree.push()?;
+    tree.append(named('B'))?;
+    let parent = tree.remove_node();
+    assert_eq!(rt; parent, Some(a));
+    assert_eq!(rt; tree.cur(), Some(a));
+    assert_eq!(rt; tree.spine_len(), 0);
+    assert_eq!(rt; forest(alloc, &mut tree)?.as_str(), "A");
+    Ok(())
+}
+
+#[test]
+fn links_and_items_that_are_set(rt: HostRuntime) -> Result<(), Fail> {
+    let alloc = rt.alloc();
+    let (mut tree, [a, b, c, d]) = nested(alloc)?;
+    tree.item_mut(c).name = 'E';
+    tree.set_next(b, Some(d));
+    tree.set_next(c, None);
+    tree.set_child(d, Some(c));
+    tree.set_child(b, None);
+    assert_eq!(rt; tree[a].child, Some(b));
+    assert_eq!(rt; tree[b].next, Some(d));
+    assert_eq!(rt; tree[b].child, None);
+    assert_eq!(rt; tree[c].next, None);
+    assert_eq!(rt; tree[c].item.name, 'E');
+    assert_eq!(rt; tree[d].child, Some(c));
+    assert_eq!(rt; tree.cur(), Some(d));
+    assert_eq!(rt; forest(alloc, &mut tree)?.as_str(), "A(BD(E))");
+    Ok(())
+}
+
+fn index_after(ix: TreeIndex) -> Option<TreeIndex> {
+    if ix.get() < 100 { Some(ix + 1) } else { None }
+}
+
+fn index_before(ix: TreeIndex) -> Option<TreeIndex> {
+    if ix.get() > 1 { Some(ix - 1) } else { None }
+}
+
+#[test]
+fn indices(rt: HostRuntime) -> Result<(), Fail> {
+    let (_tree, [a, b, c, d]) = nested(rt.alloc())?;
+    assert_eq!(rt; a.get(), 1);
+    assert_eq!(rt; d.get(), 4);
+    assert_eq!(rt; index_after(c), Some(d));
+    assert_eq!(rt; index_before(b), Some(a));
+    assert_eq!(rt; index_before(a), None);
+    assert!(rt; a < b && c > b && c == c);
+    Ok(())
+}
+
+// The calls that stand in traits, each through its bound.
+fn copied<T: Clone>(value: &T) -> Result<T, AllocError> {
+    value.clone()
+}
+
+fn name_at<I: Index<TreeIndex, Output = Node<Piece>>>(nodes: &I, ix: TreeIndex) -> char
+    requires { I.can_index nodes.now ix }
+{
+    nodes[ix].item.name
+}
+
+#[test]
+fn copies(rt: HostRuntime) -> Result<(), Fail> {
+    let alloc = rt.alloc();
+    let (mut tree, [a, b, c, d]) = nested(alloc)?;
+    let mut copy = copied(&tree)?;
+    assert_eq!(rt; copy.cur(), Some(d));
+    assert_eq!(rt; copy.peek_up(), Some(b));
+    assert_eq!(rt; copy.peek_grandparent(), Some(a));
+    assert_eq!(rt; forest(alloc, &mut copy)?.as_str(), "A(B(CD))");
+    assert_eq!(rt; name_at(&tree, c), 'C');
+    tree.set_child(a, None);
+    assert_eq!(rt; forest(alloc, &mut copy)?.as_str(), "A(B(CD))");
+    Ok(())
+}
+
+// A node that is the parent of none.
+fn parent(alloc: Global) -> Result<Tree<Piece>, AllocError>
+    ensures { IfOk result IsParent }
+{
+    let mut tree = Tree::with_capacity(alloc, 5)?;
+    tree.append(named('P'))?;
+    tree.push()?;
+    Ok(tree)
+}
+
+// One, two or three children of a node, cut at a byte.
+fn cut_one(alloc: Global, child: Piece, end: usize) -> Result<Tree<Piece>, AllocError>
+    requires { IfSome (first_other end (spans_of (child ∷ []))) (CanCut end) }
+{
+    let mut tree = parent(alloc)?;
+    tree.append(child)?;
+    tree.truncate_siblings(end);
+    Ok(tree)
+}
+
+fn cut_two(
+    alloc: Global,
+    first: Piece,
+    second: Piece,
+    end: usize,
+) -> Result<Tree<Piece>, AllocError>
+    requires { IfSome (first_other end (spans_of (first ∷ second ∷ []))) (CanCut end) }
+{
+    let mut tree = parent(alloc)?;
+    tree.append(first)?;
+    tree.append(second)?;
+    tree.truncate_siblings(end);
+    Ok(tree)
+}
+
+fn cut_three(
+    alloc: Global,
+    first: Piece,
+    second: Piece,
+    third: Piece,
+    end: usize,
+) -> Result<Tree<Piece>, AllocError>
+    requires { IfSome (first_other end (spans_of (first ∷ second ∷ third ∷ []))) (CanCut end) }
+{
+    let mut tree = parent(alloc)?;
+    tree.append(first)?;
+    tree.append(second)?;
+    tree.append(third)?;
+    tree.truncate_siblings(end);
+    Ok(tree)
+}
+
+// The number of the focus; node 1 is the parent.
+fn focus(tree: &Tree<Piece>) -> Option<usize> {
+    match tree.cur() {
+        Some(ix) => Some(ix.get()),
+        None => None,
+    }
+}
+
+// The ranges of the children of the first node.
+fn ranges(alloc: Global, tree: &mut Tree<Piece>) -> Result<Vec<(usize, usize)>, AllocError> {
+    let mut ranges = Vec::new(alloc);
+    tree.reset();
+    if tree.cur().is_some() {
+        tree.push()?;
+    }
+    for _ in 0..8 {
+        if let Some(ix) = tree.cur() {
+            ranges.push((tree[ix].item.start, tree[ix].item.end))?;
+            tree.next_sibling(ix);
+        }
+    }
+    Ok(ranges)
+}
+
+#[test]
+fn children_that_are_cut_inside(rt: HostRuntime) -> Result<(), Fail> {
+    let alloc = rt.alloc();
+    let first = covering('A', 0, 3, false);
+    let second = covering('B', 3, 5, false);
+    let third = covering('C', 5, 9, false);
+    let mut tree = cut_three(alloc, first, second, third, 4)?;
+    assert_eq!(rt; focus(&tree), Some(3));
+    assert_eq!(rt;
+        ranges(alloc, &mut tree)?.as_slice(),
+        [(0, 3), (3, 4)].as_slice()
+    );
+    Ok(())
+}
+
+#[test]
+fn children_that_are_dropped(rt: HostRuntime) -> Result<(), Fail> {
+    let alloc = rt.alloc();
+    let first = covering('A', 0, 2, false);
+    let second = covering('B', 4, 6, false);
+    let mut tree = cut_two(alloc, first, second, 4)?;
+    assert_eq!(rt; focus(&tree), Some(2));
+    assert_eq!(rt; ranges(alloc, &mut tree)?.as_slice(), [(0, 2)].as_slice());
+    let mut tree = cut_one(alloc, covering('A', 4, 6, false), 4)?;
+    assert_eq!(rt; focus(&tree), None);
+    assert_eq!(rt; ranges(alloc, &mut tree)?.len(), 0);
+    Ok(())
+}
+
+#[test]
+fn children_behind_a_backslash(rt: HostRuntime) -> Result<(), Fail> {
+    let alloc = rt.alloc();
+    let first = covering('A', 0, 2, false);
+    let second = covering('B', 4, 6, true);
+    let mut tree = cut_two(alloc, first, second, 4)?;
+    assert_eq!(rt; focus(&tree), Some(3));
+    assert_eq!(rt;
+        ranges(alloc, &mut tree)?.as_slice(),
+        [(0, 2), (3, 4)].as_slice()
+    );
+    let first = covering('A', 0, 2, false);
+    let second = covering('B', 4, 6, true);
+    let third = covering('C', 6, 8, false);
+    let mut tree = cut_three(alloc, first, second, third, 4)?;
+    assert_eq!(rt; focus(&tree), Some(3));
+    assert_eq!(rt;
+        ranges(alloc, &mut tree)?.as_slice(),
+        [(0, 2), (3, 4), (6, 8)].as_slice()
+    );
+    Ok(())
+}
+
+#[test]
+fn children_that_stay(rt: HostRuntime) -> Result<(), Fail> {
+    let alloc = rt.alloc();
+    let mut tree = cut_one(alloc, covering('A', 0, 1, false), 5)?;
+    assert_eq!(rt; focus(&tree), Some(2));
+    assert_eq!(rt; ranges(alloc, &mut tree)?.as_slice(), [(0, 1)].as_slice());
+    let first = covering('A', 0, 3, false);
+    let second = covering('B', 3, 5, false);
+    let mut tree = cut_two(alloc, first, second, 5)?;
+    assert_eq!(rt; focus(&tree), Some(3));
+    assert_eq!(rt;
+        ranges(alloc, &mut tree)?.as_slice(),
+        [(0, 3), (3, 5)].as_slice()
+    );
+    Ok(())
+}

@@ -1,0 +1,42 @@
+use Rattle.std.proofs.Common.{◌≡◌, ◌+◌, arith, sym, ap, ◌∙◌, Some, take, drop, length, length-take, length-drop, ◌-◌}
+use Rattle.markdown_values.specs.Text.{cow_text}
+use Rattle.std.specs.Option.{is_some}
+use Rattle.std.proofs.lemmas.Bool.{false≢true}
+use Rattle.std.specs.List.{prefix_len}
+use Rattle.markdown_scanners_tree.specs.Bytes.{is_alphanumeric}
+use Rattle.markdown_scanners_tree.proofs.ReferenceLemmas.{only_entity, entity_ended, entity_found}
+use Rattle.std.proofs.lemmas.List.{take_rest}
+use Rattle.markdown_scanners_tree.proofs.scanners.entities.scan_named.Goals as goal
+use Rattle.markdown_scanners_tree.proofs.scanners.entities.scan_named.Goals.{then-n-bytes-via-then-n-bytes, then-n-bytes-via-else-n-bytes+then-bytes-n-ne59}
+
+pub returns-then-n-bytes-clause-absent : goal.returns-then-n-bytes-clause-absent
+returns-then-n-bytes-clause-absent g c =
+    λ n meaning is.
+    let count = c.alphanumerics_in_front-n.ensures.count ∙ ap (prefix_len is_alphanumeric) (take_rest c.args.bytes.now 1) in
+    let ended = entity_ended (g.E.Entities.known c.args.entities.now) c.args.bytes.now c.alphanumerics_in_front-n.result meaning c.requires.some count
+    (only_entity (g.E.Entities.known c.args.entities.now) c.args.bytes.now n meaning c.requires.no_number is) in
+    elim c.then-n-bytes.branch [
+      | then-n-bytes-via-then-n-bytes w ↦ absurd (omega (arith, ended.inside, w.if-n-bytes.true))
+      | then-n-bytes-via-else-n-bytes+then-bytes-n-ne59 w ↦ w.if-bytes-n-ne59.true ended.ends
+    ]
+
+pub returns-in-Some-clause-found : goal.returns-in-Some-clause-found
+returns-in-Some-clause-found g c =
+    let known = g.E.Entities.known c.args.entities.now in
+    let n = c.alphanumerics_in_front-n.result in
+    let count = c.alphanumerics_in_front-n.ensures.count ∙ ap (prefix_len is_alphanumeric) (take_rest c.args.bytes.now 1) in
+    let less : n + 1 - 1 ≡ n = omega arith in
+    entity_found known c.args.bytes.now n (cow_text c.from.result) count
+    (omega (arith, c.if-n-bytes.false, c.alphanumerics_in_front-n.ensures.within, length-take (length c.args.bytes.now - 1) (drop 1 c.args.bytes.now), length-drop 1 c.args.bytes.now, c.requires.some))
+    c.if-bytes-n-ne59.false
+    (ap (λ k. known (take k (drop 1 c.args.bytes.now))) (sym less) ∙ (sym c.in-Some.ensures ∙ ap Some (sym c.from.ensures.0)))
+
+pub returns-in-None-clause-absent : goal.returns-in-None-clause-absent
+returns-in-None-clause-absent g c =
+    λ n meaning is.
+    let known = g.E.Entities.known c.args.entities.now in
+    let count = c.alphanumerics_in_front-n.ensures.count ∙ ap (prefix_len is_alphanumeric) (take_rest c.args.bytes.now 1) in
+    let ended = entity_ended known c.args.bytes.now c.alphanumerics_in_front-n.result meaning c.requires.some count
+    (only_entity known c.args.bytes.now n meaning c.requires.no_number is) in
+    let less : c.alphanumerics_in_front-n.result + 1 - 1 ≡ c.alphanumerics_in_front-n.result = omega arith in
+    false≢true (ap is_some (c.in-None.ensures ∙ (ap (λ k. known (take k (drop 1 c.args.bytes.now))) less ∙ ended.means)))

@@ -1,0 +1,16 @@
+use Rattle.std.proofs.Common.{◌-◌, ◌≤◌, ◌≡◌, length}
+use Rattle.std.specs.Option.{IfNone}
+use Rattle.markdown_scanners_tree.specs.KeptTag.{AnswersIfAny}
+use Rattle.markdown_scanners_tree.proofs.TagScan.{Scanned}
+use Rattle.markdown_scanners_tree.proofs.scanners.html_tag.measure_tag.Given as goal
+
+abbrev pub invariant-loop-place : goal.invariant-loop-place
+invariant-loop-place g l =
+    Scanned (AnswersIfAny g.F.Fn l.handler) l.«data» l.place l.kept l.endings l.state
+    × (l.place ≤ length l.«data»)
+    × (l.kept ≤ l.place)
+    × (l.endings ≤ l.kept)
+    × IfNone l.handler (l.kept ≡ l.place)
+
+abbrev pub decreases-loop-place : goal.decreases-loop-place
+decreases-loop-place g l = length l.«data» - l.place

@@ -1,0 +1,40 @@
+use Rattle.std.proofs.Common.{◌≡◌, ◌+◌, ◌-◌, ◌^◌, min, arith, sym, ap, subst, ◌∙◌, length, take, drop, false}
+use Rattle.std.proofs.lemmas.Bool.{false≢true, ltb-false, le-ltb}
+use Rattle.std.proofs.lemmas.List.{take_rest}
+use Rattle.markdown_scanners_tree.specs.FirstPiece.{IsFirstPiece}
+use Rattle.markdown_scanners_tree.proofs.PieceLemmas.{measured_more, measured_pieces, measured_plain, measured_changed, measured_len}
+use Rattle.markdown_scanners_tree.proofs.scanners.unescaping.measure.Goals as goal
+use Rattle.markdown_scanners_tree.proofs.scanners.unescaping.measure.Goals.{then-changes, else-changes}
+
+pub loop-i-preserved : goal.loop-i-preserved
+loop-i-preserved g c =
+    let known = g.E.Entities.known c.args.entities.now in
+    let text = c.args.text.now in
+    let size = c.first_size-size.ensures in
+    let n = c.first_size-size.result.source in
+    let at : take (length c.as_bytes-bytes.result.now - c.loop-i.i) (drop c.loop-i.i c.as_bytes-bytes.result.now) ≡ drop c.loop-i.i text =
+    take_rest c.as_bytes-bytes.result.now c.loop-i.i ∙ ap (drop c.loop-i.i) c.as_bytes-bytes.ensures.value in
+    let is : IsFirstPiece c.args.is_in_table known (drop c.loop-i.i text) n size.0 size.1 = subst (λ bs. IsFirstPiece c.args.is_in_table known bs n size.0 size.1) at size.2 in
+    let len : c.saturating_add-len.result ≡ min (c.loop-i.len + (length size.1 + (n - size.0))) (2 ^ 64 - 1) = omega (arith, c.saturating_add-len.ensures, size.3) in
+    let more = λ (off : c.if-changes.changes ≡ false → (c.loop-i.changes ≡ false) × (size.0 ≡ 0)) (on : c.loop-i.changes ≡ false → size.0 ≡ 0 → c.if-changes.changes ≡ false).
+    measured_more c.args.is_in_table known text c.loop-i.i n size.0 size.1 c.loop-i.changes c.if-changes.changes c.loop-i.len c.saturating_add-len.result c.loop-i.invariant is off on len in
+    elim c.if-changes.branch [
+      | then-changes w ↦ more (λ no'. absurd (false≢true (sym no' ∙ (w.changes-is ∙ w.if-changes.true)))) (λ no' _. absurd (false≢true (sym no' ∙ w.if-changes.true)))
+      | else-changes w ↦ more (λ no'. (w.if-changes.false, omega (arith, ltb-false 0 size.0 (sym size.4 ∙ (sym w.changes-is ∙ no'))))) (λ _ none. w.changes-is ∙ (size.4 ∙ le-ltb 0 size.0 (omega (arith, none))))
+    ]
+
+pub returns-clause-pieces : goal.returns-clause-pieces
+returns-clause-pieces g c = measured_pieces c.args.is_in_table (g.E.Entities.known c.args.entities.now) c.args.text.now c.loop-i.i c.loop-i.changes c.loop-i.len c.loop-i.invariant
+    (omega (arith, c.loop-i-test.false, c.as_bytes-bytes.ensures.len))
+
+pub returns-clause-plain : goal.returns-clause-plain
+returns-clause-plain g c = measured_plain c.args.is_in_table (g.E.Entities.known c.args.entities.now) c.args.text.now c.loop-i.i c.loop-i.changes c.loop-i.len c.loop-i.invariant
+    (omega (arith, c.loop-i-test.false, c.as_bytes-bytes.ensures.len))
+
+pub returns-clause-changed : goal.returns-clause-changed
+returns-clause-changed g c = measured_changed c.args.is_in_table (g.E.Entities.known c.args.entities.now) c.args.text.now c.loop-i.i c.loop-i.changes c.loop-i.len c.loop-i.invariant
+    (omega (arith, c.loop-i-test.false, c.as_bytes-bytes.ensures.len))
+
+pub returns-clause-len : goal.returns-clause-len
+returns-clause-len g c = measured_len c.args.is_in_table (g.E.Entities.known c.args.entities.now) c.args.text.now c.loop-i.i c.loop-i.changes c.loop-i.len c.loop-i.invariant
+    (omega (arith, c.loop-i-test.false, c.as_bytes-bytes.ensures.len))

@@ -1,0 +1,156 @@
+//! Character references: entities by name, and characters by number.
+ghost use Rattle.std.specs.Prelude.{◌≡◌, ◌+◌, ◌<◌, ◌≤◌, ◌==◌, ◌||◌, ◌≢◌, ℕ, slice_index, List, Option, IfSome, IfNone, length};
+ghost use Rattle.std.specs.Option.{option_copied};
+ghost use Rattle.std.specs.List.{prefix_len};
+ghost use Rattle.std.specs.Str.Parse.{AllDigits, digits_value};
+ghost use Rattle.std.specs.Char.{is_digit, digit_value};
+ghost use Rattle.markdown_values.specs.Text.{cow_text};
+ghost use Rattle.markdown_scanners_tree.specs.Bytes.{is_alphanumeric};
+ghost use Rattle.markdown_scanners_tree.specs.CharacterReference.{referenced_char, StartsWithReference};
+ghost use Rattle.markdown_scanners_tree.specs.Digits.{IsNumberInFront};
+
+use markdown_values::strings::CowStr;
+
+/// A table of entity names and their texts.
+///
+/// HTML5 has the names and texts that CommonMark asks for (0.31.2, section 2.5); the scanners take any
+/// table.
+pub trait Entities {
+    /// The text that is known for each name, which is a function of the name.
+    ghost known: { Self → List ℕ → Option (List ℕ) };
+
+    /// The text of the entity with this name, which stands between `&` and `;`.
+    fn get(&self, name: &[u8]) -> Option<&'static str>
+        ensures { option_copied result ≡ known self.now name.now };
+}
+
+/// The character reference at the front: its length in bytes, with the byte before it and the
+/// semicolon, and its text; `(0, None)` where none stands there.
+///
+/// The first byte, which is `&` in a text, is not looked at.
+///
+/// (CommonMark 0.31.2, section 2.5.)
+pub fn scan_entity<E: Entities>(bytes: &[u8], entities: &E) -> (usize, Option<CowStr<'static>>)
+    requires { 0 < length bytes.now }
+    ensures found { IfSome result.1 (λ text. StartsWithReference (E.known entities.now) bytes.now result.0 (cow_text text)) }
+    ensures absent { IfNone result.1 ((n : ℕ) (meaning : List ℕ)
+        → ¬ StartsWithReference (E.known entities.now) bytes.now n meaning) }
+    ensures empty { IfNone result.1 (result.0 ≡ 0) }
+{
+    if bytes.len() < 2 || bytes[1] != b'#' {
+        return scan_named(bytes, entities);
+    }
+    if bytes.len() > 2 && is_hexadecimal_mark(bytes[2]) {
+        let Some((n, number)) = scan_number(&bytes[3..], 16, 6) else {
+            return (0, None);
+        };
+        return (n + 4, Some(CowStr::from(referenced(number))));
+    }
+    let Some((n, number)) = scan_number(&bytes[2..], 10, 7) else {
+        return (0, None);
+    };
+    (n + 3, Some(CowStr::from(referenced(number))))
+}
+
+// The reference by name at the front, where no `#` follows the first byte.
+fn scan_named<E: Entities>(bytes: &[u8], entities: &E) -> (usize, Option<CowStr<'static>>)
+    requires some { 0 < length bytes.now }
+    requires no_number { 1 < length bytes.now → slice_index bytes.now 1 ≢ 35 }
+    ensures found { IfSome result.1 (λ text. StartsWithReference (E.known entities.now) bytes.now result.0 (cow_text text)) }
+    ensures absent { IfNone result.1 ((n : ℕ) (meaning : List ℕ)
+        → ¬ StartsWithReference (E.known entities.now) bytes.now n meaning) }
+    ensures empty { IfNone result.1 (result.0 ≡ 0) }
+{
+    let n = alphanumerics_in_front(&bytes[1..]);
+    if n + 1 == bytes.len() || bytes[n + 1] != b';' {
+        return (0, None);
+    }
+    match entities.get(&bytes[1..n + 1]) {
+        Some(text) => (n + 2, Some(CowStr::from(text))),
+        None => (0, None),
+    }
+}
+
+// The character of a number; zero, surrogates and numbers above 0x10FFFF have U+FFFD.
+fn referenced(number: u32) -> char
+    ensures { result ≡ referenced_char number }
+{
+    if number == 0 {
+        return '\u{FFFD}';
+    }
+    match char::from_u32(number) {
+        Some(c) => c,
+        None => '\u{FFFD}',
+    }
+}
+
+// Whether the byte after `#` says that hexadecimal digits follow.
+fn is_hexadecimal_mark(b: u8) -> bool
+    ensures { result ≡ (b == 120 || b == 88) }
+{
+    b == b'x' || b == b'X'
+}
+
+// The number of 1 to `limit` digits at the front that a semicolon ends, and how many digits it has.
+fn scan_number(bytes: &[u8], radix: u32, limit: usize) -> Option<(usize, u32)>
+    requires base { 2 ≤ radix }
+    requires hexadecimal { radix ≤ 16 }
+    requires few { limit ≤ 7 }
+    ensures found { IfSome result (λ r. IsNumberInFront radix limit bytes.now r.0 r.1) }
+    ensures absent { IfNone result ((n number : ℕ) → ¬ IsNumberInFront radix limit bytes.now n number) }
+{
+    let n = digits_in_front(bytes, radix);
+    if n == 0 || n > limit || n == bytes.len() || bytes[n] != b';' {
+        return None;
+    }
+    Some((n, number_of(&bytes[..n], radix)))
+}
+
+// How many digits stand at the front.
+fn digits_in_front(bytes: &[u8], radix: u32) -> usize
+    requires base { 2 ≤ radix }
+    requires letters { radix ≤ 36 }
+    ensures count { result ≡ prefix_len (λ b. is_digit b radix) bytes.now }
+    ensures within { result ≤ length bytes.now }
+{
+    bytes
+        .iter()
+        .take_while(|b| char::from(**b).is_digit(radix))
+        .count()
+}
+
+// How many letters and digits stand at the front.
+fn alphanumerics_in_front(bytes: &[u8]) -> usize
+    ensures count { result ≡ prefix_len is_alphanumeric bytes.now }
+    ensures within { result ≤ length bytes.now }
+{
+    bytes
+        .iter()
+        .take_while(|b| b.is_ascii_alphanumeric())
+        .count()
+}
+
+// The number that the digits stand for.
+fn number_of(digits: &[u8], radix: u32) -> u32
+    requires base { 2 ≤ radix }
+    requires hexadecimal { radix ≤ 16 }
+    requires few { length digits.now ≤ 7 }
+    requires made { AllDigits radix digits.now }
+    ensures { result ≡ digits_value radix digits.now }
+{
+    let mut number: u32 = 0;
+    for b in digits {
+        number = number * radix + digit_of(*b, radix);
+    }
+    number
+}
+
+// The value of a digit.
+fn digit_of(b: u8, radix: u32) -> u32
+    requires base { 2 ≤ radix }
+    requires letters { radix ≤ 36 }
+    requires digit { digit_value b < radix }
+    ensures { result ≡ digit_value b }
+{
+    char::from(b).to_digit(radix).unwrap()
+}

@@ -1,0 +1,150 @@
+//! Open and closing tags, over the lines of containers or alone in a line.
+ghost use Rattle.std.specs.Prelude.{IsOk, ◌≡◌, ◌≢◌, ◌≤◌, [], IfOk, OnErr, ℕ, List, IfSome, IfNone, length};
+ghost use Rattle.markdown_scanners_tree.specs.Handler.{Answers, IsSteady};
+ghost use Rattle.markdown_scanners_tree.specs.Kept.{KeptByte, bytes_of};
+ghost use Rattle.markdown_scanners_tree.specs.HtmlTag.{IsTagAloneInLine};
+ghost use Rattle.markdown_scanners_tree.specs.KeptTag.{AnswersIfAny, IsKeptFront, place_after, IsKeptTag, tag_buffer};
+ghost use Rattle.markdown_scanners_tree.specs.TagMachine.{ends_source_line};
+
+use crate::scanners::lines::scan_blank_line;
+use crate::scanners::tag_state::TagState;
+use std::alloc::{AllocError, Global};
+
+// A tag's bytes without those that a handler skips, and the place after it in its source.
+#[derive(Drop)]
+struct TagLength {
+    kept: usize,
+    end: usize,
+}
+
+// Whether a line ends with the first byte: LF, or a CR that no LF follows.
+fn ends_line(rest: &[u8]) -> bool
+    ensures { result ≡ ends_source_line rest.now }
+{
+    match rest {
+        [b'\n', ..] => true,
+        [b'\r', b'\n', ..] => false,
+        [b'\r', ..] => true,
+        _ => false,
+    }
+}
+
+// How long the tag is that the data begin with.
+fn measure_tag<F: Fn(&[u8]) -> usize>(data: &[u8], handler: Option<&F>) -> Option<TagLength>
+    requires callable { IfSome handler (λ f. F.IsAlwaysCallable f.now) }
+    requires steady { IfSome handler (λ f. IsSteady F.Fn f.now) }
+    ensures found { IfSome result (λ tag. (front : List KeptByte)
+        × IsKeptTag (AnswersIfAny F.Fn handler.entry) «data».now front
+        × (tag.kept ≡ length front) × (tag.end ≡ place_after 0 front)) }
+    ensures only { IfSome result (λ tag. (front : List KeptByte)
+        → IsKeptTag (AnswersIfAny F.Fn handler.entry) «data».now front
+        → (tag.kept ≡ length front) × (tag.end ≡ place_after 0 front)) }
+    ensures none { IfNone result ((front : List KeptByte)
+        → IsKeptTag (AnswersIfAny F.Fn handler.entry) «data».now front → ⊥) }
+    ensures whole { IfSome result (λ tag. IfNone handler.entry (tag.kept ≡ tag.end)) }
+    ensures within { IfSome result (λ tag. tag.end ≤ length «data».now) }
+{
+    let mut state = TagState::Start;
+    let mut place = 0;
+    let mut kept = 0;
+    let mut endings = 0;
+    while place < data.len() && !state.is_final() {
+        let is_last = ends_line(&data[place..]);
+        state = state.next(data[place]);
+        place += 1;
+        kept += 1;
+        if is_last {
+            let skips = handler?;
+            place += skips(&data[place..]);
+            endings += 1;
+        }
+    }
+    if state.is_tag_end(endings) {
+        Some(TagLength { kept, end: place })
+    } else {
+        None
+    }
+}
+
+// The first bytes of the data that are kept. Memory is asked for once, for that many bytes.
+fn copy_kept<F: Fn(&[u8]) -> usize>(
+    alloc: Global,
+    data: &[u8],
+    handler: &F,
+    kept: usize,
+) -> Result<Vec<u8>, AllocError>
+    requires callable { F.IsAlwaysCallable handler.now }
+    requires steady { IsSteady F.Fn handler.now }
+    requires some { (front : List KeptByte) × IsKeptFront (Answers F.Fn handler.now) «data».now front × (kept ≡ length front) }
+    ensures copied { IfOk result (λ buffer. (front : List KeptByte)
+        → IsKeptFront (Answers F.Fn handler.now) «data».now front → kept ≡ length front
+        → buffer.items ≡ bytes_of front) }
+{
+    let mut buffer = Vec::with_capacity(alloc, kept)?;
+    let mut place = 0;
+    while buffer.len() < kept {
+        let is_last = ends_line(&data[place..]);
+        buffer.push_reserved(data[place]);
+        place += 1;
+        if is_last {
+            place += handler(&data[place..]);
+        }
+    }
+    Ok(buffer)
+}
+
+/// The tag that the data begin with, over the lines of containers: its text and its length in
+/// bytes.
+///
+/// After each line ending in the tag the handler is given the bytes that follow, and answers how
+/// many of them belong to the containers; those are no part of the tag. The text is empty where
+/// the handler skips nothing in the tag, since it then stands in the data. Without a handler a tag
+/// holds no line ending. A closing tag holds at most one. (CommonMark 0.31.2, section 6.6, raw HTML.)
+///
+/// # Errors
+///
+/// `AllocError` where memory for the text is refused. It is asked for once, after the whole tag has
+/// been read, so the handler may be asked twice for one rest.
+pub fn scan_html_block_inner<F: Fn(&[u8]) -> usize>(
+    alloc: Global,
+    data: &[u8],
+    handler: Option<&F>,
+) -> Result<Option<(Vec<u8>, usize)>, AllocError>
+    requires callable { IfSome handler (λ f. F.IsAlwaysCallable f.now) }
+    requires steady { IfSome handler (λ f. IsSteady F.Fn f.now) }
+    ensures found { IfOk result (λ answer. IfSome answer (λ tag. (front : List KeptByte)
+        × IsKeptTag (AnswersIfAny F.Fn handler.entry) «data».now front
+        × (tag.0.items ≡ tag_buffer front) × (tag.1 ≡ place_after 0 front))) }
+    ensures only { IfOk result (λ answer. IfSome answer (λ tag. (front : List KeptByte)
+        → IsKeptTag (AnswersIfAny F.Fn handler.entry) «data».now front
+        → (tag.0.items ≡ tag_buffer front) × (tag.1 ≡ place_after 0 front))) }
+    ensures none { IfOk result (λ answer. IfNone answer ((front : List KeptByte)
+        → IsKeptTag (AnswersIfAny F.Fn handler.entry) «data».now front → ⊥)) }
+    ensures memory { OnErr result ((front : List KeptByte)
+        × IsKeptTag (AnswersIfAny F.Fn handler.entry) «data».now front × (tag_buffer front ≢ [])) }
+    ensures without_handler { IfNone handler.entry (IsOk result) }
+    ensures within { IfOk result (λ answer. IfSome answer (λ tag. tag.1 ≤ length «data».now)) }
+{
+    let Some(tag) = measure_tag(data, handler) else {
+        return Ok(None);
+    };
+    let buffer = match handler {
+        Some(skips) if tag.kept != tag.end => copy_kept(alloc, data, skips, tag.kept)?,
+        _ => Vec::new(alloc),
+    };
+    Ok(Some((buffer, tag.end)))
+}
+
+/// The length in bytes of the tag that the data begin with, where the rest of its line is blank.
+///
+/// The tag holds no line ending, and the blank rest is not counted. (CommonMark 0.31.2, section
+/// 4.6, start condition 7; the tag names that other start conditions take are not left out here.)
+pub fn scan_html_type_7(data: &[u8]) -> Option<usize>
+    ensures found { IfSome result (λ n. IsTagAloneInLine «data».now n) }
+    ensures absent { IfNone result ((n : ℕ) → ¬ IsTagAloneInLine «data».now n) }
+    ensures within { IfSome result (λ n. n ≤ length «data».now) }
+{
+    let tag = measure_tag(data, None::<&fn(&[u8]) -> usize>)?;
+    scan_blank_line(&data[tag.end..])?;
+    Some(tag.end)
+}

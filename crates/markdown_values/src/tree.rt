@@ -1,0 +1,541 @@
+//! A tree of linked nodes, built in the order of its text, one node at a time.
+ghost use Rattle.std.specs.Prelude.{◌≡◌, ◌≢◌, ◌+◌, ◌-◌, ◌<◌, ◌≤◌, ◌==◌, ◌++◌, ◌∷◌, [], IfOk, OnErr, IsTrue, ◌↔◌, length, slice_get, Some, None, ◌^◌, suc, IsSome, IfSome, All};
+ghost use Rattle.std.specs.Borrow.{sem};
+ghost use Rattle.std.specs.Slice.Iter.{iter_rest};
+
+use std::alloc::{AllocError, Global};
+use std::marker::Model;
+use std::ops::{Add, Index, Sub};
+
+/// The index of a node of a `Tree` other than the dummy, so at least 1.
+#[derive(Clone, Copy, Debug, PartialEq, Eq, PartialOrd)]
+pub struct TreeIndex {
+    value: usize,
+}
+
+impl Model for TreeIndex {
+    ghost use Rattle.std.specs.Prelude.{ℕ, ◌<◌};
+
+    ghost Value = { ℕ };
+
+    ghost view = { λ a. a.value };
+
+    ghost invariant = { λ a. 0 < a.value };
+
+    ghost inverse = { λ n. record { value = n } };
+}
+
+impl TreeIndex {
+    /// The index as a number.
+    pub fn get(self) -> usize
+        ensures value { result ≡ self }
+        ensures positive { 0 < result }
+    {
+        self.value
+    }
+}
+
+impl Add<usize> for TreeIndex {
+    type Output = TreeIndex;
+
+    ghost can_add = { λ ix n. ix + n < 2 ^ 64 };
+
+    ghost add_gives = { λ ix n r. r ≡ ix + n };
+
+    fn add(self, rhs: usize) -> TreeIndex {
+        TreeIndex {
+            value: self.get() + rhs,
+        }
+    }
+}
+
+impl Sub<usize> for TreeIndex {
+    type Output = TreeIndex;
+
+    ghost can_sub = { λ ix n. n < ix };
+
+    ghost sub_gives = { λ ix n r. r ≡ ix - n };
+
+    fn sub(self, rhs: usize) -> TreeIndex {
+        TreeIndex {
+            value: self.get() - rhs,
+        }
+    }
+}
+
+/// An item with the links of its node.
+#[derive(Drop)]
+pub struct Node<T> {
+    /// The first child.
+    pub child: Option<TreeIndex>,
+    /// The sibling that follows.
+    pub next: Option<TreeIndex>,
+    /// What the node holds.
+    pub item: T,
+}
+
+/// An ordered forest of linked nodes, which is built from a focus.
+///
+/// The nodes lie in one `Vec`, in the order in which they were made, after a dummy at index 0. A node stays where it
+/// is when it is cut off, and is then reached by its index alone. The spine is the path from a root down to the parent
+/// of the focus. Calls that may want memory use the allocator that `with_capacity` was given.
+#[derive(Drop)]
+pub struct Tree<T> {
+    nodes: Vec<Node<T>>,
+    spine: Vec<TreeIndex>,
+    focus: Option<TreeIndex>,
+}
+
+impl<T> Model for Tree<T> {
+    ghost use Rattle.markdown_values.specs.Linked.{Linked, linked_code};
+    ghost use Rattle.markdown_values.specs.Tree.{IsWithin};
+
+    ghost Value = { Linked T };
+
+    ghost coded = { linked_code T.code };
+
+    ghost view = { λ t. record {
+      nodes = t.nodes.items;
+      spine = t.spine.items;
+      focus = t.focus;
+    } };
+
+    ghost invariant = { λ t. IsWithin t.nodes.items t.spine.items t.focus };
+}
+
+impl<T: Drop> Tree<T> {
+    ghost use Rattle.markdown_values.specs.Tree.{empty_tree, with_node, appended, last, but_last, IsLinkWithin, with_next, with_child, with_item, linked_from_focus, pushed, popped, removed, IsLastLinkedFromAlone, reset_of, next_of, truncated_to_parent};
+    ghost use Rattle.markdown_values.specs.TreeLends.{lends_item, item_of};
+    ghost use Rattle.markdown_values.specs.Forest as forest;
+    ghost use Rattle.markdown_values.specs.Forest.{Focused, StandsFor};
+
+    /// A tree of the dummy alone. Room for `cap` nodes is asked for at once.
+    pub fn with_capacity(alloc: Global, cap: usize) -> Result<Tree<T>, AllocError>
+    where
+        T: Default,
+        ensures nodes { IfOk result (λ t. (item : T) × T.is_default item × (t ≡ empty_tree item)) }
+        ensures count { IfOk result (λ t. length t.nodes ≡ 1) }
+        ensures forest { IfOk result (λ t. StandsFor t forest.empty_forest) }
+    {
+        let mut nodes = Vec::with_capacity(alloc, cap)?;
+        nodes.push(Node {
+            child: None,
+            next: None,
+            item: T::default(),
+        })?;
+        Ok(Tree {
+            nodes,
+            spine: Vec::new(alloc),
+            focus: None,
+        })
+    }
+
+    /// The focus: the node after which the next one goes.
+    pub fn cur(&self) -> Option<TreeIndex>
+        ensures focus { result ≡ self.now.focus }
+        ensures within { IsLinkWithin (length self.now.nodes) result }
+    {
+        // None: the next node becomes the only child of the parent.
+        self.focus
+    }
+
+    /// Makes a node that no link leads to.
+    pub fn create_node(&mut self, item: T) -> Result<TreeIndex, AllocError>
+        ensures index { IfOk result (λ ix. ix ≡ length self.old.nodes) }
+        ensures within { IfOk result (λ ix. ix < length self.new.nodes) }
+        ensures count { IfOk result (λ _. length self.new.nodes ≡ length self.old.nodes + 1) }
+        ensures ok { IfOk result (λ _. self.new ≡ with_node self.old item) }
+        ensures err { OnErr result (self.new ≡ self.old) }
+    {
+        let value = self.nodes.len();
+        self.nodes.push(Node {
+            child: None,
+            next: None,
+            item,
+        })?;
+        Ok(TreeIndex { value })
+    }
+
+    /// Links a new node after the focus, or with no focus as the only child of the parent, and moves the focus to it.
+    /// What followed there is cut off. With neither focus nor parent nothing is linked.
+    pub fn append(&mut self, item: T) -> Result<TreeIndex, AllocError>
+        ensures index { IfOk result (λ ix. ix ≡ length self.old.nodes) }
+        ensures within { IfOk result (λ ix. ix < length self.new.nodes) }
+        ensures count { IfOk result (λ _. length self.new.nodes ≡ length self.old.nodes + 1) }
+        ensures ok { IfOk result (λ _. self.new ≡ appended self.old item) }
+        ensures err { OnErr result (self.new ≡ self.old) }
+        ensures forest { IfOk result (λ ix. (f : Focused) → StandsFor self.old f
+            → StandsFor self.new (forest.appended f ix)) }
+    {
+        let ix = self.create_node(item)?;
+        self.link_from_focus(Some(ix));
+        self.focus = Some(ix);
+        Ok(ix)
+    }
+
+    // Gives the focus this next link, or with no focus the parent this child link.
+    fn link_from_focus(&mut self, link: Option<TreeIndex>)
+        requires { IsLinkWithin (length self.old.nodes) link }
+        ensures state { self.new ≡ record self.old {
+          nodes = linked_from_focus self.old.nodes self.old.focus self.old.spine link;
+        } }
+        ensures count { length self.new.nodes ≡ length self.old.nodes }
+    {
+        if let Some(focus) = self.focus {
+            self.set_next(focus, link);
+        } else if let Some(parent) = self.peek_up() {
+            self.set_child(parent, link);
+        }
+    }
+
+    // Moves the focus.
+    fn focus_on(&mut self, focus: Option<TreeIndex>)
+        requires { IsLinkWithin (length self.old.nodes) focus }
+        ensures { self.new ≡ record self.old { focus = focus } }
+    {
+        self.focus = focus;
+    }
+
+    /// Puts the focus on the spine, and moves the focus to its first child, or to none.
+    /// It answers the node that it put on the spine.
+    pub fn push(&mut self) -> Result<TreeIndex, AllocError>
+        requires { IsSome self.old.focus }
+        ensures index { IfOk result (λ ix. self.old.focus ≡ Some ix) }
+        ensures within { IfOk result (λ ix. ix < length self.new.nodes) }
+        ensures count { length self.new.nodes ≡ length self.old.nodes }
+        ensures ok { IfOk result (λ ix. self.new ≡ pushed self.old ix) }
+        ensures err { OnErr result (self.new ≡ self.old) }
+        ensures forest { IfOk result (λ ix. (f : Focused) → StandsFor self.old f
+            → StandsFor self.new (forest.pushed f ix)) }
+    {
+        let ix = self.focus.unwrap();
+        self.spine.push(ix)?;
+        self.focus = self.nodes[ix.get()].child;
+        Ok(ix)
+    }
+
+    /// Takes the parent off the spine, and moves the focus to it. On an empty spine nothing changes.
+    pub fn pop(&mut self) -> Option<TreeIndex>
+        ensures parent { result ≡ last self.old.spine }
+        ensures within { IsLinkWithin (length self.new.nodes) result }
+        ensures count { length self.new.nodes ≡ length self.old.nodes }
+        ensures state { self.new ≡ popped self.old }
+        ensures forest { (f : Focused) → StandsFor self.old f → StandsFor self.new (forest.popped f) }
+    {
+        let popped = self.spine.pop()?;
+        self.focus = Some(popped);
+        Some(popped)
+    }
+
+    /// As `pop`, and drops the node that was made last and the parent's child link.
+    pub fn remove_node(&mut self) -> Option<TreeIndex>
+        requires { IfSome (last self.old.spine) (IsLastLinkedFromAlone self.old) }
+        ensures parent { result ≡ last self.old.spine }
+        ensures within { IsLinkWithin (length self.new.nodes) result }
+        ensures count { IfSome result (λ _. length self.new.nodes + 1 ≡ length self.old.nodes) }
+        ensures state { self.new ≡ removed self.old }
+    {
+        let parent = self.spine.pop()?;
+        self.focus = Some(parent);
+        self.nodes.pop();
+        self.nodes[parent.get()].child = None;
+        Some(parent)
+    }
+
+    /// The parent: the last of the spine.
+    pub fn peek_up(&self) -> Option<TreeIndex>
+        ensures parent { result ≡ last self.now.spine }
+        ensures within { IsLinkWithin (length self.now.nodes) result }
+    {
+        self.spine.last().copied()
+    }
+
+    /// The parent's parent: the last but one of the spine.
+    pub fn peek_grandparent(&self) -> Option<TreeIndex>
+        ensures grandparent { result ≡ last (but_last self.now.spine) }
+        ensures within { IsLinkWithin (length self.now.nodes) result }
+    {
+        let count = self.spine_len();
+        if count >= 2 {
+            Some(self.spine[count - 2])
+        } else {
+            None
+        }
+    }
+
+    /// Whether there is no node but the dummy.
+    pub fn is_empty(&self) -> bool
+        ensures { IsTrue result ↔ (length self.now.nodes ≡ 1) }
+    {
+        self.nodes.len() <= 1
+    }
+
+    /// How many nodes the spine has.
+    pub fn spine_len(&self) -> usize
+        ensures { result ≡ length self.now.spine }
+    {
+        self.spine.len()
+    }
+
+    /// Moves the focus to the first node, if there is one, and empties the spine.
+    pub fn reset(&mut self)
+        ensures count { length self.new.nodes ≡ length self.old.nodes }
+        ensures state { self.new ≡ reset_of self.old }
+        ensures forest { (f : Focused) → StandsFor self.old f → StandsFor self.new (forest.reset_of f) }
+    {
+        self.focus = if self.is_empty() {
+            None
+        } else {
+            Some(TreeIndex { value: 1 })
+        };
+        self.spine.clear();
+    }
+
+    /// The nodes of the spine, from the root.
+    pub fn walk_spine(&self) -> std::slice::Iter<'_, TreeIndex>
+        ensures nodes { iter_rest result ≡ self.now.spine }
+        ensures within { All (λ ix. ix < length self.now.nodes) self.now.spine }
+    {
+        self.spine.iter()
+    }
+
+    /// Moves the focus to the next sibling of `ix`, or to none.
+    pub fn next_sibling(&mut self, ix: TreeIndex) -> Option<TreeIndex>
+        requires { ix < length self.old.nodes }
+        ensures sibling { result ≡ next_of self.old.nodes ix }
+        ensures within { IsLinkWithin (length self.new.nodes) result }
+        ensures count { length self.new.nodes ≡ length self.old.nodes }
+        ensures state { self.new ≡ record self.old { focus = next_of self.old.nodes ix } }
+    {
+        self.focus = self.nodes[ix.get()].next;
+        self.focus
+    }
+
+    /// Takes the next link of `ix`, and gives it to the focus, or with no focus to the parent as its child.
+    /// Where it leads to a node, the focus moves to that node.
+    pub fn truncate_to_parent(&mut self, ix: TreeIndex)
+        requires { ix < length self.old.nodes }
+        ensures count { length self.new.nodes ≡ length self.old.nodes }
+        ensures state { self.new ≡ truncated_to_parent self.old ix }
+    {
+        let next = self.nodes[ix.get()].next;
+        self.set_next(ix, None);
+        self.link_from_focus(next);
+        if next.is_some() {
+            self.focus_on(next);
+        }
+    }
+
+    /// The item of a node, to be written.
+    pub fn item_mut(&mut self, ix: TreeIndex) -> &mut T
+        requires { ix < length self.old.nodes }
+        ensures* writes_back { sem 𝓛 (lends_item T.row self.entry ix result) }
+        ensures value { item_of self.old.nodes ix ≡ Some result.now }
+        ensures count { (item : T) → length (with_item self.old.nodes ix item) ≡ length self.old.nodes }
+    {
+        &mut self.nodes[ix.get()].item
+    }
+
+    /// Gives a node this next link.
+    pub fn set_next(&mut self, ix: TreeIndex, link: Option<TreeIndex>)
+        requires index { ix < length self.old.nodes }
+        requires link { IsLinkWithin (length self.old.nodes) link }
+        ensures state { self.new ≡ record self.old { nodes = with_next self.old.nodes ix link } }
+        ensures count { length self.new.nodes ≡ length self.old.nodes }
+    {
+        self.nodes[ix.get()].next = link;
+    }
+
+    /// Gives a node this child link.
+    pub fn set_child(&mut self, ix: TreeIndex, link: Option<TreeIndex>)
+        requires index { ix < length self.old.nodes }
+        requires link { IsLinkWithin (length self.old.nodes) link }
+        ensures state { self.new ≡ record self.old { nodes = with_child self.old.nodes ix link } }
+        ensures count { length self.new.nodes ≡ length self.old.nodes }
+    {
+        self.nodes[ix.get()].child = link;
+    }
+}
+
+impl<T> Index<TreeIndex> for Tree<T> {
+    ghost use Rattle.markdown_values.specs.Tree.{IsNodeAt};
+
+    type Output = Node<T>;
+
+    ghost can_index = { λ t ix. ix < length t.nodes };
+
+    ghost index_gives = { IsNodeAt };
+
+    fn index(&self, ix: TreeIndex) -> &Node<T> {
+        &self.nodes[ix.get()]
+    }
+}
+
+impl<T: Clone> Clone for Tree<T> {
+    ghost use Rattle.markdown_values.specs.Tree.{IsTreeClone};
+
+    ghost is_clone = { IsTreeClone T.is_clone };
+
+    fn clone(&self) -> Result<Tree<T>, AllocError> {
+        let mut nodes = Vec::with_capacity(*self.nodes.allocator(), self.nodes.len())?;
+        for node in &self.nodes {
+            nodes.push(Node {
+                child: node.child,
+                next: node.next,
+                item: node.item.clone()?,
+            })?;
+        }
+        Ok(Tree {
+            nodes,
+            spine: self.spine.clone()?,
+            focus: self.focus,
+        })
+    }
+}
+
+/// An item that covers a range of the text, in bytes, for `truncate_siblings`.
+pub trait SpanItem {
+    ghost use Rattle.std.specs.Prelude.{ℕ};
+    ghost use Rattle.markdown_values.specs.Truncate.{Span};
+
+    ghost span: { Self → Span };
+
+    ghost with_range: { Self → ℕ → ℕ → Self };
+
+    /// The place of the range's first byte.
+    fn start(&self) -> usize
+        ensures { result ≡ (span self.now).start };
+
+    /// The place after the range's last byte.
+    fn end(&self) -> usize
+        ensures { result ≡ (span self.now).end };
+
+    /// Sets both ends of the range.
+    fn set_range(&mut self, start: usize, end: usize)
+        ensures { self.new ≡ with_range self.old start end };
+
+    /// Whether a backslash before the range escapes its first byte.
+    fn backslash_escaped(&self) -> bool
+        ensures { result ≡ (span self.now).escaped };
+
+    // Both ends are set, and the bit is left.
+    ghost sets_range: { (item : Self) (start end : ℕ)
+        → span (with_range item start end) ≡ record (span item) { start = start; end = end } };
+}
+
+impl<T: SpanItem + Drop> Tree<T> {
+    ghost use Rattle.std.specs.Prelude.{ℕ, List};
+    ghost use Rattle.markdown_values.specs.Tree.{last, child_of, with_item, IsLinkWithin};
+    ghost use Rattle.markdown_values.specs.Truncate.{IsChain, CanCut, CanTruncate, IsFirstOther, AllEndBefore, cut_tree, dropped_after, last_index, HasChildren, truncated, truncated_focus, FindsOther};
+
+    /// Cuts the children of the parent where its text now ends, at the byte `end`, and moves the focus to the last child
+    /// that is left of those up to there.
+    ///
+    /// Children that end before `end` stay. The first other child becomes the last where it ends there; is dropped, with
+    /// those after it, where it starts there; and else ends there and becomes the last. One that starts there behind a
+    /// backslash becomes the backslash instead, and those after it stay. Where there is no other child, nothing changes.
+    pub fn truncate_siblings(&mut self, end: usize)
+        requires parent { IsSome (last self.old.spine) }
+        requires range { IfSome (last self.old.spine) (CanTruncate T.span end self.old) }
+        ensures count { length self.new.nodes ≡ length self.old.nodes }
+        ensures kept { IfSome (last self.old.spine) (λ parent. (children : _)
+            → AllEndBefore T.span end self.old.nodes (child_of self.old.nodes parent) children
+            → self.new ≡ self.old) }
+        ensures cut { IfSome (last self.old.spine) (λ parent. (kept : _) (c : _) (later : _)
+            → IsFirstOther T.span end self.old.nodes (child_of self.old.nodes parent) kept c later
+            → self.new ≡ cut_tree T.span T.with_range end parent (last_index kept) c self.old) }
+        ensures children { IfSome (last self.old.spine) (λ parent. (spans : _)
+            → HasChildren T.span self.old parent spans
+            → HasChildren T.span self.new parent (truncated end spans)) }
+        ensures focus { IfSome (last self.old.spine) (λ parent. (spans : _)
+            → HasChildren T.span self.old parent spans
+            → self.new.focus ≡ truncated_focus end self.old.focus None spans) }
+    {
+        let parent = self.peek_up().unwrap();
+        let (previous, other) = self.first_other(parent, end);
+        if let Some(ix) = other {
+            self.cut_child(parent, previous, ix, end);
+        }
+    }
+
+    // The first child that does not end before `end`, after the child before it.
+    fn first_other(&self, parent: TreeIndex, end: usize) -> (Option<TreeIndex>, Option<TreeIndex>)
+        requires parent { parent < length self.now.nodes }
+        requires children { (spans : _) × HasChildren T.span self.now parent spans }
+        ensures { FindsOther T.span end self.now.nodes (child_of self.now.nodes parent) result.0 result.1 }
+    {
+        let mut previous: Option<TreeIndex> = None;
+        let mut next = self[parent].child;
+        while let Some(ix) = next {
+            let node = &self[ix];
+            if node.item.end() >= end {
+                return (previous, next);
+            }
+            previous = next;
+            next = node.next;
+        }
+        (previous, None)
+    }
+
+    // Cuts the child `ix`, which is the first that does not end before `end`.
+    fn cut_child(
+        &mut self,
+        parent: TreeIndex,
+        previous: Option<TreeIndex>,
+        ix: TreeIndex,
+        end: usize,
+    )
+        requires parent { parent < length self.old.nodes }
+        requires previous { IsLinkWithin (length self.old.nodes) previous }
+        requires range { IfSome (slice_get self.old.nodes ix) (λ node. CanCut end (T.span node.item)) }
+        requires index { ix < length self.old.nodes }
+        ensures count { length self.new.nodes ≡ length self.old.nodes }
+        ensures state { IfSome (slice_get self.old.nodes ix) (λ node. self.new
+            ≡ cut_tree T.span T.with_range end parent previous (ix, node) self.old) }
+    {
+        let item = &self[ix].item;
+        let start = item.start();
+        let old_end = item.end();
+        let escaped = item.backslash_escaped();
+        if old_end == end {
+            self.set_next(ix, None);
+            self.focus_on(Some(ix));
+        } else if start == end {
+            if escaped {
+                self.set_item_range(ix, end - 1, end);
+                self.focus_on(Some(ix));
+            } else {
+                self.drop_after(parent, previous);
+            }
+        } else {
+            self.set_item_range(ix, start, end);
+            self.set_next(ix, None);
+            self.focus_on(Some(ix));
+        }
+    }
+
+    // Makes `previous` the last child, or with none leaves the parent no child, and moves the focus to it.
+    fn drop_after(&mut self, parent: TreeIndex, previous: Option<TreeIndex>)
+        requires parent { parent < length self.old.nodes }
+        requires previous { IsLinkWithin (length self.old.nodes) previous }
+        ensures count { length self.new.nodes ≡ length self.old.nodes }
+        ensures state { self.new ≡ dropped_after self.old parent previous }
+    {
+        match previous {
+            Some(ix) => self.set_next(ix, None),
+            None => self.set_child(parent, None),
+        }
+        self.focus_on(previous);
+    }
+
+    // Gives the item of a node this range.
+    fn set_item_range(&mut self, ix: TreeIndex, start: usize, end: usize)
+        requires { ix < length self.old.nodes }
+        ensures state { IfSome (slice_get self.old.nodes ix) (λ node. self.new ≡ record self.old {
+          nodes = with_item self.old.nodes ix (T.with_range node.item start end);
+        }) }
+        ensures count { length self.new.nodes ≡ length self.old.nodes }
+    {
+        self.item_mut(ix).set_range(start, end);
+    }
+}
