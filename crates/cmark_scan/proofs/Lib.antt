@@ -1,4 +1,5 @@
 pub mod FaultLemmas
+pub mod LabelLemmas
 mod Numbers
 mod Outcomes
 mod Pairs

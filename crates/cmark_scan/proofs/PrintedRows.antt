@@ -1,14 +1,14 @@
 -- Worked examples of words and of printed text, computed from the definitions.
-use Rattle.std.proofs.Common.{◌≡◌, refl, [], ◌∷◌, ◌++◌, Some, None, true}
+use Rattle.std.proofs.Common.{◌≡◌, refl, [], ◌∷◌, ◌++◌, Some, None, true, false}
 use Rattle.std.specs.Prelude.{codes}
 use Rattle.std.specs.Fmt.{digits}
 use Rattle.markdown_scanners_tree.specs.declared.line.LineCall.TheVariants as call
 use Rattle.markdown_scanners_tree.specs.declared.line.LineAnswer.TheVariants as answer
 use Rattle.markdown_scanners_tree.specs.declared.line.LineStop.TheVariants.{SpacePending}
-use Rattle.cmark_scan.specs.Words.{call_of, request_of, scan_line, scan_html, scan_unescape}
+use Rattle.cmark_scan.specs.Words.{call_of, request_of, scan_line, scan_html, scan_unescape, scan_label}
 use Rattle.cmark_scan.specs.EntityTexts.{entity_text}
 use Rattle.cmark_scan.specs.HtmlScans.{scans_from, scans_of}
-use Rattle.cmark_scan.specs.Printed.{run_text, html_text, line_of}
+use Rattle.cmark_scan.specs.Printed.{run_text, html_text, label_lines, line_of}
 use Rattle.markdown_scanners_tree.specs.InlineHtml.{declared_at, opening_at, least_place, cost}
 
 largest_number : call_of (codes "upto:18446744073709551615") ≡ Some (call.Upto 18446744073709551615)
@@ -60,6 +60,16 @@ scans = refl
 no_scans : html_text [] (scans_of []) ≡ line_of (codes "passed 0 of 0")
 unfolding digits declared_at opening_at least_place cost scans_from
 no_scans = refl
+
+label_word : request_of (codes "label" ∷ []) ≡ Some scan_label
+label_word = refl
+
+word_after_label : request_of (codes "label" ∷ codes "label" ∷ []) ≡ None
+word_after_label = refl
+
+label : label_lines 9 false (codes "Foo Bar") ≡ line_of (codes "bytes 9") ++ line_of (codes "borrowed false") ++ line_of (codes "label Foo Bar")
+unfolding digits
+label = refl
 
 unescape_word : request_of (codes "unescape" ∷ []) ≡ Some scan_unescape
 unescape_word = refl

@@ -2,6 +2,7 @@ pub mod Command
 pub mod EntityTexts
 pub mod Faults
 pub mod HtmlScans
+pub mod LabelRun
 pub mod Printed
 pub mod Report
 pub mod Run

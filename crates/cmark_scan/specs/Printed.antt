@@ -13,8 +13,10 @@ use Rattle.markdown_scanners_tree.specs.InlineHtmlPassed.{bytes_passed}
 use Rattle.markdown_scanners_tree.specs.Unescaping.{Piece, ArePieces, joined_meanings}
 use Rattle.cmark_scan.specs.EntityTexts.{entity_text}
 use Rattle.cmark_scan.specs.HtmlScans.{scans_of, places_of}
+use Rattle.markdown_scanners_tree.specs.Label.{Label}
+use Rattle.cmark_scan.specs.LabelRun.{IsLabelOf}
 use Rattle.cmark_scan.specs.Run.{Run, run_of}
-use Rattle.cmark_scan.specs.Words.{Request, scan_line, scan_html, scan_unescape}
+use Rattle.cmark_scan.specs.Words.{Request, scan_line, scan_html, scan_unescape, scan_label}
 
 -- a line of output
 abbrev pub line_of : List ℕ → List ℕ
@@ -89,6 +91,10 @@ html_text text scans =
     flat_map scan_text scans
     ++ line_of (codes "passed " ++ decimal (bytes_passed text (places_of scans)) ++ codes " of " ++ decimal (4 * length text + 8 * length scans))
 
+-- a label: how many bytes it takes, whether its text is lent, and its text
+abbrev pub label_lines : ℕ → Bool → List ℕ → List ℕ
+label_lines taken borrowed text = line_of (codes "bytes " ++ decimal taken) ++ line_of (codes "borrowed " ++ flag_text borrowed) ++ line_of (codes "label " ++ text)
+
 -- what is printed, and the status
 pub record Outcome : Type 0 where
   pub printed : List ℕ
@@ -98,6 +104,16 @@ pub record Outcome : Type 0 where
 abbrev pub stop_status : Option (ℕ × LineStop) → ℕ
 stop_status None = 0
 stop_status (Some stop) = 1
+
+abbrev pub printed_label : Label → Outcome
+printed_label label = record { printed = label_lines label.len label.plain label.text; status = 0 }
+
+-- the label of a text; `none` and status 1 where there is no label, status 1 alone where the input is no text
+abbrev pub IsLabelOutcome : List ℕ → Outcome → Type 0
+IsLabelOutcome input outcome =
+    (IsUtf8 input × ((label : Label) × IsLabelOf input label × (outcome ≡ printed_label label)))
+    ⊎ (IsUtf8 input × ((label : Label) → ¬ IsLabelOf input label) × (outcome ≡ record { printed = line_of (codes "none"); status = 1 }))
+    ⊎ ((¬ IsUtf8 input) × (outcome ≡ record { printed = []; status = 1 }))
 
 -- for `unescape`: what the pieces of the input mean, or nothing and status 1 where it isn't UTF-8
 abbrev pub IsUnescaped : List ℕ → Outcome → Type 0
@@ -111,3 +127,4 @@ IsOutcome (scan_line calls) input outcome =
     outcome ≡ record { printed = run_text calls (run_of calls input); status = stop_status (run_of calls input).stop }
 IsOutcome scan_html input outcome = outcome ≡ record { printed = html_text input (scans_of input); status = 0 }
 IsOutcome scan_unescape input outcome = IsUnescaped input outcome
+IsOutcome scan_label input outcome = IsLabelOutcome input outcome

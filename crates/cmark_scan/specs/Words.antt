@@ -45,12 +45,14 @@ pub data Request : Type 0 where
   scan_line : List LineCall → Request
   scan_html : Request
   scan_unescape : Request
+  scan_label : Request
 
--- the request that the words make, where they make one: `line` and words that each ask for a call; `html` or `unescape` alone
+-- the request that the words make, where they make one: `line` and words that each ask for a call; `html`, `unescape` or `label` alone
 abbrev pub request_of : List (List ℕ) → Option Request
 request_of [] = None
 request_of (word ∷ words) =
     if bytes_eq word (codes "line") && are_calls words then Some (scan_line (calls_of words))
     else (if bytes_eq word (codes "html") && length words == 0 then Some scan_html
     else (if bytes_eq word (codes "unescape") && length words == 0 then Some scan_unescape
-    else None))
+    else (if bytes_eq word (codes "label") && length words == 0 then Some scan_label
+    else None)))

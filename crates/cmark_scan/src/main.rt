@@ -3,6 +3,7 @@
 
 mod faults;
 mod html;
+mod label;
 mod printing;
 pub mod program;
 mod reading;

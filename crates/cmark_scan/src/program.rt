@@ -9,6 +9,7 @@ ghost use Rattle.cmark_scan.specs.Faults.{fault_line, IsBeforeWriting, Tells};
 
 use crate::faults::{Fault, complain, report_fault};
 use crate::html::html_text;
+use crate::label::label_report;
 use crate::printing::run_text;
 use crate::reading::read_all;
 use crate::unescaping::unescaped_text;
@@ -33,7 +34,7 @@ pub(crate) enum Report {
 
 /// Runs the program on its words, without its name, and answers its status.
 ///
-/// 0: done. 1: the run stopped before one of its calls, or the input of `unescape` isn't UTF-8. 2: other words, and the input is not read.
+/// 0: done. 1: the run stopped before one of its calls, there is no label, or the input of `unescape` or `label` isn't UTF-8. 2: other words, and the input is not read.
 /// 3: a fault of the reader, of memory or of the writer. All output is built before any of it is written.
 pub fn run_program<R: Read, W: Write, V: Write>(
     alloc: Global,
@@ -105,6 +106,7 @@ fn report_on(alloc: Global, command: Command<'_>, bytes: &[u8]) -> Result<Report
         Command::Line(words) => report_on_line(alloc, words, bytes),
         Command::Html => Ok(Report::Done(html_text(alloc, bytes)?)),
         Command::Unescape => report_on_text(alloc, bytes),
+        Command::Label => Ok(label_report(alloc, bytes)?),
     }
 }
 

@@ -1,4 +1,5 @@
 mod html;
+mod label;
 mod unescaping;
 
 use crate::program::run_program;
@@ -333,7 +334,7 @@ fn refuses_other_words(rt: HostRuntime) -> std::result::Result<(), Fail> {
         &["html", "html"],
         &["html", ""],
         &["line", "html"],
-        &["label"],
+        &["label", "label"],
         &["unescape", ""],
         &["line", "line"],
         &["line", ""],

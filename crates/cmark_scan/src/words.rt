@@ -14,6 +14,7 @@ pub(crate) enum Command<'a> {
     Line(&'a [&'a str]),
     Html,
     Unescape,
+    Label,
 }
 
 /// What the words ask for. No memory is taken.
@@ -28,6 +29,8 @@ pub(crate) fn parse_command<'a>(words: &'a [&'a str]) -> Option<Command<'a>>
         Some(Command::Html)
     } else if *first == "unescape" && others.is_empty() {
         Some(Command::Unescape)
+    } else if *first == "label" && others.is_empty() {
+        Some(Command::Label)
     } else {
         None
     }

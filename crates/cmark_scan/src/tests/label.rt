@@ -1,0 +1,55 @@
+//! Runs of the command for labels.
+use super::{Row, assert_rows};
+use crate::program::run_program;
+use std::test::Fail;
+
+const LABEL: &[&str] = &["label"];
+
+#[test]
+fn prints_labels(rt: HostRuntime) -> Result<(), Fail> {
+    let rows = [
+        Row {
+            words: LABEL,
+            input: b"Foo  Bar]",
+            status: 0,
+            printed: "bytes 9\nborrowed false\nlabel Foo Bar\n",
+        },
+        Row {
+            words: LABEL,
+            input: b"a\\ ]",
+            status: 0,
+            printed: "bytes 4\nborrowed true\nlabel a\\\n",
+        },
+        Row {
+            words: LABEL,
+            input: b"hello\r\nworld\r\n]",
+            status: 0,
+            printed: "bytes 15\nborrowed false\nlabel hello world\n",
+        },
+        Row {
+            words: LABEL,
+            input: b"a\n\nb]",
+            status: 1,
+            printed: "none\n",
+        },
+        Row {
+            words: LABEL,
+            input: b"",
+            status: 1,
+            printed: "none\n",
+        },
+    ];
+    assert_rows(&rt, rt.alloc(), &rows)
+}
+
+#[test]
+fn tells_of_bytes_that_are_no_text(rt: HostRuntime) -> Result<(), Fail> {
+    let mut input = b"a]\xff".as_slice();
+    let mut output = Vec::new(rt.alloc());
+    let mut faults = Vec::new(rt.alloc());
+    let status = run_program(rt.alloc(), LABEL, &mut input, &mut output, &mut faults);
+    assert_eq!(rt; status, 1);
+    assert_eq!(rt; output.len(), 0);
+    assert_eq!(rt; faults.as_slice(), b"not UTF-8\n".as_slice());
+    Ok(())
+}
