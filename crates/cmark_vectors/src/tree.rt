@@ -87,6 +87,15 @@ fn forest(alloc: Global, tree: &mut Tree<Piece>) -> Result<String, AllocError> {
     Ok(text)
 }
 
+// The names on the spine, from the root.
+fn spine_names(alloc: Global, tree: &Tree<Piece>) -> Result<String, AllocError> {
+    let mut text = String::new(alloc);
+    for ix in tree.walk_spine().as_slice() {
+        text.push(tree[*ix].item.name)?;
+    }
+    Ok(text)
+}
+
 // A, in it B, and in that C and D, of which D is in focus.
 fn nested(alloc: Global) -> Result<(Tree<Piece>, [TreeIndex; 4]), AllocError>
     ensures count { IfOk result (λ made. length made.0.nodes ≡ 5) }
@@ -134,6 +143,7 @@ fn spines(rt: HostRuntime) -> Result<(), Fail> {
     assert_eq!(rt; spine.next(), Some(&a));
     assert_eq!(rt; spine.next(), Some(&b));
     assert_eq!(rt; spine.next(), None);
+    assert_eq!(rt; spine_names(rt.alloc(), &tree)?.as_str(), "AB");
     assert_eq!(rt; tree.pop(), Some(b));
     assert_eq!(rt; tree.peek_grandparent(), None);
     tree.truncate_to_parent(c);

@@ -56,7 +56,7 @@ reset_isolated : reset_of (appended (with_node (empty_tree 0) 65) 66) ≡ record
 unfolding node
 reset_isolated = refl
 
-pub span : ℕ → ℕ → Bool → Span
+span : ℕ → ℕ → Bool → Span
 span start end escaped = record { start = start; end = end; escaped = escaped }
 
 cut_inside : truncated 4 ((1, span 0 3 false) ∷ (2, span 3 5 false) ∷ (3, span 5 9 false) ∷ []) ≡ (1, span 0 3 false) ∷ (2, span 3 4 false) ∷ []
@@ -91,7 +91,7 @@ cut_alone_focus : truncated_focus 4 (Some 7) None ((1, span 4 6 false) ∷ []) �
 unfolding span
 cut_alone_focus = refl
 
-pub cut_nothing : truncated 5 ((1, span 0 1 false) ∷ []) ≡ (1, span 0 1 false) ∷ []
+cut_nothing : truncated 5 ((1, span 0 1 false) ∷ []) ≡ (1, span 0 1 false) ∷ []
 unfolding span
 cut_nothing = refl
 

@@ -4,7 +4,7 @@ use Rattle.markdown_values.specs.declared.tree.Node.{Node}
 use Rattle.markdown_values.specs.Linked.{Linked}
 use Rattle.markdown_values.specs.Tree.{last, child_of, with_next, with_child, with_item}
 
--- the range of a child, and whether a backslash escapes its first byte
+-- the range of a child, and whether a backslash escapes its first byte (CommonMark 0.31.2, section 2.4)
 pub record Span : Type 0 where
   pub start : ℕ
   pub end : ℕ

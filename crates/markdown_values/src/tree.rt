@@ -294,7 +294,7 @@ impl<T: Drop> Tree<T> {
     /// The nodes of the spine, from the root.
     pub fn walk_spine(&self) -> std::slice::Iter<'_, TreeIndex>
         ensures nodes { iter_rest result ≡ self.now.spine }
-        ensures within { All (λ ix. ix < length self.now.nodes) self.now.spine }
+        ensures within { All (λ ix. ix < length self.now.nodes) (iter_rest result) }
     {
         self.spine.iter()
     }
@@ -331,6 +331,7 @@ impl<T: Drop> Tree<T> {
         requires { ix < length self.old.nodes }
         ensures* writes_back { sem 𝓛 (lends_item T.row self.entry ix result) }
         ensures value { item_of self.old.nodes ix ≡ Some result.now }
+        // Whatever is written, there are as many nodes as before.
         ensures count { (item : T) → length (with_item self.old.nodes ix item) ≡ length self.old.nodes }
     {
         &mut self.nodes[ix.get()].item
@@ -438,12 +439,15 @@ impl<T: SpanItem + Drop> Tree<T> {
         requires parent { IsSome (last self.old.spine) }
         requires range { IfSome (last self.old.spine) (CanTruncate T.span end self.old) }
         ensures count { length self.new.nodes ≡ length self.old.nodes }
+        // Where every child ends before `end`, nothing changes.
         ensures kept { IfSome (last self.old.spine) (λ parent. (children : _)
             → AllEndBefore T.span end self.old.nodes (child_of self.old.nodes parent) children
             → self.new ≡ self.old) }
+        // Else the first other child, c, is cut behind those that are kept.
         ensures cut { IfSome (last self.old.spine) (λ parent. (kept : _) (c : _) (later : _)
             → IsFirstOther T.span end self.old.nodes (child_of self.old.nodes parent) kept c later
             → self.new ≡ cut_tree T.span T.with_range end parent (last_index kept) c self.old) }
+        // The same, by the ranges of the children.
         ensures children { IfSome (last self.old.spine) (λ parent. (spans : _)
             → HasChildren T.span self.old parent spans
             → HasChildren T.span self.new parent (truncated end spans)) }
