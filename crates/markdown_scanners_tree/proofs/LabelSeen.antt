@@ -100,7 +100,7 @@ copied_more source bs seen b ix h = h ∙ sym (append_assoc (bytes_of seen) (b �
 white_begins : (b : ℕ) → is_white_space b ≡ true → begun b ≡ 1
 white_begins b w = grind (arith, nat_tests, w)
 
-word_len : (w r d : Bool) (b : ℕ) → length (space_of w r ++ cond d [] (b ∷ [])) ≡ space_len w r + cond d 0 1
+pub word_len : (w r d : Bool) (b : ℕ) → length (space_of w r ++ cond d [] (b ∷ [])) ≡ space_len w r + cond d 0 1
 word_len w r d b = by (w && r) d
   where
     by : (x y : Bool) → length (cond x (32 ∷ []) [] ++ cond y [] (b ∷ [])) ≡ cond x 1 0 + cond y 0 1

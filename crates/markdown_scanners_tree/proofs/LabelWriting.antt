@@ -12,7 +12,7 @@ use Rattle.markdown_scanners_tree.proofs.LabelCells.{space_of}
 use Rattle.markdown_scanners_tree.proofs.LabelScan.{IsAt, from_closing, cut_after, same_take}
 use Rattle.markdown_scanners_tree.proofs.LabelSeen.{Written, Written-word, Written-space, Written-ending, all_written}
 
-text_of_label : (t : Bool) (b : Bracketed) (label : Label) → label_between t (Some b) ≡ Some label → label.text ≡ joined_words (in_cell t b.content)
+pub text_of_label : (t : Bool) (b : Bracketed) (label : Label) → label_between t (Some b) ≡ Some label → label.text ≡ joined_words (in_cell t b.content)
 text_of_label t b label e = by (is_label_content b.content) e
   where
     by : (v : Bool) → cond v (Some (record { len = b.close + 1; text = joined_words (in_cell t b.content); plain = is_plain t b.content })) None ≡ Some label → label.text ≡ joined_words (in_cell t b.content)

@@ -29,6 +29,7 @@ pub mod LabelCells
 pub mod LabelKeys
 pub mod LabelMeasure
 pub mod LabelReads
+pub mod LabelRoom
 pub mod LabelRows
 pub mod LabelRuns
 pub mod LabelScan

@@ -4,6 +4,7 @@ ghost use Rattle.std.specs.Cmp.{on_equiv, on_per, partial_equiv_from_equiv};
 ghost use Rattle.std.specs.Cmp.Lexicographic.{pointwise, nat_list_eq_equiv};
 ghost use Rattle.std.specs.Cmp.Rules.{hashing};
 ghost use Rattle.std.specs.Hash as fed;
+ghost use Rattle.std.specs.String.{string_len, string_capacity};
 ghost use Rattle.std.proofs.Common.{rules};
 ghost use Rattle.markdown_values.specs.Text.{cow_text};
 ghost use Rattle.markdown_scanners_tree.specs.Handler.{Skips, IsSteadyAtChars};
@@ -349,7 +350,7 @@ fn up_to_last_space(text: &str) -> &str
     &text[..text.len() - 1]
 }
 
-// The second pass: appends the label's text.
+// The second pass: appends the label's text. Where there is room for it no memory is taken.
 fn write_label<F: Fn(&[u8]) -> Option<usize>>(
     out: &mut String,
     text: &str,
@@ -359,6 +360,7 @@ fn write_label<F: Fn(&[u8]) -> Option<usize>>(
     requires callable { F.IsAlwaysCallable handler.now }
     requires steady { IsSteadyAtChars F.Fn handler.now }
     ensures written { (label : Label) → IsLabel (Skips F.Fn handler.now) text.now is_in_table label → OnOk result (string_bytes out.new ≡ string_bytes out.old ++ label.text) }
+    ensures fits { (label : Label) → IsLabel (Skips F.Fn handler.now) text.now is_in_table label → string_len out.old + length label.text ≤ string_capacity out.old → IsOk result }
 {
     let bytes = text.as_bytes();
     let mut ix = 0;

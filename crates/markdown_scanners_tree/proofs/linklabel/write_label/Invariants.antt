@@ -1,6 +1,6 @@
-use Rattle.std.proofs.Common.{length, ◌-◌, ◌≡◌, ◌≤◌, ◌++◌, true, ℕ, List, drop, take}
+use Rattle.std.proofs.Common.{length, ◌-◌, ◌+◌, ◌≡◌, ◌≤◌, ◌++◌, true, ℕ, List, drop, take}
 use Rattle.std.specs.Str.{IsCharBoundary}
-use Rattle.std.specs.String.{string_bytes}
+use Rattle.std.specs.String.{string_bytes, string_len, string_capacity}
 use Rattle.markdown_scanners_tree.specs.Kept.{KeptByte}
 use Rattle.markdown_scanners_tree.specs.Handler.{Skips}
 use Rattle.markdown_scanners_tree.proofs.LabelScan.{IsAt}
@@ -18,6 +18,8 @@ invariant-loop-out g l = record {
   pushed : List ℕ;
   written : Written l.is_in_table seen l.ix (drop l.ix l.fn.text) l.has_word l.in_run pushed;
   same : string_bytes l.initial.out ++ pushed ≡ string_bytes l.out ++ take (l.ix - l.mark) (drop l.mark l.fn.text);
+  counts : string_len l.initial.out + length pushed ≡ string_len l.out + (l.ix - l.mark);
+  room : string_capacity l.initial.out ≤ string_capacity l.out;
 }
 
 abbrev pub decreases-loop-out : goal.decreases-loop-out
