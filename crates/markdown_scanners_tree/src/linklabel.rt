@@ -363,11 +363,9 @@ fn write_label<F: Fn(&[u8]) -> Option<usize>>(
     ensures fits { (label : Label) → IsLabel (Skips F.Fn handler.now) text.now is_in_table label → string_len out.old + length label.text ≤ string_capacity out.old → IsOk result }
 {
     let bytes = text.as_bytes();
-    let mut ix = 0;
-    let mut mark = 0;
+    let (mut ix, mut mark) = (0, 0);
     let mut escaped = false;
-    let mut has_word = false;
-    let mut in_run = false;
+    let (mut has_word, mut in_run) = (false, false);
     loop {
         match front_of(&bytes[ix..], escaped) {
             Front::End | Front::Open | Front::Close => return out.push_str(&text[mark..ix]),
