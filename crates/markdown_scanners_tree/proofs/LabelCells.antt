@@ -37,7 +37,7 @@ dropped_is t ix b bs ks f = ap (λ v. t && (b == 92 && v)) f
 no_backslash : (k : KeptByte) (ks : List KeptByte) → (k.byte == 92) ≡ false → (t : Bool) → in_cell t (k ∷ ks) ≡ k ∷ in_cell t ks
 no_backslash k ks h t = in_cell-cons t k ks ∙ ap (λ v. cond v (in_cell t ks) (k ∷ in_cell t ks)) (ap (λ v. t && (v && pipe_at (k.place + 1) ks)) h ∙ and-false t)
 
-white_no_backslash : (b : ℕ) → is_white_space b ≡ true → (b == 92) ≡ false
+pub white_no_backslash : (b : ℕ) → is_white_space b ≡ true → (b == 92) ≡ false
 white_no_backslash b w = by (b == 92) (eqb-true b 92)
   where
     by : (x : Bool) → (x ≡ true → b ≡ 92) → x ≡ false

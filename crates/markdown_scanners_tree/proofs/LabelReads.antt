@@ -10,6 +10,8 @@ use Rattle.markdown_scanners_tree.specs.Kept.{KeptByte, in_line, bytes_of, kept_
 use Rattle.markdown_scanners_tree.specs.Label.{Label, IsLabel, Piece, escaped, single, pieces, Bracketed, preceded, bracketed, is_white, white_runs, characters, is_one_space, is_label_content, joined_words, label_between, label_of, ends_in_backslash, ReadsBack}
 use Rattle.markdown_scanners_tree.specs.LabelPass.{begun, space_len}
 use Rattle.markdown_scanners_tree.proofs.LabelRuns.{few, few-white_runs, lone, lone_runs}
+use Rattle.markdown_scanners_tree.proofs.LabelScan.{dark_no_ending}
+use Rattle.markdown_scanners_tree.proofs.LabelSeen.{white_begins}
 use Rattle.markdown_scanners_tree.proofs.LabelSteps.{punctuation_next}
 use Rattle.markdown_scanners_tree.proofs.LabelWords.{text_from, joined_words-from}
 
@@ -66,9 +68,6 @@ clean_pieces (k ∷ []) = one (k.byte == 93) (k.byte == 91) refl refl
     one false false e f = (refl, λ h. refl)
 clean_pieces (k ∷ l ∷ ks) = by (k.byte == 92 && is_punctuation l.byte) refl (clean_pieces ks).0 (clean_pieces (l ∷ ks))
   where
-    none : Option Bracketed
-    none = None
-
     one : (b : Option Bracketed) → clean_of false b ≡ true → ((k.byte == 92) ≡ true → clean_of true b ≡ true) → (x y : Bool) → (k.byte == 93) ≡ x → (k.byte == 91) ≡ y → (clean_of false (cond x (Some (record { content = []; close = k.place })) (cond y None (preceded (k ∷ []) b))) ≡ true) × (is_punctuation k.byte ≡ false → clean_of true (cond x (Some (record { content = []; close = k.place })) (cond y None (preceded (k ∷ []) b))) ≡ true)
     one b h f true y c o = (refl, λ h. refl)
     one b h f false true c o = (refl, λ h. refl)
@@ -165,12 +164,6 @@ characters-cons k ks = sum_by-cons (λ l. begun l.byte) k ks
 space_at_most : (w r : Bool) → space_len w r ≤ 1
 space_at_most w r = elim (w && r) as (λ v. cond v 1 0 ≤ 1) [ true ↦ omega arith | false ↦ omega arith ]
 
-dark_in_line : (b : ℕ) → is_white_space b ≡ false → is_line_ending b ≡ false
-dark_in_line b h = grind (arith, nat_tests, h)
-
-white_begins : (b : ℕ) → is_white_space b ≡ true → begun b ≡ 1
-white_begins b h = grind (arith, nat_tests, h)
-
 -- a word's byte, written alone or after a space
 again_alone : (w : Bool) (k : KeptByte) (ks : List KeptByte) (p : ℕ) → is_white k ≡ false → ((q : ℕ) → IsAgain true false ks q)
     → (r : Bool) → text_from w r (k ∷ ks) ≡ k.byte ∷ text_from true false ks → IsAgain w r (k ∷ ks) p
@@ -181,7 +174,7 @@ again_alone w k ks p d more r e =
       few_again = subst (λ z. few false (placed p z) ≡ true) (sym e) (rw d m.few_again);
       white_again = subst (λ z. list_all is_white (placed p z) ≡ list_all is_white (k ∷ ks)) (sym e) (rw d refl);
       counts = subst (λ z. characters (placed p z) ≤ characters (k ∷ ks) + space_len w r) (sym e) (omega (arith, characters-cons (in_line k.byte p) (placed (p + 1) (text_from true false ks)), characters-cons k ks, m.counts));
-      in_line_again = subst (λ z. list_all (λ b. not (is_line_ending b)) z ≡ true) (sym e) (rw (dark_in_line k.byte d) m.in_line_again);
+      in_line_again = subst (λ z. list_all (λ b. not (is_line_ending b)) z ≡ true) (sym e) (rw (dark_no_ending k.byte d) m.in_line_again);
     }
 
 again_spaced : (k : KeptByte) (ks : List KeptByte) (p : ℕ) → is_white k ≡ false → ((q : ℕ) → IsAgain true false ks q) → IsAgain true true (k ∷ ks) p
@@ -194,7 +187,7 @@ again_spaced k ks p d more =
       white_again = subst (λ z. list_all is_white (placed p z) ≡ list_all is_white (k ∷ ks)) (sym e) (rw d refl);
       counts = subst (λ z. characters (placed p z) ≤ characters (k ∷ ks) + 1) (sym e)
           (omega (arith, characters-cons (in_line 32 p) (in_line k.byte (p + 1) ∷ placed (p + 1 + 1) (text_from true false ks)), characters-cons (in_line k.byte (p + 1)) (placed (p + 1 + 1) (text_from true false ks)), characters-cons k ks, m.counts));
-      in_line_again = subst (λ z. list_all (λ b. not (is_line_ending b)) z ≡ true) (sym e) (rw (dark_in_line k.byte d) m.in_line_again);
+      in_line_again = subst (λ z. list_all (λ b. not (is_line_ending b)) z ≡ true) (sym e) (rw (dark_no_ending k.byte d) m.in_line_again);
     }
 
 again : (ks : List KeptByte) (w r : Bool) (p : ℕ) → IsAgain w r ks p

@@ -1,20 +1,16 @@
 -- What was written of a label is no longer than the label.
 use Rattle.std.proofs.Common.{ℕ, Bool, true, false, ◌&&◌, ◌==◌, List, [], ◌∷◌, ◌++◌, ◌≡◌, ◌≤◌, ◌<◌, ◌+◌, Option, Some, None, refl, sym, ◌∙◌, ap, cond, arith, drop, length, length-append, true≢false, eqb-true, add-zero, ◌-◌}
-use Rattle.std.proofs.lemmas.Bool.Decides.{nat_tests}
 use Rattle.markdown_scanners_tree.specs.Bytes.{is_line_ending, is_punctuation}
 use Rattle.markdown_scanners_tree.specs.Kept.{KeptByte, in_line, kept_head, line_len, kept_from, AreSkips}
 use Rattle.markdown_scanners_tree.specs.Label.{Label, IsLabel, escaped, single, pieces, Bracketed, preceded, bracketed, label_between, pipe_at, in_cell}
 use Rattle.markdown_scanners_tree.specs.LabelPass.{space_len}
 use Rattle.markdown_scanners_tree.proofs.KeptStep.{kept_from-in_line}
-use Rattle.markdown_scanners_tree.proofs.LabelCells.{is_pipe, Follows, follows_byte, gap_of_line}
+use Rattle.markdown_scanners_tree.proofs.LabelCells.{Follows, follows_byte, gap_of_line}
 use Rattle.markdown_scanners_tree.proofs.LabelScan.{IsAt}
-use Rattle.markdown_scanners_tree.proofs.LabelSeen.{Written}
+use Rattle.markdown_scanners_tree.proofs.LabelSeen.{Written, ending_no_pipe}
 use Rattle.markdown_scanners_tree.proofs.LabelSteps.{bracketed_after}
 use Rattle.markdown_scanners_tree.proofs.LabelWords.{text_from, joined_words-from}
 use Rattle.markdown_scanners_tree.proofs.LabelWriting.{text_of_label}
-
-ending_no_pipe : (b : ℕ) → is_line_ending b ≡ true → is_pipe b ≡ false
-ending_no_pipe b h = grind (arith, nat_tests, h)
 
 -- a kept text begins with a pipe where its source does
 kept_follows : (a : List ℕ → ℕ → Type 0) (ix : ℕ) (rest skips : List ℕ) → AreSkips a rest skips → Follows ix rest (kept_from ix rest skips)

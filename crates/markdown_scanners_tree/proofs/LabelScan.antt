@@ -14,6 +14,7 @@ use Rattle.markdown_scanners_tree.specs.LabelFront.{IsBracket, IsEnding, IsSpace
 use Rattle.markdown_scanners_tree.specs.LabelPass.{IsOnlySkip, begun, space_len, starts_dropped}
 use Rattle.markdown_scanners_tree.specs.declared.linklabel.Front.{Front}
 use Rattle.markdown_scanners_tree.specs.declared.linklabel.Tally.{Tally}
+use Rattle.markdown_scanners_tree.proofs.LabelCells.{white_no_backslash}
 use Rattle.markdown_scanners_tree.proofs.LabelSteps.{Goes, past_byte, at_byte, no_label_at_end, no_label_at_opening, label_at_closing, closing_label, past_ending, at_ending, no_label_at_ending, ending_seen, label_from}
 use Rattle.markdown_scanners_tree.proofs.LabelSeen.{Seen, Seen-word, Seen-space, Seen-ending, two_endings}
 
@@ -33,13 +34,10 @@ white_not_punctuation b w p = grind (arith, nat_tests, w, p)
 white_no_bracket : (b : ℕ) → is_white_space b ≡ true → ((b == 93) ≡ false) × ((b == 91) ≡ false)
 white_no_bracket b w = (grind (arith, nat_tests, w), grind (arith, nat_tests, w))
 
-white_no_backslash : (b : ℕ) → is_white_space b ≡ true → (b == 92) ≡ false
-white_no_backslash b w = grind (arith, nat_tests, w)
-
 ending_white : (b : ℕ) → is_line_ending b ≡ true → is_white_space b ≡ true
 ending_white b h = grind (arith, nat_tests, h)
 
-dark_no_ending : (b : ℕ) → is_white_space b ≡ false → is_line_ending b ≡ false
+pub dark_no_ending : (b : ℕ) → is_white_space b ≡ false → is_line_ending b ≡ false
 dark_no_ending b h = grind (arith, nat_tests, h)
 
 module _ (a : List ℕ → ℕ → Type 0) (source : List ℕ) where

@@ -41,7 +41,7 @@ pub Written-space : (t : Bool) (seen : List KeptByte) (ix b : ℕ) (bs : List �
 Written-space t seen ix b bs w r pushed d s = subst (Written t (seen ++ in_line b ix ∷ []) (ix + 1) bs w true) (append-nil pushed)
     (written_more t seen (in_line b ix ∷ []) ix (ix + 1) (b ∷ bs) bs w r w true pushed [] s (λ ks f. (follows_byte ix b bs ks, text_from-white t w r (in_line b ix) ks d)))
 
-ending_no_pipe : (b : ℕ) → is_line_ending b ≡ true → is_pipe b ≡ false
+pub ending_no_pipe : (b : ℕ) → is_line_ending b ≡ true → is_pipe b ≡ false
 ending_no_pipe b h = grind (arith, nat_tests, h)
 
 pub Written-ending : (t : Bool) (seen : List KeptByte) (ix b jx : ℕ) (bs rest' : List ℕ) (w r : Bool) (pushed : List ℕ) → is_line_ending b ≡ true → Written t seen ix (b ∷ bs) w r pushed
@@ -97,7 +97,7 @@ copied_more : (source bs : List ℕ) (seen : List KeptByte) (b ix : ℕ) → sou
 copied_more source bs seen b ix h = h ∙ sym (append_assoc (bytes_of seen) (b ∷ []) bs) ∙ ap (λ z. z ++ bs) (sym (map-append (λ k. k.byte) seen (in_line b ix ∷ [])))
 
 -- white space is no byte that goes on with a character
-white_begins : (b : ℕ) → is_white_space b ≡ true → begun b ≡ 1
+pub white_begins : (b : ℕ) → is_white_space b ≡ true → begun b ≡ 1
 white_begins b w = grind (arith, nat_tests, w)
 
 pub word_len : (w r d : Bool) (b : ℕ) → length (space_of w r ++ cond d [] (b ∷ [])) ≡ space_len w r + cond d 0 1
