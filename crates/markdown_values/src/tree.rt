@@ -1,5 +1,5 @@
 //! A tree of linked nodes, built in the order of its text, one node at a time.
-ghost use Rattle.std.specs.Prelude.{◌≡◌, ◌≢◌, ◌+◌, ◌-◌, ◌<◌, ◌≤◌, ◌==◌, ◌++◌, ◌∷◌, [], IfOk, OnErr, IsTrue, ◌↔◌, length, slice_get, Some, None, ◌^◌, suc, IsSome, IfSome, All};
+ghost use Rattle.std.specs.Prelude.{◌≡◌, ◌+◌, ◌-◌, ◌<◌, IfOk, OnErr, IsTrue, ◌↔◌, length, slice_get, Some, None, ◌^◌, IsSome, IfSome, All};
 ghost use Rattle.std.specs.Borrow.{sem};
 ghost use Rattle.std.specs.Slice.Iter.{iter_rest};
 
@@ -425,9 +425,8 @@ pub trait SpanItem {
 }
 
 impl<T: SpanItem + Drop> Tree<T> {
-    ghost use Rattle.std.specs.Prelude.{ℕ, List};
     ghost use Rattle.markdown_values.specs.Tree.{last, child_of, with_item, IsLinkWithin};
-    ghost use Rattle.markdown_values.specs.Truncate.{IsChain, CanCut, CanTruncate, IsFirstOther, AllEndBefore, cut_tree, dropped_after, last_index, HasChildren, truncated, truncated_focus, FindsOther};
+    ghost use Rattle.markdown_values.specs.Truncate.{CanCut, CanTruncate, IsFirstOther, AllEndBefore, cut_tree, dropped_after, last_index, HasChildren, truncated, truncated_focus, FindsOther};
 
     /// Cuts the children of the parent where its text now ends, at the byte `end`, and moves the focus to the last child
     /// that is left of those up to there.
