@@ -4,7 +4,7 @@ use Rattle.markdown_values.specs.declared.tree.Node.{Node}
 use Rattle.markdown_values.specs.Linked.{Linked}
 use Rattle.markdown_values.specs.Tree.{last, appended}
 use Rattle.markdown_values.specs.Truncate.{first_other, CanCut, CanTruncate}
-use Rattle.cmark_vectors.specs.declared.tree.Piece.{Piece}
+use Rattle.cmark_vectors.specs.declared.pieces.Piece.{Piece}
 use Rattle.cmark_vectors.specs.Pieces.{span_of, spans_of, IsParent}
 
 leaf : Option ℕ → Piece → Node Piece

@@ -1,5 +1,5 @@
 -- Handlers of the tests of labels: what they skip at the start of a line.
-use Rattle.std.specs.Prelude.{ℕ, ◌-◌, ◌&&◌, nat_lt, nat_le, List, length, slice_index, nat_eq, Option, Some, None, if◌then◌else◌}
+use Rattle.std.specs.Prelude.{ℕ, ◌-◌, ◌&&◌, nat_lt, nat_le, List, length, slice_index, nat_eq, if◌then◌else◌}
 use Rattle.std.specs.List.{starts_with}
 
 -- the length of the marker, where it stands at the front and ends in an ASCII byte; else nothing

@@ -3,7 +3,7 @@ use Rattle.std.specs.Prelude.{◌≡◌, ℕ, suc, List, [], ◌∷◌, None}
 use Rattle.markdown_values.specs.Linked.{Linked}
 use Rattle.markdown_values.specs.Tree.{isolated}
 use Rattle.markdown_values.specs.Truncate.{Span}
-use Rattle.cmark_vectors.specs.declared.tree.Piece.{Piece}
+use Rattle.cmark_vectors.specs.declared.pieces.Piece.{Piece}
 
 abbrev pub span_of : Piece → Span
 span_of p = record { start = p.start; end = p.end; escaped = p.escaped }

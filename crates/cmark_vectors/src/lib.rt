@@ -13,6 +13,7 @@ mod label;
 mod line;
 #[cfg(test)]
 mod line_vectors;
+pub mod pieces;
 #[cfg(test)]
 mod tags;
 #[cfg(test)]

@@ -3,46 +3,11 @@ ghost use Rattle.std.specs.Prelude.{◌≡◌, ◌∷◌, [], length, IfOk, IfSo
 ghost use Rattle.markdown_values.specs.Truncate.{first_other, CanCut};
 ghost use Rattle.cmark_vectors.specs.Pieces.{spans_of, IsParent};
 
-use markdown_values::tree::{Node, SpanItem, Tree, TreeIndex};
+use crate::pieces::Piece;
+use markdown_values::tree::{Node, Tree, TreeIndex};
 use std::alloc::{AllocError, Global};
 use std::ops::Index;
 use std::test::Fail;
-
-// A piece of text, by its name and the bytes that it covers.
-#[derive(Clone, Default, Drop)]
-struct Piece {
-    name: char,
-    start: usize,
-    end: usize,
-    escaped: bool,
-}
-
-impl SpanItem for Piece {
-    ghost span = { λ p. record { start = p.start; end = p.end; escaped = p.escaped } };
-
-    ghost with_range = { λ p start end. record p { start = start; end = end } };
-
-    ghost use Rattle.std.specs.Prelude.{refl};
-
-    ghost sets_range = { λ p start end. refl };
-
-    fn start(&self) -> usize {
-        self.start
-    }
-
-    fn end(&self) -> usize {
-        self.end
-    }
-
-    fn set_range(&mut self, start: usize, end: usize) {
-        self.start = start;
-        self.end = end;
-    }
-
-    fn backslash_escaped(&self) -> bool {
-        self.escaped
-    }
-}
 
 fn named(name: char) -> Piece {
     Piece {
