@@ -5,10 +5,10 @@ ghost use Rattle.std.specs.List.{prefix_len};
 ghost use Rattle.std.specs.Str.Parse.{AllDigits, digits_value};
 ghost use Rattle.std.specs.Char.{is_digit, digit_value};
 ghost use Rattle.markdown_values.specs.Text.{cow_text};
-ghost use Rattle.markdown_scanners_tree.specs.Bytes.{is_alphanumeric};
 ghost use Rattle.markdown_scanners_tree.specs.CharacterReference.{referenced_char, StartsWithReference};
 ghost use Rattle.markdown_scanners_tree.specs.Digits.{IsNumberInFront};
 
+use crate::scanners::runs::alphanumerics_in_front;
 use markdown_values::strings::CowStr;
 
 /// A table of entity names and their texts.
@@ -116,17 +116,6 @@ fn digits_in_front(bytes: &[u8], radix: u32) -> usize
     bytes
         .iter()
         .take_while(|b| char::from(**b).is_digit(radix))
-        .count()
-}
-
-// How many letters and digits stand at the front.
-fn alphanumerics_in_front(bytes: &[u8]) -> usize
-    ensures count { result ≡ prefix_len is_alphanumeric bytes.now }
-    ensures within { result ≤ length bytes.now }
-{
-    bytes
-        .iter()
-        .take_while(|b| b.is_ascii_alphanumeric())
         .count()
 }
 

@@ -1,13 +1,11 @@
 //! Starts of HTML blocks that a known name opens.
 ghost use Rattle.std.specs.Prelude.{◌≡◌, ◌↔◌, ◌≤◌, IsTrue, length, map, Contains};
-ghost use Rattle.std.specs.List.{prefix_len};
 ghost use Rattle.std.specs.Ordering.{nat_cmp};
 ghost use Rattle.std.specs.Char.{to_ascii_lowercase};
 ghost use Rattle.std.specs.Cmp.Lexicographic.{slice_cmp};
-ghost use Rattle.markdown_scanners_tree.specs.Bytes.{is_alphanumeric};
 ghost use Rattle.markdown_scanners_tree.specs.HtmlBlock.{IsBlockName, IsBlockStart, ends_block_name, rises, texts, after_slash};
 
-use crate::scanners::classes::is_ascii_alphanumeric;
+use crate::scanners::runs::alphanumerics_in_front;
 use std::cmp::Ordering;
 
 // In lower case, in ascending order.
@@ -117,17 +115,6 @@ fn ends_name(rest: &[u8]) -> bool
     }
 }
 
-// How many letters and digits the bytes begin with.
-fn name_length(bytes: &[u8]) -> usize
-    ensures run { result ≡ prefix_len is_alphanumeric bytes.now }
-    ensures within { result ≤ length bytes.now }
-{
-    bytes
-        .iter()
-        .take_while(|b| is_ascii_alphanumeric(**b))
-        .count()
-}
-
 // The bytes without a `/` at their front.
 fn without_slash(bytes: &[u8]) -> &[u8]
     ensures { result.now ≡ after_slash bytes.now }
@@ -147,6 +134,6 @@ pub fn starts_html_block_type_6(data: &[u8]) -> bool
     ensures { IsTrue result ↔ IsBlockStart «data».now }
 {
     let after = without_slash(data);
-    let length = name_length(after);
+    let length = alphanumerics_in_front(after);
     is_block_name(&after[..length]) && ends_name(&after[length..])
 }

@@ -6,6 +6,7 @@ ghost use Rattle.markdown_values.specs.Text.{cow_text, IsBorrowed};
 ghost use Rattle.markdown_scanners_tree.specs.LinkDestination.{IsLinkDestination, IsBareFrom, IsPointedFrom};
 ghost use Rattle.markdown_scanners_tree.specs.Autolink.{IsUriAutolink, IsSchemeInFront, is_scheme_byte, is_uri_byte};
 
+use crate::scanners::classes::{is_ascii_alphanumeric, is_ascii_letter};
 use crate::scanners::escapes::starts_escape;
 use markdown_values::strings::CowStr;
 use markdown_values::values::LinkType;
@@ -149,7 +150,7 @@ fn scheme_len(bytes: &[u8]) -> Option<usize>
     ensures absent { IfNone result ((n : ℕ) → ¬ IsSchemeInFront bytes.now n) }
     ensures within { IfSome result (λ n. n < length bytes.now) }
 {
-    if bytes.is_empty() || !bytes[0].is_ascii_alphabetic() {
+    if bytes.is_empty() || !is_ascii_letter(bytes[0]) {
         return None;
     }
     let n = 1 + scheme_bytes_in_front(&bytes[1..]);
@@ -166,7 +167,7 @@ fn scheme_bytes_in_front(bytes: &[u8]) -> usize
 {
     bytes
         .iter()
-        .take_while(|b| b.is_ascii_alphanumeric() || matches!(**b, b'+' | b'-' | b'.'))
+        .take_while(|b| is_ascii_alphanumeric(**b) || matches!(**b, b'+' | b'-' | b'.'))
         .count()
 }
 

@@ -1,10 +1,10 @@
 //! Runs of bytes at the front or the back.
 ghost use Rattle.std.specs.Prelude.{◌≡◌, ◌≤◌, ◌==◌, length, reverse, if◌then◌else◌};
 ghost use Rattle.std.specs.List.{prefix_len, list_any};
-ghost use Rattle.markdown_scanners_tree.specs.Bytes.{begins_with, is_white_space_in_line};
+ghost use Rattle.markdown_scanners_tree.specs.Bytes.{begins_with, is_alphanumeric, is_white_space_in_line};
 ghost use Rattle.markdown_scanners_tree.specs.Accepted.{IsAccepted};
 
-use crate::scanners::classes::is_ascii_whitespace_no_nl;
+use crate::scanners::classes::{is_ascii_alphanumeric, is_ascii_whitespace_no_nl};
 use memchr::memchr;
 
 /// 1 where the first byte is `c`, else 0.
@@ -69,6 +69,17 @@ pub fn scan_whitespace_no_nl(data: &[u8]) -> usize
 {
     data.iter()
         .take_while(|b| is_ascii_whitespace_no_nl(**b))
+        .count()
+}
+
+// The length of the longest front of letters and digits.
+pub(in crate::scanners) fn alphanumerics_in_front(bytes: &[u8]) -> usize
+    ensures count { result ≡ prefix_len is_alphanumeric bytes.now }
+    ensures within { result ≤ length bytes.now }
+{
+    bytes
+        .iter()
+        .take_while(|b| is_ascii_alphanumeric(**b))
         .count()
 }
 

@@ -19,6 +19,6 @@ returns-then-n-lt2-clause-absent c = λ n front.
 
 pub returns-clause-found : goal.returns-clause-found
 returns-clause-found c =
-    scheme_found c.args.bytes.now (1 + c.scheme_bytes_in_front-n.result) (omega (arith, c.if-n-bytes.false, c.scheme_bytes_in_front-n.ensures.within)) (sym c.is_ascii_alphabetic.ensures.value ∙ c.if-not-is_ascii_alphabetic.false)
+    scheme_found c.args.bytes.now (1 + c.scheme_bytes_in_front-n.result) (omega (arith, c.if-n-bytes.false, c.scheme_bytes_in_front-n.ensures.within)) (sym c.is_ascii_letter.ensures ∙ c.if-not-is_ascii_letter.false)
     (ap (λ k. 1 + k) (c.scheme_bytes_in_front-n.ensures.count ∙ ap (prefix_len is_scheme_byte) (take_rest c.args.bytes.now 1)))
     c.if-n-lt2.false c.if-n-gt32.false (omega (arith, c.if-n-bytes.false, c.scheme_bytes_in_front-n.ensures.within)) c.if-bytes-n-ne58.false
