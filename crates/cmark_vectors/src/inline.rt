@@ -121,18 +121,10 @@ fn unescaped_texts(rt: HostRuntime) -> Result<(), Fail> {
     Ok(())
 }
 
-fn repeat_text(alloc: Global, part: &str, count: usize) -> Result<String, AllocError> {
-    let mut text = String::new(alloc);
-    for _ in 0..count {
-        text.push_str(part)?;
-    }
-    Ok(text)
-}
-
 #[test]
 fn long_unescaped_text(rt: HostRuntime) -> Result<(), Fail> {
-    let source = repeat_text(rt.alloc(), "&amp;", 900)?;
-    let answer = repeat_text(rt.alloc(), "&", 900)?;
+    let source = "&amp;".repeat(rt.alloc(), 900)?;
+    let answer = "&".repeat(rt.alloc(), 900)?;
     let found = unescaped(rt.alloc(), source.as_str(), false)?;
     assert_eq!(rt; found.as_str(), answer.as_str());
     Ok(())
@@ -153,8 +145,8 @@ fn destinations(rt: HostRuntime) {
 
 #[test]
 fn thousand_parentheses(rt: HostRuntime) -> Result<(), Fail> {
-    let mut text = repeat_text(rt.alloc(), "(", 1000)?;
-    text.push_str(repeat_text(rt.alloc(), ")", 1000)?.as_str())?;
+    let mut text = "(".repeat(rt.alloc(), 1000)?;
+    text.push_str(")".repeat(rt.alloc(), 1000)?.as_str())?;
     let whole = Some((2000, text.as_str()));
     assert_eq!(rt; destination(&rt, text.as_str(), 0, 999), whole);
     assert_eq!(rt; destination(&rt, text.as_str(), 0, 998), None);
@@ -174,10 +166,10 @@ fn autolinks(rt: HostRuntime) -> Result<(), Fail> {
 
 #[test]
 fn longest_scheme(rt: HostRuntime) -> Result<(), Fail> {
-    let mut longest = repeat_text(rt.alloc(), "a", 32)?;
+    let mut longest = "a".repeat(rt.alloc(), 32)?;
     longest.push_str(":>")?;
     assert!(rt; autolink(&rt, longest.as_str(), 0).is_some());
-    let mut longer = repeat_text(rt.alloc(), "a", 33)?;
+    let mut longer = "a".repeat(rt.alloc(), 33)?;
     longer.push_str(":>")?;
     assert!(rt; autolink(&rt, longer.as_str(), 0).is_none());
     Ok(())

@@ -158,14 +158,6 @@ fn refused_places(rt: HostRuntime) {
     assert_eq!(rt; run.steps(), 1);
 }
 
-fn repeat_text(alloc: Global, part: &[u8], count: usize) -> Result<Vec<u8>, Fail> {
-    let mut text = Vec::new(alloc);
-    for _ in 0..count {
-        text.extend_from_slice(part)?;
-    }
-    Ok(text)
-}
-
 /// The places just after `<!` or `<?`, in rising order.
 fn places_after_openers(alloc: Global, text: &[u8]) -> Result<Vec<usize>, Fail> {
     let mut places = Vec::new(alloc);
@@ -201,7 +193,7 @@ const HOSTILE_TEXTS: [Hostile; 6] = [
 
 fn assert_hostile(rt: &impl Abort, alloc: Global, hostile: &Hostile) -> Result<(), Fail> {
     let (part, count, length, passed, most) = hostile;
-    let text = repeat_text(alloc, part, *count)?;
+    let text = part.repeat(alloc, *count)?;
     let places = places_after_openers(alloc, &text)?;
     let run = run_inline_html(alloc, &text, &places)?;
     assert_eq!(rt; run.answers.len(), places.len(), "of {part:?}");
@@ -231,7 +223,7 @@ fn passes_over_hostile_texts_once(rt: HostRuntime) -> Result<(), Fail> {
 #[test]
 fn passes_over_cut_texts(rt: HostRuntime) -> Result<(), Fail> {
     for (part, count, _, _, _) in HOSTILE_TEXTS.iter() {
-        let text = repeat_text(rt.alloc(), part, *count)?;
+        let text = part.repeat(rt.alloc(), *count)?;
         let places = places_after_openers(rt.alloc(), &text)?;
         for cut in 0..200 {
             let front = &text[..text.len().min(cut)];

@@ -218,14 +218,9 @@ fn with_letters(
     middle: &str,
     back: usize,
 ) -> Result<String, AllocError> {
-    let mut text = String::new(alloc);
-    for _ in 0..front {
-        text.push('a')?;
-    }
+    let mut text = "a".repeat(alloc, front)?;
     text.push_str(middle)?;
-    for _ in 0..back {
-        text.push('a')?;
-    }
+    text.push_str("a".repeat(alloc, back)?.as_str())?;
     text.push(']')?;
     Ok(text)
 }

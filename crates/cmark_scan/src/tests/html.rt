@@ -56,10 +56,7 @@ const HOSTILE_TEXTS: [Hostile; 6] = [
 
 fn assert_last_line(rt: &impl Abort, alloc: Global, hostile: &Hostile) -> Result<(), Fail> {
     let (part, count, last_line) = hostile;
-    let mut text = Vec::new(alloc);
-    for _ in 0..*count {
-        text.extend_from_slice(part)?;
-    }
+    let text = part.repeat(alloc, *count)?;
     let mut input = text.as_slice();
     let mut output = Vec::new(alloc);
     let mut faults = Vec::new(alloc);

@@ -58,9 +58,8 @@ impl<'a> InlineHtmlRun<'a> {
         ensures after { self.new ≡ run_after self.old place (refusal self.old place) }
         ensures budget { IsWithinBudget self.new }
     {
-        let mark = match self.text.opener_before(place) {
-            Some(mark) => mark,
-            None => return Err(HtmlStop::NoOpener),
+        let Some(mark) = self.text.opener_before(place) else {
+            return Err(HtmlStop::NoOpener);
         };
         if place <= self.last {
             return Err(HtmlStop::NotRising);

@@ -10,7 +10,7 @@ use crate::scanners::classes::{
 
 // What the bytes of a tag end in, as far as they are read.
 #[derive(Clone, Copy, Drop)]
-pub enum TagState {
+pub(crate) enum TagState {
     Start,
     // After `<`.
     Opened,
@@ -108,7 +108,7 @@ fn after_closing(byte: u8) -> TagState
 
 impl TagState {
     // After one more byte.
-    pub fn next(self, byte: u8) -> TagState
+    pub(crate) fn next(self, byte: u8) -> TagState
         ensures { result ≡ next_state self byte }
     {
         match self {
@@ -141,7 +141,7 @@ impl TagState {
     }
 
     // Whether a tag is whole, with that many line endings of the source in it.
-    pub fn is_tag_end(self, endings: usize) -> bool
+    pub(crate) fn is_tag_end(self, endings: usize) -> bool
         ensures { result ≡ is_tag_end self endings }
     {
         match self {
@@ -152,7 +152,7 @@ impl TagState {
     }
 
     // Whether no byte leads further from here.
-    pub fn is_final(self) -> bool
+    pub(crate) fn is_final(self) -> bool
         ensures { result ≡ is_final self }
     {
         matches!(self, TagState::Open | TagState::Closed | TagState::Refused)

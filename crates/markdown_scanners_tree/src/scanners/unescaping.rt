@@ -207,8 +207,5 @@ fn reference_in_front<E: Entities>(bytes: &[u8], entities: &E) -> Option<(usize,
         return None;
     }
     let (length, text) = scan_entity(bytes, entities);
-    match text {
-        Some(text) => Some((length, text)),
-        None => None,
-    }
+    Some((length, text?))
 }
