@@ -1,0 +1,59 @@
+//! Line endings, runs of bytes and indents.
+use crate::arguments::Arguments;
+use crate::printing::OrNone;
+use crate::stop::{CaseError, Unreadable};
+use markdown_scanners_tree::scanners::{
+    calc_indent, scan_blank_line, scan_blockquote_start, scan_ch_repeat, scan_eol, scan_nextline,
+    scan_whitespace_no_nl,
+};
+use std::alloc::Global;
+
+pub(crate) fn eol(alloc: Global, arguments: &mut Arguments<'_>) -> Result<String, CaseError> {
+    let bytes = arguments.bytes(alloc)?;
+    Ok(format!(in alloc; "{}", OrNone(scan_eol(&bytes)))?)
+}
+
+pub(crate) fn blank_line(
+    alloc: Global,
+    arguments: &mut Arguments<'_>,
+) -> Result<String, CaseError> {
+    let bytes = arguments.bytes(alloc)?;
+    Ok(format!(in alloc; "{}", OrNone(scan_blank_line(&bytes)))?)
+}
+
+pub(crate) fn next_line(alloc: Global, arguments: &mut Arguments<'_>) -> Result<String, CaseError> {
+    let bytes = arguments.bytes(alloc)?;
+    Ok(format!(in alloc; "{}", scan_nextline(&bytes))?)
+}
+
+pub(crate) fn white_space(
+    alloc: Global,
+    arguments: &mut Arguments<'_>,
+) -> Result<String, CaseError> {
+    let bytes = arguments.bytes(alloc)?;
+    Ok(format!(in alloc; "{}", scan_whitespace_no_nl(&bytes))?)
+}
+
+pub(crate) fn repeated(alloc: Global, arguments: &mut Arguments<'_>) -> Result<String, CaseError> {
+    let bytes = arguments.bytes(alloc)?;
+    let byte = arguments.byte()?;
+    Ok(format!(in alloc; "{}", scan_ch_repeat(&bytes, byte))?)
+}
+
+pub(crate) fn indent(alloc: Global, arguments: &mut Arguments<'_>) -> Result<String, CaseError> {
+    let bytes = arguments.bytes(alloc)?;
+    let max = arguments.number()?;
+    if max > usize::MAX / 4 {
+        return Err(CaseError::Unreadable(Unreadable::TooLarge));
+    }
+    let (place, columns) = calc_indent(&bytes, max);
+    Ok(format!(in alloc; "{place}/{columns}")?)
+}
+
+pub(crate) fn quote_start(
+    alloc: Global,
+    arguments: &mut Arguments<'_>,
+) -> Result<String, CaseError> {
+    let bytes = arguments.bytes(alloc)?;
+    Ok(format!(in alloc; "{}", OrNone(scan_blockquote_start(&bytes)))?)
+}

@@ -1,0 +1,106 @@
+//! Cases, a line each, and whether the library answers them as they want.
+ghost use Rattle.std.specs.Prelude.{◌≤◌};
+
+use crate::arguments::Arguments;
+use crate::calls::answer;
+use crate::stop::{CaseError, Stop, Unreadable};
+use std::alloc::Global;
+use std::io::{BufRead, BufReader, Read, Write};
+use std::str::from_utf8;
+
+/// How many cases have been answered as they want, and how many otherwise.
+#[derive(Clone, Copy, Debug, PartialEq, Eq)]
+struct Tally {
+    agree: u64,
+    differ: u64,
+}
+
+/// Reads a case a line, makes its call, and writes a line for each answer that isn't the one that the case wants: the
+/// number of its line, the case, the answer wanted and the answer given, with tabs between them. Then `N agree, M differ`.
+///
+/// A case is the call's name, its arguments, `=>` and the answer wanted, with tabs between them. The status is 0 where
+/// no answer differs and 1 where one does; 2 at the first line that can't be read as a case, and 3 after a fault of the
+/// reader, of memory or of the writer, with a line on `faults` that says why.
+pub fn replay_cases<R: Read, W: Write, V: Write>(
+    alloc: Global,
+    input: &mut R,
+    output: &mut W,
+    faults: &mut V,
+) -> u8
+    ensures { result ≤ 3 }
+{
+    match compare_all(alloc, input, output) {
+        Ok(Tally { differ: 0, .. }) => 0,
+        Ok(_) => 1,
+        Err(stop) => {
+            // what becomes of this line changes no status
+            let _ = writeln!(faults, "{stop}");
+            match stop {
+                Stop::Unreadable { .. } => 2,
+                _ => 3,
+            }
+        }
+    }
+}
+
+// Compares each case, and writes those that differ and how many there are.
+fn compare_all<R: Read, W: Write>(
+    alloc: Global,
+    input: &mut R,
+    output: &mut W,
+) -> Result<Tally, Stop> {
+    let mut reader = BufReader::new(alloc, input).map_err(|_| Stop::Memory)?;
+    let mut line = Vec::new(alloc);
+    let mut tally = Tally {
+        agree: 0,
+        differ: 0,
+    };
+    for number in 1..u64::MAX {
+        if !read_line(&mut reader, &mut line)? {
+            writeln!(output, "{} agree, {} differ", tally.agree, tally.differ).map_err(
+                |_| Stop::Write,
+            )?;
+            return Ok(tally);
+        }
+        match difference(alloc, number, &line).map_err(|error| Stop::at_line(number, error))? {
+            None => tally.agree += 1,
+            Some(text) => {
+                tally.differ += 1;
+                output.write_all(text.as_bytes()).map_err(|_| Stop::Write)?;
+            }
+        }
+    }
+    Err(Stop::Read)
+}
+
+// Reads the next line in the place of the last, and answers whether there was one.
+fn read_line<B: BufRead>(reader: &mut B, line: &mut Vec<u8>) -> Result<bool, Stop> {
+    line.clear();
+    let count = reader.read_until(b'\n', line).map_err(Stop::of_reader)?;
+    Ok(count > 0)
+}
+
+// The line that tells of a case whose answer differs.
+fn difference(alloc: Global, number: u64, line: &[u8]) -> Result<Option<String>, CaseError> {
+    let line = from_utf8(line.strip_suffix(b"\n").unwrap_or(line)).map_err(
+        |_| Unreadable::NotUtf8,
+    )?;
+    let (case, wanted) = line.split_once("\t=>\t").ok_or(Unreadable::NoAnswer)?;
+    let given = answer_case(alloc, case)?;
+    if given.as_str() == wanted {
+        return Ok(None);
+    }
+    Ok(Some(format!(in alloc; "{number}\t{case}\twanted {wanted}\tgiven {given}\n")?))
+}
+
+// What the library answers.
+fn answer_case(alloc: Global, case: &str) -> Result<String, CaseError> {
+    let (name, rest) = match case.split_once('\t') {
+        Some((name, rest)) => (name, Some(rest)),
+        None => (case, None),
+    };
+    let mut arguments = Arguments::new(rest);
+    let given = answer(alloc, name, &mut arguments)?;
+    arguments.end()?;
+    Ok(given)
+}
