@@ -35,15 +35,17 @@ impl Read for FailingReader<'_> {
     }
 }
 
-/// Gives one `x` a call, and counts the calls.
+/// Gives one `x` a call, counts the calls, and sees that each asks for 4,096 bytes.
 #[derive(Drop)]
 struct EndlessReader {
     reads: u64,
+    asked_for_less_or_more: bool,
 }
 
 impl Read for EndlessReader {
     fn read(&mut self, buf: &mut [u8]) -> Result<usize> {
         self.reads = self.reads.saturating_add(1);
+        self.asked_for_less_or_more |= buf.len() != 4096;
         if buf.is_empty() {
             return Ok(0);
         }
@@ -352,7 +354,10 @@ fn refuses_other_words(rt: HostRuntime) -> std::result::Result<(), Fail> {
         &["line", "eol", "eols"],
     ];
     for words in refused {
-        let mut input = EndlessReader { reads: 0 };
+        let mut input = EndlessReader {
+            reads: 0,
+            asked_for_less_or_more: false,
+        };
         let mut output = FailingWriter { writes: 0 };
         let mut faults = Vec::new(rt.alloc());
         let status = run_program(rt.alloc(), words, &mut input, &mut output, &mut faults);
@@ -383,12 +388,16 @@ fn reports_a_read_fault(rt: HostRuntime) -> std::result::Result<(), Fail> {
 
 #[test]
 fn ends_over_an_endless_reader(rt: HostRuntime) -> std::result::Result<(), Fail> {
-    let mut input = EndlessReader { reads: 0 };
+    let mut input = EndlessReader {
+        reads: 0,
+        asked_for_less_or_more: false,
+    };
     let mut output = FailingWriter { writes: 0 };
     let mut faults = Vec::new(rt.alloc());
     let status = run_program(rt.alloc(), &["line"], &mut input, &mut output, &mut faults);
     assert_eq!(rt; status, 3);
     assert_eq!(rt; input.reads, 1_048_576);
+    assert!(rt; !input.asked_for_less_or_more);
     assert_eq!(rt; output.writes, 0);
     assert_eq!(rt; faults.as_slice(), b"read fault\n".as_slice());
     Ok(())

@@ -1,4 +1,4 @@
-//! Inline HTML under a guard: worked rows, hostile texts, and answers of pulldown-cmark 0.13.6.
+//! Inline HTML under a guard: worked rows and hostile texts.
 use markdown_scanners_tree::inline_html::{
     CountedText, HtmlScanGuard, HtmlStop, InlineHtmlRun, run_inline_html, scan_inline_html_comment,
     scan_inline_html_comment_counted, scan_inline_html_processing,
@@ -25,7 +25,7 @@ fn find_with_new_guard(text: &[u8], place: usize) -> Option<usize> {
 }
 
 #[test]
-fn single_scans(rt: HostRuntime) {
+fn scans_find_where_a_construct_ends(rt: HostRuntime) {
     assert_eq!(rt; find_with_new_guard(b"<![CDATA[a]>b]]>", 2), Some(16));
     assert_eq!(rt; find_with_new_guard(b"<!-->", 2), Some(5));
     assert_eq!(rt; find_with_new_guard(b"<!--->", 2), Some(6));
@@ -36,7 +36,7 @@ fn single_scans(rt: HostRuntime) {
 }
 
 #[test]
-fn counted_scans(rt: HostRuntime) {
+fn counted_scans_count_what_they_pass_over(rt: HostRuntime) {
     let mut guard = HtmlScanGuard::new();
     let mut text = CountedText::new(b"<!--<?a?><!--");
     assert_eq!(rt; text.len(), 13);
@@ -63,7 +63,7 @@ fn counted_scans(rt: HostRuntime) {
 }
 
 #[test]
-fn counted_calls(rt: HostRuntime) {
+fn each_call_of_a_counted_text_counts(rt: HostRuntime) {
     let mut text = CountedText::new(b"a-->b");
     assert_eq!(rt; text.look(4), Some(b'b'));
     assert_eq!(rt; text.look(5), None);
@@ -105,7 +105,7 @@ fn budget(size: usize, steps: usize) -> u128 {
 }
 
 #[test]
-fn runs(rt: HostRuntime) -> Result<(), Fail> {
+fn runs_answer_and_count(rt: HostRuntime) -> Result<(), Fail> {
     for (text, finds, passed, most) in ROWS {
         let mut places = Vec::new(rt.alloc());
         let mut answers = Vec::new(rt.alloc());
@@ -123,7 +123,26 @@ fn runs(rt: HostRuntime) -> Result<(), Fail> {
 }
 
 #[test]
-fn runs_to_a_refused_place(rt: HostRuntime) -> Result<(), Fail> {
+fn each_scan_of_a_run_is_counted(rt: HostRuntime) {
+    let mut run = InlineHtmlRun::new(b"<!-- <!x> <!-- <![CDATA[ ]]>");
+    for (place, find, passed) in [
+        (2, None, 28),
+        (7, Some(9), 2),
+        (12, None, 1),
+        (17, Some(28), 11),
+    ] {
+        let before = run.passed();
+        assert_eq!(rt; run.step(place), Ok(find));
+        assert_eq!(rt;
+            run.passed().checked_sub(before),
+            Some(passed),
+            "at {place}"
+        );
+    }
+}
+
+#[test]
+fn a_run_ends_before_a_refused_place(rt: HostRuntime) -> Result<(), Fail> {
     let text = b"<!-- a <!-- b --> <!-- c";
     let run = run_inline_html(rt.alloc(), text, &[2, 9, 20])?;
     assert_eq!(rt; run.answers.as_slice(), [Some(17)].as_slice());
@@ -133,7 +152,7 @@ fn runs_to_a_refused_place(rt: HostRuntime) -> Result<(), Fail> {
 }
 
 #[test]
-fn steps_past_a_refused_place(rt: HostRuntime) {
+fn a_step_follows_a_refused_place(rt: HostRuntime) {
     let mut run = InlineHtmlRun::new(b"<!-- a <!-- b --> <!-- c");
     assert_eq!(rt; run.step(2), Ok(Some(17)));
     assert_eq!(rt; run.step(9), Err(HtmlStop::InsideFind));
@@ -146,7 +165,7 @@ fn steps_past_a_refused_place(rt: HostRuntime) {
 }
 
 #[test]
-fn refused_places(rt: HostRuntime) {
+fn refused_places_change_nothing(rt: HostRuntime) {
     let mut run = InlineHtmlRun::new(b"<!a<!>x");
     for place in [0, 1, 8] {
         assert_eq!(rt; run.step(place), Err(HtmlStop::NoOpener));
@@ -234,164 +253,3 @@ fn passes_over_cut_texts(rt: HostRuntime) -> Result<(), Fail> {
     }
     Ok(())
 }
-
-/// Steps are accepted at exactly these places, and find exactly this.
-fn assert_finds(rt: &impl Abort, text: &[u8], finds: &[Find]) {
-    let mut run = InlineHtmlRun::new(text);
-    for place in 0..=text.len() {
-        let index = run.steps();
-        if let Ok(found) = run.step(place) {
-            assert_eq!(rt; Some(&(place, found)), finds.get(index), "on {text:?}");
-        }
-    }
-    assert_eq!(rt; run.steps(), finds.len(), "on {text:?}");
-    let mut guard = HtmlScanGuard::new();
-    for (place, found) in finds {
-        assert_eq!(rt; find_at(text, *place, &mut guard), *found, "on {text:?}");
-    }
-}
-
-#[test]
-fn answers_as_the_original_on_the_first_texts(rt: HostRuntime) {
-    for (text, finds) in FIRST_TEXTS {
-        assert_finds(&rt, text, finds);
-    }
-}
-
-#[test]
-fn answers_as_the_original_on_the_second_texts(rt: HostRuntime) {
-    for (text, finds) in SECOND_TEXTS {
-        assert_finds(&rt, text, finds);
-    }
-}
-
-const FIRST_TEXTS: [(&[u8], &[Find]); 30] = [
-    (b"", &[]),
-    (b"-<!a<!a-[", &[(3, None), (6, None)]),
-    (b"<!----!]--", &[(2, None)]),
-    (
-        b"<!<!--[<!-- <!aa<!--!x!a]]>]]> ",
-        &[(2, None), (4, None), (9, None), (14, Some(27))],
-    ),
-    (
-        b"]-x<!a <!--!<!]]><?<<<!--x",
-        &[(5, Some(17)), (19, None), (23, None)],
-    ),
-    (b"]!?]?>a-->[<!--<!->?][-->--<>", &[(13, Some(25))]),
-    (
-        b"<![--<!a-->[--]]>]]>?---><!--!-",
-        &[(2, None), (7, Some(11)), (27, None)],
-    ),
-    (b"--![<!a", &[(6, None)]),
-    (
-        b"<<!a--a]]>]]><!--]--?>[><!-- ----<?a]]>--",
-        &[(3, Some(10)), (15, None), (26, None), (35, None)],
-    ),
-    (b"<!]<!", &[(2, None), (5, None)]),
-    (
-        b"<?]<?<?<?]]>>--?----<!---->x",
-        &[(2, None), (5, None), (7, None), (9, None), (22, Some(27))],
-    ),
-    (
-        b"<!--<!a[><!--<? ]<?<!a! <??<a<?-<!a---",
-        &[
-            (2, None),
-            (6, Some(9)),
-            (11, None),
-            (15, None),
-            (19, None),
-            (21, None),
-            (26, None),
-            (31, None),
-            (34, None),
-        ],
-    ),
-    (
-        b"<!--?> ?<x[]<?x]a x]--<!--[a<!a",
-        &[(2, None), (14, None), (24, None), (30, None)],
-    ),
-    (b"x><!-", &[(4, None)]),
-    (b" ", &[]),
-    (b"<!--?<?", &[(2, None), (7, None)]),
-    (
-        b"---]<?<?]a<!--<!a",
-        &[(6, None), (8, None), (12, None), (16, None)],
-    ),
-    (b"]]>]!----><", &[]),
-    (b"]a-->?]>x-]]>x-]<?--]]!", &[(18, None)]),
-    (b"]a!a-->!x?<!a?>?!--<!--", &[(12, Some(15)), (21, None)]),
-    (
-        b"x]]>--<!-<!>!?<?-!?>",
-        &[(8, None), (11, None), (16, Some(20))],
-    ),
-    (b"]]]> -<!a--?!?>?>!", &[(8, Some(15))]),
-    (b"<!a<!?>[", &[(2, Some(7))]),
-    (
-        b"a<<!--><?!<!a<!<?--><!x ?!x?>---<<!a--",
-        &[(4, Some(7)), (9, Some(29)), (35, None)],
-    ),
-    (b"<?<!--<!", &[(2, None), (4, None), (8, None)]),
-    (b"-[<<?", &[(5, None)]),
-    (b"]]><?-<!a-->--", &[(5, None), (8, Some(12))]),
-    (
-        b"<?]]><!a<[--><!--<!--?>>[aa!<!--<<?[[]",
-        &[(2, Some(23)), (30, None), (35, None)],
-    ),
-    (
-        b"><!>?><?x]<?--<?<?]-",
-        &[(3, None), (8, None), (12, None), (16, None), (18, None)],
-    ),
-    (b"]<<! >!]]<!--<!--", &[(4, None), (11, None), (15, None)]),
-];
-
-const SECOND_TEXTS: [(&[u8], &[Find]); 30] = [
-    (b">-<!a", &[(4, None)]),
-    (b">!", &[]),
-    (b"]]><?<!<? --a<???>- !?---", &[(5, Some(18))]),
-    (b"?>", &[]),
-    (b"<!a", &[(2, None)]),
-    (b"x?><!a[]", &[(5, None)]),
-    (b"-->>a ?", &[]),
-    (b"<!--]]> ? <?<!xa", &[(2, None), (12, None), (14, None)]),
-    (b"<?-->]?>[]]>", &[(2, Some(8))]),
-    (b"]<!a", &[(3, None)]),
-    (
-        b"<-->a<?<<!a![<!ax<?<!]!<?]",
-        &[
-            (7, None),
-            (10, None),
-            (15, None),
-            (19, None),
-            (21, None),
-            (25, None),
-        ],
-    ),
-    (b"x", &[]),
-    (b"?>x>]]><!a><?]]<<-->", &[(9, Some(11)), (13, None)]),
-    (b"a<!!-->", &[(3, None)]),
-    (b"a!", &[]),
-    (
-        b"<!?><?-<!a!x?>! a?]<?",
-        &[(2, None), (6, Some(14)), (21, None)],
-    ),
-    (b"?>a!--?>]]>", &[]),
-    (b"]]>", &[]),
-    (b"<!xx<?]]x?>]]>", &[(2, Some(11))]),
-    (
-        b"[]]><? >--[<!--<!--]---<!<? [",
-        &[(6, None), (13, None), (17, None), (25, None), (27, None)],
-    ),
-    (b"<!-->?<!!", &[(2, Some(5)), (8, None)]),
-    (b" <!-->?>]<!--a", &[(3, Some(6)), (11, None)]),
-    (b"?>[?", &[]),
-    (b"!]]>", &[]),
-    (b"]?>>![<?[", &[(8, None)]),
-    (
-        b"< <!]]>?>-->x! x]]>--<!a?<?< <!-->-",
-        &[(4, None), (23, Some(34))],
-    ),
-    (b" ]]>--a]]><!-->--<!--]", &[(12, Some(15)), (19, None)]),
-    (b"]--", &[]),
-    (b"!x>!", &[]),
-    (b"<!<!--?>>--", &[(2, None), (4, None)]),
-];

@@ -1,23 +1,21 @@
-//! Worked rows and answers of the original crate, run through the public calls of the library.
+//! Worked rows and hostile texts, run through the public calls of the library: a file a construct.
 #![tactic(auto)]
 
 #[cfg(test)]
-mod blocks;
+mod bounds;
 #[cfg(test)]
-mod inline;
+mod derives;
 #[cfg(test)]
 mod inline_html;
 #[cfg(test)]
-mod label;
-#[cfg(test)]
 mod line;
 #[cfg(test)]
-mod line_vectors;
+mod linklabel;
 pub mod pieces;
 #[cfg(test)]
-mod tags;
+mod scanners;
 #[cfg(test)]
-mod texts;
+mod strings;
 #[cfg(test)]
 mod tree;
 #[cfg(test)]

@@ -98,7 +98,7 @@ fn appending_after_a_node_cuts_what_followed(rt: HostRuntime) -> Result<(), Fail
 }
 
 #[test]
-fn spines(rt: HostRuntime) -> Result<(), Fail> {
+fn the_spine_leads_from_the_root_to_the_focus(rt: HostRuntime) -> Result<(), Fail> {
     let (mut tree, [a, b, c, d]) = nested(rt.alloc())?;
     assert_eq!(rt; tree.cur(), Some(d));
     assert_eq!(rt; tree.peek_up(), Some(b));
@@ -118,7 +118,7 @@ fn spines(rt: HostRuntime) -> Result<(), Fail> {
 }
 
 #[test]
-fn trees_of_few_nodes(rt: HostRuntime) -> Result<(), Fail> {
+fn trees_of_few_nodes_have_no_parents(rt: HostRuntime) -> Result<(), Fail> {
     let alloc = rt.alloc();
     let mut tree: Tree<Piece> = Tree::with_capacity(alloc, 0)?;
     assert!(rt; tree.is_empty());
@@ -159,7 +159,7 @@ fn a_removed_node_is_gone(rt: HostRuntime) -> Result<(), Fail> {
 }
 
 #[test]
-fn links_and_items_that_are_set(rt: HostRuntime) -> Result<(), Fail> {
+fn links_and_items_are_set(rt: HostRuntime) -> Result<(), Fail> {
     let alloc = rt.alloc();
     let (mut tree, [a, b, c, d]) = nested(alloc)?;
     tree.item_mut(c).name = 'E';
@@ -187,7 +187,7 @@ fn index_before(ix: TreeIndex) -> Option<TreeIndex> {
 }
 
 #[test]
-fn indices(rt: HostRuntime) -> Result<(), Fail> {
+fn indices_are_added_and_ordered(rt: HostRuntime) -> Result<(), Fail> {
     let (_tree, [a, b, c, d]) = nested(rt.alloc())?;
     assert_eq!(rt; a.get(), 1);
     assert_eq!(rt; d.get(), 4);
@@ -210,7 +210,7 @@ fn name_at<I: Index<TreeIndex, Output = Node<Piece>>>(nodes: &I, ix: TreeIndex) 
 }
 
 #[test]
-fn copies(rt: HostRuntime) -> Result<(), Fail> {
+fn a_copy_has_links_of_its_own(rt: HostRuntime) -> Result<(), Fail> {
     let alloc = rt.alloc();
     let (mut tree, [a, b, c, d]) = nested(alloc)?;
     let mut copy = copied(&tree)?;
@@ -301,7 +301,7 @@ fn ranges(alloc: Global, tree: &mut Tree<Piece>) -> Result<Vec<(usize, usize)>, 
 }
 
 #[test]
-fn children_that_are_cut_inside(rt: HostRuntime) -> Result<(), Fail> {
+fn a_child_is_cut_at_the_end(rt: HostRuntime) -> Result<(), Fail> {
     let alloc = rt.alloc();
     let first = covering('A', 0, 3, false);
     let second = covering('B', 3, 5, false);
@@ -316,7 +316,7 @@ fn children_that_are_cut_inside(rt: HostRuntime) -> Result<(), Fail> {
 }
 
 #[test]
-fn children_that_are_dropped(rt: HostRuntime) -> Result<(), Fail> {
+fn a_child_behind_the_end_is_dropped(rt: HostRuntime) -> Result<(), Fail> {
     let alloc = rt.alloc();
     let first = covering('A', 0, 2, false);
     let second = covering('B', 4, 6, false);
@@ -330,7 +330,7 @@ fn children_that_are_dropped(rt: HostRuntime) -> Result<(), Fail> {
 }
 
 #[test]
-fn children_behind_a_backslash(rt: HostRuntime) -> Result<(), Fail> {
+fn a_child_behind_a_backslash_takes_it(rt: HostRuntime) -> Result<(), Fail> {
     let alloc = rt.alloc();
     let first = covering('A', 0, 2, false);
     let second = covering('B', 4, 6, true);
@@ -353,7 +353,7 @@ fn children_behind_a_backslash(rt: HostRuntime) -> Result<(), Fail> {
 }
 
 #[test]
-fn children_that_stay(rt: HostRuntime) -> Result<(), Fail> {
+fn children_before_the_end_stay(rt: HostRuntime) -> Result<(), Fail> {
     let alloc = rt.alloc();
     let mut tree = cut_one(alloc, covering('A', 0, 1, false), 5)?;
     assert_eq!(rt; focus(&tree), Some(2));

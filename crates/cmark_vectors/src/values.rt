@@ -1,11 +1,11 @@
 //! Tags, events, headings and links: rows of their calls.
+use crate::bounds::printed;
 use markdown_values::strings::CowStr;
 use markdown_values::values::{
     Alignment, BlockQuoteKind, CodeBlockKind, Event, HeadingLevel, InvalidHeadingLevel, LinkType,
     MetadataBlockKind, Tag, TagEnd,
 };
 use std::alloc::{AllocError, Global};
-use std::fmt::Display;
 use std::test::Fail;
 
 mod options;
@@ -14,10 +14,6 @@ const OF_15: &str = "0123456789abcde";
 
 const OF_30: &str = "0123456789abcdefghijklmnopqrst";
 
-fn printed<T: Display>(alloc: Global, value: &T) -> Result<String, AllocError> {
-    format!(in alloc; "{}", value)
-}
-
 fn level_of<T: TryInto<HeadingLevel, Error = InvalidHeadingLevel>>(
     number: T,
 ) -> Result<HeadingLevel, InvalidHeadingLevel> {
@@ -25,7 +21,7 @@ fn level_of<T: TryInto<HeadingLevel, Error = InvalidHeadingLevel>>(
 }
 
 #[test]
-fn levels(rt: HostRuntime) -> Result<(), Fail> {
+fn levels_are_one_to_six(rt: HostRuntime) -> Result<(), Fail> {
     let levels = [
         (1, HeadingLevel::H1, "h1"),
         (2, HeadingLevel::H2, "h2"),
@@ -52,7 +48,7 @@ fn levels(rt: HostRuntime) -> Result<(), Fail> {
 }
 
 #[test]
-fn unknown_kinds_of_links(rt: HostRuntime) {
+fn references_become_unknown(rt: HostRuntime) {
     assert_eq!(rt;
         LinkType::Reference.to_unknown(),
         LinkType::ReferenceUnknown
@@ -65,7 +61,7 @@ fn unknown_kinds_of_links(rt: HostRuntime) {
 }
 
 #[test]
-fn kinds_of_code_blocks(rt: HostRuntime) -> Result<(), Fail> {
+fn code_blocks_are_indented_or_fenced(rt: HostRuntime) -> Result<(), Fail> {
     let alloc = rt.alloc();
     let indented = CodeBlockKind::Indented;
     assert!(rt; indented.is_indented() && !indented.is_fenced());
@@ -138,7 +134,7 @@ fn ends_as(tag: Tag<'_>, end: TagEnd) -> bool {
 }
 
 #[test]
-fn ends_of_tags_with_contents(rt: HostRuntime) -> Result<(), Fail> {
+fn tags_with_contents_end_as_the_table_says(rt: HostRuntime) -> Result<(), Fail> {
     let alloc = rt.alloc();
     let tag = heading(alloc, "i", "c", ("a", None))?;
     assert!(rt; ends_as(tag, TagEnd::Heading(HeadingLevel::H2)));
@@ -169,7 +165,7 @@ fn ends_of_tags_with_contents(rt: HostRuntime) -> Result<(), Fail> {
 }
 
 #[test]
-fn ends_of_plain_tags(rt: HostRuntime) {
+fn plain_tags_end_as_the_table_says(rt: HostRuntime) {
     assert!(rt; ends_as(Tag::Paragraph, TagEnd::Paragraph));
     assert!(rt; ends_as(Tag::HtmlBlock, TagEnd::HtmlBlock));
     assert!(rt; ends_as(Tag::Item, TagEnd::Item));
@@ -204,7 +200,7 @@ fn is_heading(
 
 // Equality looks at each part of a tag.
 #[test]
-fn unequal_headings(rt: HostRuntime) -> Result<(), Fail> {
+fn headings_differ_in_each_part(rt: HostRuntime) -> Result<(), Fail> {
     let alloc = rt.alloc();
     let tag = heading(alloc, "i", "c", ("a", Some("v")))?;
     assert!(rt; is_heading(alloc, &tag, "i", "c", ("a", Some("v")))?);
@@ -217,7 +213,7 @@ fn unequal_headings(rt: HostRuntime) -> Result<(), Fail> {
 }
 
 #[test]
-fn unequal_links(rt: HostRuntime) {
+fn links_differ_in_each_part(rt: HostRuntime) {
     assert!(rt; link("d", "t", "i") == link("d", "t", "i"));
     assert!(rt; link("d", "t", "i") != link("e", "t", "i"));
     assert!(rt; link("d", "t", "i") != link("d", "u", "i"));
@@ -227,7 +223,7 @@ fn unequal_links(rt: HostRuntime) {
 }
 
 #[test]
-fn unequal_tables(rt: HostRuntime) -> Result<(), Fail> {
+fn tables_differ_in_their_alignments(rt: HostRuntime) -> Result<(), Fail> {
     let alloc = rt.alloc();
     let tag = table(alloc, Alignment::Left)?;
     assert!(rt; tag == table(alloc, Alignment::Left)?);
@@ -244,7 +240,7 @@ fn tag_is_kept(alloc: Global, tag: Tag<'_>) -> Result<bool, AllocError> {
 }
 
 #[test]
-fn kept_tags(rt: HostRuntime) -> Result<(), Fail> {
+fn copies_and_static_tags_equal_the_tag(rt: HostRuntime) -> Result<(), Fail> {
     let alloc = rt.alloc();
     assert!(rt; tag_is_kept(alloc, Tag::Paragraph)?);
     assert!(rt; tag_is_kept(alloc, heading(alloc, "i", OF_30, ("a", Some(OF_30)))?)?);
@@ -272,7 +268,7 @@ fn event_is_kept(alloc: Global, event: Event<'_>) -> Result<bool, AllocError> {
 }
 
 #[test]
-fn kept_events(rt: HostRuntime) -> Result<(), Fail> {
+fn copies_and_static_events_equal_the_event(rt: HostRuntime) -> Result<(), Fail> {
     let alloc = rt.alloc();
     let text = CowStr::from;
     assert!(rt; event_is_kept(alloc, Event::Start(table(alloc, Alignment::Right)?))?);
@@ -311,7 +307,7 @@ fn has_boxed_texts(event: &Event<'_>) -> bool {
 }
 
 #[test]
-fn long_texts_of_static_events(rt: HostRuntime) -> Result<(), Fail> {
+fn long_texts_of_static_events_are_owned(rt: HostRuntime) -> Result<(), Fail> {
     let alloc = rt.alloc();
     let event = Event::Start(link(OF_30, OF_30, OF_30)).into_static(alloc)?;
     assert!(rt; event == Event::Start(link(OF_30, OF_30, OF_30)));

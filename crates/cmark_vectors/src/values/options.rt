@@ -152,7 +152,7 @@ fn old_footnotes() -> u32
 }
 
 #[test]
-fn names_and_bits(rt: HostRuntime) {
+fn flags_have_the_names_and_bits_of_the_table(rt: HostRuntime) {
     let rows = [
         (Options::ENABLE_TABLES, "ENABLE_TABLES", 2),
         (Options::ENABLE_FOOTNOTES, "ENABLE_FOOTNOTES", 4),
@@ -200,13 +200,16 @@ fn names_and_bits(rt: HostRuntime) {
 }
 
 #[test]
-fn bits_that_are_known(rt: HostRuntime) {
+fn known_bits_are_those_of_the_table(rt: HostRuntime) {
     assert_eq!(rt; bits_of_empty(), 0);
     assert_eq!(rt; bits_of_all(), 65534);
     assert_eq!(rt; bits_if_known(1), None);
     assert_eq!(rt; bits_if_known(65534), Some(65534));
     assert_eq!(rt; bits_if_known(512), Some(512));
-    assert!(rt; !Options::from_bits_retain(512).contains(Options::ENABLE_FOOTNOTES));
+    let holds_footnotes = Options::from_bits(512).map(|options| options.contains(
+        Options::ENABLE_FOOTNOTES,
+    ));
+    assert_eq!(rt; holds_footnotes, Some(false));
     assert_eq!(rt; known_bits(65537), 0);
     assert_eq!(rt; retained_bits(65537), 65537);
     assert!(rt; is_empty(0) && !is_empty(1));
@@ -217,7 +220,7 @@ fn bits_that_are_known(rt: HostRuntime) {
 }
 
 #[test]
-fn sets_of_bits(rt: HostRuntime) {
+fn options_are_sets_of_bits(rt: HostRuntime) {
     assert!(rt; contains(6, 4) && contains(6, 0) && !contains(4, 516));
     assert!(rt; intersects(4, 516) && !intersects(4, 512) && !intersects(4, 0));
     let tables_and_footnotes = Options::ENABLE_TABLES.union(Options::ENABLE_FOOTNOTES);
@@ -236,7 +239,7 @@ fn sets_of_bits(rt: HostRuntime) {
 }
 
 #[test]
-fn footnotes_by_the_rules_of_github(rt: HostRuntime) {
+fn footnotes_are_of_github_unless_old(rt: HostRuntime) {
     assert!(rt; has_gfm_footnotes(4));
     assert!(rt; !has_gfm_footnotes(0));
     assert!(rt; !has_gfm_footnotes(512));

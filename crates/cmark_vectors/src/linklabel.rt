@@ -1,16 +1,12 @@
-//! Link labels: worked rows, hostile texts, answers of pulldown-cmark 0.13.6, and which labels match.
+//! Link labels: worked rows, hostile texts, and which labels match.
 ghost use Rattle.std.specs.Prelude.{◌≡◌, ◌↔◌, IsTrue, Some};
 ghost use Rattle.markdown_scanners_tree.specs.LabelKey.{label_key};
 ghost use Rattle.cmark_vectors.specs.Markers.{skipped};
 
-mod vectors;
-
-use markdown_scanners_tree::linklabel::{
-    FootnoteLabel, LinkLabel, ReferenceLabel, scan_link_label_rest,
-};
+use crate::bounds::{are_equal, hash_of};
+use markdown_scanners_tree::linklabel::{FootnoteLabel, LinkLabel, scan_link_label_rest};
 use markdown_values::strings::CowStr;
 use std::alloc::{AllocError, Global};
-use std::hash::{BuildHasher, BuildHasherDefault, FoldHasher, Hash};
 use std::process::Abort;
 use std::test::Fail;
 
@@ -19,15 +15,6 @@ fn have_equal_keys(a: &LinkLabel, b: &LinkLabel) -> bool
     ensures { IsTrue result ↔ (label_key a.now ≡ label_key b.now) }
 {
     *a == *b
-}
-
-fn are_equal<T: Eq>(a: &T, b: &T) -> bool {
-    a == b
-}
-
-fn hash_of<T: Hash>(value: &T) -> u64 {
-    let hasher: BuildHasherDefault<FoldHasher> = BuildHasherDefault::default();
-    hasher.hash_one(value)
 }
 
 fn link_label(alloc: Global, text: &'static str) -> Result<LinkLabel<'static>, AllocError> {
@@ -57,14 +44,6 @@ fn footnotes_match_as_links_do(rt: HostRuntime) -> Result<(), Fail> {
     let note: FootnoteLabel = LinkLabel::new(rt.alloc(), CowStr::from("Note"))?;
     let same = link_label(rt.alloc(), "nOTE")?;
     assert!(rt; note == same);
-    Ok(())
-}
-
-#[test]
-fn references_are_printed_by_debug(rt: HostRuntime) -> Result<(), Fail> {
-    let link = format!(in rt.alloc(); "{:?}", ReferenceLabel::Link(CowStr::from("a")))?;
-    let note = format!(in rt.alloc(); "{:?}", ReferenceLabel::Footnote(CowStr::from("a")))?;
-    assert!(rt; link != note);
     Ok(())
 }
 
@@ -188,12 +167,12 @@ const ROWS: [Row; 19] = [
 ];
 
 #[test]
-fn labels(rt: HostRuntime) -> Result<(), Fail> {
+fn labels_are_read_up_to_their_bracket(rt: HostRuntime) -> Result<(), Fail> {
     assert_rows(&rt, rt.alloc(), &ROWS)
 }
 
 #[test]
-fn labels_in_one_line(rt: HostRuntime) -> Result<(), Fail> {
+fn labels_end_with_the_last_line_of_their_container(rt: HostRuntime) -> Result<(), Fail> {
     let rows: [LineRow; 2] = [
         ("a\nb]", false, None),
         (
@@ -206,7 +185,7 @@ fn labels_in_one_line(rt: HostRuntime) -> Result<(), Fail> {
 }
 
 #[test]
-fn nothing_is_left_after_a_line(rt: HostRuntime) -> Result<(), Fail> {
+fn no_label_ends_where_all_that_follows_is_skipped(rt: HostRuntime) -> Result<(), Fail> {
     assert_answer(&rt, &scan_skipping_all(rt.alloc(), "a\n]")?, &None, "a");
     Ok(())
 }
@@ -234,7 +213,7 @@ const LONG_ROWS: [(usize, &str, usize, &[u8], usize, bool); 4] = [
 ];
 
 #[test]
-fn long_labels(rt: HostRuntime) -> Result<(), Fail> {
+fn labels_of_999_characters_are_read(rt: HostRuntime) -> Result<(), Fail> {
     for (front, middle, back, marker, taken, lent) in LONG_ROWS {
         let text = with_letters(rt.alloc(), front, middle, back)?;
         let answer = scan_after_markers(rt.alloc(), text.as_str(), marker, false)?;
@@ -250,7 +229,7 @@ fn long_labels(rt: HostRuntime) -> Result<(), Fail> {
 }
 
 #[test]
-fn labels_of_too_many_characters(rt: HostRuntime) -> Result<(), Fail> {
+fn labels_of_more_characters_are_not_read(rt: HostRuntime) -> Result<(), Fail> {
     for (count, middle) in [(1000, ""), (999, " ")] {
         let text = with_letters(rt.alloc(), count, middle, 0)?;
         let answer = scan_after_markers(rt.alloc(), text.as_str(), b"", false)?;
@@ -280,4 +259,13 @@ fn labels_read_back(rt: HostRuntime) -> Result<(), Fail> {
         assert_eq!(rt; same.as_str(), label.as_str(), "on {text:?}");
     }
     Ok(())
+}
+
+#[test]
+fn a_label_that_ends_in_a_backslash_does_not_read_back(rt: HostRuntime) -> Result<(), Fail> {
+    let rows: [LineRow; 2] = [
+        ("a\\ ]", false, Some((4, true, "a\\"))),
+        ("a\\]", false, None),
+    ];
+    assert_line_rows(&rt, rt.alloc(), &rows)
 }

@@ -1,9 +1,9 @@
 //! Texts: what each call answers, in which variant, and that equality and hash see the text alone.
+use crate::bounds::{are_equal, hash_of, printed};
 use markdown_values::strings::{BoxedStr, CowStr, InlineStr, MAX_INLINE_STR_LEN};
 use std::alloc::{AllocError, Global};
 use std::convert::AsStr;
 use std::fmt::Display;
-use std::hash::{BuildHasher, BuildHasherDefault, FoldHasher, Hash};
 use std::test::Fail;
 
 const OF_15: &str = "0123456789abcde";
@@ -34,22 +34,8 @@ fn inlined(text: &str) -> Option<CowStr<'static>> {
     }
 }
 
-// The calls that stand in traits, each through its bound.
 fn lent<T: AsStr>(text: &T) -> &str {
     text.as_str()
-}
-
-fn are_equal<T: Eq>(a: &T, b: &T) -> bool {
-    a == b
-}
-
-fn hash_of<T: Hash>(text: &T) -> u64 {
-    let hasher: BuildHasherDefault<FoldHasher> = BuildHasherDefault::default();
-    hasher.hash_one(text)
-}
-
-fn printed<T: Display>(alloc: Global, text: &T) -> Result<String, AllocError> {
-    format!(in alloc; "<{}>", text)
 }
 
 fn printed_wide<T: Display>(alloc: Global, text: &T) -> Result<String, AllocError> {
@@ -57,7 +43,7 @@ fn printed_wide<T: Display>(alloc: Global, text: &T) -> Result<String, AllocErro
 }
 
 #[test]
-fn inline_texts(rt: HostRuntime) {
+fn texts_of_at_most_22_bytes_are_inlined(rt: HostRuntime) {
     assert!(rt; MAX_INLINE_STR_LEN >= 4);
     assert_eq!(rt; MAX_INLINE_STR_LEN, OF_22.len());
     assert_eq!(rt; InlineStr::from('a').as_str(), "a");
@@ -85,7 +71,7 @@ fn inline_texts(rt: HostRuntime) {
 }
 
 #[test]
-fn texts_from_a_character_or_a_text(rt: HostRuntime) {
+fn a_character_is_inlined_and_a_text_is_lent(rt: HostRuntime) {
     let letter = CowStr::from('c');
     assert_eq!(rt; variant(&letter), "inlined");
     assert_eq!(rt; letter.as_str(), "c");
@@ -99,7 +85,7 @@ fn texts_from_a_character_or_a_text(rt: HostRuntime) {
 }
 
 #[test]
-fn strings_from_texts(rt: HostRuntime) -> Result<(), Fail> {
+fn each_variant_gives_its_string(rt: HostRuntime) -> Result<(), Fail> {
     let alloc = rt.alloc();
     let lent_text = CowStr::from("some text").into_string(alloc)?;
     assert_eq!(rt; lent_text.as_str(), "some text");
@@ -113,7 +99,7 @@ fn strings_from_texts(rt: HostRuntime) -> Result<(), Fail> {
 }
 
 #[test]
-fn owned_texts(rt: HostRuntime) -> Result<(), Fail> {
+fn a_string_is_owned(rt: HostRuntime) -> Result<(), Fail> {
     let text = boxed(rt.alloc(), "a")?;
     assert_eq!(rt; variant(&text), "boxed");
     if let CowStr::Boxed(owned) = &text {
@@ -131,7 +117,7 @@ fn copy_is(alloc: Global, text: &CowStr<'_>, wanted: &str) -> Result<bool, Alloc
 }
 
 #[test]
-fn copies(rt: HostRuntime) -> Result<(), Fail> {
+fn copies_stay_lent_or_short(rt: HostRuntime) -> Result<(), Fail> {
     let alloc = rt.alloc();
     assert!(rt; copy_is(alloc, &boxed(alloc, OF_15)?, "inlined")?);
     assert!(rt; copy_is(alloc, &boxed(alloc, OF_22)?, "inlined")?);
@@ -154,7 +140,7 @@ fn static_is(
 }
 
 #[test]
-fn static_texts(rt: HostRuntime) -> Result<(), Fail> {
+fn static_texts_are_lent_nowhere(rt: HostRuntime) -> Result<(), Fail> {
     let alloc = rt.alloc();
     assert!(rt; static_is(alloc, CowStr::from(OF_22), "inlined", OF_22)?);
     assert!(rt; static_is(alloc, CowStr::from(OF_23), "boxed", OF_23)?);
@@ -165,7 +151,7 @@ fn static_texts(rt: HostRuntime) -> Result<(), Fail> {
 }
 
 #[test]
-fn equal_texts_in_each_variant(rt: HostRuntime) -> Result<(), Fail> {
+fn texts_are_equal_whatever_holds_them(rt: HostRuntime) -> Result<(), Fail> {
     let owned = boxed(rt.alloc(), "a")?;
     let lent_text = CowStr::from("a");
     let inlined_text = CowStr::from('a');
@@ -183,12 +169,12 @@ fn equal_texts_in_each_variant(rt: HostRuntime) -> Result<(), Fail> {
 }
 
 #[test]
-fn printed_texts(rt: HostRuntime) -> Result<(), Fail> {
+fn texts_are_printed_alone(rt: HostRuntime) -> Result<(), Fail> {
     let alloc = rt.alloc();
-    assert_eq!(rt; printed(alloc, &InlineStr::from('é'))?.as_str(), "<é>");
-    assert_eq!(rt; printed(alloc, &boxed(alloc, "é a")?)?.as_str(), "<é a>");
-    assert_eq!(rt; printed(alloc, &CowStr::from("é a"))?.as_str(), "<é a>");
-    assert_eq!(rt; printed(alloc, &CowStr::from('é'))?.as_str(), "<é>");
+    assert_eq!(rt; printed(alloc, &InlineStr::from('é'))?.as_str(), "é");
+    assert_eq!(rt; printed(alloc, &boxed(alloc, "é a")?)?.as_str(), "é a");
+    assert_eq!(rt; printed(alloc, &CowStr::from("é a"))?.as_str(), "é a");
+    assert_eq!(rt; printed(alloc, &CowStr::from('é'))?.as_str(), "é");
     assert_eq!(rt; printed_wide(alloc, &CowStr::from("a"))?.as_str(), "<a>");
     assert_eq!(rt; printed_wide(alloc, &InlineStr::from('a'))?.as_str(), "<a>");
     Ok(())

@@ -6,7 +6,7 @@ use Rattle.std.proofs.lemmas.Str.{IsCharBoundary-start, IsCharBoundary-after_asc
 use Rattle.std.specs.List.{starts_with}
 use Rattle.std.specs.Str.{IsUtf8, IsCharBoundary}
 use Rattle.cmark_vectors.specs.Markers.{skipped}
-use Rattle.cmark_vectors.proofs.label.scan_after_markers.Goals as goal
+use Rattle.cmark_vectors.proofs.linklabel.scan_after_markers.Goals as goal
 
 same : (m n : ℕ) → Some m ≡ Some n → m ≡ n
 same m n e = cc

@@ -1,0 +1,141 @@
+//! The derives of each type, called through their bounds.
+use crate::bounds::{are_equal, debug_printed, hash_of};
+use markdown_scanners_tree::inline_html::{HtmlStop, run_inline_html};
+use markdown_scanners_tree::line::{LineAnswer, LineCall, LineStop, run_line};
+use markdown_scanners_tree::linklabel::ReferenceLabel;
+use markdown_values::strings::{CowStr, InlineStr, StringTooLongError};
+use markdown_values::tree::{Tree, TreeIndex};
+use markdown_values::values::{
+    Alignment, BlockQuoteKind, CodeBlockKind, Event, HeadingLevel, InvalidHeadingLevel, LinkType,
+    MetadataBlockKind, Options, Tag, TagEnd,
+};
+use std::alloc::{AllocError, Global};
+use std::cmp::Ordering;
+use std::fmt::Debug;
+use std::hash::Hash;
+use std::test::Fail;
+
+// The lesser value and the greater one, by every derive of a value that is copied, ordered and hashed.
+fn are_ordered<T: Clone + Copy + Debug + Eq + Ord + Hash>(
+    alloc: Global,
+    less: T,
+    more: T,
+) -> Result<bool, AllocError> {
+    let copy = less;
+    let clone = less.clone()?;
+    let is_same = are_equal(&copy, &less)
+        && are_equal(&clone, &less)
+        && hash_of(&clone) == hash_of(&less);
+    let is_less = less.cmp(&more) == Ordering::Less
+        && less.partial_cmp(&more) == Some(Ordering::Less);
+    let is_printed = !debug_printed(alloc, &less)?.is_empty();
+    Ok(is_same && is_less && is_printed && !are_equal(&less, &more))
+}
+
+#[test]
+fn plain_values_are_copied_ordered_and_hashed(rt: HostRuntime) -> Result<(), Fail> {
+    let alloc = rt.alloc();
+    assert!(rt; are_ordered(alloc, BlockQuoteKind::Note, BlockQuoteKind::Tip)?);
+    assert!(rt;
+        are_ordered(
+            alloc,
+            MetadataBlockKind::YamlStyle,
+            MetadataBlockKind::PlusesStyle
+        )?
+    );
+    assert!(rt; are_ordered(alloc, TagEnd::List(false), TagEnd::List(true))?);
+    assert!(rt; are_ordered(alloc, HeadingLevel::H1, HeadingLevel::H6)?);
+    assert!(rt; are_ordered(alloc, InvalidHeadingLevel(0), InvalidHeadingLevel(7))?);
+    assert!(rt; are_ordered(alloc, Options::ENABLE_TABLES, Options::ENABLE_FOOTNOTES)?);
+    Ok(())
+}
+
+// Two values that differ, by every derive of a value that is copied and compared.
+fn are_copied<T: Clone + Copy + Debug + PartialEq>(
+    alloc: Global,
+    one: T,
+    other: T,
+) -> Result<bool, AllocError> {
+    let copy = one;
+    let clone = one.clone()?;
+    let is_printed = !debug_printed(alloc, &one)?.is_empty();
+    Ok(copy == one && clone == one && one != other && is_printed)
+}
+
+#[test]
+fn links_and_alignments_are_copied_and_compared(rt: HostRuntime) -> Result<(), Fail> {
+    let alloc = rt.alloc();
+    assert!(rt; are_copied(alloc, LinkType::Inline, LinkType::Email)?);
+    assert!(rt; are_copied(alloc, Alignment::None, Alignment::Left)?);
+    Ok(())
+}
+
+fn is_compared<T: Debug + PartialEq>(
+    alloc: Global,
+    one: &T,
+    other: &T,
+) -> Result<bool, AllocError> {
+    let is_printed = !debug_printed(alloc, one)?.is_empty();
+    Ok(*one == *one && *one != *other && is_printed)
+}
+
+#[test]
+fn tags_and_events_are_compared(rt: HostRuntime) -> Result<(), Fail> {
+    let alloc = rt.alloc();
+    let fenced = CodeBlockKind::Fenced(CowStr::from("a"));
+    assert!(rt; is_compared(alloc, &CodeBlockKind::Indented, &fenced)?);
+    assert!(rt; is_compared(alloc, &Tag::Paragraph, &Tag::Item)?);
+    assert!(rt; is_compared(alloc, &Event::Rule, &Event::HardBreak)?);
+    Ok(())
+}
+
+#[test]
+fn runs_are_compared(rt: HostRuntime) -> Result<(), Fail> {
+    let alloc = rt.alloc();
+    assert!(rt; is_compared(alloc, &LineCall::Eol, &LineCall::Quote)?);
+    assert!(rt; is_compared(alloc, &LineAnswer::Count(0), &LineAnswer::Count(1))?);
+    assert!(rt; is_compared(alloc, &LineStop::SpacePending, &LineStop::IndentTooLarge)?);
+    let empty = run_line(alloc, b"", &[])?;
+    assert!(rt; is_compared(alloc, &empty, &run_line(alloc, b"", &[LineCall::Eol])?)?);
+    assert!(rt; is_compared(alloc, &HtmlStop::NoOpener, &HtmlStop::NotRising)?);
+    let empty = run_inline_html(alloc, b"<!", &[])?;
+    assert!(rt; is_compared(alloc, &empty, &run_inline_html(alloc, b"<!", &[2])?)?);
+    Ok(())
+}
+
+#[test]
+fn texts_and_references_are_printed_by_debug(rt: HostRuntime) -> Result<(), Fail> {
+    let alloc = rt.alloc();
+    let owned = CowStr::from_string(alloc, String::from_str(alloc, "a")?)?;
+    if let CowStr::Boxed(text) = &owned {
+        assert!(rt; !debug_printed(alloc, text)?.is_empty());
+    }
+    assert!(rt; !debug_printed(alloc, &owned)?.is_empty());
+    assert!(rt; !debug_printed(alloc, &InlineStr::from('a'))?.is_empty());
+    assert!(rt; !debug_printed(alloc, &StringTooLongError)?.is_empty());
+    let link = debug_printed(alloc, &ReferenceLabel::Link(CowStr::from("a")))?;
+    let note = debug_printed(alloc, &ReferenceLabel::Footnote(CowStr::from("a")))?;
+    assert!(rt; link != note);
+    Ok(())
+}
+
+fn is_between<T: Clone + Copy + Debug + Eq + PartialOrd>(
+    alloc: Global,
+    less: T,
+    more: T,
+) -> Result<bool, AllocError> {
+    let copy = less;
+    let is_same = are_equal(&copy, &less) && are_equal(&less.clone()?, &less);
+    let is_printed = !debug_printed(alloc, &less)?.is_empty();
+    Ok(is_same && less < more && !(more <= less) && is_printed)
+}
+
+#[test]
+fn indices_of_a_tree_are_copied_and_ordered(rt: HostRuntime) -> Result<(), Fail> {
+    let alloc = rt.alloc();
+    let mut tree: Tree<u8> = Tree::with_capacity(alloc, 3)?;
+    let first: TreeIndex = tree.append(b'a')?;
+    let second = tree.append(b'b')?;
+    assert!(rt; is_between(alloc, first, second)?);
+    Ok(())
+}

@@ -1,0 +1,16 @@
+//! Scanners of lines, blocks and inline texts, a file a construct.
+mod breaks;
+mod classes;
+mod entities;
+mod fences;
+mod headings;
+mod html_block;
+mod html_tag;
+mod indent;
+mod lines;
+mod links;
+mod list_items;
+mod metadata;
+mod runs;
+mod tables;
+mod unescaping;

@@ -1,0 +1,87 @@
+//! Link destinations, autolinks and pipes of wikilinks.
+use markdown_scanners_tree::scanners::{scan_autolink, scan_link_dest, scan_wikilink_pipe};
+use markdown_values::strings::CowStr;
+use markdown_values::values::LinkType;
+use std::process::Abort;
+use std::test::Fail;
+
+fn destination<'a>(
+    rt: &impl Abort,
+    text: &'a str,
+    start: usize,
+    max_next: usize,
+) -> Option<(usize, &'a str)> {
+    assert!(rt; text.is_char_boundary(start));
+    scan_link_dest(text, start, max_next)
+}
+
+fn wikilink_pipe<'a>(
+    rt: &impl Abort,
+    text: &'a str,
+    start: usize,
+    len: usize,
+) -> Option<(usize, &'a str)> {
+    assert!(rt; text.is_char_boundary(start));
+    scan_wikilink_pipe(text, start, len)
+}
+
+fn autolink<'a>(
+    rt: &impl Abort,
+    text: &'a str,
+    start: usize,
+) -> Option<(usize, CowStr<'a>, LinkType)> {
+    assert!(rt; text.is_char_boundary(start));
+    scan_autolink(text, start)
+}
+
+#[test]
+fn reads_link_destinations(rt: HostRuntime) {
+    assert_eq!(rt; destination(&rt, "((a))", 0, 1), Some((5, "((a))")));
+    assert_eq!(rt; destination(&rt, "(((a)))", 0, 1), None);
+    assert_eq!(rt; destination(&rt, "", 0, 1), Some((0, "")));
+    assert_eq!(rt; destination(&rt, "<a\\>b>c", 0, 1), Some((6, "a\\>b")));
+    assert_eq!(rt; destination(&rt, "<a", 0, 9), None);
+    assert_eq!(rt; destination(&rt, "a b", 0, 9), Some((1, "a")));
+    assert_eq!(rt; destination(&rt, "(u)", 1, 9), Some((1, "u")));
+    assert_eq!(rt; destination(&rt, "\\(a", 0, 9), Some((3, "\\(a")));
+    assert_eq!(rt; destination(&rt, "(a)", 0, usize::MAX), Some((3, "(a)")));
+}
+
+#[test]
+fn nests_a_thousand_parentheses(rt: HostRuntime) -> Result<(), Fail> {
+    let mut text = "(".repeat(rt.alloc(), 1000)?;
+    text.push_str(")".repeat(rt.alloc(), 1000)?.as_str())?;
+    let whole = Some((2000, text.as_str()));
+    assert_eq!(rt; destination(&rt, text.as_str(), 0, 999), whole);
+    assert_eq!(rt; destination(&rt, text.as_str(), 0, 998), None);
+    Ok(())
+}
+
+#[test]
+fn reads_uris_in_angle_brackets(rt: HostRuntime) -> Result<(), Fail> {
+    let found = |place, uri| Some((place, CowStr::from(uri), LinkType::Autolink));
+    assert_eq!(rt; autolink(&rt, "<https://a.b>", 1), found(13, "https://a.b"));
+    assert_eq!(rt; autolink(&rt, "<a:b>", 1), None);
+    assert_eq!(rt; autolink(&rt, "<a@b.c>", 1), None);
+    assert_eq!(rt; autolink(&rt, "<ab:>", 1), found(5, "ab:"));
+    assert_eq!(rt; autolink(&rt, "<ab:c d>", 1), None);
+    Ok(())
+}
+
+#[test]
+fn takes_schemes_of_thirty_two_letters(rt: HostRuntime) -> Result<(), Fail> {
+    let mut longest = "a".repeat(rt.alloc(), 32)?;
+    longest.push_str(":>")?;
+    assert!(rt; autolink(&rt, longest.as_str(), 0).is_some());
+    let mut longer = "a".repeat(rt.alloc(), 33)?;
+    longer.push_str(":>")?;
+    assert!(rt; autolink(&rt, longer.as_str(), 0).is_none());
+    Ok(())
+}
+
+#[test]
+fn looks_for_pipes_in_the_bytes_asked_for(rt: HostRuntime) {
+    assert_eq!(rt; wikilink_pipe(&rt, "a|b]]", 0, 3), Some((2, "a")));
+    assert_eq!(rt; wikilink_pipe(&rt, "a|b]]", 0, 1), None);
+    assert_eq!(rt; wikilink_pipe(&rt, "a|b]]", 2, usize::MAX), None);
+}
