@@ -187,56 +187,97 @@ fn plain_tags_end_as_the_table_says(rt: HostRuntime) {
     assert!(rt; ends_as(Tag::Subscript, TagEnd::Subscript));
 }
 
-// Whether a heading made of these is the same as the tag.
-fn is_heading(
+/// An identifier, a class and an attribute.
+type HeadingParts = (
+    &'static str,
+    &'static str,
+    (&'static str, Option<&'static str>),
+);
+
+// Whether headings made of these are equal.
+fn are_equal_headings(
     alloc: Global,
-    tag: &Tag<'_>,
-    id: &'static str,
-    class: &'static str,
-    attribute: (&'static str, Option<&'static str>),
+    one: HeadingParts,
+    other: HeadingParts,
 ) -> Result<bool, AllocError> {
-    Ok(*tag == heading(alloc, id, class, attribute)?)
+    let one = heading(alloc, one.0, one.1, one.2)?;
+    let other = heading(alloc, other.0, other.1, other.2)?;
+    Ok(one == other)
 }
 
 // Equality looks at each part of a tag.
 #[test]
 fn headings_differ_in_each_part(rt: HostRuntime) -> Result<(), Fail> {
-    let alloc = rt.alloc();
-    let tag = heading(alloc, "i", "c", ("a", Some("v")))?;
-    assert!(rt; is_heading(alloc, &tag, "i", "c", ("a", Some("v")))?);
-    assert!(rt; !is_heading(alloc, &tag, "j", "c", ("a", Some("v")))?);
-    assert!(rt; !is_heading(alloc, &tag, "i", "d", ("a", Some("v")))?);
-    assert!(rt; !is_heading(alloc, &tag, "i", "c", ("b", Some("v")))?);
-    assert!(rt; !is_heading(alloc, &tag, "i", "c", ("a", Some("w")))?);
-    assert!(rt; !is_heading(alloc, &tag, "i", "c", ("a", None))?);
+    let parts: HeadingParts = ("i", "c", ("a", Some("v")));
+    let others: [HeadingParts; 5] = [
+        ("j", "c", ("a", Some("v"))),
+        ("i", "d", ("a", Some("v"))),
+        ("i", "c", ("b", Some("v"))),
+        ("i", "c", ("a", Some("w"))),
+        ("i", "c", ("a", None)),
+    ];
+    assert!(rt; are_equal_headings(rt.alloc(), parts, parts)?);
+    for other in others {
+        assert!(rt; !are_equal_headings(rt.alloc(), parts, other)?);
+    }
     Ok(())
+}
+
+/// A destination, a title and an identifier.
+type LinkParts = (&'static str, &'static str, &'static str);
+
+fn are_equal_links(one: LinkParts, other: LinkParts) -> bool {
+    link(one.0, one.1, one.2) == link(other.0, other.1, other.2)
+}
+
+fn is_equal_image(parts: LinkParts, link_type: LinkType) -> bool {
+    link(parts.0, parts.1, parts.2) == image(link_type)
+}
+
+fn are_equal_images(one: LinkType, other: LinkType) -> bool {
+    image(one) == image(other)
 }
 
 #[test]
 fn links_differ_in_each_part(rt: HostRuntime) {
-    assert!(rt; link("d", "t", "i") == link("d", "t", "i"));
-    assert!(rt; link("d", "t", "i") != link("e", "t", "i"));
-    assert!(rt; link("d", "t", "i") != link("d", "u", "i"));
-    assert!(rt; link("d", "t", "i") != link("d", "t", "j"));
-    assert!(rt; link("d", "t", "i") != image(LinkType::Inline));
-    assert!(rt; image(LinkType::Inline) != image(LinkType::Email));
+    let parts: LinkParts = ("d", "t", "i");
+    let others: [LinkParts; 3] = [("e", "t", "i"), ("d", "u", "i"), ("d", "t", "j")];
+    assert!(rt; are_equal_links(parts, parts));
+    for other in others {
+        assert!(rt; !are_equal_links(parts, other));
+    }
+    assert!(rt; !is_equal_image(parts, LinkType::Inline));
+    assert!(rt; are_equal_images(LinkType::Inline, LinkType::Inline));
+    assert!(rt; !are_equal_images(LinkType::Inline, LinkType::Email));
+}
+
+fn are_equal_tables(alloc: Global, one: Alignment, other: Alignment) -> Result<bool, AllocError> {
+    let one = table(alloc, one)?;
+    Ok(one == table(alloc, other)?)
+}
+
+fn is_empty_table(alloc: Global, last: Alignment) -> Result<bool, AllocError> {
+    Ok(table(alloc, last)? == Tag::Table(Vec::new(alloc)))
 }
 
 #[test]
 fn tables_differ_in_their_alignments(rt: HostRuntime) -> Result<(), Fail> {
-    let alloc = rt.alloc();
-    let tag = table(alloc, Alignment::Left)?;
-    assert!(rt; tag == table(alloc, Alignment::Left)?);
-    assert!(rt; tag != table(alloc, Alignment::Right)?);
-    assert!(rt; tag != Tag::Table(Vec::new(alloc)));
+    assert!(rt; are_equal_tables(rt.alloc(), Alignment::Left, Alignment::Left)?);
+    assert!(rt; !are_equal_tables(rt.alloc(), Alignment::Left, Alignment::Right)?);
+    assert!(rt; !is_empty_table(rt.alloc(), Alignment::Left)?);
     Ok(())
+}
+
+fn static_tag_is(alloc: Global, tag: Tag<'_>, wanted: &Tag<'_>) -> Result<bool, AllocError> {
+    let tag = tag.into_static(alloc)?;
+    Ok(tag == *wanted)
 }
 
 // A copy of a tag, and the tag with nothing lent, equal the tag.
 fn tag_is_kept(alloc: Global, tag: Tag<'_>) -> Result<bool, AllocError> {
     let copy = tag.clone(alloc)?;
     let is_equal = copy == tag;
-    Ok(is_equal && tag.into_static(alloc)? == copy)
+    Ok(static_tag_is(alloc, tag, &copy)? && is_equal)
 }
 
 #[test]
@@ -260,11 +301,20 @@ fn copies_and_static_tags_equal_the_tag(rt: HostRuntime) -> Result<(), Fail> {
     Ok(())
 }
 
+fn static_event_is(
+    alloc: Global,
+    event: Event<'_>,
+    wanted: &Event<'_>,
+) -> Result<bool, AllocError> {
+    let event = event.into_static(alloc)?;
+    Ok(event == *wanted)
+}
+
 // The same for an event.
 fn event_is_kept(alloc: Global, event: Event<'_>) -> Result<bool, AllocError> {
     let copy = event.clone(alloc)?;
     let is_equal = copy == event;
-    Ok(is_equal && event.into_static(alloc)? == copy)
+    Ok(static_event_is(alloc, event, &copy)? && is_equal)
 }
 
 #[test]
@@ -306,14 +356,20 @@ fn has_boxed_texts(event: &Event<'_>) -> bool {
     }
 }
 
+// Whether the event with nothing lent equals this one, and its texts are owned.
+fn becomes_owned(alloc: Global, event: Event<'_>, wanted: &Event<'_>) -> Result<bool, AllocError> {
+    let event = event.into_static(alloc)?;
+    Ok(has_boxed_texts(&event) && event == *wanted)
+}
+
+fn long_link() -> Event<'static> {
+    Event::Start(link(OF_30, OF_30, OF_30))
+}
+
 #[test]
 fn long_texts_of_static_events_are_owned(rt: HostRuntime) -> Result<(), Fail> {
-    let alloc = rt.alloc();
-    let event = Event::Start(link(OF_30, OF_30, OF_30)).into_static(alloc)?;
-    assert!(rt; event == Event::Start(link(OF_30, OF_30, OF_30)));
-    assert!(rt; has_boxed_texts(&event));
-    let event = Event::Text(CowStr::from(OF_30)).into_static(alloc)?;
-    assert!(rt; event == Event::Text(CowStr::from(OF_30)));
-    assert!(rt; has_boxed_texts(&event));
+    assert!(rt; becomes_owned(rt.alloc(), long_link(), &long_link())?);
+    let text = || Event::Text(CowStr::from(OF_30));
+    assert!(rt; becomes_owned(rt.alloc(), text(), &text())?);
     Ok(())
 }
