@@ -1,9 +1,7 @@
-pub mod Command
-pub mod EntityTexts
-pub mod Faults
-pub mod HtmlScans
-pub mod LabelRun
-pub mod Printed
-pub mod Report
-pub mod Run
-pub mod Words
+pub mod faults
+pub mod html
+pub mod label
+pub mod printing
+pub mod report
+pub mod unescaping
+pub mod words

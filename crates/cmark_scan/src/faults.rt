@@ -1,6 +1,6 @@
 // What went wrong, and how it is told.
 ghost use Rattle.std.specs.Prelude.{◌≡◌, codes};
-ghost use Rattle.cmark_scan.specs.Faults.{fault_line, AppendsFront};
+ghost use Rattle.cmark_scan.specs.faults.Faults.{fault_line, AppendsFront};
 
 use std::alloc::AllocError;
 use std::io::Write;

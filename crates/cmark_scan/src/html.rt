@@ -1,16 +1,27 @@
 // The scans of inline HTML in a text, and their printed lines.
 ghost use Rattle.std.specs.Prelude.{◌≡◌, ◌++◌, [], is_none, IfOk, OnOk, string_bytes};
 ghost use Rattle.std.specs.List.{flat_map};
-ghost use Rattle.markdown_scanners_tree.specs.InlineHtml.{find_at};
-ghost use Rattle.markdown_scanners_tree.specs.InlineHtmlRun.{refusal, run_after};
-ghost use Rattle.cmark_scan.specs.HtmlScans.{before_later, scans_of};
-ghost use Rattle.cmark_scan.specs.Printed.{html_text, scan_text};
+ghost use Rattle.markdown_scanners_tree.specs.inline_html.InlineHtml.{find_at};
+ghost use Rattle.markdown_scanners_tree.specs.inline_html.run.Run.{refusal, run_after};
+ghost use Rattle.cmark_scan.specs.html.HtmlScans.{before_later, scans_of};
+ghost use Rattle.cmark_scan.specs.printing.Printed.{IsOutcome, html_text, scan_text};
+ghost use Rattle.cmark_scan.specs.report.Report.{outcome_view};
+ghost use Rattle.cmark_scan.specs.words.Words.{scan_html};
 
+use crate::report::Report;
 use markdown_scanners_tree::inline_html::InlineHtmlRun;
 use std::alloc::{AllocError, Global};
 
-/// A line for each scan, made at every place that a run accepts, and the bytes that they passed over.
-pub(crate) fn html_text(alloc: Global, bytes: &[u8]) -> Result<String, AllocError>
+/// What the scans of inline HTML in the input come to.
+pub(crate) fn html_report(alloc: Global, bytes: &[u8]) -> Result<Report, AllocError>
+    ensures { IfOk result (λ report. IsOutcome scan_html bytes.now (outcome_view report)) }
+{
+    let text = html_text(alloc, bytes)?;
+    Ok(Report::Done(text))
+}
+
+// A line for each scan, made at every place that a run accepts, and the bytes that they passed over.
+fn html_text(alloc: Global, bytes: &[u8]) -> Result<String, AllocError>
     ensures { IfOk result (λ text. string_bytes text ≡ html_text bytes.now (scans_of bytes.now)) }
 {
     let mut text = String::new(alloc);

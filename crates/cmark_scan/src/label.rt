@@ -1,10 +1,10 @@
 // The label at the front of a text, and its printed lines.
 ghost use Rattle.std.specs.Prelude.{◌≡◌, Bool, true, false, IsTrue, IfOk, Some, string_bytes};
-ghost use Rattle.markdown_values.specs.Text.{cow_text, IsBorrowed};
-ghost use Rattle.cmark_scan.specs.Printed.{IsLabelOutcome, label_lines};
-ghost use Rattle.cmark_scan.specs.Report.{outcome_view};
+ghost use Rattle.markdown_values.specs.strings.Text.{cow_text, IsBorrowed};
+ghost use Rattle.cmark_scan.specs.printing.Printed.{IsLabelOutcome, label_lines};
+ghost use Rattle.cmark_scan.specs.report.Report.{outcome_view};
 
-use crate::program::Report;
+use crate::report::Report;
 use markdown_scanners_tree::linklabel::scan_link_label_rest;
 use markdown_values::strings::CowStr;
 use std::alloc::{AllocError, Global};

@@ -4,9 +4,11 @@
 mod faults;
 mod html;
 mod label;
+mod line;
 mod printing;
 pub mod program;
 mod reading;
+mod report;
 #[cfg(test)]
 mod tests;
 mod unescaping;

@@ -1,8 +1,8 @@
 // The printed text of what the library answers.
 ghost use Rattle.std.specs.Prelude.{◌≡◌, ◌++◌, IfOk, OnOk, string_bytes, codes};
 ghost use Rattle.std.specs.List.{flat_map, zip};
-ghost use Rattle.cmark_scan.specs.Run.{run_view};
-ghost use Rattle.cmark_scan.specs.Printed.{run_text, answer_line, hex_byte, hex_text, stop_name, stop_line, call_name};
+ghost use Rattle.cmark_scan.specs.printing.Run.{run_view};
+ghost use Rattle.cmark_scan.specs.printing.Printed.{run_text, answer_line, hex_byte, hex_text, stop_name, stop_line, call_name};
 
 use markdown_scanners_tree::line::{LineAnswer, LineCall, LineRun, LineStop};
 use std::alloc::{AllocError, Global};

@@ -1,36 +1,26 @@
 //! What the program does with its words, its input and its output.
 ghost use Rattle.std.specs.Prelude.{◌≡◌, ◌≢◌, IfOk, IfSome, IfErr, OnOk, IsSome, IsNone};
 ghost use Rattle.std.specs.Io.KnownBytes.{Appends, IsAtEnd};
-ghost use Rattle.cmark_scan.specs.Words.{request_of, scan_line, scan_unescape, calls_of};
-ghost use Rattle.cmark_scan.specs.Command.{texts, request_view};
-ghost use Rattle.cmark_scan.specs.Printed.{Outcome, IsOutcome};
-ghost use Rattle.cmark_scan.specs.Report.{outcome_view};
-ghost use Rattle.cmark_scan.specs.Faults.{fault_line, IsBeforeWriting, Tells};
+ghost use Rattle.cmark_scan.specs.words.Words.{request_of};
+ghost use Rattle.cmark_scan.specs.words.Command.{texts, request_view};
+ghost use Rattle.cmark_scan.specs.printing.Printed.{Outcome, IsOutcome};
+ghost use Rattle.cmark_scan.specs.report.Report.{outcome_view};
+ghost use Rattle.cmark_scan.specs.faults.Faults.{fault_line, IsBeforeWriting, Tells};
 
 use crate::faults::{Fault, complain, report_fault};
-use crate::html::html_text;
+use crate::html::html_report;
 use crate::label::label_report;
-use crate::printing::run_text;
+use crate::line::line_report;
 use crate::reading::read_all;
-use crate::unescaping::unescaped_text;
-use crate::words::{Command, parse_calls, parse_command};
-use markdown_scanners_tree::line::run_line;
-use std::alloc::Global;
+use crate::report::Report;
+use crate::unescaping::unescape_report;
+use crate::words::{Command, parse_command};
+use std::alloc::{AllocError, Global};
 use std::io::{Read, Write};
-use std::str::from_utf8;
 
 const USAGE: &str = "usage: cmark_scan line CALL.. | html | label | unescape\n";
 
 const NOT_TEXT: &str = "not UTF-8\n";
-
-/// What a command comes to.
-#[derive(Drop)]
-pub(crate) enum Report {
-    Done(String),
-    Stopped(String),
-    /// The input isn't UTF-8.
-    NotText,
-}
 
 /// Runs the program on its words, without its name, and answers its status.
 ///
@@ -98,40 +88,13 @@ fn answer<R: Read, W: Write>(
 }
 
 // What the command comes to on the input.
-fn report_on(alloc: Global, command: Command<'_>, bytes: &[u8]) -> Result<Report, Fault>
-    ensures outcome { IfOk result (λ report. IsOutcome (request_view command.entry) bytes.now (outcome_view report)) }
-    ensures fault { IfErr result IsBeforeWriting }
+fn report_on(alloc: Global, command: Command<'_>, bytes: &[u8]) -> Result<Report, AllocError>
+    ensures { IfOk result (λ report. IsOutcome (request_view command.entry) bytes.now (outcome_view report)) }
 {
     match command {
-        Command::Line(words) => report_on_line(alloc, words, bytes),
-        Command::Html => Ok(Report::Done(html_text(alloc, bytes)?)),
-        Command::Unescape => report_on_text(alloc, bytes),
-        Command::Label => Ok(label_report(alloc, bytes)?),
+        Command::Line(words) => line_report(alloc, words, bytes),
+        Command::Html => html_report(alloc, bytes),
+        Command::Unescape => unescape_report(alloc, bytes),
+        Command::Label => label_report(alloc, bytes),
     }
-}
-
-// What the calls that the words ask for come to on the line.
-fn report_on_line(alloc: Global, words: &[&str], bytes: &[u8]) -> Result<Report, Fault>
-    ensures outcome { IfOk result (λ report. IsOutcome (scan_line (calls_of (texts words.now))) bytes.now (outcome_view report)) }
-    ensures fault { IfErr result IsBeforeWriting }
-{
-    let calls = parse_calls(alloc, words)?;
-    let run = run_line(alloc, bytes, &calls)?;
-    let text = run_text(alloc, &calls, &run)?;
-    match &run.stop {
-        Some(_) => Ok(Report::Stopped(text)),
-        None => Ok(Report::Done(text)),
-    }
-}
-
-// What the input comes to with its escapes and references resolved.
-fn report_on_text(alloc: Global, bytes: &[u8]) -> Result<Report, Fault>
-    ensures outcome { IfOk result (λ report. IsOutcome scan_unescape bytes.now (outcome_view report)) }
-    ensures fault { IfErr result IsBeforeWriting }
-{
-    let Ok(text) = from_utf8(bytes) else {
-        return Ok(Report::NotText);
-    };
-    let unescaped = unescaped_text(alloc, text)?;
-    Ok(Report::Done(unescaped))
 }

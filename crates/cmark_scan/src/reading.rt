@@ -1,7 +1,7 @@
 // Reading all of the input.
 ghost use Rattle.std.specs.Prelude.{◌≡◌, IfOk, IfErr, IfSome, OnOk};
 ghost use Rattle.std.specs.Io.KnownBytes.{Consumes, IsAtEnd};
-ghost use Rattle.cmark_scan.specs.Faults.{IsBeforeWriting};
+ghost use Rattle.cmark_scan.specs.faults.Faults.{IsBeforeWriting};
 
 use crate::faults::Fault;
 use std::alloc::Global;

@@ -1,11 +1,16 @@
 // Resolving escapes and references, with the few entities that the program knows.
 ghost use Rattle.std.specs.Prelude.{◌≡◌, List, IfOk, false, string_bytes};
-ghost use Rattle.markdown_scanners_tree.specs.Unescaping.{Piece, ArePieces, joined_meanings};
-ghost use Rattle.cmark_scan.specs.EntityTexts.{entity_text};
+ghost use Rattle.markdown_scanners_tree.specs.scanners.unescaping.Unescaping.{Piece, ArePieces, joined_meanings};
+ghost use Rattle.cmark_scan.specs.printing.Printed.{IsOutcome};
+ghost use Rattle.cmark_scan.specs.report.Report.{outcome_view};
+ghost use Rattle.cmark_scan.specs.unescaping.EntityTexts.{entity_text};
+ghost use Rattle.cmark_scan.specs.words.Words.{scan_unescape};
 
+use crate::report::Report;
 use markdown_scanners_tree::scanners::{Entities, unescape};
 use markdown_values::strings::CowStr;
 use std::alloc::{AllocError, Global};
+use std::str::from_utf8;
 
 /// The entities that the program knows.
 #[derive(Clone, Copy)]
@@ -29,8 +34,19 @@ impl Entities for KnownEntities {
     }
 }
 
-/// The text with its escapes and references resolved, out of a table.
-pub(crate) fn unescaped_text(alloc: Global, text: &str) -> Result<String, AllocError>
+/// What the input comes to with its escapes and references resolved.
+pub(crate) fn unescape_report(alloc: Global, bytes: &[u8]) -> Result<Report, AllocError>
+    ensures { IfOk result (λ report. IsOutcome scan_unescape bytes.now (outcome_view report)) }
+{
+    let Ok(text) = from_utf8(bytes) else {
+        return Ok(Report::NotText);
+    };
+    let unescaped = unescaped_text(alloc, text)?;
+    Ok(Report::Done(unescaped))
+}
+
+// The text with its escapes and references resolved, out of a table.
+fn unescaped_text(alloc: Global, text: &str) -> Result<String, AllocError>
     ensures { IfOk result (λ out. (pieces : List Piece) × ArePieces false entity_text text.now pieces
         × (string_bytes out ≡ joined_meanings pieces)) }
 {

@@ -2,8 +2,8 @@
 ghost use Rattle.std.specs.Prelude.{◌≡◌, IfOk, is_some};
 ghost use Rattle.std.specs.List.{list_all, filter_map};
 ghost use Rattle.std.specs.Option.{option_map};
-ghost use Rattle.cmark_scan.specs.Words.{number_of, call_of, are_calls, calls_of, request_of};
-ghost use Rattle.cmark_scan.specs.Command.{texts, request_view};
+ghost use Rattle.cmark_scan.specs.words.Words.{number_of, call_of, are_calls, calls_of, request_of};
+ghost use Rattle.cmark_scan.specs.words.Command.{texts, request_view};
 
 use markdown_scanners_tree::line::LineCall;
 use std::alloc::{AllocError, Global};
@@ -18,7 +18,7 @@ pub(crate) enum Command<'a> {
 }
 
 /// What the words ask for. No memory is taken.
-#[tactic(auto, using(crate::proofs::Texts::are_calls_texts, crate::proofs::Texts::calls_of_texts, crate::proofs::Texts::length_texts))]
+#[tactic(auto, using(crate::proofs::words::Texts::are_calls_texts, crate::proofs::words::Texts::calls_of_texts, crate::proofs::words::Texts::length_texts))]
 pub(crate) fn parse_command<'a>(words: &'a [&'a str]) -> Option<Command<'a>>
     ensures { option_map request_view result ≡ request_of (texts words.now) }
 {

@@ -1,9 +1,9 @@
 -- Trees of pieces whose children can be cut.
 use Rattle.std.proofs.Common.{◌≡◌, ℕ, [], ◌∷◌, Option, None, Some, IfSome, refl, sym, ap, ◌∙◌, subst}
 use Rattle.markdown_values.specs.declared.tree.Node.{Node}
-use Rattle.markdown_values.specs.Linked.{Linked}
-use Rattle.markdown_values.specs.Tree.{last, appended}
-use Rattle.markdown_values.specs.Truncate.{first_other, CanCut, CanTruncate}
+use Rattle.markdown_values.specs.tree.Linked.{Linked}
+use Rattle.markdown_values.specs.tree.Tree.{last, appended}
+use Rattle.markdown_values.specs.tree.Truncate.{first_other, CanCut, CanTruncate}
 use Rattle.cmark_vectors.specs.declared.pieces.Piece.{Piece}
 use Rattle.cmark_vectors.specs.Pieces.{span_of, spans_of, IsParent}
 

@@ -1,8 +1,8 @@
 -- Pieces of text as the children of a node.
 use Rattle.std.specs.Prelude.{◌≡◌, ℕ, suc, List, [], ◌∷◌, None}
-use Rattle.markdown_values.specs.Linked.{Linked}
-use Rattle.markdown_values.specs.Tree.{isolated}
-use Rattle.markdown_values.specs.Truncate.{Span}
+use Rattle.markdown_values.specs.tree.Linked.{Linked}
+use Rattle.markdown_values.specs.tree.Tree.{isolated}
+use Rattle.markdown_values.specs.tree.Truncate.{Span}
 use Rattle.cmark_vectors.specs.declared.pieces.Piece.{Piece}
 
 abbrev pub span_of : Piece → Span

@@ -1,6 +1,6 @@
 //! Link labels: worked rows, hostile texts, and which labels match.
 ghost use Rattle.std.specs.Prelude.{◌≡◌, ◌↔◌, IsTrue, Some};
-ghost use Rattle.markdown_scanners_tree.specs.LabelKey.{label_key};
+ghost use Rattle.markdown_scanners_tree.specs.linklabel.Key.{label_key};
 ghost use Rattle.cmark_vectors.specs.Markers.{skipped};
 
 use crate::bounds::{are_equal, hash_of};

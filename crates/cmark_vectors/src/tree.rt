@@ -1,6 +1,6 @@
 //! Trees: runs of calls, their nodes, spine and focus, and children that are cut.
 ghost use Rattle.std.specs.Prelude.{◌≡◌, ◌∷◌, [], length, IfOk, IfSome};
-ghost use Rattle.markdown_values.specs.Truncate.{first_other, CanCut};
+ghost use Rattle.markdown_values.specs.tree.Truncate.{first_other, CanCut};
 ghost use Rattle.cmark_vectors.specs.Pieces.{spans_of, IsParent};
 
 use crate::pieces::Piece;

@@ -3,7 +3,7 @@ use Rattle.std.proofs.Common.{ℕ, suc, List, [], ◌∷◌, ◌++◌, ◌+◌, 
 use Rattle.std.proofs.lemmas.Bool.{cases_Bool, eqb-true}
 use Rattle.markdown_scanners_tree.specs.Bytes.{begins_with, is_line_ending}
 use Rattle.markdown_scanners_tree.specs.Kept.{KeptByte, in_line, at_line_end, kept_line, kept_from, line_len, AreSkips}
-use Rattle.markdown_scanners_tree.specs.TagMachine.{ends_source_line}
+use Rattle.markdown_scanners_tree.specs.scanners.tag_state.private.TagMachine.{ends_source_line}
 use Rattle.markdown_scanners_tree.proofs.KeptStep.{Reads, reads_more, reads_less, reads_end, reads_from_end, kept_from-return}
 use Rattle.markdown_scanners_tree.proofs.RunLemmas.{not_true}
 

@@ -8,11 +8,11 @@ use Rattle.std.proofs.lemmas.List.{take-append-drop, drop-drop}
 use Rattle.std.proofs.lemmas.List.Folds.{length-prefix_len}
 use Rattle.std.proofs.Math.Seq.{drop-append_seam}
 use Rattle.markdown_scanners_tree.specs.Bytes.{begins_with, line_ending}
-use Rattle.markdown_scanners_tree.specs.Lines.{IsRunOf}
-use Rattle.markdown_scanners_tree.specs.CodeFence.{IsFenceClose, IsClosingCodeFence, is_space_or_tab, IsCodeFence, is_fence_byte, has_backtick_in_line}
-use Rattle.markdown_scanners_tree.specs.Metadata.{is_closing_byte, IsLineOfThree, IsClosingMetadataBlock}
+use Rattle.markdown_scanners_tree.specs.scanners.Lines.{IsRunOf}
+use Rattle.markdown_scanners_tree.specs.scanners.Fences.{IsFenceClose, IsClosingCodeFence, is_space_or_tab, IsCodeFence, is_fence_byte, has_backtick_in_line}
+use Rattle.markdown_scanners_tree.specs.scanners.Metadata.{is_closing_byte, IsLineOfThree, IsClosingMetadataBlock}
 use Rattle.markdown_scanners_tree.proofs.FrontLemmas.{from_place, both_true, list_all-run, begins_with-after_run, prefix_len-parts}
-use Rattle.markdown_scanners_tree.proofs.BlankLemmas.{first-line_ending}
+use Rattle.markdown_scanners_tree.proofs.scanners.lines.BlankLemmas.{first-line_ending}
 
 pub not_true : (b : Bool) → not b ≡ true → b ≡ false
 not_true true h = cc

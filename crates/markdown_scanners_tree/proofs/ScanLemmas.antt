@@ -7,7 +7,7 @@ use Rattle.std.proofs.lemmas.Bool.{cases_Bool}
 use Rattle.memchr.specs.Find.{Nowhere, NoneBefore, Passes, IsFirstByte, is_byte}
 use Rattle.markdown_scanners_tree.specs.Bytes.{is_white_space_in_line, line_ending, IsBlankLine}
 use Rattle.markdown_scanners_tree.proofs.FrontLemmas.{from_place}
-use Rattle.markdown_scanners_tree.proofs.BlankLemmas.{IsBlankLine-found, IsBlankLine-only}
+use Rattle.markdown_scanners_tree.proofs.scanners.lines.BlankLemmas.{IsBlankLine-found, IsBlankLine-only}
 
 -- the bytes before the first that passes
 module _ (p : ℕ → Bool) where

@@ -2,9 +2,9 @@
 //! instructions (CommonMark 0.31.2, section 6.6). A guard remembers that a search found nothing, so that many
 //! openers cost hardly more than one.
 ghost use Rattle.std.specs.Prelude.{◌≡◌, ◌≤◌, ◌<◌, ◌+◌, ◌*◌, ◌^◌, ℕ, true, length, IsTrue, Some, slice_get};
-ghost use Rattle.markdown_scanners_tree.specs.CountedBytes.{passing};
-ghost use Rattle.markdown_scanners_tree.specs.InlineHtml.{Begins, Declaration, Processing, ends_opener, declared_at, cost};
-ghost use Rattle.markdown_scanners_tree.specs.InlineHtmlGuard.{is_stopped, guarded_answer, guard_after, IsTrueGuard, IsTrueScan};
+ghost use Rattle.markdown_scanners_tree.specs.inline_html.CountedText.{passing};
+ghost use Rattle.markdown_scanners_tree.specs.inline_html.InlineHtml.{Begins, Declaration, Processing, ends_opener, declared_at, cost};
+ghost use Rattle.markdown_scanners_tree.specs.inline_html.Guard.{is_stopped, guarded_answer, guard_after, IsTrueGuard, IsTrueScan};
 
 mod counted_text;
 mod run;

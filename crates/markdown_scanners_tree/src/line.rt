@@ -3,19 +3,21 @@
 ghost use Rattle.std.specs.Prelude.{◌≡◌, ◌+◌, ◌-◌, ◌%◌, ◌<◌, ◌≤◌, ◌↔◌, ◌==◌, true, [], ◌∷◌, ◌++◌, length, take, drop, replicate, IsTrue, IfOk, IfSome, IfNone, if◌then◌else◌, ⊤};
 ghost use Rattle.markdown_scanners_tree.specs.Bytes.{begins_with, is_line_ending, is_at_line_end, is_blank};
 ghost use Rattle.markdown_scanners_tree.specs.Columns.{column_after, written_byte};
-ghost use Rattle.markdown_scanners_tree.specs.LineState.{LineState, unscanned, rest_of, leading_spaces, space_within, after_space, bytes_further};
-ghost use Rattle.markdown_scanners_tree.specs.PlainRun.{plain_run, stop_at, rest_after, scanned_after, refusal};
-ghost use Rattle.markdown_scanners_tree.specs.ListItem.{IsListMarker};
-ghost use Rattle.markdown_scanners_tree.specs.ListMarker.{list_marker};
-ghost use Rattle.markdown_scanners_tree.specs.ThematicBreak.{is_thematic_break};
-ghost use Rattle.markdown_scanners_tree.specs.PlainStep.{IsPlainStep, definition_spaces, marker_spaces};
-ghost use Rattle.markdown_scanners_tree.specs.LineOutcome.{after_all_space, after_quote, item_outcome, definition_outcome, space_or_end_follows, task_box, task_outcome, is_tag_name, tag_name, tag_line, tag_outcome};
+ghost use Rattle.markdown_scanners_tree.specs.line.State.{LineState, unscanned, rest_of, leading_spaces, space_within, after_space, bytes_further};
+ghost use Rattle.markdown_scanners_tree.specs.scanners.list_items.ListItem.{IsListMarker};
+ghost use Rattle.markdown_scanners_tree.specs.scanners.list_items.ListMarker.{list_marker};
+ghost use Rattle.markdown_scanners_tree.specs.scanners.Breaks.{is_thematic_break};
+ghost use Rattle.markdown_scanners_tree.specs.line.PlainStep.{IsPlainStep, definition_spaces, marker_spaces};
+ghost use Rattle.markdown_scanners_tree.specs.line.Outcome.{after_all_space, after_quote, item_outcome, definition_outcome, space_or_end_follows, task_box, task_outcome, is_tag_name, tag_name, tag_line, tag_outcome};
+
+mod run;
 
 use crate::scanners::{
     is_ascii_whitespace, is_ascii_whitespace_no_nl, scan_blank_line, scan_hrule, scan_marker,
     scan_spaces_and_tabs,
 };
 use markdown_values::values::BlockQuoteKind;
+pub use run::{LineAnswer, LineCall, LineRun, LineStop, run_line};
 use std::alloc::{AllocError, Global};
 use std::marker::Model;
 
@@ -36,8 +38,8 @@ pub struct LineStart<'a> {
 
 impl<'a> Model for LineStart<'a> {
     ghost use Rattle.std.specs.Prelude.{ℕ, ◌%◌, ◌≤◌, ◌*◌, ◌<◌, ◌≡◌, length, drop, false};
-    ghost use Rattle.markdown_scanners_tree.specs.LineState.{LineState};
-    ghost use Rattle.markdown_scanners_tree.specs.ThematicBreak.{is_thematic_break};
+    ghost use Rattle.markdown_scanners_tree.specs.line.State.{LineState};
+    ghost use Rattle.markdown_scanners_tree.specs.scanners.Breaks.{is_thematic_break};
 
     ghost Value = { LineState };
 
@@ -467,129 +469,4 @@ fn push_byte(rest: &mut Vec<u8>, phase: usize, byte: u8) -> Result<usize, AllocE
         rest.push(byte)?;
         Ok((phase + 1) % 4)
     }
-}
-
-/// One call of a run.
-#[derive(Debug, PartialEq, Drop)]
-pub enum LineCall {
-    /// `scan_space`
-    Space(usize),
-    /// `scan_space_upto`
-    Upto(usize),
-    /// `is_at_eol`
-    Eol,
-    /// `scan_blockquote_marker`
-    Quote,
-    /// `scan_list_marker_with_indent`
-    List(usize),
-    /// `scan_definition_list_definition_marker_with_indent`
-    Definition(usize),
-}
-
-/// What a call answers.
-#[derive(Debug, PartialEq, Drop)]
-pub enum LineAnswer {
-    Flag(bool),
-    Count(usize),
-    List(Option<(u8, u64, usize)>),
-    Definition(Option<usize>),
-}
-
-/// Why a call is refused.
-#[derive(Debug, PartialEq, Drop)]
-pub enum LineStop {
-    /// Columns of a tab are pending, and the call is not one that takes space.
-    SpacePending,
-    /// The indent is above `usize::MAX - 16`, so that the columns of a marker might not be added.
-    IndentTooLarge,
-}
-
-/// What a list of calls on a line gives.
-#[derive(Debug, PartialEq, Drop)]
-pub struct LineRun {
-    /// One for each call that was made, in order.
-    pub answers: Vec<LineAnswer>,
-    /// What is left of the line: the pending columns as spaces, then the bytes not scanned, tabs before the line ending written out.
-    pub rest: Vec<u8>,
-    /// How many bytes of the line have been passed.
-    pub scanned: usize,
-    /// The index of the call that was refused, and why, if one was.
-    pub stop: Option<(usize, LineStop)>,
-}
-
-/// Makes the calls in order on a fresh `LineStart` of the line, up to the first that is refused.
-///
-/// Columns count as if the tabs of the line were spaces, up to the next multiple of four.
-/// (CommonMark 0.31.2, section 2.2)
-pub fn run_line(alloc: Global, bytes: &[u8], calls: &[LineCall]) -> Result<LineRun, AllocError>
-    ensures answers { IfOk result (λ run. run.answers.items ≡ (plain_run bytes.now calls.now).answers) }
-    ensures stop { IfOk result (λ run. run.stop ≡ stop_at (plain_run bytes.now calls.now)) }
-    ensures rest { IfOk result (λ run. run.rest.items ≡ rest_after bytes.now (plain_run bytes.now calls.now)) }
-    ensures scanned { IfOk result (λ run. run.scanned ≡ scanned_after bytes.now (plain_run bytes.now calls.now)) }
-{
-    let mut start = LineStart::new(bytes);
-    let mut answers = Vec::new(alloc);
-    for (index, call) in calls.iter().enumerate() {
-        if let Some(reason) = refused(&start, call) {
-            return finished(alloc, &start, answers, Some((index, reason)));
-        }
-        let answer = make_call(&mut start, call);
-        answers.push(answer)?;
-    }
-    finished(alloc, &start, answers, None)
-}
-
-// Why the call is refused, if it is.
-fn refused(start: &LineStart, call: &LineCall) -> Option<LineStop>
-    ensures { result ≡ refusal (start.now.pending == 0) call.now }
-{
-    let takes_space = matches!(call, LineCall::Space(_) | LineCall::Upto(_));
-    if !takes_space && start.remaining_space() > 0 {
-        return Some(LineStop::SpacePending);
-    }
-    match call {
-        LineCall::List(indent) | LineCall::Definition(indent) if *indent > usize::MAX - 16 => Some(
-            LineStop::IndentTooLarge,
-        ),
-        _ => None,
-    }
-}
-
-// Makes one call that is not refused.
-fn make_call(start: &mut LineStart, call: &LineCall) -> LineAnswer
-    requires { refusal (start.old.pending == 0) call.now ≡ None }
-    ensures { IsPlainStep call.now result start.old start.new }
-{
-    match call {
-        LineCall::Space(n) => LineAnswer::Flag(start.scan_space(*n)),
-        LineCall::Upto(n) => LineAnswer::Count(start.scan_space_upto(*n)),
-        LineCall::Eol => LineAnswer::Flag(start.is_at_eol()),
-        LineCall::Quote => LineAnswer::Flag(start.scan_blockquote_marker()),
-        LineCall::List(indent) => LineAnswer::List(start.scan_list_marker_with_indent(*indent)),
-        LineCall::Definition(indent) => LineAnswer::Definition(
-            start.scan_definition_list_definition_marker_with_indent(*indent),
-        ),
-    }
-}
-
-// The run that ends at this place.
-fn finished(
-    alloc: Global,
-    start: &LineStart,
-    answers: Vec<LineAnswer>,
-    stop: Option<(usize, LineStop)>,
-) -> Result<LineRun, AllocError>
-    ensures answers { IfOk result (λ run. run.answers.items ≡ answers.items) }
-    ensures stop { IfOk result (λ run. run.stop ≡ stop) }
-    ensures rest { IfOk result (λ run. run.rest.items ≡ rest_of start.now) }
-    ensures scanned { IfOk result (λ run. run.scanned ≡ start.now.place) }
-{
-    let rest = start.written_rest(alloc)?;
-    let scanned = start.bytes_scanned();
-    Ok(LineRun {
-        answers,
-        rest,
-        scanned,
-        stop,
-    })
 }

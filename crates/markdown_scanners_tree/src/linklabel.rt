@@ -6,13 +6,13 @@ ghost use Rattle.std.specs.Cmp.Rules.{hashing};
 ghost use Rattle.std.specs.Hash as fed;
 ghost use Rattle.std.specs.String.{string_len, string_capacity};
 ghost use Rattle.std.proofs.Common.{rules};
-ghost use Rattle.markdown_values.specs.Text.{cow_text};
+ghost use Rattle.markdown_values.specs.strings.Text.{cow_text};
 ghost use Rattle.markdown_scanners_tree.specs.Handler.{Skips, IsSteadyAtChars};
-ghost use Rattle.markdown_scanners_tree.specs.Label.{Label, IsLabel, ends_in_backslash, ReadsBack};
-ghost use Rattle.markdown_scanners_tree.specs.LabelAnswer.{IsAnswer};
-ghost use Rattle.markdown_scanners_tree.specs.LabelFront.{IsFront};
-ghost use Rattle.markdown_scanners_tree.specs.LabelKey.{label_key};
-ghost use Rattle.markdown_scanners_tree.specs.LabelPass.{begun, space_len, starts_dropped, IsOnlySkip, without_first_space, without_last_space, IsMeasure};
+ghost use Rattle.markdown_scanners_tree.specs.linklabel.Label.{Label, IsLabel, ends_in_backslash, ReadsBack};
+ghost use Rattle.markdown_scanners_tree.specs.linklabel.Answer.{IsAnswer};
+ghost use Rattle.markdown_scanners_tree.specs.linklabel.private.Front.{IsFront};
+ghost use Rattle.markdown_scanners_tree.specs.linklabel.Key.{label_key};
+ghost use Rattle.markdown_scanners_tree.specs.linklabel.private.Pass.{begun, space_len, starts_dropped, IsOnlySkip, without_first_space, without_last_space, IsMeasure};
 
 use crate::scanners::{is_ascii_punctuation, is_ascii_whitespace};
 use caseless::default_case_fold_str;
@@ -42,8 +42,8 @@ pub struct LinkLabel<'a> {
 impl<'a> Model for LinkLabel<'a> {
     ghost use Rattle.std.specs.Prelude.{ℕ, List, ◌≡◌, encode_utf8_all};
     ghost use Rattle.std.specs.String.{string_bytes};
-    ghost use Rattle.markdown_values.specs.Text.{cow_text};
-    ghost use Rattle.markdown_scanners_tree.specs.LabelKey.{label_key};
+    ghost use Rattle.markdown_values.specs.strings.Text.{cow_text};
+    ghost use Rattle.markdown_scanners_tree.specs.linklabel.Key.{label_key};
 
     ghost Value = { List ℕ };
 

@@ -1,9 +1,1 @@
-pub mod ChainLemmas
-pub mod CloneLemmas
-pub mod ExtensionLemmas
-pub mod ForestLemmas
-pub mod RemovalLemmas
-pub mod SameTexts
-pub mod TreeLemmas
-pub mod TreeRows
-pub mod TruncateLemmas
+pub mod ForCallers

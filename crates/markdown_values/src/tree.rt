@@ -87,8 +87,8 @@ pub struct Tree<T> {
 }
 
 impl<T> Model for Tree<T> {
-    ghost use Rattle.markdown_values.specs.Linked.{Linked, linked_code};
-    ghost use Rattle.markdown_values.specs.Tree.{IsWithin};
+    ghost use Rattle.markdown_values.specs.tree.Linked.{Linked, linked_code};
+    ghost use Rattle.markdown_values.specs.tree.Tree.{IsWithin};
 
     ghost Value = { Linked T };
 
@@ -104,10 +104,10 @@ impl<T> Model for Tree<T> {
 }
 
 impl<T: Drop> Tree<T> {
-    ghost use Rattle.markdown_values.specs.Tree.{empty_tree, with_node, appended, last, but_last, IsLinkWithin, with_next, with_child, with_item, linked_from_focus, pushed, popped, removed, IsLastLinkedFromAlone, reset_of, next_of, truncated_to_parent};
-    ghost use Rattle.markdown_values.specs.TreeLends.{lends_item, item_of};
-    ghost use Rattle.markdown_values.specs.Forest as forest;
-    ghost use Rattle.markdown_values.specs.Forest.{Focused, StandsFor};
+    ghost use Rattle.markdown_values.specs.tree.Tree.{empty_tree, with_node, appended, last, but_last, IsLinkWithin, with_next, with_child, with_item, linked_from_focus, pushed, popped, removed, IsLastLinkedFromAlone, reset_of, next_of, truncated_to_parent};
+    ghost use Rattle.markdown_values.specs.tree.Lends.{lends_item, item_of};
+    ghost use Rattle.markdown_values.specs.tree.Forest as forest;
+    ghost use Rattle.markdown_values.specs.tree.Forest.{Focused, StandsFor};
 
     /// A tree of the dummy alone. Room for `cap` nodes is asked for at once.
     pub fn with_capacity(alloc: Global, cap: usize) -> Result<Tree<T>, AllocError>
@@ -359,7 +359,7 @@ impl<T: Drop> Tree<T> {
 }
 
 impl<T> Index<TreeIndex> for Tree<T> {
-    ghost use Rattle.markdown_values.specs.Tree.{IsNodeAt};
+    ghost use Rattle.markdown_values.specs.tree.Tree.{IsNodeAt};
 
     type Output = Node<T>;
 
@@ -373,7 +373,7 @@ impl<T> Index<TreeIndex> for Tree<T> {
 }
 
 impl<T: Clone> Clone for Tree<T> {
-    ghost use Rattle.markdown_values.specs.Tree.{IsTreeClone};
+    ghost use Rattle.markdown_values.specs.tree.Tree.{IsTreeClone};
 
     ghost is_clone = { IsTreeClone T.is_clone };
 
@@ -397,7 +397,7 @@ impl<T: Clone> Clone for Tree<T> {
 /// An item that covers a range of the text, in bytes, for `truncate_siblings`.
 pub trait SpanItem {
     ghost use Rattle.std.specs.Prelude.{ℕ};
-    ghost use Rattle.markdown_values.specs.Truncate.{Span};
+    ghost use Rattle.markdown_values.specs.tree.Truncate.{Span};
 
     ghost span: { Self → Span };
 
@@ -425,8 +425,8 @@ pub trait SpanItem {
 }
 
 impl<T: SpanItem + Drop> Tree<T> {
-    ghost use Rattle.markdown_values.specs.Tree.{last, child_of, with_item, IsLinkWithin};
-    ghost use Rattle.markdown_values.specs.Truncate.{CanCut, CanTruncate, IsFirstOther, AllEndBefore, cut_tree, dropped_after, last_index, HasChildren, truncated, truncated_focus, FindsOther};
+    ghost use Rattle.markdown_values.specs.tree.Tree.{last, child_of, with_item, IsLinkWithin};
+    ghost use Rattle.markdown_values.specs.tree.Truncate.{CanCut, CanTruncate, IsFirstOther, AllEndBefore, cut_tree, dropped_after, last_index, HasChildren, truncated, truncated_focus, FindsOther};
 
     /// Cuts the children of the parent where its text now ends, at the byte `end`, and moves the focus to the last child
     /// that is left of those up to there.

@@ -1,10 +1,10 @@
 //! Events, tags and options, and what they are made of.
 ghost use Rattle.std.specs.Prelude.{◌≡◌, ◌⊎◌, ◌<◌, IsTrue, IfOk, IsSome, Some, MatchResult, is_some, is_none};
-ghost use Rattle.markdown_values.specs.Events.{event_view};
-ghost use Rattle.markdown_values.specs.Headings.{heading_number, heading_name};
-ghost use Rattle.markdown_values.specs.Links.{unknown_kind};
-ghost use Rattle.markdown_values.specs.Tags.{info_view, tag_view, end_of};
-ghost use Rattle.markdown_values.specs.Text.{cow_text, holding_of, clone_holding, static_holding};
+ghost use Rattle.markdown_values.specs.values.Events.{event_view};
+ghost use Rattle.markdown_values.specs.values.Headings.{heading_number, heading_name};
+ghost use Rattle.markdown_values.specs.values.Links.{unknown_kind};
+ghost use Rattle.markdown_values.specs.values.Tags.{info_view, tag_view, end_of};
+ghost use Rattle.markdown_values.specs.strings.Text.{cow_text, holding_of, clone_holding, static_holding};
 
 mod extensions;
 mod tag_parts;

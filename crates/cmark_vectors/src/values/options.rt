@@ -12,14 +12,14 @@ fn bits_of_empty() -> u32
     Options::empty().bits()
 }
 
-#[tactic(auto, using(markdown_values::proofs::ExtensionLemmas::all_known))]
+#[tactic(auto, using(markdown_values::proofs::ForCallers::all_known))]
 fn bits_of_all() -> u32
     ensures { result ≡ 65534 }
 {
     Options::all().bits()
 }
 
-#[tactic(auto, using(markdown_values::proofs::ExtensionLemmas::all_known))]
+#[tactic(auto, using(markdown_values::proofs::ForCallers::all_known))]
 fn bits_if_known(bits: u32) -> Option<u32>
     ensures value { IfSome result (λ b. b ≡ bits) }
     ensures known { IsSome result ↔ (bit_and bits 65534 ≡ bits) }
@@ -30,7 +30,7 @@ fn bits_if_known(bits: u32) -> Option<u32>
     }
 }
 
-#[tactic(auto, using(markdown_values::proofs::ExtensionLemmas::all_known))]
+#[tactic(auto, using(markdown_values::proofs::ForCallers::all_known))]
 fn known_bits(bits: u32) -> u32
     ensures { result ≡ bit_and bits 65534 }
 {
@@ -49,7 +49,7 @@ fn is_empty(bits: u32) -> bool
     Options::from_bits_retain(bits).is_empty()
 }
 
-#[tactic(auto, using(markdown_values::proofs::ExtensionLemmas::all_known))]
+#[tactic(auto, using(markdown_values::proofs::ForCallers::all_known))]
 fn is_all(bits: u32) -> bool
     ensures { result ≡ (bit_or 65534 bits == bits) }
 {
@@ -124,7 +124,7 @@ fn toggle(b: u32, c: u32) -> u32
     options.bits()
 }
 
-#[tactic(auto, using(markdown_values::proofs::ExtensionLemmas::all_known))]
+#[tactic(auto, using(markdown_values::proofs::ForCallers::all_known))]
 fn complement(bits: u32) -> u32
     ensures { result ≡ bit_and (2 ^ 32 - 1 - bits) 65534 }
 {

@@ -1,8 +1,8 @@
 //! A text whose bytes are reached by counted calls alone.
 ghost use Rattle.std.specs.Prelude.{◌≡◌, ◌<◌, ◌+◌, ◌^◌, ◌&&◌, length, slice_get};
 ghost use Rattle.memchr.specs.Find.{FindsNeedle, occurs_at};
-ghost use Rattle.markdown_scanners_tree.specs.CountedBytes.{CountedBytes, passing, searched_bytes};
-ghost use Rattle.markdown_scanners_tree.specs.InlineHtml.{first_place, opener_before};
+ghost use Rattle.markdown_scanners_tree.specs.inline_html.CountedText.{CountedBytes, passing, searched_bytes};
+ghost use Rattle.markdown_scanners_tree.specs.inline_html.InlineHtml.{first_place, opener_before};
 
 use memchr::memmem;
 use std::marker::Model;

@@ -1,10 +1,10 @@
 //! Runs of scans of inline HTML over rising places of one text.
 ghost use Rattle.std.specs.Prelude.{◌≡◌, ◌≤◌, ◌<◌, ◌+◌, ◌*◌, ◌^◌, ℕ, length, take, IfOk, None, Some};
-ghost use Rattle.markdown_scanners_tree.specs.CountedBytes.{passing};
-ghost use Rattle.markdown_scanners_tree.specs.InlineHtml.{cost, opener_before, opening_at};
-ghost use Rattle.markdown_scanners_tree.specs.InlineHtmlGuard.{is_stopped, guarded_answer, guard_after, IsTrueGuard, IsTrueScan};
-ghost use Rattle.markdown_scanners_tree.specs.InlineHtmlPassed.{bytes_passed};
-ghost use Rattle.markdown_scanners_tree.specs.InlineHtmlRun.{new_run, refusal, answer_of, run_after, run_answers, run_passed, run_stop, IsWithinBudget};
+ghost use Rattle.markdown_scanners_tree.specs.inline_html.CountedText.{passing};
+ghost use Rattle.markdown_scanners_tree.specs.inline_html.InlineHtml.{cost, opener_before, opening_at};
+ghost use Rattle.markdown_scanners_tree.specs.inline_html.Guard.{is_stopped, guarded_answer, guard_after, IsTrueGuard, IsTrueScan};
+ghost use Rattle.markdown_scanners_tree.specs.inline_html.run.Passed.{bytes_passed};
+ghost use Rattle.markdown_scanners_tree.specs.inline_html.run.Run.{new_run, refusal, answer_of, run_after, run_answers, run_passed, run_stop, IsWithinBudget};
 
 use crate::inline_html::{
     CountedText, HtmlScanGuard, HtmlStop, scan_inline_html_comment_counted,
@@ -25,11 +25,11 @@ pub struct InlineHtmlRun<'a> {
 }
 
 impl<'a> Model for InlineHtmlRun<'a> {
-    ghost use Rattle.markdown_scanners_tree.specs.InlineHtmlRun.{Run};
+    ghost use Rattle.markdown_scanners_tree.specs.inline_html.run.Run.{Run};
 
     ghost Value = { Run };
 
-    ghost use Rattle.markdown_scanners_tree.specs.InlineHtmlKept.{run_of, IsKept};
+    ghost use Rattle.markdown_scanners_tree.specs.inline_html.run.private.KeptFields.{run_of, IsKept};
 
     ghost view = { λ r. run_of r.text r.guard r.last r.find_end r.steps };
 

@@ -2,7 +2,7 @@
 ghost use Rattle.std.specs.Prelude.{◌≡◌, ◌<◌, ◌≤◌, ◌==◌, ℕ, length, drop, count_by, false, IsTrue, IfOk, IfErr, MatchResult};
 ghost use Rattle.std.specs.List.{prefix_len};
 ghost use Rattle.markdown_scanners_tree.specs.Bytes.{begins_with, line_length};
-ghost use Rattle.markdown_scanners_tree.specs.ThematicBreak.{is_break_marker, is_break_byte, is_thematic_break, break_length};
+ghost use Rattle.markdown_scanners_tree.specs.scanners.Breaks.{is_break_marker, is_break_byte, is_thematic_break, break_length};
 
 use crate::scanners::lines::scan_eol;
 

@@ -4,9 +4,9 @@ ghost use Rattle.std.specs.Option.{option_copied};
 ghost use Rattle.std.specs.List.{prefix_len};
 ghost use Rattle.std.specs.Str.Parse.{AllDigits, digits_value};
 ghost use Rattle.std.specs.Char.{is_digit, digit_value};
-ghost use Rattle.markdown_values.specs.Text.{cow_text};
-ghost use Rattle.markdown_scanners_tree.specs.CharacterReference.{referenced_char, StartsWithReference};
-ghost use Rattle.markdown_scanners_tree.specs.Digits.{IsNumberInFront};
+ghost use Rattle.markdown_values.specs.strings.Text.{cow_text};
+ghost use Rattle.markdown_scanners_tree.specs.scanners.entities.CharacterReference.{referenced_char, StartsWithReference};
+ghost use Rattle.markdown_scanners_tree.specs.scanners.entities.private.Digits.{IsNumberInFront};
 
 use crate::scanners::runs::alphanumerics_in_front;
 use markdown_values::strings::CowStr;

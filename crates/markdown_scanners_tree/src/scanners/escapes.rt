@@ -1,6 +1,6 @@
 //! Backslash escapes.
 ghost use Rattle.std.specs.Prelude.{◌≡◌, ◌+◌, ◌<◌, ◌≤◌, IsTrue, length, drop};
-ghost use Rattle.markdown_scanners_tree.specs.BackslashEscape.{starts_escape as starts_escape_at};
+ghost use Rattle.markdown_scanners_tree.specs.scanners.Escapes.{starts_escape as starts_escape_at};
 
 use crate::scanners::classes::is_ascii_punctuation;
 

@@ -2,7 +2,7 @@
 ghost use Rattle.std.specs.Prelude.{◌≡◌, ◌≤◌, ◌==◌, ℕ, length, IsTrue, IfSome, IfNone};
 ghost use Rattle.std.specs.List.{prefix_len};
 ghost use Rattle.markdown_scanners_tree.specs.Bytes.{begins_with};
-ghost use Rattle.markdown_scanners_tree.specs.CodeFence.{IsCodeFence, IsClosingCodeFence, is_fence_byte, is_space_or_tab, has_backtick_in_line};
+ghost use Rattle.markdown_scanners_tree.specs.scanners.Fences.{IsCodeFence, IsClosingCodeFence, is_fence_byte, is_space_or_tab, has_backtick_in_line};
 
 use crate::scanners::lines::{scan_eol, scan_to_line_feed};
 use crate::scanners::runs::{has_byte, scan_ch_repeat};

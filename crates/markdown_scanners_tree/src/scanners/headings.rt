@@ -1,8 +1,8 @@
 //! Headings.
 ghost use Rattle.std.specs.Prelude.{◌≡◌, ◌≤◌, ◌==◌, ℕ, length, Some, IsTrue, IfSome, IfNone};
-ghost use Rattle.markdown_values.specs.Headings.{heading_number};
+ghost use Rattle.markdown_values.specs.values.Headings.{heading_number};
 ghost use Rattle.markdown_scanners_tree.specs.Bytes.{begins_with, ends_or_begins_with, is_white_space};
-ghost use Rattle.markdown_scanners_tree.specs.HeadingLines.{IsAtxHeading, IsSetextUnderline, underline_byte};
+ghost use Rattle.markdown_scanners_tree.specs.scanners.Headings.{IsAtxHeading, IsSetextUnderline, underline_byte};
 
 use crate::scanners::classes::is_ascii_whitespace;
 use crate::scanners::lines::scan_blank_line;

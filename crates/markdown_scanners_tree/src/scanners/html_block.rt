@@ -3,7 +3,7 @@ ghost use Rattle.std.specs.Prelude.{◌≡◌, ◌↔◌, ◌≤◌, IsTrue, len
 ghost use Rattle.std.specs.Ordering.{nat_cmp};
 ghost use Rattle.std.specs.Char.{to_ascii_lowercase};
 ghost use Rattle.std.specs.Cmp.Lexicographic.{slice_cmp};
-ghost use Rattle.markdown_scanners_tree.specs.HtmlBlock.{IsBlockName, IsBlockStart, ends_block_name, rises, texts, after_slash};
+ghost use Rattle.markdown_scanners_tree.specs.scanners.HtmlBlock.{IsBlockName, IsBlockStart, ends_block_name, rises, texts, after_slash};
 
 use crate::scanners::runs::alphanumerics_in_front;
 use std::cmp::Ordering;

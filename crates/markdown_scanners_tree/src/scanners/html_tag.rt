@@ -2,9 +2,9 @@
 ghost use Rattle.std.specs.Prelude.{IsOk, ◌≡◌, ◌≢◌, ◌≤◌, [], IfOk, OnErr, ℕ, List, IfSome, IfNone, length};
 ghost use Rattle.markdown_scanners_tree.specs.Handler.{Answers, IsSteady};
 ghost use Rattle.markdown_scanners_tree.specs.Kept.{KeptByte, bytes_of};
-ghost use Rattle.markdown_scanners_tree.specs.HtmlTag.{IsTagAloneInLine};
-ghost use Rattle.markdown_scanners_tree.specs.KeptTag.{AnswersIfAny, IsKeptFront, place_after, IsKeptTag, tag_buffer};
-ghost use Rattle.markdown_scanners_tree.specs.TagMachine.{ends_source_line};
+ghost use Rattle.markdown_scanners_tree.specs.scanners.html_tag.HtmlTag.{IsTagAloneInLine};
+ghost use Rattle.markdown_scanners_tree.specs.scanners.html_tag.KeptTag.{AnswersIfAny, IsKeptFront, place_after, IsKeptTag, tag_buffer};
+ghost use Rattle.markdown_scanners_tree.specs.scanners.tag_state.private.TagMachine.{ends_source_line};
 
 use crate::scanners::lines::scan_blank_line;
 use crate::scanners::tag_state::TagState;

@@ -2,7 +2,7 @@
 ghost use Rattle.std.specs.Prelude.{◌≡◌, ◌≤◌, ◌==◌, ℕ, length, not, IfSome, IfNone};
 ghost use Rattle.std.specs.List.{prefix_len};
 ghost use Rattle.markdown_scanners_tree.specs.Bytes.{line_ending, IsBlankLine, blank_line};
-ghost use Rattle.markdown_scanners_tree.specs.Lines.{is_no_line_feed, next_line, IsBlockQuoteStart};
+ghost use Rattle.markdown_scanners_tree.specs.scanners.Lines.{is_no_line_feed, next_line, IsBlockQuoteStart};
 
 use crate::scanners::runs::scan_whitespace_no_nl;
 use memchr::memchr;

@@ -2,9 +2,9 @@
 ghost use Rattle.std.specs.Prelude.{◌≡◌, ◌+◌, ◌-◌, ◌<◌, ◌≤◌, ◌==◌, ◌||◌, ◌&&◌, nat_lt, ℕ, List, Some, None, IfSome, IfNone, length, drop, take, slice_range, slice_index, position};
 ghost use Rattle.std.specs.List.{prefix_len};
 ghost use Rattle.std.specs.Str.{IsCharBoundary};
-ghost use Rattle.markdown_values.specs.Text.{cow_text, IsBorrowed};
-ghost use Rattle.markdown_scanners_tree.specs.LinkDestination.{IsLinkDestination, IsBareFrom, IsPointedFrom};
-ghost use Rattle.markdown_scanners_tree.specs.Autolink.{IsUriAutolink, IsSchemeInFront, is_scheme_byte, is_uri_byte};
+ghost use Rattle.markdown_values.specs.strings.Text.{cow_text, IsBorrowed};
+ghost use Rattle.markdown_scanners_tree.specs.scanners.links.LinkDestination.{IsLinkDestination, IsBareFrom, IsPointedFrom};
+ghost use Rattle.markdown_scanners_tree.specs.scanners.links.Autolink.{IsUriAutolink, IsSchemeInFront, is_scheme_byte, is_uri_byte};
 
 use crate::scanners::classes::{is_ascii_alphanumeric, is_ascii_letter};
 use crate::scanners::escapes::starts_escape;

@@ -2,8 +2,8 @@
 ghost use Rattle.std.specs.Prelude.{◌≡◌, ◌+◌, ◌<◌, ◌≤◌, ℕ, length, take, false, IsTrue, IfSome, IfNone};
 ghost use Rattle.std.specs.List.{prefix_len, list_all};
 ghost use Rattle.markdown_scanners_tree.specs.Bytes.{begins_with, is_digit};
-ghost use Rattle.markdown_scanners_tree.specs.ListItem.{IsListMarker, IsItemSpace, IsListItem};
-ghost use Rattle.markdown_scanners_tree.specs.ListMarker.{is_bullet, is_delimiter};
+ghost use Rattle.markdown_scanners_tree.specs.scanners.list_items.ListItem.{IsListMarker, IsItemSpace, IsListItem};
+ghost use Rattle.markdown_scanners_tree.specs.scanners.list_items.ListMarker.{is_bullet, is_delimiter};
 ghost use Rattle.markdown_scanners_tree.specs.Numbers.{decimal_value};
 
 use crate::scanners::classes::is_ascii_digit;

@@ -1,7 +1,7 @@
 //! Metadata blocks at the head of a document.
 ghost use Rattle.std.specs.Prelude.{◌≡◌, ◌≤◌, ◌==◌, ◌+◌, ℕ, List, length, drop, true, false, IsTrue, IfSome, IfNone};
 ghost use Rattle.std.specs.List.{prefix_len};
-ghost use Rattle.markdown_scanners_tree.specs.Metadata.{is_after_opening, IsLineOfThree, IsClosingMetadataBlock, HasLaterClose, IsOpeningLine, IsBlockOf, IsMetadataBlock};
+ghost use Rattle.markdown_scanners_tree.specs.scanners.Metadata.{is_after_opening, IsLineOfThree, IsClosingMetadataBlock, HasLaterClose, IsOpeningLine, IsBlockOf, IsMetadataBlock};
 
 use crate::scanners::lines::{scan_blank_line, scan_eol};
 use crate::scanners::runs::{scan_ch, scan_ch_repeat};

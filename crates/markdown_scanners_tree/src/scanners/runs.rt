@@ -2,7 +2,7 @@
 ghost use Rattle.std.specs.Prelude.{◌≡◌, ◌≤◌, ◌==◌, length, reverse, if◌then◌else◌};
 ghost use Rattle.std.specs.List.{prefix_len, list_any};
 ghost use Rattle.markdown_scanners_tree.specs.Bytes.{begins_with, is_alphanumeric, is_white_space_in_line};
-ghost use Rattle.markdown_scanners_tree.specs.Accepted.{IsAccepted};
+ghost use Rattle.markdown_scanners_tree.specs.scanners.Runs.{IsAccepted};
 
 use crate::scanners::classes::{is_ascii_alphanumeric, is_ascii_whitespace_no_nl};
 use memchr::memchr;

@@ -2,7 +2,7 @@
 ghost use Rattle.std.specs.Prelude.{◌≡◌, ◌+◌, ◌<◌, ◌≤◌, ◌⊎◌, ◌==◌, ℕ, [], ◌∷◌, length, drop, ◌++◌, map, IsTrue, MatchOption, false, not, ◌||◌, ◌&&◌, OnOk, IfSome, IfNone, IfOk, if◌then◌else◌};
 ghost use Rattle.std.specs.List.{prefix_len, list_any};
 ghost use Rattle.markdown_scanners_tree.specs.Bytes.{begins_with};
-ghost use Rattle.markdown_scanners_tree.specs.DelimiterRow.{is_cell_byte, alignment, alignment_by, counted_last, IsCells, AreScanned, IsDelimiterRow};
+ghost use Rattle.markdown_scanners_tree.specs.scanners.Tables.{is_cell_byte, alignment, alignment_by, counted_last, IsCells, AreScanned, IsDelimiterRow};
 
 use crate::scanners::lines::scan_eol;
 use crate::scanners::runs::{has_byte, scan_ch, scan_ch_repeat};

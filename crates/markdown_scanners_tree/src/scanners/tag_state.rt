@@ -1,7 +1,7 @@
 //! Tags read byte by byte.
 ghost use Rattle.std.specs.Prelude.{◌≡◌};
-ghost use Rattle.markdown_scanners_tree.specs.HtmlTag.{is_tag_name_byte, is_attribute_start, is_attribute_byte};
-ghost use Rattle.markdown_scanners_tree.specs.TagMachine.{next_state, after_part, after_attribute_name, before_value, after_closing_name, is_tag_end, is_final};
+ghost use Rattle.markdown_scanners_tree.specs.scanners.html_tag.HtmlTag.{is_tag_name_byte, is_attribute_start, is_attribute_byte};
+ghost use Rattle.markdown_scanners_tree.specs.scanners.tag_state.private.TagMachine.{next_state, after_part, after_attribute_name, before_value, after_closing_name, is_tag_end, is_final};
 
 use crate::scanners::classes::{
     is_ascii_alphanumeric, is_ascii_letter, is_ascii_whitespace, is_ascii_whitespace_no_nl,

@@ -2,10 +2,10 @@
 ghost use Rattle.std.specs.Prelude.{◌≡◌, ◌+◌, ◌-◌, ◌<◌, ◌≤◌, ◌^◌, ◌++◌, ℕ, List, Ok, IfOk, IsOk, OnOk, IfSome, IfNone, false, length, slice_index, slice_range, min, nat_lt, if◌then◌else◌};
 ghost use Rattle.std.specs.Str.{IsCharBoundary};
 ghost use Rattle.std.specs.String.{string_bytes, string_len, string_capacity};
-ghost use Rattle.markdown_values.specs.Text.{cow_text, IsBoxed};
-ghost use Rattle.markdown_scanners_tree.specs.CharacterReference.{StartsWithReference};
-ghost use Rattle.markdown_scanners_tree.specs.Unescaping.{Piece, ArePieces, joined_meanings, AreThemselves};
-ghost use Rattle.markdown_scanners_tree.specs.FirstPiece.{IsFirstPiece, replacement, starts_pipe as starts_pipe_at};
+ghost use Rattle.markdown_values.specs.strings.Text.{cow_text, IsBoxed};
+ghost use Rattle.markdown_scanners_tree.specs.scanners.entities.CharacterReference.{StartsWithReference};
+ghost use Rattle.markdown_scanners_tree.specs.scanners.unescaping.Unescaping.{Piece, ArePieces, joined_meanings, AreThemselves};
+ghost use Rattle.markdown_scanners_tree.specs.scanners.unescaping.private.FirstPiece.{IsFirstPiece, replacement, starts_pipe as starts_pipe_at};
 
 use crate::scanners::entities::{Entities, scan_entity};
 use crate::scanners::escapes::starts_escape;

@@ -1,7 +1,7 @@
 //! Which extensions of the syntax are on.
 ghost use Rattle.std.specs.Prelude.{⊤, ◌≡◌, ◌==◌, ◌&&◌, not};
 ghost use Rattle.std.specs.Int.RustNames.{bit_and};
-ghost use Rattle.markdown_values.specs.Extensions.{bits_of, extension_table};
+ghost use Rattle.markdown_values.specs.values.Extensions.{bits_of, extension_table};
 
 use bitflags::{Flag, Flags};
 

@@ -1,7 +1,7 @@
 //! The parts of a tag that own memory: copied, or with nothing lent.
 ghost use Rattle.std.specs.Prelude.{◌≡◌, IfOk, map, option_map};
-ghost use Rattle.markdown_values.specs.Text.{cow_text, holding_of, clone_holding, static_holding};
-ghost use Rattle.markdown_values.specs.Tags.{attribute_view};
+ghost use Rattle.markdown_values.specs.strings.Text.{cow_text, holding_of, clone_holding, static_holding};
+ghost use Rattle.markdown_values.specs.values.Tags.{attribute_view};
 
 use crate::strings::CowStr;
 use crate::values::Alignment;

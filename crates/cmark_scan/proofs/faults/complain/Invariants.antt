@@ -1,5 +1,5 @@
 use Rattle.std.proofs.Common.{length}
-use Rattle.cmark_scan.specs.Faults.{AppendsBefore}
+use Rattle.cmark_scan.specs.faults.Faults.{AppendsBefore}
 use Rattle.cmark_scan.proofs.faults.complain.Given as goal
 
 -- what the line has before the rest is told

@@ -1,10 +1,10 @@
 -- A step at each place, and the two ends of the loop: at the last place, and where there is none.
 use Rattle.std.proofs.Common.{◌≡◌, ◌<◌, ◌+◌, ◌∙◌, append_assoc, string_bytes, length, arith}
 use Rattle.std.specs.List.{flat_map}
-use Rattle.markdown_scanners_tree.specs.InlineHtmlPassed.{bytes_passed}
-use Rattle.cmark_scan.specs.HtmlScans.{scans_of, places_of}
-use Rattle.cmark_scan.specs.Printed.{scan_text}
-use Rattle.cmark_scan.proofs.ScanLemmas.{step_kept, ended}
+use Rattle.markdown_scanners_tree.specs.inline_html.run.Passed.{bytes_passed}
+use Rattle.cmark_scan.specs.html.HtmlScans.{scans_of, places_of}
+use Rattle.cmark_scan.specs.printing.Printed.{scan_text}
+use Rattle.cmark_scan.proofs.html.ScanLemmas.{step_kept, ended}
 use Rattle.cmark_scan.proofs.html.html_text.Goals as goal
 use Rattle.cmark_scan.proofs.html.html_text.Goals.{else-loop-place-test, then-loop-place-test+in_ok-push_step+else-place-place-end}
 

@@ -1,10 +1,10 @@
 -- The handler answers 0 for each rest, and nothing else.
 use Rattle.std.proofs.Common.{ℕ, ◌≡◌, Some, rules, of_calls, refl, sym, ◌∙◌, ap, subst, inl, inr}
 use Rattle.std.proofs.lemmas.Str.{IsCharBoundary-start}
-use Rattle.markdown_scanners_tree.specs.Label.{Label}
-use Rattle.cmark_scan.specs.LabelRun.{IsLabelOf, SkipsNothing}
-use Rattle.cmark_scan.specs.Printed.{label_lines}
-use Rattle.cmark_scan.proofs.LabelLemmas.{label_of_more, lent_is_plain}
+use Rattle.markdown_scanners_tree.specs.linklabel.Label.{Label}
+use Rattle.cmark_scan.specs.label.LabelRun.{IsLabelOf, SkipsNothing}
+use Rattle.cmark_scan.specs.printing.Printed.{label_lines}
+use Rattle.cmark_scan.proofs.label.LabelLemmas.{label_of_more, lent_is_plain}
 use Rattle.cmark_scan.proofs.label.label_report.Goals as goal
 
 same : (m n : ℕ) → Some m ≡ Some n → m ≡ n

@@ -1,5 +1,5 @@
 use Rattle.std.proofs.Common.{arith}
-use Rattle.cmark_scan.proofs.FaultLemmas.{nothing_told, before_writing}
+use Rattle.cmark_scan.proofs.faults.FaultLemmas.{nothing_told, before_writing}
 use Rattle.cmark_scan.proofs.program.run_program.Goals as goal
 
 pub returns-in-Ok-Done-clause-unread : goal.returns-in-Ok-Done-clause-unread

@@ -1,8 +1,8 @@
 use Rattle.std.proofs.Common.{◌≡◌, false, subst, ◌∙◌}
 use Rattle.std.specs.Prelude.{Result, Ok, Err, IfOk}
-use Rattle.markdown_values.specs.Text.{cow_text}
-use Rattle.markdown_scanners_tree.specs.Unescaping.{ArePieces, joined_meanings}
-use Rattle.cmark_scan.specs.EntityTexts.{entity_text}
+use Rattle.markdown_values.specs.strings.Text.{cow_text}
+use Rattle.markdown_scanners_tree.specs.scanners.unescaping.Unescaping.{ArePieces, joined_meanings}
+use Rattle.cmark_scan.specs.unescaping.EntityTexts.{entity_text}
 use Rattle.cmark_scan.proofs.unescaping.unescaped_text.Goals as goal
 
 IfOk-map : {A B : Type 0} (P Q : A → Type 0) (result : Result A B) → ((x : A) → P x → Q x) → IfOk result P → IfOk result Q

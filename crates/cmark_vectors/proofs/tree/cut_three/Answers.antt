@@ -1,6 +1,6 @@
 use Rattle.std.proofs.Common.{◌∙◌, ap}
-use Rattle.markdown_values.specs.Linked.{Linked}
-use Rattle.markdown_values.specs.Tree.{appended}
+use Rattle.markdown_values.specs.tree.Linked.{Linked}
+use Rattle.markdown_values.specs.tree.Tree.{appended}
 use Rattle.cmark_vectors.specs.declared.pieces.Piece.{Piece}
 use Rattle.cmark_vectors.proofs.PieceTrees.{can_cut_three}
 use Rattle.cmark_vectors.proofs.tree.cut_three.Goals as goal

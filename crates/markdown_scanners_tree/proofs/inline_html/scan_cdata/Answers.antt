@@ -1,10 +1,10 @@
 use Rattle.std.proofs.Common.{◌≡◌, ◌+◌, ◌-◌, ◌≤◌, arith, length, Some, None, sym, ap, ◌∙◌, refl, []}
 use Rattle.std.specs.Prelude.{◌∷◌}
 use Rattle.std.proofs.lemmas.Bool.{lt-ltb, le-ltb}
-use Rattle.markdown_scanners_tree.specs.InlineHtml.{Cdata, closer, first_closer, searched}
-use Rattle.markdown_scanners_tree.specs.InlineHtmlGuard.{with_number}
-use Rattle.markdown_scanners_tree.proofs.InlineHtmlOpenings.{declared_at-cdata, declared_at-bracket, stands-length}
-use Rattle.markdown_scanners_tree.proofs.InlineHtmlScans.{scan-stopped, scan-hit, scan-miss, scan-bracket, span-hit, span-miss, first_place-bounds, scan-counts, found-after, counts-after}
+use Rattle.markdown_scanners_tree.specs.inline_html.InlineHtml.{Cdata, closer, first_closer, searched}
+use Rattle.markdown_scanners_tree.specs.inline_html.Guard.{with_number}
+use Rattle.markdown_scanners_tree.proofs.inline_html.Openings.{declared_at-cdata, declared_at-bracket, stands-length}
+use Rattle.markdown_scanners_tree.proofs.inline_html.Scans.{scan-stopped, scan-hit, scan-miss, scan-bracket, span-hit, span-miss, first_place-bounds, scan-counts, found-after, counts-after}
 use Rattle.markdown_scanners_tree.proofs.inline_html.scan_cdata.Goals as goal
 
 pub returns-then-not-begins : goal.returns-then-not-begins

@@ -3,11 +3,11 @@ use Rattle.std.specs.Prelude.{◌==◌, ◌≢◌, not, slice_get}
 use Rattle.std.specs.Option.{option_eq}
 use Rattle.std.proofs.lemmas.Bool.{lt-ltb, le-ltb, eqb-true, eq-eqb, false≢true, cases_Bool}
 use Rattle.std.proofs.lemmas.Option.{same_Some, none-some}
-use Rattle.markdown_scanners_tree.specs.InlineHtml.{Comment, closer, first_place, first_closer, searched}
-use Rattle.markdown_scanners_tree.specs.InlineHtmlGuard.{with_number}
-use Rattle.markdown_scanners_tree.specs.CountedBytes.{CountedBytes, passing}
-use Rattle.markdown_scanners_tree.proofs.InlineHtmlOpenings.{declared_at-comment, declared_at-hyphen, some_or_not}
-use Rattle.markdown_scanners_tree.proofs.InlineHtmlScans.{scan-stopped, scan-hit, scan-miss, scan-hyphen, scan-hyphen-stopped, span-hit, span-miss, first_place-bounds, scan-counts, found-after, counts-after, passing-none}
+use Rattle.markdown_scanners_tree.specs.inline_html.InlineHtml.{Comment, closer, first_place, first_closer, searched}
+use Rattle.markdown_scanners_tree.specs.inline_html.Guard.{with_number}
+use Rattle.markdown_scanners_tree.specs.inline_html.CountedText.{CountedBytes, passing}
+use Rattle.markdown_scanners_tree.proofs.inline_html.Openings.{declared_at-comment, declared_at-hyphen, some_or_not}
+use Rattle.markdown_scanners_tree.proofs.inline_html.Scans.{scan-stopped, scan-hit, scan-miss, scan-hyphen, scan-hyphen-stopped, span-hit, span-miss, first_place-bounds, scan-counts, found-after, counts-after, passing-none}
 use Rattle.markdown_scanners_tree.proofs.inline_html.scan_comment.Goals as goal
 
 -- what the test of the second byte tells

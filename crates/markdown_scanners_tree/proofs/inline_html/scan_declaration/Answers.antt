@@ -1,9 +1,9 @@
 use Rattle.std.proofs.Common.{◌+◌, ◌≤◌, arith, length, sym, ap, ◌∙◌, []}
 use Rattle.std.specs.Prelude.{◌∷◌}
 use Rattle.std.proofs.lemmas.Bool.{lt-ltb, le-ltb}
-use Rattle.markdown_scanners_tree.specs.InlineHtml.{Declaration}
-use Rattle.markdown_scanners_tree.specs.InlineHtmlGuard.{with_number}
-use Rattle.markdown_scanners_tree.proofs.InlineHtmlScans.{scan-stopped, scan-hit, scan-miss, span-hit, span-miss, first_place-bounds, scan-counts, passing-none}
+use Rattle.markdown_scanners_tree.specs.inline_html.InlineHtml.{Declaration}
+use Rattle.markdown_scanners_tree.specs.inline_html.Guard.{with_number}
+use Rattle.markdown_scanners_tree.proofs.inline_html.Scans.{scan-stopped, scan-hit, scan-miss, span-hit, span-miss, first_place-bounds, scan-counts, passing-none}
 use Rattle.markdown_scanners_tree.proofs.inline_html.scan_declaration.Goals as goal
 
 pub returns-then-place-guard : goal.returns-then-place-guard

@@ -1,10 +1,10 @@
 use Rattle.std.proofs.Common.{arith, sym, ap, ◌∙◌, ◌≡◌, ◌+◌, ◌-◌, ◌≤◌, length, Some}
 use Rattle.std.proofs.lemmas.Bool.{le-leb, lt-leb}
-use Rattle.markdown_scanners_tree.specs.CountedBytes.{passing}
-use Rattle.markdown_scanners_tree.specs.InlineHtml.{Processing, closer, first_place, first_closer, searched}
-use Rattle.markdown_scanners_tree.specs.InlineHtmlGuard.{with_number}
-use Rattle.markdown_scanners_tree.proofs.InlineHtmlScans.{scan-stopped, scan-hit, scan-miss, span-hit, span-miss, first_place-bounds, passing-none}
-use Rattle.markdown_scanners_tree.proofs.TrueGuards.{true-processing}
+use Rattle.markdown_scanners_tree.specs.inline_html.CountedText.{passing}
+use Rattle.markdown_scanners_tree.specs.inline_html.InlineHtml.{Processing, closer, first_place, first_closer, searched}
+use Rattle.markdown_scanners_tree.specs.inline_html.Guard.{with_number}
+use Rattle.markdown_scanners_tree.proofs.inline_html.Scans.{scan-stopped, scan-hit, scan-miss, span-hit, span-miss, first_place-bounds, passing-none}
+use Rattle.markdown_scanners_tree.proofs.inline_html.TrueGuards.{true-processing}
 use Rattle.markdown_scanners_tree.proofs.inline_html.scan_inline_html_processing_counted.Goals as goal
 
 pub returns-then-place-guard : goal.returns-then-place-guard

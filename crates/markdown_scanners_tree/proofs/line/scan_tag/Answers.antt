@@ -1,7 +1,7 @@
 use Rattle.std.proofs.Common.{◌∙◌, ap}
 use Rattle.markdown_scanners_tree.specs.Bytes.{blank_line}
 use Rattle.markdown_scanners_tree.proofs.FrontLemmas.{from_place}
-use Rattle.markdown_scanners_tree.proofs.TagLemmas.{tag_line-found}
+use Rattle.markdown_scanners_tree.proofs.line.AlertLemmas.{tag_line-found}
 use Rattle.markdown_scanners_tree.proofs.line.scan_tag.Goals as goal
 
 pub returns-clause-tag : goal.returns-clause-tag

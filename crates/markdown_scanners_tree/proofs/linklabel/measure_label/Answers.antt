@@ -5,12 +5,12 @@ use Rattle.std.proofs.lemmas.List.{drop-drop}
 use Rattle.markdown_scanners_tree.specs.Bytes.{is_between}
 use Rattle.markdown_scanners_tree.specs.Handler.{Skips}
 use Rattle.markdown_scanners_tree.specs.Kept.{KeptByte, in_line, kept_line}
-use Rattle.markdown_scanners_tree.specs.LabelFront.{IsFront}
-use Rattle.markdown_scanners_tree.specs.LabelPass.{IsMeasure, IsOnlySkip, begun, space_len, starts_dropped}
+use Rattle.markdown_scanners_tree.specs.linklabel.private.Front.{IsFront}
+use Rattle.markdown_scanners_tree.specs.linklabel.private.Pass.{IsMeasure, IsOnlySkip, begun, space_len, starts_dropped}
 use Rattle.markdown_scanners_tree.specs.declared.linklabel.Front.TheVariants.{End, Open, Close, Ending, Space, Word}
-use Rattle.markdown_scanners_tree.proofs.LabelMeasure.{measured, not_measured}
-use Rattle.markdown_scanners_tree.proofs.LabelScan.{IsAt, at_start, none_at_end, none_at_opening, none_at_ending, none_at_second_ending, after_word, after_space, after_ending, front_at, rest_is, ending_fits, byte_fits, byte_rest, cut_after_ending, told_word, told_space, told_ending}
-use Rattle.markdown_scanners_tree.proofs.LabelSeen.{Seen, Seen-none}
+use Rattle.markdown_scanners_tree.proofs.linklabel.MeasureLemmas.{measured, not_measured}
+use Rattle.markdown_scanners_tree.proofs.linklabel.Scan.{IsAt, at_start, none_at_end, none_at_opening, none_at_ending, none_at_second_ending, after_word, after_space, after_ending, front_at, rest_is, ending_fits, byte_fits, byte_rest, cut_after_ending, told_word, told_space, told_ending}
+use Rattle.markdown_scanners_tree.proofs.linklabel.Seen.{Seen, Seen-none}
 use Rattle.markdown_scanners_tree.proofs.linklabel.measure_label.Goals as goal
 
 if_none : {A : Type 0} (P : Type 0) (r : Option A) → P → IfNone r P

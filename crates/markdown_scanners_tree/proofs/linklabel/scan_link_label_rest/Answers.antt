@@ -1,9 +1,9 @@
 -- The two passes together.
 use Rattle.std.proofs.Common.{◌++◌, ◌-◌, arith, sym, ◌∙◌, ap, true≢false}
-use Rattle.markdown_scanners_tree.specs.Label.{Label}
-use Rattle.markdown_scanners_tree.specs.LabelPass.{without_first_space, without_last_space}
-use Rattle.markdown_scanners_tree.proofs.LabelReads.{label_reads_back}
-use Rattle.markdown_scanners_tree.proofs.LabelScan.{same_take}
+use Rattle.markdown_scanners_tree.specs.linklabel.Label.{Label}
+use Rattle.markdown_scanners_tree.specs.linklabel.private.Pass.{without_first_space, without_last_space}
+use Rattle.markdown_scanners_tree.proofs.linklabel.ReadsBack.{label_reads_back}
+use Rattle.markdown_scanners_tree.proofs.linklabel.Scan.{same_take}
 use Rattle.markdown_scanners_tree.proofs.linklabel.scan_link_label_rest.Goals as goal
 
 pub returns-in_err-label-clause-lent : goal.returns-in_err-label-clause-lent

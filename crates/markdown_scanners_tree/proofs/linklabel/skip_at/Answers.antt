@@ -4,8 +4,8 @@ use Rattle.std.proofs.lemmas.Str.{IsUtf8-drop, IsCharBoundary-from_rest}
 use Rattle.std.specs.Fn.{FnReturnsAt}
 use Rattle.std.specs.Str.{IsUtf8, IsCharBoundary}
 use Rattle.markdown_scanners_tree.specs.Handler.{Skips}
-use Rattle.markdown_scanners_tree.specs.LabelPass.{IsOnlySkip}
-use Rattle.markdown_scanners_tree.proofs.LabelScan.{rest_is}
+use Rattle.markdown_scanners_tree.specs.linklabel.private.Pass.{IsOnlySkip}
+use Rattle.markdown_scanners_tree.proofs.linklabel.Scan.{rest_is}
 use Rattle.markdown_scanners_tree.proofs.linklabel.skip_at.Goals as goal
 
 some-same : (m n : ℕ) → Some m ≡ Some n → m ≡ n

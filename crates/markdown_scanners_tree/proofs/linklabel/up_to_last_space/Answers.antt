@@ -1,8 +1,8 @@
 -- The space at the end, by its place.
 use Rattle.std.proofs.Common.{ℕ, zero, suc, List, [], ◌∷◌, ◌==◌, ◌≡◌, ◌-◌, true, false, refl, sym, ◌∙◌, ap, cond, arith, length, take, get_or}
 use Rattle.std.proofs.lemmas.Bool.Decides.{nat_tests}
-use Rattle.markdown_scanners_tree.specs.LabelPass.{without_last_space}
-use Rattle.markdown_scanners_tree.proofs.LabelScan.{same_take}
+use Rattle.markdown_scanners_tree.specs.linklabel.private.Pass.{without_last_space}
+use Rattle.markdown_scanners_tree.proofs.linklabel.Scan.{same_take}
 use Rattle.markdown_scanners_tree.proofs.linklabel.up_to_last_space.Goals as goal
 use Rattle.markdown_scanners_tree.proofs.linklabel.up_to_last_space.Goals.{then-is_empty-via-then-is_empty, then-is_empty-via-else-is_empty+then-as_bytes-text-ne32}
 

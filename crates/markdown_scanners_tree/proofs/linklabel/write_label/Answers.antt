@@ -6,14 +6,14 @@ use Rattle.std.specs.Str.{IsCharBoundary}
 use Rattle.std.specs.String.{string_bytes, string_len, string_capacity}
 use Rattle.markdown_scanners_tree.specs.Handler.{Skips}
 use Rattle.markdown_scanners_tree.specs.Kept.{in_line, kept_line}
-use Rattle.markdown_scanners_tree.specs.LabelFront.{IsFront}
-use Rattle.markdown_scanners_tree.specs.LabelPass.{IsOnlySkip, space_len, starts_dropped}
+use Rattle.markdown_scanners_tree.specs.linklabel.private.Front.{IsFront}
+use Rattle.markdown_scanners_tree.specs.linklabel.private.Pass.{IsOnlySkip, space_len, starts_dropped}
 use Rattle.markdown_scanners_tree.specs.declared.linklabel.Front.TheVariants.{End, Open, Close, Ending, Space, Word}
-use Rattle.markdown_scanners_tree.proofs.LabelRoom.{pushed_fits, no_room, spaced_len, not_spaced_len, counts_word, counts_dropped, counts_kept}
-use Rattle.markdown_scanners_tree.proofs.LabelScan.{IsAt, at_start, none_at_end, none_at_opening, none_at_ending, after_word, after_space, after_ending, front_at, rest_is, byte_fits, byte_rest, cut_after, cut_after_ending, white_small}
-use Rattle.markdown_scanners_tree.proofs.LabelSeen.{Written-none, word_len}
-use Rattle.markdown_scanners_tree.proofs.LabelCells.{space_of}
-use Rattle.markdown_scanners_tree.proofs.LabelWriting.{label_written, no_slice, word_written, space_after, appended, ending_written, space_written, word_follows, flushed_out, MarkIs, mark_dropped, mark_kept, spaced_out, not_spaced_out}
+use Rattle.markdown_scanners_tree.proofs.linklabel.Room.{pushed_fits, no_room, spaced_len, not_spaced_len, counts_word, counts_dropped, counts_kept}
+use Rattle.markdown_scanners_tree.proofs.linklabel.Scan.{IsAt, at_start, none_at_end, none_at_opening, none_at_ending, after_word, after_space, after_ending, front_at, rest_is, byte_fits, byte_rest, cut_after, cut_after_ending, white_small}
+use Rattle.markdown_scanners_tree.proofs.linklabel.Seen.{Written-none, word_len}
+use Rattle.markdown_scanners_tree.proofs.linklabel.Cells.{space_of}
+use Rattle.markdown_scanners_tree.proofs.linklabel.Writing.{label_written, no_slice, word_written, space_after, appended, ending_written, space_written, word_follows, flushed_out, MarkIs, mark_dropped, mark_kept, spaced_out, not_spaced_out}
 use Rattle.markdown_scanners_tree.proofs.linklabel.write_label.Goals as goal
 use Rattle.markdown_scanners_tree.proofs.linklabel.write_label.Goals.{then-has_word+then-in_run+in_ok-push_str-in-Word, else-has_word, then-is_dropped+in_ok-push_str-in-Word-2, else-is_dropped}
 

@@ -1,9 +1,9 @@
 use Rattle.std.proofs.Common.{◌≡◌, ◌-◌, ◌≤◌, false, sym, ap, ◌∙◌, take, drop, length, arith}
 use Rattle.std.proofs.lemmas.List.{length-drop, length-take-le}
-use Rattle.markdown_scanners_tree.specs.LineState.{unscanned}
-use Rattle.markdown_scanners_tree.specs.ThematicBreak.{is_thematic_break}
+use Rattle.markdown_scanners_tree.specs.line.State.{unscanned}
+use Rattle.markdown_scanners_tree.specs.scanners.Breaks.{is_thematic_break}
 use Rattle.markdown_scanners_tree.proofs.FrontLemmas.{from_place}
-use Rattle.markdown_scanners_tree.proofs.ItemLemmas.{marker-found, marker-none, marker-width}
+use Rattle.markdown_scanners_tree.proofs.line.ItemLemmas.{marker-found, marker-none, marker-width}
 use Rattle.markdown_scanners_tree.proofs.line.LineStart.list_marker.Goals as goal
 use Rattle.markdown_scanners_tree.proofs.line.LineStart.list_marker.Goals.{else-width-eq1-via-then-width-eq1+else-begins_break, else-width-eq1-via-else-width-eq1}
 

@@ -1,6 +1,6 @@
 use Rattle.std.proofs.Common.{◌≡◌, ◌∙◌, sym, ◌+◌, ◌∷◌, drop}
-use Rattle.markdown_scanners_tree.specs.LineState.{unscanned}
-use Rattle.markdown_scanners_tree.proofs.StepLemmas.{definition_taken, definition_refused, begins_with-other, begins_with-first}
+use Rattle.markdown_scanners_tree.specs.line.State.{unscanned}
+use Rattle.markdown_scanners_tree.proofs.line.StepLemmas.{definition_taken, definition_refused, begins_with-other, begins_with-first}
 use Rattle.markdown_scanners_tree.proofs.line.LineStart.scan_definition_list_definition_marker_with_indent.Goals as goal
 
 pub returns-then-ne-clause-step : goal.returns-then-ne-clause-step

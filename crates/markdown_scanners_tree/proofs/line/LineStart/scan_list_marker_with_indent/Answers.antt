@@ -1,11 +1,11 @@
 use Rattle.std.proofs.Common.{◌≡◌, ◌≤◌, ◌+◌, ℕ, true, false, sym, ap, ◌∙◌, length, drop, arith, if◌then◌else◌, Some}
 use Rattle.std.proofs.lemmas.List.{length-drop}
 use Rattle.markdown_scanners_tree.specs.Bytes.{is_blank}
-use Rattle.markdown_scanners_tree.specs.LineOutcome.{Outcome, item_outcome, space_or_end_follows}
-use Rattle.markdown_scanners_tree.specs.LineState.{LineState, unscanned, rest_of, leading_spaces, bytes_further, space_within, after_space}
-use Rattle.markdown_scanners_tree.specs.ListMarker.{Marker}
-use Rattle.markdown_scanners_tree.specs.PlainStep.{marker_spaces}
-use Rattle.markdown_scanners_tree.proofs.ItemLemmas.{item-found, item_refused, item_step-none, item_step-bare, item_is_step}
+use Rattle.markdown_scanners_tree.specs.line.Outcome.{Outcome, item_outcome, space_or_end_follows}
+use Rattle.markdown_scanners_tree.specs.line.State.{LineState, unscanned, rest_of, leading_spaces, bytes_further, space_within, after_space}
+use Rattle.markdown_scanners_tree.specs.scanners.list_items.ListMarker.{Marker}
+use Rattle.markdown_scanners_tree.specs.line.PlainStep.{marker_spaces}
+use Rattle.markdown_scanners_tree.proofs.line.ItemLemmas.{item-found, item_refused, item_step-none, item_step-bare, item_is_step}
 use Rattle.markdown_scanners_tree.proofs.line.LineStart.scan_list_marker_with_indent.Goals as goal
 
 pub returns-in_err-width-clause-step : goal.returns-in_err-width-clause-step

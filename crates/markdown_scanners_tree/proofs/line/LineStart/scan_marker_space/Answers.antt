@@ -1,5 +1,5 @@
 use Rattle.std.proofs.Common.{◌<◌, ◌∙◌, arith}
-use Rattle.markdown_scanners_tree.proofs.StepLemmas.{no_space_taken}
+use Rattle.markdown_scanners_tree.proofs.line.StepLemmas.{no_space_taken}
 use Rattle.markdown_scanners_tree.proofs.line.LineStart.scan_marker_space.Goals as goal
 
 pub returns-then-is_some-clause-state : goal.returns-then-is_some-clause-state

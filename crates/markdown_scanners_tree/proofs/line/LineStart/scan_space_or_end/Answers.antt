@@ -2,8 +2,8 @@ use Rattle.std.proofs.Common.{◌≡◌, true, sym, ap, ◌∙◌}
 use Rattle.std.specs.Bool.{one_answer}
 use Rattle.std.proofs.lemmas.Bool.{false≢true}
 use Rattle.markdown_scanners_tree.specs.Bytes.{is_at_line_end}
-use Rattle.markdown_scanners_tree.specs.LineState.{unscanned, space_within}
-use Rattle.markdown_scanners_tree.proofs.ItemLemmas.{follows-end}
+use Rattle.markdown_scanners_tree.specs.line.State.{unscanned, space_within}
+use Rattle.markdown_scanners_tree.proofs.line.ItemLemmas.{follows-end}
 use Rattle.markdown_scanners_tree.proofs.line.LineStart.scan_space_or_end.Goals as goal
 
 pub returns-else-scan_space-clause-answer : goal.returns-else-scan_space-clause-answer

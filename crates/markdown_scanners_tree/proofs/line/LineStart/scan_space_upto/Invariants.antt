@@ -1,6 +1,6 @@
 use Rattle.std.proofs.Common.{◌≡◌, ◌+◌, ◌-◌, ◌*◌, ◌<◌, ◌≤◌, length, drop, min}
-use Rattle.markdown_scanners_tree.proofs.ColumnLemmas.{Reach}
-use Rattle.markdown_scanners_tree.proofs.SpaceLemmas.{spaces}
+use Rattle.markdown_scanners_tree.proofs.line.ColumnLemmas.{Reach}
+use Rattle.markdown_scanners_tree.proofs.line.SpaceLemmas.{spaces}
 use Rattle.markdown_scanners_tree.proofs.line.LineStart.scan_space_upto.Given as goal
 
 abbrev pub invariant-loop-left : goal.invariant-loop-left

@@ -1,4 +1,4 @@
-use Rattle.markdown_scanners_tree.proofs.BreakScan.{scanned_none, scanned_few, scanned_break}
+use Rattle.markdown_scanners_tree.proofs.scanners.breaks.BreakScan.{scanned_none, scanned_few, scanned_break}
 use Rattle.markdown_scanners_tree.proofs.scanners.breaks.scan_break_of.Goals as goal
 
 pub returns-in-None-clause-absent : goal.returns-in-None-clause-absent

@@ -1,7 +1,7 @@
 use Rattle.std.proofs.Common.{refl, arith, get_or}
 use Rattle.markdown_scanners_tree.specs.declared.scanners.classes.TheConstants.{CLASSES}
-use Rattle.markdown_scanners_tree.specs.Classes.{class_bits}
-use Rattle.markdown_scanners_tree.proofs.ClassLemmas.{agree_below, agree_at}
+use Rattle.markdown_scanners_tree.specs.scanners.Classes.{class_bits}
+use Rattle.markdown_scanners_tree.proofs.scanners.classes.ClassLemmas.{agree_below, agree_at}
 use Rattle.markdown_scanners_tree.proofs.scanners.classes.classes_of.Goals as goal
 
 pub returns : goal.returns

@@ -1,7 +1,7 @@
 use Rattle.std.proofs.Common.{◌+◌, arith, sym, ap, ◌∙◌, subst, encode_utf8}
-use Rattle.markdown_scanners_tree.specs.CharacterReference.{StartsWithReference}
-use Rattle.markdown_scanners_tree.specs.Digits.{IsNumberInFront}
-use Rattle.markdown_scanners_tree.proofs.ReferenceLemmas.{no_hexadecimal, no_decimal, hexadecimal_found, decimal_found}
+use Rattle.markdown_scanners_tree.specs.scanners.entities.CharacterReference.{StartsWithReference}
+use Rattle.markdown_scanners_tree.specs.scanners.entities.private.Digits.{IsNumberInFront}
+use Rattle.markdown_scanners_tree.proofs.scanners.entities.ReferenceLemmas.{no_hexadecimal, no_decimal, hexadecimal_found, decimal_found}
 use Rattle.std.proofs.lemmas.List.{take_rest}
 use Rattle.std.proofs.lemmas.Bool.{false≢true}
 use Rattle.markdown_scanners_tree.proofs.scanners.entities.scan_entity.Goals as goal

@@ -1,10 +1,10 @@
 use Rattle.std.proofs.Common.{◌≡◌, ◌+◌, arith, sym, ap, ◌∙◌, Some, take, drop, length, length-take, length-drop, ◌-◌}
-use Rattle.markdown_values.specs.Text.{cow_text}
+use Rattle.markdown_values.specs.strings.Text.{cow_text}
 use Rattle.std.specs.Option.{is_some}
 use Rattle.std.proofs.lemmas.Bool.{false≢true}
 use Rattle.std.specs.List.{prefix_len}
 use Rattle.markdown_scanners_tree.specs.Bytes.{is_alphanumeric}
-use Rattle.markdown_scanners_tree.proofs.ReferenceLemmas.{only_entity, entity_ended, entity_found}
+use Rattle.markdown_scanners_tree.proofs.scanners.entities.ReferenceLemmas.{only_entity, entity_ended, entity_found}
 use Rattle.std.proofs.lemmas.List.{take_rest}
 use Rattle.markdown_scanners_tree.proofs.scanners.entities.scan_named.Goals as goal
 use Rattle.markdown_scanners_tree.proofs.scanners.entities.scan_named.Goals.{then-n-bytes-via-then-n-bytes, then-n-bytes-via-else-n-bytes+then-bytes-n-ne59}

@@ -1,5 +1,5 @@
 use Rattle.std.proofs.Common.{arith}
-use Rattle.markdown_scanners_tree.proofs.DigitLemmas.{number_found, number_ended, front_digits}
+use Rattle.markdown_scanners_tree.proofs.scanners.entities.DigitLemmas.{number_found, number_ended, front_digits}
 use Rattle.markdown_scanners_tree.proofs.scanners.entities.scan_number.Goals as goal
 use Rattle.markdown_scanners_tree.proofs.scanners.entities.scan_number.Goals.{then-n-eq0-via-then-n-eq0, then-n-eq0-via-else-n-eq0+then-n-limit, then-n-eq0-via-else-n-eq0+else-n-limit+then-n-bytes, then-n-eq0-via-else-n-eq0+else-n-limit+else-n-bytes+then-bytes-n-ne59}
 

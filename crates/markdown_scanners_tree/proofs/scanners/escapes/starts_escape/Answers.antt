@@ -1,5 +1,5 @@
 use Rattle.std.proofs.Common.{arith, sym}
-use Rattle.markdown_scanners_tree.proofs.UnitLemmas.{escape_at_end}
+use Rattle.markdown_scanners_tree.proofs.scanners.escapes.UnitLemmas.{escape_at_end}
 use Rattle.markdown_scanners_tree.proofs.scanners.escapes.starts_escape.Goals as goal
 
 pub returns-then-i-bytes-clause-value : goal.returns-then-i-bytes-clause-value

@@ -1,5 +1,5 @@
 use Rattle.std.proofs.Common.{sym, ◌∙◌}
-use Rattle.markdown_scanners_tree.specs.CodeFence.{is_space_or_tab}
+use Rattle.markdown_scanners_tree.specs.scanners.Fences.{is_space_or_tab}
 use Rattle.markdown_scanners_tree.proofs.RunLemmas.{run_from, ending_from, fence_close-few, fence_close-scanned, fence_close-open, closing-found, closing-only}
 use Rattle.markdown_scanners_tree.proofs.scanners.fences.scan_closing_code_fence.Goals as goal
 

@@ -1,5 +1,5 @@
 use Rattle.std.proofs.Common.{sym, ◌∙◌, ap}
-use Rattle.markdown_scanners_tree.specs.CodeFence.{has_backtick_in_line}
+use Rattle.markdown_scanners_tree.specs.scanners.Fences.{has_backtick_in_line}
 use Rattle.markdown_scanners_tree.proofs.FrontLemmas.{from_place}
 use Rattle.markdown_scanners_tree.proofs.RunLemmas.{fence-few, fence-backtick, fence-scanned}
 use Rattle.markdown_scanners_tree.proofs.scanners.fences.scan_fence_of.Goals as goal

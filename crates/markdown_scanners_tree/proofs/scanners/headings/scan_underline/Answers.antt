@@ -1,4 +1,4 @@
-use Rattle.markdown_scanners_tree.proofs.HeadingLemmas.{underline-scanned, underline-open}
+use Rattle.markdown_scanners_tree.proofs.scanners.headings.HeadingLemmas.{underline-scanned, underline-open}
 use Rattle.markdown_scanners_tree.proofs.scanners.headings.scan_underline.Goals as goal
 
 pub returns-clause-found : goal.returns-clause-found

@@ -1,4 +1,4 @@
-use Rattle.markdown_scanners_tree.proofs.BlockStart.{starts_where_named, starts_not_unnamed}
+use Rattle.markdown_scanners_tree.proofs.scanners.html_block.BlockStart.{starts_where_named, starts_not_unnamed}
 use Rattle.markdown_scanners_tree.proofs.scanners.html_block.starts_html_block_type_6.Goals as goal
 
 pub returns-then-is_block_name : goal.returns-then-is_block_name

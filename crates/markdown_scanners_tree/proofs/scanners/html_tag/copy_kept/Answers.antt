@@ -1,7 +1,7 @@
 use Rattle.std.proofs.Common.{rules, of_calls, ◌∙◌, ◌≤◌, ◌<◌, ◌+◌, ◌-◌, length, take, drop, refl, sym, Some, length-append, arith}
 use Rattle.markdown_scanners_tree.specs.Handler.{Answers}
-use Rattle.markdown_scanners_tree.proofs.KeptCopy.{copy_starts, copy_inside, copy_goes_on}
-use Rattle.markdown_scanners_tree.proofs.TagScan.{turn_with_skip, turn_without, skip_inside}
+use Rattle.markdown_scanners_tree.proofs.scanners.html_tag.KeptCopy.{copy_starts, copy_inside, copy_goes_on}
+use Rattle.markdown_scanners_tree.proofs.scanners.html_tag.TagScan.{turn_with_skip, turn_without, skip_inside}
 use Rattle.markdown_scanners_tree.proofs.scanners.html_tag.copy_kept.Goals as goal
 
 pub loop-is_last-init : goal.loop-is_last-init

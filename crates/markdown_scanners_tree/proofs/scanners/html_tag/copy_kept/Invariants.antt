@@ -1,7 +1,7 @@
 use Rattle.std.proofs.Common.{◌-◌, ◌≤◌, ◌≡◌, length}
 use Rattle.std.specs.Vec.{vec_capacity, vec_len}
 use Rattle.markdown_scanners_tree.specs.Handler.{Answers}
-use Rattle.markdown_scanners_tree.proofs.KeptCopy.{Copied}
+use Rattle.markdown_scanners_tree.proofs.scanners.html_tag.KeptCopy.{Copied}
 use Rattle.markdown_scanners_tree.proofs.scanners.html_tag.copy_kept.Given as goal
 
 abbrev pub invariant-loop-is_last : goal.invariant-loop-is_last

@@ -1,8 +1,8 @@
 use Rattle.std.proofs.Common.{rules, of_calls, ◌≡◌, ◌∙◌, ◌≤◌, ◌+◌, ◌-◌, ◌⊎◌, inl, inr, length, take, drop, refl, sym, ap, true, arith}
 use Rattle.markdown_scanners_tree.specs.Handler.{Answers}
-use Rattle.markdown_scanners_tree.specs.TagMachine.{is_final}
-use Rattle.markdown_scanners_tree.proofs.TagBuffer.{if_none, none_given}
-use Rattle.markdown_scanners_tree.proofs.TagScan.{turn_with_skip, turn_without, skip_inside, scan_starts, scan_goes_on, scan_finds, scan_only, scan_ends, no_handler_stops}
+use Rattle.markdown_scanners_tree.specs.scanners.tag_state.private.TagMachine.{is_final}
+use Rattle.markdown_scanners_tree.proofs.scanners.html_tag.TagBuffer.{if_none, none_given}
+use Rattle.markdown_scanners_tree.proofs.scanners.html_tag.TagScan.{turn_with_skip, turn_without, skip_inside, scan_starts, scan_goes_on, scan_finds, scan_only, scan_ends, no_handler_stops}
 use Rattle.markdown_scanners_tree.proofs.scanners.html_tag.measure_tag.Goals.{then-loop-place-test+else-not-is_final, else-loop-place-test}
 use Rattle.markdown_scanners_tree.proofs.scanners.html_tag.measure_tag.Goals as goal
 

@@ -1,7 +1,7 @@
 use Rattle.std.proofs.Common.{◌-◌, ◌≤◌, ◌≡◌, length}
 use Rattle.std.specs.Option.{IfNone}
-use Rattle.markdown_scanners_tree.specs.KeptTag.{AnswersIfAny}
-use Rattle.markdown_scanners_tree.proofs.TagScan.{Scanned}
+use Rattle.markdown_scanners_tree.specs.scanners.html_tag.KeptTag.{AnswersIfAny}
+use Rattle.markdown_scanners_tree.proofs.scanners.html_tag.TagScan.{Scanned}
 use Rattle.markdown_scanners_tree.proofs.scanners.html_tag.measure_tag.Given as goal
 
 abbrev pub invariant-loop-place : goal.invariant-loop-place

@@ -1,4 +1,4 @@
-use Rattle.markdown_scanners_tree.proofs.TagAlone.{tag_alone, no_tag_alone, not_alone}
+use Rattle.markdown_scanners_tree.proofs.scanners.html_tag.TagAlone.{tag_alone, no_tag_alone, not_alone}
 use Rattle.markdown_scanners_tree.proofs.scanners.html_tag.scan_html_type_7.Goals as goal
 
 pub returns-in_err-tag-clause-absent : goal.returns-in_err-tag-clause-absent

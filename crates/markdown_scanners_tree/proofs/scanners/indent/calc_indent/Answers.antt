@@ -1,7 +1,7 @@
 use Rattle.std.proofs.Common.{◌≡◌, inl, inr, ◌≤◌, ◌+◌, true, get_or, take, ap, sym, ◌∙◌, arith}
 use Rattle.markdown_scanners_tree.specs.Columns.{column_after, column_past}
-use Rattle.markdown_scanners_tree.specs.Indent.{goes_on}
-use Rattle.markdown_scanners_tree.proofs.IndentLemmas.{column_past-more, all_go_on-more, goes_on-column, stopped-space, stopped-other}
+use Rattle.markdown_scanners_tree.specs.scanners.Indent.{goes_on}
+use Rattle.markdown_scanners_tree.proofs.scanners.indent.IndentLemmas.{column_past-more, all_go_on-more, goes_on-column, stopped-space, stopped-other}
 use Rattle.markdown_scanners_tree.proofs.scanners.indent.calc_indent.Goals as goal
 
 pub returns-then-byte-eq32-clause-indent : goal.returns-then-byte-eq32-clause-indent

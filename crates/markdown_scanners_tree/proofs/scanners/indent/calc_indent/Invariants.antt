@@ -1,6 +1,6 @@
 use Rattle.std.proofs.Common.{◌≡◌, ◌-◌, ◌+◌, ◌≤◌, length, take, true}
 use Rattle.markdown_scanners_tree.specs.Columns.{column_past}
-use Rattle.markdown_scanners_tree.specs.Indent.{all_go_on}
+use Rattle.markdown_scanners_tree.specs.scanners.Indent.{all_go_on}
 use Rattle.markdown_scanners_tree.proofs.scanners.indent.calc_indent.Given as goal
 
 abbrev pub invariant-loop-i : goal.invariant-loop-i

@@ -1,5 +1,5 @@
 use Rattle.std.proofs.Common.{sym}
-use Rattle.markdown_scanners_tree.proofs.BlankLemmas.{blank_line-is, blank_line-none}
+use Rattle.markdown_scanners_tree.proofs.scanners.lines.BlankLemmas.{blank_line-is, blank_line-none}
 use Rattle.markdown_scanners_tree.proofs.ScanLemmas.{IsBlankLine-scanned, IsBlankLine-not_scanned}
 use Rattle.markdown_scanners_tree.proofs.scanners.lines.scan_blank_line.Goals as goal
 

@@ -1,5 +1,5 @@
 use Rattle.std.proofs.Common.{◌+◌, ◌∙◌, arith, refl, sym, subst, ℕ, inl, inr, get_or, [], ◌∷◌, ◌≤◌}
-use Rattle.markdown_scanners_tree.proofs.BareLemmas.{so_far_escape, so_far_single, found_here, none_open, none_deep, turns_open, turns_close, turns_other, goes_on, IsBareSoFar, IsStop, Turns}
+use Rattle.markdown_scanners_tree.proofs.scanners.links.BareLemmas.{so_far_escape, so_far_single, found_here, none_open, none_deep, turns_open, turns_close, turns_other, goes_on, IsBareSoFar, IsStop, Turns}
 use Rattle.markdown_scanners_tree.proofs.scanners.links.bare_len.Goals as goal
 use Rattle.markdown_scanners_tree.proofs.scanners.links.bare_len.Goals.{then-b-eq40+else-depth-max_next, else-b-eq40+then-b-eq41, else-b-eq40+else-b-eq41, then-loop-i-test+else-not-ends_destination, else-loop-i-test}
 

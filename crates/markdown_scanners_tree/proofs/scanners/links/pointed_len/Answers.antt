@@ -1,5 +1,5 @@
 use Rattle.std.proofs.Common.{arith, sym, refl}
-use Rattle.markdown_scanners_tree.proofs.PointedLemmas.{pointed_escape, pointed_single, pointed_refused, pointed_open, pointed_here}
+use Rattle.markdown_scanners_tree.proofs.scanners.links.PointedLemmas.{pointed_escape, pointed_single, pointed_refused, pointed_open, pointed_here}
 use Rattle.markdown_scanners_tree.proofs.scanners.links.pointed_len.Goals as goal
 use Rattle.markdown_scanners_tree.proofs.scanners.links.pointed_len.Goals.{then-loop-i-test+else-bytes-i-ne62, else-loop-i-test}
 

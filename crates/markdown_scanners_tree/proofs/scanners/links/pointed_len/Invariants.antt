@@ -1,5 +1,5 @@
 use Rattle.std.proofs.Common.{length, ◌-◌}
-use Rattle.markdown_scanners_tree.proofs.PointedLemmas.{IsPointedSoFar}
+use Rattle.markdown_scanners_tree.proofs.scanners.links.PointedLemmas.{IsPointedSoFar}
 use Rattle.markdown_scanners_tree.proofs.scanners.links.pointed_len.Given as goal
 
 abbrev pub invariant-loop-i : goal.invariant-loop-i

@@ -1,6 +1,6 @@
 use Rattle.std.proofs.Common.{sym, subst, arith}
-use Rattle.markdown_scanners_tree.specs.Autolink.{IsUriAutolink}
-use Rattle.markdown_scanners_tree.proofs.LinkLemmas.{IfNone-anyway, text_from, cut_behind}
+use Rattle.markdown_scanners_tree.specs.scanners.links.Autolink.{IsUriAutolink}
+use Rattle.markdown_scanners_tree.proofs.scanners.links.LinkLemmas.{IfNone-anyway, text_from, cut_behind}
 use Rattle.markdown_scanners_tree.proofs.scanners.links.scan_autolink.Goals as goal
 
 pub returns-in_err-n-clause-absent : goal.returns-in_err-n-clause-absent

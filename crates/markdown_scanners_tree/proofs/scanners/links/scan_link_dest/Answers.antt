@@ -3,8 +3,8 @@ use Rattle.std.proofs.lemmas.Bool.{eqb-true}
 use Rattle.std.proofs.lemmas.List.{take_rest, get_or-drop, drop-drop}
 use Rattle.std.proofs.lemmas.Str.{IsCharBoundary-after_ascii}
 use Rattle.std.specs.Str.{IsCharBoundary}
-use Rattle.markdown_scanners_tree.specs.LinkDestination.{IsPointedFrom, IsBareFrom}
-use Rattle.markdown_scanners_tree.proofs.LinkLemmas.{IfNone-anyway, no_pointed, no_bare, opened_by, text_from, cut_behind}
+use Rattle.markdown_scanners_tree.specs.scanners.links.LinkDestination.{IsPointedFrom, IsBareFrom}
+use Rattle.markdown_scanners_tree.proofs.scanners.links.LinkLemmas.{IfNone-anyway, no_pointed, no_bare, opened_by, text_from, cut_behind}
 use Rattle.markdown_scanners_tree.proofs.scanners.links.scan_link_dest.Goals as goal
 use Rattle.markdown_scanners_tree.proofs.scanners.links.scan_link_dest.Goals.{else-not-is_empty-via-then-not-is_empty+else-bytes-eq60, else-not-is_empty-via-else-not-is_empty}
 

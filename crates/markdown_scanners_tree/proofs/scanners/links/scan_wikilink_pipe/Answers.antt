@@ -1,6 +1,6 @@
 use Rattle.std.proofs.Common.{◌==◌, ap, ◌∙◌, sym, Some, None, arith}
 use Rattle.std.specs.Prelude.{position}
-use Rattle.markdown_scanners_tree.proofs.LinkLemmas.{IfNone-anyway, position-searched, window_is, cut_behind_first}
+use Rattle.markdown_scanners_tree.proofs.scanners.links.LinkLemmas.{IfNone-anyway, position-searched, window_is, cut_behind_first}
 use Rattle.markdown_scanners_tree.proofs.scanners.links.scan_wikilink_pipe.Goals as goal
 
 pub returns-in_err-n-clause-absent : goal.returns-in_err-n-clause-absent

@@ -1,8 +1,8 @@
 use Rattle.std.proofs.Common.{◌≡◌, ◌+◌, arith, sym, ap, ◌∙◌, get_or}
 use Rattle.std.specs.List.{prefix_len}
 use Rattle.std.proofs.lemmas.List.{take_rest}
-use Rattle.markdown_scanners_tree.specs.Autolink.{is_scheme_byte}
-use Rattle.markdown_scanners_tree.proofs.LinkLemmas.{scheme_found, scheme_at}
+use Rattle.markdown_scanners_tree.specs.scanners.links.Autolink.{is_scheme_byte}
+use Rattle.markdown_scanners_tree.proofs.scanners.links.LinkLemmas.{scheme_found, scheme_at}
 use Rattle.markdown_scanners_tree.proofs.scanners.links.scheme_len.Goals as goal
 use Rattle.markdown_scanners_tree.proofs.scanners.links.scheme_len.Goals.{then-n-lt2-via-then-n-lt2, then-n-lt2-via-else-n-lt2+then-n-gt32, then-n-lt2-via-else-n-lt2+else-n-gt32+then-n-bytes, then-n-lt2-via-else-n-lt2+else-n-gt32+else-n-bytes+then-bytes-n-ne58}
 

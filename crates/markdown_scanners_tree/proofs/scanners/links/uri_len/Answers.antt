@@ -1,8 +1,8 @@
 use Rattle.std.proofs.Common.{◌+◌, arith, ap, ◌∙◌}
 use Rattle.std.specs.List.{prefix_len}
 use Rattle.std.proofs.lemmas.List.{take_rest}
-use Rattle.markdown_scanners_tree.specs.Autolink.{is_uri_byte}
-use Rattle.markdown_scanners_tree.proofs.LinkLemmas.{IfNone-anyway, uri_scheme, uri_found, uri_close}
+use Rattle.markdown_scanners_tree.specs.scanners.links.Autolink.{is_uri_byte}
+use Rattle.markdown_scanners_tree.proofs.scanners.links.LinkLemmas.{IfNone-anyway, uri_scheme, uri_found, uri_close}
 use Rattle.markdown_scanners_tree.proofs.scanners.links.uri_len.Goals as goal
 use Rattle.markdown_scanners_tree.proofs.scanners.links.uri_len.Goals.{else-end-bytes-via-then-end-bytes+else-bytes-end-eq62, else-end-bytes-via-else-end-bytes}
 

@@ -1,5 +1,5 @@
 use Rattle.std.proofs.Common.{◌≡◌, ◌-◌, get_or, arith}
-use Rattle.markdown_scanners_tree.proofs.ListItemLemmas.{number-more}
+use Rattle.markdown_scanners_tree.proofs.scanners.list_items.ListItemLemmas.{number-more}
 use Rattle.markdown_scanners_tree.proofs.scanners.list_items.number_of.Goals as goal
 
 pub loop-i-preserved : goal.loop-i-preserved

@@ -1,9 +1,9 @@
 use Rattle.std.proofs.Common.{ℕ, sym, subst, ◌∙◌, arith}
 use Rattle.markdown_scanners_tree.specs.Bytes.{IsBlankLine}
-use Rattle.markdown_scanners_tree.specs.Indent.{IsIndent}
-use Rattle.markdown_scanners_tree.specs.ListItem.{blank, indented_code, text}
+use Rattle.markdown_scanners_tree.specs.scanners.Indent.{IsIndent}
+use Rattle.markdown_scanners_tree.specs.scanners.list_items.ListItem.{blank, indented_code, text}
 use Rattle.markdown_scanners_tree.proofs.ScanLemmas.{IfSome-some, IfNone-none}
-use Rattle.markdown_scanners_tree.proofs.ListItemLemmas.{item_space-none}
+use Rattle.markdown_scanners_tree.proofs.scanners.list_items.ListItemLemmas.{item_space-none}
 use Rattle.markdown_scanners_tree.proofs.scanners.list_items.scan_item_space.Goals as goal
 
 pub returns-then-is_some-clause-found : goal.returns-then-is_some-clause-found

@@ -1,8 +1,8 @@
 use Rattle.std.proofs.Common.{◌≡◌, ℕ, List, sym, ap, subst, take, drop, length, ◌∙◌}
 use Rattle.std.proofs.Math.Seq.{take-append_seam}
-use Rattle.markdown_scanners_tree.specs.ListItem.{IsListMarker, IsItemSpace}
+use Rattle.markdown_scanners_tree.specs.scanners.list_items.ListItem.{IsListMarker, IsItemSpace}
 use Rattle.markdown_scanners_tree.proofs.FrontLemmas.{from_place}
-use Rattle.markdown_scanners_tree.proofs.ListItemLemmas.{item-rest}
+use Rattle.markdown_scanners_tree.proofs.scanners.list_items.ListItemLemmas.{item-rest}
 use Rattle.markdown_scanners_tree.proofs.scanners.list_items.scan_listitem.Goals as goal
 
 pub returns-in_err-width-clause-absent : goal.returns-in_err-width-clause-absent

@@ -1,5 +1,5 @@
 use Rattle.std.proofs.Common.{sym, ◌∙◌}
-use Rattle.markdown_scanners_tree.proofs.ListItemLemmas.{bullet-scanned}
+use Rattle.markdown_scanners_tree.proofs.scanners.list_items.ListItemLemmas.{bullet-scanned}
 use Rattle.markdown_scanners_tree.proofs.scanners.list_items.scan_marker.Goals as goal
 
 pub returns-then-begins_with_bullet-clause-found : goal.returns-then-begins_with_bullet-clause-found

@@ -1,8 +1,8 @@
 use Rattle.std.proofs.Common.{◌≡◌, true, false, sym, ◌∙◌, arith, get_or}
 use Rattle.markdown_scanners_tree.specs.Bytes.{is_digit}
-use Rattle.markdown_scanners_tree.specs.ListMarker.{is_delimiter}
+use Rattle.markdown_scanners_tree.specs.scanners.list_items.ListMarker.{is_delimiter}
 use Rattle.markdown_scanners_tree.proofs.FrontLemmas.{list_all-run}
-use Rattle.markdown_scanners_tree.proofs.ListItemLemmas.{ordered-taken, ordered-scanned}
+use Rattle.markdown_scanners_tree.proofs.scanners.list_items.ListItemLemmas.{ordered-taken, ordered-scanned}
 use Rattle.markdown_scanners_tree.proofs.scanners.list_items.scan_ordered_marker.Goals as goal
 use Rattle.markdown_scanners_tree.proofs.scanners.list_items.scan_ordered_marker.Goals.{then-digits-eq0-via-then-digits-eq0, then-digits-eq0-via-else-digits-eq0+then-digits-gt-MOST_DIGITS, then-digits-bytes-via-then-digits-bytes, then-digits-bytes-via-else-digits-bytes+then-not-is_delimiter_byte}
 

@@ -1,7 +1,7 @@
 use Rattle.std.proofs.Common.{◌<◌, ◌+◌, ◌-◌, ℕ, length, take, drop, sym, ◌∙◌, arith}
-use Rattle.markdown_scanners_tree.specs.Metadata.{IsClosingMetadataBlock}
+use Rattle.markdown_scanners_tree.specs.scanners.Metadata.{IsClosingMetadataBlock}
 use Rattle.markdown_scanners_tree.proofs.ScanLemmas.{IfSome-some, IfNone-none}
-use Rattle.markdown_scanners_tree.proofs.MetadataLemmas.{line-within, line-closed, line-open, no_line}
+use Rattle.markdown_scanners_tree.proofs.scanners.metadata.MetadataLemmas.{line-within, line-closed, line-open, no_line}
 use Rattle.markdown_scanners_tree.proofs.scanners.metadata.has_later_close.Goals as goal
 
 pub returns-then-is_some-clause-found : goal.returns-then-is_some-clause-found

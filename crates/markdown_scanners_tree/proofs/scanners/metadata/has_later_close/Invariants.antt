@@ -1,5 +1,5 @@
 use Rattle.std.proofs.Common.{◌-◌, ◌≤◌, length, drop}
-use Rattle.markdown_scanners_tree.specs.Metadata.{HasLaterClose}
+use Rattle.markdown_scanners_tree.specs.scanners.Metadata.{HasLaterClose}
 use Rattle.markdown_scanners_tree.proofs.scanners.metadata.has_later_close.Given as goal
 
 abbrev pub invariant-loop-line : goal.invariant-loop-line

@@ -1,8 +1,8 @@
 use Rattle.std.proofs.Common.{ℕ, sym, take, drop, length, ◌-◌, ◌∙◌}
 use Rattle.markdown_scanners_tree.specs.Bytes.{IsBlankLine}
-use Rattle.markdown_scanners_tree.specs.Metadata.{IsClosingMetadataBlock}
+use Rattle.markdown_scanners_tree.specs.scanners.Metadata.{IsClosingMetadataBlock}
 use Rattle.markdown_scanners_tree.proofs.ScanLemmas.{IfSome-some, IfNone-none}
-use Rattle.markdown_scanners_tree.proofs.MetadataLemmas.{block-blank, block-closed, block-open, block-scanned}
+use Rattle.markdown_scanners_tree.proofs.scanners.metadata.MetadataLemmas.{block-blank, block-closed, block-open, block-scanned}
 use Rattle.markdown_scanners_tree.proofs.scanners.metadata.is_block_of.Goals as goal
 
 pub returns-in_default-clause-absent : goal.returns-in_default-clause-absent

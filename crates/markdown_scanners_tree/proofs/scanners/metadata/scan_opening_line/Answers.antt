@@ -1,10 +1,10 @@
 use Rattle.std.proofs.Common.{◌==◌, ◌+◌, sym, ap, ◌∙◌}
 use Rattle.markdown_scanners_tree.specs.Bytes.{begins_with}
-use Rattle.markdown_scanners_tree.specs.Metadata.{is_after_opening}
+use Rattle.markdown_scanners_tree.specs.scanners.Metadata.{is_after_opening}
 use Rattle.markdown_scanners_tree.proofs.FrontLemmas.{from_place}
 use Rattle.markdown_scanners_tree.proofs.RunLemmas.{run_from}
 use Rattle.markdown_scanners_tree.proofs.ScanLemmas.{one_if-false, one_if-true}
-use Rattle.markdown_scanners_tree.proofs.MetadataLemmas.{opening-other, opening-scanned, opening-open}
+use Rattle.markdown_scanners_tree.proofs.scanners.metadata.MetadataLemmas.{opening-other, opening-scanned, opening-open}
 use Rattle.markdown_scanners_tree.proofs.scanners.metadata.scan_opening_line.Goals as goal
 
 pub returns-then-scan_ch_repeat-ne3-clause-absent : goal.returns-then-scan_ch_repeat-ne3-clause-absent

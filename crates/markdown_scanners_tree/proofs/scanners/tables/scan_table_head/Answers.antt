@@ -1,5 +1,5 @@
 use Rattle.std.proofs.Common.{arith, rules, sym, ◌∙◌}
-use Rattle.markdown_scanners_tree.proofs.RowLemmas.{row_too_far, no_cells, table_found, table_refused, IsDelimiterRow-some}
+use Rattle.markdown_scanners_tree.proofs.scanners.tables.DelimiterRowLemmas.{row_too_far, no_cells, table_found, table_refused, IsDelimiterRow-some}
 use Rattle.markdown_scanners_tree.proofs.scanners.tables.scan_table_head.Goals as goal
 
 pub returns-then-indent-gt-MOST_SPACES-clause-absent : goal.returns-then-indent-gt-MOST_SPACES-clause-absent

@@ -1,9 +1,9 @@
 use Rattle.std.proofs.Common.{◌≡◌, sym, ◌∙◌, subst, false, []}
 use Rattle.std.specs.Prelude.{◌&&◌}
 use Rattle.std.proofs.lemmas.Bool.{and_left, and_right}
-use Rattle.markdown_values.specs.Text.{cow_text}
-use Rattle.markdown_scanners_tree.specs.FirstPiece.{IsFirstPiece, starts_pipe}
-use Rattle.markdown_scanners_tree.proofs.FirstPieceLemmas.{pipe_piece, escape_piece, reference_piece, return_piece, itself_piece}
+use Rattle.markdown_values.specs.strings.Text.{cow_text}
+use Rattle.markdown_scanners_tree.specs.scanners.unescaping.private.FirstPiece.{IsFirstPiece, starts_pipe}
+use Rattle.markdown_scanners_tree.proofs.scanners.unescaping.FirstPieceLemmas.{pipe_piece, escape_piece, reference_piece, return_piece, itself_piece}
 use Rattle.markdown_scanners_tree.proofs.scanners.unescaping.first_piece.Goals as goal
 use Rattle.markdown_scanners_tree.proofs.scanners.unescaping.first_piece.Goals.{then-bytes-eq13, else-bytes-eq13, else-is_in_table-via-then-is_in_table+else-starts_pipe, else-is_in_table-via-else-is_in_table}
 

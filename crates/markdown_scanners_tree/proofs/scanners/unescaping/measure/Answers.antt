@@ -1,8 +1,8 @@
 use Rattle.std.proofs.Common.{◌≡◌, ◌+◌, ◌-◌, ◌^◌, min, arith, sym, ap, subst, ◌∙◌, length, take, drop, false}
 use Rattle.std.proofs.lemmas.Bool.{false≢true, ltb-false, le-ltb}
 use Rattle.std.proofs.lemmas.List.{take_rest}
-use Rattle.markdown_scanners_tree.specs.FirstPiece.{IsFirstPiece}
-use Rattle.markdown_scanners_tree.proofs.PieceLemmas.{measured_more, measured_pieces, measured_plain, measured_changed, measured_len}
+use Rattle.markdown_scanners_tree.specs.scanners.unescaping.private.FirstPiece.{IsFirstPiece}
+use Rattle.markdown_scanners_tree.proofs.scanners.unescaping.PieceLemmas.{measured_more, measured_pieces, measured_plain, measured_changed, measured_len}
 use Rattle.markdown_scanners_tree.proofs.scanners.unescaping.measure.Goals as goal
 use Rattle.markdown_scanners_tree.proofs.scanners.unescaping.measure.Goals.{then-changes, else-changes}
 

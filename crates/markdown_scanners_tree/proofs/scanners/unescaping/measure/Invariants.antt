@@ -1,5 +1,5 @@
 use Rattle.std.proofs.Common.{length, ◌-◌}
-use Rattle.markdown_scanners_tree.proofs.PieceLemmas.{IsMeasured}
+use Rattle.markdown_scanners_tree.proofs.scanners.unescaping.PieceLemmas.{IsMeasured}
 use Rattle.markdown_scanners_tree.proofs.scanners.unescaping.measure.Given as goal
 
 abbrev pub invariant-loop-i : goal.invariant-loop-i

@@ -2,10 +2,10 @@ use Rattle.std.proofs.Common.{◌≡◌, ◌-◌, ◌++◌, arith, ap, subst, �
 use Rattle.std.specs.Prelude.{Result, Ok, Err, OnOk, is_ok}
 use Rattle.std.proofs.lemmas.List.{take_rest}
 use Rattle.std.proofs.lemmas.Bool.{false≢true}
-use Rattle.markdown_scanners_tree.specs.Unescaping.{joined_meanings}
+use Rattle.markdown_scanners_tree.specs.scanners.unescaping.Unescaping.{joined_meanings}
 use Rattle.std.specs.String.{string_bytes, string_len, string_capacity}
-use Rattle.markdown_scanners_tree.specs.FirstPiece.{IsFirstPiece, replacement}
-use Rattle.markdown_scanners_tree.proofs.PieceLemmas.{built_start, built_more, built_room, built_end}
+use Rattle.markdown_scanners_tree.specs.scanners.unescaping.private.FirstPiece.{IsFirstPiece, replacement}
+use Rattle.markdown_scanners_tree.proofs.scanners.unescaping.PieceLemmas.{built_start, built_more, built_room, built_end}
 use Rattle.markdown_scanners_tree.proofs.scanners.unescaping.push_meanings.Goals as goal
 
 -- what a push that succeeded has made

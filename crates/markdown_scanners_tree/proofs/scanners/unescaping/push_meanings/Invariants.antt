@@ -1,6 +1,6 @@
 use Rattle.std.proofs.Common.{length, ◌-◌, ◌≤◌}
 use Rattle.std.specs.String.{string_bytes, string_len, string_capacity}
-use Rattle.markdown_scanners_tree.proofs.PieceLemmas.{IsBuilt}
+use Rattle.markdown_scanners_tree.proofs.scanners.unescaping.PieceLemmas.{IsBuilt}
 use Rattle.markdown_scanners_tree.proofs.scanners.unescaping.push_meanings.Given as goal
 
 abbrev pub invariant-loop-i : goal.invariant-loop-i

@@ -1,7 +1,7 @@
 use Rattle.std.proofs.Common.{subst, sym}
-use Rattle.markdown_values.specs.Text.{cow_text}
-use Rattle.markdown_scanners_tree.specs.Unescaping.{ArePieces}
-use Rattle.markdown_scanners_tree.proofs.PieceLemmas.{themselves_join}
+use Rattle.markdown_values.specs.strings.Text.{cow_text}
+use Rattle.markdown_scanners_tree.specs.scanners.unescaping.Unescaping.{ArePieces}
+use Rattle.markdown_scanners_tree.proofs.scanners.unescaping.PieceLemmas.{themselves_join}
 use Rattle.markdown_scanners_tree.proofs.scanners.unescaping.unescape.Goals as goal
 
 pub returns-then-not-changes-clause-text : goal.returns-then-not-changes-clause-text

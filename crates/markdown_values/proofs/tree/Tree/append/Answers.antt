@@ -1,9 +1,9 @@
 use Rattle.std.proofs.Common.{◌∙◌, arith, ap, Some, length}
 use Rattle.std.proofs.lemmas.List.{length_push}
-use Rattle.markdown_values.specs.Linked.{Linked}
-use Rattle.markdown_values.specs.Tree.{isolated}
-use Rattle.markdown_values.proofs.TreeLemmas.{length-linked}
-use Rattle.markdown_values.proofs.ForestLemmas.{StandsFor-appended}
+use Rattle.markdown_values.specs.tree.Linked.{Linked}
+use Rattle.markdown_values.specs.tree.Tree.{isolated}
+use Rattle.markdown_values.proofs.tree.TreeLemmas.{length-linked}
+use Rattle.markdown_values.proofs.tree.ForestLemmas.{StandsFor-appended}
 use Rattle.markdown_values.proofs.tree.Tree.append.Goals as goal
 
 pub invariant_of-self : goal.invariant_of-self

@@ -1,6 +1,6 @@
 use Rattle.std.proofs.Common.{sym, ◌∙◌, refl}
 use Rattle.std.proofs.lemmas.Bool.{eq-eqb, ne_eqb}
-use Rattle.markdown_values.specs.Truncate.{CanCut}
+use Rattle.markdown_values.specs.tree.Truncate.{CanCut}
 use Rattle.markdown_values.proofs.tree.Tree.cut_child.Goals as goal
 use Rattle.markdown_values.proofs.tree.Tree.cut_child.Goals.{After-index}
 

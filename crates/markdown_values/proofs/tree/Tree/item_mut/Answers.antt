@@ -1,6 +1,6 @@
 use Rattle.std.proofs.Common.{length, refl, arith}
 use Rattle.std.proofs.lemmas.Option.{slice_get_read}
-use Rattle.markdown_values.proofs.TreeLemmas.{update_at-read, length-update_at}
+use Rattle.markdown_values.proofs.tree.TreeLemmas.{update_at-read, length-update_at}
 use Rattle.markdown_values.proofs.tree.Tree.item_mut.Goals as goal
 
 pub returns : goal.returns

@@ -1,5 +1,5 @@
 use Rattle.std.proofs.Common.{◌≡◌, length, arith}
-use Rattle.markdown_values.proofs.TreeLemmas.{last-but_last, last-but_last-none}
+use Rattle.markdown_values.proofs.tree.TreeLemmas.{last-but_last, last-but_last-none}
 use Rattle.markdown_values.proofs.tree.Tree.peek_grandparent.Goals as goal
 
 pub returns-then-count-ge2-clause-grandparent : goal.returns-then-count-ge2-clause-grandparent

@@ -1,5 +1,5 @@
 use Rattle.std.proofs.Common.{length, sym, ◌∙◌}
-use Rattle.markdown_values.proofs.TreeLemmas.{last-is-get, last-within}
+use Rattle.markdown_values.proofs.tree.TreeLemmas.{last-is-get, last-within}
 use Rattle.markdown_values.proofs.tree.Tree.peek_up.Goals as goal
 
 pub returns-clause-parent : goal.returns-clause-parent

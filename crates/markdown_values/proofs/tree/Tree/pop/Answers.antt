@@ -1,5 +1,5 @@
-use Rattle.markdown_values.proofs.TreeLemmas.{last-push, but_last-push}
-use Rattle.markdown_values.proofs.ForestLemmas.{StandsFor-popped}
+use Rattle.markdown_values.proofs.tree.TreeLemmas.{last-push, but_last-push}
+use Rattle.markdown_values.proofs.tree.ForestLemmas.{StandsFor-popped}
 use Rattle.markdown_values.proofs.tree.Tree.pop.Goals as goal
 
 pub returns-clause-parent : goal.returns-clause-parent

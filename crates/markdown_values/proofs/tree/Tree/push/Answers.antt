@@ -1,7 +1,7 @@
 use Rattle.std.proofs.Common.{rules, ◌∙◌, arith, ap, ◌≡◌, Some}
-use Rattle.markdown_values.specs.Linked.{Linked}
-use Rattle.markdown_values.proofs.TreeLemmas.{child_of-read}
-use Rattle.markdown_values.proofs.ForestLemmas.{StandsFor-pushed}
+use Rattle.markdown_values.specs.tree.Linked.{Linked}
+use Rattle.markdown_values.proofs.tree.TreeLemmas.{child_of-read}
+use Rattle.markdown_values.proofs.tree.ForestLemmas.{StandsFor-pushed}
 use Rattle.markdown_values.proofs.tree.Tree.push.Goals as goal
 
 pub returns-clause-index : goal.returns-clause-index

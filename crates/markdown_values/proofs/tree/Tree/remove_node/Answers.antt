@@ -1,10 +1,10 @@
 use Rattle.std.proofs.Common.{◌≡◌, ◌<◌, length, [], ◌∷◌, ◌++◌, List, ℕ, arith, sym, ap, ◌∙◌, subst, None, Some, IfSome}
 use Rattle.std.specs.Prelude.{slice_set}
 use Rattle.markdown_values.specs.declared.tree.Node.{Node}
-use Rattle.markdown_values.specs.Linked.{Linked}
-use Rattle.markdown_values.specs.Tree.{last, with_child, removed, IsWithin, IsLastLinkedFromAlone}
-use Rattle.markdown_values.proofs.TreeLemmas.{last-push, take-last, update_at-read, length-update_at}
-use Rattle.markdown_values.proofs.RemovalLemmas.{ending_in, removed-is, IsWithin-removed}
+use Rattle.markdown_values.specs.tree.Linked.{Linked}
+use Rattle.markdown_values.specs.tree.Tree.{last, with_child, removed, IsWithin, IsLastLinkedFromAlone}
+use Rattle.markdown_values.proofs.tree.TreeLemmas.{last-push, take-last, update_at-read, length-update_at}
+use Rattle.markdown_values.proofs.tree.RemovalLemmas.{ending_in, removed-is, IsWithin-removed}
 use Rattle.markdown_values.proofs.tree.Tree.remove_node.Goals as goal
 use Rattle.markdown_values.proofs.tree.Tree.remove_node.Goals.{After-pop-2, After-index_mut}
 

@@ -1,5 +1,5 @@
 use Rattle.std.proofs.Common.{rules, ◌<◌, length}
-use Rattle.markdown_values.proofs.ForestLemmas.{StandsFor-reset}
+use Rattle.markdown_values.proofs.tree.ForestLemmas.{StandsFor-reset}
 use Rattle.markdown_values.proofs.tree.Tree.reset.Goals as goal
 
 pub returns-clause-state : goal.returns-clause-state

@@ -1,5 +1,5 @@
 use Rattle.std.proofs.Common.{arith}
-use Rattle.markdown_values.proofs.TreeLemmas.{update_at-read}
+use Rattle.markdown_values.proofs.tree.TreeLemmas.{update_at-read}
 use Rattle.markdown_values.proofs.tree.Tree.set_next.Goals as goal
 
 pub returns-clause-state : goal.returns-clause-state

@@ -1,11 +1,11 @@
 use Rattle.std.proofs.Common.{◌≡◌, List, Some, sym, ap, ◌∙◌, Option, ℕ, subst}
 use Rattle.std.proofs.lemmas.Option.{slice_get_within}
 use Rattle.markdown_values.specs.declared.tree.Node.{Node}
-use Rattle.markdown_values.specs.Linked.{Linked}
-use Rattle.markdown_values.specs.Tree.{last, child_of}
-use Rattle.markdown_values.specs.Truncate.{FindsOther, IsFirstOther, HasChildren, last_index, cut_tree, truncated}
-use Rattle.markdown_values.proofs.ChainLemmas.{same_first_other, not_both, first_other-within}
-use Rattle.markdown_values.proofs.TruncateLemmas.{CanCut-first, HasChildren-cut, focus-truncated, truncated-same, truncated_focus-same}
+use Rattle.markdown_values.specs.tree.Linked.{Linked}
+use Rattle.markdown_values.specs.tree.Tree.{last, child_of}
+use Rattle.markdown_values.specs.tree.Truncate.{FindsOther, IsFirstOther, HasChildren, last_index, cut_tree, truncated}
+use Rattle.markdown_values.proofs.tree.ChainLemmas.{same_first_other, not_both, first_other-within}
+use Rattle.markdown_values.proofs.tree.TruncateLemmas.{CanCut-first, HasChildren-cut, focus-truncated, truncated-same, truncated_focus-same}
 use Rattle.markdown_values.proofs.tree.Tree.truncate_siblings.Goals as goal
 use Rattle.markdown_values.proofs.tree.Tree.truncate_siblings.Goals.{In-Some, After-unwrap-parent, After-cut_child}
 

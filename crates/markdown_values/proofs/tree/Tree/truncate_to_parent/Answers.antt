@@ -1,6 +1,6 @@
 use Rattle.std.proofs.Common.{length, arith, ap}
-use Rattle.markdown_values.specs.Linked.{Linked}
-use Rattle.markdown_values.proofs.TreeLemmas.{next-within}
+use Rattle.markdown_values.specs.tree.Linked.{Linked}
+use Rattle.markdown_values.proofs.tree.TreeLemmas.{next-within}
 use Rattle.markdown_values.proofs.tree.Tree.truncate_to_parent.Goals as goal
 
 pub link_from_focus-requires : goal.link_from_focus-requires

@@ -1,4 +1,4 @@
-use Rattle.markdown_values.proofs.ForestLemmas.{StandsFor-empty}
+use Rattle.markdown_values.proofs.tree.ForestLemmas.{StandsFor-empty}
 use Rattle.markdown_values.proofs.tree.Tree.with_capacity.Goals as goal
 
 pub returns-clause-forest : goal.returns-clause-forest

@@ -2,9 +2,9 @@ use Rattle.std.proofs.Common.{◌≡◌, ◌<◌, ◌≤◌, get_or, take, lengt
 use Rattle.std.specs.List.{AllZip, each_same}
 use Rattle.std.proofs.lemmas.List.{take_more, take_all}
 use Rattle.std.proofs.lemmas.List.Elements.{AllZip-push}
-use Rattle.markdown_values.specs.Linked.{Linked}
-use Rattle.markdown_values.specs.Tree.{IsNodeClone, IsTreeClone}
-use Rattle.markdown_values.proofs.CloneLemmas.{IsWithin-clones, IsTreeClone-made}
+use Rattle.markdown_values.specs.tree.Linked.{Linked}
+use Rattle.markdown_values.specs.tree.Tree.{IsNodeClone, IsTreeClone}
+use Rattle.markdown_values.proofs.tree.CloneLemmas.{IsWithin-clones, IsTreeClone-made}
 use Rattle.markdown_values.proofs.tree.TreeClone.clone.Goals as goal
 use Rattle.markdown_values.proofs.tree.TreeClone.clone.Goals.{After-clone-2}
 

@@ -1,6 +1,6 @@
 use Rattle.std.proofs.Common.{take}
 use Rattle.std.specs.List.{AllZip}
-use Rattle.markdown_values.specs.Tree.{IsNodeClone}
+use Rattle.markdown_values.specs.tree.Tree.{IsNodeClone}
 use Rattle.markdown_values.proofs.tree.TreeClone.clone.Given as goal
 
 -- the nodes so far are cloned

@@ -1,0 +1,5 @@
+pub mod LeastPlaces
+pub mod Openings
+pub mod Rows
+pub mod Scans
+pub mod TrueGuards

@@ -1,0 +1,121 @@
+-- What begins at a place, by the bytes that are looked at.
+use Rattle.std.proofs.Common.{◌≡◌, ℕ, zero, suc, ◌+◌, ◌≤◌, ◌<◌, true, false, List, [], ◌∷◌, length, get_or, sym, ap, subst, ◌∙◌, arith, ⊎_elim, inl, inr, ◌⊎◌, Option, Some, None, add-zero}
+use Rattle.std.specs.Prelude.{slice_get, codes, ◌≢◌, unwrap_or}
+use Rattle.std.proofs.lemmas.Bool.{cases_eq, false≢true, false_from_ne_true}
+use Rattle.std.proofs.lemmas.Option.{slice_get_within, get_or_from_slice_get, same_Some, none-some, slice_get-get_or, unwrap_or-slice_get}
+use Rattle.memchr.specs.Find.{OccursAt, occurs_at}
+use Rattle.memchr.proofs.lemmas.MatchLemmas.{occurs_at-true, OccursAt-true}
+use Rattle.markdown_scanners_tree.specs.Bytes.{is_letter}
+use Rattle.markdown_scanners_tree.specs.inline_html.InlineHtml.{Comment, Cdata, Declaration, Begins, Hyphen, Bracket, Nothing, declared_at}
+
+-- bytes stand at a place where the first stands there and the others after it
+module _ (text : List ℕ) (b : ℕ) (bytes : List ℕ) (p : ℕ) where
+  tail-OccursAt : OccursAt text (b ∷ bytes) p → OccursAt text bytes (p + 1)
+  tail-OccursAt h = record {
+    fits = omega (arith, h.fits);
+    reads = λ j below. ap (λ m. get_or text m 0) (omega arith) ∙ h.reads (suc j) (omega arith);
+  }
+
+  head-OccursAt : OccursAt text (b ∷ bytes) p → slice_get text p ≡ Some b
+  head-OccursAt h =
+      let first : get_or text p 0 ≡ b = ap (λ m. get_or text m 0) (sym (add-zero p)) ∙ h.reads 0 (omega arith) in
+      slice_get-get_or text p 0 (omega (arith, h.fits)) ∙ ap Some first
+
+  cons-OccursAt : slice_get text p ≡ Some b → OccursAt text bytes (p + 1) → OccursAt text (b ∷ bytes) p
+  cons-OccursAt first h = record { fits = omega (arith, h.fits); reads = go }
+    where
+      go : (j : ℕ) → j < length (b ∷ bytes) → get_or text (p + j) 0 ≡ get_or (b ∷ bytes) j 0
+      go zero below = ap (λ m. get_or text m 0) (add-zero p) ∙ get_or_from_slice_get text p b 0 first
+      go (suc j) below = ap (λ m. get_or text m 0) (omega arith) ∙ h.reads j (omega arith)
+
+  pub stands-cons : slice_get text p ≡ Some b → occurs_at text bytes (p + 1) ≡ true → occurs_at text (b ∷ bytes) p ≡ true
+  stands-cons first rest = occurs_at-true text (b ∷ bytes) p (cons-OccursAt first (OccursAt-true text bytes (p + 1) rest))
+
+  pub stands-not-tail : occurs_at text bytes (p + 1) ≡ false → occurs_at text (b ∷ bytes) p ≡ false
+  stands-not-tail rest = false_from_ne_true _ (λ there.
+      false≢true (sym rest ∙ occurs_at-true text bytes (p + 1) (tail-OccursAt (OccursAt-true text (b ∷ bytes) p there))))
+
+  pub stands-not-head : slice_get text p ≢ Some b → occurs_at text (b ∷ bytes) p ≡ false
+  stands-not-head other = false_from_ne_true _ (λ there. other (head-OccursAt (OccursAt-true text (b ∷ bytes) p there)))
+
+  pub stands-head : occurs_at text (b ∷ bytes) p ≡ true → slice_get text p ≡ Some b
+  stands-head there = head-OccursAt (OccursAt-true text (b ∷ bytes) p there)
+
+stands-empty : (text : List ℕ) (p : ℕ) → p ≤ length text → occurs_at text [] p ≡ true
+stands-empty text p in_text = occurs_at-true text [] p (record { fits = omega arith; reads = λ j below. absurd (omega arith) })
+
+pub stands-one : (text : List ℕ) (b p : ℕ) → slice_get text p ≡ Some b → occurs_at text (b ∷ []) p ≡ true
+stands-one text b p first = stands-cons text b [] p first (stands-empty text (p + 1) (let within = slice_get_within text p b first in omega arith))
+
+pub stands-other : (text : List ℕ) (b c : ℕ) (bytes : List ℕ) (p : ℕ) → slice_get text p ≡ Some c → c ≢ b → occurs_at text (b ∷ bytes) p ≡ false
+stands-other text b c bytes p first other = stands-not-head text b bytes p (λ same. other (same_Some c b (sym first ∙ same)))
+
+pub stands-nowhere : (text : List ℕ) (b : ℕ) (bytes : List ℕ) (p : ℕ) → slice_get text p ≡ None → occurs_at text (b ∷ bytes) p ≡ false
+stands-nowhere text b bytes p gone = stands-not-head text b bytes p (λ same. none-some b (sym gone ∙ same))
+
+module _ (text : List ℕ) (p : ℕ) where
+  pub declared_at-comment : slice_get text p ≡ Some 45 → slice_get text (p + 1) ≡ Some 45 → declared_at text p ≡ Begins Comment
+  unfolding declared_at
+  declared_at-comment first second = rw (stands-cons text 45 (45 ∷ []) p first (stands-one text 45 (p + 1) second))
+
+  pub declared_at-hyphen : slice_get text p ≡ Some 45 → slice_get text (p + 1) ≢ Some 45 → declared_at text p ≡ Hyphen
+  unfolding declared_at
+  declared_at-hyphen first second =
+      rw (stands-not-tail text 45 (45 ∷ []) p (stands-not-head text 45 [] (p + 1) second), stands-one text 45 p first)
+
+  -- no hyphen stands at the place
+  no-hyphens : (c : ℕ) → slice_get text p ≡ Some c → c ≢ 45 → (occurs_at text (45 ∷ 45 ∷ []) p ≡ false) × (occurs_at text (45 ∷ []) p ≡ false)
+  no-hyphens c first other = (stands-other text 45 c (45 ∷ []) p first other, stands-other text 45 c [] p first other)
+
+  pub declared_at-cdata : slice_get text p ≡ Some 91 → occurs_at text (codes "CDATA[") (p + 1) ≡ true → declared_at text p ≡ Begins Cdata
+  unfolding declared_at
+  declared_at-cdata first rest =
+      let free = no-hyphens 91 first (λ e. omega arith) in
+      rw (free.0, free.1, stands-cons text 91 (codes "CDATA[") p first rest)
+
+  pub declared_at-bracket : slice_get text p ≡ Some 91 → occurs_at text (codes "CDATA[") (p + 1) ≡ false → declared_at text p ≡ Bracket
+  unfolding declared_at
+  declared_at-bracket first rest =
+      let free = no-hyphens 91 first (λ e. omega arith) in
+      rw (free.0, free.1, stands-not-tail text 91 (codes "CDATA[") p rest, stands-one text 91 p first)
+
+  pub declared_at-letter : (c : ℕ) → slice_get text p ≡ Some c → is_letter c ≡ true → declared_at text p ≡ Begins Declaration
+  unfolding declared_at
+  declared_at-letter c first letter =
+      let not_hyphen : c ≢ 45 = λ e. false≢true (subst (λ d. is_letter d ≡ true) e letter) in
+      let not_bracket : c ≢ 91 = λ e. false≢true (subst (λ d. is_letter d ≡ true) e letter) in
+      let free = no-hyphens c first not_hyphen in
+      rw (
+        free.0,
+        free.1,
+        stands-other text 91 c (codes "CDATA[") p first not_bracket,
+        stands-other text 91 c [] p first not_bracket,
+        get_or_from_slice_get text p c 0 first,
+        letter,
+      )
+
+  pub declared_at-other : (c : ℕ) → slice_get text p ≡ Some c → c ≢ 45 → c ≢ 91 → is_letter c ≡ false → declared_at text p ≡ Nothing
+  unfolding declared_at
+  declared_at-other c first not_hyphen not_bracket letter =
+      let free = no-hyphens c first not_hyphen in
+      rw (
+        free.0,
+        free.1,
+        stands-other text 91 c (codes "CDATA[") p first not_bracket,
+        stands-other text 91 c [] p first not_bracket,
+        get_or_from_slice_get text p c 0 first,
+        letter,
+      )
+
+  pub declared_at-end : slice_get text p ≡ None → declared_at text p ≡ Nothing
+  unfolding declared_at
+  declared_at-end gone =
+      let zero_there : get_or text p 0 ≡ 0 = sym (unwrap_or-slice_get text p 0) ∙ ap (λ o. unwrap_or o 0) gone in
+      rw (stands-nowhere text 45 (45 ∷ []) p gone, stands-nowhere text 45 [] p gone, stands-nowhere text 91 (codes "CDATA[") p gone, stands-nowhere text 91 [] p gone, zero_there)
+
+pub stands-length : (text bytes : List ℕ) (p : ℕ) → occurs_at text bytes p ≡ true → p + length bytes ≤ length text
+stands-length text bytes p there = (OccursAt-true text bytes p there).fits
+
+pub some_or_not : (o : Option ℕ) (b : ℕ) → (o ≡ Some b) ⊎ (o ≢ Some b)
+some_or_not None b = inr (none-some b)
+some_or_not (Some a) b = ⊎_elim (λ same. inl (ap Some same)) (λ other. inr (λ e. other (same_Some a b e))) (cases_eq a b)

@@ -1,0 +1,80 @@
+-- What a guarded scan does, exit by exit.
+use Rattle.std.proofs.Common.{◌≡◌, ℕ, ◌+◌, ◌-◌, ◌≤◌, true, false, List, length, refl, sym, ap, subst, ◌∙◌, arith, Option, Some, None}
+use Rattle.memchr.specs.Find.{FindsNeedle}
+use Rattle.markdown_scanners_tree.specs.declared.inline_html.HtmlScanGuard.{HtmlScanGuard}
+use Rattle.markdown_scanners_tree.specs.inline_html.CountedText.{CountedBytes, passing, searched_bytes}
+use Rattle.markdown_scanners_tree.specs.inline_html.InlineHtml.{Kind, Comment, Opening, Begins, Hyphen, Bracket, Nothing, closer, first_place, first_closer, closed_at, span, looked_at, searched, cost}
+use Rattle.markdown_scanners_tree.specs.inline_html.Guard.{is_stopped, searched_guard, with_number, guarded_answer, guard_after}
+use Rattle.markdown_scanners_tree.proofs.inline_html.LeastPlaces.{first_place-FindsNeedle}
+
+-- what a scan of an opening at a place answers, leaves as the guard, and counts
+pub record IsScan (text : List ℕ) (guard : HtmlScanGuard) (opening : Opening) (p : ℕ) (answer : Option ℕ) (after : HtmlScanGuard) (count : ℕ) : Type 0 where
+  pub answers : answer ≡ guarded_answer text guard opening p
+  pub guards : after ≡ guard_after text guard opening p
+  pub counts : count ≡ cost text (is_stopped guard p) opening p
+
+module _ (text : List ℕ) (guard : HtmlScanGuard) (p : ℕ) where
+  pub scan-stopped : (kind : Kind) → is_stopped guard p kind ≡ true → IsScan text guard (Begins kind) p None guard (looked_at kind)
+  unfolding cost
+  scan-stopped kind stopped = record { answers = rw stopped; guards = rw stopped; counts = rw stopped }
+
+  pub scan-hit : (kind : Kind) (hit : ℕ) → is_stopped guard p kind ≡ false → first_closer text kind p ≡ Some hit
+      → IsScan text guard (Begins kind) p (Some (hit + length (closer kind))) (searched_guard text guard kind (Some hit)) (searched text kind p)
+  unfolding cost
+  scan-hit kind hit free found = record { answers = rw (free, found); guards = rw (free, found); counts = rw free }
+
+  pub scan-miss : (kind : Kind) → is_stopped guard p kind ≡ false → first_closer text kind p ≡ None
+      → IsScan text guard (Begins kind) p None (with_number guard kind (length text)) (searched text kind p)
+  unfolding cost
+  scan-miss kind free found = record { answers = rw (free, found); guards = rw (free, found); counts = rw free }
+
+  pub scan-hyphen-stopped : is_stopped guard p Comment ≡ true → IsScan text guard Hyphen p None guard 1
+  unfolding cost
+  scan-hyphen-stopped stopped = record { answers = refl; guards = refl; counts = rw stopped }
+
+  pub scan-hyphen : is_stopped guard p Comment ≡ false → IsScan text guard Hyphen p None guard 2
+  unfolding cost
+  scan-hyphen free = record { answers = refl; guards = refl; counts = rw free }
+
+  pub scan-bracket : IsScan text guard Bracket p None guard 7
+  unfolding cost
+  scan-bracket = record { answers = refl; guards = refl; counts = refl }
+
+  pub scan-nothing : IsScan text guard Nothing p None guard 1
+  unfolding cost
+  scan-nothing = record { answers = refl; guards = refl; counts = refl }
+
+-- a search hits at its start or later, and the hit ends in the text
+pub first_place-bounds : (text bytes : List ℕ) (i hit : ℕ) → first_place text bytes i ≡ Some hit → (i ≤ hit) × (hit + length bytes ≤ length text)
+first_place-bounds text bytes i hit found =
+    let first = subst (FindsNeedle text bytes i) found (first_place-FindsNeedle text bytes i) in
+    (first.0.low, first.1.fits)
+
+-- one count after another
+pub passing-twice : (t u : CountedBytes) (a b c : ℕ) → u ≡ passing t a → a + b ≡ c → passing u b ≡ passing t c
+passing-twice t u a b c e sum = rw e (let same : t.passed + a + b ≡ t.passed + c = omega arith in ap (λ n. record t { passed = n }) same)
+
+pub passing-none : (t : CountedBytes) → t ≡ passing t 0
+passing-none t = let same : t.passed ≡ t.passed + 0 = omega arith in ap (λ n. record t { passed = n }) same
+
+-- what a scan did, as its clauses say it, where one byte more is counted before
+pub scan-counts : {guard after : HtmlScanGuard} {opening : Opening} {p count : ℕ} {answer : Option ℕ} (t u : CountedBytes) (m : ℕ)
+    → IsScan t.text guard opening p answer after count → u ≡ passing t m → m + 1 ≡ count
+    → passing u 1 ≡ passing t (cost t.text (is_stopped guard p) opening p)
+scan-counts t u m scan e sum = passing-twice t u m 1 _ e (sum ∙ scan.counts)
+
+-- how far a piece reaches, by whether its closer is found
+module _ (text : List ℕ) (kind : Kind) (p : ℕ) where
+  pub span-hit : (hit : ℕ) → first_closer text kind p ≡ Some hit → span text p (closed_at text kind p) ≡ hit + length (closer kind) - p
+  span-hit hit found = rw found
+
+  pub span-miss : first_closer text kind p ≡ None → span text p (closed_at text kind p) ≡ length text - p
+  span-miss found = rw found
+
+-- a search after an earlier count
+module _ (t u : CountedBytes) (before : ℕ) (counted : u ≡ passing t before) (bytes : List ℕ) (i : ℕ) where
+  pub found-after : (r : Option ℕ) → r ≡ first_place u.text bytes i → first_place t.text bytes i ≡ r
+  found-after r found = sym (found ∙ ap (λ v. first_place v.text bytes i) counted)
+
+  pub counts-after : (v : CountedBytes) (r : Option ℕ) → v ≡ passing u (searched_bytes u.text bytes i r) → v ≡ passing t (before + searched_bytes t.text bytes i r)
+  counts-after v r e = e ∙ ap (λ w. passing w (searched_bytes w.text bytes i r)) counted ∙ passing-twice t (passing t before) before (searched_bytes t.text bytes i r) _ refl refl

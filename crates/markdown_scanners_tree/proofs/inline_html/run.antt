@@ -1,0 +1,4 @@
+pub mod Budget
+pub mod GuardsKept
+pub mod Runs
+pub mod Sums

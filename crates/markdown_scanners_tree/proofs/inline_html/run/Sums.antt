@@ -1,0 +1,67 @@
+-- The bytes passed over, summed over the states of a run, are those of the list of accepted places.
+use Rattle.std.proofs.Common.{◌≡◌, ℕ, ◌+◌, Bool, List, [], ◌∷◌, length, take, refl, ap, ◌∙◌, arith, Option, Some, None}
+use Rattle.std.specs.Prelude.{◌&&◌, ◌||◌, is_none}
+use Rattle.std.proofs.Math.Bool.{and-false}
+use Rattle.markdown_scanners_tree.specs.declared.inline_html.HtmlStop.{HtmlStop}
+use Rattle.markdown_scanners_tree.specs.inline_html.InlineHtml.{Kind, Comment, Cdata, Declaration, Processing, Opening, Begins, Hyphen, Bracket, Nothing, opening_at, find_at, cost}
+use Rattle.markdown_scanners_tree.specs.inline_html.run.Run.{ShutKinds, Run, is_shut, shut_by, refusal, run_step, run_answers, run_passed, new_run}
+use Rattle.markdown_scanners_tree.specs.inline_html.run.Passed.{begins_kind, is_shut_after, sum_after, bytes_passed}
+
+-- the shut kinds of a run are those of its earlier places
+abbrev Agrees : Run → List ℕ → Type 0
+Agrees run earlier = (kind : Kind) → is_shut run.shut kind ≡ is_shut_after run.text earlier kind
+
+shut_by-is : (shut : ShutKinds) (opening : Opening) (found : Option ℕ) (kind : Kind) → is_shut (shut_by shut opening found) kind ≡ (begins_kind kind opening && is_none found || is_shut shut kind)
+shut_by-is shut (Begins Comment) None Comment = refl
+shut_by-is shut (Begins Comment) None Cdata = refl
+shut_by-is shut (Begins Comment) None Declaration = refl
+shut_by-is shut (Begins Comment) None Processing = refl
+shut_by-is shut (Begins Cdata) None Comment = refl
+shut_by-is shut (Begins Cdata) None Cdata = refl
+shut_by-is shut (Begins Cdata) None Declaration = refl
+shut_by-is shut (Begins Cdata) None Processing = refl
+shut_by-is shut (Begins Declaration) None Comment = refl
+shut_by-is shut (Begins Declaration) None Cdata = refl
+shut_by-is shut (Begins Declaration) None Declaration = refl
+shut_by-is shut (Begins Declaration) None Processing = refl
+shut_by-is shut (Begins Processing) None Comment = refl
+shut_by-is shut (Begins Processing) None Cdata = refl
+shut_by-is shut (Begins Processing) None Declaration = refl
+shut_by-is shut (Begins Processing) None Processing = refl
+shut_by-is shut (Begins other) (Some end) kind = let is = and-false (begins_kind kind (Begins other)) in rw is
+shut_by-is shut Hyphen found kind = refl
+shut_by-is shut Bracket found kind = refl
+shut_by-is shut Nothing found kind = refl
+
+-- what a step costs hangs on each kind's being shut alone
+cost-same : (text : List ℕ) (stopped other : Kind → Bool) (opening : Opening) (p : ℕ) → ((kind : Kind) → stopped kind ≡ other kind) → cost text stopped opening p ≡ cost text other opening p
+unfolding cost
+cost-same text stopped other (Begins kind) p same = rw (same kind)
+cost-same text stopped other Hyphen p same = rw (same Comment)
+cost-same text stopped other Bracket p same = refl
+cost-same text stopped other Nothing p same = refl
+
+-- the sum over states is the sum over the accepted places
+abbrev IsSum : Run → List ℕ → List ℕ → Type 0
+IsSum run earlier places = run_passed run places ≡ run.passed + sum_after run.text earlier (take (length (run_answers run places)) places)
+
+sum-next : (run : Run) (earlier : List ℕ) (p : ℕ) (places : List ℕ) (why : Option HtmlStop) → Agrees run earlier → refusal run p ≡ why → IsSum (run_step run p) (p ∷ earlier) places → IsSum run earlier (p ∷ places)
+sum-next run earlier p places (Some stop) agrees e next = rw e (omega arith)
+sum-next run earlier p places None agrees e next =
+    let same = cost-same run.text (is_shut run.shut) (is_shut_after run.text earlier) (opening_at run.text p) p agrees in
+    rw e (omega (arith, next, same))
+
+pub passed-is : (run : Run) (earlier places : List ℕ) → Agrees run earlier → IsSum run earlier places
+passed-is run earlier [] agrees = omega arith
+passed-is run earlier (p ∷ places) agrees =
+    let later : Agrees (run_step run p) (p ∷ earlier) = λ kind. shut_by-is run.shut (opening_at run.text p) (find_at run.text p) kind ∙ ap (λ b. begins_kind kind (opening_at run.text p) && is_none (find_at run.text p) || b) (agrees kind) in
+    sum-next run earlier p places _ agrees refl (passed-is (run_step run p) (p ∷ earlier) places later)
+
+none_shut : (text : List ℕ) → Agrees (new_run text) []
+none_shut text Comment = refl
+none_shut text Cdata = refl
+none_shut text Declaration = refl
+none_shut text Processing = refl
+
+pub passed-counted : (text places : List ℕ) (passed : ℕ) (answers : List (Option ℕ)) → passed ≡ run_passed (new_run text) places → answers ≡ run_answers (new_run text) places → passed ≡ bytes_passed text (take (length answers) places)
+passed-counted text places passed answers all each = let sum = passed-is (new_run text) [] places (none_shut text) in rw each (omega (arith, all, sum))

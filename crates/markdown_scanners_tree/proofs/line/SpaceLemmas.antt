@@ -1,0 +1,166 @@
+-- Columns of space taken from a state.
+use Rattle.std.proofs.Common.{ℕ, zero, suc, false, ◌≡◌, refl, sym, ◌∙◌, ap, ◌⊎◌, inl, inr, eqb, List, ◌∷◌, ◌++◌, ◌+◌, ◌-◌, ◌*◌, ◌/◌, ◌%◌, ◌<◌, ◌≤◌, replicate, length, get_or, take, drop, arith, append_assoc, add-zero}
+use Rattle.std.proofs.lemmas.List.{length-replicate, replicate-append-replicate, drop-append-le, drop-replicate, drop_more}
+use Rattle.std.proofs.lemmas.Bool.{cases_lt}
+use Rattle.std.proofs.lemmas.Bool.Decides.{nat_tests}
+use Rattle.std.proofs.Math.ListN.{drop_of_length-le}
+use Rattle.markdown_scanners_tree.specs.Bytes.{is_line_ending}
+use Rattle.markdown_scanners_tree.specs.Columns.{column_after, column_past, bytes_below, written_byte, written_out}
+use Rattle.markdown_scanners_tree.specs.line.State.{LineState, rest_of, leading_spaces, columns_further, space_within, after_space}
+use Rattle.markdown_scanners_tree.proofs.line.ColumnLemmas.{after-more, bool_cases, written-end, written-cons, none_below, below-shift, column_past-shift, written_out-shift, Reach, reach_byte}
+
+-- n spaces
+abbrev pub spaces : ℕ → List ℕ
+spaces n = replicate n 32
+
+pub leading-spaces : (m : ℕ) (w : List ℕ) → leading_spaces (spaces m ++ w) ≡ m + leading_spaces w
+leading-spaces zero w = omega arith
+leading-spaces (suc m) w = omega (arith, leading-spaces m w)
+
+pub drop-spaces : (t p : ℕ) (w : List ℕ) → drop t (spaces (t + p) ++ w) ≡ spaces p ++ w
+drop-spaces t p w =
+    let fits : t ≤ length (spaces (t + p)) = rw (length-replicate {A = ℕ} (t + p) 32) (omega arith) in
+    let e : t + p - t ≡ p = omega arith in
+    drop-append-le t (spaces (t + p)) w fits ∙ rw (drop-replicate {X = ℕ} t (t + p) 32, e) refl
+
+pub spaces-join : (m n : ℕ) (w : List ℕ) → spaces m ++ (spaces n ++ w) ≡ spaces (m + n) ++ w
+spaces-join m n w = sym (append_assoc (spaces m) (spaces n) w) ∙ rw (replicate-append-replicate {A = ℕ} m n 32) refl
+
+-- the column of a state's place counts modulo four alone
+pub written_out-phase : (bs : List ℕ) (c : ℕ) → written_out (c % 4) bs ≡ written_out c bs
+written_out-phase bs c =
+    let e : c % 4 + 4 * (c / 4) ≡ c = omega arith in
+    sym (written_out-shift bs (c % 4) (c / 4)) ∙ rw e refl
+
+pub below-phase : (bs : List ℕ) (c n p : ℕ) → bytes_below (c % 4) bs (c % 4 + n - p) ≡ bytes_below c bs (c + n - p)
+below-phase bs c n p =
+    elim (cases_lt p n) [
+      | inr few ↦ none_below bs (c % 4) (c % 4 + n - p) (omega arith) ∙ sym (none_below bs c (c + n - p) (omega arith))
+      | inl more ↦ (
+          let e : c % 4 + 4 * (c / 4) ≡ c = omega arith in
+          let f : c % 4 + n - p + 4 * (c / 4) ≡ c + n - p = omega arith in
+          sym (below-shift bs (c % 4) (c / 4) (c % 4 + n - p)) ∙ rw (e, f) refl
+          )
+    ]
+
+pub past-phase : (bs : List ℕ) (c : ℕ) → column_past (c % 4) bs + 4 * (c / 4) ≡ column_past c bs
+past-phase bs c =
+    let e : c % 4 + 4 * (c / 4) ≡ c = omega arith in
+    sym (column_past-shift bs (c % 4) (c / 4)) ∙ rw e refl
+
+-- a space or a tab more
+pub reach_space : {c₀ : ℕ} {bs₀ : List ℕ} {passed c b : ℕ} {back : List ℕ} (pending : ℕ)
+    → Reach c₀ bs₀ (spaces (c - c₀)) passed c 0 (b ∷ back) → c₀ ≤ c → (b ≡ 32) ⊎ (b ≡ 9) → c + pending < column_after c b
+    → Reach c₀ bs₀ (spaces (column_after c b - c₀)) (passed + 1) (column_after c b) pending back
+reach_space {c₀} {bs₀} {passed} {c} {b} {back} pending r grows kind narrow =
+    let goes : is_line_ending b ≡ false = elim kind as (λ _. is_line_ending b ≡ false) [ inl e ↦ rw e refl | inr e ↦ rw e refl ] in
+    let more : c < column_after c b = after-more c b in
+    let written : written_byte c b ≡ spaces (column_after c b - c) =
+    elim kind as (λ _. written_byte c b ≡ spaces (column_after c b - c)) [
+      | inl e ↦ (let one : c + 1 - c ≡ 1 = omega arith in rw (e, one) refl)
+      | inr e ↦ rw e refl
+    ] in
+    let sum : (c - c₀) + (column_after c b - c) ≡ column_after c b - c₀ = omega arith in
+    let out : spaces (c - c₀) ++ written_byte c b ≡ spaces (column_after c b - c₀) =
+    rw (written, replicate-append-replicate {A = ℕ} (c - c₀) (column_after c b - c) 32, sum) refl in
+    rw out at (reach_byte pending r goes narrow)
+
+-- a state by its parts, with the column of its place
+abbrev pub state_of : List ℕ → ℕ → ℕ → ℕ → LineState
+state_of bytes place pending column = record { bytes = bytes; place = place; pending = pending; phase = column % 4 }
+
+-- what columns_further gives, by the column of the place in place of its phase
+pub further-column : (line : List ℕ) (place p c n : ℕ) →
+    let back = drop place line in
+    let m = bytes_below c back (c + n - p) in
+    let c' = column_past c (take m back) in
+    columns_further n (state_of line place p c) ≡ state_of line (place + m) (p + c' - (c + n)) c'
+further-column line place p c n =
+    let back = drop place line in
+    let m = bytes_below c back (c + n - p) in
+    let count : bytes_below (c % 4) back (c % 4 + n - p) ≡ m = below-phase back c n p in
+    let shifted : column_past (c % 4) (take m back) + 4 * (c / 4) ≡ column_past c (take m back) = past-phase (take m back) c in
+    let pending : p + column_past (c % 4) (take m back) - (c % 4 + n) ≡ p + column_past c (take m back) - (c + n) = omega arith in
+    let phase : column_past (c % 4) (take m back) % 4 ≡ column_past c (take m back) % 4 = omega arith in
+    rw (count, pending, phase) refl
+
+module _ (bytes : List ℕ) (place c₀ p n place' c p' left : ℕ)
+    (reach : Reach c₀ (drop place bytes) (spaces (c - c₀)) (place' - place) c p' (drop place' bytes))
+    (on : place ≤ place') (grows : c₀ ≤ c) (within : left ≤ n) (kept : c + left + p ≡ c₀ + n + p') where
+  further : state_of bytes place' p' c ≡ columns_further (n - left) (state_of bytes place p c₀)
+  further =
+      let bs = drop place bytes in
+      let t = n - left in
+      let below : bytes_below c₀ bs (c₀ + t - p) ≡ place' - place + bytes_below c (drop place' bytes) (c₀ + t - p) =
+      reach.below (c₀ + t - p) (omega arith) in
+      let none : bytes_below c (drop place' bytes) (c₀ + t - p) ≡ 0 =
+      none_below (drop place' bytes) c (c₀ + t - p) (omega arith) in
+      let count : bytes_below (c₀ % 4) bs (c₀ % 4 + t - p) ≡ place' - place = below-phase bs c₀ t p ∙ below ∙ rw none (omega arith) in
+      let past : column_past c₀ (take (place' - place) bs) ≡ c = rw add-zero at (reach.past 0) in
+      let shifted : column_past (c₀ % 4) (take (place' - place) bs) + 4 * (c₀ / 4) ≡ c = past-phase (take (place' - place) bs) c₀ ∙ past in
+      let pending : p + column_past (c₀ % 4) (take (place' - place) bs) - (c₀ % 4 + t) ≡ p' = omega arith in
+      let phase : column_past (c₀ % 4) (take (place' - place) bs) % 4 ≡ c % 4 = omega arith in
+      let sum : place + (place' - place) ≡ place' = omega arith in
+      rw (count, pending, phase, sum) refl
+
+  all_spaces : rest_of (state_of bytes place p c₀) ≡ spaces ((n - left) + p') ++ written_out c (drop place' bytes)
+  all_spaces =
+      let bs = drop place bytes in
+      let w = written_out c (drop place' bytes) in
+      let sum : p + (c - c₀) ≡ (n - left) + p' = omega arith in
+      rw (written_out-phase bs c₀, reach.written, spaces-join p (c - c₀) w, sum) refl
+
+  pub rest_dropped : rest_of (state_of bytes place' p' c) ≡ drop (n - left) (rest_of (state_of bytes place p c₀))
+  rest_dropped =
+      let w = written_out c (drop place' bytes) in
+      rw (written_out-phase (drop place' bytes) c, all_spaces) (sym (drop-spaces (n - left) p' w))
+
+  module _ (ended : (left ≡ 0) ⊎ ((p' ≡ 0) × (leading_spaces (written_out c (drop place' bytes)) ≡ 0))) where
+    pub taken_all : n - left ≡ space_within n (state_of bytes place p c₀)
+    taken_all =
+        let w = written_out c (drop place' bytes) in
+        let lead : leading_spaces (rest_of (state_of bytes place p c₀)) ≡ (n - left) + p' + leading_spaces w =
+        ap leading_spaces all_spaces ∙ leading-spaces ((n - left) + p') w in
+        rw lead (elim ended [ inl none ↦ omega arith | inr e ↦ omega arith ])
+
+    pub state_after : state_of bytes place' p' c ≡ after_space n (state_of bytes place p c₀)
+    state_after = further ∙ ap (λ t. columns_further t (state_of bytes place p c₀)) taken_all
+
+-- no space stands at the front of what is written out where no byte, or another one than a space or a tab, stands
+pub none_at_end : (bytes : List ℕ) (place c : ℕ) → length bytes ≤ place → leading_spaces (written_out c (drop place bytes)) ≡ 0
+none_at_end bytes place c h = let e = drop_of_length-le bytes h in rw e refl
+
+none_at : (c b : ℕ) (bs : List ℕ) → (b ≡ 32 → ⊥) → (b ≡ 9 → ⊥) → leading_spaces (written_out c (b ∷ bs)) ≡ 0
+none_at c b bs space tab =
+    let f : eqb b 32 ≡ false = grind (arith, nat_tests) in
+    let g : eqb b 9 ≡ false = grind (arith, nat_tests) in
+    bool_cases (is_line_ending b)
+    (λ ends. rw (written-end c b bs ends, f) refl)
+    (λ goes. rw (written-cons c b bs goes, g, f) refl)
+
+pub none_at_byte : (bytes : List ℕ) (place c : ℕ) → place < length bytes → (get_or bytes place 0 ≡ 32 → ⊥) → (get_or bytes place 0 ≡ 9 → ⊥)
+    → leading_spaces (written_out c (drop place bytes)) ≡ 0
+none_at_byte bytes place c inside space tab =
+    rw (drop_more bytes place 0 inside) (none_at c (get_or bytes place 0) (drop (place + 1) bytes) space tab)
+
+-- the same over a line and its places
+pub reach_next : (bytes : List ℕ) (place₀ c₀ place c pending b c' pending' : ℕ)
+    → Reach c₀ (drop place₀ bytes) (spaces (c - c₀)) (place - place₀) c pending (drop place bytes)
+    → pending ≡ 0 → place₀ ≤ place → place < length bytes → c₀ ≤ c → get_or bytes place 0 ≡ b → (b ≡ 32) ⊎ (b ≡ 9)
+    → c' ≡ column_after c b → c + pending' < c'
+    → Reach c₀ (drop place₀ bytes) (spaces (c' - c₀)) (place + 1 - place₀) c' pending' (drop (place + 1) bytes)
+reach_next bytes place₀ c₀ place c pending b c' pending' r none on inside grows read kind next narrow =
+    let split : drop place bytes ≡ b ∷ drop (place + 1) bytes = rw (drop_more bytes place 0 inside, read) refl in
+    let r₀ = rw (none, split) at r in
+    let count : place + 1 - place₀ ≡ place - place₀ + 1 = omega arith in
+    rw (count, next) (reach_space pending' r₀ grows kind (omega arith))
+
+-- one byte more is written out, and its phase counts alone
+pub written_step : (bytes : List ℕ) (i phase : ℕ) → i < length bytes → is_line_ending (get_or bytes i 0) ≡ false →
+    written_out phase (drop i bytes)
+    ≡ written_byte phase (get_or bytes i 0) ++ written_out (column_after phase (get_or bytes i 0) % 4) (drop (i + 1) bytes)
+written_step bytes i phase inside goes =
+    let b = get_or bytes i 0 in
+    let back = drop (i + 1) bytes in
+    let split : drop i bytes ≡ b ∷ back = drop_more bytes i 0 inside in
+    ap (written_out phase) split ∙ written-cons phase b back goes ∙ ap (λ w. written_byte phase b ++ w) (sym (written_out-phase back (column_after phase b)))

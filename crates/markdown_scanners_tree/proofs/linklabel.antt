@@ -1,0 +1,12 @@
+pub mod Cells
+pub mod Keys
+pub mod MeasureLemmas
+pub mod ReadsBack
+pub mod Room
+pub mod Rows
+pub mod Runs
+pub mod Scan
+pub mod Seen
+pub mod Steps
+pub mod Words
+pub mod Writing

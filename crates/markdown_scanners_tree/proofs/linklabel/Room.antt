@@ -1,0 +1,89 @@
+-- What was written of a label is no longer than the label.
+use Rattle.std.proofs.Common.{ℕ, Bool, true, false, ◌&&◌, ◌==◌, List, [], ◌∷◌, ◌++◌, ◌≡◌, ◌≤◌, ◌<◌, ◌+◌, Option, Some, None, refl, sym, ◌∙◌, ap, cond, arith, drop, length, length-append, true≢false, eqb-true, add-zero, ◌-◌}
+use Rattle.markdown_scanners_tree.specs.Bytes.{is_line_ending, is_punctuation}
+use Rattle.markdown_scanners_tree.specs.Kept.{KeptByte, in_line, kept_head, line_len, kept_from, AreSkips}
+use Rattle.markdown_scanners_tree.specs.linklabel.Label.{Label, IsLabel, escaped, single, pieces, Bracketed, preceded, bracketed, label_between, pipe_at, in_cell}
+use Rattle.markdown_scanners_tree.specs.linklabel.private.Pass.{space_len}
+use Rattle.markdown_scanners_tree.proofs.KeptStep.{kept_from-in_line}
+use Rattle.markdown_scanners_tree.proofs.linklabel.Cells.{Follows, follows_byte, gap_of_line}
+use Rattle.markdown_scanners_tree.proofs.linklabel.Scan.{IsAt}
+use Rattle.markdown_scanners_tree.proofs.linklabel.Seen.{Written, ending_no_pipe}
+use Rattle.markdown_scanners_tree.proofs.linklabel.Steps.{bracketed_after}
+use Rattle.markdown_scanners_tree.proofs.linklabel.Words.{text_from, joined_words-from}
+use Rattle.markdown_scanners_tree.proofs.linklabel.Writing.{text_of_label}
+
+-- a kept text begins with a pipe where its source does
+kept_follows : (a : List ℕ → ℕ → Type 0) (ix : ℕ) (rest skips : List ℕ) → AreSkips a rest skips → Follows ix rest (kept_from ix rest skips)
+kept_follows a ix [] [] s = refl
+kept_follows a ix [] (k ∷ ks) s = absurd (true≢false (sym s.0))
+kept_follows a ix (b ∷ bs) skips s = by (is_line_ending b) refl skips
+  where
+    by : (v : Bool) → is_line_ending b ≡ v → (skips : List ℕ) → Follows ix (b ∷ bs) (kept_from ix (b ∷ bs) skips)
+    by true h [] = ap (pipe_at ix) (ap (λ v. cond v [] (in_line b ix ∷ kept_head (ix + 1) bs)) h) ∙ sym (ending_no_pipe b h)
+    by true h (k ∷ ks) = (gap_of_line false false false ix b bs (kept_from (ix + (line_len (b ∷ bs) + k)) (drop (line_len (b ∷ bs) + k) (b ∷ bs)) ks) h).starts ∙ sym (ending_no_pipe b h)
+    by false h skips = ap (pipe_at ix) (kept_from-in_line ix b bs skips h) ∙ follows_byte ix b bs (kept_from (ix + 1) bs skips)
+
+closing_no_pipe : (k : KeptByte) (ix : ℕ) → (k.byte == 93) ≡ true → (k.byte == 124 && k.place == ix) ≡ false
+closing_no_pipe k ix e = ap (λ b. b == 124 && k.place == ix) (eqb-true k.byte 93 e)
+
+-- and so does what stands before the bracket
+content_first : (e : Bool) (ix : ℕ) (kept : List KeptByte) (b : Bracketed) → bracketed_after e kept ≡ Some b → pipe_at ix b.content ≡ pipe_at ix kept
+content_first true ix [] b h = cc
+content_first true ix (k ∷ ks) b h = by (bracketed (pieces ks)) h
+  where
+    by : (o : Option Bracketed) → preceded (k ∷ []) o ≡ Some b → pipe_at ix b.content ≡ (k.byte == 124 && k.place == ix)
+    by None g = cc
+    by (Some o) g = (let c : k ∷ o.content ≡ b.content = cc in ap (pipe_at ix) (sym c))
+content_first false ix [] b h = cc
+content_first false ix (k ∷ []) b h = one (k.byte == 93) refl (k.byte == 91) h
+  where
+    one : (x : Bool) → (k.byte == 93) ≡ x → (y : Bool) → cond x (Some (record { content = []; close = k.place })) (cond y None None) ≡ Some b → pipe_at ix b.content ≡ (k.byte == 124 && k.place == ix)
+    one true e y g = (let c : [] ≡ b.content = cc in ap (pipe_at ix) (sym c) ∙ sym (closing_no_pipe k ix e))
+    one false e true g = cc
+    one false e false g = cc
+content_first false ix (k ∷ l ∷ ks) b h = by (k.byte == 92 && is_punctuation l.byte) h
+  where
+    more : (o : Option Bracketed) (others : List KeptByte) → preceded (k ∷ others) o ≡ Some b → pipe_at ix b.content ≡ (k.byte == 124 && k.place == ix)
+    more None others g = cc
+    more (Some o) others g = (let c : k ∷ (others ++ o.content) ≡ b.content = cc in ap (pipe_at ix) (sym c))
+
+    one : (o : Option Bracketed) (x : Bool) → (k.byte == 93) ≡ x → (y : Bool) → cond x (Some (record { content = []; close = k.place })) (cond y None (preceded (k ∷ []) o)) ≡ Some b → pipe_at ix b.content ≡ (k.byte == 124 && k.place == ix)
+    one o true e y g = (let c : [] ≡ b.content = cc in ap (pipe_at ix) (sym c) ∙ sym (closing_no_pipe k ix e))
+    one o false e true g = cc
+    one o false e false g = more o [] g
+
+    by : (v : Bool) → bracketed (cond v (escaped k l ∷ pieces ks) (single k ∷ pieces (l ∷ ks))) ≡ Some b → pipe_at ix b.content ≡ (k.byte == 124 && k.place == ix)
+    by true g = more (bracketed (pieces ks)) (l ∷ []) g
+    by false g = one (bracketed (pieces (l ∷ ks))) (k.byte == 93) refl (k.byte == 91) g
+
+-- what was written is a front of the label's text
+pub pushed_fits : (a : List ℕ → ℕ → Type 0) (source : List ℕ) (t e : Bool) (seen : List KeptByte) (ix : ℕ) (rest : List ℕ) (w r : Bool) (pushed : List ℕ)
+    → IsAt a source e seen ix rest → Written t seen ix rest w r pushed → (label : Label) → IsLabel a source t label → length pushed ≤ length label.text
+pushed_fits a source t e seen ix rest w r pushed here s label l = (let g = here.ahead t label l in by (bracketed_after e (kept_from ix rest g.skips)) (λ b h. content_first e ix (kept_from ix rest g.skips) b h ∙ kept_follows a ix rest g.skips g.answered) g.is)
+  where
+    by : (o : Option Bracketed) → ((b : Bracketed) → o ≡ Some b → Follows ix rest b.content) → label_between t (preceded seen o) ≡ Some label → length pushed ≤ length label.text
+    by None f g = cc
+    by (Some b) f g =
+        let text : label.text ≡ pushed ++ text_from w r (in_cell t b.content) = text_of_label t (record { content = seen ++ b.content; close = b.close }) label g ∙ joined_words-from (in_cell t (seen ++ b.content)) ∙ s.left b.content (f b refl) in
+        omega (arith, ap length text ∙ length-append pushed (text_from w r (in_cell t b.content)))
+
+-- room for the label is room for each part of it
+pub no_room : (len0 cap0 len cap pushed text part : ℕ) → len0 + text ≤ cap0 → cap0 ≤ cap → pushed ≤ text → len + part ≤ len0 + pushed → cap < len + part → ⊥
+no_room len0 cap0 len cap pushed text part a b c d e = omega arith
+
+-- a space takes one byte exactly where one is due
+pub spaced_len : (new out : ℕ) (w r : Bool) → w ≡ true → r ≡ true → new ≡ out + 1 → new ≡ out + space_len w r
+spaced_len new out w r e f g = g ∙ (λ i. out + space_len (sym e i) (sym f i))
+
+pub not_spaced_len : (new out : ℕ) (w r : Bool) → (w && r) ≡ false → new ≡ out → new ≡ out + space_len w r
+not_spaced_len new out w r e g = g ∙ sym (add-zero out) ∙ ap (λ v. out + cond v 1 0) (sym e)
+
+-- the bytes written and those to be flushed, after a byte of a word
+pub counts_word : (len0 pushed all space more len len1 len2 part part2 : ℕ) → len0 + pushed ≡ len + part → all ≡ pushed + (space + more) → len1 ≡ len + space → len2 + part2 ≡ len1 + part + more → len0 + all ≡ len2 + part2
+counts_word len0 pushed all space more len len1 len2 part part2 a b c d = omega arith
+
+pub counts_dropped : (len1 len2 ix mark mark2 range more : ℕ) → range + mark ≡ ix → len2 ≡ len1 + range → mark2 ≡ ix + 1 → more ≡ 0 → len2 + (ix + 1 - mark2) ≡ len1 + (ix - mark) + more
+counts_dropped len1 len2 ix mark mark2 range more a b c d = omega arith
+
+pub counts_kept : (len1 len2 ix mark mark2 more : ℕ) → mark ≤ ix → len2 ≡ len1 → mark2 ≡ mark → more ≡ 1 → len2 + (ix + 1 - mark2) ≡ len1 + (ix - mark) + more
+counts_kept len1 len2 ix mark mark2 more a b c d = omega arith

@@ -1,0 +1,4 @@
+pub mod DigitLemmas
+pub mod ReferenceLemmas
+pub mod ReferenceUnique
+pub mod Rows

@@ -1,0 +1,77 @@
+-- ATX headings, and underlines of setext headings.
+use Rattle.std.proofs.Common.{◌≡◌, ℕ, ◌+◌, ◌-◌, ◌≤◌, true, false, ◌==◌, List, [], ◌∷◌, ◌++◌, length, take, drop, replicate, refl, sym, ap, subst, ◌∙◌, arith, inl, inr, Some}
+use Rattle.std.specs.List.{prefix_len}
+use Rattle.std.proofs.lemmas.Bool.{cases_Bool, eqb-true}
+use Rattle.std.proofs.lemmas.List.{take-append-drop, length-replicate}
+use Rattle.std.proofs.lemmas.List.Folds.{length-prefix_len}
+use Rattle.std.proofs.Math.Seq.{drop-append_seam}
+use Rattle.markdown_values.specs.values.Headings.{heading_number}
+use Rattle.markdown_values.specs.declared.values.HeadingLevel.{HeadingLevel}
+use Rattle.markdown_values.specs.declared.values.HeadingLevel.TheVariants.{H1, H2, H3, H4, H5, H6}
+use Rattle.markdown_scanners_tree.specs.Bytes.{begins_with, ends_or_begins_with, is_white_space, IsBlankLine}
+use Rattle.markdown_scanners_tree.specs.scanners.Headings.{IsAtxHeading, underline_byte, IsSetextUnderline}
+use Rattle.markdown_scanners_tree.proofs.FrontLemmas.{from_place, list_all-run, prefix_len-parts}
+use Rattle.markdown_scanners_tree.proofs.RunLemmas.{list_all-replicate, replicate-all, run-scanned, run-only, not_empty, begun_by}
+
+-- the run of `#` of a heading has the level's number
+no_hash : (rest : List ℕ) → ends_or_begins_with is_white_space rest ≡ true → begins_with (λ b. b == 35) rest ≡ false
+no_hash [] ends = refl
+no_hash (b ∷ rest) ends = elim (cases_Bool (b == 35)) [ inl hash ↦ absurd (let space = rw (eqb-true b 35 hash) at ends in cc) | inr other ↦ other ]
+
+pub atx-only : (bytes : List ℕ) (level : HeadingLevel) → IsAtxHeading bytes level
+    → (prefix_len (λ b. b == 35) bytes ≡ heading_number level) × (ends_or_begins_with is_white_space (drop (prefix_len (λ b. b == 35) bytes) bytes) ≡ true)
+atx-only bytes level heading =
+    let hashes = replicate (heading_number level) 35 in
+    let counted : length hashes ≡ heading_number level = length-replicate (heading_number level) 35 in
+    let run : prefix_len (λ b. b == 35) bytes ≡ length hashes = ap (prefix_len (λ b. b == 35)) heading.parts ∙ prefix_len-parts (λ b. b == 35) hashes heading.rest (list_all-replicate (λ b. b == 35) (heading_number level) 35 refl) (no_hash heading.rest heading.ends) in
+    let rest : drop (prefix_len (λ b. b == 35) bytes) bytes ≡ heading.rest = ap (λ n. drop n bytes) run ∙ ap (drop (length hashes)) heading.parts ∙ drop-append_seam hashes heading.rest in
+    (run ∙ counted, ap (ends_or_begins_with is_white_space) rest ∙ heading.ends)
+
+run_is_hashes : (bytes : List ℕ) → take (prefix_len (λ b. b == 35) bytes) bytes ≡ replicate (prefix_len (λ b. b == 35) bytes) 35
+run_is_hashes bytes = replicate-all 35 (take (prefix_len (λ b. b == 35) bytes) bytes) (list_all-run (λ b. b == 35) bytes) ∙ ap (λ n. replicate n 35) (length-prefix_len (λ b. b == 35) bytes)
+
+pub atx-scanned : (bytes : List ℕ) (run : ℕ) → run ≡ prefix_len (λ b. b == 35) bytes → ends_or_begins_with is_white_space (drop run bytes) ≡ true
+    → (level : HeadingLevel) → run ≡ heading_number level → IsAtxHeading bytes level
+atx-scanned bytes run is_run ends level number = record {
+  rest = drop run bytes;
+  parts = sym (take-append-drop run bytes) ∙ ap (λ front. front ++ drop run bytes) (rw is_run (run_is_hashes bytes) ∙ ap (λ n. replicate n 35) number);
+  ends = ends;
+}
+
+-- no other number is a level's
+pub level-number : (n : ℕ) → ¬ (n ≡ 1) → ¬ (n ≡ 2) → ¬ (n ≡ 3) → ¬ (n ≡ 4) → ¬ (n ≡ 5) → ¬ (n ≡ 6) → (level : HeadingLevel) → ¬ (n ≡ heading_number level)
+level-number n one two three four five six H1 = one
+level-number n one two three four five six H2 = two
+level-number n one two three four five six H3 = three
+level-number n one two three four five six H4 = four
+level-number n one two three four five six H5 = five
+level-number n one two three four five six H6 = six
+
+pub underline-scanned : (bytes : List ℕ) (byte run blank : ℕ) (level : HeadingLevel) → underline_byte level ≡ Some byte → begins_with (λ b. b == byte) bytes ≡ true
+    → run ≡ prefix_len (λ b. b == byte) bytes → IsBlankLine (take (length bytes - run) (drop run bytes)) blank → IsSetextUnderline bytes (run + blank) level
+underline-scanned bytes byte run blank level of_level begins is_run line =
+    let scanned = run-scanned byte bytes run is_run in
+    record {
+      byte = byte;
+      run = take run bytes;
+      rest = drop run bytes;
+      blank = blank;
+      of_level = of_level;
+      is_run = scanned.0;
+      some = let some = run_some bytes begins in omega (arith, scanned.1, is_run, some);
+      blank_rest = subst (λ (rest : List ℕ). IsBlankLine rest blank) (from_place bytes run) line;
+      counted = ap (λ n. n + blank) (sym scanned.1);
+    }
+  where
+    run_some : (bytes : List ℕ) → begins_with (λ b. b == byte) bytes ≡ true → 1 ≤ prefix_len (λ b. b == byte) bytes
+    run_some [] begins = cc
+    run_some (b ∷ bytes) begins = let first : (b == byte) ≡ true = begins in rw first (omega arith)
+
+pub underline-open : (bytes : List ℕ) (byte run : ℕ) → begins_with (λ b. b == byte) bytes ≡ true → run ≡ prefix_len (λ b. b == byte) bytes
+    → ((n : ℕ) → ¬ IsBlankLine (take (length bytes - run) (drop run bytes)) n) → (n : ℕ) (level : HeadingLevel) → ¬ IsSetextUnderline bytes n level
+underline-open bytes byte run begins is_run none n level line =
+    let only = run-only line.byte bytes line.run line.rest line.is_run in
+    let some : 1 ≤ prefix_len (λ b. b == line.byte) bytes = (let some = line.some in omega (arith, only.0, some)) in
+    let same : line.byte ≡ byte = begun_by bytes line.byte byte (not_empty (λ b. b == line.byte) bytes some) begins in
+    let rest : line.rest ≡ drop run bytes = only.1 ∙ ap (λ k. drop (prefix_len (λ b. b == k) bytes) bytes) same ∙ ap (λ n. drop n bytes) (sym is_run) in
+    none line.blank (subst (λ (rest : List ℕ). IsBlankLine rest line.blank) (rest ∙ sym (from_place bytes run)) line.blank_rest)

@@ -1,0 +1,2 @@
+pub mod BlockNames
+pub mod BlockStart

@@ -1,0 +1,5 @@
+pub mod KeptCopy
+pub mod Rows
+pub mod TagAlone
+pub mod TagBuffer
+pub mod TagScan

@@ -1,0 +1,220 @@
+-- How far a scan of a tag over lines has come, and what that says of its end.
+use Rattle.std.proofs.Common.{ℕ, List, [], ◌∷◌, ◌++◌, ◌+◌, ◌-◌, ◌<◌, ◌≤◌, ◌≡◌, true, false, cond, length, take, drop, get_or, Option, Some, None, IfSome, refl, sym, ap, ◌∙◌, subst, append_assoc, length-append, inl, inr, ◌⊎◌, arith}
+use Rattle.std.proofs.lemmas.Bool.{cases_Bool}
+use Rattle.std.proofs.lemmas.List.{drop_more, drop-drop, drop_all, length-drop, append-nil, map-append}
+use Rattle.std.proofs.lemmas.List.Sums.{sum_by-append}
+use Rattle.std.specs.Fn.{Shared}
+use denote.Ref.{Bor}
+use Rattle.markdown_scanners_tree.specs.Bytes.{is_line_ending}
+use Rattle.markdown_scanners_tree.specs.Kept.{KeptByte, in_line, at_line_end, bytes_of, line_endings}
+use Rattle.markdown_scanners_tree.specs.Handler.{Answers, IsSteady}
+use Rattle.markdown_scanners_tree.specs.scanners.html_tag.KeptTag.{AnswersIfAny, place_after, IsKeptTag}
+use Rattle.markdown_scanners_tree.specs.scanners.tag_state.private.TagMachine.{next_state, state_after, is_tag_end, is_final, ends_source_line}
+use Rattle.markdown_scanners_tree.specs.declared.scanners.tag_state.TagState.{TagState}
+use Rattle.markdown_scanners_tree.specs.declared.scanners.tag_state.TagState.TheVariants.{Start}
+use Rattle.markdown_scanners_tree.proofs.FrontLemmas.{from_place}
+use Rattle.markdown_scanners_tree.proofs.KeptStep.{Reads}
+use Rattle.markdown_scanners_tree.proofs.KeptReading.{Step, ends_alone, step_in_line, step_at_end, no_step, nothing_read, last_read}
+use Rattle.markdown_scanners_tree.proofs.scanners.tag_state.TagWhole.{state_after_append}
+use Rattle.markdown_scanners_tree.proofs.scanners.tag_state.TagEnds.{tag_exactly, end_is_final, final_goes_nowhere, line_ending_ends_none}
+
+-- the scanner's words for a tag
+abbrev pub EndsTag : List KeptByte → Type 0
+EndsTag front = is_tag_end (state_after Start (bytes_of front)) (line_endings front) ≡ true
+
+-- A front of a kept text is a tag exactly where it is read and the scanner comes to its end with it.
+tag_read : (answers : List ℕ → ℕ → Type 0) (source : List ℕ) (front : List KeptByte) → IsKeptTag answers source front → Reads answers 0 source front
+tag_read answers source front k = record { skips = k.kept.skips; rest = k.kept.rest; answered = k.kept.answered; begins = k.kept.begins }
+
+tag_ends : (answers : List ℕ → ℕ → Type 0) (source : List ℕ) (front : List KeptByte) → IsKeptTag answers source front → EndsTag front
+tag_ends answers source front k = (tag_exactly (bytes_of front) (line_endings front)).0 k.tag
+
+tag_from : (answers : List ℕ → ℕ → Type 0) (source : List ℕ) (front : List KeptByte) → Reads answers 0 source front → EndsTag front → IsKeptTag answers source front
+tag_from answers source front r e = record { kept = record { skips = r.skips; rest = r.rest; answered = r.answered; begins = r.begins }; tag = (tag_exactly (bytes_of front) (line_endings front)).1 e }
+
+-- one more byte at the end
+marks_more : (passed : List KeptByte) (k : KeptByte) → line_endings (passed ++ k ∷ []) ≡ line_endings passed + cond k.ends_line 1 0
+marks_more passed k =
+    let one : 0 + cond k.ends_line 1 0 ≡ cond k.ends_line 1 0 = omega arith in
+    sum_by-append (λ (x : KeptByte). cond x.ends_line 1 0) passed (k ∷ []) ∙ ap (λ z. line_endings passed + z) one
+
+after_more : (place : ℕ) (passed : List KeptByte) (k : KeptByte) → place_after place (passed ++ k ∷ []) ≡ k.place + 1
+after_more place [] k = refl
+after_more place (x ∷ xs) k = after_more (x.place + 1) xs k
+
+state_more : (passed : List KeptByte) (k : KeptByte) → state_after Start (bytes_of (passed ++ k ∷ [])) ≡ next_state (state_after Start (bytes_of passed)) k.byte
+state_more passed k = ap (state_after Start) (map-append (λ x. x.byte) passed (k ∷ [])) ∙ state_after_append Start (bytes_of passed) (k.byte ∷ [])
+
+-- One turn of a loop: the byte at the place is kept, and the next one stands at the next place.
+pub record Turn (answers : List ℕ → ℕ → Type 0) (source : List ℕ) (place endings next marks : ℕ) : Type 0 where
+  pub kept : KeptByte
+  pub byte : kept.byte ≡ get_or source place 0
+  pub at : kept.place ≡ place
+  pub step : Step answers place (drop place source) kept next (drop next source)
+  pub marked : marks ≡ endings + cond kept.ends_line 1 0
+  pub inside : next ≤ length source
+  pub alone : is_line_ending kept.byte ≡ false → (next ≡ place + 1) × Reads answers place (drop place source) (kept ∷ [])
+
+module _ (answers : List ℕ → ℕ → Type 0) (source : List ℕ) (place endings : ℕ) (low : place < length source) where
+  begins : drop place source ≡ get_or source place 0 ∷ drop (place + 1) source
+  begins = drop_more source place 0 low
+
+  pub turn_in_line : ends_source_line (drop place source) ≡ false → Turn answers source place endings (place + 1) endings
+  turn_in_line h =
+      let plain : ends_source_line (get_or source place 0 ∷ drop (place + 1) source) ≡ false = ap ends_source_line (sym begins) ∙ h in
+      record {
+        kept = in_line (get_or source place 0) place;
+        byte = refl;
+        at = refl;
+        step = rw begins (step_in_line answers place (get_or source place 0) (drop (place + 1) source) plain);
+        marked = omega arith;
+        inside = omega arith;
+        alone = λ e. (refl, rw begins (last_read answers place (get_or source place 0) (drop (place + 1) source) e));
+      }
+
+  pub turn_at_end : (skip : ℕ) → ends_source_line (drop place source) ≡ true → answers (drop (place + 1) source) skip → ((n : ℕ) → answers (drop (place + 1) source) n → n ≡ skip) → skip ≤ length (drop (place + 1) source) → Turn answers source place endings (place + 1 + skip) (endings + 1)
+  turn_at_end skip h a only inside =
+      let byte : ℕ = get_or source place 0 in
+      let ends : ends_source_line (byte ∷ drop (place + 1) source) ≡ true = ap ends_source_line (sym begins) ∙ h in
+      let next : place + (1 + skip) ≡ place + 1 + skip = omega arith in
+      let rest : drop skip (drop (place + 1) source) ≡ drop (place + 1 + skip) source = drop-drop skip (place + 1) source in
+      let step : Step answers place (byte ∷ drop (place + 1) source) (at_line_end byte place) (place + (1 + skip)) (drop skip (drop (place + 1) source)) = step_at_end answers place byte (drop (place + 1) source) skip ends a only in
+      record {
+        kept = at_line_end byte place;
+        byte = refl;
+        at = refl;
+        step = subst (λ z. Step answers place z (at_line_end byte place) (place + 1 + skip) (drop (place + 1 + skip) source)) (sym begins) (subst (λ z. Step answers place (byte ∷ drop (place + 1) source) (at_line_end byte place) (place + 1 + skip) z) rest (subst (λ z. Step answers place (byte ∷ drop (place + 1) source) (at_line_end byte place) z (drop skip (drop (place + 1) source))) next step));
+        marked = refl;
+        inside = (let l : length (drop (place + 1) source) ≡ length source - (place + 1) = length-drop (place + 1) source in omega arith);
+        alone = λ e. absurd (let t : is_line_ending byte ≡ true = (ends_alone place byte (drop (place + 1) source) ends).0 in cc);
+      }
+
+  pub no_turn : ends_source_line (drop place source) ≡ true → ((n : ℕ) → answers (drop (place + 1) source) n → ⊥) → (c : KeptByte) (t : List KeptByte) → Reads answers place (drop place source) (c ∷ t) → ⊥
+  no_turn h none c t r =
+      let ends : ends_source_line (get_or source place 0 ∷ drop (place + 1) source) ≡ true = ap ends_source_line (sym begins) ∙ h in
+      no_step answers place (get_or source place 0) (drop (place + 1) source) ends none c t (subst (λ z. Reads answers place z (c ∷ t)) begins r)
+
+-- a turn of a scan under a handler, by what its calls answer
+module _ {F : Type 0} (g : Shared F (Bor (List ℕ) × Unit {0}) ℕ) (handler : Option (Bor F)) (source : List ℕ) (place : ℕ) (low : place < length source) where
+  pub turn_with_skip : (endings : ℕ) (f : Bor F) (skip : ℕ) → handler ≡ Some f → IfSome handler (λ h. IsSteady g h.now) → ends_source_line (take (length source - place) (drop place source)) ≡ true → Answers g f.now (take (length source - (place + 1)) (drop (place + 1) source)) skip → Turn (AnswersIfAny g handler) source place endings (place + 1 + skip) (endings + 1)
+  turn_with_skip endings f skip is steady h a =
+      let sure : IsSteady g f.now = subst (λ z. IfSome z (λ h. IsSteady g h.now)) is steady in
+      let answer : Answers g f.now (drop (place + 1) source) skip = subst (λ z. Answers g f.now z skip) (from_place source (place + 1)) a in
+      rw is (turn_at_end (Answers g f.now) source place endings low skip (ap ends_source_line (sym (from_place source place)) ∙ h) answer (λ n b. sure.one (drop (place + 1) source) n skip b answer) (sure.inside (drop (place + 1) source) skip answer))
+
+  pub skip_inside : (f : Bor F) (skip : ℕ) → handler ≡ Some f → IfSome handler (λ h. IsSteady g h.now) → Answers g f.now (take (length source - (place + 1)) (drop (place + 1) source)) skip → place + 1 + skip ≤ length source
+  skip_inside f skip is steady a =
+      let sure : IsSteady g f.now = subst (λ z. IfSome z (λ h. IsSteady g h.now)) is steady in
+      let inside : skip ≤ length (drop (place + 1) source) = sure.inside (drop (place + 1) source) skip (subst (λ z. Answers g f.now z skip) (from_place source (place + 1)) a) in
+      let l : length (drop (place + 1) source) ≡ length source - (place + 1) = length-drop (place + 1) source in
+      omega arith
+
+  pub turn_without : (endings : ℕ) → ends_source_line (take (length source - place) (drop place source)) ≡ false → Turn (AnswersIfAny g handler) source place endings (place + 1) endings
+  turn_without endings h = turn_in_line (AnswersIfAny g handler) source place endings low (ap ends_source_line (sym (from_place source place)) ∙ h)
+
+-- The bytes passed are read, and each tag begins with them.
+pub record Scanned (answers : List ℕ → ℕ → Type 0) (source : List ℕ) (place kept endings : ℕ) (state : TagState) : Type 0 where
+  pub passed : List KeptByte
+  pub counted : kept ≡ length passed
+  pub ended : endings ≡ line_endings passed
+  pub reached : state ≡ state_after Start (bytes_of passed)
+  pub whole : is_tag_end state endings ≡ true → Reads answers 0 source passed × (place ≡ place_after 0 passed)
+  pub forth : (c : KeptByte) (t : List KeptByte) → Reads answers place (drop place source) (c ∷ t) → Reads answers 0 source (passed ++ c ∷ t)
+  pub left : (front : List KeptByte) → Reads answers 0 source front → EndsTag front → (t : List KeptByte) × (front ≡ passed ++ t) × Reads answers place (drop place source) t
+
+pub scan_starts : (answers : List ℕ → ℕ → Type 0) (source : List ℕ) → Scanned answers source 0 0 0 Start
+scan_starts answers source = record { passed = []; counted = refl; ended = refl; reached = refl; whole = λ e. cc; forth = λ c t r. r; left = λ front r e. (front, refl, r) }
+
+module _ (answers : List ℕ → ℕ → Type 0) (source : List ℕ) (place kept endings : ℕ) (state : TagState) (s : Scanned answers source place kept endings state) where
+  -- what is passed is a tag exactly where the state says so
+  ends_passed : is_tag_end state endings ≡ is_tag_end (state_after Start (bytes_of s.passed)) (line_endings s.passed)
+  ends_passed = ap (λ z. is_tag_end z endings) s.reached ∙ ap (is_tag_end (state_after Start (bytes_of s.passed))) s.ended
+
+  -- a tag goes on after what is passed, where that is none
+  goes_on : is_tag_end state endings ≡ false → (front : List KeptByte) → Reads answers 0 source front → EndsTag front → (c : KeptByte) × (t : List KeptByte) × (front ≡ s.passed ++ c ∷ t) × Reads answers place (drop place source) (c ∷ t)
+  goes_on none front r e = let l = s.left front r e in by l.0 l.1 l.2
+    where
+      by : (t : List KeptByte) → front ≡ s.passed ++ t → Reads answers place (drop place source) t → (c : KeptByte) × (t : List KeptByte) × (front ≡ s.passed ++ c ∷ t) × Reads answers place (drop place source) (c ∷ t)
+      by [] is rest =
+          let whole : is_tag_end state endings ≡ true = ends_passed ∙ ap (λ z. is_tag_end (state_after Start (bytes_of z)) (line_endings z)) (sym (append-nil s.passed) ∙ sym is) ∙ e in
+          cc
+      by (c ∷ t) is rest = (c, t, is, rest)
+
+  -- and none goes on after a final state
+  nowhere : is_final state ≡ true → (front : List KeptByte) → EndsTag front → (x : KeptByte) (u : List KeptByte) → front ≡ s.passed ++ x ∷ u → ⊥
+  nowhere final front e x u is =
+      let run : state_after Start (bytes_of (s.passed ++ x ∷ u)) ≡ state_after state (x.byte ∷ bytes_of u) = ap (state_after Start) (map-append (λ z. z.byte) s.passed (x ∷ u)) ∙ state_after_append Start (bytes_of s.passed) (x.byte ∷ bytes_of u) ∙ ap (λ z. state_after z (x.byte ∷ bytes_of u)) (sym s.reached) in
+      let whole : is_tag_end (state_after state (x.byte ∷ bytes_of u)) (line_endings (s.passed ++ x ∷ u)) ≡ true = ap (λ z. is_tag_end z (line_endings (s.passed ++ x ∷ u))) (sym run) ∙ ap (λ z. is_tag_end (state_after Start (bytes_of z)) (line_endings z)) (sym is) ∙ e in
+      let other : is_tag_end (state_after state (x.byte ∷ bytes_of u)) (line_endings (s.passed ++ x ∷ u)) ≡ false = final_goes_nowhere state x.byte (bytes_of u) (line_endings (s.passed ++ x ∷ u)) final in
+      cc
+
+  pub scan_finds : is_tag_end state endings ≡ true → (front : List KeptByte) × IsKeptTag answers source front × (kept ≡ length front) × (place ≡ place_after 0 front)
+  scan_finds e = let whole = s.whole e in (s.passed, tag_from answers source s.passed whole.0 (sym ends_passed ∙ e), s.counted, whole.1)
+
+  pub scan_only : is_tag_end state endings ≡ true → (front : List KeptByte) → IsKeptTag answers source front → (kept ≡ length front) × (place ≡ place_after 0 front)
+  scan_only e front k = let l = s.left front (tag_read answers source front k) (tag_ends answers source front k) in by l.0 l.1
+    where
+      by : (t : List KeptByte) → front ≡ s.passed ++ t → (kept ≡ length front) × (place ≡ place_after 0 front)
+      by [] is = let same : s.passed ≡ front = sym (append-nil s.passed) ∙ sym is in (s.counted ∙ ap length same, (s.whole e).1 ∙ ap (place_after 0) same)
+      by (x ∷ u) is = absurd (nowhere (end_is_final state endings e) front (tag_ends answers source front k) x u is)
+
+  pub scan_ends : is_tag_end state endings ≡ false → (length source ≤ place) ⊎ (is_final state ≡ true) → (front : List KeptByte) → IsKeptTag answers source front → ⊥
+  scan_ends none end front k = let l = goes_on none front (tag_read answers source front k) (tag_ends answers source front k) in by end l.0 l.1 l.2 l.3
+    where
+      by : (length source ≤ place) ⊎ (is_final state ≡ true) → (c : KeptByte) (t : List KeptByte) → front ≡ s.passed ++ c ∷ t → Reads answers place (drop place source) (c ∷ t) → ⊥
+      by (inl high) c t is r = nothing_read answers place c t (subst (λ z. Reads answers place z (c ∷ t)) (drop_all place source high) r)
+      by (inr final) c t is r = nowhere final front (tag_ends answers source front k) c t is
+
+  module _ (unfinished : is_final state ≡ false) where
+    no_end : is_tag_end state endings ≡ false
+    no_end = elim (cases_Bool (is_tag_end state endings)) [ inl e ↦ absurd (let final : is_final state ≡ true = end_is_final state endings e in cc) | inr e ↦ e ]
+
+    pub scan_has_no_skip : place < length source → ends_source_line (drop place source) ≡ true → ((n : ℕ) → answers (drop (place + 1) source) n → ⊥) → (front : List KeptByte) → IsKeptTag answers source front → ⊥
+    scan_has_no_skip low h none front k =
+        let l = goes_on no_end front (tag_read answers source front k) (tag_ends answers source front k) in
+        no_turn answers source place endings low h none l.0 l.1 l.3
+
+    module _ (next marks : ℕ) (turn : Turn answers source place endings next marks) where
+      after : TagState
+      after = next_state state (get_or source place 0)
+
+      more : List KeptByte
+      more = s.passed ++ turn.kept ∷ []
+
+      plain : is_tag_end after marks ≡ true → is_line_ending turn.kept.byte ≡ false
+      unfolding after
+      plain e =
+          elim (cases_Bool (is_line_ending turn.kept.byte)) [
+            | inr other ↦ other
+            | inl ending ↦ absurd (let none : is_tag_end (next_state state (get_or source place 0)) marks ≡ false = line_ending_ends_none state (get_or source place 0) marks (ap is_line_ending (sym turn.byte) ∙ ending) in cc)
+          ]
+
+      whole_more : is_tag_end after marks ≡ true → Reads answers 0 source more × (next ≡ place_after 0 more)
+      unfolding more
+      whole_more e =
+          let alone = turn.alone (plain e) in
+          (s.forth turn.kept [] alone.1, alone.0 ∙ ap (λ z. z + 1) (sym turn.at) ∙ sym (after_more 0 s.passed turn.kept))
+
+      left_more : (front : List KeptByte) → Reads answers 0 source front → EndsTag front → (t : List KeptByte) × (front ≡ more ++ t) × Reads answers next (drop next source) t
+      unfolding more
+      left_more front r e =
+          let l = goes_on no_end front r e in
+          let back = turn.step.back l.0 l.1 l.3 in
+          (l.1, l.2 ∙ ap (λ c. s.passed ++ c ∷ l.1) back.0 ∙ sym (append_assoc s.passed (turn.kept ∷ []) l.1), back.1)
+
+      pub scan_goes_on : Scanned answers source next (kept + 1) marks (next_state state (get_or source place 0))
+      unfolding after more
+      scan_goes_on = record {
+        passed = more;
+        counted = ap (λ z. z + 1) s.counted ∙ sym (length-append s.passed (turn.kept ∷ []));
+        ended = turn.marked ∙ ap (λ z. z + cond turn.kept.ends_line 1 0) s.ended ∙ sym (marks_more s.passed turn.kept);
+        reached = ap (next_state state) (sym turn.byte) ∙ ap (λ z. next_state z turn.kept.byte) s.reached ∙ sym (state_more s.passed turn.kept);
+        whole = whole_more;
+        forth = λ c t r. subst (λ z. Reads answers 0 source z) (sym (append_assoc s.passed (turn.kept ∷ []) (c ∷ t))) (s.forth turn.kept (c ∷ t) (turn.step.forth c t r));
+        left = left_more;
+      }
+
+-- without a handler no line end is kept
+pub no_handler_stops : {F : Type 0} (g : Shared F (Bor (List ℕ) × Unit {0}) ℕ) (handler : Option (Bor F)) (source : List ℕ) (place kept endings : ℕ) (state : TagState) → Scanned (AnswersIfAny g handler) source place kept endings state → is_final state ≡ false → place < length source → handler ≡ None → ends_source_line (take (length source - place) (drop place source)) ≡ true → (front : List KeptByte) → IsKeptTag (AnswersIfAny g handler) source front → ⊥
+no_handler_stops g handler source place kept endings state s unfinished low none h =
+    scan_has_no_skip (AnswersIfAny g handler) source place kept endings state s unfinished low (ap ends_source_line (sym (from_place source place)) ∙ h) (λ n a. subst (λ z. AnswersIfAny g z (drop (place + 1) source) n) none a)

@@ -1,0 +1,4 @@
+pub mod BareLemmas
+pub mod LinkLemmas
+pub mod PointedLemmas
+pub mod Rows

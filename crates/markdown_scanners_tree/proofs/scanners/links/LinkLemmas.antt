@@ -1,0 +1,167 @@
+-- Pipes of wikilinks, and absolute URIs in angle brackets.
+use Rattle.std.proofs.Common.{◌≡◌, ℕ, suc, ◌+◌, ◌-◌, ◌<◌, ◌≤◌, true, ◌==◌, min, List, [], ◌∷◌, ◌++◌, length, take, drop, get_or, refl, sym, ap, ◌∙◌, subst, arith, inl, inr, Option, Some, None, append_assoc, one-add}
+use Rattle.std.specs.Prelude.{position, IfNone}
+use Rattle.std.specs.List.{prefix_len}
+use Rattle.std.proofs.lemmas.Bool.{lt-ltb, le-ltb, cases_lt, eqb-true}
+use Rattle.std.proofs.lemmas.List.{length-append, take_all, take_rest, take_at, drop_at, get_or_at, get_or-drop, length-drop, length-take, get_or-take}
+use Rattle.std.proofs.lemmas.List.Folds.{length-prefix_len}
+use Rattle.std.specs.Str.{IsUtf8, IsCharBoundary}
+use Rattle.std.proofs.lemmas.Str.{IsCharBoundary-after_ascii}
+use Rattle.memchr.specs.Find.{IsFirstByte, is_byte}
+use Rattle.markdown_scanners_tree.specs.Bytes.{is_letter}
+use Rattle.markdown_scanners_tree.specs.scanners.links.LinkDestination.{IsPointedFrom, IsBareFrom, IsLinkDestination}
+use Rattle.markdown_scanners_tree.specs.scanners.links.Autolink.{is_scheme_byte, is_uri_byte, IsSchemeInFront, IsUriAutolink}
+use Rattle.markdown_scanners_tree.proofs.FrontLemmas.{list_all-run, prefix_len-parts, split_at}
+use Rattle.markdown_scanners_tree.proofs.ScanLemmas.{prefix_len-found, prefix_len-not_found}
+
+-- a search by `memchr` answers the first position
+pub position-searched : (byte : ℕ) (bytes : List ℕ) (found : Option ℕ) → IsFirstByte (is_byte byte) bytes found → position (λ b. b == byte) bytes ≡ found
+position-searched byte bytes None none = rw (prefix_len-not_found byte bytes none, le-ltb (length bytes) (length bytes) (omega arith)) refl
+position-searched byte bytes (Some k) first = rw (prefix_len-found byte bytes k first, lt-ltb k (length bytes) first.0.high) refl
+
+-- the text from a place on, as a slice of its bytes
+pub text_from : (bytes text : List ℕ) (start : ℕ) → bytes ≡ text → take (length bytes - start) (drop start bytes) ≡ drop start text
+text_from bytes text start same = take_rest bytes start ∙ ap (drop start) same
+
+-- the first n bytes from a place, cut at the end of the text, as two slices of its bytes
+pub window_is : (bytes text : List ℕ) (start n m : ℕ) → bytes ≡ text → m ≡ min n (length (take (length bytes - start) (drop start bytes)))
+    → take m (take (length bytes - start) (drop start bytes)) ≡ take n (drop start text)
+window_is bytes text start n m same least =
+    let rest = take (length bytes - start) (drop start bytes) in
+    ap (λ k. take k rest) least ∙ (cut n rest ∙ ap (take n) (text_from bytes text start same))
+  where
+    cut : (n : ℕ) (xs : List ℕ) → take (min n (length xs)) xs ≡ take n xs
+    cut n xs = elim (cases_lt n (length xs)) [
+      | inl less ↦ ap (λ k. take k xs) (omega (arith, less))
+      | inr more ↦ take_all (min n (length xs)) xs (omega (arith, more)) ∙ sym (take_all n xs more)
+    ]
+
+-- what holds anyway holds where nothing is answered
+pub IfNone-anyway : {T : Type 0} (P : Type 0) (answer : Option T) → P → IfNone answer P
+IfNone-anyway P None holds = holds
+IfNone-anyway P (Some x) holds = tt
+
+-- a letter, then the longest run of scheme bytes, and a colon
+pub scheme_found : (bytes : List ℕ) (n : ℕ) → 0 < length bytes → is_letter (get_or bytes 0 0) ≡ true → n ≡ 1 + prefix_len is_scheme_byte (drop 1 bytes) → 2 ≤ n → n ≤ 32
+    → n < length bytes → get_or bytes n 0 ≡ 58 → IsSchemeInFront bytes n
+scheme_found [] n some letter count low high inside colon = absurd (omega (arith, some))
+scheme_found (b ∷ bs) n some letter count low high inside colon =
+    let p = prefix_len is_scheme_byte bs in
+    let run : length (take p bs) ≡ p = length-prefix_len is_scheme_byte bs in
+    let at : get_or bs p 0 ≡ 58 = sym (ap (λ k. get_or (b ∷ bs) k 0) (count ∙ one-add p)) ∙ colon in
+    record {
+      scheme = b ∷ take p bs;
+      rest = drop (suc p) bs;
+      parts = ap (λ t. b ∷ t) (split_at bs p 58 (omega (arith, inside, count)) at);
+      is = record {
+        first = b;
+        others = take p bs;
+        spelled = refl;
+        letter = letter;
+        made = list_all-run is_scheme_byte bs;
+        one = omega (arith, run, count, low);
+        few = omega (arith, run, count, high);
+      };
+      long = omega (arith, run, count);
+    }
+
+-- What a scheme in front says of the bytes at their places.
+pub record IsSchemeAt (bytes : List ℕ) (n : ℕ) : Type 0 where
+  pub some : 0 < length bytes
+  pub letter : is_letter (get_or bytes 0 0) ≡ true
+  pub count : n ≡ 1 + prefix_len is_scheme_byte (drop 1 bytes)
+  pub low : 2 ≤ n
+  pub high : n ≤ 32
+  pub inside : n < length bytes
+  pub colon : get_or bytes n 0 ≡ 58
+
+pub scheme_at : (bytes : List ℕ) (n : ℕ) → IsSchemeInFront bytes n → IsSchemeAt bytes n
+scheme_at bytes n front =
+    let is = front.is in
+    let parts : bytes ≡ is.first ∷ (is.others ++ 58 ∷ front.rest) = front.parts ∙ ap (λ s. s ++ 58 ∷ front.rest) is.spelled in
+    let run : prefix_len is_scheme_byte (drop 1 bytes) ≡ length is.others = ap (λ t. prefix_len is_scheme_byte (drop 1 t)) parts ∙ prefix_len-parts is_scheme_byte is.others (58 ∷ front.rest) is.made refl in
+    let long : n ≡ 1 + length is.others = omega (arith, front.long, ap length is.spelled) in
+    record {
+      some = omega (arith, ap length parts);
+      letter = ap (λ t. is_letter (get_or t 0 0)) parts ∙ is.letter;
+      count = omega (arith, long, run);
+      low = omega (arith, long, is.one);
+      high = omega (arith, long, is.few);
+      inside = omega (arith, front.long, ap length front.parts, length-append front.scheme (58 ∷ front.rest));
+      colon = ap (λ t. get_or t n 0) front.parts ∙ get_or_at front.scheme 58 front.rest 0 n (sym front.long);
+    }
+
+-- the address goes on to the first byte that it can't hold
+pub uri_found : (bytes : List ℕ) (n end : ℕ) → IsSchemeInFront bytes n → end ≡ n + 1 + prefix_len is_uri_byte (drop (n + 1) bytes) → end < length bytes → get_or bytes end 0 ≡ 62
+    → IsUriAutolink bytes (take end bytes)
+uri_found bytes n end front count inside close =
+    let rest : drop (n + 1) bytes ≡ front.rest = ap (drop (n + 1)) (front.parts ∙ sym (append_assoc front.scheme (58 ∷ []) front.rest))
+    ∙ drop_at (front.scheme ++ 58 ∷ []) front.rest (n + 1) (omega (arith, front.long, length-append front.scheme (58 ∷ []))) in
+    let a = prefix_len is_uri_byte front.rest in
+    let run : length (take a front.rest) ≡ a = length-prefix_len is_uri_byte front.rest in
+    let end_is : end ≡ n + 1 + a = count ∙ ap (λ t. n + 1 + prefix_len is_uri_byte t) rest in
+    let here : get_or front.rest a 0 ≡ 62 = sym (ap (λ t. get_or t a 0) rest) ∙ (get_or-drop (n + 1) bytes a 0 ∙ (ap (λ k. get_or bytes k 0) (sym end_is) ∙ close)) in
+    let tail : front.rest ≡ take a front.rest ++ 62 ∷ drop (suc a) front.rest =
+    split_at front.rest a 62 (omega (arith, inside, end_is, front.long, ap length front.parts, length-append front.scheme (58 ∷ front.rest))) here in
+    let uri = front.scheme ++ 58 ∷ take a front.rest in
+    let whole : bytes ≡ uri ++ 62 ∷ drop (suc a) front.rest =
+    front.parts ∙ (ap (λ t. front.scheme ++ 58 ∷ t) tail ∙ sym (append_assoc front.scheme (58 ∷ take a front.rest) (62 ∷ drop (suc a) front.rest))) in
+    let taken : take end bytes ≡ uri = ap (take end) whole ∙ take_at uri (62 ∷ drop (suc a) front.rest) end (omega (arith, end_is, front.long, run, length-append front.scheme (58 ∷ take a front.rest))) in
+    record {
+      scheme = front.scheme;
+      address = take a front.rest;
+      rest = drop (suc a) front.rest;
+      parts = whole ∙ ap (λ u. u ++ 62 ∷ drop (suc a) front.rest) (sym taken);
+      spelled = taken;
+      is = front.is;
+      made = list_all-run is_uri_byte front.rest;
+    }
+
+-- a URI begins with its scheme
+pub uri_scheme : (bytes uri : List ℕ) → (is : IsUriAutolink bytes uri) → IsSchemeInFront bytes (length is.scheme)
+uri_scheme bytes uri is = record {
+  scheme = is.scheme;
+  rest = is.address ++ 62 ∷ is.rest;
+  parts = is.parts ∙ (ap (λ u. u ++ 62 ∷ is.rest) is.spelled ∙ append_assoc is.scheme (58 ∷ is.address) (62 ∷ is.rest));
+  is = is.is;
+  long = refl;
+}
+
+-- and its `>` stands where the address can't go on
+pub uri_close : (bytes uri : List ℕ) (n end : ℕ) → IsUriAutolink bytes uri → IsSchemeInFront bytes n → end ≡ n + 1 + prefix_len is_uri_byte (drop (n + 1) bytes)
+    → (end < length bytes) × (get_or bytes end 0 ≡ 62)
+unfolding uri_scheme
+uri_close bytes uri n end is front count =
+    let first = uri_scheme bytes uri is in
+    let same : n ≡ length is.scheme = (scheme_at bytes n front).count ∙ sym (scheme_at bytes (length is.scheme) first).count in
+    let rest : drop (n + 1) bytes ≡ is.address ++ 62 ∷ is.rest = ap (drop (n + 1)) (first.parts ∙ sym (append_assoc is.scheme (58 ∷ []) (is.address ++ 62 ∷ is.rest)))
+    ∙ drop_at (is.scheme ++ 58 ∷ []) (is.address ++ 62 ∷ is.rest) (n + 1) (omega (arith, same, length-append is.scheme (58 ∷ []))) in
+    let run : prefix_len is_uri_byte (drop (n + 1) bytes) ≡ length is.address = ap (prefix_len is_uri_byte) rest ∙ prefix_len-parts is_uri_byte is.address (62 ∷ is.rest) is.made refl in
+    let long : end ≡ length uri = omega (arith, count, run, same, ap length is.spelled, length-append is.scheme (58 ∷ is.address)) in
+    (omega (arith, long, ap length is.parts, length-append uri (62 ∷ is.rest)), ap (λ t. get_or t end 0) is.parts ∙ get_or_at uri 62 is.rest 0 end (sym long))
+
+-- a destination is pointed where the text begins with `<`, else bare
+pub no_pointed : (most : ℕ) (text : List ℕ) → text ≡ 60 ∷ drop 1 text → ((n : ℕ) → ¬ IsPointedFrom (drop 1 text) n) → (taken : ℕ) (destination : List ℕ) → ¬ IsLinkDestination most text taken destination
+no_pointed most text opens none taken destination (inl pointed) = none pointed.n (subst (λ t. IsPointedFrom t pointed.n) (sym (ap (drop 1) pointed.opens)) pointed.pointed)
+no_pointed most text opens none taken destination (inr bare) = bare.unpointed (drop 1 text) opens
+
+pub no_bare : (most : ℕ) (text : List ℕ) → ((after : List ℕ) → text ≡ 60 ∷ after → ⊥) → ((n : ℕ) → ¬ IsBareFrom most 0 text n) → (taken : ℕ) (destination : List ℕ) → ¬ IsLinkDestination most text taken destination
+no_bare most text unpointed none taken destination (inl pointed) = unpointed pointed.after pointed.opens
+no_bare most text unpointed none taken destination (inr bare) = none taken bare.bare
+
+pub opened_by : (text : List ℕ) → get_or text 0 0 ≡ 60 → text ≡ 60 ∷ drop 1 text
+opened_by [] first = absurd (omega (arith, first))
+opened_by (b ∷ text) first = ap (λ x. x ∷ text) first
+
+-- the text may be cut behind an ASCII byte of what stands from a place on
+pub cut_behind : (bytes text : List ℕ) (start n : ℕ) → bytes ≡ drop start text → IsUtf8 text → n < length bytes → get_or bytes n 0 < 128 → IsCharBoundary text (start + n + 1)
+cut_behind bytes text start n same utf8 inside ascii =
+    IsCharBoundary-after_ascii text (start + n) utf8 (omega (arith, inside, ap length same, length-drop start text)) (subst (λ b. b < 128) (ap (λ t. get_or t n 0) same ∙ get_or-drop start text n 0) ascii)
+
+-- and behind a byte that was found among the first k of them
+pub cut_behind_first : (bytes text : List ℕ) (start k n byte : ℕ) → bytes ≡ take k (drop start text) → IsUtf8 text → n < length bytes → is_byte byte (get_or bytes n 0) ≡ true → byte < 128
+    → IsCharBoundary text (start + n + 1)
+cut_behind_first bytes text start k n byte same utf8 inside here ascii =
+    let few : n < k = omega (arith, inside, ap length same, length-take k (drop start text)) in
+    let at : get_or (drop start text) n 0 ≡ byte = sym (get_or-take k (drop start text) n 0 few) ∙ (ap (λ t. get_or t n 0) (sym same) ∙ eqb-true (get_or bytes n 0) byte here) in
+    cut_behind (drop start text) text start n refl utf8 (omega (arith, inside, ap length same, length-take k (drop start text))) (omega (arith, at, ascii))

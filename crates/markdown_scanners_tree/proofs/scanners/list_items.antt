@@ -1,0 +1,2 @@
+pub mod ListItemLemmas
+pub mod Rows

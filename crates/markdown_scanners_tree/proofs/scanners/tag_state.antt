@@ -1,0 +1,3 @@
+pub mod TagEnds
+pub mod TagReading
+pub mod TagWhole

@@ -1,0 +1,141 @@
+-- The states of the tag scanner agree with the grammar of tags.
+use Rattle.std.proofs.Common.{ℕ, List, [], ◌∷◌, ◌++◌, ◌≤◌, ◌≡◌, true, false, ◌==◌, refl, sym, ap, ◌∙◌, subst, append_assoc, inl, inr, ◌⊎◌, ◌↔◌, arith}
+use Rattle.std.proofs.lemmas.Bool.{cases_Bool, eqb-true}
+use Rattle.std.proofs.lemmas.Bool.Decides.{nat_tests}
+use Rattle.std.proofs.lemmas.List.{append-nil}
+use Rattle.markdown_scanners_tree.specs.Bytes.{is_line_ending}
+use Rattle.markdown_scanners_tree.specs.scanners.html_tag.HtmlTag.{IsOpenTag, IsClosingTag}
+use Rattle.markdown_scanners_tree.specs.scanners.tag_state.private.TagMachine.{next_state, state_after, is_tag_end, is_final}
+use Rattle.markdown_scanners_tree.specs.declared.scanners.tag_state.TagState.{TagState}
+use Rattle.markdown_scanners_tree.specs.declared.scanners.tag_state.TagState.TheVariants.{Start, Opened, Name, Spaced, AttributeName, AfterName, BeforeValue, Unquoted, Quoted, AfterValue, Slashed, Open, Closing, ClosingName, ClosingSpaced, ClosingReturned, ClosingEnded, Closed, Refused}
+use Rattle.markdown_scanners_tree.proofs.scanners.tag_state.TagReading.{Leads, leads_next}
+use Rattle.markdown_scanners_tree.proofs.scanners.tag_state.TagWhole.{open_whole, closing_whole, refused_stays}
+
+-- an open tag, or a closing tag with at most one line ending of the source
+abbrev pub IsTagOf : List ℕ → ℕ → Type 0
+IsTagOf bytes endings = IsOpenTag bytes ⊎ (IsClosingTag bytes × (endings ≤ 1))
+
+leads_run : (s : TagState) (pre xs : List ℕ) → Leads s pre → Leads (state_after s xs) (pre ++ xs)
+leads_run s pre [] l = subst (λ z. Leads s z) (sym (append-nil pre)) l
+leads_run s pre (x ∷ xs) l = subst (λ z. Leads (state_after (next_state s x) xs) z) (append_assoc pre (x ∷ []) xs) (leads_run (next_state s x) (pre ++ x ∷ []) xs (leads_next s x pre l))
+
+tag_at_end : (s : TagState) (bytes : List ℕ) (endings : ℕ) → Leads s bytes → is_tag_end s endings ≡ true → IsTagOf bytes endings
+tag_at_end Open bytes endings l e = inl l
+tag_at_end Closed bytes endings l e = inr (l, grind (arith, nat_tests))
+tag_at_end Refused bytes endings l e = cc
+tag_at_end Start bytes endings l e = cc
+tag_at_end Opened bytes endings l e = cc
+tag_at_end Name bytes endings l e = cc
+tag_at_end Spaced bytes endings l e = cc
+tag_at_end AttributeName bytes endings l e = cc
+tag_at_end AfterName bytes endings l e = cc
+tag_at_end BeforeValue bytes endings l e = cc
+tag_at_end Unquoted bytes endings l e = cc
+tag_at_end (Quoted q) bytes endings l e = cc
+tag_at_end AfterValue bytes endings l e = cc
+tag_at_end Slashed bytes endings l e = cc
+tag_at_end Closing bytes endings l e = cc
+tag_at_end ClosingName bytes endings l e = cc
+tag_at_end ClosingSpaced bytes endings l e = cc
+tag_at_end ClosingReturned bytes endings l e = cc
+tag_at_end ClosingEnded bytes endings l e = cc
+
+end_of_tag : (bytes : List ℕ) (endings : ℕ) → IsTagOf bytes endings → is_tag_end (state_after Start bytes) endings ≡ true
+end_of_tag bytes endings (inl o) = ap (λ s. is_tag_end s endings) (open_whole bytes o)
+end_of_tag bytes endings (inr (c, few)) = ap (λ s. is_tag_end s endings) (closing_whole bytes c) ∙ grind (arith, nat_tests)
+
+-- bytes are a tag exactly where the scanner comes to its end with them
+pub tag_exactly : (bytes : List ℕ) (endings : ℕ) → IsTagOf bytes endings ↔ (is_tag_end (state_after Start bytes) endings ≡ true)
+tag_exactly bytes endings = (end_of_tag bytes endings, tag_at_end (state_after Start bytes) bytes endings (leads_run Start [] bytes refl))
+
+-- a tag's end is final, and so no tag goes on after it
+pub end_is_final : (s : TagState) (endings : ℕ) → is_tag_end s endings ≡ true → is_final s ≡ true
+end_is_final Open endings e = refl
+end_is_final Closed endings e = refl
+end_is_final Refused endings e = cc
+end_is_final Start endings e = cc
+end_is_final Opened endings e = cc
+end_is_final Name endings e = cc
+end_is_final Spaced endings e = cc
+end_is_final AttributeName endings e = cc
+end_is_final AfterName endings e = cc
+end_is_final BeforeValue endings e = cc
+end_is_final Unquoted endings e = cc
+end_is_final (Quoted q) endings e = cc
+end_is_final AfterValue endings e = cc
+end_is_final Slashed endings e = cc
+end_is_final Closing endings e = cc
+end_is_final ClosingName endings e = cc
+end_is_final ClosingSpaced endings e = cc
+end_is_final ClosingReturned endings e = cc
+end_is_final ClosingEnded endings e = cc
+
+pub final_goes_nowhere : (s : TagState) (x : ℕ) (xs : List ℕ) (endings : ℕ) → is_final s ≡ true → is_tag_end (state_after s (x ∷ xs)) endings ≡ false
+final_goes_nowhere Open x xs endings e = ap (λ z. is_tag_end z endings) (refused_stays xs)
+final_goes_nowhere Closed x xs endings e = ap (λ z. is_tag_end z endings) (refused_stays xs)
+final_goes_nowhere Refused x xs endings e = ap (λ z. is_tag_end z endings) (refused_stays xs)
+final_goes_nowhere Start x xs endings e = cc
+final_goes_nowhere Opened x xs endings e = cc
+final_goes_nowhere Name x xs endings e = cc
+final_goes_nowhere Spaced x xs endings e = cc
+final_goes_nowhere AttributeName x xs endings e = cc
+final_goes_nowhere AfterName x xs endings e = cc
+final_goes_nowhere BeforeValue x xs endings e = cc
+final_goes_nowhere Unquoted x xs endings e = cc
+final_goes_nowhere (Quoted q) x xs endings e = cc
+final_goes_nowhere AfterValue x xs endings e = cc
+final_goes_nowhere Slashed x xs endings e = cc
+final_goes_nowhere Closing x xs endings e = cc
+final_goes_nowhere ClosingName x xs endings e = cc
+final_goes_nowhere ClosingSpaced x xs endings e = cc
+final_goes_nowhere ClosingReturned x xs endings e = cc
+final_goes_nowhere ClosingEnded x xs endings e = cc
+
+-- no tag ends in LF or CR
+line_feed_ends_none : (s : TagState) (endings : ℕ) → is_tag_end (next_state s 10) endings ≡ false
+line_feed_ends_none Start endings = refl
+line_feed_ends_none Opened endings = refl
+line_feed_ends_none Name endings = refl
+line_feed_ends_none Spaced endings = refl
+line_feed_ends_none AttributeName endings = refl
+line_feed_ends_none AfterName endings = refl
+line_feed_ends_none BeforeValue endings = refl
+line_feed_ends_none Unquoted endings = refl
+line_feed_ends_none (Quoted q) endings = elim (cases_Bool (10 == q)) [ inl e ↦ rw e refl | inr e ↦ rw e refl ]
+line_feed_ends_none AfterValue endings = refl
+line_feed_ends_none Slashed endings = refl
+line_feed_ends_none Closing endings = refl
+line_feed_ends_none ClosingName endings = refl
+line_feed_ends_none ClosingSpaced endings = refl
+line_feed_ends_none ClosingReturned endings = refl
+line_feed_ends_none ClosingEnded endings = refl
+line_feed_ends_none Open endings = refl
+line_feed_ends_none Closed endings = refl
+line_feed_ends_none Refused endings = refl
+
+return_ends_none : (s : TagState) (endings : ℕ) → is_tag_end (next_state s 13) endings ≡ false
+return_ends_none Start endings = refl
+return_ends_none Opened endings = refl
+return_ends_none Name endings = refl
+return_ends_none Spaced endings = refl
+return_ends_none AttributeName endings = refl
+return_ends_none AfterName endings = refl
+return_ends_none BeforeValue endings = refl
+return_ends_none Unquoted endings = refl
+return_ends_none (Quoted q) endings = elim (cases_Bool (13 == q)) [ inl e ↦ rw e refl | inr e ↦ rw e refl ]
+return_ends_none AfterValue endings = refl
+return_ends_none Slashed endings = refl
+return_ends_none Closing endings = refl
+return_ends_none ClosingName endings = refl
+return_ends_none ClosingSpaced endings = refl
+return_ends_none ClosingReturned endings = refl
+return_ends_none ClosingEnded endings = refl
+return_ends_none Open endings = refl
+return_ends_none Closed endings = refl
+return_ends_none Refused endings = refl
+
+pub line_ending_ends_none : (s : TagState) (b endings : ℕ) → is_line_ending b ≡ true → is_tag_end (next_state s b) endings ≡ false
+line_ending_ends_none s b endings e = elim (cases_Bool (b == 10)) [
+  | inl lf ↦ ap (λ z. is_tag_end (next_state s z) endings) (eqb-true b 10 lf) ∙ line_feed_ends_none s endings
+  | inr no_lf ↦ ap (λ z. is_tag_end (next_state s z) endings) (eqb-true b 13 (rw no_lf at e)) ∙ return_ends_none s endings
+]

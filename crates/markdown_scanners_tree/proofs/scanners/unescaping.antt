@@ -1,0 +1,2 @@
+pub mod FirstPieceLemmas
+pub mod PieceLemmas

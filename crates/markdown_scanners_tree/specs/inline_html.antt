@@ -1,0 +1,4 @@
+pub mod CountedText
+pub mod Guard
+pub mod InlineHtml
+pub mod run

@@ -1,0 +1,4 @@
+pub mod Outcome
+pub mod PlainStep
+pub mod State
+pub mod run

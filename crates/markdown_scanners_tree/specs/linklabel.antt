@@ -1,0 +1,4 @@
+pub mod Answer
+pub mod Key
+pub mod Label
+pub mod private

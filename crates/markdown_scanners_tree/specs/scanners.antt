@@ -1,0 +1,17 @@
+pub mod Breaks
+pub mod Classes
+pub mod Escapes
+pub mod Fences
+pub mod Headings
+pub mod HtmlBlock
+pub mod Indent
+pub mod Lines
+pub mod Metadata
+pub mod Runs
+pub mod Tables
+pub mod entities
+pub mod html_tag
+pub mod links
+pub mod list_items
+pub mod tag_state
+pub mod unescaping

@@ -1,0 +1,2 @@
+pub mod CharacterReference
+pub mod private

@@ -1,0 +1,2 @@
+pub mod HtmlTag
+pub mod KeptTag

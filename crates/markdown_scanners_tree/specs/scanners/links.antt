@@ -1,0 +1,2 @@
+pub mod Autolink
+pub mod LinkDestination

@@ -1,0 +1,67 @@
+-- What a tag scanner keeps of the bytes that it has read: what they end in. (CommonMark 0.31.2, section 6.6, raw HTML)
+use Rattle.std.specs.Prelude.{ℕ, Bool, true, false, ◌||◌, ◌&&◌, ◌==◌, not, nat_le, List, [], ◌∷◌, if◌then◌else◌}
+use Rattle.markdown_scanners_tree.specs.Bytes.{begins_with, is_letter, is_unquoted, is_white_space, is_white_space_in_line}
+use Rattle.markdown_scanners_tree.specs.scanners.html_tag.HtmlTag.{is_tag_name_byte, is_attribute_start, is_attribute_byte}
+use Rattle.markdown_scanners_tree.specs.declared.scanners.tag_state.TagState.{TagState}
+use Rattle.markdown_scanners_tree.specs.declared.scanners.tag_state.TagState.TheVariants.{Start, Opened, Name, Spaced, AttributeName, AfterName, BeforeValue, Unquoted, Quoted, AfterValue, Slashed, Open, Closing, ClosingName, ClosingSpaced, ClosingReturned, ClosingEnded, Closed, Refused}
+
+-- after a name or a value, where the byte belongs to neither
+abbrev pub after_part : ℕ → TagState
+after_part b = if is_white_space b then Spaced else if b == 47 then Slashed else if b == 62 then Open else Refused
+
+-- after an attribute name, where the byte begins and continues none
+abbrev pub after_attribute_name : ℕ → TagState
+after_attribute_name b = if is_white_space b then AfterName else if b == 61 then BeforeValue else after_part b
+
+-- where a value must begin
+abbrev pub before_value : ℕ → TagState
+before_value b = if is_white_space b then BeforeValue else if is_unquoted b then Unquoted else if b == 39 then Quoted 39 else if b == 34 then Quoted 34 else Refused
+
+-- after the name of a closing tag, where the byte does not belong to it
+abbrev pub after_closing_name : ℕ → TagState
+after_closing_name b = if is_white_space_in_line b then ClosingSpaced else if b == 13 then ClosingReturned else if b == 10 then ClosingEnded else if b == 62 then Closed else Refused
+
+-- after one more byte
+abbrev pub next_state : TagState → ℕ → TagState
+next_state Start b = if b == 60 then Opened else Refused
+next_state Opened b = if is_letter b then Name else if b == 47 then Closing else Refused
+next_state Name b = if is_tag_name_byte b then Name else after_part b
+next_state Spaced b = if is_attribute_start b then AttributeName else after_part b
+next_state AttributeName b = if is_attribute_byte b then AttributeName else after_attribute_name b
+next_state AfterName b = if is_attribute_start b then AttributeName else after_attribute_name b
+next_state BeforeValue b = before_value b
+next_state Unquoted b = if is_unquoted b then Unquoted else after_part b
+next_state (Quoted quote) b = if b == quote then AfterValue else Quoted quote
+next_state AfterValue b = after_part b
+next_state Slashed b = if b == 62 then Open else Refused
+next_state Closing b = if is_letter b then ClosingName else Refused
+next_state ClosingName b = if is_tag_name_byte b then ClosingName else after_closing_name b
+next_state ClosingSpaced b = after_closing_name b
+next_state ClosingReturned b = if is_white_space_in_line b || b == 10 then ClosingEnded else if b == 62 then Closed else Refused
+next_state ClosingEnded b = if is_white_space_in_line b then ClosingEnded else if b == 62 then Closed else Refused
+next_state Open b = Refused
+next_state Closed b = Refused
+next_state Refused b = Refused
+
+-- after these bytes
+abbrev pub state_after : TagState → List ℕ → TagState
+state_after state [] = state
+state_after state (b ∷ bs) = state_after (next_state state b) bs
+
+-- A tag is whole: an open tag, or a closing tag with at most one line ending of the source.
+abbrev pub is_tag_end : TagState → ℕ → Bool
+is_tag_end Open endings = true
+is_tag_end Closed endings = nat_le endings 1
+is_tag_end _ endings = false
+
+-- No byte leads further from here.
+abbrev pub is_final : TagState → Bool
+is_final Open = true
+is_final Closed = true
+is_final Refused = true
+is_final _ = false
+
+-- A line of the source ends with the first of the bytes: it is LF, or a CR that no LF follows.
+abbrev pub ends_source_line : List ℕ → Bool
+ends_source_line [] = false
+ends_source_line (b ∷ bs) = b == 10 || (b == 13 && not (begins_with (λ c. c == 10) bs))

@@ -1,0 +1,2 @@
+pub mod Unescaping
+pub mod private

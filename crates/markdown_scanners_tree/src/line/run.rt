@@ -1,0 +1,136 @@
+//! Runs of calls on the start of a line.
+ghost use Rattle.std.specs.Prelude.{◌≡◌, ◌==◌, IfOk};
+ghost use Rattle.markdown_scanners_tree.specs.line.PlainStep.{IsPlainStep};
+ghost use Rattle.markdown_scanners_tree.specs.line.State.{rest_of};
+ghost use Rattle.markdown_scanners_tree.specs.line.run.PlainRun.{plain_run, stop_at, rest_after, scanned_after, refusal};
+
+use crate::line::LineStart;
+use std::alloc::{AllocError, Global};
+
+// The columns of a marker can be added to it.
+const LARGEST_INDENT: usize = usize::MAX - 16;
+
+/// One call of a run.
+#[derive(Debug, PartialEq, Drop)]
+pub enum LineCall {
+    /// `scan_space`
+    Space(usize),
+    /// `scan_space_upto`
+    Upto(usize),
+    /// `is_at_eol`
+    Eol,
+    /// `scan_blockquote_marker`
+    Quote,
+    /// `scan_list_marker_with_indent`
+    List(usize),
+    /// `scan_definition_list_definition_marker_with_indent`
+    Definition(usize),
+}
+
+/// What a call answers.
+#[derive(Debug, PartialEq, Drop)]
+pub enum LineAnswer {
+    Flag(bool),
+    Count(usize),
+    List(Option<(u8, u64, usize)>),
+    Definition(Option<usize>),
+}
+
+/// Why a call is refused.
+#[derive(Debug, PartialEq, Drop)]
+pub enum LineStop {
+    /// Columns of a tab are pending, and the call is not one that takes space.
+    SpacePending,
+    /// The indent is above `usize::MAX - 16`, so that the columns of a marker might not be added.
+    IndentTooLarge,
+}
+
+/// What a list of calls on a line gives.
+#[derive(Debug, PartialEq, Drop)]
+pub struct LineRun {
+    /// One for each call that was made, in order.
+    pub answers: Vec<LineAnswer>,
+    /// What is left of the line: the pending columns as spaces, then the bytes not scanned, tabs before the line ending written out.
+    pub rest: Vec<u8>,
+    /// How many bytes of the line have been passed.
+    pub scanned: usize,
+    /// The index of the call that was refused, and why, if one was.
+    pub stop: Option<(usize, LineStop)>,
+}
+
+/// Makes the calls in order on a fresh `LineStart` of the line, up to the first that is refused.
+///
+/// Columns count as if the tabs of the line were spaces, up to the next multiple of four.
+/// (CommonMark 0.31.2, section 2.2)
+pub fn run_line(alloc: Global, bytes: &[u8], calls: &[LineCall]) -> Result<LineRun, AllocError>
+    ensures answers { IfOk result (λ run. run.answers.items ≡ (plain_run bytes.now calls.now).answers) }
+    ensures stop { IfOk result (λ run. run.stop ≡ stop_at (plain_run bytes.now calls.now)) }
+    ensures rest { IfOk result (λ run. run.rest.items ≡ rest_after bytes.now (plain_run bytes.now calls.now)) }
+    ensures scanned { IfOk result (λ run. run.scanned ≡ scanned_after bytes.now (plain_run bytes.now calls.now)) }
+{
+    let mut start = LineStart::new(bytes);
+    let mut answers = Vec::new(alloc);
+    for (index, call) in calls.iter().enumerate() {
+        if let Some(reason) = refused(&start, call) {
+            return finished(alloc, &start, answers, Some((index, reason)));
+        }
+        let answer = make_call(&mut start, call);
+        answers.push(answer)?;
+    }
+    finished(alloc, &start, answers, None)
+}
+
+// Why the call is refused, if it is.
+fn refused(start: &LineStart, call: &LineCall) -> Option<LineStop>
+    ensures { result ≡ refusal (start.now.pending == 0) call.now }
+{
+    let takes_space = matches!(call, LineCall::Space(_) | LineCall::Upto(_));
+    if !takes_space && start.remaining_space() > 0 {
+        return Some(LineStop::SpacePending);
+    }
+    match call {
+        LineCall::List(indent) | LineCall::Definition(indent) if *indent > LARGEST_INDENT => Some(
+            LineStop::IndentTooLarge,
+        ),
+        _ => None,
+    }
+}
+
+// Makes one call that is not refused.
+fn make_call(start: &mut LineStart, call: &LineCall) -> LineAnswer
+    requires { refusal (start.old.pending == 0) call.now ≡ None }
+    ensures { IsPlainStep call.now result start.old start.new }
+{
+    match call {
+        LineCall::Space(n) => LineAnswer::Flag(start.scan_space(*n)),
+        LineCall::Upto(n) => LineAnswer::Count(start.scan_space_upto(*n)),
+        LineCall::Eol => LineAnswer::Flag(start.is_at_eol()),
+        LineCall::Quote => LineAnswer::Flag(start.scan_blockquote_marker()),
+        LineCall::List(indent) => LineAnswer::List(start.scan_list_marker_with_indent(*indent)),
+        LineCall::Definition(indent) => LineAnswer::Definition(
+            start.scan_definition_list_definition_marker_with_indent(*indent),
+        ),
+    }
+}
+
+// The run that ends at this place.
+fn finished(
+    alloc: Global,
+    start: &LineStart,
+    answers: Vec<LineAnswer>,
+    stop: Option<(usize, LineStop)>,
+) -> Result<LineRun, AllocError>
+    ensures answers { IfOk result (λ run. run.answers.items ≡ answers.items) }
+    ensures stop { IfOk result (λ run. run.stop ≡ stop) }
+    ensures rest { IfOk result (λ run. run.rest.items ≡ rest_of start.now) }
+    ensures scanned { IfOk result (λ run. run.scanned ≡ start.now.place) }
+{
+    let rest = start.written_rest(alloc)?;
+    let scanned = start.bytes_scanned();
+    Ok(LineRun {
+        answers,
+        rest,
+        scanned,
+        stop,
+    })
+}

@@ -1,0 +1,7 @@
+pub mod ChainLemmas
+pub mod CloneLemmas
+pub mod ForestLemmas
+pub mod RemovalLemmas
+pub mod Rows
+pub mod TreeLemmas
+pub mod TruncateLemmas

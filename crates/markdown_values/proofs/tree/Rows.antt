@@ -1,0 +1,100 @@
+-- Worked cases of the effects and of the forest, by computing.
+use Rattle.std.proofs.Common.{◌≡◌, ℕ, [], ◌∷◌, Option, Some, None, refl, Bool, true, false}
+use Rattle.markdown_values.specs.declared.tree.Node.{Node}
+use Rattle.markdown_values.specs.tree.Linked.{Linked}
+use Rattle.markdown_values.specs.tree.Tree.{empty_tree, appended, pushed, popped, removed, reset_of, truncated_to_parent, with_node}
+use Rattle.markdown_values.specs.tree.Forest as forest
+use Rattle.markdown_values.specs.tree.Forest.{Forest, no_tree, tree, Focused}
+use Rattle.markdown_values.specs.tree.Truncate.{Span, truncated, truncated_focus}
+
+-- items are numbers: the dummy 0, and A to D as 65 to 68
+node : Option ℕ → Option ℕ → ℕ → Node ℕ
+node child next item = record { child = child; next = next; item = item }
+
+-- append A, push, append B, append C, pop, push, append D
+abbrev pushed_twice : Linked ℕ
+pushed_twice = appended (pushed (popped (appended (appended (pushed (appended (empty_tree 0) 65) 1) 66) 67)) 1) 68
+
+pushed_twice_nodes : pushed_twice.nodes ≡ node None None 0 ∷ node (Some 2) None 65 ∷ node None (Some 4) 66 ∷ node None None 67 ∷ node None None 68 ∷ []
+unfolding node
+pushed_twice_nodes = refl
+
+pushed_twice_spine : pushed_twice.spine ≡ 1 ∷ []
+pushed_twice_spine = refl
+
+pushed_twice_focus : pushed_twice.focus ≡ Some 4
+pushed_twice_focus = refl
+
+abbrev pushed_twice_forest : Focused
+pushed_twice_forest = forest.appended (forest.pushed (forest.popped (forest.appended (forest.appended (forest.pushed (forest.appended forest.empty_forest 1) 1) 2) 3)) 1) 4
+
+-- A has children B, D
+pushed_twice_forest_is : pushed_twice_forest ≡ record { forest = tree 1 (tree 2 no_tree (tree 4 no_tree no_tree)) no_tree; path = 1 ∷ []; focus = Some 4 }
+pushed_twice_forest_is = refl
+
+-- append A, push, append B, remove_node
+pushed_twice_removed : removed (appended (pushed (appended (empty_tree 0) 65) 1) 66) ≡ record { nodes = node None None 0 ∷ node None None 65 ∷ []; spine = []; focus = Some 1 }
+unfolding node
+pushed_twice_removed = refl
+
+-- append A, push, append B, push, append C, append D, pop, truncate_to_parent(C)
+abbrev inside_b : Linked ℕ
+inside_b = appended (appended (pushed (appended (pushed (appended (empty_tree 0) 65) 1) 66) 2) 67) 68
+
+truncated_row : truncated_to_parent (popped inside_b) 3 ≡ record { nodes = node None None 0 ∷ node (Some 2) None 65 ∷ node (Some 3) (Some 4) 66 ∷ node None None 67 ∷ node None None 68 ∷ []; spine = 1 ∷ []; focus = Some 4 }
+unfolding node
+truncated_row = refl
+
+inside_b_spine : inside_b.spine ≡ 1 ∷ 2 ∷ []
+inside_b_spine = refl
+
+reset_empty : (reset_of {T = ℕ} (empty_tree 0)).focus ≡ None
+reset_empty = refl
+
+-- create_node A, append B, reset
+reset_isolated : reset_of (appended (with_node (empty_tree 0) 65) 66) ≡ record { nodes = node None None 0 ∷ node None None 65 ∷ node None None 66 ∷ []; spine = []; focus = Some 1 }
+unfolding node
+reset_isolated = refl
+
+span : ℕ → ℕ → Bool → Span
+span start end escaped = record { start = start; end = end; escaped = escaped }
+
+cut_inside : truncated 4 ((1, span 0 3 false) ∷ (2, span 3 5 false) ∷ (3, span 5 9 false) ∷ []) ≡ (1, span 0 3 false) ∷ (2, span 3 4 false) ∷ []
+unfolding span
+cut_inside = refl
+
+cut_inside_focus : truncated_focus 4 None None ((1, span 0 3 false) ∷ (2, span 3 5 false) ∷ (3, span 5 9 false) ∷ []) ≡ Some 2
+unfolding span
+cut_inside_focus = refl
+
+cut_dropped : truncated 4 ((1, span 0 2 false) ∷ (2, span 4 6 false) ∷ []) ≡ (1, span 0 2 false) ∷ []
+unfolding span
+cut_dropped = refl
+
+cut_dropped_focus : truncated_focus 4 None None ((1, span 0 2 false) ∷ (2, span 4 6 false) ∷ []) ≡ Some 1
+unfolding span
+cut_dropped_focus = refl
+
+cut_backslash : truncated 4 ((1, span 0 2 false) ∷ (2, span 4 6 true) ∷ (3, span 6 8 false) ∷ []) ≡ (1, span 0 2 false) ∷ (2, span 3 4 true) ∷ (3, span 6 8 false) ∷ []
+unfolding span
+cut_backslash = refl
+
+cut_backslash_focus : truncated_focus 4 None None ((1, span 0 2 false) ∷ (2, span 4 6 true) ∷ (3, span 6 8 false) ∷ []) ≡ Some 2
+unfolding span
+cut_backslash_focus = refl
+
+cut_alone : truncated 4 ((1, span 4 6 false) ∷ []) ≡ []
+unfolding span
+cut_alone = refl
+
+cut_alone_focus : truncated_focus 4 (Some 7) None ((1, span 4 6 false) ∷ []) ≡ None
+unfolding span
+cut_alone_focus = refl
+
+cut_nothing : truncated 5 ((1, span 0 1 false) ∷ []) ≡ (1, span 0 1 false) ∷ []
+unfolding span
+cut_nothing = refl
+
+cut_nothing_focus : truncated_focus 5 (Some 7) None ((1, span 0 1 false) ∷ []) ≡ Some 7
+unfolding span
+cut_nothing_focus = refl

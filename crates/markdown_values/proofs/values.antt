@@ -1,0 +1,2 @@
+pub mod ExtensionLemmas
+pub mod SameTexts

@@ -1,0 +1,5 @@
+pub mod Forest
+pub mod Lends
+pub mod Linked
+pub mod Tree
+pub mod Truncate

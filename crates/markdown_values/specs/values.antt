@@ -1,0 +1,5 @@
+pub mod Events
+pub mod Extensions
+pub mod Headings
+pub mod Links
+pub mod Tags
