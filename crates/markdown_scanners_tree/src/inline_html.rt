@@ -17,9 +17,13 @@ pub use run::{HtmlRun, InlineHtmlRun, run_inline_html};
 /// closer, that is the length of the text. One guard serves one text, at places that rise.
 #[derive(Drop)]
 pub struct HtmlScanGuard {
+    /// Of comments.
     pub comment: usize,
+    /// Of CDATA sections.
     pub cdata: usize,
+    /// Of declarations.
     pub declaration: usize,
+    /// Of processing instructions.
     pub processing: usize,
 }
 

@@ -213,6 +213,8 @@ impl<'a> LineStart<'a> {
     /// One column of space, or a line ending, has to follow the marker. Of further space fewer
     /// than four columns are taken, unless the rest of the line is blank.
     /// (CommonMark 0.31.2, section 5.2)
+    ///
+    /// `indent` is at most `usize::MAX - 16`, so that the columns of the marker can be added.
     pub fn scan_list_marker_with_indent(&mut self, indent: usize) -> Option<(u8, u64, usize)>
         requires { indent ≤ usize.MAX - 16 }
         ensures answer { result ≡ (item_outcome indent self.old).answer }
@@ -234,7 +236,8 @@ impl<'a> LineStart<'a> {
     /// Passes a definition's marker, `:` and the space that belongs to it, at an indent in columns.
     /// Answers the indent of the definition's content.
     ///
-    /// Up to four columns of space are taken, and one alone where there are more.
+    /// Up to four columns of space are taken, and one alone where there are more. `indent` is at most
+    /// `usize::MAX - 16`, so that the columns of the marker can be added.
     pub fn scan_definition_list_definition_marker_with_indent(
         &mut self,
         indent: usize,

@@ -53,7 +53,11 @@ impl<'a> Model for LinkLabel<'a> {
 }
 
 impl<'a> LinkLabel<'a> {
-    /// The label with this text. The error says that memory for the folding was refused; the text is dropped then.
+    /// The label with this text.
+    ///
+    /// # Errors
+    ///
+    /// `AllocError` where memory for the folding is refused; the text is dropped then.
     pub fn new(alloc: Global, text: CowStr<'a>) -> Result<LinkLabel<'a>, AllocError>
         ensures { IfOk result (λ label. label ≡ cow_text text.entry) }
     {
@@ -107,7 +111,12 @@ pub type FootnoteLabel<'a> = LinkLabel<'a>;
 /// containers of the text and are no part of the label, or None where the text ends there. In a table a pipe drops the
 /// one backslash before it, as cells are read (GitHub Flavored Markdown 0.29, section 4.10).
 ///
-/// The error says that memory for a label was refused that does not stand in the text as it is.
+/// `handler` has one answer for one rest, and what it skips ends in the rest, between two of its characters. It may
+/// be asked twice for one rest.
+///
+/// # Errors
+///
+/// `AllocError` where memory is refused for a label that does not stand in the text as it is.
 pub fn scan_link_label_rest<'t, F: Fn(&[u8]) -> Option<usize>>(
     alloc: Global,
     text: &'t str,

@@ -110,6 +110,10 @@ impl<T: Drop> Tree<T> {
     ghost use Rattle.markdown_values.specs.tree.Forest.{Focused, StandsFor};
 
     /// A tree of the dummy alone. Room for `cap` nodes is asked for at once.
+    ///
+    /// # Errors
+    ///
+    /// `AllocError` where that room is refused.
     pub fn with_capacity(alloc: Global, cap: usize) -> Result<Tree<T>, AllocError>
     where
         T: Default,
@@ -140,6 +144,10 @@ impl<T: Drop> Tree<T> {
     }
 
     /// Makes a node that no link leads to.
+    ///
+    /// # Errors
+    ///
+    /// `AllocError` where memory for the node is refused: the item is dropped, and the tree is as it was.
     pub fn create_node(&mut self, item: T) -> Result<TreeIndex, AllocError>
         ensures index { IfOk result (λ ix. ix ≡ length self.old.nodes) }
         ensures within { IfOk result (λ ix. ix < length self.new.nodes) }
@@ -158,6 +166,10 @@ impl<T: Drop> Tree<T> {
 
     /// Links a new node after the focus, or with no focus as the only child of the parent, and moves the focus to it.
     /// What followed there is cut off. With neither focus nor parent nothing is linked.
+    ///
+    /// # Errors
+    ///
+    /// `AllocError` where memory for the node is refused: the item is dropped, and the tree is as it was.
     pub fn append(&mut self, item: T) -> Result<TreeIndex, AllocError>
         ensures index { IfOk result (λ ix. ix ≡ length self.old.nodes) }
         ensures within { IfOk result (λ ix. ix < length self.new.nodes) }
@@ -197,7 +209,11 @@ impl<T: Drop> Tree<T> {
     }
 
     /// Puts the focus on the spine, and moves the focus to its first child, or to none.
-    /// It answers the node that it put on the spine.
+    /// It answers the node that it put on the spine. There has to be a focus.
+    ///
+    /// # Errors
+    ///
+    /// `AllocError` where memory for the spine is refused: the tree is as it was.
     pub fn push(&mut self) -> Result<TreeIndex, AllocError>
         requires { IsSome self.old.focus }
         ensures index { IfOk result (λ ix. self.old.focus ≡ Some ix) }

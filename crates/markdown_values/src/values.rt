@@ -43,6 +43,10 @@ impl<'a> CodeBlockKind<'a> {
     }
 
     /// The same kind again, with its text as `CowStr::clone` gives it.
+    ///
+    /// # Errors
+    ///
+    /// `AllocError` where memory for the text is refused.
     pub fn clone(&self, alloc: Global) -> Result<CodeBlockKind<'a>, AllocError>
         ensures same { IfOk result (λ kind. info_view cow_text kind ≡ info_view cow_text self.now) }
         ensures holding { IfOk result (λ kind.
@@ -57,6 +61,10 @@ impl<'a> CodeBlockKind<'a> {
     }
 
     /// The same kind with nothing lent, its text as `CowStr::into_static` gives it.
+    ///
+    /// # Errors
+    ///
+    /// `AllocError` where memory for the text is refused; the kind is dropped then.
     pub fn into_static(self, alloc: Global) -> Result<CodeBlockKind<'static>, AllocError>
         ensures same { IfOk result (λ kind.
             info_view cow_text kind ≡ info_view cow_text self.entry) }
@@ -72,33 +80,44 @@ impl<'a> CodeBlockKind<'a> {
     }
 }
 
-/// The kind of a block quote that begins with a tag, as `[!NOTE]`.
+/// The kind of an alert: a block quote that begins with a tag, as `[!NOTE]`, in any case. Wants `ENABLE_GFM`.
 #[derive(Clone, Copy, Debug, PartialEq, Eq, PartialOrd, Ord, Hash)]
 pub enum BlockQuoteKind {
+    /// `[!NOTE]`
     Note,
+    /// `[!TIP]`
     Tip,
+    /// `[!IMPORTANT]`
     Important,
+    /// `[!WARNING]`
     Warning,
+    /// `[!CAUTION]`
     Caution,
 }
 
 /// The kind of a metadata block, by the lines that enclose it.
 #[derive(Clone, Copy, Debug, PartialEq, Eq, PartialOrd, Ord, Hash)]
 pub enum MetadataBlockKind {
-    /// Three hyphens.
+    /// Three hyphens. Wants `ENABLE_YAML_STYLE_METADATA_BLOCKS`.
     YamlStyle,
-    /// Three plus signs.
+    /// Three plus signs. Wants `ENABLE_PLUSES_DELIMITED_METADATA_BLOCKS`.
     PlusesStyle,
 }
 
 /// The level of a heading. (CommonMark 0.31.2, sections 4.2 and 4.3)
 #[derive(Clone, Copy, Debug, PartialEq, Eq, PartialOrd, Ord, Hash)]
 pub enum HeadingLevel {
+    /// The highest: one `#`, or an underline of `=`.
     H1 = 1,
+    /// Two `#`, or an underline of `-`.
     H2,
+    /// Three `#`.
     H3,
+    /// Four `#`.
     H4,
+    /// Five `#`.
     H5,
+    /// The lowest: six `#`.
     H6,
 }
 
@@ -148,8 +167,11 @@ pub struct InvalidHeadingLevel(pub usize);
 pub enum Alignment {
     /// The delimiter row gives none.
     None,
+    /// A colon at the left of the delimiter cell.
     Left,
+    /// A colon at each side.
     Center,
+    /// A colon at the right.
     Right,
 }
 
@@ -174,8 +196,11 @@ pub enum LinkType {
     Autolink,
     /// `<name@host>`
     Email,
-    /// `[[page]]`, or `[[page|text]]` with a pothole.
-    WikiLink { has_pothole: bool },
+    /// `[[page]]`. Wants `ENABLE_WIKILINKS`.
+    WikiLink {
+        /// Whether a text stands behind a pipe, as in `[[page|text]]`.
+        has_pothole: bool,
+    },
 }
 
 impl LinkType {
@@ -194,54 +219,81 @@ impl LinkType {
     }
 }
 
-/// What opens a part of a document. Each has the end that `to_end` gives.
+/// What opens a part of a document. Each has the end that `to_end` gives. (Sections are of CommonMark 0.31.2.)
 #[derive(Debug, PartialEq, Drop)]
 pub enum Tag<'a> {
+    /// A paragraph. (4.8)
     Paragraph,
-    /// A heading, with what stands in braces after it: an identifier, classes, and attributes with or
-    /// without a value.
+    /// A heading. (4.2, 4.3) What stands in braces after it wants `ENABLE_HEADING_ATTRIBUTES`.
     Heading {
+        /// Its level.
         level: HeadingLevel,
+        /// The identifier, without its `#`.
         id: Option<CowStr<'a>>,
+        /// The classes, each without its dot.
         classes: Vec<CowStr<'a>>,
+        /// The other attributes, with or without a value.
         attrs: Vec<(CowStr<'a>, Option<CowStr<'a>>)>,
     },
-    /// A block quote, with its kind where it begins with a tag.
+    /// A block quote, with its kind where it is an alert. (5.1)
     BlockQuote(Option<BlockQuoteKind>),
+    /// A code block. (4.4, 4.5)
     CodeBlock(CodeBlockKind<'a>),
+    /// An HTML block. (4.6)
     HtmlBlock,
-    /// A list; the number of the first item where the list is ordered.
+    /// A list; the number of the first item where the list is ordered. (5.3)
     List(Option<u64>),
+    /// A list item. (5.2)
     Item,
-    /// A footnote, with its label.
+    /// A footnote, with its label. Wants `ENABLE_FOOTNOTES` or `ENABLE_OLD_FOOTNOTES`.
     FootnoteDefinition(CowStr<'a>),
+    /// A list of terms and definitions. Wants `ENABLE_DEFINITION_LIST`.
     DefinitionList,
+    /// A term.
     DefinitionListTitle,
+    /// A definition of the terms before it.
     DefinitionListDefinition,
-    /// A table, with the alignment of each column.
+    /// A table, with the alignment of each column. Wants `ENABLE_TABLES`.
     Table(Vec<Alignment>),
+    /// The first row of a table, which has its headings.
     TableHead,
+    /// Each later row.
     TableRow,
+    /// A cell of a row.
     TableCell,
+    /// Emphasis. (6.2)
     Emphasis,
+    /// Strong emphasis. (6.2)
     Strong,
+    /// Text struck through. Wants `ENABLE_STRIKETHROUGH`.
     Strikethrough,
+    /// Text set higher. Wants `ENABLE_SUPERSCRIPT`.
     Superscript,
+    /// Text set lower. Wants `ENABLE_SUBSCRIPT`.
     Subscript,
-    /// A link; `id` is the label of a reference.
+    /// A link. (6.3, 6.5)
     Link {
+        /// How it was written.
         link_type: LinkType,
+        /// The destination, its escapes and references resolved.
         dest_url: CowStr<'a>,
+        /// The title; empty where there is none.
         title: CowStr<'a>,
+        /// The label of a reference; empty for an inline link.
         id: CowStr<'a>,
     },
-    /// An image, written as a link is.
+    /// An image, written as a link is. (6.4)
     Image {
+        /// How it was written.
         link_type: LinkType,
+        /// The place of the image.
         dest_url: CowStr<'a>,
+        /// The title; empty where there is none.
         title: CowStr<'a>,
+        /// The label of a reference; empty for an inline image.
         id: CowStr<'a>,
     },
+    /// Metadata at the start of a document.
     MetadataBlock(MetadataBlockKind),
 }
 
@@ -278,6 +330,10 @@ impl<'a> Tag<'a> {
     }
 
     /// The same tag again, with each text as `CowStr::clone` gives it.
+    ///
+    /// # Errors
+    ///
+    /// `AllocError` where memory for a text or a list is refused.
     pub fn clone(&self, alloc: Global) -> Result<Tag<'a>, AllocError>
         ensures same { IfOk result (λ tag. tag_view cow_text tag ≡ tag_view cow_text self.now) }
         ensures holding { IfOk result (λ tag.
@@ -342,6 +398,10 @@ impl<'a> Tag<'a> {
     }
 
     /// The same tag with nothing lent, each text as `CowStr::into_static` gives it.
+    ///
+    /// # Errors
+    ///
+    /// `AllocError` where memory for a text or a list is refused; the tag is dropped then.
     pub fn into_static(self, alloc: Global) -> Result<Tag<'static>, AllocError>
         ensures same { IfOk result (λ tag. tag_view cow_text tag ≡ tag_view cow_text self.entry) }
         ensures holding { IfOk result (λ tag.
@@ -408,32 +468,54 @@ impl<'a> Tag<'a> {
     }
 }
 
-/// What closes a part of a document.
+/// What closes a part of a document: the end of the tag of the same name.
 #[derive(Clone, Copy, Debug, PartialEq, Eq, PartialOrd, Ord, Hash)]
 pub enum TagEnd {
+    /// Of a paragraph.
     Paragraph,
+    /// Of a heading, with its level.
     Heading(HeadingLevel),
+    /// Of a block quote, with its kind.
     BlockQuote(Option<BlockQuoteKind>),
+    /// Of a code block of either kind.
     CodeBlock,
+    /// Of an HTML block.
     HtmlBlock,
-    /// The end of a list: true where it is ordered.
+    /// Of a list: true where it is ordered.
     List(bool),
+    /// Of a list item.
     Item,
+    /// Of a footnote.
     FootnoteDefinition,
+    /// Of a list of terms and definitions.
     DefinitionList,
+    /// Of a term.
     DefinitionListTitle,
+    /// Of a definition.
     DefinitionListDefinition,
+    /// Of a table.
     Table,
+    /// Of the first row.
     TableHead,
+    /// Of a later row.
     TableRow,
+    /// Of a cell.
     TableCell,
+    /// Of emphasis.
     Emphasis,
+    /// Of strong emphasis.
     Strong,
+    /// Of text struck through.
     Strikethrough,
+    /// Of text set higher.
     Superscript,
+    /// Of text set lower.
     Subscript,
+    /// Of a link.
     Link,
+    /// Of an image.
     Image,
+    /// Of metadata, with its kind.
     MetadataBlock(MetadataBlockKind),
 }
 
@@ -445,34 +527,44 @@ impl<'a> From<Tag<'a>> for TagEnd {
     }
 }
 
-/// A part of a document. A document is read as a list of these.
+/// A part of a document. A document is read as a list of these, in which starts and ends balance: each `Start` has
+/// its `End` after it, that of `Tag::to_end`, and the events in between belong to that part.
 #[derive(Debug, PartialEq, Drop)]
 pub enum Event<'a> {
+    /// What comes next belongs to a part of this kind.
     Start(Tag<'a>),
+    /// The part that was started last, and not ended yet, ends.
     End(TagEnd),
+    /// Text, its escapes and references resolved.
     Text(CowStr<'a>),
     /// A code span. (CommonMark 0.31.2, section 6.1)
     Code(CowStr<'a>),
+    /// Mathematics in a line. Wants `ENABLE_MATH`.
     InlineMath(CowStr<'a>),
+    /// Mathematics on lines of its own. Wants `ENABLE_MATH`.
     DisplayMath(CowStr<'a>),
     /// A line of an HTML block. (CommonMark 0.31.2, section 4.6)
     Html(CowStr<'a>),
     /// HTML within a line. (CommonMark 0.31.2, section 6.6)
     InlineHtml(CowStr<'a>),
-    /// The label of a footnote, where it is called.
+    /// The label of a footnote, where it is called. Wants `ENABLE_FOOTNOTES` or `ENABLE_OLD_FOOTNOTES`.
     FootnoteReference(CowStr<'a>),
-    /// (CommonMark 0.31.2, section 6.8)
+    /// A line ending in a paragraph. (CommonMark 0.31.2, section 6.8)
     SoftBreak,
-    /// (CommonMark 0.31.2, section 6.7)
+    /// A line ending that is kept. (CommonMark 0.31.2, section 6.7)
     HardBreak,
     /// A thematic break. (CommonMark 0.31.2, section 4.1)
     Rule,
-    /// The box of a task: true where it is checked. (GFM, section 5.3)
+    /// The box of a task: true where it is checked. Wants `ENABLE_TASKLISTS`. (GFM, section 5.3)
     TaskListMarker(bool),
 }
 
 impl<'a> Event<'a> {
     /// The same event again, with each text as `CowStr::clone` gives it.
+    ///
+    /// # Errors
+    ///
+    /// `AllocError` where memory for a text or a list is refused.
     pub fn clone(&self, alloc: Global) -> Result<Event<'a>, AllocError>
         ensures same { IfOk result (λ event.
             event_view cow_text event ≡ event_view cow_text self.now) }
@@ -499,6 +591,10 @@ impl<'a> Event<'a> {
     }
 
     /// The same event with nothing lent, each text as `CowStr::into_static` gives it.
+    ///
+    /// # Errors
+    ///
+    /// `AllocError` where memory for a text or a list is refused; the event is dropped then.
     pub fn into_static(self, alloc: Global) -> Result<Event<'static>, AllocError>
         ensures same { IfOk result (λ event.
             event_view cow_text event ≡ event_view cow_text self.entry) }

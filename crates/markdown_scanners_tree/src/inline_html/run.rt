@@ -112,17 +112,23 @@ fn scan_after(
     }
 }
 
-/// The answers at the places before the first refused one, how many bytes those steps passed over, and the index of
-/// that place among the places, with the reason.
+/// What steps at a list of places find, up to the first place that is refused.
 #[derive(Debug, Drop, PartialEq)]
 pub struct HtmlRun {
+    /// What was found at each place before that one.
     pub answers: Vec<Option<usize>>,
+    /// How many bytes those steps passed over.
     pub passed: u128,
+    /// The index of the refused place among the places, and why it is refused; None where none is.
     pub stop: Option<(usize, HtmlStop)>,
 }
 
 /// Makes a step at each of the places in turn, and ends before the first one that is refused. It takes memory for the
 /// answers alone.
+///
+/// # Errors
+///
+/// `AllocError` where that memory is refused.
 pub fn run_inline_html(alloc: Global, bytes: &[u8], places: &[usize]) -> Result<HtmlRun, AllocError>
     ensures answers { IfOk result (λ run. run.answers.items ≡ run_answers (new_run bytes.now) places.now) }
     ensures passed { IfOk result (λ run. run.passed ≡ run_passed (new_run bytes.now) places.now) }

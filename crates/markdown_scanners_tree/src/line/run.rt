@@ -30,9 +30,13 @@ pub enum LineCall {
 /// What a call answers.
 #[derive(Debug, PartialEq, Drop)]
 pub enum LineAnswer {
+    /// Of `scan_space`, `is_at_eol` and `scan_blockquote_marker`.
     Flag(bool),
+    /// The columns that `scan_space_upto` took.
     Count(usize),
+    /// The bullet or delimiter, the start number and the indent of the content, in columns.
     List(Option<(u8, u64, usize)>),
+    /// The indent of the content, in columns.
     Definition(Option<usize>),
 }
 
@@ -62,6 +66,10 @@ pub struct LineRun {
 ///
 /// Columns count as if the tabs of the line were spaces, up to the next multiple of four.
 /// (CommonMark 0.31.2, section 2.2)
+///
+/// # Errors
+///
+/// `AllocError` where memory for the answers or the rest is refused.
 pub fn run_line(alloc: Global, bytes: &[u8], calls: &[LineCall]) -> Result<LineRun, AllocError>
     ensures answers { IfOk result (λ run. run.answers.items ≡ (plain_run bytes.now calls.now).answers) }
     ensures stop { IfOk result (λ run. run.stop ≡ stop_at (plain_run bytes.now calls.now)) }

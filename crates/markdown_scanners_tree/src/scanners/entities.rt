@@ -27,7 +27,7 @@ pub trait Entities {
 /// The character reference at the front: its length in bytes, with the byte before it and the
 /// semicolon, and its text; `(0, None)` where none stands there.
 ///
-/// The first byte, which is `&` in a text, is not looked at.
+/// The first byte, which is `&` in a text, has to be there, and is not looked at.
 ///
 /// (CommonMark 0.31.2, section 2.5.)
 pub fn scan_entity<E: Entities>(bytes: &[u8], entities: &E) -> (usize, Option<CowStr<'static>>)

@@ -101,6 +101,8 @@ fn copy_kept<F: Fn(&[u8]) -> usize>(
 /// the handler skips nothing in the tag, since it then stands in the data. Without a handler a tag
 /// holds no line ending. A closing tag holds at most one. (CommonMark 0.31.2, section 6.6, raw HTML.)
 ///
+/// The handler has one answer for one rest, and skips at most as many bytes as the rest has.
+///
 /// # Errors
 ///
 /// `AllocError` where memory for the text is refused. It is asked for once, after the whole tag has

@@ -13,7 +13,7 @@ use markdown_values::values::LinkType;
 use memchr::memchr;
 
 /// The first pipe in the `len` bytes from `start` on, cut at the text's end: the place after the pipe,
-/// and the text before it.
+/// and the text before it. `start` is a place between two characters.
 pub fn scan_wikilink_pipe(data: &str, start: usize, len: usize) -> Option<(usize, &str)>
     requires { IsCharBoundary «data».now start }
     ensures found { IfSome result (λ r. position (λ b. b == 124) (take len (drop start «data».now)) ≡ Some (length r.1.now)) }
@@ -29,7 +29,7 @@ pub fn scan_wikilink_pipe(data: &str, start: usize, len: usize) -> Option<(usize
 }
 
 /// The link destination from `start` on: how many bytes it takes, angle brackets among them, and its raw
-/// text without them. Parentheses nest at most `max_next + 1` deep.
+/// text without them. Parentheses nest at most `max_next + 1` deep. `start` is a place between two characters.
 ///
 /// (CommonMark 0.31.2, section 6.3.)
 pub fn scan_link_dest(data: &str, start: usize, max_next: usize) -> Option<(usize, &str)>
@@ -110,7 +110,8 @@ fn ends_destination(b: u8, depth: usize) -> bool
     b <= b' ' || (b == b')' && depth == 0)
 }
 
-/// The absolute URI from `start` on that `>` ends: the place after the `>`, and the text before it.
+/// The absolute URI from `start` on that `>` ends: the place after the `>`, and the text before it. `start` is a
+/// place between two characters.
 ///
 /// (CommonMark 0.31.2, section 6.5.)
 pub fn scan_autolink<'a>(text: &'a str, start: usize) -> Option<(usize, CowStr<'a>, LinkType)>

@@ -15,7 +15,11 @@ const MOST_SPACES: usize = 3;
 /// The length in bytes of a table's delimiter row at the front, with its line ending, and the
 /// alignment of each of its columns; 0 and no alignments where no such row stands there.
 ///
-/// The error is want of memory for the alignments. (GitHub Flavored Markdown 0.29, section 4.10.)
+/// (GitHub Flavored Markdown 0.29, section 4.10.)
+///
+/// # Errors
+///
+/// `AllocError` where memory for the alignments is refused.
 pub fn scan_table_head(alloc: Global, data: &[u8]) -> Result<(usize, Vec<Alignment>), AllocError>
     ensures found { IfOk result (λ r. 0 < r.0 → IsDelimiterRow «data».now r.0 r.1.items) }
     ensures absent { IfOk result (λ r. r.0 ≡ 0 → (n : ℕ) (row : _) → ¬ IsDelimiterRow «data».now n row) }

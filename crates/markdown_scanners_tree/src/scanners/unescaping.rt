@@ -19,6 +19,10 @@ use std::alloc::{AllocError, Global};
 /// is asked for once, at its exact length.
 ///
 /// (CommonMark 0.31.2, sections 2.4 and 2.5; GitHub Flavored Markdown 0.29, section 4.10.)
+///
+/// # Errors
+///
+/// `AllocError` where that memory is refused; the input is dropped then.
 pub fn unescape<'a, E: Entities>(
     alloc: Global,
     input: CowStr<'a>,
