@@ -101,10 +101,6 @@ item_allowed p indent h =
     (λ yes. grind (arith, nat_tests))
     (λ no. let e = rw no at h in cc)
 
--- a column of space, or the end of the line, follows the marker
-pub ends-space : (marked : LineState) → space_within 1 marked ≡ 1 → nat_lt 0 (leading_spaces (rest_of marked)) ≡ true
-ends-space marked one = lt-ltb 0 (leading_spaces (rest_of marked)) (omega arith)
-
 -- where no space follows, the place is as it was
 none_after : (s : LineState) → leading_spaces (rest_of s) ≡ 0 → unscanned (after_space 1 s) ≡ unscanned s
 none_after s none =
@@ -112,9 +108,6 @@ none_after s none =
     let no_byte : bytes_below s.phase (unscanned s) (s.phase + 0 - s.pending) ≡ 0 = none_below (unscanned s) s.phase (s.phase + 0 - s.pending) (omega arith) in
     let place : s.place + 0 ≡ s.place = omega arith in
     ap (λ t. unscanned (columns_further t s)) no_column ∙ rw (no_byte, place) refl
-
-pub follows-space : (s : LineState) → space_within 1 s ≡ 1 → space_or_end_follows s ≡ true
-follows-space s one = let some = ends-space s one in rw some refl
 
 pub follows-end : (s : LineState) (r : Bool) → (space_within 1 s ≡ 1 → ⊥) → r ≡ is_at_line_end (unscanned (after_space 1 s)) → r ≡ space_or_end_follows s
 follows-end s r few answer =

@@ -62,9 +62,6 @@ goes_on b = not (is_line_ending b)
 head-cons : (b : ℕ) (bs : List ℕ) → is_line_ending b ≡ false → line_head (b ∷ bs) ≡ b ∷ line_head bs
 head-cons b bs goes = take_while-cons goes_on b bs ∙ rw goes refl
 
-head-end : (b : ℕ) (bs : List ℕ) → is_line_ending b ≡ true → line_head (b ∷ bs) ≡ []
-head-end b bs ends = take_while-cons goes_on b bs ∙ rw ends refl
-
 head-spaces : (n : ℕ) (bs : List ℕ) → line_head (spaces n ++ bs) ≡ spaces n ++ line_head bs
 head-spaces zero bs = refl
 head-spaces (suc n) bs = head-cons 32 (spaces n ++ bs) refl ∙ ap (λ h. 32 ∷ h) (head-spaces n bs)

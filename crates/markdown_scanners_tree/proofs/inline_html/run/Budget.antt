@@ -3,7 +3,7 @@ use Rattle.std.proofs.Common.{◌≡◌, ℕ, ◌+◌, ◌-◌, ◌*◌, ◌≤�
 use Rattle.std.specs.Prelude.{IfSome, unwrap_or}
 use Rattle.std.proofs.Math.Nat.{mul-le-mul_right, add-mul}
 use Rattle.markdown_scanners_tree.specs.inline_html.InlineHtml.{Kind, Comment, Cdata, Declaration, Processing, Opening, Begins, Hyphen, Bracket, Nothing, closer, lead, first_closer, closed_at, end_of, opening_at, span, searched, looked_at, cost}
-use Rattle.markdown_scanners_tree.specs.inline_html.run.Run.{ShutKinds, Run, is_shut, shutting, shut_by, one_if, count_shut, run_step, new_run, IsWithinBudget}
+use Rattle.markdown_scanners_tree.specs.inline_html.run.Run.{ShutKinds, Run, is_shut, shutting, shut_by, one_if, count_shut, run_step, IsWithinBudget}
 use Rattle.markdown_scanners_tree.proofs.inline_html.Scans.{first_place-bounds}
 
 one_if-le : (b : Bool) → one_if b ≤ 1
@@ -115,6 +115,3 @@ pub run_step-budget : (run : Run) (p : ℕ) → IsWithinBudget run → run.find_
 run_step-budget run p is after in_text =
     let stepped = step-sum run.text run.shut run.find_end run.passed run.steps p (record { whole = is.whole; while_open = is.while_open }) after in_text (opening_at run.text p) in
     record { whole = stepped.whole; while_open = stepped.while_open }
-
-pub new_run-budget : (text : List ℕ) → IsWithinBudget (new_run text)
-new_run-budget text = record { whole = omega arith; while_open = λ _. omega arith }

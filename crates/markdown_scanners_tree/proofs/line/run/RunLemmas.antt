@@ -1,5 +1,5 @@
 -- A state on a line, and the column of the written out line that it stands for.
-use Rattle.std.proofs.Common.{ℕ, Option, subst, Some, None, ◌≡◌, refl, sym, ◌∙◌, ap, ◌==◌, List, [], ◌∷◌, ◌++◌, ◌+◌, ◌-◌, ◌<◌, ◌≤◌, length, take, drop, arith, append_assoc, zero-add}
+use Rattle.std.proofs.Common.{ℕ, Option, subst, Some, None, ◌≡◌, refl, sym, ◌∙◌, ap, ◌==◌, List, [], ◌∷◌, ◌++◌, ◌+◌, ◌-◌, ◌<◌, ◌≤◌, length, take, drop, arith, append_assoc}
 use Rattle.std.proofs.lemmas.Bool.Decides.{nat_tests}
 use Rattle.std.proofs.lemmas.List.{drop-drop, append-nil}
 use Rattle.markdown_scanners_tree.specs.Columns.{column_past, head_end, is_on_byte, bytes_below, expanded}
@@ -20,9 +20,6 @@ pub record Tied (line : List ℕ) (k c : ℕ) (s : LineState) : Type 0 where
   pub below : (later : ℕ) → k ≤ later → bytes_below 0 line later ≡ s.place + bytes_below c (drop s.place line) later
   pub on : (later : ℕ) → k ≤ later → is_on_byte 0 line later ≡ is_on_byte c (drop s.place line) later
   pub rest : drop k (expanded line) ≡ rest_of s
-
-pub tied_first : (line : List ℕ) → Tied line 0 0 (record { bytes = line; place = 0; pending = 0; phase = 0 })
-tied_first line = record { shape = refl; at = refl; below = λ later h. sym (zero-add _); on = λ later h. refl; rest = refl }
 
 module _ (line : List ℕ) (k c place p t : ℕ) (tied : Tied line k c (state_of line place p c))
     (fits : c + t ≤ p + head_end c (drop place line))
@@ -80,10 +77,6 @@ after_answers answers run = record run { answers = answers ++ run.answers }
 pub record SoFar (line : List ℕ) (calls left : List LineCall) (answers : List LineAnswer) (s : LineState) (k c : ℕ) : Type 0 where
   pub tied : Tied line k c s
   pub run : plain_run line calls ≡ after_answers answers (run_from line k left)
-
-pub so_far_first : (line : List ℕ) (calls : List LineCall) →
-    SoFar line calls calls [] (record { bytes = line; place = 0; pending = 0; phase = 0 }) 0 0
-so_far_first line calls = record { tied = tied_first line; run = refl }
 
 -- the column after a call, and the column of the place then
 abbrev pub next_column : LineState → ℕ → ℕ → ℕ

@@ -1,17 +1,15 @@
 -- ATX headings, and underlines of setext headings.
-use Rattle.std.proofs.Common.{◌≡◌, ℕ, ◌+◌, ◌-◌, ◌≤◌, true, false, ◌==◌, List, [], ◌∷◌, ◌++◌, length, take, drop, replicate, refl, sym, ap, subst, ◌∙◌, arith, inl, inr, Some}
+use Rattle.std.proofs.Common.{◌≡◌, ℕ, ◌+◌, ◌-◌, ◌≤◌, true, false, ◌==◌, List, [], ◌∷◌, length, take, drop, replicate, refl, sym, ap, subst, ◌∙◌, arith, inl, inr, Some}
 use Rattle.std.specs.List.{prefix_len}
 use Rattle.std.proofs.lemmas.Bool.{cases_Bool, eqb-true}
-use Rattle.std.proofs.lemmas.List.{take-append-drop, length-replicate}
-use Rattle.std.proofs.lemmas.List.Folds.{length-prefix_len}
+use Rattle.std.proofs.lemmas.List.{length-replicate}
 use Rattle.std.proofs.Math.Seq.{drop-append_seam}
 use Rattle.markdown_values.specs.values.Headings.{heading_number}
 use Rattle.markdown_values.specs.declared.values.HeadingLevel.{HeadingLevel}
-use Rattle.markdown_values.specs.declared.values.HeadingLevel.TheVariants.{H1, H2, H3, H4, H5, H6}
 use Rattle.markdown_scanners_tree.specs.Bytes.{begins_with, ends_or_begins_with, is_white_space, IsBlankLine}
 use Rattle.markdown_scanners_tree.specs.scanners.Headings.{IsAtxHeading, underline_byte, IsSetextUnderline}
-use Rattle.markdown_scanners_tree.proofs.FrontLemmas.{from_place, list_all-run, prefix_len-parts}
-use Rattle.markdown_scanners_tree.proofs.RunLemmas.{list_all-replicate, replicate-all, run-scanned, run-only, not_empty, begun_by}
+use Rattle.markdown_scanners_tree.proofs.FrontLemmas.{from_place, prefix_len-parts}
+use Rattle.markdown_scanners_tree.proofs.RunLemmas.{list_all-replicate, run-scanned, run-only, not_empty, begun_by}
 
 -- the run of `#` of a heading has the level's number
 no_hash : (rest : List ℕ) → ends_or_begins_with is_white_space rest ≡ true → begins_with (λ b. b == 35) rest ≡ false
@@ -26,26 +24,6 @@ atx-only bytes level heading =
     let run : prefix_len (λ b. b == 35) bytes ≡ length hashes = ap (prefix_len (λ b. b == 35)) heading.parts ∙ prefix_len-parts (λ b. b == 35) hashes heading.rest (list_all-replicate (λ b. b == 35) (heading_number level) 35 refl) (no_hash heading.rest heading.ends) in
     let rest : drop (prefix_len (λ b. b == 35) bytes) bytes ≡ heading.rest = ap (λ n. drop n bytes) run ∙ ap (drop (length hashes)) heading.parts ∙ drop-append_seam hashes heading.rest in
     (run ∙ counted, ap (ends_or_begins_with is_white_space) rest ∙ heading.ends)
-
-run_is_hashes : (bytes : List ℕ) → take (prefix_len (λ b. b == 35) bytes) bytes ≡ replicate (prefix_len (λ b. b == 35) bytes) 35
-run_is_hashes bytes = replicate-all 35 (take (prefix_len (λ b. b == 35) bytes) bytes) (list_all-run (λ b. b == 35) bytes) ∙ ap (λ n. replicate n 35) (length-prefix_len (λ b. b == 35) bytes)
-
-pub atx-scanned : (bytes : List ℕ) (run : ℕ) → run ≡ prefix_len (λ b. b == 35) bytes → ends_or_begins_with is_white_space (drop run bytes) ≡ true
-    → (level : HeadingLevel) → run ≡ heading_number level → IsAtxHeading bytes level
-atx-scanned bytes run is_run ends level number = record {
-  rest = drop run bytes;
-  parts = sym (take-append-drop run bytes) ∙ ap (λ front. front ++ drop run bytes) (rw is_run (run_is_hashes bytes) ∙ ap (λ n. replicate n 35) number);
-  ends = ends;
-}
-
--- no other number is a level's
-pub level-number : (n : ℕ) → ¬ (n ≡ 1) → ¬ (n ≡ 2) → ¬ (n ≡ 3) → ¬ (n ≡ 4) → ¬ (n ≡ 5) → ¬ (n ≡ 6) → (level : HeadingLevel) → ¬ (n ≡ heading_number level)
-level-number n one two three four five six H1 = one
-level-number n one two three four five six H2 = two
-level-number n one two three four five six H3 = three
-level-number n one two three four five six H4 = four
-level-number n one two three four five six H5 = five
-level-number n one two three four five six H6 = six
 
 pub underline-scanned : (bytes : List ℕ) (byte run blank : ℕ) (level : HeadingLevel) → underline_byte level ≡ Some byte → begins_with (λ b. b == byte) bytes ≡ true
     → run ≡ prefix_len (λ b. b == byte) bytes → IsBlankLine (take (length bytes - run) (drop run bytes)) blank → IsSetextUnderline bytes (run + blank) level

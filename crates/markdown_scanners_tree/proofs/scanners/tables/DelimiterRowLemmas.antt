@@ -109,9 +109,6 @@ pub record Progress (bytes : List ℕ) (done : List (List ℕ)) (left : List ℕ
   pub extend : (more : List (List ℕ)) (last rest : List ℕ) (ending : ℕ) → IsCells left more last rest ending → IsCells bytes (done ++ more) last rest ending
   pub only : (cells : List (List ℕ)) (last rest : List ℕ) (ending : ℕ) → IsCells bytes cells last rest ending → (more : List (List ℕ)) × (cells ≡ done ++ more) × IsCells left more last rest ending
 
-pub Progress-none : (bytes : List ℕ) → Progress bytes [] bytes
-Progress-none bytes = record { extend = λ more last rest ending are. are; only = λ cells last rest ending are. (cells, refl, are) }
-
 pub Progress-more : (bytes : List ℕ) (done : List (List ℕ)) (cell left : List ℕ) → is_cell cell ≡ true → Progress bytes done (cell ++ 124 ∷ left) → Progress bytes (done ++ cell ∷ []) left
 Progress-more bytes done cell left is progress = record {
   extend = λ more last rest ending are. rw (append_assoc done (cell ∷ []) more) (progress.extend (cell ∷ more) last rest ending (IsCells-cons cell left more last rest ending is are));
