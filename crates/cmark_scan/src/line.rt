@@ -13,7 +13,8 @@ use std::alloc::{AllocError, Global};
 
 /// What the calls that the words ask for come to on the line.
 pub(crate) fn line_report(alloc: Global, words: &[&str], bytes: &[u8]) -> Result<Report, AllocError>
-    ensures { IfOk result (λ report. IsOutcome (scan_line (calls_of (texts words.now))) bytes.now (outcome_view report)) }
+    ensures { IfOk result (λ report.
+        IsOutcome (scan_line (calls_of (texts words.now))) bytes.now (outcome_view report)) }
 {
     let calls = parse_calls(alloc, words)?;
     let run = run_line(alloc, bytes, &calls)?;

@@ -73,8 +73,10 @@ pub struct LineRun {
 pub fn run_line(alloc: Global, bytes: &[u8], calls: &[LineCall]) -> Result<LineRun, AllocError>
     ensures answers { IfOk result (λ run. run.answers.items ≡ (plain_run bytes.now calls.now).answers) }
     ensures stop { IfOk result (λ run. run.stop ≡ stop_at (plain_run bytes.now calls.now)) }
-    ensures rest { IfOk result (λ run. run.rest.items ≡ rest_after bytes.now (plain_run bytes.now calls.now)) }
-    ensures scanned { IfOk result (λ run. run.scanned ≡ scanned_after bytes.now (plain_run bytes.now calls.now)) }
+    ensures rest { IfOk result (λ run.
+        run.rest.items ≡ rest_after bytes.now (plain_run bytes.now calls.now)) }
+    ensures scanned { IfOk result (λ run.
+        run.scanned ≡ scanned_after bytes.now (plain_run bytes.now calls.now)) }
 {
     let mut start = LineStart::new(bytes);
     let mut answers = Vec::new(alloc);
