@@ -9,7 +9,7 @@ use std::io::{BufRead, BufReader, Read, Write};
 use std::str::from_utf8;
 
 /// How many cases have been answered as they want, and how many otherwise.
-#[derive(Clone, Copy, Debug, PartialEq, Eq)]
+#[derive(Clone, Copy)]
 struct Tally {
     agree: u64,
     differ: u64,

@@ -5,7 +5,7 @@ ghost use Rattle.cmark_replay.specs.Skipped.{skipped};
 use markdown_scanners_tree::scanners::scan_ch_repeat;
 
 /// What a handler skips at the front of the bytes after a line ending.
-#[derive(Clone, Copy, Debug, PartialEq, Eq)]
+#[derive(Clone, Copy)]
 pub(crate) enum Skips {
     // A case of tags has no handler, and a handler of labels says that the text ends there.
     Refused,

@@ -4,7 +4,7 @@ use std::fmt;
 use std::io::{Error, ErrorKind};
 
 /// Why a line can't be read as a case.
-#[derive(Clone, Copy, Debug, PartialEq, Eq)]
+#[derive(Clone, Copy)]
 pub(crate) enum Unreadable {
     NotUtf8,
     NoAnswer,
@@ -46,7 +46,7 @@ impl fmt::Display for Unreadable {
 }
 
 /// Why a case has no answer.
-#[derive(Clone, Copy, Debug, PartialEq, Eq)]
+#[derive(Clone, Copy)]
 pub(crate) enum CaseError {
     Unreadable(Unreadable),
     Memory,
@@ -65,7 +65,7 @@ impl From<AllocError> for CaseError {
 }
 
 /// Why a run ends before its last case: a line by its number, counted from 1, or a fault.
-#[derive(Clone, Copy, Debug, PartialEq, Eq)]
+#[derive(Clone, Copy)]
 pub(crate) enum Stop {
     Unreadable { line: u64, why: Unreadable },
     Read,
