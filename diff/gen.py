@@ -44,7 +44,7 @@ METADATA = [
 BLOCK_NAMES = b"address base div dl h1 h6 h7 html legend li p search ul track script pre divs d".split()
 ENTITY_NAMES = [b"amp", b"lt", b"gt", b"quot", b"copy", b"AElig", b"ngE", b"frac34", b"Amp", b"nbsp", b""]
 CODE_POINTS = [0, 9, 65, 233, 0xD7FF, 0xD800, 0xDFFF, 0xE000, 0x10FFFF, 0x110000, 9999999, 10000000, 0xFFFFFF, 0x1000000]
-HANDLERS = ["zero", "zero", "bq", "sp", "x"]
+HANDLERS = ["zero", "bq", "sp", "x"]
 
 
 def written(value):
@@ -197,14 +197,14 @@ class Cases:
                 return [data]
 
     def htmlinner(self):
-        return self.type7() + [self.one_of("none", *HANDLERS[1:])]
+        return self.type7() + [self.one_of("none", *HANDLERS)]
 
     def inlinehtml(self):
         return [self.fragment(INLINE_HTML, 0, 24)]
 
     def label(self):
         text = text_of(self.fragment(LABEL, 0, 14) + self.one_of(b"]", b"]", b""))
-        return [text, self.one_of(*HANDLERS, "refuse"), self.flag()]
+        return [text, self.one_of("zero", *HANDLERS, "refuse"), self.flag()]
 
 
 # how often each call comes
