@@ -1,7 +1,5 @@
-pub mod ChainLemmas
 pub mod CloneLemmas
 pub mod ForestLemmas
 pub mod RemovalLemmas
 pub mod Rows
 pub mod TreeLemmas
-pub mod TruncateLemmas

@@ -1,2 +1,1 @@
 pub mod ExtensionLemmas
-pub mod SameTexts

@@ -1,11 +1,14 @@
 //! A tree of linked nodes, built in the order of its text, one node at a time.
-ghost use Rattle.std.specs.Prelude.{◌≡◌, ◌+◌, ◌-◌, ◌<◌, IfOk, OnErr, IsTrue, ◌↔◌, length, slice_get, Some, None, ◌^◌, IsSome, IfSome, All};
+ghost use Rattle.std.specs.Prelude.{◌≡◌, ◌+◌, ◌-◌, ◌<◌, IfOk, OnErr, IsTrue, ◌↔◌, length, Some, None, ◌^◌, IsSome, IfSome, All, IfNone, ◌≤◌};
 ghost use Rattle.std.specs.Borrow.{sem};
 ghost use Rattle.std.specs.Slice.Iter.{iter_rest};
+
+mod truncate;
 
 use std::alloc::{AllocError, Global};
 use std::marker::Model;
 use std::ops::{Add, Index, Sub};
+pub use truncate::SpanItem;
 
 /// The index of a node of a `Tree` other than the dummy, so at least 1.
 #[derive(Clone, Copy, Debug, PartialEq, Eq, PartialOrd)]
@@ -104,7 +107,7 @@ impl<T> Model for Tree<T> {
 }
 
 impl<T: Drop> Tree<T> {
-    ghost use Rattle.markdown_values.specs.tree.Tree.{empty_tree, with_node, appended, last, but_last, IsLinkWithin, with_next, with_child, with_item, linked_from_focus, pushed, popped, removed, IsLastLinkedFromAlone, reset_of, next_of, truncated_to_parent};
+    ghost use Rattle.markdown_values.specs.tree.Tree.{empty_tree, with_node, appended, last, but_last, IsLinkWithin, IsNodeAt, with_next, with_child, with_item, linked_from_focus, pushed, popped, removed, IsLastLinkedFromAlone, reset_of, next_of, truncated_to_parent};
     ghost use Rattle.markdown_values.specs.tree.Lends.{lends_item, item_of};
     ghost use Rattle.markdown_values.specs.tree.Forest as forest;
     ghost use Rattle.markdown_values.specs.tree.Forest.{Focused, StandsFor};
@@ -141,6 +144,19 @@ impl<T: Drop> Tree<T> {
     {
         // None: the next node becomes the only child of the parent.
         self.focus
+    }
+
+    /// The node at this index, or None where the index is of no node of the tree: what `Index` answers, without a
+    /// condition on the caller.
+    pub fn get(&self, ix: TreeIndex) -> Option<&Node<T>>
+        ensures node { IfSome result (λ node. IsNodeAt self.now ix node.now) }
+        ensures none { IfNone result (length self.now.nodes ≤ ix) }
+    {
+        if ix.get() < self.nodes.len() {
+            Some(&self[ix])
+        } else {
+            None
+        }
     }
 
     /// Makes a node that no link leads to.
@@ -236,7 +252,8 @@ impl<T: Drop> Tree<T> {
         ensures within { IsLinkWithin (length self.new.nodes) result }
         ensures count { length self.new.nodes ≡ length self.old.nodes }
         ensures state { self.new ≡ popped self.old }
-        ensures forest { (f : Focused) → StandsFor self.old f → StandsFor self.new (forest.popped f) }
+        ensures forest { (f : Focused) → StandsFor self.old f
+            → StandsFor self.new (forest.popped f) }
     {
         let popped = self.spine.pop()?;
         self.focus = Some(popped);
@@ -297,7 +314,8 @@ impl<T: Drop> Tree<T> {
     pub fn reset(&mut self)
         ensures count { length self.new.nodes ≡ length self.old.nodes }
         ensures state { self.new ≡ reset_of self.old }
-        ensures forest { (f : Focused) → StandsFor self.old f → StandsFor self.new (forest.reset_of f) }
+        ensures forest { (f : Focused) → StandsFor self.old f
+            → StandsFor self.new (forest.reset_of f) }
     {
         self.focus = if self.is_empty() {
             None
@@ -348,7 +366,8 @@ impl<T: Drop> Tree<T> {
         ensures* writes_back { sem 𝓛 (lends_item T.row self.entry ix result) }
         ensures value { item_of self.old.nodes ix ≡ Some result.now }
         // Whatever is written, there are as many nodes as before.
-        ensures count { (item : T) → length (with_item self.old.nodes ix item) ≡ length self.old.nodes }
+        ensures count { (item : T)
+            → length (with_item self.old.nodes ix item) ≡ length self.old.nodes }
     {
         &mut self.nodes[ix.get()].item
     }
@@ -407,154 +426,5 @@ impl<T: Clone> Clone for Tree<T> {
             spine: self.spine.clone()?,
             focus: self.focus,
         })
-    }
-}
-
-/// An item that covers a range of the text, in bytes, for `truncate_siblings`.
-pub trait SpanItem {
-    ghost use Rattle.std.specs.Prelude.{ℕ};
-    ghost use Rattle.markdown_values.specs.tree.Truncate.{Span};
-
-    ghost span: { Self → Span };
-
-    ghost with_range: { Self → ℕ → ℕ → Self };
-
-    /// The place of the range's first byte.
-    fn start(&self) -> usize
-        ensures { result ≡ (span self.now).start };
-
-    /// The place after the range's last byte.
-    fn end(&self) -> usize
-        ensures { result ≡ (span self.now).end };
-
-    /// Sets both ends of the range.
-    fn set_range(&mut self, start: usize, end: usize)
-        ensures { self.new ≡ with_range self.old start end };
-
-    /// Whether a backslash before the range escapes its first byte.
-    fn backslash_escaped(&self) -> bool
-        ensures { result ≡ (span self.now).escaped };
-
-    // Both ends are set, and the bit is left.
-    ghost sets_range: { (item : Self) (start end : ℕ)
-        → span (with_range item start end) ≡ record (span item) { start = start; end = end } };
-}
-
-impl<T: SpanItem + Drop> Tree<T> {
-    ghost use Rattle.markdown_values.specs.tree.Tree.{last, child_of, with_item, IsLinkWithin};
-    ghost use Rattle.markdown_values.specs.tree.Truncate.{CanCut, CanTruncate, IsFirstOther, AllEndBefore, cut_tree, dropped_after, last_index, HasChildren, truncated, truncated_focus, FindsOther};
-
-    /// Cuts the children of the parent where its text now ends, at the byte `end`, and moves the focus to the last child
-    /// that is left of those up to there.
-    ///
-    /// Children that end before `end` stay. The first other child becomes the last where it ends there; is dropped, with
-    /// those after it, where it starts there; and else ends there and becomes the last. One that starts there behind a
-    /// backslash becomes the backslash instead, and those after it stay. Where there is no other child, nothing changes.
-    pub fn truncate_siblings(&mut self, end: usize)
-        requires parent { IsSome (last self.old.spine) }
-        requires range { IfSome (last self.old.spine) (CanTruncate T.span end self.old) }
-        ensures count { length self.new.nodes ≡ length self.old.nodes }
-        // Where every child ends before `end`, nothing changes.
-        ensures kept { IfSome (last self.old.spine) (λ parent. (children : _)
-            → AllEndBefore T.span end self.old.nodes (child_of self.old.nodes parent) children
-            → self.new ≡ self.old) }
-        // Else the first other child, c, is cut behind those that are kept.
-        ensures cut { IfSome (last self.old.spine) (λ parent. (kept : _) (c : _) (later : _)
-            → IsFirstOther T.span end self.old.nodes (child_of self.old.nodes parent) kept c later
-            → self.new ≡ cut_tree T.span T.with_range end parent (last_index kept) c self.old) }
-        // The same, by the ranges of the children.
-        ensures children { IfSome (last self.old.spine) (λ parent. (spans : _)
-            → HasChildren T.span self.old parent spans
-            → HasChildren T.span self.new parent (truncated end spans)) }
-        ensures focus { IfSome (last self.old.spine) (λ parent. (spans : _)
-            → HasChildren T.span self.old parent spans
-            → self.new.focus ≡ truncated_focus end self.old.focus None spans) }
-    {
-        let parent = self.peek_up().unwrap();
-        let (previous, other) = self.first_other(parent, end);
-        if let Some(ix) = other {
-            self.cut_child(parent, previous, ix, end);
-        }
-    }
-
-    // The first child that does not end before `end`, after the child before it.
-    fn first_other(&self, parent: TreeIndex, end: usize) -> (Option<TreeIndex>, Option<TreeIndex>)
-        requires parent { parent < length self.now.nodes }
-        requires children { (spans : _) × HasChildren T.span self.now parent spans }
-        ensures { FindsOther T.span end self.now.nodes (child_of self.now.nodes parent) result.0 result.1 }
-    {
-        let mut previous: Option<TreeIndex> = None;
-        let mut next = self[parent].child;
-        while let Some(ix) = next {
-            let node = &self[ix];
-            if node.item.end() >= end {
-                return (previous, next);
-            }
-            previous = next;
-            next = node.next;
-        }
-        (previous, None)
-    }
-
-    // Cuts the child `ix`, which is the first that does not end before `end`.
-    fn cut_child(
-        &mut self,
-        parent: TreeIndex,
-        previous: Option<TreeIndex>,
-        ix: TreeIndex,
-        end: usize,
-    )
-        requires parent { parent < length self.old.nodes }
-        requires previous { IsLinkWithin (length self.old.nodes) previous }
-        requires range { IfSome (slice_get self.old.nodes ix) (λ node. CanCut end (T.span node.item)) }
-        requires index { ix < length self.old.nodes }
-        ensures count { length self.new.nodes ≡ length self.old.nodes }
-        ensures state { IfSome (slice_get self.old.nodes ix) (λ node. self.new
-            ≡ cut_tree T.span T.with_range end parent previous (ix, node) self.old) }
-    {
-        let item = &self[ix].item;
-        let start = item.start();
-        let old_end = item.end();
-        let escaped = item.backslash_escaped();
-        if old_end == end {
-            self.set_next(ix, None);
-            self.focus_on(Some(ix));
-        } else if start == end {
-            if escaped {
-                self.set_item_range(ix, end - 1, end);
-                self.focus_on(Some(ix));
-            } else {
-                self.drop_after(parent, previous);
-            }
-        } else {
-            self.set_item_range(ix, start, end);
-            self.set_next(ix, None);
-            self.focus_on(Some(ix));
-        }
-    }
-
-    // Makes `previous` the last child, or with none leaves the parent no child, and moves the focus to it.
-    fn drop_after(&mut self, parent: TreeIndex, previous: Option<TreeIndex>)
-        requires parent { parent < length self.old.nodes }
-        requires previous { IsLinkWithin (length self.old.nodes) previous }
-        ensures count { length self.new.nodes ≡ length self.old.nodes }
-        ensures state { self.new ≡ dropped_after self.old parent previous }
-    {
-        match previous {
-            Some(ix) => self.set_next(ix, None),
-            None => self.set_child(parent, None),
-        }
-        self.focus_on(previous);
-    }
-
-    // Gives the item of a node this range.
-    fn set_item_range(&mut self, ix: TreeIndex, start: usize, end: usize)
-        requires { ix < length self.old.nodes }
-        ensures state { IfSome (slice_get self.old.nodes ix) (λ node. self.new ≡ record self.old {
-          nodes = with_item self.old.nodes ix (T.with_range node.item start end);
-        }) }
-        ensures count { length self.new.nodes ≡ length self.old.nodes }
-    {
-        self.item_mut(ix).set_range(start, end);
     }
 }

@@ -1,8 +1,8 @@
 -- Children that are cut where their parent's text now ends.
-use Rattle.std.specs.Prelude.{◌≡◌, ◌≢◌, ◌≤◌, ◌<◌, ℕ, ◌-◌, IsTrue, All, ◌==◌, nat_lt, Bool, if◌then◌else◌, List, [], ◌∷◌, ◌++◌, map, Option, Some, None, slice_get, option_map, IfSome}
+use Rattle.std.specs.Prelude.{◌≡◌, ◌≢◌, ◌≤◌, ◌<◌, ℕ, ◌-◌, IsTrue, All, ◌==◌, nat_lt, Bool, if◌then◌else◌, List, [], ◌∷◌, ◌++◌, map, Option, Some, None, slice_get, option_map, option_and_then, IfSome}
 use Rattle.markdown_values.specs.declared.tree.Node.{Node}
 use Rattle.markdown_values.specs.tree.Linked.{Linked}
-use Rattle.markdown_values.specs.tree.Tree.{last, child_of, with_next, with_child, with_item}
+use Rattle.markdown_values.specs.tree.Tree.{last, child_of, with_next, with_item, linked_from_parent}
 
 -- the range of a child, and whether a backslash escapes its first byte (CommonMark 0.31.2, section 2.4)
 pub record Span : Type 0 where
@@ -54,9 +54,13 @@ module _ {T : Type 0} where
   abbrev pub last_index : List (ℕ × Node T) → Option ℕ
   last_index chain = option_map (λ c. c.0) (last chain)
 
+  -- the link to the first sibling: the first child of the parent, which is the last of the spine
+  abbrev pub first_sibling : Linked T → Option ℕ
+  first_sibling t = option_and_then (child_of t.nodes) (last t.spine)
+
   -- the child before leads no further, or with none the parent to no child, and that child or none is in focus
-  abbrev pub dropped_after : Linked T → ℕ → Option ℕ → Linked T
-  dropped_after t parent None = record t { nodes = with_child t.nodes parent None; focus = None }
+  abbrev pub dropped_after : Linked T → Option ℕ → Option ℕ → Linked T
+  dropped_after t parent None = record t { nodes = linked_from_parent t.nodes parent None; focus = None }
   dropped_after t parent (Some previous) = record t { nodes = with_next t.nodes previous None; focus = Some previous }
 
   module _ (span : T → Span) where
@@ -74,13 +78,21 @@ module _ {T : Type 0} where
       pub chain : IsChain nodes link children
       pub ends_before : All (EndsBefore e) children
 
+    -- from this link on, the chain is of nodes with these indices and ranges
+    abbrev pub HasRanges : List (Node T) → Option ℕ → List (ℕ × Span) → Type 0
+    HasRanges nodes link spans = (chain : List (ℕ × Node T)) × IsChain nodes link chain × (map (λ c. (c.0, span c.1.item)) chain ≡ spans)
+
     -- the children of parent are these nodes, with these ranges
     abbrev pub HasChildren : Linked T → ℕ → List (ℕ × Span) → Type 0
-    HasChildren t parent spans = (children : List (ℕ × Node T)) × IsChain t.nodes (child_of t.nodes parent) children × (map (λ c. (c.0, span c.1.item)) children ≡ spans)
+    HasChildren t parent spans = HasRanges t.nodes (child_of t.nodes parent) spans
 
-    -- the chain of the parent's children ends, and its first child that does not end before e can be cut
-    abbrev pub CanTruncate : ℕ → Linked T → ℕ → Type 0
-    CanTruncate e t parent = (spans : List (ℕ × Span)) × HasChildren t parent spans × IfSome (first_other e spans) (CanCut e)
+    -- the siblings are these nodes, with these ranges
+    abbrev pub HasSiblings : Linked T → List (ℕ × Span) → Type 0
+    HasSiblings t spans = HasRanges t.nodes (first_sibling t) spans
+
+    -- the chain of the siblings ends, and the first of them that does not end before e can be cut
+    abbrev pub CanTruncate : ℕ → Linked T → Type 0
+    CanTruncate e t = (spans : List (ℕ × Span)) × HasSiblings t spans × IfSome (first_other e spans) (CanCut e)
 
     -- a search finds the first other child, and the child before it, or that every child ends before e
     abbrev pub FindsOther : ℕ → List (Node T) → Option ℕ → Option ℕ → Option ℕ → Type 0
@@ -88,7 +100,7 @@ module _ {T : Type 0} where
     FindsOther e nodes link previous (Some ix) = (kept : List (ℕ × Node T)) × (node : Node T) × (later : List (ℕ × Node T)) × IsFirstOther e nodes link kept (ix, node) later × (previous ≡ last_index kept)
 
     -- the tree after a truncation at e, where c is the first child of parent that does not end before e, and previous the one before it
-    abbrev pub cut_tree : (T → ℕ → ℕ → T) → ℕ → ℕ → Option ℕ → ℕ × Node T → Linked T → Linked T
+    abbrev pub cut_tree : (T → ℕ → ℕ → T) → ℕ → Option ℕ → Option ℕ → ℕ × Node T → Linked T → Linked T
     cut_tree with_range e parent previous c t =
         let ix = c.0 in
         let item = c.1.item in

@@ -1,6 +1,6 @@
 use Rattle.std.proofs.Common.{arith, refl, []}
 use Rattle.markdown_values.specs.tree.Truncate.{IsChain}
-use Rattle.markdown_values.proofs.tree.ChainLemmas.{Passed-within, Passed-found, Passed-smaller, Passed-more, Passed-all}
+use Rattle.markdown_values.proofs.tree.truncate.ChainLemmas.{Passed-within, Passed-found, Passed-smaller, Passed-more, Passed-all}
 use Rattle.markdown_values.proofs.tree.Tree.first_other.Goals as goal
 
 pub loop-next-init : goal.loop-next-init

@@ -1,7 +1,7 @@
 use Rattle.std.proofs.Common.{List, length, ℕ}
 use Rattle.markdown_values.specs.declared.tree.Node.{Node}
 use Rattle.markdown_values.specs.tree.Tree.{child_of}
-use Rattle.markdown_values.proofs.tree.ChainLemmas.{Passed, steps}
+use Rattle.markdown_values.proofs.tree.truncate.ChainLemmas.{Passed, steps}
 use Rattle.markdown_values.proofs.tree.Tree.first_other.Given as goal
 
 -- some children are passed, and the search goes on with the next

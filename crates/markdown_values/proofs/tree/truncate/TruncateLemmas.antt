@@ -6,10 +6,10 @@ use Rattle.std.proofs.lemmas.List.{map-append}
 use Rattle.markdown_values.specs.declared.tree.Node.{Node}
 use Rattle.markdown_values.specs.tree.Linked.{Linked}
 use Rattle.markdown_values.specs.tree.Tree.{last, but_last, child_of, update_at, with_next, with_child, with_item}
-use Rattle.markdown_values.specs.tree.Truncate.{Span, IsChain, last_index, EndsBefore, IsFirstOther, AllEndBefore, HasChildren, cut_tree, dropped_after, cut, cut_focus, first_other, CanCut, CanTruncate, truncated, truncated_focus}
+use Rattle.markdown_values.specs.tree.Truncate.{Span, IsChain, last_index, EndsBefore, IsFirstOther, AllEndBefore, HasChildren, HasSiblings, cut_tree, dropped_after, cut, cut_focus, first_other, CanCut, CanTruncate, truncated, truncated_focus}
 use Rattle.markdown_values.proofs.tree.TreeLemmas.{get-update_at_other, get-update_at_same, last-none, last-split}
 use Rattle.markdown_values.proofs.tree.ForestLemmas.{KeepsBut}
-use Rattle.markdown_values.proofs.tree.ChainLemmas.{same_chain}
+use Rattle.markdown_values.proofs.tree.truncate.ChainLemmas.{same_chain}
 
 module _ {T : Type 0} where
   -- no child of the list is this node
@@ -113,11 +113,19 @@ module _ {T : Type 0} where
     first_other-kept e (x ∷ kept) later c ends reaches =
         rw (lt-ltb (span x.1.item).end e (ends 0 x (omega arith))) (first_other-kept e kept later c (λ k d lt. ends (suc k) d (omega arith)) reaches)
 
+    -- siblings are children of the last of the spine
+    pub HasChildren-of : (t : Linked T) (parent : ℕ) (spans : List (ℕ × Span)) → last t.spine ≡ Some parent → HasSiblings span t spans → HasChildren span t parent spans
+    HasChildren-of t parent spans p h = rw p at h
+
+    pub HasSiblings-of : (t : Linked T) (parent : ℕ) (spans : List (ℕ × Span)) → last t.spine ≡ Some parent → HasChildren span t parent spans → HasSiblings span t spans
+    HasSiblings-of t parent spans p h = rw p h
+
     -- the first other child can be cut
-    pub CanCut-first : (e : ℕ) (t : Linked T) (parent : ℕ) (kept later : List (ℕ × Node T)) (c : ℕ × Node T) → IsFirstOther span e t.nodes (child_of t.nodes parent) kept c later → CanTruncate span e t parent → CanCut e (span c.1.item)
-    CanCut-first e t parent kept later c h can =
-        let same = same_chain t.nodes (child_of t.nodes parent) can.1.0 (kept ++ c ∷ later) can.1.1 h.chain in
-        let spans : can.0 ≡ map see (kept ++ c ∷ later) = sym can.1.2 ∙ ap (map see) same in
+    pub CanCut-first : (e : ℕ) (t : Linked T) (parent : ℕ) (kept later : List (ℕ × Node T)) (c : ℕ × Node T) → last t.spine ≡ Some parent → IsFirstOther span e t.nodes (child_of t.nodes parent) kept c later → CanTruncate span e t → CanCut e (span c.1.item)
+    CanCut-first e t parent kept later c p h can =
+        let has = HasChildren-of t parent can.0 p can.1 in
+        let same = same_chain t.nodes (child_of t.nodes parent) has.0 (kept ++ c ∷ later) has.1 h.chain in
+        let spans : can.0 ≡ map see (kept ++ c ∷ later) = sym has.2 ∙ ap (map see) same in
         rw (spans, first_other-kept e kept later c h.ends_before h.ends_later) at can.2
 
     -- the last of some children, or with none the one before them
@@ -188,10 +196,10 @@ module _ {T : Type 0} where
           )
 
       -- c is dropped
-      has-dropped : HasAfter (dropped_after t parent (last_index kept)) parent kept []
+      has-dropped : HasAfter (dropped_after t (Some parent) (last_index kept)) parent kept []
       has-dropped = by_last (last kept) refl
         where
-          by_last : (l : Option (ℕ × Node T)) → last kept ≡ l → HasAfter (dropped_after t parent (option_map (λ x. x.0) l)) parent kept []
+          by_last : (l : Option (ℕ × Node T)) → last kept ≡ l → HasAfter (dropped_after t (Some parent) (option_map (λ x. x.0) l)) parent kept []
           by_last None p = ([], child_of-with_child t.nodes parent, rw (last-none kept p) refl)
           by_last (Some x) p =
               let split = last-split kept x p in
@@ -207,7 +215,7 @@ module _ {T : Type 0} where
     -- the children after the first other one was cut
     module _ (with_range : T → ℕ → ℕ → T) (law : (item : T) (start end : ℕ) → span (with_range item start end) ≡ record (span item) { start = start; end = end }) where
       has-cut : (e : ℕ) (t : Linked T) (parent : ℕ) (kept later : List (ℕ × Node T)) (c : ℕ × Node T) → IsChain t.nodes (child_of t.nodes parent) (kept ++ c ∷ later)
-          → HasAfter (cut_tree span with_range e parent (last_index kept) c t) parent kept (cut e (see c) (map see later))
+          → HasAfter (cut_tree span with_range e (Some parent) (last_index kept) c t) parent kept (cut e (see c) (map see later))
       has-cut e t parent kept later c h =
           elim (cases_eq (span c.1.item).end e) [
             | inl at_end ↦ rw (eq-eqb (span c.1.item).end e at_end) (has-ended e t parent kept later c h (Some c.0))
@@ -222,7 +230,7 @@ module _ {T : Type 0} where
           ]
         where
           at_bit : (bit : Bool) → (span c.1.item).escaped ≡ bit
-              → HasAfter (if (span c.1.item).escaped then record t { nodes = with_item t.nodes c.0 (with_range c.1.item (e - 1) e); focus = Some c.0 } else dropped_after t parent (last_index kept)) parent kept
+              → HasAfter (if (span c.1.item).escaped then record t { nodes = with_item t.nodes c.0 (with_range c.1.item (e - 1) e); focus = Some c.0 } else dropped_after t (Some parent) (last_index kept)) parent kept
               (if (span c.1.item).escaped then (c.0, record (span c.1.item) { start = e - 1; end = e }) ∷ map see later else [])
           at_bit true bit =
               let after = has-changed e t parent kept later c h (with_range c.1.item (e - 1) e) (Some c.0) in
@@ -231,7 +239,7 @@ module _ {T : Type 0} where
           at_bit false bit = rw bit (has-dropped e t parent kept later c h)
 
     -- the focus after the first other child was cut
-    focus-cut : (with_range : T → ℕ → ℕ → T) (e : ℕ) (t : Linked T) (parent : ℕ) (previous : Option ℕ) (c : ℕ × Node T) → (cut_tree span with_range e parent previous c t).focus ≡ cut_focus e previous (see c)
+    focus-cut : (with_range : T → ℕ → ℕ → T) (e : ℕ) (t : Linked T) (parent : ℕ) (previous : Option ℕ) (c : ℕ × Node T) → (cut_tree span with_range e (Some parent) previous c t).focus ≡ cut_focus e previous (see c)
     focus-cut with_range e t parent previous c =
         elim (cases_eq (span c.1.item).end e) [
           | inl at_end ↦ rw (eq-eqb (span c.1.item).end e at_end)
@@ -244,16 +252,35 @@ module _ {T : Type 0} where
         ]
       where
         at_bit : (bit : Bool) → (span c.1.item).escaped ≡ bit → (previous : Option ℕ)
-            → (if (span c.1.item).escaped then record t { nodes = with_item t.nodes c.0 (with_range c.1.item (e - 1) e); focus = Some c.0 } else dropped_after t parent previous).focus ≡ (if (span c.1.item).escaped then Some c.0 else previous)
+            → (if (span c.1.item).escaped then record t { nodes = with_item t.nodes c.0 (with_range c.1.item (e - 1) e); focus = Some c.0 } else dropped_after t (Some parent) previous).focus ≡ (if (span c.1.item).escaped then Some c.0 else previous)
         at_bit true bit previous = rw bit
         at_bit false bit None = rw bit
         at_bit false bit (Some ix) = rw bit
+
+    -- the spine stays
+    pub spine-cut : (with_range : T → ℕ → ℕ → T) (e : ℕ) (t : Linked T) (parent previous : Option ℕ) (c : ℕ × Node T) → (cut_tree span with_range e parent previous c t).spine ≡ t.spine
+    spine-cut with_range e t parent previous c =
+        elim (cases_eq (span c.1.item).end e) [
+          | inl at_end ↦ rw (eq-eqb (span c.1.item).end e at_end) refl
+          | inr other_end ↦
+              rw (ne_eqb (span c.1.item).end e other_end)
+              (elim (cases_eq (span c.1.item).start e) [
+                | inl at_start ↦ rw (eq-eqb (span c.1.item).start e at_start) (at_bit (span c.1.item).escaped refl previous)
+                | inr before ↦ rw (ne_eqb (span c.1.item).start e before) refl
+              ])
+        ]
+      where
+        at_bit : (bit : Bool) → (span c.1.item).escaped ≡ bit → (previous : Option ℕ)
+            → (if (span c.1.item).escaped then record t { nodes = with_item t.nodes c.0 (with_range c.1.item (e - 1) e); focus = Some c.0 } else dropped_after t parent previous).spine ≡ t.spine
+        at_bit true bit previous = rw bit refl
+        at_bit false bit None = rw bit refl
+        at_bit false bit (Some ix) = rw bit refl
 
     -- the children and the focus after a truncation
     pub HasChildren-cut : (with_range : T → ℕ → ℕ → T) → ((item : T) (start end : ℕ) → span (with_range item start end) ≡ record (span item) { start = start; end = end })
         → (e : ℕ) (t : Linked T) (parent : ℕ) (kept later : List (ℕ × Node T)) (c : ℕ × Node T) (spans : List (ℕ × Span))
         → IsFirstOther span e t.nodes (child_of t.nodes parent) kept c later → HasChildren span t parent spans
-        → HasChildren span (cut_tree span with_range e parent (last_index kept) c t) parent (truncated e spans)
+        → HasChildren span (cut_tree span with_range e (Some parent) (last_index kept) c t) parent (truncated e spans)
     HasChildren-cut with_range law e t parent kept later c spans h has =
         let same = same_chain t.nodes (child_of t.nodes parent) has.0 (kept ++ c ∷ later) has.1 h.chain in
         let are : spans ≡ map see (kept ++ c ∷ later) = sym has.2 ∙ ap (map see) same in
@@ -262,7 +289,7 @@ module _ {T : Type 0} where
 
     pub focus-truncated : (with_range : T → ℕ → ℕ → T) (e : ℕ) (t : Linked T) (parent : ℕ) (kept later : List (ℕ × Node T)) (c : ℕ × Node T) (spans : List (ℕ × Span))
         → IsFirstOther span e t.nodes (child_of t.nodes parent) kept c later → HasChildren span t parent spans
-        → (cut_tree span with_range e parent (last_index kept) c t).focus ≡ truncated_focus e t.focus None spans
+        → (cut_tree span with_range e (Some parent) (last_index kept) c t).focus ≡ truncated_focus e t.focus None spans
     focus-truncated with_range e t parent kept later c spans h has =
         let same = same_chain t.nodes (child_of t.nodes parent) has.0 (kept ++ c ∷ later) has.1 h.chain in
         let are : spans ≡ map see (kept ++ c ∷ later) = sym has.2 ∙ ap (map see) same in
