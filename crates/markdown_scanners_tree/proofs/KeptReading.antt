@@ -1,6 +1,7 @@
 -- A kept text is read from one place of its source to the next.
 use Rattle.std.proofs.Common.{ℕ, suc, List, [], ◌∷◌, ◌++◌, ◌+◌, ◌≡◌, Bool, true, false, not, ◌==◌, drop, refl, sym, ap, ◌∙◌, subst, inl, inr, arith}
 use Rattle.std.proofs.lemmas.Bool.{cases_Bool, eqb-true}
+use Rattle.markdown_scanners_tree.specs.Ascii.{line_feed, carriage_return}
 use Rattle.markdown_scanners_tree.specs.Bytes.{begins_with, is_line_ending}
 use Rattle.markdown_scanners_tree.specs.Kept.{KeptByte, in_line, at_line_end, kept_line, kept_from, line_len, AreSkips}
 use Rattle.markdown_scanners_tree.specs.scanners.tag_state.private.TagMachine.{ends_source_line}
@@ -15,32 +16,32 @@ pub record Step (answers : List ℕ → ℕ → Type 0) (place : ℕ) (source : 
 -- LF, and a CR that no LF follows, end a line alone
 pub ends_alone : (place b : ℕ) (bs : List ℕ) → ends_source_line (b ∷ bs) ≡ true → (is_line_ending b ≡ true) × (kept_line place (b ∷ bs) ≡ at_line_end b place ∷ []) × (line_len (b ∷ bs) ≡ 1)
 ends_alone place b bs h =
-    elim (cases_Bool (b == 10)) [
+    elim (cases_Bool (b == line_feed)) [
       | inl lf ↦ (rw lf refl, rw lf refl, rw lf refl)
-      | inr no_lf ↦ elim (cases_Bool (b == 13)) [
+      | inr no_lf ↦ elim (cases_Bool (b == carriage_return)) [
         | inl cr ↦ (
-            let alone : begins_with (λ c. c == 10) bs ≡ false = not_true _ (rw (no_lf, cr) at h) in
-            (rw (no_lf, cr) refl, rw (no_lf, cr, alone) (ap (λ z. at_line_end z place ∷ []) (sym (eqb-true b 13 cr))), rw (no_lf, cr, alone) refl)
+            let alone : begins_with (λ c. c == line_feed) bs ≡ false = not_true _ (rw (no_lf, cr) at h) in
+            (rw (no_lf, cr) refl, rw (no_lf, cr, alone) (ap (λ z. at_line_end z place ∷ []) (sym (eqb-true b carriage_return cr))), rw (no_lf, cr, alone) refl)
             )
         | inr no_cr ↦ absurd (let none = rw (no_lf, no_cr) at h in cc)
       ]
     ]
 
 -- a byte of a line ending that ends no line is a CR before LF
-return_before : (b : ℕ) (bs : List ℕ) → is_line_ending b ≡ true → ends_source_line (b ∷ bs) ≡ false → (b ≡ 13) × (r : List ℕ) × (bs ≡ 10 ∷ r)
+return_before : (b : ℕ) (bs : List ℕ) → is_line_ending b ≡ true → ends_source_line (b ∷ bs) ≡ false → (b ≡ carriage_return) × (r : List ℕ) × (bs ≡ line_feed ∷ r)
 return_before b bs e h =
-    elim (cases_Bool (b == 10)) [
+    elim (cases_Bool (b == line_feed)) [
       | inl lf ↦ absurd (let ended = rw lf at h in cc)
       | inr no_lf ↦ (
-          let cr : (b == 13) ≡ true = rw no_lf at e in
-          let next = line_feed bs (rw (no_lf, cr) at h) in
-          (eqb-true b 13 cr, next.0, next.1)
+          let cr : (b == carriage_return) ≡ true = rw no_lf at e in
+          let next = feed_first bs (rw (no_lf, cr) at h) in
+          (eqb-true b carriage_return cr, next.0, next.1)
           )
     ]
   where
-    line_feed : (xs : List ℕ) → not (begins_with (λ c. c == 10) xs) ≡ false → (r : List ℕ) × (xs ≡ 10 ∷ r)
-    line_feed [] n = cc
-    line_feed (x ∷ xs) n = (xs, ap (λ z. z ∷ xs) (eqb-true x 10 (by (x == 10) n)))
+    feed_first : (xs : List ℕ) → not (begins_with (λ c. c == line_feed) xs) ≡ false → (r : List ℕ) × (xs ≡ line_feed ∷ r)
+    feed_first [] n = cc
+    feed_first (x ∷ xs) n = (xs, ap (λ z. z ∷ xs) (eqb-true x line_feed (by (x == line_feed) n)))
       where
         by : (v : Bool) → not v ≡ false → v ≡ true
         by true k = refl
@@ -53,27 +54,27 @@ module _ (answers : List ℕ → ℕ → Type 0) (place : ℕ) where
     back = λ c t r. reads_less answers place b bs plain c t r;
   }
 
-  AreSkips-return : (bs : List ℕ) (skip : ℕ) (skips : List ℕ) → AreSkips answers (13 ∷ 10 ∷ bs) (skip ∷ skips) ≡ AreSkips answers (10 ∷ bs) (skip ∷ skips)
-  AreSkips-return bs skip skips = let d : 2 + skip ≡ suc (1 + skip) = omega arith in ap (λ z. (true ≡ true) × answers bs skip × AreSkips answers (drop z (13 ∷ 10 ∷ bs)) skips) d
+  AreSkips-return : (bs : List ℕ) (skip : ℕ) (skips : List ℕ) → AreSkips answers (carriage_return ∷ line_feed ∷ bs) (skip ∷ skips) ≡ AreSkips answers (line_feed ∷ bs) (skip ∷ skips)
+  AreSkips-return bs skip skips = let d : 2 + skip ≡ suc (1 + skip) = omega arith in ap (λ z. (true ≡ true) × answers bs skip × AreSkips answers (drop z (carriage_return ∷ line_feed ∷ bs)) skips) d
 
-  return_forth : (bs : List ℕ) (c : KeptByte) (t rest : List KeptByte) (skips : List ℕ) → AreSkips answers (10 ∷ bs) skips → kept_from (place + 1) (10 ∷ bs) skips ≡ c ∷ (t ++ rest) → Reads answers place (13 ∷ 10 ∷ bs) (in_line 13 place ∷ c ∷ t)
+  return_forth : (bs : List ℕ) (c : KeptByte) (t rest : List KeptByte) (skips : List ℕ) → AreSkips answers (line_feed ∷ bs) skips → kept_from (place + 1) (line_feed ∷ bs) skips ≡ c ∷ (t ++ rest) → Reads answers place (carriage_return ∷ line_feed ∷ bs) (in_line carriage_return place ∷ c ∷ t)
   return_forth bs c t rest [] s e = cc
   return_forth bs c t rest (skip ∷ skips) s e = record {
     skips = skip ∷ skips;
     rest = rest;
     answered = subst (λ X. X) (sym (AreSkips-return bs skip skips)) s;
-    begins = kept_from-return place bs skip skips ∙ ap (λ z. in_line 13 place ∷ z) e;
+    begins = kept_from-return place bs skip skips ∙ ap (λ z. in_line carriage_return place ∷ z) e;
   }
 
-  return_back : (bs : List ℕ) (c : KeptByte) (t rest : List KeptByte) (skips : List ℕ) → AreSkips answers (13 ∷ 10 ∷ bs) skips → kept_from place (13 ∷ 10 ∷ bs) skips ≡ c ∷ (t ++ rest) → (c ≡ in_line 13 place) × Reads answers (place + 1) (10 ∷ bs) t
+  return_back : (bs : List ℕ) (c : KeptByte) (t rest : List KeptByte) (skips : List ℕ) → AreSkips answers (carriage_return ∷ line_feed ∷ bs) skips → kept_from place (carriage_return ∷ line_feed ∷ bs) skips ≡ c ∷ (t ++ rest) → (c ≡ in_line carriage_return place) × Reads answers (place + 1) (line_feed ∷ bs) t
   return_back bs c t rest [] s e = cc
   return_back bs c t rest (skip ∷ skips) s e =
-      let f : in_line 13 place ∷ kept_from (place + 1) (10 ∷ bs) (skip ∷ skips) ≡ c ∷ (t ++ rest) = sym (kept_from-return place bs skip skips) ∙ e in
-      let head : c ≡ in_line 13 place = cc in
-      let tail : kept_from (place + 1) (10 ∷ bs) (skip ∷ skips) ≡ t ++ rest = cc in
+      let f : in_line carriage_return place ∷ kept_from (place + 1) (line_feed ∷ bs) (skip ∷ skips) ≡ c ∷ (t ++ rest) = sym (kept_from-return place bs skip skips) ∙ e in
+      let head : c ≡ in_line carriage_return place = cc in
+      let tail : kept_from (place + 1) (line_feed ∷ bs) (skip ∷ skips) ≡ t ++ rest = cc in
       (head, record { skips = skip ∷ skips; rest = rest; answered = subst (λ X. X) (AreSkips-return bs skip skips) s; begins = tail })
 
-  return_step : (bs : List ℕ) → Step answers place (13 ∷ 10 ∷ bs) (in_line 13 place) (place + 1) (10 ∷ bs)
+  return_step : (bs : List ℕ) → Step answers place (carriage_return ∷ line_feed ∷ bs) (in_line carriage_return place) (place + 1) (line_feed ∷ bs)
   return_step bs = record {
     forth = λ c t r. return_forth bs c t r.rest r.skips r.answered r.begins;
     back = λ c t r. return_back bs c t r.rest r.skips r.answered r.begins;

@@ -1,6 +1,8 @@
 pub mod ForCallers
-pub mod FrontLemmas
+pub mod PrefixLemmas
 pub mod KeptReading
 pub mod KeptStep
+pub mod PassLemmas
 pub mod RunLemmas
 pub mod ScanLemmas
+pub mod SomeExactlyLemmas

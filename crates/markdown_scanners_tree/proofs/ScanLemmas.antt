@@ -1,12 +1,12 @@
--- What scans of runs, of line endings and of blank lines tell.
+-- What searches and scans of blank lines tell.
 use Rattle.std.proofs.Common.{◌≡◌, ℕ, zero, suc, ◌+◌, ◌-◌, ◌<◌, Bool, true, false, not, List, [], ◌∷◌, length, take, drop, refl, sym, ap, ◌∙◌, arith, inl, inr, if◌then◌else◌, ◌==◌, Option, Some, None, one-add}
 use Rattle.std.specs.List.{prefix_len, list_any}
-use Rattle.std.specs.Option.{unwrap_or, is_some, IfSome, IfNone}
+use Rattle.std.specs.Option.{is_some}
 use Rattle.std.specs.Prelude.{slice_index}
 use Rattle.std.proofs.lemmas.Bool.{cases_Bool}
 use Rattle.memchr.specs.Find.{Nowhere, NoneBefore, Passes, IsFirstByte, is_byte}
 use Rattle.markdown_scanners_tree.specs.Bytes.{is_white_space_in_line, line_ending, IsBlankLine}
-use Rattle.markdown_scanners_tree.proofs.FrontLemmas.{from_place}
+use Rattle.markdown_scanners_tree.proofs.PrefixLemmas.{from_place}
 use Rattle.markdown_scanners_tree.proofs.scanners.lines.BlankLemmas.{IsBlankLine-found, IsBlankLine-only}
 
 -- the bytes before the first that passes
@@ -60,22 +60,9 @@ prefix_len-found byte bytes k (first, here) = prefix_len-first (is_byte byte) by
 pub prefix_len-not_found : (byte : ℕ) (bytes : List ℕ) → Nowhere (Passes (is_byte byte) bytes) 0 (length bytes) → prefix_len (λ b. not (b == byte)) bytes ≡ length bytes
 prefix_len-not_found byte bytes none = prefix_len-all (is_byte byte) bytes (λ j lt. none j (omega arith) lt)
 
-pub prefix_len-searched : (byte : ℕ) (bytes : List ℕ) (found : Option ℕ) → IsFirstByte (is_byte byte) bytes found → prefix_len (λ b. not (b == byte)) bytes ≡ unwrap_or found (length bytes)
-prefix_len-searched byte bytes None none = prefix_len-not_found byte bytes none
-prefix_len-searched byte bytes (Some k) first = prefix_len-found byte bytes k first
-
 pub list_any-searched : (byte : ℕ) (bytes : List ℕ) (found : Option ℕ) → IsFirstByte (is_byte byte) bytes found → is_some found ≡ list_any (λ b. b == byte) bytes
 list_any-searched byte bytes None none = sym (list_any-none (is_byte byte) bytes (λ j lt. none j (omega arith) lt))
 list_any-searched byte bytes (Some k) (first, here) = sym (list_any-at (is_byte byte) bytes k first.high here)
-
--- what `is_some` tells of an answer
-pub IfSome-some : {T : Type 0} (P : T → Type 0) (answer : Option T) → is_some answer ≡ true → IfSome answer P → (x : T) × P x
-IfSome-some P None some holds = cc
-IfSome-some P (Some x) some holds = (x, holds)
-
-pub IfNone-none : {T : Type 0} (P : Type 0) (answer : Option T) → is_some answer ≡ false → IfNone answer P → P
-IfNone-none P None none holds = holds
-IfNone-none P (Some x) none holds = cc
 
 -- what the number of a test tells of it
 pub one_if-true : (test : Bool) (n : ℕ) → n ≡ (if test then 1 else 0) → ¬ (n ≡ 0) → test ≡ true

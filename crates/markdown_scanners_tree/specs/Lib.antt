@@ -1,8 +1,9 @@
+pub mod Ascii
 pub mod Bytes
 pub mod Columns
 pub mod Handler
 pub mod Kept
-pub mod Numbers
+pub mod SomeExactly
 pub mod inline_html
 pub mod line
 pub mod linklabel

@@ -1,10 +1,11 @@
-//! Scans of inline HTML that begins with `<!` or `<?`: comments, CDATA sections, declarations and processing
-//! instructions (CommonMark 0.31.2, section 6.6). A guard remembers that a search found nothing, so that many
-//! openers cost hardly more than one.
-ghost use Rattle.std.specs.Prelude.{◌≡◌, ◌≤◌, ◌<◌, ◌+◌, ◌*◌, ◌^◌, ℕ, true, length, IsTrue, Some, slice_get};
+//! Scans of inline HTML that begins with `<!` or `<?`: comments, CDATA sections, declarations and
+//! processing instructions (CommonMark 0.31.2, section 6.6). A guard remembers that a search found
+//! nothing, so that many openers cost hardly more than one.
+ghost use Rattle.std.specs.Prelude.{◌≡◌, ◌≤◌, ◌<◌, ◌+◌, ◌^◌, length, IsTrue, Some, slice_get};
+ghost use Rattle.markdown_scanners_tree.specs.Ascii.{exclamation_mark, hyphen, question_mark, left_bracket};
 ghost use Rattle.markdown_scanners_tree.specs.inline_html.CountedText.{passing};
-ghost use Rattle.markdown_scanners_tree.specs.inline_html.InlineHtml.{Begins, Declaration, Processing, ends_opener, declared_at, cost};
-ghost use Rattle.markdown_scanners_tree.specs.inline_html.Guard.{is_stopped, guarded_answer, guard_after, IsTrueGuard, IsTrueScan};
+ghost use Rattle.markdown_scanners_tree.specs.inline_html.InlineHtml.{Begins, Declaration, ends_opener, declared_at, processing_at};
+ghost use Rattle.markdown_scanners_tree.specs.inline_html.Guard.{answer_of_scan, guard_after_scan, text_after_scan, IsTrueGuard, IsTrueScan};
 
 mod counted_text;
 mod run;
@@ -12,9 +13,10 @@ mod run;
 pub use counted_text::CountedText;
 pub use run::{HtmlRun, InlineHtmlRun, run_inline_html};
 
-/// For each kind the place up to which a scan searches for no closer of it: a scan of a comment, a CDATA section
-/// or a declaration below that place, and one of a processing instruction at it or below it. Where a search found no
-/// closer, that is the length of the text. One guard serves one text, at places that rise.
+/// For each kind the place up to which a scan searches for no closer of it: a scan of a comment, a
+/// CDATA section or a declaration below that place, and one of a processing instruction at it or
+/// below it. Where a search found no closer, that is the length of the text. One guard serves one
+/// text, at places that rise.
 #[derive(Drop)]
 pub struct HtmlScanGuard {
     /// Of comments.
@@ -28,7 +30,7 @@ pub struct HtmlScanGuard {
 }
 
 /// Why a run refuses a place; the first of these that holds.
-#[derive(Clone, Copy, Debug, PartialEq)]
+#[derive(Debug, PartialEq, Drop)]
 pub enum HtmlStop {
     /// The place is past the end, or not just after `<!` or `<?`.
     NoOpener,
@@ -39,9 +41,11 @@ pub enum HtmlStop {
 }
 
 impl HtmlScanGuard {
-    /// The guard to begin a text with: all its places are 0, so it stops no scan that comes after an opener.
+    /// The guard to begin a text with: all its places are 0, so it stops no scan that comes after
+    /// an opener.
     pub fn new() -> HtmlScanGuard
-        ensures start { result ≡ record { comment = 0; cdata = 0; declaration = 0; processing = 0 } }
+        ensures start { result
+            ≡ record { comment = 0; cdata = 0; declaration = 0; processing = 0 } }
     {
         HtmlScanGuard {
             comment: 0,
@@ -52,34 +56,38 @@ impl HtmlScanGuard {
     }
 }
 
-/// The place after the comment, CDATA section or declaration that begins at `place`, just after `<!`; None where
-/// none does, or where the guard stops its kind. A guard that is true at `place` stops no piece that is closed, and
-/// is left true at each later place that isn't below the answer. (CommonMark 0.31.2, section 6.6)
+/// The place after the comment, CDATA section or declaration that begins at `place`, just after
+/// `<!`; None where none does, or where the guard stops its kind. A guard that is true at `place`
+/// stops no piece that is closed, and is left true at each later place that isn't below the answer.
+/// (CommonMark 0.31.2, section 6.6)
 pub fn scan_inline_html_comment(
     bytes: &[u8],
     place: usize,
     guard: &mut HtmlScanGuard,
 ) -> Option<usize>
-    ensures answer { result ≡ guarded_answer bytes.now guard.old (declared_at bytes.now place) place }
-    ensures guards { guard.new ≡ guard_after bytes.now guard.old (declared_at bytes.now place) place }
-    ensures finds { IsTrue (ends_opener 33 bytes.now place) → IsTrueGuard bytes.now guard.old place
+    ensures answer { result ≡ answer_of_scan declared_at bytes.now guard.old place }
+    ensures guards { guard.new ≡ guard_after_scan declared_at bytes.now guard.old place }
+    ensures finds { IsTrue (ends_opener exclamation_mark bytes.now place)
+        → IsTrueGuard bytes.now guard.old place
         → IsTrueScan bytes.now place result guard.new }
 {
     let mut text = CountedText::new(bytes);
     scan_inline_html_comment_counted(&mut text, place, guard)
 }
 
-/// The place after the processing instruction that begins at `place`, just after `<?`; None where it isn't closed,
-/// or where the guard stops its kind. The guard is as in `scan_inline_html_comment`. (CommonMark 0.31.2, section 6.6)
+/// The place after the processing instruction that begins at `place`, just after `<?`; None where
+/// it isn't closed, or where the guard stops its kind. The guard is as in
+/// `scan_inline_html_comment`. (CommonMark 0.31.2, section 6.6)
 pub fn scan_inline_html_processing(
     bytes: &[u8],
     place: usize,
     guard: &mut HtmlScanGuard,
 ) -> Option<usize>
     requires within { place ≤ length bytes.now }
-    ensures answer { result ≡ guarded_answer bytes.now guard.old (Begins Processing) place }
-    ensures guards { guard.new ≡ guard_after bytes.now guard.old (Begins Processing) place }
-    ensures finds { IsTrue (ends_opener 63 bytes.now place) → IsTrueGuard bytes.now guard.old place
+    ensures answer { result ≡ answer_of_scan processing_at bytes.now guard.old place }
+    ensures guards { guard.new ≡ guard_after_scan processing_at bytes.now guard.old place }
+    ensures finds { IsTrue (ends_opener question_mark bytes.now place)
+        → IsTrueGuard bytes.now guard.old place
         → IsTrueScan bytes.now place result guard.new }
 {
     let mut text = CountedText::new(bytes);
@@ -93,10 +101,11 @@ pub fn scan_inline_html_comment_counted(
     guard: &mut HtmlScanGuard,
 ) -> Option<usize>
     requires room { text.old.passed < 2 ^ 119 }
-    ensures answer { result ≡ guarded_answer text.old.text guard.old (declared_at text.old.text place) place }
-    ensures guards { guard.new ≡ guard_after text.old.text guard.old (declared_at text.old.text place) place }
-    ensures counts { text.new ≡ passing text.old (cost text.old.text (is_stopped guard.old place) (declared_at text.old.text place) place) }
-    ensures finds { IsTrue (ends_opener 33 text.old.text place) → IsTrueGuard text.old.text guard.old place
+    ensures answer { result ≡ answer_of_scan declared_at text.old.text guard.old place }
+    ensures guards { guard.new ≡ guard_after_scan declared_at text.old.text guard.old place }
+    ensures counts { text.new ≡ text_after_scan declared_at text.old guard.old place }
+    ensures finds { IsTrue (ends_opener exclamation_mark text.old.text place)
+        → IsTrueGuard text.old.text guard.old place
         → IsTrueScan text.old.text place result guard.new }
 {
     match text.look(place) {
@@ -115,10 +124,11 @@ pub fn scan_inline_html_processing_counted(
 ) -> Option<usize>
     requires room { text.old.passed < 2 ^ 119 }
     requires within { place ≤ length text.old.text }
-    ensures answer { result ≡ guarded_answer text.old.text guard.old (Begins Processing) place }
-    ensures guards { guard.new ≡ guard_after text.old.text guard.old (Begins Processing) place }
-    ensures counts { text.new ≡ passing text.old (cost text.old.text (is_stopped guard.old place) (Begins Processing) place) }
-    ensures finds { IsTrue (ends_opener 63 text.old.text place) → IsTrueGuard text.old.text guard.old place
+    ensures answer { result ≡ answer_of_scan processing_at text.old.text guard.old place }
+    ensures guards { guard.new ≡ guard_after_scan processing_at text.old.text guard.old place }
+    ensures counts { text.new ≡ text_after_scan processing_at text.old guard.old place }
+    ensures finds { IsTrue (ends_opener question_mark text.old.text place)
+        → IsTrueGuard text.old.text guard.old place
         → IsTrueScan text.old.text place result guard.new }
 {
     if place <= guard.processing {
@@ -136,11 +146,11 @@ pub fn scan_inline_html_processing_counted(
 /// The rest of a scan whose first byte, looked at already, is a hyphen.
 fn scan_comment(text: &mut CountedText, place: usize, guard: &mut HtmlScanGuard) -> Option<usize>
     requires room { text.old.passed < 2 ^ 119 + 1 }
-    requires sized { length text.old.text < 2 ^ 64 }
-    requires stands { slice_get text.old.text place ≡ Some 45 }
-    ensures answer { result ≡ guarded_answer text.old.text guard.old (declared_at text.old.text place) place }
-    ensures guards { guard.new ≡ guard_after text.old.text guard.old (declared_at text.old.text place) place }
-    ensures counts { passing text.new 1 ≡ passing text.old (cost text.old.text (is_stopped guard.old place) (declared_at text.old.text place) place) }
+    requires fits_usize { length text.old.text < 2 ^ 64 }
+    requires stands { slice_get text.old.text place ≡ Some hyphen }
+    ensures answer { result ≡ answer_of_scan declared_at text.old.text guard.old place }
+    ensures guards { guard.new ≡ guard_after_scan declared_at text.old.text guard.old place }
+    ensures counts { passing text.new 1 ≡ text_after_scan declared_at text.old guard.old place }
 {
     if place < guard.comment {
         return None;
@@ -164,11 +174,11 @@ fn scan_comment(text: &mut CountedText, place: usize, guard: &mut HtmlScanGuard)
 /// The rest of a scan whose first byte, looked at already, is an opening bracket.
 fn scan_cdata(text: &mut CountedText, place: usize, guard: &mut HtmlScanGuard) -> Option<usize>
     requires room { text.old.passed < 2 ^ 119 + 1 }
-    requires sized { length text.old.text < 2 ^ 64 }
-    requires stands { slice_get text.old.text place ≡ Some 91 }
-    ensures answer { result ≡ guarded_answer text.old.text guard.old (declared_at text.old.text place) place }
-    ensures guards { guard.new ≡ guard_after text.old.text guard.old (declared_at text.old.text place) place }
-    ensures counts { passing text.new 1 ≡ passing text.old (cost text.old.text (is_stopped guard.old place) (declared_at text.old.text place) place) }
+    requires fits_usize { length text.old.text < 2 ^ 64 }
+    requires stands { slice_get text.old.text place ≡ Some left_bracket }
+    ensures answer { result ≡ answer_of_scan declared_at text.old.text guard.old place }
+    ensures guards { guard.new ≡ guard_after_scan declared_at text.old.text guard.old place }
+    ensures counts { passing text.new 1 ≡ text_after_scan declared_at text.old guard.old place }
 {
     let begins = text.starts(place + 1, b"CDATA[");
     if !begins {
@@ -193,12 +203,12 @@ fn scan_declaration(
     guard: &mut HtmlScanGuard,
 ) -> Option<usize>
     requires room { text.old.passed < 2 ^ 119 + 1 }
-    requires sized { length text.old.text < 2 ^ 64 }
+    requires fits_usize { length text.old.text < 2 ^ 64 }
     requires stands { declared_at text.old.text place ≡ Begins Declaration }
     requires within { place < length text.old.text }
-    ensures answer { result ≡ guarded_answer text.old.text guard.old (declared_at text.old.text place) place }
-    ensures guards { guard.new ≡ guard_after text.old.text guard.old (declared_at text.old.text place) place }
-    ensures counts { passing text.new 1 ≡ passing text.old (cost text.old.text (is_stopped guard.old place) (declared_at text.old.text place) place) }
+    ensures answer { result ≡ answer_of_scan declared_at text.old.text guard.old place }
+    ensures guards { guard.new ≡ guard_after_scan declared_at text.old.text guard.old place }
+    ensures counts { passing text.new 1 ≡ text_after_scan declared_at text.old guard.old place }
 {
     if place < guard.declaration {
         return None;

@@ -1,14 +1,15 @@
 //! A place in a line that is read column by column, with tab stops of four.
 //! (CommonMark 0.31.2, section 2.2, tabs)
-ghost use Rattle.std.specs.Prelude.{◌≡◌, ◌+◌, ◌-◌, ◌%◌, ◌<◌, ◌≤◌, ◌↔◌, ◌==◌, true, [], ◌∷◌, ◌++◌, length, take, drop, replicate, IsTrue, IfOk, IfSome, IfNone, if◌then◌else◌, ⊤};
-ghost use Rattle.markdown_scanners_tree.specs.Bytes.{begins_with, is_line_ending, is_at_line_end, is_blank};
+ghost use Rattle.std.specs.Prelude.{◌≡◌, ◌+◌, ◌-◌, ◌%◌, ◌<◌, ◌≤◌, ◌↔◌, ◌==◌, true, [], ◌∷◌, ◌++◌, length, take, drop, replicate, IsTrue, IfOk, IfSome, IfNone, ⊤};
+ghost use Rattle.markdown_scanners_tree.specs.Ascii.{space, greater_than_sign};
+ghost use Rattle.markdown_scanners_tree.specs.Bytes.{begins_with, is_line_ending, is_at_line_end};
 ghost use Rattle.markdown_scanners_tree.specs.Columns.{column_after, written_byte};
 ghost use Rattle.markdown_scanners_tree.specs.line.State.{LineState, unscanned, rest_of, leading_spaces, space_within, after_space, bytes_further};
 ghost use Rattle.markdown_scanners_tree.specs.scanners.list_items.ListItem.{IsListMarker};
 ghost use Rattle.markdown_scanners_tree.specs.scanners.list_items.ListMarker.{list_marker};
 ghost use Rattle.markdown_scanners_tree.specs.scanners.Breaks.{is_thematic_break};
-ghost use Rattle.markdown_scanners_tree.specs.line.PlainStep.{IsPlainStep, definition_spaces, marker_spaces};
-ghost use Rattle.markdown_scanners_tree.specs.line.Outcome.{after_all_space, after_quote, item_outcome, definition_outcome, space_or_end_follows, task_box, task_outcome, is_tag_name, tag_name, tag_line, tag_outcome};
+ghost use Rattle.markdown_scanners_tree.specs.line.PlainStep.{IsPlainStep, definition_spaces};
+ghost use Rattle.markdown_scanners_tree.specs.line.Outcome.{after_all_space, after_quote, further_spaces, item_outcome, definition_outcome, space_or_end_follows, task_box, task_outcome, is_alert_name, alert_name, alert_line, alert_outcome};
 
 mod run;
 
@@ -20,6 +21,15 @@ use markdown_values::values::BlockQuoteKind;
 pub use run::{LineAnswer, LineCall, LineRun, LineStop, run_line};
 use std::alloc::{AllocError, Global};
 use std::marker::Model;
+
+// The alerts by their names in lower case.
+const ALERTS: [(&str, BlockQuoteKind); 5] = [
+    ("note", BlockQuoteKind::Note),
+    ("tip", BlockQuoteKind::Tip),
+    ("important", BlockQuoteKind::Important),
+    ("warning", BlockQuoteKind::Warning),
+    ("caution", BlockQuoteKind::Caution),
+];
 
 /// A place in a line, and the columns of a tab before it that are not taken yet.
 ///
@@ -43,13 +53,15 @@ impl<'a> Model for LineStart<'a> {
 
     ghost Value = { LineState };
 
-    ghost view = { λ s. record { bytes = s.bytes.now; place = s.place; pending = s.pending; phase = s.column % 4 } };
+    ghost view = { λ s.
+        record { bytes = s.bytes.now; place = s.place; pending = s.pending; phase = s.column % 4 } };
 
     ghost invariant = { λ s.
         (s.place ≤ length s.bytes.now)
         × (s.column ≤ 4 * s.place)
         × (s.pending < 4)
-        × ((k : ℕ) → s.place ≤ k → k < s.no_break_before → is_thematic_break (drop k s.bytes.now) ≡ false) };
+        × ((k : ℕ) → s.place ≤ k → k < s.no_break_before
+        → is_thematic_break (drop k s.bytes.now) ≡ false) };
 }
 
 impl Clone for LineStart<'_> {
@@ -107,9 +119,10 @@ impl<'a> LineStart<'a> {
 
     // The byte at the place, if there is one.
     fn next_byte(&self) -> Option<u8>
-        ensures byte { IfSome result (λ b. unscanned self.now ≡ b ∷ drop (self.now.place + 1) self.now.bytes) }
+        ensures byte { IfSome result (λ b.
+            unscanned self.now ≡ b ∷ drop (self.now.place + 1) self.now.bytes) }
         ensures inside { IfSome result (λ _. self.now.place < length self.now.bytes) }
-        ensures end { IfNone result (unscanned self.now ≡ []) }
+        ensures none { IfNone result (unscanned self.now ≡ []) }
         ensures phase { self.now.phase < 4 }
     {
         self.bytes.get(self.place).copied()
@@ -133,18 +146,22 @@ impl<'a> LineStart<'a> {
         self.column += 1;
     }
 
-    /// Whether a line ending, or the end of the bytes, stands at the place. Pending columns are looked past.
+    /// Whether a line ending, or the end of the bytes, stands at the place. Pending columns are
+    /// looked past.
     pub fn is_at_eol(&self) -> bool
         ensures answer { IsTrue result ↔ (is_at_line_end (unscanned self.now) ≡ true) }
-        ensures step { self.now.pending ≡ 0 → IsPlainStep LineCall.Eol (LineAnswer.Flag result) self.now self.now }
+        ensures step { self.now.pending ≡ 0 →
+            IsPlainStep LineCall.Eol (LineAnswer.Flag result) self.now self.now }
     {
         self.next_byte().is_none_or(ends_line)
     }
 
-    /// Takes up to `n` columns of space, the pending ones first and then those of spaces and tabs. Answers how many.
+    /// Takes up to `n` columns of space, the pending ones first and then those of spaces and tabs.
+    /// Answers how many.
     pub fn scan_space_upto(&mut self, n: usize) -> usize
         ensures answer { result ≡ space_within n self.old }
         ensures state { self.new ≡ after_space n self.old }
+        ensures bytes { self.new.bytes ≡ self.old.bytes }
         ensures step { IsPlainStep (LineCall.Upto n) (LineAnswer.Count result) self.old self.new }
     {
         let from_pending = n.min(self.pending);
@@ -171,10 +188,12 @@ impl<'a> LineStart<'a> {
         n - left
     }
 
-    /// Takes up to `n` columns of space as `scan_space_upto` does. Answers whether there were so many.
+    /// Takes up to `n` columns of space as `scan_space_upto` does. Answers whether there were so
+    /// many.
     pub fn scan_space(&mut self, n: usize) -> bool
         ensures answer { IsTrue result ↔ (space_within n self.old ≡ n) }
         ensures state { self.new ≡ after_space n self.old }
+        ensures bytes { self.new.bytes ≡ self.old.bytes }
         ensures step { IsPlainStep (LineCall.Space n) (LineAnswer.Flag result) self.old self.new }
     {
         self.scan_space_upto(n) == n
@@ -184,7 +203,8 @@ impl<'a> LineStart<'a> {
     ///
     /// A tab is passed as one column here, so columns are not those of the line from then on.
     pub fn scan_all_space(&mut self)
-        ensures { self.new ≡ after_all_space self.old }
+        ensures state { self.new ≡ after_all_space self.old }
+        ensures bytes { self.new.bytes ≡ self.old.bytes }
     {
         self.pending = 0;
         let space = scan_spaces_and_tabs(&self.bytes[self.place..]);
@@ -192,12 +212,16 @@ impl<'a> LineStart<'a> {
     }
 
     /// Passes a block quote marker: `>` at the place, and at most one column of space after it.
-    /// Answers whether there was one. Pending columns are looked past, and one of them is that space.
+    /// Answers whether there was one. Pending columns are looked past, and one of them is that
+    /// space.
     /// (CommonMark 0.31.2, section 5.1)
     pub fn scan_blockquote_marker(&mut self) -> bool
-        ensures answer { IsTrue result ↔ (begins_with (λ b. b == 62) (unscanned self.old) ≡ true) }
+        ensures answer { IsTrue result ↔
+            (begins_with (λ b. b == greater_than_sign) (unscanned self.old) ≡ true) }
         ensures state { self.new ≡ after_quote self.old }
-        ensures step { self.old.pending ≡ 0 → IsPlainStep LineCall.Quote (LineAnswer.Flag result) self.old self.new }
+        ensures bytes { self.new.bytes ≡ self.old.bytes }
+        ensures step { self.old.pending ≡ 0 →
+            IsPlainStep LineCall.Quote (LineAnswer.Flag result) self.old self.new }
     {
         if self.next_byte() != Some(b'>') {
             return false;
@@ -208,7 +232,8 @@ impl<'a> LineStart<'a> {
     }
 
     /// Passes a list item's marker and the space that belongs to it, at an indent in columns.
-    /// Answers the bullet or the delimiter, the start number (0 for a bullet), and the indent of the item's content.
+    /// Answers the bullet or the delimiter, the start number (0 for a bullet), and the indent of the
+    /// item's content.
     ///
     /// One column of space, or a line ending, has to follow the marker. Of further space fewer
     /// than four columns are taken, unless the rest of the line is blank.
@@ -219,8 +244,11 @@ impl<'a> LineStart<'a> {
         requires { indent ≤ usize.MAX - 16 }
         ensures answer { result ≡ (item_outcome indent self.old).answer }
         ensures state { self.new ≡ (item_outcome indent self.old).state }
+        ensures width { IfSome result (λ r. r.2 ≤ indent + 14) }
+        ensures bytes { self.new.bytes ≡ self.old.bytes }
         ensures unchanged { IfNone result (self.new ≡ self.old) }
-        ensures step { self.old.pending ≡ 0 → IsPlainStep (LineCall.List indent) (LineAnswer.List result) self.old self.new }
+        ensures step { self.old.pending ≡ 0 →
+            IsPlainStep (LineCall.List indent) (LineAnswer.List result) self.old self.new }
     {
         let (width, delimiter, start) = self.list_marker()?;
         let before = self.copy();
@@ -236,8 +264,8 @@ impl<'a> LineStart<'a> {
     /// Passes a definition's marker, `:` and the space that belongs to it, at an indent in columns.
     /// Answers the indent of the definition's content.
     ///
-    /// Up to four columns of space are taken, and one alone where there are more. `indent` is at most
-    /// `usize::MAX - 16`, so that the columns of the marker can be added.
+    /// Up to four columns of space are taken, and one alone where there are more. `indent` is at
+    /// most `usize::MAX - 16`, so that the columns of the marker can be added.
     pub fn scan_definition_list_definition_marker_with_indent(
         &mut self,
         indent: usize,
@@ -245,8 +273,12 @@ impl<'a> LineStart<'a> {
         requires { indent ≤ usize.MAX - 16 }
         ensures answer { result ≡ (definition_outcome indent self.old).answer }
         ensures state { self.new ≡ (definition_outcome indent self.old).state }
+        ensures width { IfSome result (λ width. width ≤ indent + 5) }
+        ensures bytes { self.new.bytes ≡ self.old.bytes }
         ensures unchanged { IfNone result (self.new ≡ self.old) }
-        ensures step { self.old.pending ≡ 0 → IsPlainStep (LineCall.Definition indent) (LineAnswer.Definition result) self.old self.new }
+        ensures step { self.old.pending ≡ 0 →
+            IsPlainStep (LineCall.Definition indent) (LineAnswer.Definition result)
+            self.old self.new }
     {
         if self.next_byte() != Some(b':') {
             return None;
@@ -256,11 +288,14 @@ impl<'a> LineStart<'a> {
         Some(indent + 1 + columns)
     }
 
-    // The list marker at the place, if one stands there: its width, its bullet or delimiter, and its start number.
+    // The list marker at the place, if one stands there: its width, its bullet or delimiter, and
+    // its start number.
     fn list_marker(&mut self) -> Option<(usize, u8, u64)>
-        ensures found { IfSome result (λ r. list_marker (unscanned self.old) ≡ Some (record { width = r.0; delimiter = r.1; start = r.2 })) }
+        ensures found { IfSome result (λ r. list_marker (unscanned self.old)
+            ≡ Some (record { width = r.0; delimiter = r.1; start = r.2 })) }
         ensures marker { IfSome result (λ r. IsListMarker (take r.0 (unscanned self.old)) r.1 r.2) }
-        ensures inside { IfSome result (λ r. (self.old.place + r.0 ≤ length self.old.bytes) × (r.0 ≤ 10)) }
+        ensures inside { IfSome result (λ r. self.old.place + r.0 ≤ length self.old.bytes) }
+        ensures width { IfSome result (λ r. r.0 ≤ 10) }
         ensures none { IfNone result (list_marker (unscanned self.old) ≡ None) }
         ensures state { self.new ≡ self.old }
         ensures phase { self.old.phase < 4 }
@@ -273,7 +308,8 @@ impl<'a> LineStart<'a> {
         Some((width, delimiter, start as u64))
     }
 
-    // Whether a thematic break begins at the place. Where none does, the bytes that were read need not be read again.
+    // Whether a thematic break begins at the place. Where none does, the bytes that were read need
+    // not be read again.
     fn begins_break(&mut self) -> bool
         ensures answer { result ≡ is_thematic_break (unscanned self.old) }
         ensures state { self.new ≡ self.old }
@@ -299,7 +335,8 @@ impl<'a> LineStart<'a> {
         self.scan_space(1) || self.is_at_eol()
     }
 
-    // The space that belongs to a definition's marker: one column where five or more stand, else all.
+    // The space that belongs to a definition's marker: one column where five or more stand, else
+    // all.
     fn scan_definition_space(&mut self) -> usize
         ensures columns { result ≡ definition_spaces (leading_spaces (rest_of self.old)) }
         ensures state { self.new ≡ after_space result self.old }
@@ -315,10 +352,10 @@ impl<'a> LineStart<'a> {
         1
     }
 
-    // The further space that belongs to a list marker whose one column has been taken: none on a blank
-    // line, none where four columns or more stand, else all.
+    // The further space that belongs to a list marker whose one column has been taken: none on a
+    // blank line, none where four columns or more stand, else all.
     fn scan_marker_space(&mut self) -> usize
-        ensures columns { result ≡ (if is_blank (unscanned self.old) then 0 else marker_spaces (leading_spaces (rest_of self.old))) }
+        ensures columns { result ≡ further_spaces self.old }
         ensures state { self.new ≡ after_space result self.old }
         ensures rest { rest_of self.new ≡ drop result (rest_of self.old) }
     {
@@ -334,14 +371,15 @@ impl<'a> LineStart<'a> {
         columns
     }
 
-    /// Passes a task list item's box: up to three columns of space, `[`, white space or `x` or `X`, and `]`,
-    /// where white space follows. Answers whether the box is checked.
+    /// Passes a task list item's box: up to three columns of space, `[`, white space or `x` or `X`,
+    /// and `]`, where white space follows. Answers whether the box is checked.
     ///
-    /// The byte between the brackets may be any white space that ends no line. The white space after
-    /// the box is not taken. (GitHub Flavored Markdown 0.29, section 5.3)
+    /// The byte between the brackets may be any white space that ends no line. The white space
+    /// after the box is not taken. (GitHub Flavored Markdown 0.29, section 5.3)
     pub fn scan_task_list_marker(&mut self) -> Option<bool>
         ensures answer { result ≡ (task_outcome self.old).answer }
         ensures state { self.new ≡ (task_outcome self.old).state }
+        ensures bytes { self.new.bytes ≡ self.old.bytes }
         ensures unchanged { IfNone result (self.new ≡ self.old) }
     {
         let before = self.copy();
@@ -354,13 +392,15 @@ impl<'a> LineStart<'a> {
         Some(checked)
     }
 
-    /// Passes an alert's tag, as `[!NOTE]` in any ASCII case, with the blank rest of its line and the line ending.
+    /// Passes an alert's line: `[!NOTE]`, or another of the five names, in any ASCII case, with the
+    /// blank rest of the line and its ending.
     pub fn scan_blockquote_tag(&mut self) -> Option<BlockQuoteKind>
-        ensures answer { result ≡ (tag_outcome self.old).answer }
-        ensures state { self.new ≡ (tag_outcome self.old).state }
+        ensures answer { result ≡ (alert_outcome self.old).answer }
+        ensures state { self.new ≡ (alert_outcome self.old).state }
+        ensures bytes { self.new.bytes ≡ self.old.bytes }
         ensures unchanged { IfNone result (self.new ≡ self.old) }
     {
-        let (kind, length) = scan_tag(&self.bytes[self.place..])?;
+        let (kind, length) = scan_alert(&self.bytes[self.place..])?;
         self.pass_bytes(length);
         Some(kind)
     }
@@ -399,41 +439,33 @@ fn task_box(bytes: &[u8]) -> Option<bool>
     }
 }
 
-// The kind of the alert whose tag stands at the front alone in its line, and the length of that line.
-fn scan_tag(bytes: &[u8]) -> Option<(BlockQuoteKind, usize)>
-    ensures tag { result ≡ tag_line bytes.now }
-    ensures within { IfSome result (λ tag. tag.1 ≤ length bytes.now) }
+// The kind of the alert whose line stands at the front, and the length of that line.
+fn scan_alert(bytes: &[u8]) -> Option<(BlockQuoteKind, usize)>
+    ensures alert { result ≡ alert_line bytes.now }
+    ensures within { IfSome result (λ alert. alert.1 ≤ length bytes.now) }
 {
     let name = bytes.strip_prefix(b"[!")?;
-    let (kind, length) = scan_tag_name(name)?;
+    let (kind, length) = scan_alert_name(name)?;
     let rest = scan_blank_line(&name[length..])?;
     Some((kind, 2 + length + rest))
 }
 
 // The kind of the alert whose name and `]` stand at the front, and the length of both.
-fn scan_tag_name(bytes: &[u8]) -> Option<(BlockQuoteKind, usize)>
-    ensures name { result ≡ tag_name bytes.now }
-    ensures within { IfSome result (λ tag. tag.1 ≤ length bytes.now) }
+fn scan_alert_name(bytes: &[u8]) -> Option<(BlockQuoteKind, usize)>
+    ensures name { result ≡ alert_name bytes.now }
+    ensures within { IfSome result (λ alert. alert.1 ≤ length bytes.now) }
 {
-    if begins_with_name(bytes, b"note") {
-        Some((BlockQuoteKind::Note, 5))
-    } else if begins_with_name(bytes, b"tip") {
-        Some((BlockQuoteKind::Tip, 4))
-    } else if begins_with_name(bytes, b"important") {
-        Some((BlockQuoteKind::Important, 10))
-    } else if begins_with_name(bytes, b"warning") {
-        Some((BlockQuoteKind::Warning, 8))
-    } else if begins_with_name(bytes, b"caution") {
-        Some((BlockQuoteKind::Caution, 8))
-    } else {
-        None
+    for (name, kind) in ALERTS {
+        if begins_with_name(bytes, name.as_bytes()) {
+            return Some((kind, name.len() + 1));
+        }
     }
+    None
 }
 
 // Whether the name stands at the front, in any ASCII case, and `]` after it.
 fn begins_with_name(bytes: &[u8], name: &[u8]) -> bool
-    requires { length name.now ≤ 9 }
-    ensures name { result ≡ is_tag_name name.now bytes.now }
+    ensures name { result ≡ is_alert_name name.now bytes.now }
     ensures within { IsTrue result → length name.now < length bytes.now }
 {
     if bytes.len() <= name.len() {
@@ -451,7 +483,7 @@ fn ends_line(byte: u8) -> bool
 
 // Adds spaces at the end.
 fn push_spaces(rest: &mut Vec<u8>, count: usize) -> Result<(), AllocError>
-    ensures { IfOk result (λ _. rest.new.items ≡ rest.old.items ++ replicate count 32) }
+    ensures { IfOk result (λ _. rest.new.items ≡ rest.old.items ++ replicate count space) }
 {
     for _ in 0..count {
         rest.push(b' ')?;
@@ -462,7 +494,8 @@ fn push_spaces(rest: &mut Vec<u8>, count: usize) -> Result<(), AllocError>
 // Adds a byte at a column, a tab as spaces; answers the column of what follows it, modulo four.
 fn push_byte(rest: &mut Vec<u8>, phase: usize, byte: u8) -> Result<usize, AllocError>
     requires { phase < 4 }
-    ensures items { IfOk result (λ _. rest.new.items ≡ rest.old.items ++ written_byte phase byte) }
+    ensures items { IfOk result (λ _.
+        rest.new.items ≡ rest.old.items ++ written_byte phase byte) }
     ensures phase { IfOk result (λ next. next ≡ column_after phase byte % 4) }
 {
     if byte == b'\t' {

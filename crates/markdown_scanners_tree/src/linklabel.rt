@@ -1,18 +1,19 @@
 //! Link labels: the bracketed names by which references and footnotes are matched.
-ghost use Rattle.std.specs.Prelude.{length, take, drop, ◌≡◌, ◌≤◌, ◌+◌, ◌∷◌, ◌++◌, ◌==◌, ◌&&◌, ◌||◌, not, ℕ, true, false, Some, IfOk, OnOk, IsOk, IfSome, IfNone, string_bytes, encode_utf8_all, nat_eq, IsCharBoundary, if◌then◌else◌};
+ghost use Rattle.std.specs.Prelude.{length, drop, ◌≡◌, ◌⊎◌, ◌≤◌, ◌+◌, ◌++◌, ◌&&◌, not, ℕ, true, false, IfOk, OnOk, IsOk, IfSome, IfNone, option_map, string_bytes, encode_utf8_all, nat_eq, IsCharBoundary};
 ghost use Rattle.std.specs.Cmp.{on_equiv, on_per, partial_equiv_from_equiv};
 ghost use Rattle.std.specs.Cmp.Lexicographic.{pointwise, nat_list_eq_equiv};
 ghost use Rattle.std.specs.Cmp.Rules.{hashing};
 ghost use Rattle.std.specs.Hash as fed;
 ghost use Rattle.std.specs.String.{string_len, string_capacity};
 ghost use Rattle.std.proofs.Common.{rules};
-ghost use Rattle.markdown_values.specs.strings.Text.{cow_text};
+ghost use Rattle.markdown_values.specs.strings.Text.{cow_text, IsBorrowed, IsBoxed};
+ghost use Rattle.markdown_scanners_tree.specs.SomeExactly.{SomeExactly};
 ghost use Rattle.markdown_scanners_tree.specs.Handler.{Skips, IsSteadyAtChars};
-ghost use Rattle.markdown_scanners_tree.specs.linklabel.Label.{Label, IsLabel, ends_in_backslash, ReadsBack};
-ghost use Rattle.markdown_scanners_tree.specs.linklabel.Answer.{IsAnswer};
-ghost use Rattle.markdown_scanners_tree.specs.linklabel.private.Front.{IsFront};
+ghost use Rattle.markdown_scanners_tree.specs.linklabel.Label.{Label, IsLabel, HasNoLabel, ends_in_backslash, ReadsBack};
+ghost use Rattle.markdown_scanners_tree.specs.linklabel.Answer.{answered_label, is_borrowed, slice_before, without_first_space, without_last_space};
+ghost use Rattle.markdown_scanners_tree.specs.linklabel.private.NextPart.{IsNextPart};
 ghost use Rattle.markdown_scanners_tree.specs.linklabel.Key.{label_key};
-ghost use Rattle.markdown_scanners_tree.specs.linklabel.private.Pass.{begun, space_len, starts_dropped, IsOnlySkip, without_first_space, without_last_space, IsMeasure};
+ghost use Rattle.markdown_scanners_tree.specs.linklabel.private.Pass.{begun, space_len, starts_dropped, new_tally, tally_past_ending, tally_past_space, tally_past_word, IsMeasure};
 
 use crate::scanners::{is_ascii_punctuation, is_ascii_whitespace};
 use caseless::default_case_fold_str;
@@ -125,11 +126,24 @@ pub fn scan_link_label_rest<'t, F: Fn(&[u8]) -> Option<usize>>(
 ) -> Result<Option<(usize, CowStr<'t>)>, AllocError>
     requires callable { F.IsAlwaysCallable handler.now }
     requires steady { IsSteadyAtChars F.Fn handler.now }
-    ensures found { IfOk result (λ found. IfSome found (λ r. (label : Label) × IsLabel (Skips F.Fn handler.now) text.entry.now is_in_table label × IsAnswer label r.0 r.1)) }
-    ensures none { IfOk result (λ found. IfNone found ((label : Label) → ¬ IsLabel (Skips F.Fn handler.now) text.entry.now is_in_table label)) }
-    ensures reads_back { IfOk result (λ found. IfSome found (λ r. is_in_table ≡ false → ends_in_backslash (cow_text r.1) ≡ false → ReadsBack (cow_text r.1))) }
-    ensures lent { (label : Label) → IsLabel (Skips F.Fn handler.now) text.entry.now is_in_table label → label.plain ≡ true → IsOk result }
-    ensures no_label { ((label : Label) → ¬ IsLabel (Skips F.Fn handler.now) text.entry.now is_in_table label) → IsOk result }
+    ensures found { IfOk result (λ found.
+        SomeExactly (IsLabel (Skips F.Fn handler.now) text.entry.now is_in_table)
+        (option_map answered_label found)) }
+    ensures only { IfOk result (λ found. IfSome found (λ r. (label : Label)
+        → IsLabel (Skips F.Fn handler.now) text.entry.now is_in_table label
+        → label ≡ answered_label r)) }
+    ensures within { IfOk result (λ found. IfSome found (λ r. r.0 ≤ length text.entry.now)) }
+    ensures boundary { IfOk result (λ found. IfSome found (λ r. IsCharBoundary text.entry.now r.0)) }
+    ensures storage { IfOk result (λ found. IfSome found (λ r. IsBorrowed r.1 ⊎ IsBoxed r.1)) }
+    ensures slice { IfOk result (λ found. IfSome found (λ r. IsBorrowed r.1
+        → cow_text r.1 ≡ slice_before text.entry.now r.0)) }
+    ensures reads_back { IfOk result (λ found. IfSome found (λ r. is_in_table ≡ false
+        → ends_in_backslash (cow_text r.1) ≡ false → ReadsBack (cow_text r.1))) }
+    ensures borrowed { (label : Label)
+        → IsLabel (Skips F.Fn handler.now) text.entry.now is_in_table label
+        → label.plain ≡ true → IsOk result }
+    ensures no_label { HasNoLabel (Skips F.Fn handler.now) text.entry.now is_in_table
+        → IsOk result }
 {
     let Some(measure) = measure_label(text, handler, is_in_table) else {
         return Ok(None);
@@ -144,9 +158,9 @@ pub fn scan_link_label_rest<'t, F: Fn(&[u8]) -> Option<usize>>(
     Ok(Some((taken, CowStr::from_string(alloc, label)?)))
 }
 
-// What stands at the front of the bytes that are left; of a word's byte also whether it escapes the next one.
+// What stands next in a label; of a word's byte also whether it escapes the next one.
 #[derive(Clone, Copy, Drop)]
-enum Front {
+enum NextPart {
     End,
     Open,
     Close,
@@ -155,21 +169,21 @@ enum Front {
     Word(u8, bool),
 }
 
-// What stands at the front, where the byte before it was or was not a backslash that escapes.
-fn front_of(rest: &[u8], escaped: bool) -> Front
-    ensures { IsFront escaped rest.now result }
+// What stands next, where the byte before it was or was not a backslash that escapes.
+fn next_part(rest: &[u8], escaped: bool) -> NextPart
+    ensures { IsNextPart escaped rest.now result }
 {
     match rest {
-        [] => Front::End,
-        [b'\n', ..] => Front::Ending(1),
-        [b'\r', b'\n', ..] => Front::Ending(2),
-        [b'\r', ..] => Front::Ending(1),
-        [b, ..] if is_ascii_whitespace(*b) => Front::Space(*b),
-        [b, ..] if escaped => Front::Word(*b, false),
-        [b'[', ..] => Front::Open,
-        [b']', ..] => Front::Close,
-        [b'\\', next, ..] => Front::Word(b'\\', is_ascii_punctuation(*next)),
-        [b, ..] => Front::Word(*b, false),
+        [] => NextPart::End,
+        [b'\n', ..] => NextPart::Ending(1),
+        [b'\r', b'\n', ..] => NextPart::Ending(2),
+        [b'\r', ..] => NextPart::Ending(1),
+        [b, ..] if is_ascii_whitespace(*b) => NextPart::Space(*b),
+        [b, ..] if escaped => NextPart::Word(*b, false),
+        [b'[', ..] => NextPart::Open,
+        [b']', ..] => NextPart::Close,
+        [b'\\', next, ..] => NextPart::Word(b'\\', is_ascii_punctuation(*next)),
+        [b, ..] => NextPart::Word(*b, false),
     }
 }
 
@@ -185,9 +199,10 @@ fn skip_at<F: Fn(&[u8]) -> Option<usize>>(text: &str, place: usize, handler: &F)
     requires callable { F.IsAlwaysCallable handler.now }
     requires steady { IsSteadyAtChars F.Fn handler.now }
     requires cut { IsCharBoundary text.now place }
-    ensures found { IfSome result (IsOnlySkip (Skips F.Fn handler.now) (drop place text.now)) }
+    ensures found { SomeExactly (Skips F.Fn handler.now (drop place text.now)) result }
+    ensures only { IfSome result (λ skip. (other : ℕ)
+        → Skips F.Fn handler.now (drop place text.now) other → other ≡ skip) }
     ensures cut { IfSome result (λ skip. IsCharBoundary text.now (place + skip)) }
-    ensures none { IfNone result ((skip : ℕ) → ¬ Skips F.Fn handler.now (drop place text.now) skip) }
 {
     handler(&text.as_bytes()[place..])
 }
@@ -208,7 +223,7 @@ struct Tally {
 
 impl Tally {
     fn new() -> Tally
-        ensures { result ≡ record { characters = 0; length = 0; has_word = false; in_run = false; has_ending = false; is_spaced = true; is_rewritten = false } }
+        ensures { result ≡ new_tally }
     {
         Tally {
             characters: 0,
@@ -224,7 +239,7 @@ impl Tally {
     // After a line ending of this many bytes.
     fn past_ending(self, len: usize) -> Tally
         requires { self.characters + len ≤ usize.MAX }
-        ensures { result ≡ record self { characters = self.characters + len; in_run = true; has_ending = true; is_spaced = false } }
+        ensures { result ≡ tally_past_ending self len }
     {
         Tally {
             characters: self.characters + len,
@@ -238,7 +253,7 @@ impl Tally {
     // After a byte of white space that ends no line.
     fn past_space(self, byte: u8) -> Tally
         requires { self.characters + 1 ≤ usize.MAX }
-        ensures { result ≡ record self { characters = self.characters + 1; in_run = true; is_spaced = self.is_spaced && (byte == 32 && not self.in_run) } }
+        ensures { result ≡ tally_past_space self byte }
     {
         Tally {
             characters: self.characters + 1,
@@ -250,9 +265,9 @@ impl Tally {
 
     // After a byte of a word, which is or is not dropped.
     fn past_word(self, byte: u8, dropped: bool) -> Tally
-        requires few { self.characters + 1 ≤ usize.MAX }
-        requires short { self.length + space_len self.has_word self.in_run + 1 ≤ usize.MAX }
-        ensures { result ≡ record self { characters = self.characters + begun byte; length = self.length + space_len self.has_word self.in_run + (if dropped then 0 else 1); has_word = true; in_run = false; has_ending = false; is_rewritten = self.is_rewritten || dropped } }
+        requires characters_fit { self.characters + 1 ≤ usize.MAX }
+        requires length_fits { self.length + space_len self.has_word self.in_run + 1 ≤ usize.MAX }
+        ensures { result ≡ tally_past_word self byte dropped }
     {
         let space = if self.has_word && self.in_run { 1 } else { 0 };
         Tally {
@@ -299,16 +314,16 @@ fn measure_label<F: Fn(&[u8]) -> Option<usize>>(
     requires callable { F.IsAlwaysCallable handler.now }
     requires steady { IsSteadyAtChars F.Fn handler.now }
     ensures found { IfSome result (IsMeasure (Skips F.Fn handler.now) text.now is_in_table) }
-    ensures none { IfNone result ((label : Label) → ¬ IsLabel (Skips F.Fn handler.now) text.now is_in_table label) }
+    ensures none { IfNone result (HasNoLabel (Skips F.Fn handler.now) text.now is_in_table) }
 {
     let bytes = text.as_bytes();
     let mut ix = 0;
     let mut escaped = false;
     let mut tally = Tally::new();
     loop {
-        match front_of(&bytes[ix..], escaped) {
-            Front::End | Front::Open => return None,
-            Front::Close => {
+        match next_part(&bytes[ix..], escaped) {
+            NextPart::End | NextPart::Open => return None,
+            NextPart::Close => {
                 if tally.has_word && tally.characters <= 999 {
                     return Some(Measure {
                         close: ix,
@@ -318,7 +333,7 @@ fn measure_label<F: Fn(&[u8]) -> Option<usize>>(
                 }
                 return None;
             }
-            Front::Ending(len) => {
+            NextPart::Ending(len) => {
                 if tally.has_ending {
                     return None;
                 }
@@ -326,11 +341,11 @@ fn measure_label<F: Fn(&[u8]) -> Option<usize>>(
                 tally = tally.past_ending(len);
                 ix += len + skip;
             }
-            Front::Space(byte) => {
+            NextPart::Space(byte) => {
                 tally = tally.past_space(byte);
                 ix += 1;
             }
-            Front::Word(byte, escapes) => {
+            NextPart::Word(byte, escapes) => {
                 tally = tally.past_word(byte, is_dropped(&bytes[ix..], is_in_table));
                 escaped = escapes;
                 ix += 1;
@@ -343,20 +358,14 @@ fn measure_label<F: Fn(&[u8]) -> Option<usize>>(
 fn past_first_space(text: &str) -> &str
     ensures { result.now ≡ without_first_space text.now }
 {
-    if text.is_empty() || text.as_bytes()[0] != b' ' {
-        return text;
-    }
-    &text[1..]
+    text.strip_prefix(' ').unwrap_or(text)
 }
 
 // A text up to the space at its end, if one stands there.
 fn up_to_last_space(text: &str) -> &str
     ensures { result.now ≡ without_last_space text.now }
 {
-    if text.is_empty() || text.as_bytes()[text.len() - 1] != b' ' {
-        return text;
-    }
-    &text[..text.len() - 1]
+    text.strip_suffix(' ').unwrap_or(text)
 }
 
 // The second pass: appends the label's text. Where there is room for it no memory is taken.
@@ -368,17 +377,23 @@ fn write_label<F: Fn(&[u8]) -> Option<usize>>(
 ) -> Result<(), AllocError>
     requires callable { F.IsAlwaysCallable handler.now }
     requires steady { IsSteadyAtChars F.Fn handler.now }
-    ensures written { (label : Label) → IsLabel (Skips F.Fn handler.now) text.now is_in_table label → OnOk result (string_bytes out.new ≡ string_bytes out.old ++ label.text) }
-    ensures fits { (label : Label) → IsLabel (Skips F.Fn handler.now) text.now is_in_table label → string_len out.old + length label.text ≤ string_capacity out.old → IsOk result }
+    ensures written { (label : Label)
+        → IsLabel (Skips F.Fn handler.now) text.now is_in_table label
+        → OnOk result (string_bytes out.new ≡ string_bytes out.old ++ label.text) }
+    ensures fits { (label : Label)
+        → IsLabel (Skips F.Fn handler.now) text.now is_in_table label
+        → string_len out.old + length label.text ≤ string_capacity out.old → IsOk result }
 {
     let bytes = text.as_bytes();
     let (mut ix, mut mark) = (0, 0);
     let mut escaped = false;
     let (mut has_word, mut in_run) = (false, false);
     loop {
-        match front_of(&bytes[ix..], escaped) {
-            Front::End | Front::Open | Front::Close => return out.push_str(&text[mark..ix]),
-            Front::Ending(len) => {
+        match next_part(&bytes[ix..], escaped) {
+            NextPart::End | NextPart::Open | NextPart::Close => {
+                return out.push_str(&text[mark..ix]);
+            }
+            NextPart::Ending(len) => {
                 let Some(skip) = skip_at(text, ix + len, handler) else {
                     return Ok(());
                 };
@@ -387,13 +402,13 @@ fn write_label<F: Fn(&[u8]) -> Option<usize>>(
                 mark = ix;
                 in_run = true;
             }
-            Front::Space(_) => {
+            NextPart::Space(_) => {
                 out.push_str(&text[mark..ix])?;
                 ix += 1;
                 mark = ix;
                 in_run = true;
             }
-            Front::Word(_, escapes) => {
+            NextPart::Word(_, escapes) => {
                 if has_word && in_run {
                     out.push_str(" ")?;
                 }

@@ -5,6 +5,7 @@ use Rattle.std.proofs.lemmas.Bool.{cases_eq, false≢true, false_from_ne_true}
 use Rattle.std.proofs.lemmas.Option.{slice_get_within, get_or_from_slice_get, same_Some, none-some, slice_get-get_or, unwrap_or-slice_get}
 use Rattle.memchr.specs.Find.{OccursAt, occurs_at}
 use Rattle.memchr.proofs.lemmas.MatchLemmas.{occurs_at-true, OccursAt-true}
+use Rattle.markdown_scanners_tree.specs.Ascii.{hyphen, left_bracket}
 use Rattle.markdown_scanners_tree.specs.Bytes.{is_letter}
 use Rattle.markdown_scanners_tree.specs.inline_html.InlineHtml.{Comment, Cdata, Declaration, Begins, Hyphen, Bracket, Nothing, declared_at}
 
@@ -38,9 +39,6 @@ module _ (text : List ℕ) (b : ℕ) (bytes : List ℕ) (p : ℕ) where
   pub stands-not-head : slice_get text p ≢ Some b → occurs_at text (b ∷ bytes) p ≡ false
   stands-not-head other = false_from_ne_true _ (λ there. other (head-OccursAt (OccursAt-true text (b ∷ bytes) p there)))
 
-  pub stands-head : occurs_at text (b ∷ bytes) p ≡ true → slice_get text p ≡ Some b
-  stands-head there = head-OccursAt (OccursAt-true text (b ∷ bytes) p there)
-
 stands-empty : (text : List ℕ) (p : ℕ) → p ≤ length text → occurs_at text [] p ≡ true
 stands-empty text p in_text = occurs_at-true text [] p (record { fits = omega arith; reads = λ j below. absurd (omega arith) })
 
@@ -54,55 +52,55 @@ pub stands-nowhere : (text : List ℕ) (b : ℕ) (bytes : List ℕ) (p : ℕ) �
 stands-nowhere text b bytes p gone = stands-not-head text b bytes p (λ same. none-some b (sym gone ∙ same))
 
 module _ (text : List ℕ) (p : ℕ) where
-  pub declared_at-comment : slice_get text p ≡ Some 45 → slice_get text (p + 1) ≡ Some 45 → declared_at text p ≡ Begins Comment
+  pub declared_at-comment : slice_get text p ≡ Some hyphen → slice_get text (p + 1) ≡ Some hyphen → declared_at text p ≡ Begins Comment
   unfolding declared_at
-  declared_at-comment first second = rw (stands-cons text 45 (45 ∷ []) p first (stands-one text 45 (p + 1) second))
+  declared_at-comment first second = rw (stands-cons text hyphen (hyphen ∷ []) p first (stands-one text hyphen (p + 1) second))
 
-  pub declared_at-hyphen : slice_get text p ≡ Some 45 → slice_get text (p + 1) ≢ Some 45 → declared_at text p ≡ Hyphen
+  pub declared_at-hyphen : slice_get text p ≡ Some hyphen → slice_get text (p + 1) ≢ Some hyphen → declared_at text p ≡ Hyphen
   unfolding declared_at
   declared_at-hyphen first second =
-      rw (stands-not-tail text 45 (45 ∷ []) p (stands-not-head text 45 [] (p + 1) second), stands-one text 45 p first)
+      rw (stands-not-tail text hyphen (hyphen ∷ []) p (stands-not-head text hyphen [] (p + 1) second), stands-one text hyphen p first)
 
   -- no hyphen stands at the place
-  no-hyphens : (c : ℕ) → slice_get text p ≡ Some c → c ≢ 45 → (occurs_at text (45 ∷ 45 ∷ []) p ≡ false) × (occurs_at text (45 ∷ []) p ≡ false)
-  no-hyphens c first other = (stands-other text 45 c (45 ∷ []) p first other, stands-other text 45 c [] p first other)
+  no-hyphens : (c : ℕ) → slice_get text p ≡ Some c → c ≢ hyphen → (occurs_at text (hyphen ∷ hyphen ∷ []) p ≡ false) × (occurs_at text (hyphen ∷ []) p ≡ false)
+  no-hyphens c first other = (stands-other text hyphen c (hyphen ∷ []) p first other, stands-other text hyphen c [] p first other)
 
-  pub declared_at-cdata : slice_get text p ≡ Some 91 → occurs_at text (codes "CDATA[") (p + 1) ≡ true → declared_at text p ≡ Begins Cdata
+  pub declared_at-cdata : slice_get text p ≡ Some left_bracket → occurs_at text (codes "CDATA[") (p + 1) ≡ true → declared_at text p ≡ Begins Cdata
   unfolding declared_at
   declared_at-cdata first rest =
-      let free = no-hyphens 91 first (λ e. omega arith) in
-      rw (free.0, free.1, stands-cons text 91 (codes "CDATA[") p first rest)
+      let free = no-hyphens left_bracket first (λ e. omega arith) in
+      rw (free.0, free.1, stands-cons text left_bracket (codes "CDATA[") p first rest)
 
-  pub declared_at-bracket : slice_get text p ≡ Some 91 → occurs_at text (codes "CDATA[") (p + 1) ≡ false → declared_at text p ≡ Bracket
+  pub declared_at-bracket : slice_get text p ≡ Some left_bracket → occurs_at text (codes "CDATA[") (p + 1) ≡ false → declared_at text p ≡ Bracket
   unfolding declared_at
   declared_at-bracket first rest =
-      let free = no-hyphens 91 first (λ e. omega arith) in
-      rw (free.0, free.1, stands-not-tail text 91 (codes "CDATA[") p rest, stands-one text 91 p first)
+      let free = no-hyphens left_bracket first (λ e. omega arith) in
+      rw (free.0, free.1, stands-not-tail text left_bracket (codes "CDATA[") p rest, stands-one text left_bracket p first)
 
   pub declared_at-letter : (c : ℕ) → slice_get text p ≡ Some c → is_letter c ≡ true → declared_at text p ≡ Begins Declaration
   unfolding declared_at
   declared_at-letter c first letter =
-      let not_hyphen : c ≢ 45 = λ e. false≢true (subst (λ d. is_letter d ≡ true) e letter) in
-      let not_bracket : c ≢ 91 = λ e. false≢true (subst (λ d. is_letter d ≡ true) e letter) in
+      let not_hyphen : c ≢ hyphen = λ e. false≢true (subst (λ d. is_letter d ≡ true) e letter) in
+      let not_bracket : c ≢ left_bracket = λ e. false≢true (subst (λ d. is_letter d ≡ true) e letter) in
       let free = no-hyphens c first not_hyphen in
       rw (
         free.0,
         free.1,
-        stands-other text 91 c (codes "CDATA[") p first not_bracket,
-        stands-other text 91 c [] p first not_bracket,
+        stands-other text left_bracket c (codes "CDATA[") p first not_bracket,
+        stands-other text left_bracket c [] p first not_bracket,
         get_or_from_slice_get text p c 0 first,
         letter,
       )
 
-  pub declared_at-other : (c : ℕ) → slice_get text p ≡ Some c → c ≢ 45 → c ≢ 91 → is_letter c ≡ false → declared_at text p ≡ Nothing
+  pub declared_at-other : (c : ℕ) → slice_get text p ≡ Some c → c ≢ hyphen → c ≢ left_bracket → is_letter c ≡ false → declared_at text p ≡ Nothing
   unfolding declared_at
   declared_at-other c first not_hyphen not_bracket letter =
       let free = no-hyphens c first not_hyphen in
       rw (
         free.0,
         free.1,
-        stands-other text 91 c (codes "CDATA[") p first not_bracket,
-        stands-other text 91 c [] p first not_bracket,
+        stands-other text left_bracket c (codes "CDATA[") p first not_bracket,
+        stands-other text left_bracket c [] p first not_bracket,
         get_or_from_slice_get text p c 0 first,
         letter,
       )
@@ -111,7 +109,7 @@ module _ (text : List ℕ) (p : ℕ) where
   unfolding declared_at
   declared_at-end gone =
       let zero_there : get_or text p 0 ≡ 0 = sym (unwrap_or-slice_get text p 0) ∙ ap (λ o. unwrap_or o 0) gone in
-      rw (stands-nowhere text 45 (45 ∷ []) p gone, stands-nowhere text 45 [] p gone, stands-nowhere text 91 (codes "CDATA[") p gone, stands-nowhere text 91 [] p gone, zero_there)
+      rw (stands-nowhere text hyphen (hyphen ∷ []) p gone, stands-nowhere text hyphen [] p gone, stands-nowhere text left_bracket (codes "CDATA[") p gone, stands-nowhere text left_bracket [] p gone, zero_there)
 
 pub stands-length : (text bytes : List ℕ) (p : ℕ) → occurs_at text bytes p ≡ true → p + length bytes ≤ length text
 stands-length text bytes p there = (OccursAt-true text bytes p there).fits

@@ -1,5 +1,5 @@
 -- What a guarded scan does, exit by exit.
-use Rattle.std.proofs.Common.{◌≡◌, ℕ, ◌+◌, ◌-◌, ◌≤◌, true, false, List, length, refl, sym, ap, subst, ◌∙◌, arith, Option, Some, None}
+use Rattle.std.proofs.Common.{◌≡◌, ℕ, ◌+◌, ◌-◌, ◌≤◌, Bool, true, false, List, length, refl, sym, ap, subst, ◌∙◌, arith, Option, Some, None}
 use Rattle.memchr.specs.Find.{FindsNeedle}
 use Rattle.markdown_scanners_tree.specs.declared.inline_html.HtmlScanGuard.{HtmlScanGuard}
 use Rattle.markdown_scanners_tree.specs.inline_html.CountedText.{CountedBytes, passing, searched_bytes}
@@ -43,6 +43,14 @@ module _ (text : List ℕ) (guard : HtmlScanGuard) (p : ℕ) where
   pub scan-nothing : IsScan text guard Nothing p None guard 1
   unfolding cost
   scan-nothing = record { answers = refl; guards = refl; counts = refl }
+
+-- the kinds that are stopped decide what a scan costs
+pub cost-same : (text : List ℕ) (stopped other : Kind → Bool) (opening : Opening) (p : ℕ) → ((kind : Kind) → stopped kind ≡ other kind) → cost text stopped opening p ≡ cost text other opening p
+unfolding cost
+cost-same text stopped other (Begins kind) p same = rw (same kind)
+cost-same text stopped other Hyphen p same = rw (same Comment)
+cost-same text stopped other Bracket p same = refl
+cost-same text stopped other Nothing p same = refl
 
 -- a search hits at its start or later, and the hit ends in the text
 pub first_place-bounds : (text bytes : List ℕ) (i hit : ℕ) → first_place text bytes i ≡ Some hit → (i ≤ hit) × (hit + length bytes ≤ length text)

@@ -8,6 +8,7 @@ use Rattle.memchr.specs.Find.{OccursAt, Nowhere, FindsNeedle, occurs_at}
 use Rattle.memchr.proofs.lemmas.MatchLemmas.{OccursAt-true}
 use Rattle.memchr.proofs.lemmas.FindLemmas.{Nowhere-then}
 use Rattle.markdown_scanners_tree.specs.declared.inline_html.HtmlScanGuard.{HtmlScanGuard}
+use Rattle.markdown_scanners_tree.specs.Ascii.{exclamation_mark, less_than_sign, greater_than_sign, question_mark, right_bracket}
 use Rattle.markdown_scanners_tree.specs.Bytes.{is_letter}
 use Rattle.markdown_scanners_tree.specs.inline_html.CountedText.{CountedBytes, passing}
 use Rattle.markdown_scanners_tree.specs.inline_html.InlineHtml.{Kind, Comment, Cdata, Declaration, Processing, Opening, Begins, Hyphen, Bracket, Nothing, closer, lead, first_closer, closed_at, end_of, declared_at, opening_at, ends_opener, opener_before}
@@ -31,13 +32,13 @@ not-among x (b ∷ bs) h (suc j) below e = not-among x bs (and_parts _ _ h).1 j 
 cdata-lead : (text : List ℕ) (p : ℕ) → OccursAt text (codes "[CDATA[") p → Nowhere (OccursAt text (codes "]]>")) p (p + 7)
 cdata-lead text p h q low high closes =
     let there : p + (q - p) ≡ q = omega arith in
-    let first : get_or text q 0 ≡ 93 = ap (λ m. get_or text m 0) (sym (add-zero q)) ∙ closes.reads 0 (omega arith) in
-    not-among 93 (codes "[CDATA[") refl (q - p) (omega arith) (sym (h.reads (q - p) (omega arith)) ∙ ap (λ m. get_or text m 0) there ∙ first)
+    let first : get_or text q 0 ≡ right_bracket = ap (λ m. get_or text m 0) (sym (add-zero q)) ∙ closes.reads 0 (omega arith) in
+    not-among right_bracket (codes "[CDATA[") refl (q - p) (omega arith) (sym (h.reads (q - p) (omega arith)) ∙ ap (λ m. get_or text m 0) there ∙ first)
 
 letter-lead : (text : List ℕ) (p : ℕ) → is_letter (slice_index text p) ≡ true → Nowhere (OccursAt text (codes ">")) p (p + 1)
 letter-lead text p letter q low high closes =
     let here : q + 0 ≡ p = omega arith in
-    let first : get_or text p 0 ≡ 62 = ap (λ m. get_or text m 0) (sym here) ∙ closes.reads 0 (omega arith) in
+    let first : get_or text p 0 ≡ greater_than_sign = ap (λ m. get_or text m 0) (sym here) ∙ closes.reads 0 (omega arith) in
     false≢true (subst (λ b. is_letter b ≡ true) first letter)
 
 -- the cases of what is declared, by the tests in turn
@@ -119,14 +120,14 @@ module _ (text : List ℕ) (guard : HtmlScanGuard) where
         let none = first_place-value text (closer kind) (p + lead kind) None (Nowhere-later (omega arith) (is kind e)) in
         rw (← none)
 
-    keeps-kind : (kind : Kind) → HasFreeLead text p (Begins kind) → (stopped : Bool) → (found : Option ℕ) → first_closer text kind p ≡ found
+    kind-stays_true : (kind : Kind) → HasFreeLead text p (Begins kind) → (stopped : Bool) → (found : Option ℕ) → first_closer text kind p ≡ found
         → (q : ℕ) → p < q → IfSome (cond stopped None (closed_at text kind p)) (λ end. end ≤ q)
         → IsTrueGuard text (cond stopped guard (searched_guard text guard kind found)) q
-    keeps-kind kind free true found e q later outside = IsTrueGuard-later p q (omega arith) is
-    keeps-kind kind free false None e q later outside =
+    kind-stays_true kind free true found e q later outside = IsTrueGuard-later p q (omega arith) is
+    kind-stays_true kind free false None e q later outside =
         let gone = subst (FindsNeedle text (closer kind) (p + lead kind)) e (first_place-FindsNeedle text (closer kind) (p + lead kind)) in
         with_number-true q (length text) (IsTrueGuard-later p q (omega arith) is) kind (Nowhere-later (omega arith) (Nowhere-then free gone))
-    keeps-kind kind free false (Some hit) e q later outside =
+    kind-stays_true kind free false (Some hit) e q later outside =
         hit-true q hit (IsTrueGuard-later p q (omega arith) is) kind (rw e at outside)
 
     pub true_answer : (opening : Opening) → guarded_answer text guard opening p ≡ end_of text opening p
@@ -136,28 +137,28 @@ module _ (text : List ℕ) (guard : HtmlScanGuard) where
     true_answer Nothing = refl
 
     pub true_after : (opening : Opening) → HasFreeLead text p opening → (q : ℕ) → p < q → IfSome (guarded_answer text guard opening p) (λ end. end ≤ q) → IsTrueGuard text (guard_after text guard opening p) q
-    true_after (Begins kind) free q later outside = keeps-kind kind free _ _ refl q later outside
+    true_after (Begins kind) free q later outside = kind-stays_true kind free _ _ refl q later outside
     true_after Hyphen free q later outside = IsTrueGuard-later p q (omega arith) is
     true_after Bracket free q later outside = IsTrueGuard-later p q (omega arith) is
     true_after Nothing free q later outside = IsTrueGuard-later p q (omega arith) is
 
 -- ---- what begins at a place, by the mark of its opener
 
-pub opening_at-declared : (text : List ℕ) (p : ℕ) → ends_opener 33 text p ≡ true → opening_at text p ≡ declared_at text p
+pub opening_at-declared : (text : List ℕ) (p : ℕ) → ends_opener exclamation_mark text p ≡ true → opening_at text p ≡ declared_at text p
 unfolding opening_at
 opening_at-declared text p e = rw e
 
-one-mark : (text : List ℕ) (p : ℕ) → ends_opener 63 text p ≡ true → ends_opener 33 text p ≡ false
+one-mark : (text : List ℕ) (p : ℕ) → ends_opener question_mark text p ≡ true → ends_opener exclamation_mark text p ≡ false
 one-mark text p question = false_from_ne_true _ (λ bang.
     let one : 1 < 2 = omega arith in
-    let a = OccursAt-true text (60 ∷ 63 ∷ []) (p - 2) (and_parts (nat_le 2 p) _ question).1 in
-    let b = OccursAt-true text (60 ∷ 33 ∷ []) (p - 2) (and_parts (nat_le 2 p) _ bang).1 in
+    let a = OccursAt-true text (less_than_sign ∷ question_mark ∷ []) (p - 2) (and_parts (nat_le 2 p) _ question).1 in
+    let b = OccursAt-true text (less_than_sign ∷ exclamation_mark ∷ []) (p - 2) (and_parts (nat_le 2 p) _ bang).1 in
     apart (sym (a.reads 1 one) ∙ b.reads 1 one))
   where
-    apart : ◌≡◌ {A = ℕ} 63 33 → ⊥
+    apart : ◌≡◌ {A = ℕ} question_mark exclamation_mark → ⊥
     apart e = omega (arith, e)
 
-pub opening_at-processing : (text : List ℕ) (p : ℕ) → ends_opener 63 text p ≡ true → opening_at text p ≡ Begins Processing
+pub opening_at-processing : (text : List ℕ) (p : ℕ) → ends_opener question_mark text p ≡ true → opening_at text p ≡ Begins Processing
 unfolding opening_at
 opening_at-processing text p e = rw (one-mark text p e, e)
 
@@ -167,25 +168,25 @@ pub true-scan : (text : List ℕ) (guard : HtmlScanGuard) (opening : Opening) (p
     → IsTrueGuard text guard p → IsTrueScan text p answer after
 true-scan text guard opening p answer after a g is_here free is = record {
   finds = a ∙ true_answer text guard p is opening ∙ ap (λ o. end_of text o p) (sym is_here);
-  keeps = λ q later outside. subst (λ h. IsTrueGuard text h q) (sym g)
+  stays_true = λ q later outside. subst (λ h. IsTrueGuard text h q) (sym g)
       (true_after text guard p is opening free q later (subst (λ r. IfSome r (λ end. end ≤ q)) a outside));
 }
 
 -- the same of a scan of what is declared after `<!`, and of a processing instruction
 pub true-declared : (text : List ℕ) (guard : HtmlScanGuard) (p : ℕ) (answer : Option ℕ) (after : HtmlScanGuard)
     → answer ≡ guarded_answer text guard (declared_at text p) p → after ≡ guard_after text guard (declared_at text p) p
-    → ends_opener 33 text p ≡ true → IsTrueGuard text guard p → IsTrueScan text p answer after
+    → ends_opener exclamation_mark text p ≡ true → IsTrueGuard text guard p → IsTrueScan text p answer after
 true-declared text guard p answer after a g opener is = true-scan text guard _ p answer after a g (opening_at-declared text p opener) (declared_at-lead text p) is
 
 pub true-processing : (text : List ℕ) (guard : HtmlScanGuard) (p : ℕ) (answer : Option ℕ) (after : HtmlScanGuard)
     → answer ≡ guarded_answer text guard (Begins Processing) p → after ≡ guard_after text guard (Begins Processing) p
-    → ends_opener 63 text p ≡ true → IsTrueGuard text guard p → IsTrueScan text p answer after
+    → ends_opener question_mark text p ≡ true → IsTrueGuard text guard p → IsTrueScan text p answer after
 true-processing text guard p answer after a g opener is = true-scan text guard _ p answer after a g (opening_at-processing text p opener) (processing-lead text p) is
 
 -- the same where the scan was told over the text with one byte counted
 pub true-declared-after : (t u : CountedBytes) (guard : HtmlScanGuard) (p count : ℕ) (answer : Option ℕ) (after : HtmlScanGuard) → u ≡ passing t count
     → answer ≡ guarded_answer u.text guard (declared_at u.text p) p → after ≡ guard_after u.text guard (declared_at u.text p) p
-    → ends_opener 33 t.text p ≡ true → IsTrueGuard t.text guard p → IsTrueScan t.text p answer after
+    → ends_opener exclamation_mark t.text p ≡ true → IsTrueGuard t.text guard p → IsTrueScan t.text p answer after
 true-declared-after t u guard p count answer after counted a g =
     let same : u.text ≡ t.text = ap (λ v. v.text) counted in
     true-declared t.text guard p answer after
@@ -199,22 +200,22 @@ pub opener-in : (mark : ℕ) (text : List ℕ) (p : ℕ) → ends_opener mark te
 opener-in mark text p e =
     let parts = and_parts (nat_le 2 p) _ e in
     let two = leb-true _ _ parts.0 in
-    (two, omega (arith, (OccursAt-true text (60 ∷ mark ∷ []) (p - 2) parts.1).fits))
+    (two, omega (arith, (OccursAt-true text (less_than_sign ∷ mark ∷ []) (p - 2) parts.1).fits))
 
-some-mark : (bang question : Bool) (mark : ℕ) → cond bang (Some 33) (cond question (Some 63) None) ≡ Some mark → ((bang ≡ true) × (mark ≡ 33)) ⊎ ((question ≡ true) × (mark ≡ 63))
-some-mark true question mark e = inl (refl, same_Some mark 33 (sym e))
-some-mark false true mark e = inr (refl, same_Some mark 63 (sym e))
+some-mark : (bang question : Bool) (mark : ℕ) → cond bang (Some exclamation_mark) (cond question (Some question_mark) None) ≡ Some mark → ((bang ≡ true) × (mark ≡ exclamation_mark)) ⊎ ((question ≡ true) × (mark ≡ question_mark))
+some-mark true question mark e = inl (refl, same_Some mark exclamation_mark (sym e))
+some-mark false true mark e = inr (refl, same_Some mark question_mark (sym e))
 some-mark false false mark e = absurd (none-some mark e)
 
 -- the mark tells which opener ends at the place
-pub opener-mark : (text : List ℕ) (p mark : ℕ) → opener_before text p ≡ Some mark → ((ends_opener 33 text p ≡ true) × (mark ≡ 33)) ⊎ ((ends_opener 63 text p ≡ true) × (mark ≡ 63))
+pub opener-mark : (text : List ℕ) (p mark : ℕ) → opener_before text p ≡ Some mark → ((ends_opener exclamation_mark text p ≡ true) × (mark ≡ exclamation_mark)) ⊎ ((ends_opener question_mark text p ≡ true) × (mark ≡ question_mark))
 opener-mark text p mark e = some-mark _ _ mark e
 
-pub opener-bang : (text : List ℕ) (p mark : ℕ) → opener_before text p ≡ Some mark → mark ≡ 33 → ends_opener 33 text p ≡ true
+pub opener-bang : (text : List ℕ) (p mark : ℕ) → opener_before text p ≡ Some mark → mark ≡ exclamation_mark → ends_opener exclamation_mark text p ≡ true
 opener-bang text p mark e is_bang = ⊎_elim (λ bang. bang.0) (λ question. absurd (omega (arith, question.1))) (opener-mark text p mark e)
 
-pub opener-question : (text : List ℕ) (p mark : ℕ) → opener_before text p ≡ Some mark → (mark ≡ 33 → ⊥) → ends_opener 63 text p ≡ true
+pub opener-question : (text : List ℕ) (p mark : ℕ) → opener_before text p ≡ Some mark → (mark ≡ exclamation_mark → ⊥) → ends_opener question_mark text p ≡ true
 opener-question text p mark e no_bang = ⊎_elim (λ bang. absurd (no_bang bang.1)) (λ question. question.0) (opener-mark text p mark e)
 
 pub opener-bounds : (text : List ℕ) (p mark : ℕ) → opener_before text p ≡ Some mark → (2 ≤ p) × (p ≤ length text)
-opener-bounds text p mark e = ⊎_elim (λ bang. opener-in 33 text p bang.0) (λ question. opener-in 63 text p question.0) (opener-mark text p mark e)
+opener-bounds text p mark e = ⊎_elim (λ bang. opener-in exclamation_mark text p bang.0) (λ question. opener-in question_mark text p question.0) (opener-mark text p mark e)

@@ -1,4 +1,4 @@
 pub mod Budget
-pub mod GuardsKept
+pub mod GuardsStay
 pub mod Runs
 pub mod Sums

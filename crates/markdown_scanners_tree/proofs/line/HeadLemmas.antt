@@ -9,7 +9,7 @@ use Rattle.markdown_scanners_tree.specs.Columns.{column_after, head_end, written
 use Rattle.markdown_scanners_tree.specs.line.State.{rest_of, leading_spaces}
 use Rattle.markdown_scanners_tree.specs.line.PlainStep.{plain_step, quote_step, definition_step, definition_spaces, item_step, item_step_by, marker_spaces}
 use Rattle.markdown_scanners_tree.specs.scanners.list_items.ListMarker.{is_delimiter, list_marker, bullet_marker, ordered_marker, ordered_marker_of, is_bullet, is_space_or_line_end, Marker}
-use Rattle.markdown_scanners_tree.specs.Numbers.{decimal_value}
+use Rattle.std.specs.Str.Parse.{digits_value}
 use Rattle.markdown_scanners_tree.specs.scanners.Breaks.{is_thematic_break}
 use Rattle.markdown_scanners_tree.specs.declared.line.run.LineCall.{LineCall}
 use Rattle.markdown_scanners_tree.specs.declared.line.run.LineCall.TheVariants.{Space, Upto, Eol, Quote, List as ItemCall, Definition as DefinitionCall}
@@ -108,7 +108,7 @@ ordered-head-by r (d ∷ back) m e n h =
     bool_cases (nat_le 1 (length digits) && nat_le (length digits) 9 && is_delimiter d)
     (λ yes.
     let ends : is_delimiter d ≡ true = grind (arith, nat_tests) in
-    let width : length digits + 1 ≡ m.width = same_width (record { width = length digits + 1; delimiter = d; start = decimal_value digits }) m (rw yes at h) in
+    let width : length digits + 1 ≡ m.width = same_width (record { width = length digits + 1; delimiter = d; start = digits_value 10 digits }) m (rw yes at h) in
     let w : m.width ≡ prefix_len is_digit r + 1 = omega arith in
     let tail : drop (prefix_len is_digit r + 1) r ≡ back = sym (drop-drop 1 (prefix_len is_digit r) r) ∙ ap (drop 1) e in
     rw (w, tail) (digits-head r d back e ends))

@@ -11,16 +11,16 @@ use Rattle.markdown_scanners_tree.specs.line.Outcome.{item_outcome, item_outcome
 use Rattle.markdown_scanners_tree.specs.line.State.{LineState, unscanned, rest_of, leading_spaces, bytes_further, columns_further, space_within, after_space}
 use Rattle.markdown_scanners_tree.specs.scanners.list_items.ListItem.{IsListMarker, bullet, ordered}
 use Rattle.markdown_scanners_tree.specs.scanners.list_items.ListMarker.{Marker, is_bullet, is_delimiter, bullet_marker, ordered_marker, ordered_marker_of, list_marker, is_space_or_line_end}
-use Rattle.markdown_scanners_tree.specs.Numbers.{decimal_value}
+use Rattle.std.specs.Str.Parse.{digits_value}
 use Rattle.markdown_scanners_tree.specs.line.run.PlainRun.{refusal}
 use Rattle.markdown_scanners_tree.specs.line.PlainStep.{Step, item_step, item_step_of, item_step_by, no_item, marker_spaces, spaces_within, IsPlainStep}
 use Rattle.markdown_scanners_tree.specs.scanners.Breaks.{is_thematic_break}
 use Rattle.markdown_scanners_tree.specs.declared.line.run.LineAnswer.TheVariants.{List as ItemAnswer}
 use Rattle.markdown_scanners_tree.specs.declared.line.run.LineCall.TheVariants.{List as ItemCall}
 use Rattle.markdown_scanners_tree.proofs.line.ColumnLemmas.{bool_cases, none_below}
-use Rattle.markdown_scanners_tree.proofs.FrontLemmas.{both_true, list_all-implies}
+use Rattle.markdown_scanners_tree.proofs.PrefixLemmas.{both_true, list_all-implies}
 use Rattle.markdown_scanners_tree.proofs.line.HeadLemmas.{head_len, leading-head, head_len-end, marker_spaces-within}
-use Rattle.markdown_scanners_tree.proofs.scanners.list_items.ListItemLemmas.{ordered-front, ordered-scanned, bullet-scanned, begins-at}
+use Rattle.markdown_scanners_tree.proofs.scanners.list_items.ListItemLemmas.{ordered-parts, ordered-scanned, bullet-scanned, begins-at}
 use Rattle.markdown_scanners_tree.proofs.line.StepLemmas.{nothing_taken, rest-none, rest-bytes, bytes_then, further-add}
 use Rattle.markdown_scanners_tree.proofs.line.WrittenLemmas.{is_plain, digit_plain, marker_of, marker_of-parts, written-first, blank-written, list_marker-written}
 
@@ -48,7 +48,7 @@ marker-is marker rest delimiter start (bullet b is) no_break =
     ap (λ o. pick o (ordered_marker (b ∷ rest))) (ap (λ t. cond t (Some (record { width = 1; delimiter = b; start = 0 })) None) test)
 marker-is marker rest delimiter start (ordered digits d one few all is) no_break =
     let r = (digits ++ d ∷ []) ++ rest in
-    let front = ordered-front digits d rest one all is in
+    let front = ordered-parts digits d rest one all is in
     let joined : r ≡ digits ++ (d ∷ rest) = append_assoc digits (d ∷ []) rest in
     let low : nat_le 1 (length digits) ≡ true = le-leb 1 (length digits) one in
     let high : nat_le (length digits) 9 ≡ true = le-leb (length digits) 9 few in
@@ -78,7 +78,7 @@ marker-none bytes absent =
     let few = both_true (nat_le 1 n && nat_le n 9) (begins_with is_delimiter (drop n bytes)) yes in
     let ends = both_true (nat_le 1 n) (nat_le n 9) few.0 in
     let at = begins-at is_delimiter bytes n few.1 in
-    absurd (absent (n + 1) (get_or bytes n 0) (decimal_value (take n bytes)) (ordered-scanned bytes n refl (leb-true 1 n ends.0) (leb-true n 9 ends.1) at.0 at.1)))
+    absurd (absent (n + 1) (get_or bytes n 0) (digits_value 10 (take n bytes)) (ordered-scanned bytes n refl (leb-true 1 n ends.0) (leb-true n 9 ends.1) at.0 at.1)))
     (λ other. other) in
     ap (λ o. pick o (ordered_marker bytes)) (bullet-none bytes bullets)
     ∙ ap (λ k. ordered_marker_of (take n bytes) (drop k bytes)) count ∙ no_ordered (take n bytes) (drop n bytes) n count delimited

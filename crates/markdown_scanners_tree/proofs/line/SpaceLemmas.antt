@@ -1,5 +1,5 @@
 -- Columns of space taken from a state.
-use Rattle.std.proofs.Common.{ℕ, zero, suc, false, ◌≡◌, refl, sym, ◌∙◌, ap, ◌⊎◌, inl, inr, eqb, List, ◌∷◌, ◌++◌, ◌+◌, ◌-◌, ◌*◌, ◌/◌, ◌%◌, ◌<◌, ◌≤◌, replicate, length, get_or, take, drop, arith, append_assoc, add-zero}
+use Rattle.std.proofs.Common.{ℕ, zero, suc, false, ◌≡◌, refl, sym, ◌∙◌, ap, ◌⊎◌, inl, inr, eqb, List, ◌∷◌, ◌++◌, ◌+◌, ◌-◌, ◌*◌, ◌/◌, ◌%◌, ◌<◌, ◌≤◌, replicate, length, min, get_or, take, drop, arith, append_assoc, add-zero}
 use Rattle.std.proofs.lemmas.List.{length-replicate, replicate-append-replicate, drop-append-le, drop-replicate, drop_more}
 use Rattle.std.proofs.lemmas.Bool.{cases_lt}
 use Rattle.std.proofs.lemmas.Bool.Decides.{nat_tests}
@@ -144,7 +144,7 @@ none_at_byte bytes place c inside space tab =
     rw (drop_more bytes place 0 inside) (none_at c (get_or bytes place 0) (drop (place + 1) bytes) space tab)
 
 -- the same over a line and its places
-pub reach_next : (bytes : List ℕ) (place₀ c₀ place c pending b c' pending' : ℕ)
+reach_next : (bytes : List ℕ) (place₀ c₀ place c pending b c' pending' : ℕ)
     → Reach c₀ (drop place₀ bytes) (spaces (c - c₀)) (place - place₀) c pending (drop place bytes)
     → pending ≡ 0 → place₀ ≤ place → place < length bytes → c₀ ≤ c → get_or bytes place 0 ≡ b → (b ≡ 32) ⊎ (b ≡ 9)
     → c' ≡ column_after c b → c + pending' < c'
@@ -154,6 +154,42 @@ reach_next bytes place₀ c₀ place c pending b c' pending' r none on inside gr
     let r₀ = rw (none, split) at r in
     let count : place + 1 - place₀ ≡ place - place₀ + 1 = omega arith in
     rw (count, next) (reach_space pending' r₀ grows kind (omega arith))
+
+-- Of n columns of space asked for at a place, with its column and p₀ columns pending, `left` are not yet taken where the next place is reached, with its column and p columns pending.
+pub record IsTaking (bytes : List ℕ) (place₀ c₀ p₀ n place c p left : ℕ) : Type 0 where
+  pub reach : Reach c₀ (drop place₀ bytes) (spaces (c - c₀)) (place - place₀) c p (drop place bytes)
+  pub kept : c + left + p₀ ≡ c₀ + n + p
+  pub on : place₀ ≤ place
+  pub further : c₀ ≤ c
+  pub within : left ≤ n
+  pub inside : place ≤ length bytes
+  pub small : p < 4
+  pub bounded : c ≤ 4 * place
+  pub whole : min p left ≡ 0
+
+-- one space or tab more, with as many of its columns as are left to take
+pub taking_next : {bytes : List ℕ} {place₀ c₀ p₀ n place c p left : ℕ} (b : ℕ) {c' p' left' : ℕ} → IsTaking bytes place₀ c₀ p₀ n place c p left
+    → 0 < left → place < length bytes → get_or bytes place 0 ≡ b → (b ≡ 32) ⊎ (b ≡ 9) → c' ≡ column_after c b
+    → p' ≡ c' - c - min left (c' - c) → left' ≡ left - min left (c' - c) → IsTaking bytes place₀ c₀ p₀ n (place + 1) c' p' left'
+taking_next {bytes} {place₀} {c₀} {p₀} {n} {place} {c} {p} {left} b {c'} {p'} {left'} t some inside read kind next pending left_over =
+    let none : p ≡ 0 = omega (arith, t.whole) in
+    let width : (c < c') × (c' ≤ c + 4) = elim kind as (λ _. (c < c') × (c' ≤ c + 4)) [
+      | inl e ↦ (let one : c' ≡ c + 1 = next ∙ ap (column_after c) e in (omega arith, omega arith))
+      | inr e ↦ (let stop : c' ≡ 4 * (c / 4 + 1) = next ∙ ap (column_after c) e in (omega arith, omega arith))
+    ] in
+    let more : c < c' = width.0 in
+    let few : c' ≤ c + 4 = width.1 in
+    record {
+      reach = reach_next bytes place₀ c₀ place c p b c' p' t.reach none t.on inside t.further read kind next (omega arith);
+      kept = omega (arith, t.kept);
+      on = omega (arith, t.on);
+      further = omega (arith, t.further);
+      within = omega (arith, t.within);
+      inside = omega arith;
+      small = omega arith;
+      bounded = omega (arith, t.bounded);
+      whole = omega arith;
+    }
 
 -- one byte more is written out, and its phase counts alone
 pub written_step : (bytes : List ℕ) (i phase : ℕ) → i < length bytes → is_line_ending (get_or bytes i 0) ≡ false →

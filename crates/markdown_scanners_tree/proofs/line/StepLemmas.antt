@@ -14,7 +14,7 @@ use Rattle.markdown_scanners_tree.specs.declared.line.run.LineAnswer.TheVariants
 use Rattle.markdown_scanners_tree.specs.declared.line.run.LineCall.{LineCall}
 use Rattle.markdown_scanners_tree.specs.declared.line.run.LineCall.TheVariants.{Upto, Eol, Quote, Definition as DefinitionCall}
 use Rattle.markdown_scanners_tree.proofs.line.ColumnLemmas.{bool_cases, none_below, written-cons, below-split, past-fits, Reach, reach_byte, reach_none}
-use Rattle.markdown_scanners_tree.proofs.FrontLemmas.{both_true}
+use Rattle.markdown_scanners_tree.proofs.PrefixLemmas.{both_true}
 use Rattle.markdown_scanners_tree.proofs.line.HeadLemmas.{definition_spaces-within}
 use Rattle.markdown_scanners_tree.proofs.line.WrittenLemmas.{line_end-written, begins-written, is_plain}
 use Rattle.markdown_scanners_tree.proofs.line.SpaceLemmas.{state_of, further-column, written_out-phase}

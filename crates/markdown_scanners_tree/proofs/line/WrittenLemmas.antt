@@ -6,12 +6,12 @@ use Rattle.std.proofs.lemmas.List.{take-append-drop}
 use Rattle.std.proofs.lemmas.List.Folds.{length-prefix_len}
 use Rattle.std.proofs.lemmas.List.Sums.{take_while-cons, sum_by-cons}
 use Rattle.std.proofs.Math.Seq.{take-append_seam, drop-append_seam}
-use Rattle.markdown_scanners_tree.specs.Bytes.{begins_with, is_digit, is_line_ending, is_at_line_end, line_head, is_blank}
+use Rattle.markdown_scanners_tree.specs.Bytes.{begins_with, is_digit, is_white_space_in_line, is_line_ending, is_at_line_end, line_head, is_blank}
 use Rattle.markdown_scanners_tree.specs.Columns.{column_after, written_byte, written_out}
 use Rattle.markdown_scanners_tree.specs.scanners.list_items.ListMarker.{Marker, is_bullet, is_delimiter, bullet_marker, ordered_marker, ordered_marker_of, list_marker}
 use Rattle.markdown_scanners_tree.specs.scanners.Breaks.{is_break_marker, is_break_byte, is_break_head, is_thematic_break}
 use Rattle.markdown_scanners_tree.proofs.line.ColumnLemmas.{after-more, bool_cases, written-end, written-cons}
-use Rattle.markdown_scanners_tree.proofs.FrontLemmas.{both_true, list_all-implies, list_all-run}
+use Rattle.markdown_scanners_tree.proofs.PrefixLemmas.{both_true, list_all-implies, list_all-prefix}
 use Rattle.markdown_scanners_tree.proofs.line.SpaceLemmas.{spaces}
 
 -- a tab begins with a space where it is written out, and each other byte is itself
@@ -66,67 +66,50 @@ head-spaces : (n : ℕ) (bs : List ℕ) → line_head (spaces n ++ bs) ≡ space
 head-spaces zero bs = refl
 head-spaces (suc n) bs = head-cons 32 (spaces n ++ bs) refl ∙ ap (λ h. 32 ∷ h) (head-spaces n bs)
 
-all-spaces : (p : ℕ → Bool) → p 32 ≡ true → (n : ℕ) (h : List ℕ) → list_all p (spaces n ++ h) ≡ list_all p h
-all-spaces p space zero h = refl
-all-spaces p space (suc n) h = rw space (all-spaces p space n h)
+-- what is told of a head byte by byte, where a space tells nothing
+module _ {A : Type 0} (of : List ℕ → A) (step : ℕ → A → A) (cons : (b : ℕ) (h : List ℕ) → of (b ∷ h) ≡ step b (of h)) (space : (a : A) → step 32 a ≡ a) where
+  past-spaces : (n : ℕ) (h : List ℕ) → of (spaces n ++ h) ≡ of h
+  past-spaces zero h = refl
+  past-spaces (suc n) h = cons 32 (spaces n ++ h) ∙ space (of (spaces n ++ h)) ∙ past-spaces n h
 
-count-cons : (p : ℕ → Bool) (b : ℕ) (h : List ℕ) → count_by p (b ∷ h) ≡ cond (p b) 1 0 + count_by p h
-count-cons p b h = sum_by-cons (λ x. cond (p x) 1 0) b h
-
-none-spaces : (p : ℕ → Bool) → p 32 ≡ false → (n : ℕ) (h : List ℕ) → count_by p (spaces n ++ h) ≡ count_by p h
-none-spaces p space zero h = refl
-none-spaces p space (suc n) h = count-cons p 32 (spaces n ++ h) ∙ rw space (zero-add _ ∙ none-spaces p space n h)
+  -- where a tab tells nothing too, the same is told of both heads
+  head-written : ((a : A) → step 9 a ≡ a) → (bs : List ℕ) (c : ℕ) → of (line_head (written_out c bs)) ≡ of (line_head bs)
+  head-written tab [] c = refl
+  head-written tab (b ∷ bs) c =
+      bool_cases (is_line_ending b)
+      (λ ends. ap (λ w. of (line_head w)) (written-end c b bs ends))
+      (λ goes.
+      let back = written_out (column_after c b) bs in
+      let rest : of (line_head back) ≡ of (line_head bs) = head-written tab bs (column_after c b) in
+      let line : of (line_head (b ∷ bs)) ≡ step b (of (line_head bs)) = ap of (head-cons b bs goes) ∙ cons b (line_head bs) in
+      ap (λ w. of (line_head w)) (written-cons c b bs goes)
+      ∙ bool_cases (b == 9)
+      (λ is_tab.
+      let e : b ≡ 9 = grind (arith, nat_tests) in
+      let w = column_after c b - c in
+      let first : written_byte c b ≡ spaces w = rw is_tab refl in
+      ap (λ f. of (line_head (f ++ back))) first ∙ ap of (head-spaces w back) ∙ past-spaces w (line_head back)
+      ∙ rest ∙ sym (line ∙ ap (λ x. step x (of (line_head bs))) e ∙ tab (of (line_head bs))))
+      (λ plain.
+      let first : written_byte c b ≡ b ∷ [] = rw plain refl in
+      ap (λ f. of (line_head (f ++ back))) first ∙ ap of (head-cons b back goes) ∙ cons b (line_head back)
+      ∙ ap (step b) rest ∙ sym line))
 
 -- a test that spaces and tabs pass holds of each byte of both heads alike
 all-written : (p : ℕ → Bool) → p 32 ≡ true → p 9 ≡ true → (bs : List ℕ) (c : ℕ) → list_all p (line_head (written_out c bs)) ≡ list_all p (line_head bs)
-all-written p space tab [] c = refl
-all-written p space tab (b ∷ bs) c =
-    bool_cases (is_line_ending b)
-    (λ ends. ap (λ w. list_all p (line_head w)) (written-end c b bs ends))
-    (λ goes.
-    let back = written_out (column_after c b) bs in
-    let rest : list_all p (line_head back) ≡ list_all p (line_head bs) = all-written p space tab bs (column_after c b) in
-    ap (λ w. list_all p (line_head w)) (written-cons c b bs goes)
-    ∙ bool_cases (b == 9)
-    (λ is_tab.
-    let e : b ≡ 9 = grind (arith, nat_tests) in
-    let w = column_after c b - c in
-    let first : written_byte c b ≡ spaces w = rw is_tab refl in
-    let passes : p b ≡ true = ap p e ∙ tab in
-    ap (λ f. list_all p (line_head (f ++ back))) first ∙ ap (list_all p) (head-spaces w back) ∙ all-spaces p space w (line_head back)
-    ∙ rest ∙ sym (ap (list_all p) (head-cons b bs goes) ∙ rw passes refl))
-    (λ plain.
-    let first : written_byte c b ≡ b ∷ [] = rw plain refl in
-    ap (λ f. list_all p (line_head (f ++ back))) first ∙ ap (list_all p) (head-cons b back goes)
-    ∙ ap (λ t. p b && t) rest ∙ sym (ap (list_all p) (head-cons b bs goes))))
+all-written p space tab = head-written (list_all p) (λ b t. p b && t) (λ b h. refl) (λ t. rw space refl) (λ t. rw tab refl)
 
 -- a test that no space or tab passes is passed as often in both heads
 count-written : (p : ℕ → Bool) → p 32 ≡ false → p 9 ≡ false → (bs : List ℕ) (c : ℕ) → count_by p (line_head (written_out c bs)) ≡ count_by p (line_head bs)
-count-written p space tab [] c = refl
-count-written p space tab (b ∷ bs) c =
-    bool_cases (is_line_ending b)
-    (λ ends. ap (λ w. count_by p (line_head w)) (written-end c b bs ends))
-    (λ goes.
-    let back = written_out (column_after c b) bs in
-    let rest : count_by p (line_head back) ≡ count_by p (line_head bs) = count-written p space tab bs (column_after c b) in
-    ap (λ w. count_by p (line_head w)) (written-cons c b bs goes)
-    ∙ bool_cases (b == 9)
-    (λ is_tab.
-    let e : b ≡ 9 = grind (arith, nat_tests) in
-    let w = column_after c b - c in
-    let first : written_byte c b ≡ spaces w = rw is_tab refl in
-    let fails : p b ≡ false = ap p e ∙ tab in
-    ap (λ f. count_by p (line_head (f ++ back))) first ∙ ap (count_by p) (head-spaces w back) ∙ none-spaces p space w (line_head back)
-    ∙ rest ∙ sym (ap (count_by p) (head-cons b bs goes) ∙ count-cons p b (line_head bs) ∙ rw fails (zero-add _)))
-    (λ plain.
-    let first : written_byte c b ≡ b ∷ [] = rw plain refl in
-    ap (λ f. count_by p (line_head (f ++ back))) first ∙ ap (count_by p) (head-cons b back goes) ∙ count-cons p b (line_head back)
-    ∙ ap (λ n. cond (p b) 1 0 + n) rest ∙ sym (ap (count_by p) (head-cons b bs goes) ∙ count-cons p b (line_head bs))))
+count-written p space tab =
+    head-written (count_by p) (λ b n. cond (p b) 1 0 + n) (λ b h. sum_by-cons (λ x. cond (p x) 1 0) b h) (λ n. rw space (zero-add n)) (λ n. rw tab (zero-add n))
 
 -- what is left of a line is blank where its bytes are
 pub blank-written : (n : ℕ) (bs : List ℕ) (c : ℕ) → is_blank (spaces n ++ written_out c bs) ≡ is_blank bs
 blank-written n bs c =
-    ap (list_all _) (head-spaces n (written_out c bs)) ∙ all-spaces _ refl n (line_head (written_out c bs)) ∙ all-written _ refl refl bs c
+    ap (list_all is_white_space_in_line) (head-spaces n (written_out c bs))
+    ∙ past-spaces (list_all is_white_space_in_line) (λ b t. is_white_space_in_line b && t) (λ b h. refl) (λ t. refl) n (line_head (written_out c bs))
+    ∙ all-written is_white_space_in_line refl refl bs c
 
 -- the head that begins with a marker, as a thematic break of it
 abbrev break_of : ℕ → List ℕ → Bool
@@ -242,7 +225,7 @@ ordered_marker-written bs c =
     let back = drop n bs in
     let count : length digits ≡ n = length-prefix_len is_digit bs in
     let whole : digits ++ back ≡ bs = take-append-drop n bs in
-    let plain : list_all is_plain digits ≡ true = list_all-implies is_digit is_plain digit_plain digits (list_all-run is_digit bs) in
+    let plain : list_all is_plain digits ≡ true = list_all-implies is_digit is_plain digit_plain digits (list_all-prefix is_digit bs) in
     let written : written_out c bs ≡ digits ++ written_out (c + length digits) back = ap (written_out c) (sym whole) ∙ front-written digits back c plain in
     ap (λ k. marker_of k (written_out c bs)) (digits-written bs c) ∙ ap (marker_of n) written
     ∙ marker_of-parts n digits (written_out (c + length digits) back) count ∙ ordered-written digits back (c + length digits)

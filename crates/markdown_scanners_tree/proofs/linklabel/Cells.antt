@@ -3,13 +3,14 @@ use Rattle.std.proofs.Common.{ℕ, Bool, true, false, ◌||◌, ◌&&◌, ◌==�
 use Rattle.std.proofs.Math.Bool.{and-true, and-false, and-or_distrib_left}
 use Rattle.std.proofs.lemmas.Bool.{and_parts}
 use Rattle.markdown_scanners_tree.specs.Bytes.{begins_with, is_line_ending, is_white_space}
+use Rattle.markdown_scanners_tree.specs.Ascii.{space, backslash, vertical_line}
 use Rattle.markdown_scanners_tree.specs.Kept.{KeptByte, in_line, at_line_end, kept_line, kept_return}
 use Rattle.markdown_scanners_tree.specs.linklabel.Label.{is_white, pipe_at, without_pipe_backslashes, has_pipe_backslash, in_cell}
 use Rattle.markdown_scanners_tree.specs.linklabel.private.Pass.{starts_dropped}
 use Rattle.markdown_scanners_tree.proofs.linklabel.Words.{text_from}
 
 abbrev pub is_pipe : ℕ → Bool
-is_pipe b = b == 124
+is_pipe b = b == vertical_line
 
 -- these kept bytes begin with a pipe exactly where the source does
 abbrev pub Follows : ℕ → List ℕ → List KeptByte → Type 0
@@ -20,7 +21,7 @@ follows_byte ix b bs ks = ap (λ v. b == 124 && v) (eq-eqb ix ix refl) ∙ and-t
 
 -- whether the first kept byte is a backslash that a cell drops
 abbrev dropped : KeptByte → List KeptByte → Bool
-dropped k ks = k.byte == 92 && pipe_at (k.place + 1) ks
+dropped k ks = k.byte == backslash && pipe_at (k.place + 1) ks
 
 in_cell-cons : (t : Bool) (k : KeptByte) (ks : List KeptByte) → in_cell t (k ∷ ks) ≡ cond (t && dropped k ks) (in_cell t ks) (k ∷ in_cell t ks)
 in_cell-cons true k ks = refl
@@ -34,10 +35,10 @@ dropped_is : (t : Bool) (ix b : ℕ) (bs : List ℕ) (ks : List KeptByte) → Fo
 dropped_is t ix b bs ks f = ap (λ v. t && (b == 92 && v)) f
 
 -- a byte that is no backslash is not dropped
-no_backslash : (k : KeptByte) (ks : List KeptByte) → (k.byte == 92) ≡ false → (t : Bool) → in_cell t (k ∷ ks) ≡ k ∷ in_cell t ks
+no_backslash : (k : KeptByte) (ks : List KeptByte) → (k.byte == backslash) ≡ false → (t : Bool) → in_cell t (k ∷ ks) ≡ k ∷ in_cell t ks
 no_backslash k ks h t = in_cell-cons t k ks ∙ ap (λ v. cond v (in_cell t ks) (k ∷ in_cell t ks)) (ap (λ v. t && (v && pipe_at (k.place + 1) ks)) h ∙ and-false t)
 
-pub white_no_backslash : (b : ℕ) → is_white_space b ≡ true → (b == 92) ≡ false
+pub white_no_backslash : (b : ℕ) → is_white_space b ≡ true → (b == backslash) ≡ false
 white_no_backslash b w = by (b == 92) (eqb-true b 92)
   where
     by : (x : Bool) → (x ≡ true → b ≡ 92) → x ≡ false
@@ -49,7 +50,7 @@ pub text_from-white : (t has_word in_run : Bool) (k : KeptByte) (ks : List KeptB
 text_from-white t has_word in_run k ks w = ap (text_from has_word in_run) (no_backslash k ks (white_no_backslash k.byte w) t) ∙ rw w refl
 
 abbrev pub space_of : Bool → Bool → List ℕ
-space_of has_word in_run = cond (has_word && in_run) (32 ∷ []) []
+space_of has_word in_run = cond (has_word && in_run) (space ∷ []) []
 
 word_first : (has_word in_run : Bool) (k : KeptByte) (ks : List KeptByte) → is_white k ≡ false → text_from has_word in_run (k ∷ ks) ≡ space_of has_word in_run ++ (k.byte ∷ text_from true false ks)
 word_first has_word in_run k ks w = ap (λ v. cond v (text_from has_word true ks) (cond (has_word && in_run) (32 ∷ k.byte ∷ text_from true false ks) (k.byte ∷ text_from true false ks))) w

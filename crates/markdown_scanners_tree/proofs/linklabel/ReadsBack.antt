@@ -249,7 +249,7 @@ module _ (ks : List KeptByte) (content : is_label_content ks ≡ true) where
       let n : 0 + length text + 1 ≡ length text + 1 = omega arith in record {
         skips = [];
         answered = tt;
-        is = ap (λ z. label_between false (bracketed (pieces z))) again_kept
+        label_is = ap (λ z. label_between false (bracketed (pieces z))) again_kept
             ∙ ap (label_between false) (whole (in_line 93 (0 + length text)) refl 0 text cleaned e)
             ∙ rw again_content (λ i. Some (record { len = n i; text = again_text i; plain = again_plain i && true }));
       }
@@ -268,4 +268,4 @@ reads_back kept label h e = of (bracketed (pieces kept)) (clean_pieces kept).0 h
 
 -- the label of a source, in the text that was answered
 pub label_reads_back : (a : List ℕ → ℕ → Type 0) (source : List ℕ) (t : Bool) (label : Label) (text : List ℕ) → IsLabel a source t label → text ≡ label.text → t ≡ false → ends_in_backslash text ≡ false → ReadsBack text
-label_reads_back a source t label text l e h k = subst ReadsBack (sym e) (reads_back (kept_text source l.skips) label (subst (λ v. label_of v (kept_text source l.skips) ≡ Some label) h l.is) (sym (ap ends_in_backslash e) ∙ k))
+label_reads_back a source t label text l e h k = subst ReadsBack (sym e) (reads_back (kept_text source l.skips) label (subst (λ v. label_of v (kept_text source l.skips) ≡ Some label) h l.label_is) (sym (ap ends_in_backslash e) ∙ k))

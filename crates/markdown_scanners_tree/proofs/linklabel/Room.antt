@@ -56,10 +56,10 @@ content_first false ix (k ∷ l ∷ ks) b h = by (k.byte == 92 && is_punctuation
     by true g = more (bracketed (pieces ks)) (l ∷ []) g
     by false g = one (bracketed (pieces (l ∷ ks))) (k.byte == 93) refl (k.byte == 91) g
 
--- what was written is a front of the label's text
+-- what was written is a prefix of the label's text
 pub pushed_fits : (a : List ℕ → ℕ → Type 0) (source : List ℕ) (t e : Bool) (seen : List KeptByte) (ix : ℕ) (rest : List ℕ) (w r : Bool) (pushed : List ℕ)
     → IsAt a source e seen ix rest → Written t seen ix rest w r pushed → (label : Label) → IsLabel a source t label → length pushed ≤ length label.text
-pushed_fits a source t e seen ix rest w r pushed here s label l = (let g = here.ahead t label l in by (bracketed_after e (kept_from ix rest g.skips)) (λ b h. content_first e ix (kept_from ix rest g.skips) b h ∙ kept_follows a ix rest g.skips g.answered) g.is)
+pushed_fits a source t e seen ix rest w r pushed here s label l = (let g = here.ahead t label l in by (bracketed_after e (kept_from ix rest g.skips)) (λ b h. content_first e ix (kept_from ix rest g.skips) b h ∙ kept_follows a ix rest g.skips g.answered) g.label_is)
   where
     by : (o : Option Bracketed) → ((b : Bracketed) → o ≡ Some b → Follows ix rest b.content) → label_between t (preceded seen o) ≡ Some label → length pushed ≤ length label.text
     by None f g = cc

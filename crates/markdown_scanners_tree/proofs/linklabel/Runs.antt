@@ -5,6 +5,7 @@ use Rattle.std.proofs.lemmas.Bool.Decides.{nat_tests}
 use Rattle.std.proofs.lemmas.List.Sums.{sum_by-cons}
 use Rattle.std.specs.List.{list_all}
 use Rattle.markdown_scanners_tree.specs.Bytes.{begins_with, is_line_ending}
+use Rattle.markdown_scanners_tree.specs.Ascii.{space}
 use Rattle.markdown_scanners_tree.specs.Kept.{KeptByte, in_line, at_line_end, kept_line, kept_return, line_endings}
 use Rattle.markdown_scanners_tree.specs.linklabel.Label.{is_white, onto_runs, white_runs, is_one_space}
 
@@ -16,7 +17,7 @@ few ended (k ∷ ks) = if is_white k then (if k.ends_line then (if ended then fa
 -- each run is one space, where a run is open or not
 abbrev pub lone : Bool → List KeptByte → Bool
 lone in_run [] = true
-lone in_run (k ∷ ks) = if is_white k then (k.byte == 32 && not in_run) && lone true ks else lone false ks
+lone in_run (k ∷ ks) = if is_white k then (k.byte == space && not in_run) && lone true ks else lone false ks
 
 line_endings-cons : (k : KeptByte) (ks : List KeptByte) → line_endings (k ∷ ks) ≡ cond k.ends_line 1 0 + line_endings ks
 line_endings-cons k ks = sum_by-cons (λ l. cond l.ends_line 1 0) k ks

@@ -8,11 +8,12 @@ use Rattle.std.proofs.lemmas.List.{drop-drop, length-drop, get_or-drop}
 use Rattle.std.proofs.lemmas.Str.{IsCharBoundary-before_ascii, IsCharBoundary-after_ascii}
 use Rattle.std.specs.Str.{IsUtf8, IsCharBoundary}
 use Rattle.markdown_scanners_tree.specs.Bytes.{begins_with, is_line_ending, is_white_space, is_punctuation}
+use Rattle.markdown_scanners_tree.specs.Ascii.{left_bracket, right_bracket}
 use Rattle.markdown_scanners_tree.specs.Kept.{KeptByte, in_line, kept_line, line_len, return_len, kept_from, kept_text, AreSkips}
 use Rattle.markdown_scanners_tree.specs.linklabel.Label.{Label, IsLabel, label_between, preceded, Bracketed, bracketed, pieces, is_label_content}
-use Rattle.markdown_scanners_tree.specs.linklabel.private.Front.{IsBracket, IsEnding, IsSpace, IsWord, IsFront}
-use Rattle.markdown_scanners_tree.specs.linklabel.private.Pass.{IsOnlySkip, begun, space_len, starts_dropped}
-use Rattle.markdown_scanners_tree.specs.declared.linklabel.Front.{Front}
+use Rattle.markdown_scanners_tree.specs.linklabel.private.NextPart.{IsBracket, IsEnding, IsSpace, IsWord, IsNextPart}
+use Rattle.markdown_scanners_tree.specs.linklabel.private.Pass.{starts_dropped, tally_past_ending, tally_past_space, tally_past_word}
+use Rattle.markdown_scanners_tree.specs.declared.linklabel.NextPart.{NextPart}
 use Rattle.markdown_scanners_tree.specs.declared.linklabel.Tally.{Tally}
 use Rattle.markdown_scanners_tree.proofs.linklabel.Cells.{white_no_backslash}
 use Rattle.markdown_scanners_tree.proofs.linklabel.Steps.{Goes, past_byte, at_byte, no_label_at_end, no_label_at_opening, label_at_closing, closing_label, past_ending, at_ending, no_label_at_ending, ending_seen, label_from}
@@ -21,6 +22,11 @@ use Rattle.markdown_scanners_tree.proofs.linklabel.Seen.{Seen, Seen-word, Seen-s
 preceded-nil : (b : Option Bracketed) → preceded [] b ≡ b
 preceded-nil None = refl
 preceded-nil (Some b) = refl
+
+-- the one answer for these bytes
+pub record IsOnlySkip (answers : List ℕ → ℕ → Type 0) (rest : List ℕ) (skip : ℕ) : Type 0 where
+  pub answer : answers rest skip
+  pub only : (other : ℕ) → answers rest other → other ≡ skip
 
 -- the label of the source is what the rest goes on to; where the first byte of the rest is escaped, it is punctuation
 pub record IsAt (a : List ℕ → ℕ → Type 0) (source : List ℕ) (escaped : Bool) (seen : List KeptByte) (ix : ℕ) (rest : List ℕ) : Type 0 where
@@ -43,8 +49,8 @@ dark_no_ending b h = grind (arith, nat_tests, h)
 module _ (a : List ℕ → ℕ → Type 0) (source : List ℕ) where
   pub at_start : IsAt a source false [] 0 source
   at_start = record {
-    ahead = λ t label h. record { skips = h.skips; answered = h.answered; is = ap (label_between t) (preceded-nil (bracketed (pieces (kept_text source h.skips)))) ∙ h.is };
-    back = λ t label h. record { skips = h.skips; answered = h.answered; is = sym (ap (label_between t) (preceded-nil (bracketed (pieces (kept_text source h.skips))))) ∙ h.is };
+    ahead = λ t label h. record { skips = h.skips; answered = h.answered; label_is = ap (label_between t) (preceded-nil (bracketed (pieces (kept_text source h.skips)))) ∙ h.label_is };
+    back = λ t label h. record { skips = h.skips; answered = h.answered; label_is = sym (ap (label_between t) (preceded-nil (bracketed (pieces (kept_text source h.skips))))) ∙ h.label_is };
     escapes = λ h. absurd (true≢false (sym h));
   }
 
@@ -52,22 +58,22 @@ module _ (a : List ℕ → ℕ → Type 0) (source : List ℕ) where
     pub none_at_end : rest ≡ [] → (t : Bool) (label : Label) → IsLabel a source t label → ⊥
     none_at_end e t label h = no_label_at_end a t seen ix label escaped (subst (λ r. Goes a escaped t seen ix r label) e (here.ahead t label h))
 
-    pub none_at_opening : IsBracket escaped rest 91 → (t : Bool) (label : Label) → IsLabel a source t label → ⊥
+    pub none_at_opening : IsBracket escaped rest left_bracket → (t : Bool) (label : Label) → IsLabel a source t label → ⊥
     none_at_opening o t label h = no_label_at_opening a t seen ix label o.1.0 (subst (λ x. x) (λ i. Goes a (o.0 i) t seen ix (o.1.1 i) label) (here.ahead t label h))
 
-    pub at_closing : IsBracket escaped rest 93 → (t : Bool) (label : Label) → label_between t (Some (record { content = seen; close = ix })) ≡ Some label → IsLabel a source t label
+    pub at_closing : IsBracket escaped rest right_bracket → (t : Bool) (label : Label) → label_between t (Some (record { content = seen; close = ix })) ≡ Some label → IsLabel a source t label
     at_closing o t label h = here.back t label (subst (λ x. x) (λ i. Goes a (sym o.0 i) t seen ix (sym o.1.1 i) label) (closing_label a t seen ix label o.1.0 h))
 
-    pub from_closing : IsBracket escaped rest 93 → (t : Bool) (label : Label) → IsLabel a source t label → label_between t (Some (record { content = seen; close = ix })) ≡ Some label
+    pub from_closing : IsBracket escaped rest right_bracket → (t : Bool) (label : Label) → IsLabel a source t label → label_between t (Some (record { content = seen; close = ix })) ≡ Some label
     from_closing o t label h = label_at_closing a t seen ix label o.1.0 (subst (λ x. x) (λ i. Goes a (o.0 i) t seen ix (o.1.1 i) label) (here.ahead t label h))
 
     -- past a byte of a line
     pub after_word : (b : ℕ) (escapes : Bool) (rest' : List ℕ) → (h : IsWord escaped rest b escapes) → rest' ≡ h.others → IsAt a source escapes (seen ++ in_line b ix ∷ []) (ix + 1) rest'
     after_word b escapes rest' h e =
-        let plain = dark_no_ending b h.dark in record {
-          ahead = λ t label l. subst (λ x. x) (λ i. Goes a (sym h.next i) t (seen ++ in_line b ix ∷ []) (ix + 1) (sym e i) label) (past_byte a escaped t seen ix b h.others label plain h.no_close h.no_open (subst (λ r. Goes a escaped t seen ix r label) h.is (here.ahead t label l)));
-          back = λ t label l. here.back t label (subst (λ r. Goes a escaped t seen ix r label) (sym h.is) (at_byte a escaped t seen ix b h.others label plain h.no_close h.no_open (subst (λ x. x) (λ i. Goes a (h.next i) t (seen ++ in_line b ix ∷ []) (ix + 1) (e i) label) l)));
-          escapes = λ v. ap (begins_with is_punctuation) e ∙ (and_parts (b == 92) _ (and_parts (not escaped) _ (sym h.next ∙ v)).1).1;
+        let plain = dark_no_ending b h.not_white in record {
+          ahead = λ t label l. subst (λ x. x) (λ i. Goes a (sym h.escapes_is i) t (seen ++ in_line b ix ∷ []) (ix + 1) (sym e i) label) (past_byte a escaped t seen ix b h.others label plain h.no_close h.no_open (subst (λ r. Goes a escaped t seen ix r label) h.parts (here.ahead t label l)));
+          back = λ t label l. here.back t label (subst (λ r. Goes a escaped t seen ix r label) (sym h.parts) (at_byte a escaped t seen ix b h.others label plain h.no_close h.no_open (subst (λ x. x) (λ i. Goes a (h.escapes_is i) t (seen ++ in_line b ix ∷ []) (ix + 1) (e i) label) l)));
+          escapes = λ v. ap (begins_with is_punctuation) e ∙ (and_parts (b == 92) _ (and_parts (not escaped) _ (sym h.escapes_is ∙ v)).1).1;
         }
 
     not_escaped : (b : ℕ) (bs : List ℕ) → rest ≡ b ∷ bs → is_white_space b ≡ true → escaped ≡ false
@@ -79,47 +85,47 @@ module _ (a : List ℕ → ℕ → Type 0) (source : List ℕ) where
 
     pub after_space : (b : ℕ) (rest' : List ℕ) → (h : IsSpace rest b) → rest' ≡ h.others → IsAt a source escaped (seen ++ in_line b ix ∷ []) (ix + 1) rest'
     after_space b rest' h e =
-        let same = not_escaped b h.others h.is h.white in
+        let same = not_escaped b h.others h.parts h.white in
         let next : not escaped && (b == 92 && begins_with is_punctuation h.others) ≡ false = ap (λ v. not escaped && (v && begins_with is_punctuation h.others)) (white_no_backslash b h.white) ∙ and-false (not escaped) in
         let close : escaped ≡ false → (b == 93) ≡ false = λ v. (white_no_bracket b h.white).0 in
         let opening : escaped ≡ false → (b == 91) ≡ false = λ v. (white_no_bracket b h.white).1 in subst (λ v. IsAt a source v (seen ++ in_line b ix ∷ []) (ix + 1) rest') (sym same) (record {
-          ahead = λ t label l. subst (λ x. x) (λ i. Goes a (next i) t (seen ++ in_line b ix ∷ []) (ix + 1) (sym e i) label) (past_byte a escaped t seen ix b h.others label h.inside close opening (subst (λ r. Goes a escaped t seen ix r label) h.is (here.ahead t label l)));
-          back = λ t label l. here.back t label (subst (λ r. Goes a escaped t seen ix r label) (sym h.is) (at_byte a escaped t seen ix b h.others label h.inside close opening (subst (λ x. x) (λ i. Goes a (sym next i) t (seen ++ in_line b ix ∷ []) (ix + 1) (e i) label) l)));
+          ahead = λ t label l. subst (λ x. x) (λ i. Goes a (next i) t (seen ++ in_line b ix ∷ []) (ix + 1) (sym e i) label) (past_byte a escaped t seen ix b h.others label h.no_ending close opening (subst (λ r. Goes a escaped t seen ix r label) h.parts (here.ahead t label l)));
+          back = λ t label l. here.back t label (subst (λ r. Goes a escaped t seen ix r label) (sym h.parts) (at_byte a escaped t seen ix b h.others label h.no_ending close opening (subst (λ x. x) (λ i. Goes a (sym next i) t (seen ++ in_line b ix ∷ []) (ix + 1) (e i) label) l)));
           escapes = λ v. absurd (true≢false (sym v));
         })
 
     -- past a line ending, and what is skipped after it
     module _ (len : ℕ) (h : IsEnding rest len) where
       plain : escaped ≡ false
-      plain = not_escaped h.byte h.others h.is (ending_white h.byte h.ends)
+      plain = not_escaped h.byte h.others h.parts (ending_white h.byte h.ends)
 
       len_is : len ≡ line_len (h.byte ∷ h.others)
-      len_is = h.measured ∙ ap line_len h.is
+      len_is = h.takes ∙ ap line_len h.parts
 
       goes : (t : Bool) (label : Label) → IsLabel a source t label → Goes a false t seen ix (h.byte ∷ h.others) label
-      goes t label l = subst (λ x. x) (λ i. Goes a (plain i) t seen ix (h.is i) label) (here.ahead t label l)
+      goes t label l = subst (λ x. x) (λ i. Goes a (plain i) t seen ix (h.parts i) label) (here.ahead t label l)
 
       pub after_ending : (skip : ℕ) → IsOnlySkip a (drop len rest) skip → IsAt a source escaped (seen ++ kept_line ix rest) (ix + (len + skip)) (drop (len + skip) rest)
       after_ending skip o =
           let n = line_len (h.byte ∷ h.others) in
-          let given : a (drop n (h.byte ∷ h.others)) skip = subst (λ x. x) (λ i. a (drop (len_is i) (h.is i)) skip) o.answer in
-          let one : (m : ℕ) → a (drop n (h.byte ∷ h.others)) m → m ≡ skip = λ m k. o.only m (subst (λ x. x) (λ i. a (drop (sym len_is i) (sym h.is i)) m) k) in
-          subst (λ x. x) (λ i. IsAt a source (sym plain i) (seen ++ kept_line ix (sym h.is i)) (ix + (sym len_is i + skip)) (drop (sym len_is i + skip) (sym h.is i))) (record {
+          let given : a (drop n (h.byte ∷ h.others)) skip = subst (λ x. x) (λ i. a (drop (len_is i) (h.parts i)) skip) o.answer in
+          let one : (m : ℕ) → a (drop n (h.byte ∷ h.others)) m → m ≡ skip = λ m k. o.only m (subst (λ x. x) (λ i. a (drop (sym len_is i) (sym h.parts i)) m) k) in
+          subst (λ x. x) (λ i. IsAt a source (sym plain i) (seen ++ kept_line ix (sym h.parts i)) (ix + (sym len_is i + skip)) (drop (sym len_is i + skip) (sym h.parts i))) (record {
             ahead = λ t label l. past_ending a t seen ix h.byte h.others label h.ends skip one (goes t label l);
-            back = λ t label l. here.back t label (subst (λ x. x) (λ i. Goes a (sym plain i) t seen ix (sym h.is i) label) (at_ending a t seen ix h.byte h.others label h.ends skip given l));
+            back = λ t label l. here.back t label (subst (λ x. x) (λ i. Goes a (sym plain i) t seen ix (sym h.parts i) label) (at_ending a t seen ix h.byte h.others label h.ends skip given l));
             escapes = λ v. absurd (true≢false (sym v));
           })
 
       pub none_at_ending : ((m : ℕ) → a (drop len rest) m → ⊥) → (t : Bool) (label : Label) → IsLabel a source t label → ⊥
       none_at_ending none t label l = no_label_at_ending a t seen ix h.byte h.others label h.ends
-          (λ m g. none m (subst (λ x. x) (λ i. a (drop (sym len_is i) (sym h.is i)) m) g)) (goes t label l)
+          (λ m g. none m (subst (λ x. x) (λ i. a (drop (sym len_is i) (sym h.parts i)) m) g)) (goes t label l)
 
       pub none_at_second_ending : (t : Bool) (y : Tally) → y.has_ending ≡ true → Seen t source seen ix rest y → (label : Label) → IsLabel a source t label → ⊥
-      none_at_second_ending t y second s label l = (let g = goes t label l in by g.skips g.answered g.is)
+      none_at_second_ending t y second s label l = (let g = goes t label l in by g.skips g.answered g.label_is)
         where
           after : (b : Option Bracketed) → label_between t (preceded (seen ++ kept_line ix (h.byte ∷ h.others)) b) ≡ Some label → ⊥
           after None e = cc
-          after (Some b) e = (let broken = two_endings t source seen ix h.byte h.others y b.content h.ends second (subst (λ r. Seen t source seen ix r y) h.is s) in cc (rw broken at e))
+          after (Some b) e = (let broken = two_endings t source seen ix h.byte h.others y b.content h.ends second (subst (λ r. Seen t source seen ix r y) h.parts s) in cc (rw broken at e))
 
           by : (skips : List ℕ) → AreSkips a (h.byte ∷ h.others) skips → label_from false t seen ix (h.byte ∷ h.others) skips ≡ Some label → ⊥
           by [] k e = cc (rw h.ends at e)
@@ -127,7 +133,7 @@ module _ (a : List ℕ → ℕ → Type 0) (source : List ℕ) where
               (sym (ending_seen a t seen ix h.byte h.others label h.ends (kept_from (ix + (line_len (h.byte ∷ h.others) + m)) (drop (line_len (h.byte ∷ h.others) + m) (h.byte ∷ h.others)) ms)) ∙ e)
 
     -- where the bracket stands behind no content of a label
-    pub none_at_closing : IsBracket escaped rest 93 → is_label_content seen ≡ false → (t : Bool) (label : Label) → IsLabel a source t label → ⊥
+    pub none_at_closing : IsBracket escaped rest right_bracket → is_label_content seen ≡ false → (t : Bool) (label : Label) → IsLabel a source t label → ⊥
     none_at_closing o h t label l = (let e = from_closing o t label l in cc (rw h at e))
 
 pub same_take : (xs : List ℕ) (m n : ℕ) → m ≡ n → take m xs ≡ take n xs
@@ -168,13 +174,13 @@ pub white_small : (b : ℕ) → is_white_space b ≡ true → b < 128
 white_small b w = grind (arith, nat_tests, w)
 
 pub cut_after_ending : (source : List ℕ) (ix len : ℕ) → IsUtf8 source → IsEnding (drop ix source) len → IsCharBoundary source (ix + len)
-cut_after_ending source ix len u h = subst (λ n. IsCharBoundary source (ix + n)) (sym (h.measured ∙ ap line_len h.is)) (by (b == 10) (b == 13) h.ends)
+cut_after_ending source ix len u h = subst (λ n. IsCharBoundary source (ix + n)) (sym (h.takes ∙ ap line_len h.parts)) (by (b == 10) (b == 13) h.ends)
   where
     b : ℕ
     b = h.byte
 
     first : IsCharBoundary source (ix + 1)
-    first = cut_after source ix h.byte h.others u h.is (white_small h.byte (ending_white h.byte h.ends))
+    first = cut_after source ix h.byte h.others u h.parts (white_small h.byte (ending_white h.byte h.ends))
 
     return : (cs : List ℕ) → drop ix source ≡ h.byte ∷ cs → IsCharBoundary source (ix + return_len cs)
     return [] e = first
@@ -186,7 +192,7 @@ cut_after_ending source ix len u h = subst (λ n. IsCharBoundary source (ix + n)
 
     by : (x y : Bool) → (x || y) ≡ true → IsCharBoundary source (ix + cond x 1 (cond y (return_len h.others) (suc (line_len h.others))))
     by true y h' = first
-    by false true h' = return h.others h.is
+    by false true h' = return h.others h.parts
     by false false h' = absurd (true≢false (sym h'))
 
 -- how much is there
@@ -198,13 +204,13 @@ line_len-some b bs h = elim (b == 10) as (λ v. 1 ≤ cond v 1 (cond (b == 13) (
 
 pub ending_fits : (source : List ℕ) (ix len : ℕ) → IsEnding (drop ix source) len → (ix + len ≤ length source) × (1 ≤ len)
 ending_fits source ix len h = (
-  omega (arith, h.measured, line_len-le (drop ix source), length-drop ix source, ap length h.is),
-  omega (arith, h.measured ∙ ap line_len h.is, line_len-some h.byte h.others h.ends),
+  omega (arith, h.takes, line_len-le (drop ix source), length-drop ix source, ap length h.parts),
+  omega (arith, h.takes ∙ ap line_len h.parts, line_len-some h.byte h.others h.ends),
 )
 
--- what stands at the front of the rest, as a look at the slice tells it
-pub front_at : (bytes source : List ℕ) (ix : ℕ) (escaped : Bool) (f g : Front) → bytes ≡ source → IsFront escaped (take (length bytes - ix) (drop ix bytes)) f → f ≡ g → IsFront escaped (drop ix source) g
-front_at bytes source ix escaped f g value h e = subst (λ x. x) (λ i. IsFront escaped ((rest_is bytes ix ∙ ap (drop ix) value) i) (e i)) h
+-- what stands next, as the slice tells it
+pub next_part_at : (bytes source : List ℕ) (ix : ℕ) (escaped : Bool) (f g : NextPart) → bytes ≡ source → IsNextPart escaped (take (length bytes - ix) (drop ix bytes)) f → f ≡ g → IsNextPart escaped (drop ix source) g
+next_part_at bytes source ix escaped f g value h e = subst (λ x. x) (λ i. IsNextPart escaped ((rest_is bytes ix ∙ ap (drop ix) value) i) (e i)) h
 
 pub byte_fits : (source : List ℕ) (ix b : ℕ) (bs : List ℕ) → drop ix source ≡ b ∷ bs → ix + 1 ≤ length source
 byte_fits source ix b bs e = omega (arith, length-drop ix source, ap length e)
@@ -212,21 +218,21 @@ byte_fits source ix b bs e = omega (arith, length-drop ix source, ap length e)
 pub byte_rest : (source : List ℕ) (ix b : ℕ) (bs : List ℕ) → drop ix source ≡ b ∷ bs → drop (ix + 1) source ≡ bs
 byte_rest source ix b bs e = sym (drop-drop 1 ix source) ∙ ap (drop 1) e
 
--- the tally after what stands at the front
+-- the tally after what stands next
 module _ (t : Bool) (source : List ℕ) (seen : List KeptByte) (ix : ℕ) (rest rest' : List ℕ) (y : Tally) (s : Seen t source seen ix rest y) where
   pub told_word : (escaped : Bool) (b : ℕ) (escapes : Bool) (h : IsWord escaped rest b escapes) → rest' ≡ h.others
-      → Seen t source (seen ++ in_line b ix ∷ []) (ix + 1) rest' (record y { characters = y.characters + begun b; length = y.length + space_len y.has_word y.in_run + cond (starts_dropped t rest) 0 1; has_word = true; in_run = false; has_ending = false; is_rewritten = y.is_rewritten || starts_dropped t rest })
+      → Seen t source (seen ++ in_line b ix ∷ []) (ix + 1) rest' (tally_past_word y b (starts_dropped t rest))
   told_word escaped b escapes h e = subst (λ x. x)
-      (λ i. Seen t source (seen ++ in_line b ix ∷ []) (ix + 1) (sym e i) (record y { characters = y.characters + begun b; length = y.length + space_len y.has_word y.in_run + cond (starts_dropped t (sym h.is i)) 0 1; has_word = true; in_run = false; has_ending = false; is_rewritten = y.is_rewritten || starts_dropped t (sym h.is i) }))
-      (Seen-word t source seen ix b h.others y h.dark (subst (λ r. Seen t source seen ix r y) h.is s))
+      (λ i. Seen t source (seen ++ in_line b ix ∷ []) (ix + 1) (sym e i) (tally_past_word y b (starts_dropped t (sym h.parts i))))
+      (Seen-word t source seen ix b h.others y h.not_white (subst (λ r. Seen t source seen ix r y) h.parts s))
 
   pub told_space : (b : ℕ) (h : IsSpace rest b) → rest' ≡ h.others
-      → Seen t source (seen ++ in_line b ix ∷ []) (ix + 1) rest' (record y { characters = y.characters + 1; in_run = true; is_spaced = y.is_spaced && (b == 32 && not y.in_run) })
-  told_space b h e = subst (λ r. Seen t source (seen ++ in_line b ix ∷ []) (ix + 1) r (record y { characters = y.characters + 1; in_run = true; is_spaced = y.is_spaced && (b == 32 && not y.in_run) })) (sym e)
-      (Seen-space t source seen ix b h.others y h.white (subst (λ r. Seen t source seen ix r y) h.is s))
+      → Seen t source (seen ++ in_line b ix ∷ []) (ix + 1) rest' (tally_past_space y b)
+  told_space b h e = subst (λ r. Seen t source (seen ++ in_line b ix ∷ []) (ix + 1) r (tally_past_space y b)) (sym e)
+      (Seen-space t source seen ix b h.others y h.white (subst (λ r. Seen t source seen ix r y) h.parts s))
 
   pub told_ending : (jx len : ℕ) (h : IsEnding rest len) → y.has_ending ≡ false
-      → Seen t source (seen ++ kept_line ix rest) jx rest' (record y { characters = y.characters + len; in_run = true; has_ending = true; is_spaced = false })
+      → Seen t source (seen ++ kept_line ix rest) jx rest' (tally_past_ending y len)
   told_ending jx len h first = subst (λ x. x)
-      (λ i. Seen t source (seen ++ kept_line ix (sym h.is i)) jx rest' (record y { characters = y.characters + sym (h.measured ∙ ap line_len h.is) i; in_run = true; has_ending = true; is_spaced = false }))
-      (Seen-ending t source seen ix h.byte jx h.others rest' y h.ends first (subst (λ r. Seen t source seen ix r y) h.is s))
+      (λ i. Seen t source (seen ++ kept_line ix (sym h.parts i)) jx rest' (tally_past_ending y (sym (h.takes ∙ ap line_len h.parts) i)))
+      (Seen-ending t source seen ix h.byte jx h.others rest' y h.ends first (subst (λ r. Seen t source seen ix r y) h.parts s))

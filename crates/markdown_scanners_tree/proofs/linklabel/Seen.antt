@@ -8,9 +8,11 @@ use Rattle.std.proofs.lemmas.List.Folds.{list_all-append}
 use Rattle.std.proofs.lemmas.List.Sums.{fold-append, sum_by-append}
 use Rattle.std.specs.List.{list_all}
 use Rattle.markdown_scanners_tree.specs.Bytes.{is_line_ending, is_white_space}
+use Rattle.markdown_scanners_tree.specs.Ascii.{right_bracket}
 use Rattle.markdown_scanners_tree.specs.Kept.{KeptByte, in_line, at_line_end, kept_line, kept_return, return_len, line_len, bytes_of}
+use Rattle.markdown_scanners_tree.specs.linklabel.Answer.{without_first_space, without_last_space}
 use Rattle.markdown_scanners_tree.specs.linklabel.Label.{is_white, characters, is_label_content, has_pipe_backslash, in_cell, joined_words, is_plain}
-use Rattle.markdown_scanners_tree.specs.linklabel.private.Pass.{begun, space_len, starts_dropped, without_first_space, without_last_space}
+use Rattle.markdown_scanners_tree.specs.linklabel.private.Pass.{begun, space_len, starts_dropped, new_tally, tally_past_ending, tally_past_space, tally_past_word}
 use Rattle.markdown_scanners_tree.specs.declared.linklabel.Tally.{Tally}
 use Rattle.markdown_scanners_tree.proofs.linklabel.Runs.{few, few-white_runs, few_at_ending, lone, lone_runs}
 use Rattle.markdown_scanners_tree.proofs.linklabel.Words.{text_from, joined_words-from, lone_outer}
@@ -51,7 +53,7 @@ Written-ending t seen ix b jx bs rest' w r pushed d s = subst (Written t (seen +
     (λ ks f. (let g = gap_of_line t w r ix b bs ks d in (g.starts ∙ sym (ending_no_pipe b d), g.text))))
 
 -- at the closing bracket the whole text is written
-pub all_written : (t : Bool) (seen : List KeptByte) (ix : ℕ) (bs : List ℕ) (w r : Bool) (pushed : List ℕ) → Written t seen ix (93 ∷ bs) w r pushed → joined_words (in_cell t seen) ≡ pushed
+pub all_written : (t : Bool) (seen : List KeptByte) (ix : ℕ) (bs : List ℕ) (w r : Bool) (pushed : List ℕ) → Written t seen ix (right_bracket ∷ bs) w r pushed → joined_words (in_cell t seen) ≡ pushed
 all_written t seen ix bs w r pushed s = joined_words-from (in_cell t seen) ∙ ap (λ zs. text_from false false (in_cell t zs)) (sym (append-nil seen)) ∙ s.left [] refl
     ∙ ap (λ z. pushed ++ text_from w r z) (in_cell-nil t) ∙ append-nil pushed
   where
@@ -64,24 +66,24 @@ pub record Seen (t : Bool) (source : List ℕ) (seen : List KeptByte) (ix : ℕ)
   pub few_left : (ks : List KeptByte) → few false (seen ++ ks) ≡ few y.has_ending ks
   pub lone_left : (ks : List KeptByte) → lone false (seen ++ ks) ≡ (y.is_spaced && lone y.in_run ks)
   pub drops_left : (ks : List KeptByte) → Follows ix rest ks → (t && has_pipe_backslash (seen ++ ks)) ≡ (y.is_rewritten || (t && has_pipe_backslash ks))
-  pub counted : characters seen ≡ y.characters
-  pub worded : list_all is_white seen ≡ not y.has_word
+  pub characters_are : characters seen ≡ y.characters
+  pub has_word_is : list_all is_white seen ≡ not y.has_word
   pub copied : y.is_spaced ≡ true → source ≡ bytes_of seen ++ rest
   pub pushed : List ℕ
   pub written : Written t seen ix rest y.has_word y.in_run pushed
-  pub sized : length pushed ≡ y.length
+  pub length_is : length pushed ≡ y.length
 
-pub Seen-none : (t : Bool) (source : List ℕ) → Seen t source [] 0 source (record { characters = 0; length = 0; has_word = false; in_run = false; has_ending = false; is_spaced = true; is_rewritten = false })
+pub Seen-none : (t : Bool) (source : List ℕ) → Seen t source [] 0 source new_tally
 Seen-none t source = record {
   few_left = λ ks. refl;
   lone_left = λ ks. refl;
   drops_left = λ ks f. refl;
-  counted = refl;
-  worded = refl;
+  characters_are = refl;
+  has_word_is = refl;
   copied = λ h. refl;
   pushed = [];
   written = Written-none t source;
-  sized = refl;
+  length_is = refl;
 }
 
 characters-append : (xs ys : List KeptByte) → characters (xs ++ ys) ≡ characters xs + characters ys
@@ -111,7 +113,7 @@ word_len w r d b = by (w && r) d
 
 -- past a byte of a word
 pub Seen-word : (t : Bool) (source : List ℕ) (seen : List KeptByte) (ix b : ℕ) (bs : List ℕ) (y : Tally) → is_white_space b ≡ false → Seen t source seen ix (b ∷ bs) y
-    → Seen t source (seen ++ in_line b ix ∷ []) (ix + 1) bs (record y { characters = y.characters + begun b; length = y.length + space_len y.has_word y.in_run + cond (starts_dropped t (b ∷ bs)) 0 1; has_word = true; in_run = false; has_ending = false; is_rewritten = y.is_rewritten || starts_dropped t (b ∷ bs) })
+    → Seen t source (seen ++ in_line b ix ∷ []) (ix + 1) bs (tally_past_word y b (starts_dropped t (b ∷ bs)))
 Seen-word t source seen ix b bs y d s =
     let k = in_line b ix in
     let more = space_of y.has_word y.in_run ++ cond (starts_dropped t (b ∷ bs)) [] (b ∷ []) in record {
@@ -119,29 +121,29 @@ Seen-word t source seen ix b bs y d s =
       lone_left = λ ks. ap (lone false) (append_assoc seen (k ∷ []) ks) ∙ s.lone_left (k ∷ ks) ∙ rw d refl;
       drops_left = λ ks f. ap (λ zs. t && has_pipe_backslash zs) (append_assoc seen (k ∷ []) ks) ∙ s.drops_left (k ∷ ks) (follows_byte ix b bs ks)
           ∙ ap (λ v. y.is_rewritten || v) (has_dropped-byte t ix b bs ks f) ∙ sym (or_assoc y.is_rewritten (starts_dropped t (b ∷ bs)) (t && has_pipe_backslash ks));
-      counted = characters-more seen k ∙ ap (λ n. n + begun b) s.counted;
-      worded = all_white-more seen k ∙ ap (λ v. list_all is_white seen && v) d ∙ and-false (list_all is_white seen);
+      characters_are = characters-more seen k ∙ ap (λ n. n + begun b) s.characters_are;
+      has_word_is = all_white-more seen k ∙ ap (λ v. list_all is_white seen && v) d ∙ and-false (list_all is_white seen);
       copied = λ h. copied_more source bs seen b ix (s.copied h);
       pushed = s.pushed ++ more;
       written = Written-word t seen ix b bs y.has_word y.in_run s.pushed d s.written;
-      sized = length-append s.pushed more ∙ ap (λ n. n + length more) s.sized ∙ ap (λ n. y.length + n) (word_len y.has_word y.in_run (starts_dropped t (b ∷ bs)) b) ∙ omega arith;
+      length_is = length-append s.pushed more ∙ ap (λ n. n + length more) s.length_is ∙ ap (λ n. y.length + n) (word_len y.has_word y.in_run (starts_dropped t (b ∷ bs)) b) ∙ omega arith;
     }
 
 -- past white space in a line
 pub Seen-space : (t : Bool) (source : List ℕ) (seen : List KeptByte) (ix b : ℕ) (bs : List ℕ) (y : Tally) → is_white_space b ≡ true → Seen t source seen ix (b ∷ bs) y
-    → Seen t source (seen ++ in_line b ix ∷ []) (ix + 1) bs (record y { characters = y.characters + 1; in_run = true; is_spaced = y.is_spaced && (b == 32 && not y.in_run) })
+    → Seen t source (seen ++ in_line b ix ∷ []) (ix + 1) bs (tally_past_space y b)
 Seen-space t source seen ix b bs y w s =
     let k = in_line b ix in record {
       few_left = λ ks. ap (few false) (append_assoc seen (k ∷ []) ks) ∙ s.few_left (k ∷ ks) ∙ rw w refl;
       lone_left = λ ks. ap (lone false) (append_assoc seen (k ∷ []) ks) ∙ s.lone_left (k ∷ ks) ∙ rw w (sym (and_assoc y.is_spaced (b == 32 && not y.in_run) (lone true ks)));
       drops_left = λ ks f. ap (λ zs. t && has_pipe_backslash zs) (append_assoc seen (k ∷ []) ks) ∙ s.drops_left (k ∷ ks) (follows_byte ix b bs ks)
           ∙ ap (λ v. y.is_rewritten || v) (has_dropped-byte t ix b bs ks f ∙ ap (λ v. v || (t && has_pipe_backslash ks)) (not_dropped-white t b bs w));
-      counted = characters-more seen k ∙ ap (λ n. characters seen + n) (white_begins b w) ∙ ap (λ n. n + 1) s.counted;
-      worded = all_white-more seen k ∙ ap (λ v. list_all is_white seen && v) w ∙ and-true (list_all is_white seen) ∙ s.worded;
+      characters_are = characters-more seen k ∙ ap (λ n. characters seen + n) (white_begins b w) ∙ ap (λ n. n + 1) s.characters_are;
+      has_word_is = all_white-more seen k ∙ ap (λ v. list_all is_white seen && v) w ∙ and-true (list_all is_white seen) ∙ s.has_word_is;
       copied = λ h. copied_more source bs seen b ix (s.copied (and_parts y.is_spaced _ h).0);
       pushed = s.pushed;
       written = Written-space t seen ix b bs y.has_word y.in_run s.pushed w s.written;
-      sized = s.sized;
+      length_is = s.length_is;
     }
 
 -- what a line ending leaves: it is white space that is marked once, and no space
@@ -171,7 +173,7 @@ line_is ix b bs ends = by (b == 10) (b == 13) (eqb-true b 10) ends
 
 -- past a line ending, the first of its run
 pub Seen-ending : (t : Bool) (source : List ℕ) (seen : List KeptByte) (ix b jx : ℕ) (bs rest' : List ℕ) (y : Tally) → is_line_ending b ≡ true → y.has_ending ≡ false → Seen t source seen ix (b ∷ bs) y
-    → Seen t source (seen ++ kept_line ix (b ∷ bs)) jx rest' (record y { characters = y.characters + line_len (b ∷ bs); in_run = true; has_ending = true; is_spaced = false })
+    → Seen t source (seen ++ kept_line ix (b ∷ bs)) jx rest' (tally_past_ending y (line_len (b ∷ bs)))
 Seen-ending t source seen ix b jx bs rest' y ends first s =
     let front = kept_line ix (b ∷ bs) in
     let l = line_is ix b bs ends in record {
@@ -179,19 +181,19 @@ Seen-ending t source seen ix b jx bs rest' y ends first s =
       lone_left = λ ks. ap (lone false) (append_assoc seen front ks) ∙ s.lone_left (front ++ ks) ∙ ap (λ v. y.is_spaced && v) (l.not_lone y.in_run ks) ∙ and-false y.is_spaced;
       drops_left = λ ks f. (let g = gap_of_line t y.has_word y.in_run ix b bs ks ends in
           ap (λ zs. t && has_pipe_backslash zs) (append_assoc seen front ks) ∙ s.drops_left (front ++ ks) (g.starts ∙ sym (ending_no_pipe b ends)) ∙ ap (λ v. y.is_rewritten || (t && v)) g.drops);
-      counted = characters-append seen front ∙ (λ i. s.counted i + l.counts i);
-      worded = list_all-append is_white seen front ∙ ap (λ v. list_all is_white seen && v) l.is_space ∙ and-true (list_all is_white seen) ∙ s.worded;
+      characters_are = characters-append seen front ∙ (λ i. s.characters_are i + l.counts i);
+      has_word_is = list_all-append is_white seen front ∙ ap (λ v. list_all is_white seen && v) l.is_space ∙ and-true (list_all is_white seen) ∙ s.has_word_is;
       copied = λ h. absurd (true≢false (sym h));
       pushed = s.pushed;
       written = Written-ending t seen ix b jx bs rest' y.has_word y.in_run s.pushed ends s.written;
-      sized = s.sized;
+      length_is = s.length_is;
     }
 
 -- what was seen is a label's content where it has a word and few characters
 pub content_of_seen : (t : Bool) (source : List ℕ) (seen : List KeptByte) (ix : ℕ) (rest : List ℕ) (y : Tally) → Seen t source seen ix rest y → is_label_content seen ≡ (nat_le y.characters 999 && y.has_word)
 content_of_seen t source seen ix rest y s =
     let all_few = few-white_runs seen ∙ ap (few false) (sym (append-nil seen)) ∙ s.few_left [] in
-    (λ i. (all_few i && nat_le (s.counted i) 999) && not (s.worded i)) ∙ ap (λ b. nat_le y.characters 999 && b) (not-not y.has_word)
+    (λ i. (all_few i && nat_le (s.characters_are i) 999) && not (s.has_word_is i)) ∙ ap (λ b. nat_le y.characters 999 && b) (not-not y.has_word)
 
 -- and a second line ending in a run leaves no label
 pub two_endings : (t : Bool) (source : List ℕ) (seen : List KeptByte) (ix b : ℕ) (bs : List ℕ) (y : Tally) (ks : List KeptByte) → is_line_ending b ≡ true → y.has_ending ≡ true → Seen t source seen ix (b ∷ bs) y → is_label_content ((seen ++ kept_line ix (b ∷ bs)) ++ ks) ≡ false
@@ -201,7 +203,7 @@ two_endings t source seen ix b bs y ks ends second s =
     λ i. (broken i && nat_le (characters ((seen ++ front) ++ ks)) 999) && not (list_all is_white ((seen ++ front) ++ ks))
 
 -- at the closing bracket
-module _ (t : Bool) (source : List ℕ) (seen : List KeptByte) (ix : ℕ) (bs : List ℕ) (y : Tally) (s : Seen t source seen ix (93 ∷ bs) y) where
+module _ (t : Bool) (source : List ℕ) (seen : List KeptByte) (ix : ℕ) (bs : List ℕ) (y : Tally) (s : Seen t source seen ix (right_bracket ∷ bs) y) where
   spaced : lone false seen ≡ y.is_spaced
   spaced = ap (lone false) (sym (append-nil seen)) ∙ s.lone_left [] ∙ and-true y.is_spaced
 
@@ -211,11 +213,11 @@ module _ (t : Bool) (source : List ℕ) (seen : List KeptByte) (ix : ℕ) (bs : 
   pub plain_of_seen : (y.is_spaced && not y.is_rewritten) ≡ is_plain t seen
   plain_of_seen = λ i. (sym spaced ∙ (lone_runs seen).0) i && not (sym rewritten i)
 
-  pub size_of_seen : y.length ≡ length (joined_words (in_cell t seen))
-  size_of_seen = sym s.sized ∙ ap length (sym (all_written t seen ix bs y.has_word y.in_run s.pushed s.written))
+  pub length_of_seen : y.length ≡ length (joined_words (in_cell t seen))
+  length_of_seen = sym s.length_is ∙ ap length (sym (all_written t seen ix bs y.has_word y.in_run s.pushed s.written))
 
   -- a plain label stands in the source as it is
-  pub stands_in_source : is_plain t seen ≡ true → (source ≡ bytes_of seen ++ (93 ∷ bs)) × (joined_words (in_cell t seen) ≡ without_last_space (without_first_space (bytes_of seen)))
+  pub stands_in_source : is_plain t seen ≡ true → (source ≡ bytes_of seen ++ (right_bracket ∷ bs)) × (joined_words (in_cell t seen) ≡ without_last_space (without_first_space (bytes_of seen)))
   stands_in_source h =
       let p = and_parts y.is_spaced (not y.is_rewritten) (plain_of_seen ∙ h) in
       let same : in_cell t seen ≡ seen = in_cell-same seen t (rewritten ∙ sym (not-not y.is_rewritten) ∙ ap not p.1) in

@@ -58,7 +58,7 @@ label_from e t seen p bs skips = label_between t (preceded seen (bracketed_after
 pub record Goes (a : List ℕ → ℕ → Type 0) (e t : Bool) (seen : List KeptByte) (p : ℕ) (bs : List ℕ) (label : Label) : Type 0 where
   pub skips : List ℕ
   pub answered : AreSkips a bs skips
-  pub is : label_from e t seen p bs skips ≡ Some label
+  pub label_is : label_from e t seen p bs skips ≡ Some label
 
 seen_more : (t : Bool) (seen : List KeptByte) (k : KeptByte) (ks : List KeptByte) → (k.byte == 92 && punctuation_next ks) ≡ false → (k.byte == 93) ≡ false → (k.byte == 91) ≡ false
     → label_between t (preceded seen (bracketed (pieces (k ∷ ks)))) ≡ label_between t (preceded (seen ++ k ∷ []) (bracketed (pieces ks)))
@@ -119,15 +119,15 @@ module _ (a : List ℕ → ℕ → Type 0) (e t : Bool) (seen : List KeptByte) (
   pub past_byte : Goes a e t seen p (b ∷ bs) label → Goes a after_byte t (seen ++ in_line b p ∷ []) (p + 1) bs label
   past_byte g =
       let s : AreSkips a bs g.skips = subst (λ X. X) (AreSkips-in_line a b bs g.skips plain) g.answered in
-      record { skips = g.skips; answered = s; is = sym (step g.skips s) ∙ g.is }
+      record { skips = g.skips; answered = s; label_is = sym (step g.skips s) ∙ g.label_is }
 
   pub at_byte : Goes a after_byte t (seen ++ in_line b p ∷ []) (p + 1) bs label → Goes a e t seen p (b ∷ bs) label
-  at_byte g = record { skips = g.skips; answered = subst (λ X. X) (sym (AreSkips-in_line a b bs g.skips plain)) g.answered; is = step g.skips g.answered ∙ g.is }
+  at_byte g = record { skips = g.skips; answered = subst (λ X. X) (sym (AreSkips-in_line a b bs g.skips plain)) g.answered; label_is = step g.skips g.answered ∙ g.label_is }
 
 module _ (a : List ℕ → ℕ → Type 0) (t : Bool) (seen : List KeptByte) (p : ℕ) (label : Label) where
   -- at the end, and at an opening bracket, there is no label
   pub no_label_at_end : (e : Bool) → Goes a e t seen p [] label → ⊥
-  no_label_at_end e g = by e g.skips g.answered g.is
+  no_label_at_end e g = by e g.skips g.answered g.label_is
     where
       by : (e : Bool) (skips : List ℕ) → AreSkips a [] skips → label_from e t seen p [] skips ≡ Some label → ⊥
       by true [] s h = nothing h
@@ -135,7 +135,7 @@ module _ (a : List ℕ → ℕ → Type 0) (t : Bool) (seen : List KeptByte) (p 
       by e (k ∷ ks) s h = true≢false (sym s.0)
 
   pub no_label_at_opening : (bs : List ℕ) → Goes a false t seen p (91 ∷ bs) label → ⊥
-  no_label_at_opening bs g = nothing (sym (ap (λ ks. label_between t (preceded seen (bracketed (pieces ks)))) (kept_from-in_line p 91 bs g.skips refl) ∙ ap (λ ps. label_between t (preceded seen (bracketed ps))) (pieces-single (in_line 91 p) _ refl)) ∙ g.is)
+  no_label_at_opening bs g = nothing (sym (ap (λ ks. label_between t (preceded seen (bracketed (pieces ks)))) (kept_from-in_line p 91 bs g.skips refl) ∙ ap (λ ps. label_between t (preceded seen (bracketed ps))) (pieces-single (in_line 91 p) _ refl)) ∙ g.label_is)
 
   closing : (bs skips : List ℕ) → label_from false t seen p (93 ∷ bs) skips ≡ label_between t (Some (record { content = seen; close = p }))
   closing bs skips = ap (λ ks. label_between t (preceded seen (bracketed (pieces ks)))) (kept_from-in_line p 93 bs skips refl) ∙ ap (λ ps. label_between t (preceded seen (bracketed ps))) (pieces-single (in_line 93 p) _ refl)
@@ -143,10 +143,10 @@ module _ (a : List ℕ → ℕ → Type 0) (t : Bool) (seen : List KeptByte) (p 
 
   -- at the closing bracket the label is that of what was seen
   pub label_at_closing : (bs : List ℕ) → Goes a false t seen p (93 ∷ bs) label → label_between t (Some (record { content = seen; close = p })) ≡ Some label
-  label_at_closing bs g = sym (closing bs g.skips) ∙ g.is
+  label_at_closing bs g = sym (closing bs g.skips) ∙ g.label_is
 
   pub closing_label : (bs : List ℕ) → label_between t (Some (record { content = seen; close = p })) ≡ Some label → Goes a false t seen p (93 ∷ bs) label
-  closing_label bs e = record { skips = []; answered = tt; is = closing bs [] ∙ e }
+  closing_label bs e = record { skips = []; answered = tt; label_is = closing bs [] ∙ e }
 
 return_seen : (t : Bool) (seen : List KeptByte) (p : ℕ) (bs : List ℕ) (ks : List KeptByte) → label_between t (preceded seen (bracketed (pieces (kept_return p bs ++ ks)))) ≡ label_between t (preceded (seen ++ kept_return p bs) (bracketed (pieces ks)))
 return_seen t seen p [] ks = seen_more t seen (at_line_end 13 p) ks refl refl refl
@@ -172,23 +172,23 @@ module _ (a : List ℕ → ℕ → Type 0) (t : Bool) (seen : List KeptByte) (p 
 
   pub past_ending : (k : ℕ) → ((m : ℕ) → a (drop (line_len (b ∷ bs)) (b ∷ bs)) m → m ≡ k) → Goes a false t seen p (b ∷ bs) label
       → Goes a false t (seen ++ kept_line p (b ∷ bs)) (p + (line_len (b ∷ bs) + k)) (drop (line_len (b ∷ bs) + k) (b ∷ bs)) label
-  past_ending k one g = by g.skips g.answered g.is
+  past_ending k one g = by g.skips g.answered g.label_is
     where
       by : (skips : List ℕ) → AreSkips a (b ∷ bs) skips → label_from false t seen p (b ∷ bs) skips ≡ Some label → Goes a false t (seen ++ kept_line p (b ∷ bs)) (p + (line_len (b ∷ bs) + k)) (drop (line_len (b ∷ bs) + k) (b ∷ bs)) label
       by [] s e = absurd (nothing (rw ends at e))
       by (m ∷ ms) s e = subst (λ n. Goes a false t (seen ++ kept_line p (b ∷ bs)) (p + (line_len (b ∷ bs) + n)) (drop (line_len (b ∷ bs) + n) (b ∷ bs)) label) (one m s.1)
-          (record { skips = ms; answered = s.2; is = sym (ending_seen (kept_from (p + (line_len (b ∷ bs) + m)) (drop (line_len (b ∷ bs) + m) (b ∷ bs)) ms)) ∙ e })
+          (record { skips = ms; answered = s.2; label_is = sym (ending_seen (kept_from (p + (line_len (b ∷ bs) + m)) (drop (line_len (b ∷ bs) + m) (b ∷ bs)) ms)) ∙ e })
 
   pub at_ending : (k : ℕ) → a (drop (line_len (b ∷ bs)) (b ∷ bs)) k
       → Goes a false t (seen ++ kept_line p (b ∷ bs)) (p + (line_len (b ∷ bs) + k)) (drop (line_len (b ∷ bs) + k) (b ∷ bs)) label → Goes a false t seen p (b ∷ bs) label
   at_ending k h g = record {
     skips = k ∷ g.skips;
     answered = (rw ends refl, h, g.answered);
-    is = ending_seen (kept_from (p + (line_len (b ∷ bs) + k)) (drop (line_len (b ∷ bs) + k) (b ∷ bs)) g.skips) ∙ g.is;
+    label_is = ending_seen (kept_from (p + (line_len (b ∷ bs) + k)) (drop (line_len (b ∷ bs) + k) (b ∷ bs)) g.skips) ∙ g.label_is;
   }
 
   pub no_label_at_ending : ((m : ℕ) → a (drop (line_len (b ∷ bs)) (b ∷ bs)) m → ⊥) → Goes a false t seen p (b ∷ bs) label → ⊥
-  no_label_at_ending none g = by g.skips g.answered g.is
+  no_label_at_ending none g = by g.skips g.answered g.label_is
     where
       by : (skips : List ℕ) → AreSkips a (b ∷ bs) skips → label_from false t seen p (b ∷ bs) skips ≡ Some label → ⊥
       by [] s e = nothing (rw ends at e)

@@ -3,25 +3,29 @@ use Rattle.std.proofs.Common.{ℕ, Bool, true, false, ◌&&◌, ◌==◌, not, L
 use Rattle.std.proofs.lemmas.Bool.{and_parts}
 use Rattle.std.specs.List.{join_with_byte}
 use Rattle.markdown_scanners_tree.specs.Bytes.{begins_with, is_white_space}
+use Rattle.markdown_scanners_tree.specs.Ascii.{space}
 use Rattle.markdown_scanners_tree.specs.Kept.{KeptByte, bytes_of}
+use Rattle.markdown_scanners_tree.specs.linklabel.Answer.{without_first_space, without_last_space}
 use Rattle.markdown_scanners_tree.specs.linklabel.Label.{is_white, onto_runs, words, joined_words}
-use Rattle.markdown_scanners_tree.specs.linklabel.private.Pass.{without_first_space, without_last_space}
 use Rattle.markdown_scanners_tree.proofs.linklabel.Runs.{lone}
 
 -- what is still written: whether there was a word, and whether white space was read after it
 abbrev pub text_from : Bool → Bool → List KeptByte → List ℕ
 text_from has_word in_run [] = []
-text_from has_word in_run (k ∷ ks) = if is_white k then text_from has_word true ks else if has_word && in_run then 32 ∷ k.byte ∷ text_from true false ks else k.byte ∷ text_from true false ks
+text_from has_word in_run (k ∷ ks) =
+    if is_white k then text_from has_word true ks
+    else if has_word && in_run then space ∷ k.byte ∷ text_from true false ks
+    else k.byte ∷ text_from true false ks
 
 abbrev is_word_byte : KeptByte → Bool
 is_word_byte k = not (is_white k)
 
 abbrev joined : List (List KeptByte) → List ℕ
-joined runs = join_with_byte 32 (map bytes_of runs)
+joined runs = join_with_byte space (map bytes_of runs)
 
 abbrev after_word : List (List KeptByte) → List ℕ
 after_word [] = []
-after_word (run ∷ runs) = 32 ∷ joined (run ∷ runs)
+after_word (run ∷ runs) = space ∷ joined (run ∷ runs)
 
 abbrev goes_on : Bool → List (List KeptByte) → List ℕ
 goes_on begins [] = []
@@ -41,7 +45,7 @@ onto_open B k [] = refl
 onto_open true k (r ∷ R) = joined-cons (k ∷ r) R
 onto_open false k (r ∷ R) = refl
 
-onto_after : (B : Bool) (k : KeptByte) (R : List (List KeptByte)) → 32 ∷ joined (onto_runs B k R) ≡ after_word (onto_runs B k R)
+onto_after : (B : Bool) (k : KeptByte) (R : List (List KeptByte)) → space ∷ joined (onto_runs B k R) ≡ after_word (onto_runs B k R)
 onto_after B k [] = refl
 onto_after true k (r ∷ R) = refl
 onto_after false k (r ∷ R) = refl
@@ -73,11 +77,11 @@ joined_words-from ks = sym (text_from-start ks ∙ (written ks).0)
 -- Where each run of white space is one space, the text of a label is its content without a space at the ends.
 
 -- a byte that is no space stays
-keeps : (b : ℕ) (bs : List ℕ) → (b == 32) ≡ false → b ∷ without_last_space bs ≡ without_last_space (b ∷ bs)
+keeps : (b : ℕ) (bs : List ℕ) → (b == space) ≡ false → b ∷ without_last_space bs ≡ without_last_space (b ∷ bs)
 keeps b [] h = sym (ap (λ v. cond v [] (b ∷ [])) h)
 keeps b (c ∷ bs) h = refl
 
-no_space : (b : ℕ) → is_white_space b ≡ false → (b == 32) ≡ false
+no_space : (b : ℕ) → is_white_space b ≡ false → (b == space) ≡ false
 no_space b w = by (b == 32) (eqb-true b 32)
   where
     by : (x : Bool) → (x ≡ true → b ≡ 32) → x ≡ false

@@ -6,7 +6,7 @@ use Rattle.std.proofs.lemmas.List.{get_or-drop}
 use Rattle.std.specs.Str.{IsUtf8, IsCharBoundary}
 use Rattle.markdown_scanners_tree.specs.Kept.{KeptByte, in_line, kept_line}
 use Rattle.markdown_scanners_tree.specs.linklabel.Label.{Label, IsLabel, Bracketed, label_between, is_label_content, in_cell, joined_words, is_plain}
-use Rattle.markdown_scanners_tree.specs.linklabel.private.Front.{IsBracket, IsEnding, IsSpace, IsWord}
+use Rattle.markdown_scanners_tree.specs.linklabel.private.NextPart.{IsBracket, IsEnding, IsSpace, IsWord}
 use Rattle.markdown_scanners_tree.specs.linklabel.private.Pass.{starts_dropped}
 use Rattle.markdown_scanners_tree.proofs.linklabel.Cells.{space_of}
 use Rattle.markdown_scanners_tree.proofs.linklabel.Scan.{IsAt, from_closing, cut_after, same_take}
@@ -62,19 +62,19 @@ cut_after_dropped t source ix b bs u e h =
     let backslash : b ≡ 92 = eqb-true b 92 (and_parts (b == 92) _ (and_parts t _ (ap (starts_dropped t) (sym e) ∙ h)).1).0 in
     cut_after source ix b bs u e (rw backslash (omega arith))
 
--- what stands at the front, written or passed over
+-- what stands next, written or passed over
 module _ (t : Bool) (seen : List KeptByte) (ix jx : ℕ) (rest rest' : List ℕ) (w r : Bool) (pushed : List ℕ) where
   pub ending_written : (len : ℕ) → IsEnding rest len → Written t seen ix rest w r pushed → Written t (seen ++ kept_line ix rest) jx rest' w true pushed
-  ending_written len h s = subst (λ z. Written t (seen ++ kept_line ix z) jx rest' w true pushed) (sym h.is) (Written-ending t seen ix h.byte jx h.others rest' w r pushed h.ends (subst (λ z. Written t seen ix z w r pushed) h.is s))
+  ending_written len h s = subst (λ z. Written t (seen ++ kept_line ix z) jx rest' w true pushed) (sym h.parts) (Written-ending t seen ix h.byte jx h.others rest' w r pushed h.ends (subst (λ z. Written t seen ix z w r pushed) h.parts s))
 
 module _ (t : Bool) (seen : List KeptByte) (ix : ℕ) (rest rest' : List ℕ) (w r : Bool) (pushed : List ℕ) where
   pub space_written : (b : ℕ) (h : IsSpace rest b) → rest' ≡ h.others → Written t seen ix rest w r pushed → Written t (seen ++ in_line b ix ∷ []) (ix + 1) rest' w true pushed
-  space_written b h e s = subst (λ z. Written t (seen ++ in_line b ix ∷ []) (ix + 1) z w true pushed) (sym e) (Written-space t seen ix b h.others w r pushed h.white (subst (λ z. Written t seen ix z w r pushed) h.is s))
+  space_written b h e s = subst (λ z. Written t (seen ++ in_line b ix ∷ []) (ix + 1) z w true pushed) (sym e) (Written-space t seen ix b h.others w r pushed h.white (subst (λ z. Written t seen ix z w r pushed) h.parts s))
 
   pub word_follows : (escaped : Bool) (b : ℕ) (escapes : Bool) (h : IsWord escaped rest b escapes) → rest' ≡ h.others → Written t seen ix rest w r pushed
       → Written t (seen ++ in_line b ix ∷ []) (ix + 1) rest' true false (pushed ++ (space_of w r ++ cond (starts_dropped t rest) [] (b ∷ [])))
-  word_follows escaped b escapes h e s = subst (λ x. x) (λ i. Written t (seen ++ in_line b ix ∷ []) (ix + 1) (sym e i) true false (pushed ++ (space_of w r ++ cond (starts_dropped t (sym h.is i)) [] (b ∷ []))))
-      (Written-word t seen ix b h.others w r pushed h.dark (subst (λ z. Written t seen ix z w r pushed) h.is s))
+  word_follows escaped b escapes h e s = subst (λ x. x) (λ i. Written t (seen ++ in_line b ix ∷ []) (ix + 1) (sym e i) true false (pushed ++ (space_of w r ++ cond (starts_dropped t (sym h.parts i)) [] (b ∷ []))))
+      (Written-word t seen ix b h.others w r pushed h.not_white (subst (λ z. Written t seen ix z w r pushed) h.parts s))
 
 -- all is flushed
 pub flushed_out : (text out slice new : List ℕ) (jx : ℕ) → new ≡ out ++ slice → out ++ slice ≡ new ++ take (jx - jx) (drop jx text)

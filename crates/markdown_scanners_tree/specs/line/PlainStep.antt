@@ -1,5 +1,7 @@
--- What one call answers and takes on a rest of a line whose head has no tab. (CommonMark 0.31.2, sections 2.2, 5.1 and 5.2)
+-- What one call answers and takes on a rest of a line whose head has no tab.
+-- (CommonMark 0.31.2, sections 2.2, 5.1 and 5.2)
 use Rattle.std.specs.Prelude.{ℕ, ◌≡◌, true, false, ◌==◌, nat_le, nat_lt, List, [], ◌∷◌, ◌+◌, drop, min, Option, Some, None, if◌then◌else◌}
+use Rattle.markdown_scanners_tree.specs.Ascii.{colon, greater_than_sign}
 use Rattle.markdown_scanners_tree.specs.Bytes.{is_at_line_end, is_blank}
 use Rattle.markdown_scanners_tree.specs.line.State.{LineState, leading_spaces, rest_of, columns_further}
 use Rattle.markdown_scanners_tree.specs.scanners.list_items.ListMarker.{is_space_or_line_end, list_marker, Marker}
@@ -21,13 +23,17 @@ spaces_within n r = min n (leading_spaces r)
 abbrev pub quote_step : List ℕ → Step
 quote_step [] = record { answer = Flag false; taken = 0 }
 quote_step (b ∷ r) =
-    if b == 62 then record { answer = Flag true; taken = 1 + spaces_within 1 r } else record { answer = Flag false; taken = 0 }
+    if b == greater_than_sign
+    then record { answer = Flag true; taken = 1 + spaces_within 1 r }
+    else record { answer = Flag false; taken = 0 }
 
--- how many of m spaces belong to a list marker, beside its own one: fewer than four, and none where four or more stand (5.2, rules 1 and 2)
+-- how many of m spaces belong to a list marker, beside its own one: fewer than four, and none where
+-- four or more stand (5.2, rules 1 and 2)
 abbrev pub marker_spaces : ℕ → ℕ
 marker_spaces m = if nat_lt m 4 then m else 0
 
--- a list item's marker at an indent: its one space, and where the rest is not blank the further spaces that belong to it (5.2)
+-- a list item's marker at an indent: its one space, and where the rest is not blank the further
+-- spaces that belong to it (5.2)
 abbrev pub item_step_of : ℕ → List ℕ → Marker → Step
 item_step_of indent r m =
     let one = spaces_within 1 (drop m.width r) in
@@ -44,7 +50,8 @@ no_item = record { answer = ItemAnswer None; taken = 0 }
 -- the same where a space or the line's end follows the marker, and where there is no marker
 abbrev pub item_step_by : ℕ → List ℕ → Option Marker → Step
 item_step_by indent r None = no_item
-item_step_by indent r (Some m) = if is_space_or_line_end (drop m.width r) then item_step_of indent r m else no_item
+item_step_by indent r (Some m) =
+    if is_space_or_line_end (drop m.width r) then item_step_of indent r m else no_item
 
 abbrev pub item_step : ℕ → List ℕ → Step
 item_step indent r = item_step_by indent r (list_marker r)
@@ -57,7 +64,7 @@ definition_spaces m = if nat_le 5 m then 1 else m
 abbrev pub definition_step : ℕ → List ℕ → Step
 definition_step indent [] = record { answer = DefinitionAnswer None; taken = 0 }
 definition_step indent (b ∷ r) =
-    if b == 58
+    if b == colon
     then (
     let spaces = definition_spaces (leading_spaces r) in
     record { answer = DefinitionAnswer (Some (indent + 1 + spaces)); taken = 1 + spaces }
@@ -66,7 +73,8 @@ definition_step indent (b ∷ r) =
 
 -- one call on a rest of a line
 abbrev pub plain_step : LineCall → List ℕ → Step
-plain_step (Space n) r = record { answer = Flag (spaces_within n r == n); taken = spaces_within n r }
+plain_step (Space n) r =
+    record { answer = Flag (spaces_within n r == n); taken = spaces_within n r }
 plain_step (Upto n) r = record { answer = Count (spaces_within n r); taken = spaces_within n r }
 plain_step Eol r = record { answer = Flag (is_at_line_end r); taken = 0 }
 plain_step Quote r = quote_step r

@@ -1,12 +1,30 @@
 -- How a label is answered. (CommonMark 0.31.2, section 6.3, link labels)
-use Rattle.std.specs.Prelude.{ℕ, true, false, ◌≡◌}
+use Rattle.std.specs.Prelude.{ℕ, Bool, true, false, ◌==◌, ◌-◌, List, [], ◌∷◌, take, if◌then◌else◌}
 use Rattle.markdown_values.specs.declared.strings.CowStr.{CowStr}
-use Rattle.markdown_values.specs.strings.Text.{cow_text, IsBorrowed, IsBoxed}
+use Rattle.markdown_values.specs.declared.strings.CowStr.TheVariants.{Boxed, Borrowed, Inlined}
+use Rattle.markdown_values.specs.strings.Text.{cow_text}
+use Rattle.markdown_scanners_tree.specs.Ascii.{space}
 use Rattle.markdown_scanners_tree.specs.linklabel.Label.{Label}
 
--- the bytes taken and the text are the label's, and the text is lent exactly where it stands in the source as it is
-pub record IsAnswer (label : Label) (taken : ℕ) (text : CowStr) : Type 0 where
-  pub taken_all : taken ≡ label.len
-  pub same_text : cow_text text ≡ label.text
-  pub lent : label.plain ≡ true → IsBorrowed text
-  pub built : label.plain ≡ false → IsBoxed text
+-- the text is borrowed
+abbrev pub is_borrowed : CowStr → Bool
+is_borrowed (Boxed text) = false
+is_borrowed (Borrowed text) = true
+is_borrowed (Inlined text) = false
+
+-- the label that is answered by the bytes taken and a text, which is borrowed where it stands in the source as it is
+abbrev pub answered_label : ℕ × CowStr → Label
+answered_label r = record { len = r.0; text = cow_text r.1; plain = is_borrowed r.1 }
+
+abbrev pub without_first_space : List ℕ → List ℕ
+without_first_space [] = []
+without_first_space (b ∷ bs) = if b == space then bs else b ∷ bs
+
+abbrev pub without_last_space : List ℕ → List ℕ
+without_last_space [] = []
+without_last_space (b ∷ []) = if b == space then [] else b ∷ []
+without_last_space (b ∷ c ∷ bs) = b ∷ without_last_space (c ∷ bs)
+
+-- what stands in the text before the closing bracket, the last of n bytes, without one space at each end
+abbrev pub slice_before : List ℕ → ℕ → List ℕ
+slice_before text n = without_last_space (without_first_space (take (n - 1) text))

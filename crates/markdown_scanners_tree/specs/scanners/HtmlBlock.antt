@@ -3,8 +3,9 @@ use Rattle.std.specs.Prelude.{ℕ, Bool, true, ◌||◌, ◌&&◌, ◌==◌, Lis
 use Rattle.std.specs.Ordering.{nat_cmp, is_lt}
 use Rattle.std.specs.Cmp.Lexicographic.{slice_cmp}
 use denote.Ref.{Bor}
-use Rattle.std.specs.List.{list_all}
+use Rattle.std.specs.List.{AllPass}
 use Rattle.std.specs.Char.{to_ascii_lowercase}
+use Rattle.markdown_scanners_tree.specs.Ascii.{tab, space, slash, greater_than_sign}
 use Rattle.markdown_scanners_tree.specs.Bytes.{begins_with, is_alphanumeric, is_line_ending}
 
 -- the names, in ascending order
@@ -29,16 +30,19 @@ IsBlockName name = Contains block_names (map to_ascii_lowercase name)
 -- What follows the name is the end, a space, a tab, a line ending, `>` or `/>`.
 abbrev pub ends_block_name : List ℕ → Bool
 ends_block_name [] = true
-ends_block_name (b ∷ bs) = b == 32 || b == 9 || is_line_ending b || b == 62 || (b == 47 && begins_with (λ c. c == 62) bs)
+ends_block_name (b ∷ bs) =
+    b == space || b == tab || is_line_ending b || b == greater_than_sign
+    || (b == slash && begins_with (λ c. c == greater_than_sign) bs)
 
--- After `<` stand an optional `/`, the longest run of letters and digits, which is such a name, and then one of these.
+-- After `<` stand an optional `/`, the longest run of letters and digits, which is such a name, and then one of
+-- these.
 pub record IsBlockStart (bytes : List ℕ) : Type 0 where
-  pub slash : List ℕ
+  pub closing : List ℕ
   pub name : List ℕ
   pub rest : List ℕ
-  pub is : bytes ≡ slash ++ (name ++ rest)
-  pub closing : (slash ≡ []) ⊎ (slash ≡ 47 ∷ [])
-  pub letters : IsTrue (list_all is_alphanumeric name)
+  pub parts : bytes ≡ closing ++ (name ++ rest)
+  pub slash_or_none : (closing ≡ []) ⊎ (closing ≡ codes "/")
+  pub letters_and_digits : AllPass is_alphanumeric name
   pub named : IsBlockName name
   pub ended : IsTrue (ends_block_name rest)
 
@@ -58,4 +62,4 @@ rises (x ∷ y ∷ rows) = not (is_lt (slice_cmp nat_cmp (text y) (text x))) && 
 -- the bytes without a `/` at their front
 abbrev pub after_slash : List ℕ → List ℕ
 after_slash [] = []
-after_slash (b ∷ bs) = if b == 47 then bs else b ∷ bs
+after_slash (b ∷ bs) = if b == slash then bs else b ∷ bs

@@ -42,10 +42,11 @@ impl<'a> CountedText<'a> {
         self.passed
     }
 
-    /// The mark, `!` or `?`, of the opener `<!` or `<?` that ends at `place`; None where none does. Nothing is counted.
+    /// The mark, `!` or `?`, of the opener `<!` or `<?` that ends at `place`; None where none does.
+    /// Nothing is counted.
     pub fn opener_before(&self, place: usize) -> Option<u8>
         ensures answer { result ≡ opener_before self.now.text place }
-        ensures sized { length self.now.text < 2 ^ 64 }
+        ensures fits_usize { length self.now.text < 2 ^ 64 }
     {
         if place < 2 || place > self.bytes.len() || self.bytes[place - 2] != b'<' {
             return None;
@@ -62,7 +63,7 @@ impl<'a> CountedText<'a> {
         requires room { self.old.passed < 2 ^ 120 }
         ensures answer { result ≡ slice_get self.old.text place }
         ensures counts { self.new ≡ passing self.old 1 }
-        ensures sized { length self.old.text < 2 ^ 64 }
+        ensures fits_usize { length self.old.text < 2 ^ 64 }
     {
         self.passed += 1;
         self.bytes.get(place).copied()
@@ -78,15 +79,17 @@ impl<'a> CountedText<'a> {
         place <= self.bytes.len() && self.bytes[place..].starts_with(part)
     }
 
-    /// The first place from `from` on at which `needle`, which isn't empty, stands; None where it stands at none.
-    /// It counts the bytes from `from` to the end of that needle, or to the end of the text; past that end, none.
+    /// The first place from `from` on at which `needle`, which isn't empty, stands; None where it
+    /// stands at none. It counts the bytes from `from` to the end of that needle, or to the end of
+    /// the text; past that end, none.
     pub fn find(&mut self, needle: &[u8], from: usize) -> Option<usize>
         requires some_needle { 0 < length needle.now }
         requires room { self.old.passed < 2 ^ 120 }
         ensures answer { result ≡ first_place self.old.text needle.now from }
         ensures first { FindsNeedle self.old.text needle.now from result }
-        ensures counts { self.new ≡ passing self.old (searched_bytes self.old.text needle.now from result) }
-        ensures sized { length self.old.text < 2 ^ 64 }
+        ensures counts { self.new
+            ≡ passing self.old (searched_bytes self.old.text needle.now from result) }
+        ensures fits_usize { length self.old.text < 2 ^ 64 }
     {
         if from > self.bytes.len() {
             return None;

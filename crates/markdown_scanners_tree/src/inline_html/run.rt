@@ -1,8 +1,7 @@
 //! Runs of scans of inline HTML over rising places of one text.
-ghost use Rattle.std.specs.Prelude.{◌≡◌, ◌≤◌, ◌<◌, ◌+◌, ◌*◌, ◌^◌, ℕ, length, take, IfOk, None, Some};
-ghost use Rattle.markdown_scanners_tree.specs.inline_html.CountedText.{passing};
-ghost use Rattle.markdown_scanners_tree.specs.inline_html.InlineHtml.{cost, opener_before, opening_at};
-ghost use Rattle.markdown_scanners_tree.specs.inline_html.Guard.{is_stopped, guarded_answer, guard_after, IsTrueGuard, IsTrueScan};
+ghost use Rattle.std.specs.Prelude.{◌≡◌, ◌≤◌, ◌<◌, ◌+◌, ◌*◌, ◌^◌, length, take, IfOk, IfSome, Some};
+ghost use Rattle.markdown_scanners_tree.specs.inline_html.InlineHtml.{opener_before, opening_at};
+ghost use Rattle.markdown_scanners_tree.specs.inline_html.Guard.{answer_of_scan, guard_after_scan, text_after_scan, IsTrueGuard, IsTrueScan};
 ghost use Rattle.markdown_scanners_tree.specs.inline_html.run.Passed.{bytes_passed};
 ghost use Rattle.markdown_scanners_tree.specs.inline_html.run.Run.{new_run, refusal, answer_of, run_after, run_answers, run_passed, run_stop, IsWithinBudget};
 
@@ -13,8 +12,9 @@ use crate::inline_html::{
 use std::alloc::{AllocError, Global};
 use std::marker::Model;
 
-/// A text, and the scans of inline HTML made in it at rising places, outside what earlier scans found. However many
-/// places are tried, the steps pass over at most four bytes for each byte of the text, and eight for each step.
+/// A text, and the scans of inline HTML made in it at rising places, outside what earlier scans
+/// found. However many places are tried, the steps pass over at most four bytes for each byte of
+/// the text, and eight for each step.
 #[derive(Drop)]
 pub struct InlineHtmlRun<'a> {
     text: CountedText<'a>,
@@ -29,11 +29,11 @@ impl<'a> Model for InlineHtmlRun<'a> {
 
     ghost Value = { Run };
 
-    ghost use Rattle.markdown_scanners_tree.specs.inline_html.run.private.KeptFields.{run_of, IsKept};
+    ghost use Rattle.markdown_scanners_tree.specs.inline_html.run.private.RunFields.{run_of, AreRunFields};
 
     ghost view = { λ r. run_of r.text r.guard r.last r.find_end r.steps };
 
-    ghost invariant = { λ r. IsKept r.text r.guard r.last r.find_end r.steps };
+    ghost invariant = { λ r. AreRunFields r.text r.guard r.last r.find_end r.steps };
 }
 
 impl<'a> InlineHtmlRun<'a> {
@@ -51,11 +51,15 @@ impl<'a> InlineHtmlRun<'a> {
         }
     }
 
-    /// The place after what begins at `place`, just after an opener, or None where nothing does or where it isn't
-    /// closed. A place that is refused leaves the run as it was. (CommonMark 0.31.2, section 6.6)
+    /// The place after what begins at `place`, just after an opener, or None where nothing does or
+    /// where it isn't closed. A place that is refused leaves the run as it was.
+    /// (CommonMark 0.31.2, section 6.6)
     pub fn step(&mut self, place: usize) -> Result<Option<usize>, HtmlStop>
         ensures answer { result ≡ answer_of self.old place (refusal self.old place) }
+        ensures within { IfOk result (λ found. IfSome found (λ end.
+            (place ≤ end) × (end ≤ length self.old.text))) }
         ensures after { self.new ≡ run_after self.old place (refusal self.old place) }
+        ensures text { self.new.text ≡ self.old.text }
         ensures budget { IsWithinBudget self.new }
     {
         let Some(mark) = self.text.opener_before(place) else {
@@ -100,10 +104,11 @@ fn scan_after(
 ) -> Option<usize>
     requires room { text.old.passed < 2 ^ 119 }
     requires opener { opener_before text.old.text place ≡ Some mark }
-    ensures answer { result ≡ guarded_answer text.old.text guard.old (opening_at text.old.text place) place }
-    ensures guards { guard.new ≡ guard_after text.old.text guard.old (opening_at text.old.text place) place }
-    ensures counts { text.new ≡ passing text.old (cost text.old.text (is_stopped guard.old place) (opening_at text.old.text place) place) }
-    ensures finds { IsTrueGuard text.old.text guard.old place → IsTrueScan text.old.text place result guard.new }
+    ensures answer { result ≡ answer_of_scan opening_at text.old.text guard.old place }
+    ensures guards { guard.new ≡ guard_after_scan opening_at text.old.text guard.old place }
+    ensures counts { text.new ≡ text_after_scan opening_at text.old guard.old place }
+    ensures finds { IsTrueGuard text.old.text guard.old place
+        → IsTrueScan text.old.text place result guard.new }
 {
     if mark == b'!' {
         scan_inline_html_comment_counted(text, place, guard)
@@ -123,18 +128,23 @@ pub struct HtmlRun {
     pub stop: Option<(usize, HtmlStop)>,
 }
 
-/// Makes a step at each of the places in turn, and ends before the first one that is refused. It takes memory for the
-/// answers alone.
+/// Makes a step at each of the places in turn, and ends before the first one that is refused. It
+/// takes memory for the answers alone.
 ///
 /// # Errors
 ///
 /// `AllocError` where that memory is refused.
 pub fn run_inline_html(alloc: Global, bytes: &[u8], places: &[usize]) -> Result<HtmlRun, AllocError>
-    ensures answers { IfOk result (λ run. run.answers.items ≡ run_answers (new_run bytes.now) places.now) }
-    ensures passed { IfOk result (λ run. run.passed ≡ run_passed (new_run bytes.now) places.now) }
-    ensures counted { IfOk result (λ run. run.passed ≡ bytes_passed bytes.now (take (length run.answers.items) places.now)) }
+    ensures answers { IfOk result (λ run.
+        run.answers.items ≡ run_answers (new_run bytes.now) places.now) }
+    ensures count { IfOk result (λ run. length run.answers.items ≤ length places.now) }
+    ensures passed { IfOk result (λ run.
+        run.passed ≡ run_passed (new_run bytes.now) places.now) }
+    ensures counted { IfOk result (λ run.
+        run.passed ≡ bytes_passed bytes.now (take (length run.answers.items) places.now)) }
     ensures stop { IfOk result (λ run. run.stop ≡ run_stop (new_run bytes.now) 0 places.now) }
-    ensures budget { IfOk result (λ run. run.passed ≤ 4 * length bytes.now + 8 * length run.answers.items) }
+    ensures budget { IfOk result (λ run.
+        run.passed ≤ 4 * length bytes.now + 8 * length run.answers.items) }
 {
     let mut run = InlineHtmlRun::new(bytes);
     let mut answers = Vec::new(alloc);
@@ -173,10 +183,10 @@ mod tests {
             steps,
         } = run;
         let counted: CountedText = text;
-        let kept: HtmlScanGuard = guard;
+        let stops: HtmlScanGuard = guard;
         let _numbers: (usize, usize, usize) = (last, find_end, steps);
         assert_eq!(rt; counted.passed(), 0);
-        assert_eq!(rt; kept.comment, 0);
+        assert_eq!(rt; stops.comment, 0);
         Ok(())
     }
 }

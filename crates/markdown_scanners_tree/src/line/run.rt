@@ -54,7 +54,8 @@ pub enum LineStop {
 pub struct LineRun {
     /// One for each call that was made, in order.
     pub answers: Vec<LineAnswer>,
-    /// What is left of the line: the pending columns as spaces, then the bytes not scanned, tabs before the line ending written out.
+    /// What is left of the line: the pending columns as spaces, then the bytes not scanned, tabs
+    /// before the line ending written out.
     pub rest: Vec<u8>,
     /// How many bytes of the line have been passed.
     pub scanned: usize,
@@ -71,7 +72,8 @@ pub struct LineRun {
 ///
 /// `AllocError` where memory for the answers or the rest is refused.
 pub fn run_line(alloc: Global, bytes: &[u8], calls: &[LineCall]) -> Result<LineRun, AllocError>
-    ensures answers { IfOk result (λ run. run.answers.items ≡ (plain_run bytes.now calls.now).answers) }
+    ensures answers { IfOk result (λ run.
+        run.answers.items ≡ (plain_run bytes.now calls.now).answers) }
     ensures stop { IfOk result (λ run. run.stop ≡ stop_at (plain_run bytes.now calls.now)) }
     ensures rest { IfOk result (λ run.
         run.rest.items ≡ rest_after bytes.now (plain_run bytes.now calls.now)) }

@@ -1,8 +1,8 @@
 //! Thematic breaks.
-ghost use Rattle.std.specs.Prelude.{◌≡◌, ◌<◌, ◌≤◌, ◌==◌, ℕ, length, drop, count_by, false, IsTrue, IfOk, IfErr, MatchResult};
+ghost use Rattle.std.specs.Prelude.{◌≡◌, ◌≤◌, ◌==◌, length, count_by, false, IsTrue, IfOk, IfErr, MatchResult};
 ghost use Rattle.std.specs.List.{prefix_len};
-ghost use Rattle.markdown_scanners_tree.specs.Bytes.{begins_with, line_length};
-ghost use Rattle.markdown_scanners_tree.specs.scanners.Breaks.{is_break_marker, is_break_byte, is_thematic_break, break_length};
+ghost use Rattle.markdown_scanners_tree.specs.Bytes.{begins_with};
+ghost use Rattle.markdown_scanners_tree.specs.scanners.Breaks.{is_break_marker, is_break_byte, is_thematic_break, IsThematicBreakLine, NoBreakBefore, break_length};
 
 use crate::scanners::lines::scan_eol;
 
@@ -11,10 +11,10 @@ use crate::scanners::lines::scan_eol;
 /// Where no thematic break stands there, the error is a place before which none begins, so that
 /// a caller need not look again there. (CommonMark 0.31.2, section 4.1.)
 pub fn scan_hrule(bytes: &[u8]) -> Result<usize, usize>
-    ensures found { IfOk result (λ n. IsTrue (is_thematic_break bytes.now) × (n ≡ line_length bytes.now)) }
-    ensures absent { IfErr result (λ n. is_thematic_break bytes.now ≡ false) }
+    ensures found { IfOk result (IsThematicBreakLine bytes.now) }
+    ensures none { IfErr result (λ n. is_thematic_break bytes.now ≡ false) }
     ensures stopped { IfErr result (λ n. n ≡ break_length bytes.now) }
-    ensures none_before { IfErr result (λ n. (k : ℕ) → k < n → is_thematic_break (drop k bytes.now) ≡ false) }
+    ensures none_before { IfErr result (NoBreakBefore bytes.now) }
     ensures within { MatchResult result (λ n. n ≤ length bytes.now) (λ n. n ≤ length bytes.now) }
 {
     if bytes.len() < 3 {
@@ -28,7 +28,7 @@ pub fn scan_hrule(bytes: &[u8]) -> Result<usize, usize>
     }
 }
 
-// The length of the longest front of the marker, spaces and tabs.
+// The length of the longest prefix of the marker, spaces and tabs.
 fn scan_break_bytes(bytes: &[u8], marker: u8) -> usize
     ensures run { result ≡ prefix_len (is_break_byte marker) bytes.now }
     ensures within { result ≤ length bytes.now }
@@ -47,13 +47,13 @@ fn count_of(bytes: &[u8], byte: u8) -> usize
 
 // The same as `scan_hrule`, where the first byte is known.
 fn scan_break_of(bytes: &[u8], marker: u8) -> Result<usize, usize>
-    requires marked { IsTrue (is_break_marker marker) }
+    requires is_marker { IsTrue (is_break_marker marker) }
     requires begins { IsTrue (begins_with (λ b. b == marker) bytes.now) }
-    requires enough { 3 ≤ length bytes.now }
-    ensures found { IfOk result (λ n. IsTrue (is_thematic_break bytes.now) × (n ≡ line_length bytes.now)) }
-    ensures absent { IfErr result (λ n. is_thematic_break bytes.now ≡ false) }
+    requires at_least_three { 3 ≤ length bytes.now }
+    ensures found { IfOk result (IsThematicBreakLine bytes.now) }
+    ensures none { IfErr result (λ n. is_thematic_break bytes.now ≡ false) }
     ensures stopped { IfErr result (λ n. n ≡ break_length bytes.now) }
-    ensures none_before { IfErr result (λ n. (k : ℕ) → k < n → is_thematic_break (drop k bytes.now) ≡ false) }
+    ensures none_before { IfErr result (NoBreakBefore bytes.now) }
     ensures within { MatchResult result (λ n. n ≤ length bytes.now) (λ n. n ≤ length bytes.now) }
 {
     let run = scan_break_bytes(bytes, marker);

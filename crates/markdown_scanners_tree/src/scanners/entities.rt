@@ -1,20 +1,22 @@
 //! Character references: entities by name, and characters by number.
-ghost use Rattle.std.specs.Prelude.{◌≡◌, ◌+◌, ◌<◌, ◌≤◌, ◌==◌, ◌||◌, ◌≢◌, ℕ, slice_index, List, Option, IfSome, IfNone, length};
+ghost use Rattle.std.specs.Prelude.{◌≡◌, ◌+◌, ◌<◌, ◌≤◌, ◌≢◌, ℕ, slice_index, List, Option, IfNone, length};
 ghost use Rattle.std.specs.Option.{option_copied};
 ghost use Rattle.std.specs.List.{prefix_len};
 ghost use Rattle.std.specs.Str.Parse.{AllDigits, digits_value};
 ghost use Rattle.std.specs.Char.{is_digit, digit_value};
-ghost use Rattle.markdown_values.specs.strings.Text.{cow_text};
-ghost use Rattle.markdown_scanners_tree.specs.scanners.entities.CharacterReference.{referenced_char, StartsWithReference};
-ghost use Rattle.markdown_scanners_tree.specs.scanners.entities.private.Digits.{IsNumberInFront};
+ghost use Rattle.markdown_scanners_tree.specs.Ascii.{number_sign};
+ghost use Rattle.markdown_scanners_tree.specs.SomeExactly.{SomeExactly};
+ghost use Rattle.markdown_scanners_tree.specs.scanners.entities.CharacterReference.{referenced_char, marks_hexadecimal, IsReferenceAnswer};
+ghost use Rattle.markdown_scanners_tree.specs.scanners.entities.private.Digits.{StartsWithNumber};
 
-use crate::scanners::runs::alphanumerics_in_front;
+use crate::scanners::numbers::number_of;
+use crate::scanners::runs::scan_alphanumerics;
 use markdown_values::strings::CowStr;
 
 /// A table of entity names and their texts.
 ///
-/// HTML5 has the names and texts that CommonMark asks for (0.31.2, section 2.5); the scanners take any
-/// table.
+/// HTML5 has the names and texts that CommonMark asks for (0.31.2, section 2.5); the scanners take
+/// any table.
 pub trait Entities {
     /// The text that is known for each name, which is a function of the name.
     ghost known: { Self → List ℕ → Option (List ℕ) };
@@ -32,9 +34,7 @@ pub trait Entities {
 /// (CommonMark 0.31.2, section 2.5.)
 pub fn scan_entity<E: Entities>(bytes: &[u8], entities: &E) -> (usize, Option<CowStr<'static>>)
     requires { 0 < length bytes.now }
-    ensures found { IfSome result.1 (λ text. StartsWithReference (E.known entities.now) bytes.now result.0 (cow_text text)) }
-    ensures absent { IfNone result.1 ((n : ℕ) (meaning : List ℕ)
-        → ¬ StartsWithReference (E.known entities.now) bytes.now n meaning) }
+    ensures found { IsReferenceAnswer (E.known entities.now) bytes.now result.0 result.1 }
     ensures empty { IfNone result.1 (result.0 ≡ 0) }
 {
     if bytes.len() < 2 || bytes[1] != b'#' {
@@ -54,14 +54,12 @@ pub fn scan_entity<E: Entities>(bytes: &[u8], entities: &E) -> (usize, Option<Co
 
 // The reference by name at the front, where no `#` follows the first byte.
 fn scan_named<E: Entities>(bytes: &[u8], entities: &E) -> (usize, Option<CowStr<'static>>)
-    requires some { 0 < length bytes.now }
-    requires no_number { 1 < length bytes.now → slice_index bytes.now 1 ≢ 35 }
-    ensures found { IfSome result.1 (λ text. StartsWithReference (E.known entities.now) bytes.now result.0 (cow_text text)) }
-    ensures absent { IfNone result.1 ((n : ℕ) (meaning : List ℕ)
-        → ¬ StartsWithReference (E.known entities.now) bytes.now n meaning) }
+    requires not_empty { 0 < length bytes.now }
+    requires no_number { 1 < length bytes.now → slice_index bytes.now 1 ≢ number_sign }
+    ensures found { IsReferenceAnswer (E.known entities.now) bytes.now result.0 result.1 }
     ensures empty { IfNone result.1 (result.0 ≡ 0) }
 {
-    let n = alphanumerics_in_front(&bytes[1..]);
+    let n = scan_alphanumerics(&bytes[1..]);
     if n + 1 == bytes.len() || bytes[n + 1] != b';' {
         return (0, None);
     }
@@ -86,7 +84,7 @@ fn referenced(number: u32) -> char
 
 // Whether the byte after `#` says that hexadecimal digits follow.
 fn is_hexadecimal_mark(b: u8) -> bool
-    ensures { result ≡ (b == 120 || b == 88) }
+    ensures { result ≡ marks_hexadecimal b }
 {
     b == b'x' || b == b'X'
 }
@@ -95,11 +93,10 @@ fn is_hexadecimal_mark(b: u8) -> bool
 fn scan_number(bytes: &[u8], radix: u32, limit: usize) -> Option<(usize, u32)>
     requires base { 2 ≤ radix }
     requires hexadecimal { radix ≤ 16 }
-    requires few { limit ≤ 7 }
-    ensures found { IfSome result (λ r. IsNumberInFront radix limit bytes.now r.0 r.1) }
-    ensures absent { IfNone result ((n number : ℕ) → ¬ IsNumberInFront radix limit bytes.now n number) }
+    requires at_most_seven { limit ≤ 7 }
+    ensures { SomeExactly (λ r. StartsWithNumber radix limit bytes.now r.0 r.1) result }
 {
-    let n = digits_in_front(bytes, radix);
+    let n = digit_prefix_len(bytes, radix);
     if n == 0 || n > limit || n == bytes.len() || bytes[n] != b';' {
         return None;
     }
@@ -107,7 +104,7 @@ fn scan_number(bytes: &[u8], radix: u32, limit: usize) -> Option<(usize, u32)>
 }
 
 // How many digits stand at the front.
-fn digits_in_front(bytes: &[u8], radix: u32) -> usize
+fn digit_prefix_len(bytes: &[u8], radix: u32) -> usize
     requires base { 2 ≤ radix }
     requires letters { radix ≤ 36 }
     ensures count { result ≡ prefix_len (λ b. is_digit b radix) bytes.now }
@@ -117,29 +114,4 @@ fn digits_in_front(bytes: &[u8], radix: u32) -> usize
         .iter()
         .take_while(|b| char::from(**b).is_digit(radix))
         .count()
-}
-
-// The number that the digits stand for.
-fn number_of(digits: &[u8], radix: u32) -> u32
-    requires base { 2 ≤ radix }
-    requires hexadecimal { radix ≤ 16 }
-    requires few { length digits.now ≤ 7 }
-    requires made { AllDigits radix digits.now }
-    ensures { result ≡ digits_value radix digits.now }
-{
-    let mut number: u32 = 0;
-    for b in digits {
-        number = number * radix + digit_of(*b, radix);
-    }
-    number
-}
-
-// The value of a digit.
-fn digit_of(b: u8, radix: u32) -> u32
-    requires base { 2 ≤ radix }
-    requires letters { radix ≤ 36 }
-    requires digit { digit_value b < radix }
-    ensures { result ≡ digit_value b }
-{
-    char::from(b).to_digit(radix).unwrap()
 }

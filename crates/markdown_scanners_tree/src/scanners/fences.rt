@@ -1,19 +1,19 @@
 //! Fences of code blocks.
-ghost use Rattle.std.specs.Prelude.{◌≡◌, ◌≤◌, ◌==◌, ℕ, length, IsTrue, IfSome, IfNone};
-ghost use Rattle.std.specs.List.{prefix_len};
+ghost use Rattle.std.specs.Prelude.{◌≡◌, ◌≤◌, ◌==◌, length, IsTrue, IfSome};
+ghost use Rattle.markdown_scanners_tree.specs.SomeExactly.{SomeExactly};
 ghost use Rattle.markdown_scanners_tree.specs.Bytes.{begins_with};
-ghost use Rattle.markdown_scanners_tree.specs.scanners.Fences.{IsCodeFence, IsClosingCodeFence, is_fence_byte, is_space_or_tab, has_backtick_in_line};
+ghost use Rattle.markdown_scanners_tree.specs.scanners.Fences.{IsCodeFence, IsClosingCodeFence, is_fence_byte, has_backtick_in_line};
 
-use crate::scanners::lines::{scan_eol, scan_to_line_feed};
-use crate::scanners::runs::{has_byte, scan_ch_repeat};
+use crate::scanners::lines::scan_eol;
+use crate::scanners::runs::{scan_ch_repeat, scan_spaces_and_tabs};
+use memchr::memchr2;
 
 /// The number of fence bytes of an opening code fence at the front, and that byte.
 ///
 /// What follows the fence in its line, the info string, is not looked at but for backticks after
 /// a fence of backticks, and a CR does not end that line. (CommonMark 0.31.2, section 4.5.)
 pub fn scan_code_fence(data: &[u8]) -> Option<(usize, u8)>
-    ensures found { IfSome result (λ r. IsCodeFence «data».now r.0 r.1) }
-    ensures absent { IfNone result ((n byte : ℕ) → ¬ IsCodeFence «data».now n byte) }
+    ensures found { SomeExactly (λ r. IsCodeFence «data».now r.0 r.1) result }
     ensures within { IfSome result (λ r. r.0 ≤ length «data».now) }
 {
     match data {
@@ -25,10 +25,9 @@ pub fn scan_code_fence(data: &[u8]) -> Option<(usize, u8)>
 
 // The same, where the first byte is known.
 fn scan_fence_of(data: &[u8], byte: u8) -> Option<(usize, u8)>
-    requires fence { IsTrue (is_fence_byte byte) }
+    requires of_fence_byte { IsTrue (is_fence_byte byte) }
     requires begins { IsTrue (begins_with (λ b. b == byte) «data».now) }
-    ensures found { IfSome result (λ r. IsCodeFence «data».now r.0 r.1) }
-    ensures absent { IfNone result ((n byte : ℕ) → ¬ IsCodeFence «data».now n byte) }
+    ensures found { SomeExactly (λ r. IsCodeFence «data».now r.0 r.1) result }
     ensures within { IfSome result (λ r. r.0 ≤ length «data».now) }
 {
     let run = scan_ch_repeat(data, byte);
@@ -45,8 +44,10 @@ fn scan_fence_of(data: &[u8], byte: u8) -> Option<(usize, u8)>
 fn has_backtick(bytes: &[u8]) -> bool
     ensures { result ≡ has_backtick_in_line bytes.now }
 {
-    let line = &bytes[..scan_to_line_feed(bytes)];
-    has_byte(line, b'`')
+    match memchr2(b'`', b'\n', bytes) {
+        Some(place) => bytes[place] == b'`',
+        None => false,
+    }
 }
 
 /// The length in bytes of a closing code fence at the front, without the line ending.
@@ -54,8 +55,7 @@ fn has_backtick(bytes: &[u8]) -> bool
 /// It has at least `n_fence_char` bytes `fence_char`, and then spaces and tabs. The end of the
 /// text closes a fence too, with length 0. (CommonMark 0.31.2, section 4.5.)
 pub fn scan_closing_code_fence(bytes: &[u8], fence_char: u8, n_fence_char: usize) -> Option<usize>
-    ensures found { IfSome result (λ n. IsClosingCodeFence bytes.now fence_char n_fence_char n) }
-    ensures absent { IfNone result ((n : ℕ) → ¬ IsClosingCodeFence bytes.now fence_char n_fence_char n) }
+    ensures found { SomeExactly (IsClosingCodeFence bytes.now fence_char n_fence_char) result }
     ensures within { IfSome result (λ n. n ≤ length bytes.now) }
 {
     if bytes.is_empty() {
@@ -68,15 +68,4 @@ pub fn scan_closing_code_fence(bytes: &[u8], fence_char: u8, n_fence_char: usize
     let space = scan_spaces_and_tabs(&bytes[run..]);
     scan_eol(&bytes[run + space..])?;
     Some(run + space)
-}
-
-// The length of the longest front of spaces and tabs.
-pub(crate) fn scan_spaces_and_tabs(bytes: &[u8]) -> usize
-    ensures run { result ≡ prefix_len is_space_or_tab bytes.now }
-    ensures within { result ≤ length bytes.now }
-{
-    bytes
-        .iter()
-        .take_while(|b| **b == b' ' || **b == b'\t')
-        .count()
 }

@@ -1,6 +1,7 @@
 //! Headings.
-ghost use Rattle.std.specs.Prelude.{◌≡◌, ◌≤◌, ◌==◌, ℕ, length, Some, IsTrue, IfSome, IfNone};
+ghost use Rattle.std.specs.Prelude.{◌≡◌, ◌≤◌, ◌==◌, length, Some, IsTrue, IfSome};
 ghost use Rattle.markdown_values.specs.values.Headings.{heading_number};
+ghost use Rattle.markdown_scanners_tree.specs.SomeExactly.{SomeExactly};
 ghost use Rattle.markdown_scanners_tree.specs.Bytes.{begins_with, ends_or_begins_with, is_white_space};
 ghost use Rattle.markdown_scanners_tree.specs.scanners.Headings.{IsAtxHeading, IsSetextUnderline, underline_byte};
 
@@ -13,23 +14,14 @@ use markdown_values::values::HeadingLevel;
 ///
 /// Its opening has as many bytes as the level has number.
 pub fn scan_atx_heading(data: &[u8]) -> Option<HeadingLevel>
-    ensures found { IfSome result (λ level. IsAtxHeading «data».now level) }
-    ensures absent { IfNone result ((level : _) → ¬ IsAtxHeading «data».now level) }
+    ensures found { SomeExactly (IsAtxHeading «data».now) result }
     ensures within { IfSome result (λ level. heading_number level ≤ length «data».now) }
 {
     let run = scan_ch_repeat(data, b'#');
     if !ends_or_begins_with_space(&data[run..]) {
         return None;
     }
-    match run {
-        1 => Some(HeadingLevel::H1),
-        2 => Some(HeadingLevel::H2),
-        3 => Some(HeadingLevel::H3),
-        4 => Some(HeadingLevel::H4),
-        5 => Some(HeadingLevel::H5),
-        6 => Some(HeadingLevel::H6),
-        _ => None,
-    }
+    HeadingLevel::try_from(run).ok()
 }
 
 // Whether white space stands at the front, or nothing at all.
@@ -45,8 +37,7 @@ fn ends_or_begins_with_space(bytes: &[u8]) -> bool
 /// The length in bytes of a setext heading's underline at the front, with its line ending, and
 /// the level of the heading. (CommonMark 0.31.2, section 4.3.)
 pub fn scan_setext_heading(data: &[u8]) -> Option<(usize, HeadingLevel)>
-    ensures found { IfSome result (λ r. IsSetextUnderline «data».now r.0 r.1) }
-    ensures absent { IfNone result ((n : ℕ) (level : _) → ¬ IsSetextUnderline «data».now n level) }
+    ensures found { SomeExactly (λ r. IsSetextUnderline «data».now r.0 r.1) result }
     ensures within { IfSome result (λ r. r.0 ≤ length «data».now) }
 {
     match data {
@@ -60,8 +51,7 @@ pub fn scan_setext_heading(data: &[u8]) -> Option<(usize, HeadingLevel)>
 fn scan_underline(data: &[u8], byte: u8, level: HeadingLevel) -> Option<(usize, HeadingLevel)>
     requires of_level { underline_byte level ≡ Some byte }
     requires begins { IsTrue (begins_with (λ b. b == byte) «data».now) }
-    ensures found { IfSome result (λ r. IsSetextUnderline «data».now r.0 r.1) }
-    ensures absent { IfNone result ((n : ℕ) (level : _) → ¬ IsSetextUnderline «data».now n level) }
+    ensures found { SomeExactly (λ r. IsSetextUnderline «data».now r.0 r.1) result }
     ensures within { IfSome result (λ r. r.0 ≤ length «data».now) }
 {
     let run = scan_ch_repeat(data, byte);

@@ -1,11 +1,11 @@
 //! Starts of HTML blocks that a known name opens.
-ghost use Rattle.std.specs.Prelude.{◌≡◌, ◌↔◌, ◌≤◌, IsTrue, length, map, Contains};
+ghost use Rattle.std.specs.Prelude.{◌≡◌, ◌↔◌, IsTrue, length, map, Contains};
 ghost use Rattle.std.specs.Ordering.{nat_cmp};
 ghost use Rattle.std.specs.Char.{to_ascii_lowercase};
 ghost use Rattle.std.specs.Cmp.Lexicographic.{slice_cmp};
 ghost use Rattle.markdown_scanners_tree.specs.scanners.HtmlBlock.{IsBlockName, IsBlockStart, ends_block_name, rises, texts, after_slash};
 
-use crate::scanners::runs::alphanumerics_in_front;
+use crate::scanners::runs::scan_alphanumerics;
 use std::cmp::Ordering;
 
 // In lower case, in ascending order.
@@ -134,6 +134,6 @@ pub fn starts_html_block_type_6(data: &[u8]) -> bool
     ensures { IsTrue result ↔ IsBlockStart «data».now }
 {
     let after = without_slash(data);
-    let length = alphanumerics_in_front(after);
+    let length = scan_alphanumerics(after);
     is_block_name(&after[..length]) && ends_name(&after[length..])
 }

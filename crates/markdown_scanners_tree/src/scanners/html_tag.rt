@@ -1,9 +1,10 @@
 //! Open and closing tags, over the lines of containers or alone in a line.
-ghost use Rattle.std.specs.Prelude.{IsOk, ◌≡◌, ◌≢◌, ◌≤◌, [], IfOk, OnErr, ℕ, List, IfSome, IfNone, length};
+ghost use Rattle.std.specs.Prelude.{IsOk, ◌≡◌, ◌≢◌, ◌≤◌, [], IfOk, OnErr, List, IfSome, IfNone, length};
+ghost use Rattle.markdown_scanners_tree.specs.SomeExactly.{SomeExactly};
 ghost use Rattle.markdown_scanners_tree.specs.Handler.{Answers, IsSteady};
 ghost use Rattle.markdown_scanners_tree.specs.Kept.{KeptByte, bytes_of};
 ghost use Rattle.markdown_scanners_tree.specs.scanners.html_tag.HtmlTag.{IsTagAloneInLine};
-ghost use Rattle.markdown_scanners_tree.specs.scanners.html_tag.KeptTag.{AnswersIfAny, IsKeptFront, place_after, IsKeptTag, tag_buffer};
+ghost use Rattle.markdown_scanners_tree.specs.scanners.html_tag.KeptTag.{AnswersIfAny, IsKeptPrefix, place_after, IsKeptTag, tag_buffer};
 ghost use Rattle.markdown_scanners_tree.specs.scanners.tag_state.private.TagMachine.{ends_source_line};
 
 use crate::scanners::lines::scan_blank_line;
@@ -33,14 +34,14 @@ fn ends_line(rest: &[u8]) -> bool
 fn measure_tag<F: Fn(&[u8]) -> usize>(data: &[u8], handler: Option<&F>) -> Option<TagLength>
     requires callable { IfSome handler (λ f. F.IsAlwaysCallable f.now) }
     requires steady { IfSome handler (λ f. IsSteady F.Fn f.now) }
-    ensures found { IfSome result (λ tag. (front : List KeptByte)
-        × IsKeptTag (AnswersIfAny F.Fn handler.entry) «data».now front
-        × (tag.kept ≡ length front) × (tag.end ≡ place_after 0 front)) }
-    ensures only { IfSome result (λ tag. (front : List KeptByte)
-        → IsKeptTag (AnswersIfAny F.Fn handler.entry) «data».now front
-        → (tag.kept ≡ length front) × (tag.end ≡ place_after 0 front)) }
-    ensures none { IfNone result ((front : List KeptByte)
-        → IsKeptTag (AnswersIfAny F.Fn handler.entry) «data».now front → ⊥) }
+    ensures found { IfSome result (λ tag. (prefix : List KeptByte)
+        × IsKeptTag (AnswersIfAny F.Fn handler.entry) «data».now prefix
+        × (tag.kept ≡ length prefix) × (tag.end ≡ place_after 0 prefix)) }
+    ensures only { IfSome result (λ tag. (prefix : List KeptByte)
+        → IsKeptTag (AnswersIfAny F.Fn handler.entry) «data».now prefix
+        → (tag.kept ≡ length prefix) × (tag.end ≡ place_after 0 prefix)) }
+    ensures none { IfNone result ((prefix : List KeptByte)
+        → ¬ IsKeptTag (AnswersIfAny F.Fn handler.entry) «data».now prefix) }
     ensures whole { IfSome result (λ tag. IfNone handler.entry (tag.kept ≡ tag.end)) }
     ensures within { IfSome result (λ tag. tag.end ≤ length «data».now) }
 {
@@ -75,10 +76,11 @@ fn copy_kept<F: Fn(&[u8]) -> usize>(
 ) -> Result<Vec<u8>, AllocError>
     requires callable { F.IsAlwaysCallable handler.now }
     requires steady { IsSteady F.Fn handler.now }
-    requires some { (front : List KeptByte) × IsKeptFront (Answers F.Fn handler.now) «data».now front × (kept ≡ length front) }
-    ensures copied { IfOk result (λ buffer. (front : List KeptByte)
-        → IsKeptFront (Answers F.Fn handler.now) «data».now front → kept ≡ length front
-        → buffer.items ≡ bytes_of front) }
+    requires some { (prefix : List KeptByte)
+        × IsKeptPrefix (Answers F.Fn handler.now) «data».now prefix × (kept ≡ length prefix) }
+    ensures copied { IfOk result (λ buffer. (prefix : List KeptByte)
+        → IsKeptPrefix (Answers F.Fn handler.now) «data».now prefix → kept ≡ length prefix
+        → buffer.items ≡ bytes_of prefix) }
 {
     let mut buffer = Vec::with_capacity(alloc, kept)?;
     let mut place = 0;
@@ -99,7 +101,8 @@ fn copy_kept<F: Fn(&[u8]) -> usize>(
 /// After each line ending in the tag the handler is given the bytes that follow, and answers how
 /// many of them belong to the containers; those are no part of the tag. The text is empty where
 /// the handler skips nothing in the tag, since it then stands in the data. Without a handler a tag
-/// holds no line ending. A closing tag holds at most one. (CommonMark 0.31.2, section 6.6, raw HTML.)
+/// holds no line ending. A closing tag holds at most one. (CommonMark 0.31.2, section 6.6, raw
+/// HTML.)
 ///
 /// The handler has one answer for one rest, and skips at most as many bytes as the rest has.
 ///
@@ -114,18 +117,20 @@ pub fn scan_html_block_inner<F: Fn(&[u8]) -> usize>(
 ) -> Result<Option<(Vec<u8>, usize)>, AllocError>
     requires callable { IfSome handler (λ f. F.IsAlwaysCallable f.now) }
     requires steady { IfSome handler (λ f. IsSteady F.Fn f.now) }
-    ensures found { IfOk result (λ answer. IfSome answer (λ tag. (front : List KeptByte)
-        × IsKeptTag (AnswersIfAny F.Fn handler.entry) «data».now front
-        × (tag.0.items ≡ tag_buffer front) × (tag.1 ≡ place_after 0 front))) }
-    ensures only { IfOk result (λ answer. IfSome answer (λ tag. (front : List KeptByte)
-        → IsKeptTag (AnswersIfAny F.Fn handler.entry) «data».now front
-        → (tag.0.items ≡ tag_buffer front) × (tag.1 ≡ place_after 0 front))) }
-    ensures none { IfOk result (λ answer. IfNone answer ((front : List KeptByte)
-        → IsKeptTag (AnswersIfAny F.Fn handler.entry) «data».now front → ⊥)) }
-    ensures memory { OnErr result ((front : List KeptByte)
-        × IsKeptTag (AnswersIfAny F.Fn handler.entry) «data».now front × (tag_buffer front ≢ [])) }
+    ensures found { IfOk result (λ answer. IfSome answer (λ tag. (prefix : List KeptByte)
+        × IsKeptTag (AnswersIfAny F.Fn handler.entry) «data».now prefix
+        × (tag.0.items ≡ tag_buffer prefix) × (tag.1 ≡ place_after 0 prefix))) }
+    ensures only { IfOk result (λ answer. IfSome answer (λ tag. (prefix : List KeptByte)
+        → IsKeptTag (AnswersIfAny F.Fn handler.entry) «data».now prefix
+        → (tag.0.items ≡ tag_buffer prefix) × (tag.1 ≡ place_after 0 prefix))) }
+    ensures none { IfOk result (λ answer. IfNone answer ((prefix : List KeptByte)
+        → ¬ IsKeptTag (AnswersIfAny F.Fn handler.entry) «data».now prefix)) }
+    ensures memory { OnErr result ((prefix : List KeptByte)
+        × IsKeptTag (AnswersIfAny F.Fn handler.entry) «data».now prefix
+        × (tag_buffer prefix ≢ [])) }
     ensures without_handler { IfNone handler.entry (IsOk result) }
-    ensures within { IfOk result (λ answer. IfSome answer (λ tag. tag.1 ≤ length «data».now)) }
+    ensures within { IfOk result (λ answer. IfSome answer (λ tag.
+        tag.1 ≤ length «data».now)) }
 {
     let Some(tag) = measure_tag(data, handler) else {
         return Ok(None);
@@ -142,8 +147,7 @@ pub fn scan_html_block_inner<F: Fn(&[u8]) -> usize>(
 /// The tag holds no line ending, and the blank rest is not counted. (CommonMark 0.31.2, section
 /// 4.6, start condition 7; the tag names that other start conditions take are not left out here.)
 pub fn scan_html_type_7(data: &[u8]) -> Option<usize>
-    ensures found { IfSome result (λ n. IsTagAloneInLine «data».now n) }
-    ensures absent { IfNone result ((n : ℕ) → ¬ IsTagAloneInLine «data».now n) }
+    ensures found { SomeExactly (IsTagAloneInLine «data».now) result }
     ensures within { IfSome result (λ n. n ≤ length «data».now) }
 {
     let tag = measure_tag(data, None::<&fn(&[u8]) -> usize>)?;

@@ -1,5 +1,5 @@
 //! The indent of a line.
-ghost use Rattle.std.specs.Prelude.{◌≡◌, ◌+◌, ◌-◌, ◌*◌, ◌/◌, ◌<◌, ◌≤◌, length};
+ghost use Rattle.std.specs.Prelude.{◌≡◌, ◌+◌, ◌-◌, ◌/◌, ◌<◌, ◌≤◌, length};
 ghost use Rattle.markdown_scanners_tree.specs.Columns.{column_after, next_tab_stop};
 ghost use Rattle.markdown_scanners_tree.specs.scanners.Indent.{IsIndent, goes_on};
 
@@ -7,7 +7,8 @@ ghost use Rattle.markdown_scanners_tree.specs.scanners.Indent.{IsIndent, goes_on
 /// it, with tab stops of four. (CommonMark 0.31.2, section 2.2.)
 ///
 /// A space that fills `max` columns is counted and ends the scan. A tab that would go past `max`
-/// ends it unread, as does each other byte. The place is 0 for an empty text. `max` is at most `usize::MAX / 4`.
+/// ends it unread, as does each other byte. The place is 0 for an empty text. `max` is at most
+/// `usize::MAX / 4`.
 pub fn calc_indent(text: &[u8], max: usize) -> (usize, usize)
     requires { max ≤ usize.MAX / 4 }
     ensures indent { IsIndent text.now max result.0 result.1 }

@@ -1,8 +1,8 @@
 //! Line endings, blank lines and the marks at the front of a line.
-ghost use Rattle.std.specs.Prelude.{◌≡◌, ◌≤◌, ◌==◌, ℕ, length, not, IfSome, IfNone};
-ghost use Rattle.std.specs.List.{prefix_len};
+ghost use Rattle.std.specs.Prelude.{◌≡◌, ◌≤◌, length, IfSome};
+ghost use Rattle.markdown_scanners_tree.specs.SomeExactly.{SomeExactly};
 ghost use Rattle.markdown_scanners_tree.specs.Bytes.{line_ending, IsBlankLine, blank_line};
-ghost use Rattle.markdown_scanners_tree.specs.scanners.Lines.{is_no_line_feed, next_line, IsBlockQuoteStart};
+ghost use Rattle.markdown_scanners_tree.specs.scanners.Lines.{next_line, IsBlockQuoteStart};
 
 use crate::scanners::runs::scan_whitespace_no_nl;
 use memchr::memchr;
@@ -27,8 +27,7 @@ pub fn scan_eol(bytes: &[u8]) -> Option<usize>
 ///
 /// (CommonMark 0.31.2, section 2.1; vertical tabs and form feeds are white space too.)
 pub fn scan_blank_line(bytes: &[u8]) -> Option<usize>
-    ensures found { IfSome result (λ n. IsBlankLine bytes.now n) }
-    ensures absent { IfNone result ((n : ℕ) → ¬ IsBlankLine bytes.now n) }
+    ensures found { SomeExactly (IsBlankLine bytes.now) result }
     ensures line { result ≡ blank_line bytes.now }
     ensures within { IfSome result (λ n. n ≤ length bytes.now) }
 {
@@ -48,21 +47,12 @@ pub fn scan_nextline(bytes: &[u8]) -> usize
     }
 }
 
-// How many bytes stand before the first LF, or all of them.
-pub(in crate::scanners) fn scan_to_line_feed(bytes: &[u8]) -> usize
-    ensures front { result ≡ prefix_len is_no_line_feed bytes.now }
-    ensures within { result ≤ length bytes.now }
-{
-    memchr(b'\n', bytes).unwrap_or(bytes.len())
-}
-
 /// The length in bytes of a block quote marker, with the space after it, if one follows.
 ///
 /// (CommonMark 0.31.2, section 5.1.) A tab after the marker is not taken, since only a part of
 /// it may belong to the marker.
 pub fn scan_blockquote_start(data: &[u8]) -> Option<usize>
-    ensures found { IfSome result (λ n. IsBlockQuoteStart «data».now n) }
-    ensures absent { IfNone result ((n : ℕ) → ¬ IsBlockQuoteStart «data».now n) }
+    ensures found { SomeExactly (IsBlockQuoteStart «data».now) result }
     ensures within { IfSome result (λ n. n ≤ length «data».now) }
 {
     match data {

@@ -1,10 +1,14 @@
 //! Link destinations, autolinks and wikilinks.
-ghost use Rattle.std.specs.Prelude.{◌≡◌, ◌+◌, ◌-◌, ◌<◌, ◌≤◌, ◌==◌, ◌||◌, ◌&&◌, nat_lt, ℕ, List, Some, None, IfSome, IfNone, length, drop, take, slice_range, slice_index, position};
+ghost use Rattle.std.specs.Prelude.{ℕ, List, ◌≡◌, ◌+◌, ◌-◌, ◌<◌, ◌≤◌, ◌==◌, ◌||◌, ◌&&◌, nat_le, IfSome, length, drop, take, slice_range, slice_index, position};
 ghost use Rattle.std.specs.List.{prefix_len};
+ghost use Rattle.std.specs.Option.{option_map};
 ghost use Rattle.std.specs.Str.{IsCharBoundary};
 ghost use Rattle.markdown_values.specs.strings.Text.{cow_text, IsBorrowed};
+ghost use Rattle.markdown_scanners_tree.specs.Ascii.{vertical_line, space, right_parenthesis, less_than_sign, greater_than_sign};
+ghost use Rattle.markdown_scanners_tree.specs.Bytes.{is_line_ending};
+ghost use Rattle.markdown_scanners_tree.specs.SomeExactly.{SomeExactly};
 ghost use Rattle.markdown_scanners_tree.specs.scanners.links.LinkDestination.{IsLinkDestination, IsBareFrom, IsPointedFrom};
-ghost use Rattle.markdown_scanners_tree.specs.scanners.links.Autolink.{IsUriAutolink, IsSchemeInFront, is_scheme_byte, is_uri_byte};
+ghost use Rattle.markdown_scanners_tree.specs.scanners.links.Autolink.{IsUriAutolink, StartsWithScheme, is_scheme_byte, is_uri_byte};
 
 use crate::scanners::classes::{is_ascii_alphanumeric, is_ascii_letter};
 use crate::scanners::escapes::starts_escape;
@@ -12,15 +16,15 @@ use markdown_values::strings::CowStr;
 use markdown_values::values::LinkType;
 use memchr::memchr;
 
-/// The first pipe in the `len` bytes from `start` on, cut at the text's end: the place after the pipe,
-/// and the text before it. `start` is a place between two characters.
+/// The first pipe in the `len` bytes from `start` on, cut at the text's end: the place after the
+/// pipe, and the text before it. `start` is a place between two characters.
 pub fn scan_wikilink_pipe(data: &str, start: usize, len: usize) -> Option<(usize, &str)>
     requires { IsCharBoundary «data».now start }
-    ensures found { IfSome result (λ r. position (λ b. b == 124) (take len (drop start «data».now)) ≡ Some (length r.1.now)) }
+    ensures found { option_map (λ r. length r.1.now) result
+        ≡ position (λ b. b == vertical_line) (take len (drop start «data».now)) }
     ensures place { IfSome result (λ r. r.0 ≡ start + length r.1.now + 1) }
-    ensures lies { IfSome result (λ r. r.1.now ≡ slice_range «data».now start (r.0 - 1)) }
+    ensures slice { IfSome result (λ r. r.1.now ≡ slice_range «data».now start (r.0 - 1)) }
     ensures boundary { IfSome result (λ r. IsCharBoundary «data».now r.0) }
-    ensures absent { IfNone result (position (λ b. b == 124) (take len (drop start «data».now)) ≡ None) }
 {
     let rest = &data.as_bytes()[start..];
     let window = &rest[..len.min(rest.len())];
@@ -28,15 +32,16 @@ pub fn scan_wikilink_pipe(data: &str, start: usize, len: usize) -> Option<(usize
     Some((start + n + 1, &data[start..start + n]))
 }
 
-/// The link destination from `start` on: how many bytes it takes, angle brackets among them, and its raw
-/// text without them. Parentheses nest at most `max_next + 1` deep. `start` is a place between two characters.
+/// The link destination from `start` on: how many bytes it takes, angle brackets among them, and
+/// its raw text without them. Parentheses nest at most `max_next + 1` deep. `start` is a place
+/// between two characters.
 ///
 /// (CommonMark 0.31.2, section 6.3.)
 pub fn scan_link_dest(data: &str, start: usize, max_next: usize) -> Option<(usize, &str)>
     requires { IsCharBoundary «data».now start }
-    ensures found { IfSome result (λ r. IsLinkDestination (max_next + 1) (drop start «data».now) r.0 r.1.now) }
-    ensures absent { IfNone result ((taken : ℕ) (destination : List ℕ)
-        → ¬ IsLinkDestination (max_next + 1) (drop start «data».now) taken destination) }
+    ensures found { SomeExactly
+        (λ (r : ℕ × List ℕ). IsLinkDestination (max_next + 1) (drop start «data».now) r.0 r.1)
+        (option_map (λ r. (r.0, r.1.now)) result) }
     ensures boundary { IfSome result (λ r. IsCharBoundary «data».now (start + r.0)) }
 {
     let bytes = &data.as_bytes()[start..];
@@ -50,10 +55,9 @@ pub fn scan_link_dest(data: &str, start: usize, max_next: usize) -> Option<(usiz
 
 // How many bytes stand before the first unescaped `>`, behind the `<`.
 fn pointed_len(bytes: &[u8]) -> Option<usize>
-    ensures found { IfSome result (λ n. IsPointedFrom bytes.now n) }
-    ensures absent { IfNone result ((n : ℕ) → ¬ IsPointedFrom bytes.now n) }
+    ensures found { SomeExactly (IsPointedFrom bytes.now) result }
     ensures within { IfSome result (λ n. n < length bytes.now) }
-    ensures cut { IfSome result (λ n. slice_index bytes.now n ≡ 62) }
+    ensures cut { IfSome result (λ n. slice_index bytes.now n ≡ greater_than_sign) }
 {
     let mut i = 0;
     while i < bytes.len() && bytes[i] != b'>' {
@@ -70,15 +74,15 @@ fn pointed_len(bytes: &[u8]) -> Option<usize>
 
 // Whether the byte can't stand between `<` and `>`.
 fn refuses_pointed(b: u8) -> bool
-    ensures { result ≡ (b == 10 || b == 13 || b == 60) }
+    ensures { result ≡ (is_line_ending b || b == less_than_sign) }
 {
     b == b'\n' || b == b'\r' || b == b'<'
 }
 
-// The length of the bare destination at the front, which ends before an ASCII byte or with the text.
+// The length of the bare destination at the front, which ends before an ASCII byte or with the
+// text.
 fn bare_len(bytes: &[u8], max_next: usize) -> Option<usize>
-    ensures found { IfSome result (λ n. IsBareFrom (max_next + 1) 0 bytes.now n) }
-    ensures absent { IfNone result ((n : ℕ) → ¬ IsBareFrom (max_next + 1) 0 bytes.now n) }
+    ensures found { SomeExactly (IsBareFrom (max_next + 1) 0 bytes.now) result }
     ensures within { IfSome result (λ n. n ≤ length bytes.now) }
     ensures cut { IfSome result (λ n. n < length bytes.now → slice_index bytes.now n < 128) }
 {
@@ -105,24 +109,24 @@ fn bare_len(bytes: &[u8], max_next: usize) -> Option<usize>
 
 // Whether the byte ends a bare destination behind `depth` open parentheses.
 fn ends_destination(b: u8, depth: usize) -> bool
-    ensures { result ≡ (nat_lt b 33 || (b == 41 && depth == 0)) }
+    ensures { result ≡ (nat_le b space || (b == right_parenthesis && depth == 0)) }
 {
     b <= b' ' || (b == b')' && depth == 0)
 }
 
-/// The absolute URI from `start` on that `>` ends: the place after the `>`, and the text before it. `start` is a
-/// place between two characters.
+/// The absolute URI from `start` on that `>` ends: the place after the `>`, and the text before it.
+/// `start` is a place between two characters.
 ///
 /// (CommonMark 0.31.2, section 6.5.)
 pub fn scan_autolink<'a>(text: &'a str, start: usize) -> Option<(usize, CowStr<'a>, LinkType)>
     requires { IsCharBoundary text.now start }
-    ensures found { IfSome result (λ r. IsUriAutolink (drop start text.now) (cow_text r.1)) }
+    ensures found { SomeExactly (IsUriAutolink (drop start text.now))
+        (option_map (λ r. cow_text r.1) result) }
     ensures place { IfSome result (λ r. r.0 ≡ start + length (cow_text r.1) + 1) }
-    ensures lies { IfSome result (λ r. cow_text r.1 ≡ slice_range text.now start (r.0 - 1)) }
+    ensures slice { IfSome result (λ r. cow_text r.1 ≡ slice_range text.now start (r.0 - 1)) }
     ensures boundary { IfSome result (λ r. IsCharBoundary text.now r.0) }
-    ensures lent { IfSome result (λ r. IsBorrowed r.1) }
+    ensures borrowed { IfSome result (λ r. IsBorrowed r.1) }
     ensures kind { IfSome result (λ r. r.2 ≡ LinkType.Autolink) }
-    ensures absent { IfNone result ((uri : List ℕ) → ¬ IsUriAutolink (drop start text.now) uri) }
 {
     let n = uri_len(&text.as_bytes()[start..])?;
     let end = start + n;
@@ -131,13 +135,12 @@ pub fn scan_autolink<'a>(text: &'a str, start: usize) -> Option<(usize, CowStr<'
 
 // The length of the absolute URI at the front, which `>` ends.
 fn uri_len(bytes: &[u8]) -> Option<usize>
-    ensures found { IfSome result (λ n. IsUriAutolink bytes.now (take n bytes.now)) }
-    ensures absent { IfNone result ((uri : List ℕ) → ¬ IsUriAutolink bytes.now uri) }
+    ensures found { SomeExactly (λ n. IsUriAutolink bytes.now (take n bytes.now)) result }
     ensures within { IfSome result (λ n. n < length bytes.now) }
-    ensures cut { IfSome result (λ n. slice_index bytes.now n ≡ 62) }
+    ensures cut { IfSome result (λ n. slice_index bytes.now n ≡ greater_than_sign) }
 {
     let scheme = scheme_len(bytes)?;
-    let end = scheme + 1 + address_len(&bytes[scheme + 1..]);
+    let end = scheme + 1 + address_prefix_len(&bytes[scheme + 1..]);
     if end < bytes.len() && bytes[end] == b'>' {
         Some(end)
     } else {
@@ -147,14 +150,13 @@ fn uri_len(bytes: &[u8]) -> Option<usize>
 
 // The length of the scheme at the front, which a colon ends.
 fn scheme_len(bytes: &[u8]) -> Option<usize>
-    ensures found { IfSome result (λ n. IsSchemeInFront bytes.now n) }
-    ensures absent { IfNone result ((n : ℕ) → ¬ IsSchemeInFront bytes.now n) }
+    ensures found { SomeExactly (StartsWithScheme bytes.now) result }
     ensures within { IfSome result (λ n. n < length bytes.now) }
 {
     if bytes.is_empty() || !is_ascii_letter(bytes[0]) {
         return None;
     }
-    let n = 1 + scheme_bytes_in_front(&bytes[1..]);
+    let n = 1 + scheme_prefix_len(&bytes[1..]);
     if n < 2 || n > 32 || n == bytes.len() || bytes[n] != b':' {
         return None;
     }
@@ -162,7 +164,7 @@ fn scheme_len(bytes: &[u8]) -> Option<usize>
 }
 
 // How many bytes at the front can stand in a scheme behind its letter.
-fn scheme_bytes_in_front(bytes: &[u8]) -> usize
+fn scheme_prefix_len(bytes: &[u8]) -> usize
     ensures count { result ≡ prefix_len is_scheme_byte bytes.now }
     ensures within { result ≤ length bytes.now }
 {
@@ -173,7 +175,7 @@ fn scheme_bytes_in_front(bytes: &[u8]) -> usize
 }
 
 // How many bytes at the front can stand in a URI behind its colon.
-fn address_len(bytes: &[u8]) -> usize
+fn address_prefix_len(bytes: &[u8]) -> usize
     ensures count { result ≡ prefix_len is_uri_byte bytes.now }
     ensures within { result ≤ length bytes.now }
 {

@@ -1,14 +1,16 @@
 //! List items.
-ghost use Rattle.std.specs.Prelude.{◌≡◌, ◌+◌, ◌<◌, ◌≤◌, ℕ, length, take, false, IsTrue, IfSome, IfNone};
+ghost use Rattle.std.specs.Prelude.{◌≡◌, ◌≤◌, length, take, false, IsTrue, IfSome};
 ghost use Rattle.std.specs.List.{prefix_len, list_all};
+ghost use Rattle.std.specs.Str.Parse.{digits_value};
+ghost use Rattle.markdown_scanners_tree.specs.SomeExactly.{SomeExactly};
 ghost use Rattle.markdown_scanners_tree.specs.Bytes.{begins_with, is_digit};
 ghost use Rattle.markdown_scanners_tree.specs.scanners.list_items.ListItem.{IsListMarker, IsItemSpace, IsListItem};
 ghost use Rattle.markdown_scanners_tree.specs.scanners.list_items.ListMarker.{is_bullet, is_delimiter};
-ghost use Rattle.markdown_scanners_tree.specs.Numbers.{decimal_value};
 
 use crate::scanners::classes::is_ascii_digit;
 use crate::scanners::indent::calc_indent;
 use crate::scanners::lines::scan_blank_line;
+use crate::scanners::numbers::number_of;
 
 // How many digits the number of an ordered list item may have.
 const MOST_DIGITS: usize = 9;
@@ -19,8 +21,7 @@ const MOST_DIGITS: usize = 9;
 /// A line that is blank after the marker has an indent one column wider than the marker.
 /// (CommonMark 0.31.2, section 5.2.)
 pub fn scan_listitem(bytes: &[u8]) -> Option<(usize, u8, usize, usize)>
-    ensures found { IfSome result (λ r. IsListItem bytes.now r.0 r.1 r.2 r.3) }
-    ensures absent { IfNone result ((n delimiter start indent : ℕ) → ¬ IsListItem bytes.now n delimiter start indent) }
+    ensures found { SomeExactly (λ r. IsListItem bytes.now r.0 r.1 r.2 r.3) result }
     ensures within { IfSome result (λ r. r.0 ≤ length bytes.now) }
 {
     let (width, delimiter, start) = scan_marker(bytes)?;
@@ -30,8 +31,7 @@ pub fn scan_listitem(bytes: &[u8]) -> Option<(usize, u8, usize, usize)>
 
 // The length of a list marker at the front, its last byte and its start number.
 pub(crate) fn scan_marker(bytes: &[u8]) -> Option<(usize, u8, usize)>
-    ensures found { IfSome result (λ r. IsListMarker (take r.0 bytes.now) r.1 r.2) }
-    ensures absent { IfNone result ((n delimiter start : ℕ) → ¬ IsListMarker (take n bytes.now) delimiter start) }
+    ensures found { SomeExactly (λ r. IsListMarker (take r.0 bytes.now) r.1 r.2) result }
     ensures within { IfSome result (λ r. r.0 ≤ length bytes.now) }
 {
     if begins_with_bullet(bytes) {
@@ -51,8 +51,7 @@ fn begins_with_bullet(bytes: &[u8]) -> bool
 // The same as `scan_marker`, where no bullet stands at the front.
 fn scan_ordered_marker(bytes: &[u8]) -> Option<(usize, u8, usize)>
     requires no_bullet { begins_with is_bullet bytes.now ≡ false }
-    ensures found { IfSome result (λ r. IsListMarker (take r.0 bytes.now) r.1 r.2) }
-    ensures absent { IfNone result ((n delimiter start : ℕ) → ¬ IsListMarker (take n bytes.now) delimiter start) }
+    ensures found { SomeExactly (λ r. IsListMarker (take r.0 bytes.now) r.1 r.2) result }
     ensures within { IfSome result (λ r. r.0 ≤ length bytes.now) }
 {
     let digits = scan_digits(bytes);
@@ -62,7 +61,8 @@ fn scan_ordered_marker(bytes: &[u8]) -> Option<(usize, u8, usize)>
     if digits == bytes.len() || !is_delimiter_byte(bytes[digits]) {
         return None;
     }
-    Some((digits + 1, bytes[digits], number_of(&bytes[..digits])))
+    let start = number_of(&bytes[..digits], 10);
+    Some((digits + 1, bytes[digits], start as usize))
 }
 
 // Whether the byte ends an ordered list marker.
@@ -72,7 +72,7 @@ fn is_delimiter_byte(byte: u8) -> bool
     byte == b'.' || byte == b')'
 }
 
-// The length of the longest front of digits.
+// The length of the longest prefix of digits.
 fn scan_digits(bytes: &[u8]) -> usize
     ensures run { result ≡ prefix_len is_digit bytes.now }
     ensures within { result ≤ length bytes.now }
@@ -80,26 +80,10 @@ fn scan_digits(bytes: &[u8]) -> usize
     bytes.iter().take_while(|b| is_ascii_digit(**b)).count()
 }
 
-// The number that at most nine digits stand for.
-fn number_of(digits: &[u8]) -> usize
-    requires all { IsTrue (list_all is_digit digits.now) }
-    requires few { length digits.now ≤ 9 }
-    ensures { result ≡ decimal_value digits.now }
-{
-    let mut number = 0;
-    let mut i = 0;
-    while i < digits.len() {
-        number = number * 10 + usize::from(digits[i] - b'0');
-        i += 1;
-    }
-    number
-}
-
 // How much of what follows a list marker in its line belongs to the item's indent, in bytes and
 // in columns.
 fn scan_item_space(rest: &[u8]) -> Option<(usize, usize)>
-    ensures found { IfSome result (λ r. IsItemSpace rest.now r.0 r.1) }
-    ensures absent { IfNone result ((place space : ℕ) → ¬ IsItemSpace rest.now place space) }
+    ensures found { SomeExactly (λ r. IsItemSpace rest.now r.0 r.1) result }
     ensures within { IfSome result (λ r. r.0 ≤ length rest.now) }
 {
     if scan_blank_line(rest).is_some() {

@@ -1,6 +1,8 @@
 //! Metadata blocks at the head of a document.
-ghost use Rattle.std.specs.Prelude.{◌≡◌, ◌≤◌, ◌==◌, ◌+◌, ℕ, List, length, drop, true, false, IsTrue, IfSome, IfNone};
+ghost use Rattle.std.specs.Prelude.{◌≡◌, ◌≤◌, ◌==◌, ◌+◌, ℕ, List, length, drop, true, IfSome, IfNone};
+ghost use Rattle.std.specs.Bool.{Decides};
 ghost use Rattle.std.specs.List.{prefix_len};
+ghost use Rattle.markdown_scanners_tree.specs.SomeExactly.{SomeExactly};
 ghost use Rattle.markdown_scanners_tree.specs.scanners.Metadata.{is_after_opening, IsLineOfThree, IsClosingMetadataBlock, HasLaterClose, IsOpeningLine, IsBlockOf, IsMetadataBlock};
 
 use crate::scanners::lines::{scan_blank_line, scan_eol};
@@ -16,9 +18,9 @@ pub fn scan_metadata_block(
     yaml_style_enabled: bool,
     pluses_style_enabled: bool,
 ) -> Option<(usize, u8)>
-    ensures found { IfSome result (λ r. IsMetadataBlock «data».now yaml_style_enabled pluses_style_enabled r.1) }
+    ensures found { SomeExactly
+        (λ r. IsMetadataBlock «data».now yaml_style_enabled pluses_style_enabled r.1) result }
     ensures opening { IfSome result (λ r. r.0 ≡ 3) }
-    ensures absent { IfNone result ((byte : ℕ) → ¬ IsMetadataBlock «data».now yaml_style_enabled pluses_style_enabled byte) }
     ensures within { IfSome result (λ r. r.0 ≤ length «data».now) }
 {
     if is_enabled_block(data, b'-', yaml_style_enabled) {
@@ -32,8 +34,7 @@ pub fn scan_metadata_block(
 
 // Whether the style is enabled, and a metadata block that the byte opens stands at the front.
 fn is_enabled_block(data: &[u8], byte: u8, enabled: bool) -> bool
-    ensures found { result ≡ true → (enabled ≡ true) × IsBlockOf byte «data».now }
-    ensures absent { result ≡ false → enabled ≡ true → ¬ IsBlockOf byte «data».now }
+    ensures found { Decides result ((enabled ≡ true) × IsBlockOf byte «data».now) }
     ensures within { result ≡ true → 3 ≤ length «data».now }
 {
     enabled && is_block_of(data, byte)
@@ -41,8 +42,7 @@ fn is_enabled_block(data: &[u8], byte: u8, enabled: bool) -> bool
 
 // Whether a metadata block that the byte opens stands at the front.
 fn is_block_of(data: &[u8], byte: u8) -> bool
-    ensures found { result ≡ true → IsBlockOf byte «data».now }
-    ensures absent { result ≡ false → ¬ IsBlockOf byte «data».now }
+    ensures found { Decides result (IsBlockOf byte «data».now) }
     ensures within { result ≡ true → 3 ≤ length «data».now }
 {
     let Some(opening) = scan_opening_line(data, byte) else {
@@ -61,7 +61,7 @@ fn is_block_of(data: &[u8], byte: u8) -> bool
 // The length of a block's first line, with the LF that ends it.
 fn scan_opening_line(data: &[u8], byte: u8) -> Option<usize>
     ensures found { IfSome result (λ n. IsOpeningLine byte «data».now (drop n «data».now)) }
-    ensures absent { IfNone result ((body : List ℕ) → ¬ IsOpeningLine byte «data».now body) }
+    ensures none { IfNone result ((body : List ℕ) → ¬ IsOpeningLine byte «data».now body) }
     ensures within { IfSome result (λ n. (3 ≤ n) × (n ≤ length «data».now)) }
 {
     if scan_ch_repeat(data, byte) != 3 {
@@ -75,7 +75,7 @@ fn scan_opening_line(data: &[u8], byte: u8) -> Option<usize>
     Some(end + 1)
 }
 
-// The length of the longest front of what may follow the opening bytes in their line.
+// The length of the longest prefix of what may follow the opening bytes in their line.
 fn scan_after_opening(bytes: &[u8]) -> usize
     ensures run { result ≡ prefix_len is_after_opening bytes.now }
     ensures within { result ≤ length bytes.now }
@@ -88,8 +88,7 @@ fn scan_after_opening(bytes: &[u8]) -> usize
 
 // Whether a line after the first one closes the block that the byte opened.
 fn has_later_close(body: &[u8], byte: u8) -> bool
-    ensures found { result ≡ true → HasLaterClose body.now byte }
-    ensures absent { result ≡ false → ¬ HasLaterClose body.now byte }
+    ensures { Decides result (HasLaterClose body.now byte) }
 {
     let mut i = 0;
     while let Some(line) = memchr(b'\n', &body[i..]) {
@@ -104,8 +103,7 @@ fn has_later_close(body: &[u8], byte: u8) -> bool
 /// The length in bytes of the line at the front that closes a metadata block, without the line
 /// ending, where `fence_char` opened the block.
 pub fn scan_closing_metadata_block(bytes: &[u8], fence_char: u8) -> Option<usize>
-    ensures found { IfSome result (λ n. IsClosingMetadataBlock bytes.now fence_char n) }
-    ensures absent { IfNone result ((n : ℕ) → ¬ IsClosingMetadataBlock bytes.now fence_char n) }
+    ensures found { SomeExactly (IsClosingMetadataBlock bytes.now fence_char) result }
     ensures within { IfSome result (λ n. n ≤ length bytes.now) }
 {
     match scan_line_of_three(bytes, fence_char) {
@@ -117,8 +115,7 @@ pub fn scan_closing_metadata_block(bytes: &[u8], fence_char: u8) -> Option<usize
 
 // The length of a line of exactly three of the byte and of spaces, without its line ending.
 fn scan_line_of_three(bytes: &[u8], byte: u8) -> Option<usize>
-    ensures found { IfSome result (λ n. IsLineOfThree byte bytes.now n) }
-    ensures absent { IfNone result ((n : ℕ) → ¬ IsLineOfThree byte bytes.now n) }
+    ensures found { SomeExactly (IsLineOfThree byte bytes.now) result }
     ensures within { IfSome result (λ n. n ≤ length bytes.now) }
 {
     if scan_ch_repeat(bytes, byte) != 3 {

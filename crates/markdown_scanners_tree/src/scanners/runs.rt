@@ -1,7 +1,7 @@
 //! Runs of bytes at the front or the back.
 ghost use Rattle.std.specs.Prelude.{◌≡◌, ◌≤◌, ◌==◌, length, reverse, if◌then◌else◌};
 ghost use Rattle.std.specs.List.{prefix_len, list_any};
-ghost use Rattle.markdown_scanners_tree.specs.Bytes.{begins_with, is_alphanumeric, is_white_space_in_line};
+ghost use Rattle.markdown_scanners_tree.specs.Bytes.{begins_with, is_alphanumeric, is_space_or_tab, is_white_space_in_line};
 ghost use Rattle.markdown_scanners_tree.specs.scanners.Runs.{IsAccepted};
 
 use crate::scanners::classes::{is_ascii_alphanumeric, is_ascii_whitespace_no_nl};
@@ -54,7 +54,7 @@ pub fn scan_rev_while<F: FnMut(u8) -> bool>(data: &[u8], mut f: F) -> usize
     count
 }
 
-/// The length of the longest front of the byte `c`.
+/// The length of the longest prefix of the byte `c`.
 pub fn scan_ch_repeat(data: &[u8], c: u8) -> usize
     ensures run { result ≡ prefix_len (λ b. b == c) «data».now }
     ensures within { result ≤ length «data».now }
@@ -62,7 +62,7 @@ pub fn scan_ch_repeat(data: &[u8], c: u8) -> usize
     data.iter().take_while(|b| **b == c).count()
 }
 
-/// The length of the longest front of white space that ends no line.
+/// The length of the longest prefix of white space that ends no line.
 pub fn scan_whitespace_no_nl(data: &[u8]) -> usize
     ensures run { result ≡ prefix_len is_white_space_in_line «data».now }
     ensures within { result ≤ length «data».now }
@@ -72,9 +72,20 @@ pub fn scan_whitespace_no_nl(data: &[u8]) -> usize
         .count()
 }
 
-// The length of the longest front of letters and digits.
-pub(in crate::scanners) fn alphanumerics_in_front(bytes: &[u8]) -> usize
-    ensures count { result ≡ prefix_len is_alphanumeric bytes.now }
+// The length of the longest prefix of spaces and tabs.
+pub(crate) fn scan_spaces_and_tabs(bytes: &[u8]) -> usize
+    ensures run { result ≡ prefix_len is_space_or_tab bytes.now }
+    ensures within { result ≤ length bytes.now }
+{
+    bytes
+        .iter()
+        .take_while(|b| **b == b' ' || **b == b'\t')
+        .count()
+}
+
+// The length of the longest prefix of letters and digits.
+pub(in crate::scanners) fn scan_alphanumerics(bytes: &[u8]) -> usize
+    ensures run { result ≡ prefix_len is_alphanumeric bytes.now }
     ensures within { result ≤ length bytes.now }
 {
     bytes

@@ -1,15 +1,15 @@
 //! The delimiter row of a table.
-ghost use Rattle.std.specs.Prelude.{◌≡◌, ◌+◌, ◌<◌, ◌≤◌, ◌⊎◌, ◌==◌, ℕ, [], ◌∷◌, length, drop, ◌++◌, map, IsTrue, MatchOption, false, not, ◌||◌, ◌&&◌, OnOk, IfSome, IfNone, IfOk, if◌then◌else◌};
+ghost use Rattle.std.specs.Prelude.{◌≡◌, ◌+◌, ◌<◌, ◌≤◌, ◌==◌, [], length, drop, ◌++◌, map, IsTrue, false, not, ◌||◌, ◌&&◌, OnOk, IfSome, IfNone, IfOk};
 ghost use Rattle.std.specs.List.{prefix_len, list_any};
 ghost use Rattle.markdown_scanners_tree.specs.Bytes.{begins_with};
-ghost use Rattle.markdown_scanners_tree.specs.scanners.Tables.{is_cell_byte, alignment, alignment_by, counted_last, IsCells, AreScanned, IsDelimiterRow};
+ghost use Rattle.markdown_scanners_tree.specs.scanners.Tables.{is_cell_byte, alignment, alignment_by, counted_last_cell, is_space, is_pipe, after_cell, NoCells, AreScannedCells, IsDelimiterRow, NoDelimiterRow};
 
 use crate::scanners::lines::scan_eol;
 use crate::scanners::runs::{has_byte, scan_ch, scan_ch_repeat};
 use markdown_values::values::Alignment;
 use std::alloc::{AllocError, Global};
 
-// How many spaces may stand before a row.
+// How many spaces may stand before a delimiter row.
 const MOST_SPACES: usize = 3;
 
 /// The length in bytes of a table's delimiter row at the front, with its line ending, and the
@@ -22,7 +22,7 @@ const MOST_SPACES: usize = 3;
 /// `AllocError` where memory for the alignments is refused.
 pub fn scan_table_head(alloc: Global, data: &[u8]) -> Result<(usize, Vec<Alignment>), AllocError>
     ensures found { IfOk result (λ r. 0 < r.0 → IsDelimiterRow «data».now r.0 r.1.items) }
-    ensures absent { IfOk result (λ r. r.0 ≡ 0 → (n : ℕ) (row : _) → ¬ IsDelimiterRow «data».now n row) }
+    ensures none { IfOk result (λ r. r.0 ≡ 0 → NoDelimiterRow «data».now) }
     ensures empty { IfOk result (λ r. r.0 ≡ 0 → r.1.items ≡ []) }
     ensures within { IfOk result (λ r. r.0 ≤ length «data».now) }
 {
@@ -35,21 +35,21 @@ pub fn scan_table_head(alloc: Global, data: &[u8]) -> Result<(usize, Vec<Alignme
     let Some(cells) = scan_cells(alloc, &data[start..])? else {
         return Ok((0, Vec::new(alloc)));
     };
-    if is_row(piped == 1, cells.ended, cells.hyphen) {
+    if is_delimiter_row(piped == 1, cells.ended, cells.hyphen) {
         Ok((start + cells.length, cells.alignments))
     } else {
         Ok((0, Vec::new(alloc)))
     }
 }
 
-// Whether a pipe and a hyphen stand in the row: a cell that a pipe ended has a hyphen.
-fn is_row(piped: bool, ended: bool, hyphen: bool) -> bool
+// Whether a pipe and a hyphen stand in a delimiter row: a cell that a pipe ended has a hyphen.
+fn is_delimiter_row(piped: bool, ended: bool, hyphen: bool) -> bool
     ensures { result ≡ ((piped || ended) && (ended || hyphen)) }
 {
     (piped || ended) && (ended || hyphen)
 }
 
-// What a scan of a row's cells tells of them.
+// What a scan of a delimiter row's cells tells of them.
 #[derive(Drop)]
 struct Cells {
     // the bytes of the cells, with their pipes and the line ending
@@ -61,16 +61,17 @@ struct Cells {
     hyphen: bool,
 }
 
-// The cells of a row after its indent and the pipe in front; None where they are none of a row.
-fn scan_cells(alloc: Global, row: &[u8]) -> Result<Option<Cells>, AllocError>
-    ensures found { IfOk result (λ r. IfSome r (λ c. AreScanned row.now c.length c.alignments.items c.ended c.hyphen)) }
-    ensures absent { IfOk result (λ r. IfNone r ((cells : _) (last rest : _) (ending : ℕ) → ¬ IsCells row.now cells last rest ending)) }
-    ensures within { IfOk result (λ r. IfSome r (λ c. c.length ≤ length row.now)) }
+// The cells of a delimiter row after its indent and the pipe in front; None where there are none.
+fn scan_cells(alloc: Global, bytes: &[u8]) -> Result<Option<Cells>, AllocError>
+    ensures found { IfOk result (λ r. IfSome r (λ cells.
+        AreScannedCells bytes.now cells.length cells.alignments.items cells.ended cells.hyphen)) }
+    ensures none { IfOk result (λ r. IfNone r (NoCells bytes.now)) }
+    ensures within { IfOk result (λ r. IfSome r (λ cells. cells.length ≤ length bytes.now)) }
 {
     let mut alignments = Vec::new(alloc);
     let mut i = 0;
-    while let Some(len) = scan_ended_cell(&row[i..]) {
-        let cell = &row[i..i + len];
+    while let Some(len) = scan_ended_cell(&bytes[i..]) {
+        let cell = &bytes[i..i + len];
         if !has_byte(cell, b'-') {
             return Ok(None);
         }
@@ -78,9 +79,9 @@ fn scan_cells(alloc: Global, row: &[u8]) -> Result<Option<Cells>, AllocError>
         i += len + 1;
     }
     let ended = !alignments.is_empty();
-    let len = scan_cell_bytes(&row[i..]);
-    let last = &row[i..i + len];
-    let Some(ending) = scan_eol(&row[i + len..]) else {
+    let len = scan_cell_bytes(&bytes[i..]);
+    let last = &bytes[i..i + len];
+    let Some(ending) = scan_eol(&bytes[i + len..]) else {
         return Ok(None);
     };
     let hyphen = has_byte(last, b'-');
@@ -95,7 +96,8 @@ fn scan_cells(alloc: Global, row: &[u8]) -> Result<Option<Cells>, AllocError>
 
 // Adds the alignment of a last cell that counts.
 fn push_last(alignments: &mut Vec<Alignment>, last: &[u8]) -> Result<(), AllocError>
-    ensures { OnOk result (alignments.new.items ≡ alignments.old.items ++ map alignment (counted_last last.now)) }
+    ensures { OnOk result (alignments.new.items
+        ≡ alignments.old.items ++ map alignment (counted_last_cell last.now)) }
 {
     if counts(last) {
         alignments.push(alignment_of(last))?;
@@ -105,12 +107,12 @@ fn push_last(alignments: &mut Vec<Alignment>, last: &[u8]) -> Result<(), AllocEr
 
 // Whether the last cell has a byte that is no space.
 fn counts(last: &[u8]) -> bool
-    ensures { result ≡ list_any (λ b. not (b == 32)) last.now }
+    ensures { result ≡ list_any (λ b. not (is_space b)) last.now }
 {
     last.iter().any(|b| *b != b' ')
 }
 
-// The length of the longest front of bytes of a cell.
+// The length of the longest prefix of bytes of a cell.
 fn scan_cell_bytes(bytes: &[u8]) -> usize
     ensures run { result ≡ prefix_len is_cell_byte bytes.now }
     ensures within { result ≤ length bytes.now }
@@ -121,12 +123,12 @@ fn scan_cell_bytes(bytes: &[u8]) -> usize
         .count()
 }
 
-// The length of that front, where a pipe ends it.
+// The length of that prefix, where a pipe ends it.
 fn scan_ended_cell(bytes: &[u8]) -> Option<usize>
     ensures run { IfSome result (λ n. n ≡ prefix_len is_cell_byte bytes.now) }
     ensures inside { IfSome result (λ n. n < length bytes.now) }
-    ensures piped { IfSome result (λ n. IsTrue (begins_with (λ b. b == 124) (drop n bytes.now))) }
-    ensures none { IfNone result (begins_with (λ b. b == 124) (drop (prefix_len is_cell_byte bytes.now) bytes.now) ≡ false) }
+    ensures piped { IfSome result (λ n. IsTrue (begins_with is_pipe (drop n bytes.now))) }
+    ensures none { IfNone result (begins_with is_pipe (after_cell bytes.now) ≡ false) }
 {
     let n = scan_cell_bytes(bytes);
     if n < bytes.len() && bytes[n] == b'|' {

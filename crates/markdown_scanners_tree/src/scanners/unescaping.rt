@@ -1,11 +1,11 @@
 //! Backslash escapes and character references in a text.
-ghost use Rattle.std.specs.Prelude.{◌≡◌, ◌+◌, ◌-◌, ◌<◌, ◌≤◌, ◌^◌, ◌++◌, ℕ, List, Ok, IfOk, IsOk, OnOk, IfSome, IfNone, false, length, slice_index, slice_range, min, nat_lt, if◌then◌else◌};
+ghost use Rattle.std.specs.Prelude.{◌≡◌, ◌+◌, ◌-◌, ◌<◌, ◌≤◌, ◌^◌, ◌++◌, Ok, IfOk, IsOk, OnOk, false, length, min};
 ghost use Rattle.std.specs.Str.{IsCharBoundary};
 ghost use Rattle.std.specs.String.{string_bytes, string_len, string_capacity};
 ghost use Rattle.markdown_values.specs.strings.Text.{cow_text, IsBoxed};
-ghost use Rattle.markdown_scanners_tree.specs.scanners.entities.CharacterReference.{StartsWithReference};
-ghost use Rattle.markdown_scanners_tree.specs.scanners.unescaping.Unescaping.{Piece, ArePieces, joined_meanings, AreThemselves};
-ghost use Rattle.markdown_scanners_tree.specs.scanners.unescaping.private.FirstPiece.{IsFirstPiece, replacement, starts_pipe as starts_pipe_at};
+ghost use Rattle.markdown_scanners_tree.specs.SomeExactly.{SomeExactly};
+ghost use Rattle.markdown_scanners_tree.specs.scanners.unescaping.Unescaping.{HasPieces, ForPieces, joined_meanings, AreThemselves};
+ghost use Rattle.markdown_scanners_tree.specs.scanners.unescaping.private.FirstPiece.{IsFirstPiece, IsFirstSize, IsPushed, StartsWithAmpersandReference, change_len, replacement, starts_pipe as starts_pipe_at};
 
 use crate::scanners::entities::{Entities, scan_entity};
 use crate::scanners::escapes::starts_escape;
@@ -15,8 +15,8 @@ use std::alloc::{AllocError, Global};
 /// The text with its backslash escapes and character references resolved, and without CR.
 ///
 /// In a table two backslashes before a pipe stand for the pipe. Where nothing is to be resolved the
-/// input itself is handed back and no memory is taken. Else the text is measured first, and its memory
-/// is asked for once, at its exact length.
+/// input itself is handed back and no memory is taken. Else the text is measured first, and its
+/// memory is asked for once, at its exact length.
 ///
 /// (CommonMark 0.31.2, sections 2.4 and 2.5; GitHub Flavored Markdown 0.29, section 4.10.)
 ///
@@ -30,13 +30,13 @@ pub fn unescape<'a, E: Entities>(
     entities: &E,
 ) -> Result<CowStr<'a>, AllocError>
     // The pieces of the input are one list, and all clauses speak of it.
-    ensures pieces { (pieces : List Piece) × ArePieces is_in_table (E.known entities.now) (cow_text input.entry) pieces }
-    ensures text { (pieces : List Piece) → ArePieces is_in_table (E.known entities.now) (cow_text input.entry) pieces
-        → IfOk result (λ text. cow_text text ≡ joined_meanings pieces) }
-    ensures same { (pieces : List Piece) → ArePieces is_in_table (E.known entities.now) (cow_text input.entry) pieces
-        → AreThemselves pieces → result ≡ Ok input.entry }
-    ensures boxed { (pieces : List Piece) → ArePieces is_in_table (E.known entities.now) (cow_text input.entry) pieces
-        → ¬ AreThemselves pieces → IfOk result IsBoxed }
+    ensures pieces { HasPieces is_in_table (E.known entities.now) (cow_text input.entry) }
+    ensures text { ForPieces is_in_table (E.known entities.now) (cow_text input.entry) (λ pieces.
+        IfOk result (λ text. cow_text text ≡ joined_meanings pieces)) }
+    ensures same { ForPieces is_in_table (E.known entities.now) (cow_text input.entry) (λ pieces.
+        AreThemselves pieces → result ≡ Ok input.entry) }
+    ensures boxed { ForPieces is_in_table (E.known entities.now) (cow_text input.entry) (λ pieces.
+        ¬ AreThemselves pieces → IfOk result IsBoxed) }
 {
     let (changes, len) = measure(input.as_str(), is_in_table, entities);
     if !changes {
@@ -49,13 +49,13 @@ pub fn unescape<'a, E: Entities>(
 
 // Whether a piece isn't one byte that means itself, and the length of what the pieces mean.
 fn measure<E: Entities>(text: &str, is_in_table: bool, entities: &E) -> (bool, usize)
-    ensures pieces { (pieces : List Piece) × ArePieces is_in_table (E.known entities.now) text.now pieces }
-    ensures plain { (pieces : List Piece) → ArePieces is_in_table (E.known entities.now) text.now pieces
-        → result.0 ≡ false → AreThemselves pieces }
-    ensures changed { (pieces : List Piece) → ArePieces is_in_table (E.known entities.now) text.now pieces
-        → AreThemselves pieces → result.0 ≡ false }
-    ensures len { (pieces : List Piece) → ArePieces is_in_table (E.known entities.now) text.now pieces
-        → result.1 ≡ min (length (joined_meanings pieces)) (2 ^ 64 - 1) }
+    ensures pieces { HasPieces is_in_table (E.known entities.now) text.now }
+    ensures plain { ForPieces is_in_table (E.known entities.now) text.now (λ pieces.
+        result.0 ≡ false → AreThemselves pieces) }
+    ensures changed { ForPieces is_in_table (E.known entities.now) text.now (λ pieces.
+        AreThemselves pieces → result.0 ≡ false) }
+    ensures len { ForPieces is_in_table (E.known entities.now) text.now (λ pieces.
+        result.1 ≡ min (length (joined_meanings pieces)) (2 ^ 64 - 1)) }
 {
     let bytes = text.as_bytes();
     let mut changes = false;
@@ -77,10 +77,11 @@ fn push_meanings<E: Entities>(
     is_in_table: bool,
     entities: &E,
 ) -> Result<(), AllocError>
-    ensures bytes { (pieces : List Piece) → ArePieces is_in_table (E.known entities.now) text.now pieces
-        → OnOk result (string_bytes out.new ≡ string_bytes out.old ++ joined_meanings pieces) }
-    ensures room { (pieces : List Piece) → ArePieces is_in_table (E.known entities.now) text.now pieces
-        → string_len out.old + length (joined_meanings pieces) ≤ string_capacity out.old → IsOk result }
+    ensures bytes { ForPieces is_in_table (E.known entities.now) text.now (λ pieces.
+        OnOk result (string_bytes out.new ≡ string_bytes out.old ++ joined_meanings pieces)) }
+    ensures room { ForPieces is_in_table (E.known entities.now) text.now (λ pieces.
+        string_len out.old + length (joined_meanings pieces) ≤ string_capacity out.old
+        → IsOk result) }
 {
     let bytes = text.as_bytes();
     let mut run = 0;
@@ -94,8 +95,8 @@ fn push_meanings<E: Entities>(
     out.push_str(&text[run..])
 }
 
-// Where the piece at the place is changed, appends the text from `run` up to it, and what stands in for
-// its front. Answers where the text begins that isn't appended yet.
+// Where the piece at the place is changed, appends the text from `run` up to it, and what stands in
+// for its front. Answers where the text begins that isn't appended yet.
 fn push_change(
     out: &mut String,
     text: &str,
@@ -107,13 +108,11 @@ fn push_change(
     requires within { place + piece.dropped ≤ length text.now }
     requires start { IsCharBoundary text.now run }
     requires end { 0 < piece.dropped → IsCharBoundary text.now place }
-    ensures run { IfOk result (λ r. r ≡ (if nat_lt 0 piece.dropped then place + piece.dropped else run)) }
-    ensures bytes { OnOk result (string_bytes out.new
-        ≡ (if nat_lt 0 piece.dropped then string_bytes out.old ++ (slice_range text.now run place ++ replacement piece.text) else string_bytes out.old)) }
-    ensures len { OnOk result (string_len out.new
-        ≡ (if nat_lt 0 piece.dropped then string_len out.old + ((place - run) + length (replacement piece.text)) else string_len out.old)) }
+    ensures pushed { IfOk result
+        (IsPushed text.now run place piece.dropped (replacement piece.text) out.old out.new) }
     ensures capacity { string_capacity out.old ≤ string_capacity out.new }
-    ensures room { (0 < piece.dropped → string_len out.old + ((place - run) + length (replacement piece.text)) ≤ string_capacity out.old) → IsOk result }
+    ensures room { (0 < piece.dropped → string_len out.old
+        + change_len run place (replacement piece.text) ≤ string_capacity out.old) → IsOk result }
 {
     if piece.dropped == 0 {
         return Ok(run);
@@ -125,7 +124,8 @@ fn push_change(
     Ok(place + piece.dropped)
 }
 
-// The first piece of a text: how long it is, how much of its front is dropped, and what stands in for that.
+// The first piece of a text: how long it is, how many bytes are dropped at its front, and what
+// stands in for them.
 #[derive(Drop)]
 struct FirstPiece {
     length: usize,
@@ -144,8 +144,8 @@ struct PieceSize {
 // The sizes of the first piece of a text that isn't empty.
 fn first_size<E: Entities>(bytes: &[u8], is_in_table: bool, entities: &E) -> PieceSize
     requires { 0 < length bytes.now }
-    ensures { (dropped : ℕ) × (instead : List ℕ) × IsFirstPiece is_in_table (E.known entities.now) bytes.now result.source dropped instead
-        × (result.meaning ≡ min (length instead + (result.source - dropped)) (2 ^ 64 - 1)) × (result.is_changed ≡ nat_lt 0 dropped) }
+    ensures { IsFirstSize is_in_table (E.known entities.now) bytes.now
+        result.source result.meaning result.is_changed }
 {
     let piece = first_piece(bytes, is_in_table, entities);
     let instead = match &piece.text {
@@ -162,7 +162,8 @@ fn first_size<E: Entities>(bytes: &[u8], is_in_table: bool, entities: &E) -> Pie
 // The first piece of a text that isn't empty.
 fn first_piece<E: Entities>(bytes: &[u8], is_in_table: bool, entities: &E) -> FirstPiece
     requires { 0 < length bytes.now }
-    ensures { IsFirstPiece is_in_table (E.known entities.now) bytes.now result.length result.dropped (replacement result.text) }
+    ensures { IsFirstPiece is_in_table (E.known entities.now) bytes.now
+        result.length result.dropped (replacement result.text) }
 {
     if is_in_table && starts_pipe(bytes) {
         return FirstPiece {
@@ -178,7 +179,7 @@ fn first_piece<E: Entities>(bytes: &[u8], is_in_table: bool, entities: &E) -> Fi
             text: None,
         };
     }
-    if let Some((length, text)) = reference_in_front(bytes, entities) {
+    if let Some((length, text)) = ampersand_reference(bytes, entities) {
         return FirstPiece {
             length,
             dropped: length,
@@ -200,12 +201,10 @@ fn starts_pipe(bytes: &[u8]) -> bool
 }
 
 // The character reference at the front, from `&` on.
-fn reference_in_front<E: Entities>(bytes: &[u8], entities: &E) -> Option<(usize, CowStr<'static>)>
+fn ampersand_reference<E: Entities>(bytes: &[u8], entities: &E) -> Option<(usize, CowStr<'static>)>
     requires { 0 < length bytes.now }
-    ensures found { IfSome result (λ r. (slice_index bytes.now 0 ≡ 38)
-        × StartsWithReference (E.known entities.now) bytes.now r.0 (cow_text r.1)) }
-    ensures absent { IfNone result (slice_index bytes.now 0 ≡ 38 → (n : ℕ) (meaning : List ℕ)
-        → ¬ StartsWithReference (E.known entities.now) bytes.now n meaning) }
+    ensures { SomeExactly (λ r.
+        StartsWithAmpersandReference (E.known entities.now) bytes.now r.0 (cow_text r.1)) result }
 {
     if bytes[0] != b'&' {
         return None;

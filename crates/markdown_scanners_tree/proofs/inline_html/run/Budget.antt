@@ -56,7 +56,7 @@ pub record IsSum (n s e passed steps : ℕ) : Type 0 where
 
 -- a step that makes no search
 sum-looked : (n s e passed steps count e' : ℕ) → IsSum n s e passed steps → count ≤ 7 → e ≤ e' → IsSum n s e' (passed + count) (steps + 1)
-sum-looked n s e passed steps count e' is few later = record {
+sum-looked n s e passed steps count e' is at_most_seven later = record {
   whole = omega (arith, is.whole);
   while_open = λ open_kind. let before = is.while_open open_kind in omega arith;
 }
@@ -88,11 +88,11 @@ module _ (text : List ℕ) (shut : ShutKinds) (e passed steps p : ℕ) (is : IsS
   open-kind : (kind : Kind) → is_shut shut kind ≡ false → (found : Option ℕ) → IfSome found (λ end. (p ≤ end) × (end ≤ length text)) → (count : ℕ) → count ≤ 2 + span text p found → Stepped (Begins kind) found count
   open-kind kind free None bounds count small =
       let more = count_shut-shutting shut kind free in
-      let few : count_shut shut < 4 = omega (arith, count_shut-le (shutting shut kind)) in
-      rw more (sum-unclosed (length text) (count_shut shut) e passed steps p is few after in_text count small)
+      let some_open : count_shut shut < 4 = omega (arith, count_shut-le (shutting shut kind)) in
+      rw more (sum-unclosed (length text) (count_shut shut) e passed steps p is some_open after in_text count small)
   open-kind kind free (Some end) bounds count small =
-      let few : count_shut shut < 4 = omega (arith, count_shut-le (shutting shut kind), count_shut-shutting shut kind free) in
-      sum-closed (length text) (count_shut shut) e passed steps p end is few after bounds.0 bounds.1 count small
+      let some_open : count_shut shut < 4 = omega (arith, count_shut-le (shutting shut kind), count_shut-shutting shut kind free) in
+      sum-closed (length text) (count_shut shut) e passed steps p end is some_open after bounds.0 bounds.1 count small
 
   begins : (kind : Kind) (shuts : Bool) → is_shut shut kind ≡ shuts → (found : Option ℕ) → closed_at text kind p ≡ found → IfSome found (λ end. (p ≤ end) × (end ≤ length text))
       → Stepped (Begins kind) found (cond shuts (looked_at kind) (searched text kind p))

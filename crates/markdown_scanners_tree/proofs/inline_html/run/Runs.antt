@@ -1,5 +1,7 @@
 -- Runs over a list of places, one place at a time.
-use Rattle.std.proofs.Common.{◌≡◌, ℕ, ◌+◌, ◌<◌, List, [], ◌∷◌, ◌++◌, length, drop, get_or, refl, Option, Some, None, Ok, Err, append-nil, append_assoc, drop-cons, add-one}
+use Rattle.std.proofs.Common.{◌≡◌, ℕ, ◌+◌, ◌≤◌, ◌<◌, arith, inl, inr, List, [], ◌∷◌, ◌++◌, length, drop, get_or, refl, Option, Some, None, Ok, Err, append-nil, append_assoc, drop-cons, add-one}
+use Rattle.std.specs.Option.{is_none}
+use Rattle.std.proofs.lemmas.Bool.{cases_Bool}
 use Rattle.markdown_scanners_tree.specs.declared.inline_html.HtmlStop.{HtmlStop}
 use Rattle.markdown_scanners_tree.specs.inline_html.InlineHtml.{find_at}
 use Rattle.markdown_scanners_tree.specs.inline_html.run.Run.{Run, refusal, answer_of, run_step, run_answers, run_passed, run_stop}
@@ -35,3 +37,11 @@ module _ (run : Run) (places : List ℕ) (i : ℕ) (below : i < length places) w
 
     pub stop-accepted : run_stop (run_step run (get_or places i 0)) (i + 1) (drop (i + 1) places) ≡ run_stop run i (drop i places)
     stop-accepted = rw (next, free)
+
+-- a run answers at most one place each
+pub answers-count : (run : Run) (places : List ℕ) → length (run_answers run places) ≤ length places
+answers-count run [] = omega arith
+answers-count run (p ∷ places) = elim (cases_Bool (is_none (refusal run p))) [
+  | inl accepted ↦ rw accepted (omega (arith, answers-count (run_step run p) places))
+  | inr refused ↦ rw refused (omega arith)
+]

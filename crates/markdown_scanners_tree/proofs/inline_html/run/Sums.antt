@@ -1,11 +1,12 @@
 -- The bytes passed over, summed over the states of a run, are those of the list of accepted places.
-use Rattle.std.proofs.Common.{◌≡◌, ℕ, ◌+◌, Bool, List, [], ◌∷◌, length, take, refl, ap, ◌∙◌, arith, Option, Some, None}
+use Rattle.std.proofs.Common.{◌≡◌, ℕ, ◌+◌, List, [], ◌∷◌, length, take, refl, ap, ◌∙◌, arith, Option, Some, None}
 use Rattle.std.specs.Prelude.{◌&&◌, ◌||◌, is_none}
 use Rattle.std.proofs.Math.Bool.{and-false}
 use Rattle.markdown_scanners_tree.specs.declared.inline_html.HtmlStop.{HtmlStop}
-use Rattle.markdown_scanners_tree.specs.inline_html.InlineHtml.{Kind, Comment, Cdata, Declaration, Processing, Opening, Begins, Hyphen, Bracket, Nothing, opening_at, find_at, cost}
+use Rattle.markdown_scanners_tree.specs.inline_html.InlineHtml.{Kind, Comment, Cdata, Declaration, Processing, Opening, Begins, Hyphen, Bracket, Nothing, opening_at, find_at}
 use Rattle.markdown_scanners_tree.specs.inline_html.run.Run.{ShutKinds, Run, is_shut, shut_by, refusal, run_step, run_answers, run_passed, new_run}
 use Rattle.markdown_scanners_tree.specs.inline_html.run.Passed.{begins_kind, is_shut_after, sum_after, bytes_passed}
+use Rattle.markdown_scanners_tree.proofs.inline_html.Scans.{cost-same}
 
 -- the shut kinds of a run are those of its earlier places
 abbrev Agrees : Run → List ℕ → Type 0
@@ -32,14 +33,6 @@ shut_by-is shut (Begins other) (Some end) kind = let is = and-false (begins_kind
 shut_by-is shut Hyphen found kind = refl
 shut_by-is shut Bracket found kind = refl
 shut_by-is shut Nothing found kind = refl
-
--- what a step costs hangs on each kind's being shut alone
-cost-same : (text : List ℕ) (stopped other : Kind → Bool) (opening : Opening) (p : ℕ) → ((kind : Kind) → stopped kind ≡ other kind) → cost text stopped opening p ≡ cost text other opening p
-unfolding cost
-cost-same text stopped other (Begins kind) p same = rw (same kind)
-cost-same text stopped other Hyphen p same = rw (same Comment)
-cost-same text stopped other Bracket p same = refl
-cost-same text stopped other Nothing p same = refl
 
 -- the sum over states is the sum over the accepted places
 abbrev IsSum : Run → List ℕ → List ℕ → Type 0

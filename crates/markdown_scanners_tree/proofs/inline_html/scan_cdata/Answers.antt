@@ -1,5 +1,5 @@
-use Rattle.std.proofs.Common.{◌≡◌, ◌+◌, ◌-◌, ◌≤◌, arith, length, Some, None, sym, ap, ◌∙◌, refl, []}
-use Rattle.std.specs.Prelude.{◌∷◌}
+use Rattle.std.proofs.Common.{◌≡◌, ◌+◌, ◌-◌, ◌≤◌, arith, length, Some, None, sym, ap, ◌∙◌, refl}
+use Rattle.std.specs.Prelude.{codes}
 use Rattle.std.proofs.lemmas.Bool.{lt-ltb, le-ltb}
 use Rattle.markdown_scanners_tree.specs.inline_html.InlineHtml.{Cdata, closer, first_closer, searched}
 use Rattle.markdown_scanners_tree.specs.inline_html.Guard.{with_number}
@@ -28,7 +28,7 @@ bounds : (c : goal.In-Some) → (c.args.place + 7 ≤ c.in-Some.hit) × (c.in-So
 bounds c = first_place-bounds c.args.text.now.text (closer Cdata) (c.args.place + 7) c.in-Some.hit (found c)
 
 pub overflow_add-result : goal.overflow_add-result
-overflow_add-result c = let within = bounds c in omega (arith, c.requires.sized)
+overflow_add-result c = let within = bounds c in omega (arith, c.requires.fits_usize)
 
 pub returns-in-Some : goal.returns-in-Some
 returns-in-Some c =
@@ -49,7 +49,7 @@ returns-in-None c =
     let counted = counts-after text c.starts-begins.new.self _ c.if-not-begins.ensures.counts (closer Cdata) (c.args.place + 7) c.find.new.self None c.in-None.ensures.counts in
     let scan = scan-miss text.text c.args.guard.now c.args.place Cdata (le-ltb _ _ c.if-place-guard.false) missed in
     let size = c.len-guard.ensures.value ∙ ap (λ t. length t.text) counted in
-    let room : c.args.place + 1 + 6 ≤ length text.text = stands-length text.text (67 ∷ 68 ∷ 65 ∷ 84 ∷ 65 ∷ 91 ∷ []) (c.args.place + 1) (sym c.if-not-begins.ensures.answer) in
+    let room : c.args.place + 1 + 6 ≤ length text.text = stands-length text.text (codes "CDATA[") (c.args.place + 1) (sym c.if-not-begins.ensures.answer) in
     let total : 6 + (length text.text - (c.args.place + 7)) + 1 ≡ searched text.text Cdata c.args.place = omega arith in
     rw (declared_at-cdata text.text c.args.place c.requires.stands (sym c.if-not-begins.ensures.answer))
     (record {

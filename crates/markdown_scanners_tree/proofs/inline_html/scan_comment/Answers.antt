@@ -3,6 +3,7 @@ use Rattle.std.specs.Prelude.{◌==◌, ◌≢◌, not, slice_get}
 use Rattle.std.specs.Option.{option_eq}
 use Rattle.std.proofs.lemmas.Bool.{lt-ltb, le-ltb, eqb-true, eq-eqb, false≢true, cases_Bool}
 use Rattle.std.proofs.lemmas.Option.{same_Some, none-some}
+use Rattle.markdown_scanners_tree.specs.Ascii.{hyphen}
 use Rattle.markdown_scanners_tree.specs.inline_html.InlineHtml.{Comment, closer, first_place, first_closer, searched}
 use Rattle.markdown_scanners_tree.specs.inline_html.Guard.{with_number}
 use Rattle.markdown_scanners_tree.specs.inline_html.CountedText.{CountedBytes, passing}
@@ -32,12 +33,12 @@ returns-then-place-guard c =
     let scan = scan-hyphen-stopped text.text c.args.guard.now c.args.place stopped in
     rw (declared_at-hyphen text.text c.args.place c.requires.stands other)
     (record { answer = scan.answers; guards = scan.guards; counts = scan-counts text text 0 scan (passing-none text) refl }))
-    (some_or_not (slice_get text.text (c.args.place + 1)) 45)
+    (some_or_not (slice_get text.text (c.args.place + 1)) hyphen)
 
 pub returns-then-ne : goal.returns-then-ne
 returns-then-ne c =
     let text = c.args.text.now in
-    let other = subst (λ o. o ≢ Some 45) c.look-second.ensures.answer (no_such_byte c.look-second.result 45 c.if-ne.ensures) in
+    let other = subst (λ o. o ≢ Some hyphen) c.look-second.ensures.answer (no_such_byte c.look-second.result hyphen c.if-ne.ensures) in
     let scan = scan-hyphen text.text c.args.guard.now c.args.place (le-ltb _ _ c.if-place-guard.false) in
     rw (declared_at-hyphen text.text c.args.place c.requires.stands other)
     (record { answer = scan.answers; guards = scan.guards; counts = scan-counts text c.look-second.new.self _ scan c.look-second.ensures.counts refl })
@@ -57,17 +58,17 @@ module _ (t u : CountedBytes) (p : ℕ) (counted : u ≡ passing t 1) where
 pub overflow_add-guard : goal.overflow_add-guard
 overflow_add-guard c =
     let within = bounds c.args.text.now c.look-second.new.self c.args.place c.look-second.ensures.counts c.in-Some.hit c.in-Some.ensures.answer in
-    omega (arith, c.requires.sized)
+    omega (arith, c.requires.fits_usize)
 
 pub overflow_add-result : goal.overflow_add-result
 overflow_add-result c =
     let within = bounds c.args.text.now c.look-second.new.self c.args.place c.look-second.ensures.counts c.in-Some.hit c.in-Some.ensures.answer in
-    omega (arith, c.requires.sized)
+    omega (arith, c.requires.fits_usize)
 
 pub returns-in-Some : goal.returns-in-Some
 returns-in-Some c =
     let text = c.args.text.now in
-    let there = sym c.look-second.ensures.answer ∙ is_some_byte c.look-second.result 45 c.if-ne.ensures in
+    let there = sym c.look-second.ensures.answer ∙ is_some_byte c.look-second.result hyphen c.if-ne.ensures in
     let within = bounds text c.look-second.new.self c.args.place c.look-second.ensures.counts c.in-Some.hit c.in-Some.ensures.answer in
     let found = searched_for text c.look-second.new.self c.args.place c.look-second.ensures.counts (Some c.in-Some.hit) c.in-Some.ensures.answer in
     let reach = span-hit text.text Comment c.args.place c.in-Some.hit found in
@@ -80,7 +81,7 @@ returns-in-Some c =
 pub returns-in-None : goal.returns-in-None
 returns-in-None c =
     let text = c.args.text.now in
-    let there = sym c.look-second.ensures.answer ∙ is_some_byte c.look-second.result 45 c.if-ne.ensures in
+    let there = sym c.look-second.ensures.answer ∙ is_some_byte c.look-second.result hyphen c.if-ne.ensures in
     let missed = searched_for text c.look-second.new.self c.args.place c.look-second.ensures.counts None c.in-None.ensures.answer in
     let reach = span-miss text.text Comment c.args.place missed in
     let counted = counts-after text c.look-second.new.self _ c.look-second.ensures.counts (closer Comment) c.args.place c.find.new.self None c.in-None.ensures.counts in

@@ -1,5 +1,5 @@
-use Rattle.std.proofs.Common.{◌+◌, ◌≤◌, arith, length, sym, ap, ◌∙◌, []}
-use Rattle.std.specs.Prelude.{◌∷◌}
+use Rattle.std.proofs.Common.{◌+◌, ◌≤◌, arith, length, sym, ap, ◌∙◌}
+use Rattle.std.specs.Prelude.{codes}
 use Rattle.std.proofs.lemmas.Bool.{lt-ltb, le-ltb}
 use Rattle.markdown_scanners_tree.specs.inline_html.InlineHtml.{Declaration}
 use Rattle.markdown_scanners_tree.specs.inline_html.Guard.{with_number}
@@ -13,10 +13,10 @@ returns-then-place-guard c =
     rw c.requires.stands (record { answer = scan.answers; guards = scan.guards; counts = scan-counts text text 0 scan (passing-none text) (omega arith) })
 
 bounds : (c : goal.In-Some) → (c.args.place + 1 ≤ c.in-Some.hit) × (c.in-Some.hit + 1 ≤ length c.args.text.now.text)
-bounds c = first_place-bounds c.args.text.now.text (62 ∷ []) (c.args.place + 1) c.in-Some.hit (sym c.in-Some.ensures.answer)
+bounds c = first_place-bounds c.args.text.now.text (codes ">") (c.args.place + 1) c.in-Some.hit (sym c.in-Some.ensures.answer)
 
 pub overflow_add-result : goal.overflow_add-result
-overflow_add-result c = let within = bounds c in omega (arith, c.requires.sized)
+overflow_add-result c = let within = bounds c in omega (arith, c.requires.fits_usize)
 
 pub returns-in-Some : goal.returns-in-Some
 returns-in-Some c =

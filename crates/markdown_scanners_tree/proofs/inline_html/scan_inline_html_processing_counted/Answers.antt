@@ -28,7 +28,7 @@ module _ (c : goal.In-Some) where
   bounds = first_place-bounds c.args.text.now.text (closer Processing) (c.args.place + 0) c.in-Some.hit found
 
 pub overflow_add-result : goal.overflow_add-result
-overflow_add-result c = let within = bounds c in omega (arith, c.in-Some.ensures.sized)
+overflow_add-result c = let within = bounds c in omega (arith, c.in-Some.ensures.fits_usize)
 
 pub returns-in-Some : goal.returns-in-Some
 returns-in-Some c =

@@ -9,8 +9,8 @@ use Rattle.markdown_scanners_tree.proofs.linklabel.measure_label.Given as goal
 abbrev pub invariant-loop-len : goal.invariant-loop-len
 invariant-loop-len g l = record {
   within : l.ix ≤ length l.bytes;
-  few : l.tally.characters ≤ l.ix;
-  short : l.tally.length + space_len l.tally.has_word l.tally.in_run ≤ l.ix;
+  characters_fit : l.tally.characters ≤ l.ix;
+  length_fits : l.tally.length + space_len l.tally.has_word l.tally.in_run ≤ l.ix;
   seen : List KeptByte;
   at : IsAt (Skips g.F.Fn l.handler) l.fn.text l.escaped seen l.ix (drop l.ix l.fn.text);
   told : Seen l.is_in_table l.fn.text seen l.ix (drop l.ix l.fn.text) l.tally;

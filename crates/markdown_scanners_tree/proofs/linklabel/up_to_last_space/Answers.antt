@@ -1,36 +1,31 @@
--- The space at the end, by its place.
-use Rattle.std.proofs.Common.{ℕ, zero, suc, List, [], ◌∷◌, ◌==◌, ◌≡◌, ◌-◌, true, false, refl, sym, ◌∙◌, ap, cond, arith, length, take, get_or}
-use Rattle.std.proofs.lemmas.Bool.Decides.{nat_tests}
-use Rattle.markdown_scanners_tree.specs.linklabel.private.Pass.{without_last_space}
-use Rattle.markdown_scanners_tree.proofs.linklabel.Scan.{same_take}
+-- The space at the end, where one stands there.
+use Rattle.std.proofs.Common.{Bor, ℕ, List, [], ◌∷◌, ◌++◌, ◌==◌, ◌≡◌, ◌≢◌, Option, Some, None, refl, sym, ap, ◌∙◌, arith, inl, inr}
+use Rattle.std.specs.Prelude.{unwrap_or}
+use Rattle.std.specs.Option.{MatchOption}
+use Rattle.std.proofs.lemmas.Bool.{cases_Bool, eqb-true}
+use Rattle.std.proofs.lemmas.Str.Pattern.{strip_suffix_char}
+use Rattle.markdown_scanners_tree.specs.linklabel.Answer.{without_last_space}
 use Rattle.markdown_scanners_tree.proofs.linklabel.up_to_last_space.Goals as goal
-use Rattle.markdown_scanners_tree.proofs.linklabel.up_to_last_space.Goals.{then-is_empty-via-then-is_empty, then-is_empty-via-else-is_empty+then-as_bytes-text-ne32}
 
-last_space : (xs : List ℕ) (n : ℕ) → length xs ≡ suc n → without_last_space xs ≡ cond (get_or xs n 0 == 32) (take n xs) xs
-last_space [] n e = cc
-last_space (b ∷ []) zero e = refl
-last_space (b ∷ []) (suc n) e = cc
-last_space (b ∷ c ∷ bs) zero e = cc
-last_space (b ∷ c ∷ bs) (suc n) e = ap (λ z. b ∷ z) (last_space (c ∷ bs) n (omega (arith, e))) ∙ elim (get_or (c ∷ bs) n 0 == 32) as (λ v. b ∷ cond v (take n (c ∷ bs)) (c ∷ bs) ≡ cond v (b ∷ take n (c ∷ bs)) (b ∷ c ∷ bs)) [ true ↦ refl | false ↦ refl ]
-
-no_bytes : (xs : List ℕ) → length xs ≡ 0 → xs ≡ without_last_space xs
-no_bytes [] e = refl
-no_bytes (b ∷ bs) e = cc
-
-by_last : (xs : List ℕ) → (length xs == 0) ≡ false → without_last_space xs ≡ cond (get_or xs (length xs - 1) 0 == 32) (take (length xs - 1) xs) xs
-by_last xs h = last_space xs (length xs - 1) (grind (arith, nat_tests, h))
-
-pub returns-then-is_empty : goal.returns-then-is_empty
-returns-then-is_empty c = elim c.then-is_empty.branch [
-  | then-is_empty-via-then-is_empty w ↦ no_bytes c.args.text.now (grind (arith, nat_tests, w.if-is_empty.ensures))
-  | then-is_empty-via-else-is_empty+then-as_bytes-text-ne32 w ↦
-      (let last : get_or c.args.text.now (length c.args.text.now - 1) 0 ≡ 32 → ⊥ = λ e. w.if-as_bytes-text-ne32.true (ap (λ l. get_or l (length c.args.text.now - 1) 0) w.as_bytes.ensures.value ∙ e) in
-      let other : (get_or c.args.text.now (length c.args.text.now - 1) 0 == 32) ≡ false = grind (arith, nat_tests, last) in
-      sym (by_last c.args.text.now (sym w.if-is_empty.ensures) ∙ ap (λ v. cond v (take (length c.args.text.now - 1) c.args.text.now) c.args.text.now) other))
+no_last : (text : List ℕ) → ((before : List ℕ) → text ≢ before ++ (32 ∷ [])) → text ≡ without_last_space text
+no_last [] none = refl
+no_last (b ∷ []) none = elim (cases_Bool (b == 32)) [
+  | inl space ↦ absurd (none [] (ap (λ z. z ∷ []) (eqb-true b 32 space)))
+  | inr other ↦ rw other refl
 ]
+no_last (b ∷ c ∷ bs) none = ap (λ z. b ∷ z) (no_last (c ∷ bs) (λ before e. none (b ∷ before) (ap (λ z. b ∷ z) e)))
+
+last_dropped : (before : List ℕ) → before ≡ without_last_space (before ++ (32 ∷ []))
+last_dropped [] = refl
+last_dropped (b ∷ []) = refl
+last_dropped (b ∷ c ∷ bs) = ap (λ z. b ∷ z) (last_dropped (c ∷ bs))
+
+stripped : (text : Bor (List ℕ)) (front : Option (Bor (List ℕ))) → MatchOption front ((before : List ℕ) → text.now ≢ before ++ (32 ∷ [])) (λ x. text.now ≡ x.now ++ (32 ∷ []))
+    → (unwrap_or front text).now ≡ without_last_space text.now
+stripped text None none = no_last text.now none
+stripped text (Some front) space = last_dropped front.now ∙ sym (ap without_last_space space)
 
 pub returns : goal.returns
 returns c =
-    let last : get_or c.args.text.now (length c.args.text.now - 1) 0 ≡ 32 = ap (λ l. get_or l (length c.args.text.now - 1) 0) (sym c.as_bytes.ensures.value) ∙ c.if-as_bytes-text-ne32.false in
-    let space : (get_or c.args.text.now (length c.args.text.now - 1) 0 == 32) ≡ true = grind (arith, nat_tests, last) in
-    c.range.ensures.value ∙ same_take c.args.text.now (length c.args.text.now - 1 - 0) (length c.args.text.now - 1) (omega arith) ∙ sym (by_last c.args.text.now (sym c.if-is_empty.ensures) ∙ ap (λ v. cond v (take (length c.args.text.now - 1) c.args.text.now) c.args.text.now) space)
+    ap (λ t. t.now) c.unwrap_or.ensures
+    ∙ stripped c.args.text c.strip_suffix.result (strip_suffix_char 32 c.args.text.now c.strip_suffix.result c.strip_suffix.ensures.cases (omega arith))

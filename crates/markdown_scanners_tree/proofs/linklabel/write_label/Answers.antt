@@ -6,11 +6,11 @@ use Rattle.std.specs.Str.{IsCharBoundary}
 use Rattle.std.specs.String.{string_bytes, string_len, string_capacity}
 use Rattle.markdown_scanners_tree.specs.Handler.{Skips}
 use Rattle.markdown_scanners_tree.specs.Kept.{in_line, kept_line}
-use Rattle.markdown_scanners_tree.specs.linklabel.private.Front.{IsFront}
-use Rattle.markdown_scanners_tree.specs.linklabel.private.Pass.{IsOnlySkip, space_len, starts_dropped}
-use Rattle.markdown_scanners_tree.specs.declared.linklabel.Front.TheVariants.{End, Open, Close, Ending, Space, Word}
+use Rattle.markdown_scanners_tree.specs.linklabel.private.NextPart.{IsNextPart}
+use Rattle.markdown_scanners_tree.specs.linklabel.private.Pass.{space_len, starts_dropped}
+use Rattle.markdown_scanners_tree.specs.declared.linklabel.NextPart.TheVariants.{End, Open, Close, Ending, Space, Word}
 use Rattle.markdown_scanners_tree.proofs.linklabel.Room.{pushed_fits, no_room, spaced_len, not_spaced_len, counts_word, counts_dropped, counts_kept}
-use Rattle.markdown_scanners_tree.proofs.linklabel.Scan.{IsAt, at_start, none_at_end, none_at_opening, none_at_ending, after_word, after_space, after_ending, front_at, rest_is, byte_fits, byte_rest, cut_after, cut_after_ending, white_small}
+use Rattle.markdown_scanners_tree.proofs.linklabel.Scan.{IsAt, IsOnlySkip, at_start, none_at_end, none_at_opening, none_at_ending, after_word, after_space, after_ending, next_part_at, rest_is, byte_fits, byte_rest, cut_after, cut_after_ending, white_small}
 use Rattle.markdown_scanners_tree.proofs.linklabel.Seen.{Written-none, word_len}
 use Rattle.markdown_scanners_tree.proofs.linklabel.Cells.{space_of}
 use Rattle.markdown_scanners_tree.proofs.linklabel.Writing.{label_written, no_slice, word_written, space_after, appended, ending_written, space_written, word_follows, flushed_out, MarkIs, mark_dropped, mark_kept, spaced_out, not_spaced_out}
@@ -22,16 +22,16 @@ loop-out-init g c = record { within = omega arith; behind = omega arith; cut = I
 
 pub skip_at-requires-clause-cut : goal.skip_at-requires-clause-cut
 skip_at-requires-clause-cut g c =
-    let o : IsFront c.loop-out.escaped (drop c.loop-out.ix c.args.text.now) (Ending c.in-Ending.len) = front_at _ _ _ _ _ _ c.as_bytes-bytes.ensures.value c.front_of.ensures c.in-Ending.is in
+    let o : IsNextPart c.loop-out.escaped (drop c.loop-out.ix c.args.text.now) (Ending c.in-Ending.len) = next_part_at _ _ _ _ _ _ c.as_bytes-bytes.ensures.value c.next_part.ensures c.in-Ending.is in
     cut_after_ending c.args.text.now c.loop-out.ix c.in-Ending.len c.utf8.text o
 
 pub returns-in-End : goal.returns-in-End
 returns-in-End g c = record {
   written = λ label l. (let pushed : label.text ≡ c.loop-out.invariant.pushed = elim c.in-End.is [
-    | inl e ↦ (let f : IsFront c.loop-out.escaped (drop c.loop-out.ix c.args.text.now) End = front_at _ _ _ _ _ _ c.as_bytes-bytes.ensures.value c.front_of.ensures e in absurd (none_at_end _ _ _ _ _ _ c.loop-out.invariant.at f _ label l))
+    | inl e ↦ (let f : IsNextPart c.loop-out.escaped (drop c.loop-out.ix c.args.text.now) End = next_part_at _ _ _ _ _ _ c.as_bytes-bytes.ensures.value c.next_part.ensures e in absurd (none_at_end _ _ _ _ _ _ c.loop-out.invariant.at f _ label l))
     | inr d ↦ elim d [
-      | inl e ↦ (let f : IsFront c.loop-out.escaped (drop c.loop-out.ix c.args.text.now) Open = front_at _ _ _ _ _ _ c.as_bytes-bytes.ensures.value c.front_of.ensures e in absurd (none_at_opening _ _ _ _ _ _ c.loop-out.invariant.at f _ label l))
-      | inr e ↦ (let f : IsFront c.loop-out.escaped (drop c.loop-out.ix c.args.text.now) Close = front_at _ _ _ _ _ _ c.as_bytes-bytes.ensures.value c.front_of.ensures e in label_written _ _ _ _ _ _ _ _ _ _ c.loop-out.invariant.at f c.loop-out.invariant.written label l)
+      | inl e ↦ (let f : IsNextPart c.loop-out.escaped (drop c.loop-out.ix c.args.text.now) Open = next_part_at _ _ _ _ _ _ c.as_bytes-bytes.ensures.value c.next_part.ensures e in absurd (none_at_opening _ _ _ _ _ _ c.loop-out.invariant.at f _ label l))
+      | inr e ↦ (let f : IsNextPart c.loop-out.escaped (drop c.loop-out.ix c.args.text.now) Close = next_part_at _ _ _ _ _ _ c.as_bytes-bytes.ensures.value c.next_part.ensures e in label_written _ _ _ _ _ _ _ _ _ _ c.loop-out.invariant.at f c.loop-out.invariant.written label l)
     ]
   ] in
       appended (string_bytes c.args.out.now) (string_bytes c.loop-out.out) (take (c.loop-out.ix - c.loop-out.mark) (drop c.loop-out.mark c.args.text.now)) (string_bytes c.push_str.new.self) c.loop-out.invariant.pushed label.text c.push_str.result
@@ -41,15 +41,15 @@ returns-in-End g c = record {
 
 pub returns-in_default : goal.returns-in_default
 returns-in_default g c =
-    let o : IsFront c.loop-out.escaped (drop c.loop-out.ix c.args.text.now) (Ending c.in-Ending.len) = front_at _ _ _ _ _ _ c.as_bytes-bytes.ensures.value c.front_of.ensures c.in-Ending.is in
-    let lacks : (m : ℕ) → Skips g.F.Fn c.args.handler.now (drop c.in-Ending.len (drop c.loop-out.ix c.args.text.now)) m → ⊥ = λ m k. c.in_default.ensures.none m (subst (λ r. Skips g.F.Fn c.args.handler.now r m) (drop-drop c.in-Ending.len c.loop-out.ix c.args.text.now) k) in
+    let o : IsNextPart c.loop-out.escaped (drop c.loop-out.ix c.args.text.now) (Ending c.in-Ending.len) = next_part_at _ _ _ _ _ _ c.as_bytes-bytes.ensures.value c.next_part.ensures c.in-Ending.is in
+    let lacks : (m : ℕ) → Skips g.F.Fn c.args.handler.now (drop c.in-Ending.len (drop c.loop-out.ix c.args.text.now)) m → ⊥ = λ m k. c.in_default.ensures.found m (subst (λ r. Skips g.F.Fn c.args.handler.now r m) (drop-drop c.in-Ending.len c.loop-out.ix c.args.text.now) k) in
     record { written = λ label l. absurd (none_at_ending _ _ _ _ _ _ c.loop-out.invariant.at _ o lacks _ label l); fits = λ label l enough. absurd (none_at_ending _ _ _ _ _ _ c.loop-out.invariant.at _ o lacks _ label l) }
 
 pub loop-out-preserved-in-Ending : goal.loop-out-preserved-in-Ending
 loop-out-preserved-in-Ending g c =
-    let o : IsFront c.loop-out.escaped (drop c.loop-out.ix c.args.text.now) (Ending c.in-Ending.len) = front_at _ _ _ _ _ _ c.as_bytes-bytes.ensures.value c.front_of.ensures c.in-Ending.is in
+    let o : IsNextPart c.loop-out.escaped (drop c.loop-out.ix c.args.text.now) (Ending c.in-Ending.len) = next_part_at _ _ _ _ _ _ c.as_bytes-bytes.ensures.value c.next_part.ensures c.in-Ending.is in
     let jx = c.loop-out.ix + (c.in-Ending.len + c.in-Some.skip) in
-    let only : IsOnlySkip (Skips g.F.Fn c.args.handler.now) (drop c.in-Ending.len (drop c.loop-out.ix c.args.text.now)) c.in-Some.skip = subst (λ r. IsOnlySkip (Skips g.F.Fn c.args.handler.now) r c.in-Some.skip) (sym (drop-drop c.in-Ending.len c.loop-out.ix c.args.text.now)) c.in-Some.ensures.found in
+    let only : IsOnlySkip (Skips g.F.Fn c.args.handler.now) (drop c.in-Ending.len (drop c.loop-out.ix c.args.text.now)) c.in-Some.skip = subst (λ r. IsOnlySkip (Skips g.F.Fn c.args.handler.now) r c.in-Some.skip) (sym (drop-drop c.in-Ending.len c.loop-out.ix c.args.text.now)) (record { answer = c.in-Some.ensures.found; only = c.in-Some.ensures.only }) in
     record {
       within = omega (arith, ap length c.as_bytes-bytes.ensures.value, c.in-Some.ensures.cut.0);
       behind = omega arith;
@@ -66,13 +66,13 @@ loop-out-preserved-in-Ending g c =
 
 pub loop-out-preserved-in-Space : goal.loop-out-preserved-in-Space
 loop-out-preserved-in-Space g c =
-    let o : IsFront c.loop-out.escaped (drop c.loop-out.ix c.args.text.now) (Space c.in-Space.field-0) = front_at _ _ _ _ _ _ c.as_bytes-bytes.ensures.value c.front_of.ensures c.in-Space.is in
-    let next = byte_rest c.args.text.now c.loop-out.ix c.in-Space.field-0 o.others o.is in
-    let fits = byte_fits c.args.text.now c.loop-out.ix c.in-Space.field-0 o.others o.is in
+    let o : IsNextPart c.loop-out.escaped (drop c.loop-out.ix c.args.text.now) (Space c.in-Space.field-0) = next_part_at _ _ _ _ _ _ c.as_bytes-bytes.ensures.value c.next_part.ensures c.in-Space.is in
+    let next = byte_rest c.args.text.now c.loop-out.ix c.in-Space.field-0 o.others o.parts in
+    let fits = byte_fits c.args.text.now c.loop-out.ix c.in-Space.field-0 o.others o.parts in
     record {
       within = omega (arith, ap length c.as_bytes-bytes.ensures.value, fits);
       behind = omega arith;
-      cut = cut_after c.args.text.now c.loop-out.ix c.in-Space.field-0 o.others c.utf8.text o.is (white_small c.in-Space.field-0 o.white);
+      cut = cut_after c.args.text.now c.loop-out.ix c.in-Space.field-0 o.others c.utf8.text o.parts (white_small c.in-Space.field-0 o.white);
       flushed = λ h. refl;
       seen = c.loop-out.invariant.seen ++ in_line c.in-Space.field-0 c.loop-out.ix ∷ [];
       at = after_space _ _ _ _ _ _ c.loop-out.invariant.at _ _ o next;
@@ -85,10 +85,10 @@ loop-out-preserved-in-Space g c =
 
 pub loop-out-preserved : goal.loop-out-preserved
 loop-out-preserved g c =
-    let o : IsFront c.loop-out.escaped (drop c.loop-out.ix c.args.text.now) (Word c.in-Word.field-0 c.in-Word.escapes) = front_at _ _ _ _ _ _ c.as_bytes-bytes.ensures.value c.front_of.ensures c.in-Word.is in
+    let o : IsNextPart c.loop-out.escaped (drop c.loop-out.ix c.args.text.now) (Word c.in-Word.field-0 c.in-Word.escapes) = next_part_at _ _ _ _ _ _ c.as_bytes-bytes.ensures.value c.next_part.ensures c.in-Word.is in
     let b = c.in-Word.field-0 in
-    let next = byte_rest c.args.text.now c.loop-out.ix c.in-Word.field-0 o.others o.is in
-    let fits = byte_fits c.args.text.now c.loop-out.ix c.in-Word.field-0 o.others o.is in
+    let next = byte_rest c.args.text.now c.loop-out.ix c.in-Word.field-0 o.others o.parts in
+    let fits = byte_fits c.args.text.now c.loop-out.ix c.in-Word.field-0 o.others o.parts in
     let text = c.args.text.now in
     let mark = c.loop-out.mark in
     let ix = c.loop-out.ix in
@@ -101,9 +101,9 @@ loop-out-preserved g c =
     ] in
     let first = space_after out (string_bytes c.if-has_word.out) slice c.loop-out.has_word c.loop-out.in_run spaced (λ h. no_slice text mark ix (c.loop-out.invariant.flushed h)) in
     let rest : MarkIs text ix b (c.if-is_dropped.mark) (string_bytes c.if-has_word.out ++ slice) (string_bytes c.if-is_dropped.out) (starts_dropped c.args.is_in_table (drop c.loop-out.ix c.args.text.now)) = elim c.if-is_dropped.branch [
-      | then-is_dropped+in_ok-push_str-in-Word-2 w ↦ mark_dropped c.args.is_in_table c.args.text.now c.loop-out.ix c.in-Word.field-0 o.others o.is c.if-is_dropped.mark (string_bytes c.if-is_dropped.out) (string_bytes c.if-has_word.out ++ take (c.loop-out.ix - c.loop-out.mark) (drop c.loop-out.mark c.args.text.now)) c.utf8.text (sym drops ∙ w.if-is_dropped.true) w.mark-is
+      | then-is_dropped+in_ok-push_str-in-Word-2 w ↦ mark_dropped c.args.is_in_table c.args.text.now c.loop-out.ix c.in-Word.field-0 o.others o.parts c.if-is_dropped.mark (string_bytes c.if-is_dropped.out) (string_bytes c.if-has_word.out ++ take (c.loop-out.ix - c.loop-out.mark) (drop c.loop-out.mark c.args.text.now)) c.utf8.text (sym drops ∙ w.if-is_dropped.true) w.mark-is
           (ap string_bytes w.out-is ∙ w.in_ok-push_str-in-Word-2.ensures.bytes ∙ ap (λ z. string_bytes c.if-has_word.out ++ z) w.range-then-is_dropped.ensures.value)
-      | else-is_dropped w ↦ mark_kept c.args.is_in_table c.args.text.now c.loop-out.ix c.in-Word.field-0 o.others o.is c.if-is_dropped.mark (string_bytes c.if-is_dropped.out) c.loop-out.mark (string_bytes c.if-has_word.out) c.loop-out.invariant.behind c.loop-out.invariant.cut (sym drops ∙ w.if-is_dropped.false) w.mark-is (ap string_bytes w.out-is)
+      | else-is_dropped w ↦ mark_kept c.args.is_in_table c.args.text.now c.loop-out.ix c.in-Word.field-0 o.others o.parts c.if-is_dropped.mark (string_bytes c.if-is_dropped.out) c.loop-out.mark (string_bytes c.if-has_word.out) c.loop-out.invariant.behind c.loop-out.invariant.cut (sym drops ∙ w.if-is_dropped.false) w.mark-is (ap string_bytes w.out-is)
     ] in
     let longer : string_len c.if-has_word.out ≡ string_len c.loop-out.out + space_len c.loop-out.has_word c.loop-out.in_run = elim c.if-has_word.branch [
       | then-has_word+then-in_run+in_ok-push_str-in-Word w ↦ spaced_len (string_len c.if-has_word.out) (string_len c.loop-out.out) _ _ w.if-has_word.true w.if-in_run.true (ap string_len w.out-is ∙ w.in_ok-push_str-in-Word.ensures.len)
@@ -146,8 +146,8 @@ returns-in_err-push_str-in-Space-clause-fits g c = λ label l enough. absurd (no
 
 pub returns-in_err-push_str-in-Word-clause-fits : goal.returns-in_err-push_str-in-Word-clause-fits
 returns-in_err-push_str-in-Word-clause-fits g c = λ label l enough.
-    let o : IsFront c.loop-out.escaped (drop c.loop-out.ix c.args.text.now) (Word c.in-Word.field-0 c.in-Word.escapes) = front_at _ _ _ _ _ _ c.as_bytes-bytes.ensures.value c.front_of.ensures c.in-Word.is in
-    let next = byte_rest c.args.text.now c.loop-out.ix c.in-Word.field-0 o.others o.is in
+    let o : IsNextPart c.loop-out.escaped (drop c.loop-out.ix c.args.text.now) (Word c.in-Word.field-0 c.in-Word.escapes) = next_part_at _ _ _ _ _ _ c.as_bytes-bytes.ensures.value c.next_part.ensures c.in-Word.is in
+    let next = byte_rest c.args.text.now c.loop-out.ix c.in-Word.field-0 o.others o.parts in
     let more : length (c.loop-out.invariant.pushed ++ (space_of c.loop-out.has_word c.loop-out.in_run ++ cond (starts_dropped c.args.is_in_table (drop c.loop-out.ix c.args.text.now)) [] (c.in-Word.field-0 ∷ []))) ≤ length label.text = pushed_fits _ _ _ _ _ _ _ _ _ _ (after_word _ _ _ _ _ _ c.loop-out.invariant.at _ _ _ o next) (word_follows _ _ _ _ _ _ _ _ _ _ _ o next c.loop-out.invariant.written) label l in
     let sum = length-append c.loop-out.invariant.pushed (space_of c.loop-out.has_word c.loop-out.in_run ++ cond (starts_dropped c.args.is_in_table (drop c.loop-out.ix c.args.text.now)) [] (c.in-Word.field-0 ∷ [])) ∙ ap (λ n. length c.loop-out.invariant.pushed + n) (word_len c.loop-out.has_word c.loop-out.in_run (starts_dropped c.args.is_in_table (drop c.loop-out.ix c.args.text.now)) c.in-Word.field-0) in
     let bound : length c.loop-out.invariant.pushed + space_len c.loop-out.has_word c.loop-out.in_run ≤ length label.text = omega (arith, more, sum) in
@@ -157,8 +157,8 @@ returns-in_err-push_str-in-Word-clause-fits g c = λ label l enough.
 
 pub returns-in_err-push_str-in-Word-2-clause-fits : goal.returns-in_err-push_str-in-Word-2-clause-fits
 returns-in_err-push_str-in-Word-2-clause-fits g c = λ label l enough.
-    let o : IsFront c.loop-out.escaped (drop c.loop-out.ix c.args.text.now) (Word c.in-Word.field-0 c.in-Word.escapes) = front_at _ _ _ _ _ _ c.as_bytes-bytes.ensures.value c.front_of.ensures c.in-Word.is in
-    let next = byte_rest c.args.text.now c.loop-out.ix c.in-Word.field-0 o.others o.is in
+    let o : IsNextPart c.loop-out.escaped (drop c.loop-out.ix c.args.text.now) (Word c.in-Word.field-0 c.in-Word.escapes) = next_part_at _ _ _ _ _ _ c.as_bytes-bytes.ensures.value c.next_part.ensures c.in-Word.is in
+    let next = byte_rest c.args.text.now c.loop-out.ix c.in-Word.field-0 o.others o.parts in
     let more : length (c.loop-out.invariant.pushed ++ (space_of c.loop-out.has_word c.loop-out.in_run ++ cond (starts_dropped c.args.is_in_table (drop c.loop-out.ix c.args.text.now)) [] (c.in-Word.field-0 ∷ []))) ≤ length label.text = pushed_fits _ _ _ _ _ _ _ _ _ _ (after_word _ _ _ _ _ _ c.loop-out.invariant.at _ _ _ o next) (word_follows _ _ _ _ _ _ _ _ _ _ _ o next c.loop-out.invariant.written) label l in
     let sum = length-append c.loop-out.invariant.pushed (space_of c.loop-out.has_word c.loop-out.in_run ++ cond (starts_dropped c.args.is_in_table (drop c.loop-out.ix c.args.text.now)) [] (c.in-Word.field-0 ∷ [])) ∙ ap (λ n. length c.loop-out.invariant.pushed + n) (word_len c.loop-out.has_word c.loop-out.in_run (starts_dropped c.args.is_in_table (drop c.loop-out.ix c.args.text.now)) c.in-Word.field-0) in
     let bound : length c.loop-out.invariant.pushed + space_len c.loop-out.has_word c.loop-out.in_run ≤ length label.text = omega (arith, more, sum) in

@@ -22,7 +22,7 @@ head_test marker (b ∷ head) marked begins made three =
     subst (λ m. (is_break_marker m && list_all (is_break_byte m) (b ∷ head) && nat_le 3 (count_by (λ c. c == m) (b ∷ head))) ≡ true) same whole
 
 pub is_thematic_break-found : (bytes : List ℕ) → IsThematicBreak bytes → is_thematic_break bytes ≡ true
-is_thematic_break-found bytes (marker, break) = head_test marker (line_head bytes) break.marked break.begins break.made break.three
+is_thematic_break-found bytes (marker, break) = head_test marker (line_head bytes) break.is_marker break.begins_with_marker break.break_bytes_only break.at_least_three
 
 head_break : (head : List ℕ) → is_break_head head ≡ true → (marker : ℕ) × (is_break_marker marker ≡ true) × (begins_with (λ b. b == marker) head ≡ true) × (list_all (is_break_byte marker) head ≡ true) × (3 ≤ count_by (λ b. b == marker) head)
 head_break [] test = absurd (let none : false ≡ true = test in cc)
@@ -33,7 +33,7 @@ head_break (marker ∷ head) test =
 pub is_thematic_break-only : (bytes : List ℕ) → is_thematic_break bytes ≡ true → IsThematicBreak bytes
 is_thematic_break-only bytes test =
     let (marker, marked, begins, made, three) = head_break (line_head bytes) test in
-    (marker, record { marked = marked; begins = begins; made = made; three = three })
+    (marker, record { is_marker = marked; begins_with_marker = begins; break_bytes_only = made; at_least_three = three })
 
 pub is_thematic_break-none : (bytes : List ℕ) → ¬ IsThematicBreak bytes → is_thematic_break bytes ≡ false
 is_thematic_break-none bytes none = elim (cases_Bool (is_thematic_break bytes)) [ inl test ↦ absurd (none (is_thematic_break-only bytes test)) | inr fails ↦ fails ]

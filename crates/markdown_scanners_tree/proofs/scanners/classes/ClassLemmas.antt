@@ -2,7 +2,7 @@
 use Rattle.std.proofs.Common.{◌≡◌, ℕ, zero, suc, ◌<◌, Bool, true, false, ◌&&◌, nat_eq, refl, arith, inl, inr}
 use Rattle.std.proofs.lemmas.Bool.{cases_eq, eqb-true}
 use Rattle.std.specs.Bool.{beq}
-use Rattle.markdown_scanners_tree.proofs.FrontLemmas.{both_true}
+use Rattle.markdown_scanners_tree.proofs.PrefixLemmas.{both_true}
 
 -- the two rules agree below n
 unfoldable pub agree_below : (ℕ → ℕ) → (ℕ → ℕ) → ℕ → Bool

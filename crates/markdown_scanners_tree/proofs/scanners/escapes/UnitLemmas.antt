@@ -3,6 +3,7 @@ use Rattle.std.proofs.Common.{◌≡◌, ℕ, true, false, List, [], ◌∷◌, 
 use Rattle.std.proofs.Math.Seq.{drop-cons}
 use Rattle.std.proofs.lemmas.List.{drop_all}
 use Rattle.std.proofs.lemmas.Bool.{ne_eqb}
+use Rattle.markdown_scanners_tree.specs.Ascii.{backslash}
 use Rattle.markdown_scanners_tree.specs.scanners.Escapes.{units, starts_escape}
 
 pub units_single : (b : ℕ) (bs : List ℕ) → starts_escape (b ∷ bs) ≡ false → units (b ∷ bs) ≡ (b ∷ []) ∷ units bs
@@ -29,11 +30,11 @@ units_escape_at bs i l escape =
     drop_at_place bs i (omega (arith, l)) ∙ (ap (λ r. get_or bs i 0 ∷ r) (drop_at_place bs (i + 1) (omega (arith, l))) ∙ ap (λ k. get_or bs i 0 ∷ get_or bs (i + 1) 0 ∷ drop k bs) two) in
     ap units e ∙ units_escape (get_or bs i 0) (get_or bs (i + 1) 0) (drop (i + 2) bs) (ap starts_escape (sym e) ∙ escape)
 
-pub plain_byte : (bs : List ℕ) (i : ℕ) → i < length bs → get_or bs i 0 ≢ 92 → starts_escape (drop i bs) ≡ false
+pub plain_byte : (bs : List ℕ) (i : ℕ) → i < length bs → get_or bs i 0 ≢ backslash → starts_escape (drop i bs) ≡ false
 plain_byte bs i l other = ap starts_escape (drop_at_place bs i l) ∙ go (get_or bs i 0) (drop (i + 1) bs) other where
-  go : (b : ℕ) (rest : List ℕ) → b ≢ 92 → starts_escape (b ∷ rest) ≡ false
+  go : (b : ℕ) (rest : List ℕ) → b ≢ backslash → starts_escape (b ∷ rest) ≡ false
   go b [] other = refl
-  go b (c ∷ rest) other = rw (ne_eqb b 92 other) refl
+  go b (c ∷ rest) other = rw (ne_eqb b backslash other) refl
 
 pub escape_at_end : (bs : List ℕ) (i : ℕ) → i + 1 ≡ length bs → starts_escape (drop i bs) ≡ false
 escape_at_end bs i l = ap starts_escape (drop_at_place bs i (omega (arith, l)) ∙ ap (λ r. get_or bs i 0 ∷ r) (drop_all (i + 1) bs (omega (arith, l))))

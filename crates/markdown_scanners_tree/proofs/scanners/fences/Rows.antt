@@ -7,10 +7,10 @@ fence-row : IsCodeFence (126 ∷ 126 ∷ 126 ∷ 97 ∷ 96 ∷ []) 3 126
 fence-row = record {
   run = 126 ∷ 126 ∷ 126 ∷ [];
   rest = 97 ∷ 96 ∷ [];
-  fence = refl;
+  of_fence_byte = refl;
   is_run = record { parts = refl; all = refl; longest = refl };
-  three = omega arith;
-  info = λ is. absurd (omega (arith, is));
+  at_least_three = omega arith;
+  no_further_backtick = λ is. absurd (omega (arith, is));
   counted = refl;
 }
 
@@ -18,10 +18,10 @@ fence_info-row : IsCodeFence (96 ∷ 96 ∷ 96 ∷ 114 ∷ 115 ∷ 10 ∷ 96 ∷
 fence_info-row = record {
   run = 96 ∷ 96 ∷ 96 ∷ [];
   rest = 114 ∷ 115 ∷ 10 ∷ 96 ∷ [];
-  fence = refl;
+  of_fence_byte = refl;
   is_run = record { parts = refl; all = refl; longest = refl };
-  three = omega arith;
-  info = λ is. refl;
+  at_least_three = omega arith;
+  no_further_backtick = λ is. refl;
   counted = refl;
 }
 
@@ -33,7 +33,7 @@ close-row = record {
   space = 32 ∷ 9 ∷ [];
   after = 13 ∷ 10 ∷ [];
   is_run = record { parts = refl; all = refl; longest = refl };
-  enough = omega arith;
+  long_enough = omega arith;
   parts = refl;
   spaces = refl;
   ending = 2;

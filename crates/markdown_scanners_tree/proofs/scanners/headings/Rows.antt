@@ -30,7 +30,7 @@ setext-row = record {
   blank = 3;
   of_level = refl;
   is_run = record { parts = refl; all = refl; longest = refl };
-  some = omega arith;
+  at_least_one = omega arith;
   blank_rest = record { space = 32 ∷ 32 ∷ []; rest = 10 ∷ 120 ∷ []; ending = 1; parts = refl; spaces = refl; ends = refl; counted = refl };
   counted = refl;
 }

@@ -12,7 +12,7 @@ use Rattle.std.specs.Cmp.{tied_itself}
 use native.Mathlib.Numerals.{unary_clauses}
 use Rattle.markdown_scanners_tree.specs.scanners.HtmlBlock.{text, texts, rises}
 use Rattle.std.proofs.lemmas.Bool.{cases_lt}
-use Rattle.markdown_scanners_tree.proofs.FrontLemmas.{both_true}
+use Rattle.markdown_scanners_tree.proofs.PrefixLemmas.{both_true}
 use Rattle.markdown_scanners_tree.proofs.RunLemmas.{not_true}
 
 pub sorted_from_rises : (rows : List (Bor (List ℕ))) → rises rows ≡ true → IsSortedBy (λ a b. is_lt (slice_cmp nat_cmp (text a) (text b))) rows

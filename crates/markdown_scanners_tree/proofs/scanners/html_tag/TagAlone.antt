@@ -1,6 +1,6 @@
 -- Without a handler a kept text is the head of the first line, so a tag is one in its line.
 use Rattle.std.proofs.Common.{ℕ, suc, List, [], ◌∷◌, ◌++◌, ◌+◌, ◌-◌, ◌≤◌, ◌≡◌, true, false, cond, length, take, drop, refl, sym, ap, ◌∙◌, subst, ◌⊎◌, inl, inr, arith}
-use Rattle.std.specs.List.{list_all}
+use Rattle.std.specs.List.{AllPass}
 use Rattle.std.proofs.lemmas.Bool.{cases_Bool}
 use Rattle.std.proofs.lemmas.List.{length-map}
 use Rattle.std.proofs.Math.Seq.{drop-append_seam}
@@ -8,17 +8,18 @@ use Rattle.std.proofs.lemmas.List.Sums.{sum_by-append}
 use Rattle.markdown_scanners_tree.specs.Bytes.{is_line_ending, IsBlankLine}
 use Rattle.markdown_scanners_tree.specs.Kept.{KeptByte, in_line, bytes_of, kept_head, kept_text, AreSkips, line_endings}
 use Rattle.markdown_scanners_tree.specs.scanners.html_tag.KeptTag.{IsKeptTag, place_after}
-use Rattle.markdown_scanners_tree.specs.scanners.html_tag.HtmlTag.{AllPassing, IsTag, IsTagAloneInLine, IsOpenTag, IsClosingTag}
+use Rattle.markdown_scanners_tree.specs.scanners.html_tag.HtmlTag.{IsTag, IsTagAloneInLine, IsOpenTag, IsClosingTag}
 use Rattle.markdown_scanners_tree.proofs.scanners.lines.BlankLemmas.{ends_no_line}
-use Rattle.markdown_scanners_tree.proofs.FrontLemmas.{both_true, from_place}
+use Rattle.markdown_scanners_tree.proofs.PrefixLemmas.{from_place}
+use Rattle.markdown_scanners_tree.proofs.PassLemmas.{AllPass-nil, AllPass-cons, AllPass-head, AllPass-tail}
 use Rattle.markdown_scanners_tree.proofs.RunLemmas.{not_true}
 
--- a front of a head: bytes that end no line, one after the other
-pub record Plain (place : ℕ) (source : List ℕ) (front : List KeptByte) : Type 0 where
+-- a prefix of a head: bytes that end no line, one after the other
+pub record Plain (place : ℕ) (source : List ℕ) (prefix : List KeptByte) : Type 0 where
   pub after : List ℕ
-  pub parts : source ≡ bytes_of front ++ after
-  pub plain : AllPassing ends_no_line (bytes_of front)
-  pub end : place_after place front ≡ place + length front
+  pub parts : source ≡ bytes_of prefix ++ after
+  pub plain : AllPass ends_no_line (bytes_of prefix)
+  pub end : place_after place prefix ≡ place + length prefix
 
 plain_head : (place b : ℕ) (bs : List ℕ) → is_line_ending b ≡ false → kept_head place (b ∷ bs) ≡ in_line b place ∷ kept_head (place + 1) bs
 plain_head place b bs plain = rw plain refl
@@ -30,47 +31,46 @@ plain_more : (place b : ℕ) (bs : List ℕ) (ks : List KeptByte) → is_line_en
 plain_more place b bs ks plain more = record {
   after = more.after;
   parts = ap (λ z. b ∷ z) more.parts;
-  plain = rw plain more.plain;
+  plain = AllPass-cons ends_no_line b (bytes_of ks) (rw plain refl) more.plain;
   end = more.end ∙ by (length ks);
 }
   where
     by : (n : ℕ) → place + 1 + n ≡ place + suc n
     by n = omega arith
 
-head_front : (place : ℕ) (source : List ℕ) (front rest : List KeptByte) → kept_head place source ≡ front ++ rest → Plain place source front
-head_front place source [] rest e = record { after = source; parts = refl; plain = refl; end = omega arith }
-head_front place [] (k ∷ ks) rest e = cc
-head_front place (b ∷ bs) (k ∷ ks) rest e =
+head_prefix : (place : ℕ) (source : List ℕ) (prefix rest : List KeptByte) → kept_head place source ≡ prefix ++ rest → Plain place source prefix
+head_prefix place source [] rest e = record { after = source; parts = refl; plain = AllPass-nil ends_no_line; end = omega arith }
+head_prefix place [] (k ∷ ks) rest e = cc
+head_prefix place (b ∷ bs) (k ∷ ks) rest e =
     elim (cases_Bool (is_line_ending b)) [
       | inl ends ↦ absurd (let none : [] ≡ k ∷ (ks ++ rest) = sym (no_head place b bs ends) ∙ e in cc)
       | inr plain ↦ (
           let some : in_line b place ∷ kept_head (place + 1) bs ≡ k ∷ (ks ++ rest) = sym (plain_head place b bs plain) ∙ e in
           let head : in_line b place ≡ k = cc in
           let tail : kept_head (place + 1) bs ≡ ks ++ rest = cc in
-          subst (λ z. Plain place (b ∷ bs) (z ∷ ks)) head (plain_more place b bs ks plain (head_front (place + 1) bs ks rest tail))
+          subst (λ z. Plain place (b ∷ bs) (z ∷ ks)) head (plain_more place b bs ks plain (head_prefix (place + 1) bs ks rest tail))
           )
     ]
 
 -- such bytes at the front of a text are kept
 pub record Kept (place : ℕ) (bytes after : List ℕ) : Type 0 where
-  pub front : List KeptByte
+  pub prefix : List KeptByte
   pub rest : List KeptByte
-  pub begins : kept_head place (bytes ++ after) ≡ front ++ rest
-  pub same : bytes_of front ≡ bytes
-  pub none : line_endings front ≡ 0
+  pub begins : kept_head place (bytes ++ after) ≡ prefix ++ rest
+  pub same : bytes_of prefix ≡ bytes
+  pub none : line_endings prefix ≡ 0
 
-front_kept : (place : ℕ) (bytes after : List ℕ) → AllPassing ends_no_line bytes → Kept place bytes after
-front_kept place [] after all = record { front = []; rest = kept_head place after; begins = refl; same = refl; none = refl }
-front_kept place (b ∷ bs) after all =
-    let both = both_true (ends_no_line b) (list_all ends_no_line bs) all in
-    let plain : is_line_ending b ≡ false = not_true (is_line_ending b) both.0 in
-    let more = front_kept (place + 1) bs after both.1 in
+prefix_kept : (place : ℕ) (bytes after : List ℕ) → AllPass ends_no_line bytes → Kept place bytes after
+prefix_kept place [] after all = record { prefix = []; rest = kept_head place after; begins = refl; same = refl; none = refl }
+prefix_kept place (b ∷ bs) after all =
+    let plain : is_line_ending b ≡ false = not_true (is_line_ending b) (AllPass-head ends_no_line b bs all) in
+    let more = prefix_kept (place + 1) bs after (AllPass-tail ends_no_line b bs all) in
     record {
-      front = in_line b place ∷ more.front;
+      prefix = in_line b place ∷ more.prefix;
       rest = more.rest;
       begins = plain_head place b (bs ++ after) plain ∙ ap (λ z. in_line b place ∷ z) more.begins;
       same = ap (λ z. b ∷ z) more.same;
-      none = sum_by-append (λ (k : KeptByte). cond k.ends_line 1 0) (in_line b place ∷ []) more.front ∙ (let rest : line_endings more.front ≡ 0 = more.none in omega arith);
+      none = sum_by-append (λ (k : KeptByte). cond k.ends_line 1 0) (in_line b place ∷ []) more.prefix ∙ (let rest : line_endings more.prefix ≡ 0 = more.none in omega arith);
     }
 
 either_tag : (bytes : List ℕ) (endings : ℕ) → IsOpenTag bytes ⊎ (IsClosingTag bytes × (endings ≤ 1)) → IsTag bytes
@@ -86,37 +86,45 @@ module _ (answers : List ℕ → ℕ → Type 0) (none : (rest : List ℕ) (n : 
   no_skips [] kept s e = e
   no_skips (skip ∷ skips) kept s e = absurd (none _ _ s.1)
 
-  pub tag_alone : (end blank : ℕ) (front : List KeptByte) → IsKeptTag answers bytes front → end ≡ place_after 0 front → IsBlankLine (take (length bytes - end) (drop end bytes)) blank → IsTagAloneInLine bytes end
-  tag_alone end blank front k e b =
-      let p = head_front 0 bytes front k.kept.rest (no_skips k.kept.skips _ k.kept.answered k.kept.begins) in
-      let sized : length (bytes_of front) ≡ length front = length-map front (λ x. x.byte) in
-      let place : place_after 0 front ≡ 0 + length front = p.end in
-      let long : end ≡ length (bytes_of front) = omega arith in
-      let rest : take (length bytes - end) (drop end bytes) ≡ p.after = from_place bytes end ∙ ap (λ z. drop z bytes) long ∙ ap (drop (length (bytes_of front))) p.parts ∙ drop-append_seam (bytes_of front) p.after in
-      (bytes_of front, p.after, blank, p.parts, (either_tag (bytes_of front) (line_endings front) k.tag, p.plain), subst (λ z. IsBlankLine z blank) rest b, long)
+  pub tag_alone : (end blank : ℕ) (prefix : List KeptByte) → IsKeptTag answers bytes prefix → end ≡ place_after 0 prefix → IsBlankLine (take (length bytes - end) (drop end bytes)) blank → IsTagAloneInLine bytes end
+  tag_alone end blank prefix k e b =
+      let p = head_prefix 0 bytes prefix k.kept.rest (no_skips k.kept.skips _ k.kept.answered k.kept.begins) in
+      let sized : length (bytes_of prefix) ≡ length prefix = length-map prefix (λ x. x.byte) in
+      let place : place_after 0 prefix ≡ 0 + length prefix = p.end in
+      let n_is_length : end ≡ length (bytes_of prefix) = omega arith in
+      let rest : take (length bytes - end) (drop end bytes) ≡ p.after = from_place bytes end ∙ ap (λ z. drop z bytes) n_is_length ∙ ap (drop (length (bytes_of prefix))) p.parts ∙ drop-append_seam (bytes_of prefix) p.after in
+      record {
+        tag = bytes_of prefix;
+        rest = p.after;
+        blank = blank;
+        parts = p.parts;
+        tag_in_line = (either_tag (bytes_of prefix) (line_endings prefix) k.tag, p.plain);
+        blank_rest = subst (λ z. IsBlankLine z blank) rest b;
+        n_is_length = n_is_length;
+      }
 
-  kept_from_alone : (n : ℕ) → IsTagAloneInLine bytes n → (front : List KeptByte) × IsKeptTag answers bytes front × (place_after 0 front ≡ n)
-  kept_from_alone n (tag, rest, blank, e, (t, plain), b, long) =
-      let k = front_kept 0 tag rest plain in
-      let begins : kept_head 0 bytes ≡ k.front ++ k.rest = ap (kept_head 0) e ∙ k.begins in
-      let p = head_front 0 bytes k.front k.rest begins in
-      let place : place_after 0 k.front ≡ 0 + length k.front = p.end in
-      let sized : length (bytes_of k.front) ≡ length k.front = length-map k.front (λ x. x.byte) in
-      let same : length (bytes_of k.front) ≡ length tag = ap length k.same in (
-        k.front,
+  kept_from_alone : (n : ℕ) → IsTagAloneInLine bytes n → (prefix : List KeptByte) × IsKeptTag answers bytes prefix × (place_after 0 prefix ≡ n)
+  kept_from_alone n a =
+      let k = prefix_kept 0 a.tag a.rest a.tag_in_line.1 in
+      let begins : kept_head 0 bytes ≡ k.prefix ++ k.rest = ap (kept_head 0) a.parts ∙ k.begins in
+      let p = head_prefix 0 bytes k.prefix k.rest begins in
+      let place : place_after 0 k.prefix ≡ 0 + length k.prefix = p.end in
+      let sized : length (bytes_of k.prefix) ≡ length k.prefix = length-map k.prefix (λ x. x.byte) in
+      let same : length (bytes_of k.prefix) ≡ length a.tag = ap length k.same in (
+        k.prefix,
         record {
           kept = record { skips = []; rest = k.rest; answered = tt; begins = begins };
-          tag = tag_either (bytes_of k.front) (line_endings k.front) k.none (subst IsTag (sym k.same) t);
+          tag = tag_either (bytes_of k.prefix) (line_endings k.prefix) k.none (subst IsTag (sym k.same) a.tag_in_line.0);
         },
-        omega arith,
+        omega (arith, a.n_is_length),
       )
 
-  pub no_tag_alone : ((front : List KeptByte) → IsKeptTag answers bytes front → ⊥) → (n : ℕ) → ¬ IsTagAloneInLine bytes n
-  no_tag_alone dark n a = let k = kept_from_alone n a in dark k.0 k.1
+  pub no_tag_alone : ((prefix : List KeptByte) → IsKeptTag answers bytes prefix → ⊥) → (n : ℕ) → ¬ IsTagAloneInLine bytes n
+  no_tag_alone no_tag n a = let k = kept_from_alone n a in no_tag k.0 k.1
 
-  pub not_alone : (end : ℕ) → ((front : List KeptByte) → IsKeptTag answers bytes front → end ≡ place_after 0 front) → ((blank : ℕ) → ¬ IsBlankLine (take (length bytes - end) (drop end bytes)) blank) → (n : ℕ) → ¬ IsTagAloneInLine bytes n
-  not_alone end only dark n a =
+  pub not_alone : (end : ℕ) → ((prefix : List KeptByte) → IsKeptTag answers bytes prefix → end ≡ place_after 0 prefix) → ((blank : ℕ) → ¬ IsBlankLine (take (length bytes - end) (drop end bytes)) blank) → (n : ℕ) → ¬ IsTagAloneInLine bytes n
+  not_alone end only not_blank n a =
       let k = kept_from_alone n a in
-      let long : end ≡ length a.0 = only k.0 k.1 ∙ k.2 ∙ a.6 in
-      let rest : take (length bytes - end) (drop end bytes) ≡ a.1 = from_place bytes end ∙ ap (λ z. drop z bytes) long ∙ ap (drop (length a.0)) a.3 ∙ drop-append_seam a.0 a.1 in
-      dark a.2 (subst (λ z. IsBlankLine z a.2) (sym rest) a.5)
+      let ends : end ≡ length a.tag = only k.0 k.1 ∙ k.2 ∙ a.n_is_length in
+      let rest : take (length bytes - end) (drop end bytes) ≡ a.rest = from_place bytes end ∙ ap (λ z. drop z bytes) ends ∙ ap (drop (length a.tag)) a.parts ∙ drop-append_seam a.tag a.rest in
+      not_blank a.blank (subst (λ z. IsBlankLine z a.blank) (sym rest) a.blank_rest)

@@ -5,27 +5,27 @@ use denote.Ref.{Bor}
 use Rattle.std.proofs.lemmas.Bool.Decides.{nat_tests}
 use Rattle.markdown_scanners_tree.specs.Kept.{KeptByte, bytes_of}
 use Rattle.markdown_scanners_tree.specs.Handler.{Answers}
-use Rattle.markdown_scanners_tree.specs.scanners.html_tag.KeptTag.{AnswersIfAny, IsKeptFront, place_after, tag_buffer}
+use Rattle.markdown_scanners_tree.specs.scanners.html_tag.KeptTag.{AnswersIfAny, IsKeptPrefix, place_after, tag_buffer}
 
-pub buffer_built : (front : List KeptByte) (kept end : ℕ) → kept ≡ length front → end ≡ place_after 0 front → (kept ≡ end → ⊥) → bytes_of front ≡ tag_buffer front
-buffer_built front kept end e f other =
-    let differ : (place_after 0 front == length front) ≡ false = rw (sym e, sym f) (by) in
-    sym (ap (λ t. cond t [] (bytes_of front)) differ)
+pub buffer_built : (prefix : List KeptByte) (kept end : ℕ) → kept ≡ length prefix → end ≡ place_after 0 prefix → (kept ≡ end → ⊥) → bytes_of prefix ≡ tag_buffer prefix
+buffer_built prefix kept end e f other =
+    let differ : (place_after 0 prefix == length prefix) ≡ false = rw (sym e, sym f) (by) in
+    sym (ap (λ t. cond t [] (bytes_of prefix)) differ)
   where
     by : (end == kept) ≡ false
     by = grind (arith, nat_tests)
 
-pub buffer_empty : (front : List KeptByte) (kept end : ℕ) → kept ≡ length front → end ≡ place_after 0 front → kept ≡ end → [] ≡ tag_buffer front
-buffer_empty front kept end e f same =
-    let equal : (place_after 0 front == length front) ≡ true = rw (sym e, sym f, same) (by) in
-    sym (ap (λ t. cond t [] (bytes_of front)) equal)
+pub buffer_empty : (prefix : List KeptByte) (kept end : ℕ) → kept ≡ length prefix → end ≡ place_after 0 prefix → kept ≡ end → [] ≡ tag_buffer prefix
+buffer_empty prefix kept end e f same =
+    let equal : (place_after 0 prefix == length prefix) ≡ true = rw (sym e, sym f, same) (by) in
+    sym (ap (λ t. cond t [] (bytes_of prefix)) equal)
   where
     by : (end == end) ≡ true
     by = grind (arith, nat_tests)
 
--- a front of the text that is kept under the handler that is there
-pub front_under : {F : Type 0} (g : Shared F (Bor (List ℕ) × Unit {0}) ℕ) (handler : Option (Bor F)) (f : Bor F) (source : List ℕ) (front : List KeptByte) → handler ≡ Some f → IsKeptFront (AnswersIfAny g handler) source front → IsKeptFront (Answers g f.now) source front
-front_under g handler f source front is k = subst (λ h. IsKeptFront (AnswersIfAny g h) source front) is k
+-- a prefix of the text that is kept under the handler that is there
+pub prefix_under : {F : Type 0} (g : Shared F (Bor (List ℕ) × Unit {0}) ℕ) (handler : Option (Bor F)) (f : Bor F) (source : List ℕ) (prefix : List KeptByte) → handler ≡ Some f → IsKeptPrefix (AnswersIfAny g handler) source prefix → IsKeptPrefix (Answers g f.now) source prefix
+prefix_under g handler f source prefix is k = subst (λ h. IsKeptPrefix (AnswersIfAny g h) source prefix) is k
 
 -- one number for another, where there is no handler
 pub if_none : {A : Type 0} (handler : Option A) (m n : ℕ) → (handler ≡ None → m ≡ n) → IfNone handler (m ≡ n)

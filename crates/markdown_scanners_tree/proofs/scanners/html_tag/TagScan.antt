@@ -12,7 +12,7 @@ use Rattle.markdown_scanners_tree.specs.scanners.html_tag.KeptTag.{AnswersIfAny,
 use Rattle.markdown_scanners_tree.specs.scanners.tag_state.private.TagMachine.{next_state, state_after, is_tag_end, is_final, ends_source_line}
 use Rattle.markdown_scanners_tree.specs.declared.scanners.tag_state.TagState.{TagState}
 use Rattle.markdown_scanners_tree.specs.declared.scanners.tag_state.TagState.TheVariants.{Start}
-use Rattle.markdown_scanners_tree.proofs.FrontLemmas.{from_place}
+use Rattle.markdown_scanners_tree.proofs.PrefixLemmas.{from_place}
 use Rattle.markdown_scanners_tree.proofs.KeptStep.{Reads}
 use Rattle.markdown_scanners_tree.proofs.KeptReading.{Step, ends_alone, step_in_line, step_at_end, no_step, nothing_read, last_read}
 use Rattle.markdown_scanners_tree.proofs.scanners.tag_state.TagWhole.{state_after_append}
@@ -20,17 +20,17 @@ use Rattle.markdown_scanners_tree.proofs.scanners.tag_state.TagEnds.{tag_exactly
 
 -- the scanner's words for a tag
 abbrev pub EndsTag : List KeptByte → Type 0
-EndsTag front = is_tag_end (state_after Start (bytes_of front)) (line_endings front) ≡ true
+EndsTag prefix = is_tag_end (state_after Start (bytes_of prefix)) (line_endings prefix) ≡ true
 
--- A front of a kept text is a tag exactly where it is read and the scanner comes to its end with it.
-tag_read : (answers : List ℕ → ℕ → Type 0) (source : List ℕ) (front : List KeptByte) → IsKeptTag answers source front → Reads answers 0 source front
-tag_read answers source front k = record { skips = k.kept.skips; rest = k.kept.rest; answered = k.kept.answered; begins = k.kept.begins }
+-- A prefix of a kept text is a tag exactly where it is read and the scanner comes to its end with it.
+tag_read : (answers : List ℕ → ℕ → Type 0) (source : List ℕ) (prefix : List KeptByte) → IsKeptTag answers source prefix → Reads answers 0 source prefix
+tag_read answers source prefix k = record { skips = k.kept.skips; rest = k.kept.rest; answered = k.kept.answered; begins = k.kept.begins }
 
-tag_ends : (answers : List ℕ → ℕ → Type 0) (source : List ℕ) (front : List KeptByte) → IsKeptTag answers source front → EndsTag front
-tag_ends answers source front k = (tag_exactly (bytes_of front) (line_endings front)).0 k.tag
+tag_ends : (answers : List ℕ → ℕ → Type 0) (source : List ℕ) (prefix : List KeptByte) → IsKeptTag answers source prefix → EndsTag prefix
+tag_ends answers source prefix k = (tag_exactly (bytes_of prefix) (line_endings prefix)).0 k.tag
 
-tag_from : (answers : List ℕ → ℕ → Type 0) (source : List ℕ) (front : List KeptByte) → Reads answers 0 source front → EndsTag front → IsKeptTag answers source front
-tag_from answers source front r e = record { kept = record { skips = r.skips; rest = r.rest; answered = r.answered; begins = r.begins }; tag = (tag_exactly (bytes_of front) (line_endings front)).1 e }
+tag_from : (answers : List ℕ → ℕ → Type 0) (source : List ℕ) (prefix : List KeptByte) → Reads answers 0 source prefix → EndsTag prefix → IsKeptTag answers source prefix
+tag_from answers source prefix r e = record { kept = record { skips = r.skips; rest = r.rest; answered = r.answered; begins = r.begins }; tag = (tag_exactly (bytes_of prefix) (line_endings prefix)).1 e }
 
 -- one more byte at the end
 marks_more : (passed : List KeptByte) (k : KeptByte) → line_endings (passed ++ k ∷ []) ≡ line_endings passed + cond k.ends_line 1 0
@@ -100,7 +100,7 @@ module _ {F : Type 0} (g : Shared F (Bor (List ℕ) × Unit {0}) ℕ) (handler :
   turn_with_skip endings f skip is steady h a =
       let sure : IsSteady g f.now = subst (λ z. IfSome z (λ h. IsSteady g h.now)) is steady in
       let answer : Answers g f.now (drop (place + 1) source) skip = subst (λ z. Answers g f.now z skip) (from_place source (place + 1)) a in
-      rw is (turn_at_end (Answers g f.now) source place endings low skip (ap ends_source_line (sym (from_place source place)) ∙ h) answer (λ n b. sure.one (drop (place + 1) source) n skip b answer) (sure.inside (drop (place + 1) source) skip answer))
+      rw is (turn_at_end (Answers g f.now) source place endings low skip (ap ends_source_line (sym (from_place source place)) ∙ h) answer (λ n b. sure.one_answer (drop (place + 1) source) n skip b answer) (sure.inside (drop (place + 1) source) skip answer))
 
   pub skip_inside : (f : Bor F) (skip : ℕ) → handler ≡ Some f → IfSome handler (λ h. IsSteady g h.now) → Answers g f.now (take (length source - (place + 1)) (drop (place + 1) source)) skip → place + 1 + skip ≤ length source
   skip_inside f skip is steady a =
@@ -120,10 +120,10 @@ pub record Scanned (answers : List ℕ → ℕ → Type 0) (source : List ℕ) (
   pub reached : state ≡ state_after Start (bytes_of passed)
   pub whole : is_tag_end state endings ≡ true → Reads answers 0 source passed × (place ≡ place_after 0 passed)
   pub forth : (c : KeptByte) (t : List KeptByte) → Reads answers place (drop place source) (c ∷ t) → Reads answers 0 source (passed ++ c ∷ t)
-  pub left : (front : List KeptByte) → Reads answers 0 source front → EndsTag front → (t : List KeptByte) × (front ≡ passed ++ t) × Reads answers place (drop place source) t
+  pub left : (prefix : List KeptByte) → Reads answers 0 source prefix → EndsTag prefix → (t : List KeptByte) × (prefix ≡ passed ++ t) × Reads answers place (drop place source) t
 
 pub scan_starts : (answers : List ℕ → ℕ → Type 0) (source : List ℕ) → Scanned answers source 0 0 0 Start
-scan_starts answers source = record { passed = []; counted = refl; ended = refl; reached = refl; whole = λ e. cc; forth = λ c t r. r; left = λ front r e. (front, refl, r) }
+scan_starts answers source = record { passed = []; counted = refl; ended = refl; reached = refl; whole = λ e. cc; forth = λ c t r. r; left = λ prefix r e. (prefix, refl, r) }
 
 module _ (answers : List ℕ → ℕ → Type 0) (source : List ℕ) (place kept endings : ℕ) (state : TagState) (s : Scanned answers source place kept endings state) where
   -- what is passed is a tag exactly where the state says so
@@ -131,47 +131,47 @@ module _ (answers : List ℕ → ℕ → Type 0) (source : List ℕ) (place kept
   ends_passed = ap (λ z. is_tag_end z endings) s.reached ∙ ap (is_tag_end (state_after Start (bytes_of s.passed))) s.ended
 
   -- a tag goes on after what is passed, where that is none
-  goes_on : is_tag_end state endings ≡ false → (front : List KeptByte) → Reads answers 0 source front → EndsTag front → (c : KeptByte) × (t : List KeptByte) × (front ≡ s.passed ++ c ∷ t) × Reads answers place (drop place source) (c ∷ t)
-  goes_on none front r e = let l = s.left front r e in by l.0 l.1 l.2
+  goes_on : is_tag_end state endings ≡ false → (prefix : List KeptByte) → Reads answers 0 source prefix → EndsTag prefix → (c : KeptByte) × (t : List KeptByte) × (prefix ≡ s.passed ++ c ∷ t) × Reads answers place (drop place source) (c ∷ t)
+  goes_on none prefix r e = let l = s.left prefix r e in by l.0 l.1 l.2
     where
-      by : (t : List KeptByte) → front ≡ s.passed ++ t → Reads answers place (drop place source) t → (c : KeptByte) × (t : List KeptByte) × (front ≡ s.passed ++ c ∷ t) × Reads answers place (drop place source) (c ∷ t)
+      by : (t : List KeptByte) → prefix ≡ s.passed ++ t → Reads answers place (drop place source) t → (c : KeptByte) × (t : List KeptByte) × (prefix ≡ s.passed ++ c ∷ t) × Reads answers place (drop place source) (c ∷ t)
       by [] is rest =
           let whole : is_tag_end state endings ≡ true = ends_passed ∙ ap (λ z. is_tag_end (state_after Start (bytes_of z)) (line_endings z)) (sym (append-nil s.passed) ∙ sym is) ∙ e in
           cc
       by (c ∷ t) is rest = (c, t, is, rest)
 
   -- and none goes on after a final state
-  nowhere : is_final state ≡ true → (front : List KeptByte) → EndsTag front → (x : KeptByte) (u : List KeptByte) → front ≡ s.passed ++ x ∷ u → ⊥
-  nowhere final front e x u is =
+  nowhere : is_final state ≡ true → (prefix : List KeptByte) → EndsTag prefix → (x : KeptByte) (u : List KeptByte) → prefix ≡ s.passed ++ x ∷ u → ⊥
+  nowhere final prefix e x u is =
       let run : state_after Start (bytes_of (s.passed ++ x ∷ u)) ≡ state_after state (x.byte ∷ bytes_of u) = ap (state_after Start) (map-append (λ z. z.byte) s.passed (x ∷ u)) ∙ state_after_append Start (bytes_of s.passed) (x.byte ∷ bytes_of u) ∙ ap (λ z. state_after z (x.byte ∷ bytes_of u)) (sym s.reached) in
       let whole : is_tag_end (state_after state (x.byte ∷ bytes_of u)) (line_endings (s.passed ++ x ∷ u)) ≡ true = ap (λ z. is_tag_end z (line_endings (s.passed ++ x ∷ u))) (sym run) ∙ ap (λ z. is_tag_end (state_after Start (bytes_of z)) (line_endings z)) (sym is) ∙ e in
       let other : is_tag_end (state_after state (x.byte ∷ bytes_of u)) (line_endings (s.passed ++ x ∷ u)) ≡ false = final_goes_nowhere state x.byte (bytes_of u) (line_endings (s.passed ++ x ∷ u)) final in
       cc
 
-  pub scan_finds : is_tag_end state endings ≡ true → (front : List KeptByte) × IsKeptTag answers source front × (kept ≡ length front) × (place ≡ place_after 0 front)
+  pub scan_finds : is_tag_end state endings ≡ true → (prefix : List KeptByte) × IsKeptTag answers source prefix × (kept ≡ length prefix) × (place ≡ place_after 0 prefix)
   scan_finds e = let whole = s.whole e in (s.passed, tag_from answers source s.passed whole.0 (sym ends_passed ∙ e), s.counted, whole.1)
 
-  pub scan_only : is_tag_end state endings ≡ true → (front : List KeptByte) → IsKeptTag answers source front → (kept ≡ length front) × (place ≡ place_after 0 front)
-  scan_only e front k = let l = s.left front (tag_read answers source front k) (tag_ends answers source front k) in by l.0 l.1
+  pub scan_only : is_tag_end state endings ≡ true → (prefix : List KeptByte) → IsKeptTag answers source prefix → (kept ≡ length prefix) × (place ≡ place_after 0 prefix)
+  scan_only e prefix k = let l = s.left prefix (tag_read answers source prefix k) (tag_ends answers source prefix k) in by l.0 l.1
     where
-      by : (t : List KeptByte) → front ≡ s.passed ++ t → (kept ≡ length front) × (place ≡ place_after 0 front)
-      by [] is = let same : s.passed ≡ front = sym (append-nil s.passed) ∙ sym is in (s.counted ∙ ap length same, (s.whole e).1 ∙ ap (place_after 0) same)
-      by (x ∷ u) is = absurd (nowhere (end_is_final state endings e) front (tag_ends answers source front k) x u is)
+      by : (t : List KeptByte) → prefix ≡ s.passed ++ t → (kept ≡ length prefix) × (place ≡ place_after 0 prefix)
+      by [] is = let same : s.passed ≡ prefix = sym (append-nil s.passed) ∙ sym is in (s.counted ∙ ap length same, (s.whole e).1 ∙ ap (place_after 0) same)
+      by (x ∷ u) is = absurd (nowhere (end_is_final state endings e) prefix (tag_ends answers source prefix k) x u is)
 
-  pub scan_ends : is_tag_end state endings ≡ false → (length source ≤ place) ⊎ (is_final state ≡ true) → (front : List KeptByte) → IsKeptTag answers source front → ⊥
-  scan_ends none end front k = let l = goes_on none front (tag_read answers source front k) (tag_ends answers source front k) in by end l.0 l.1 l.2 l.3
+  pub scan_ends : is_tag_end state endings ≡ false → (length source ≤ place) ⊎ (is_final state ≡ true) → (prefix : List KeptByte) → IsKeptTag answers source prefix → ⊥
+  scan_ends none end prefix k = let l = goes_on none prefix (tag_read answers source prefix k) (tag_ends answers source prefix k) in by end l.0 l.1 l.2 l.3
     where
-      by : (length source ≤ place) ⊎ (is_final state ≡ true) → (c : KeptByte) (t : List KeptByte) → front ≡ s.passed ++ c ∷ t → Reads answers place (drop place source) (c ∷ t) → ⊥
+      by : (length source ≤ place) ⊎ (is_final state ≡ true) → (c : KeptByte) (t : List KeptByte) → prefix ≡ s.passed ++ c ∷ t → Reads answers place (drop place source) (c ∷ t) → ⊥
       by (inl high) c t is r = nothing_read answers place c t (subst (λ z. Reads answers place z (c ∷ t)) (drop_all place source high) r)
-      by (inr final) c t is r = nowhere final front (tag_ends answers source front k) c t is
+      by (inr final) c t is r = nowhere final prefix (tag_ends answers source prefix k) c t is
 
   module _ (unfinished : is_final state ≡ false) where
     no_end : is_tag_end state endings ≡ false
     no_end = elim (cases_Bool (is_tag_end state endings)) [ inl e ↦ absurd (let final : is_final state ≡ true = end_is_final state endings e in cc) | inr e ↦ e ]
 
-    pub scan_has_no_skip : place < length source → ends_source_line (drop place source) ≡ true → ((n : ℕ) → answers (drop (place + 1) source) n → ⊥) → (front : List KeptByte) → IsKeptTag answers source front → ⊥
-    scan_has_no_skip low h none front k =
-        let l = goes_on no_end front (tag_read answers source front k) (tag_ends answers source front k) in
+    pub scan_has_no_skip : place < length source → ends_source_line (drop place source) ≡ true → ((n : ℕ) → answers (drop (place + 1) source) n → ⊥) → (prefix : List KeptByte) → IsKeptTag answers source prefix → ⊥
+    scan_has_no_skip low h none prefix k =
+        let l = goes_on no_end prefix (tag_read answers source prefix k) (tag_ends answers source prefix k) in
         no_turn answers source place endings low h none l.0 l.1 l.3
 
     module _ (next marks : ℕ) (turn : Turn answers source place endings next marks) where
@@ -195,10 +195,10 @@ module _ (answers : List ℕ → ℕ → Type 0) (source : List ℕ) (place kept
           let alone = turn.alone (plain e) in
           (s.forth turn.kept [] alone.1, alone.0 ∙ ap (λ z. z + 1) (sym turn.at) ∙ sym (after_more 0 s.passed turn.kept))
 
-      left_more : (front : List KeptByte) → Reads answers 0 source front → EndsTag front → (t : List KeptByte) × (front ≡ more ++ t) × Reads answers next (drop next source) t
+      left_more : (prefix : List KeptByte) → Reads answers 0 source prefix → EndsTag prefix → (t : List KeptByte) × (prefix ≡ more ++ t) × Reads answers next (drop next source) t
       unfolding more
-      left_more front r e =
-          let l = goes_on no_end front r e in
+      left_more prefix r e =
+          let l = goes_on no_end prefix r e in
           let back = turn.step.back l.0 l.1 l.3 in
           (l.1, l.2 ∙ ap (λ c. s.passed ++ c ∷ l.1) back.0 ∙ sym (append_assoc s.passed (turn.kept ∷ []) l.1), back.1)
 
@@ -215,6 +215,6 @@ module _ (answers : List ℕ → ℕ → Type 0) (source : List ℕ) (place kept
       }
 
 -- without a handler no line end is kept
-pub no_handler_stops : {F : Type 0} (g : Shared F (Bor (List ℕ) × Unit {0}) ℕ) (handler : Option (Bor F)) (source : List ℕ) (place kept endings : ℕ) (state : TagState) → Scanned (AnswersIfAny g handler) source place kept endings state → is_final state ≡ false → place < length source → handler ≡ None → ends_source_line (take (length source - place) (drop place source)) ≡ true → (front : List KeptByte) → IsKeptTag (AnswersIfAny g handler) source front → ⊥
+pub no_handler_stops : {F : Type 0} (g : Shared F (Bor (List ℕ) × Unit {0}) ℕ) (handler : Option (Bor F)) (source : List ℕ) (place kept endings : ℕ) (state : TagState) → Scanned (AnswersIfAny g handler) source place kept endings state → is_final state ≡ false → place < length source → handler ≡ None → ends_source_line (take (length source - place) (drop place source)) ≡ true → (prefix : List KeptByte) → IsKeptTag (AnswersIfAny g handler) source prefix → ⊥
 no_handler_stops g handler source place kept endings state s unfinished low none h =
     scan_has_no_skip (AnswersIfAny g handler) source place kept endings state s unfinished low (ap ends_source_line (sym (from_place source place)) ∙ h) (λ n a. subst (λ z. AnswersIfAny g z (drop (place + 1) source) n) none a)

@@ -1,4 +1,4 @@
--- Fronts of spaces and tabs, and the one indent that a text has.
+-- Prefixes of spaces and tabs, and the one indent that a text has.
 use Rattle.std.proofs.Common.{◌≡◌, ◌⊎◌, inl, inr, ℕ, zero, suc, ◌+◌, ◌*◌, ◌/◌, ◌<◌, ◌≤◌, true, false, not, ◌==◌, List, [], ◌∷◌, ◌++◌, length, take, drop, get_or, refl, sym, ap, ◌∙◌, arith, add-one, if◌then◌else◌}
 use Rattle.std.proofs.lemmas.Bool.{cases_Bool, eqb-true, leb-true, ne_eqb}
 use Rattle.std.proofs.lemmas.List.{take-append-drop, length-take-le}
@@ -6,10 +6,10 @@ use Rattle.std.proofs.Math.Seq.{drop-cons}
 use Rattle.markdown_scanners_tree.specs.Bytes.{ends_or_begins_with}
 use Rattle.markdown_scanners_tree.specs.Columns.{column_after, column_past}
 use Rattle.markdown_scanners_tree.specs.scanners.Indent.{goes_on, all_go_on, IsIndent}
-use Rattle.markdown_scanners_tree.proofs.FrontLemmas.{both_true}
+use Rattle.markdown_scanners_tree.proofs.PrefixLemmas.{both_true}
 use Rattle.markdown_scanners_tree.proofs.RunLemmas.{not_true, not_false}
 
--- a front that is longer by one byte
+-- a prefix that is longer by one byte
 past-suc : (c : ℕ) (bytes : List ℕ) (i : ℕ) → i < length bytes → column_past c (take (suc i) bytes) ≡ column_after (column_past c (take i bytes)) (get_or bytes i 0)
 past-suc c [] i lt = absurd (omega (arith, lt))
 past-suc c (b ∷ bytes) zero lt = refl
@@ -30,40 +30,40 @@ pub all_go_on-more : (limit : ℕ) (bytes : List ℕ) (i : ℕ) → i < length b
     → all_go_on limit 0 (take (i + 1) bytes) ≡ true
 all_go_on-more limit bytes i lt all here = ap (λ n. all_go_on limit 0 (take n bytes)) (add-one i) ∙ all-suc limit 0 bytes i lt all here
 
--- the front that goes on, up to what stops it, is the only one
-front-unique : (limit c : ℕ) (front rest front' rest' : List ℕ) → front ++ rest ≡ front' ++ rest'
-    → all_go_on limit c front ≡ true → ends_or_begins_with (λ b. not (goes_on limit (column_past c front) b)) rest ≡ true
-    → all_go_on limit c front' ≡ true → ends_or_begins_with (λ b. not (goes_on limit (column_past c front') b)) rest' ≡ true
-    → (front ≡ front') × (rest ≡ rest')
-front-unique limit c [] rest [] rest' same all stop all' stop' = (refl, same)
-front-unique limit c [] [] (b ∷ front') rest' same all stop all' stop' = cc
-front-unique limit c [] (x ∷ rest) (b ∷ front') rest' same all stop all' stop' =
-    let goes : goes_on limit c b ≡ true = (both_true (goes_on limit c b) (all_go_on limit (column_after c b) front') all').0 in
+-- the prefix that goes on, up to what stops it, is the only one
+prefix-unique : (limit c : ℕ) (prefix rest prefix' rest' : List ℕ) → prefix ++ rest ≡ prefix' ++ rest'
+    → all_go_on limit c prefix ≡ true → ends_or_begins_with (λ b. not (goes_on limit (column_past c prefix) b)) rest ≡ true
+    → all_go_on limit c prefix' ≡ true → ends_or_begins_with (λ b. not (goes_on limit (column_past c prefix') b)) rest' ≡ true
+    → (prefix ≡ prefix') × (rest ≡ rest')
+prefix-unique limit c [] rest [] rest' same all stop all' stop' = (refl, same)
+prefix-unique limit c [] [] (b ∷ prefix') rest' same all stop all' stop' = cc
+prefix-unique limit c [] (x ∷ rest) (b ∷ prefix') rest' same all stop all' stop' =
+    let goes : goes_on limit c b ≡ true = (both_true (goes_on limit c b) (all_go_on limit (column_after c b) prefix') all').0 in
     let stops : goes_on limit c x ≡ false = not_true _ stop in
     let first : x ≡ b = cc in
     let moved : goes_on limit c x ≡ true = ap (goes_on limit c) first ∙ goes in
     cc
-front-unique limit c (b ∷ front) rest [] [] same all stop all' stop' = cc
-front-unique limit c (b ∷ front) rest [] (x ∷ rest') same all stop all' stop' =
-    let goes : goes_on limit c b ≡ true = (both_true (goes_on limit c b) (all_go_on limit (column_after c b) front) all).0 in
+prefix-unique limit c (b ∷ prefix) rest [] [] same all stop all' stop' = cc
+prefix-unique limit c (b ∷ prefix) rest [] (x ∷ rest') same all stop all' stop' =
+    let goes : goes_on limit c b ≡ true = (both_true (goes_on limit c b) (all_go_on limit (column_after c b) prefix) all).0 in
     let stops : goes_on limit c x ≡ false = not_true _ stop' in
     let first : x ≡ b = cc in
     let moved : goes_on limit c x ≡ true = ap (goes_on limit c) first ∙ goes in
     cc
-front-unique limit c (b ∷ front) rest (b' ∷ front') rest' same all stop all' stop' =
+prefix-unique limit c (b ∷ prefix) rest (b' ∷ prefix') rest' same all stop all' stop' =
     let first : b ≡ b' = cc in
-    let later : front ++ rest ≡ front' ++ rest' = cc in
-    let both = both_true (goes_on limit c b) (all_go_on limit (column_after c b) front) all in
-    let both' = both_true (goes_on limit c b') (all_go_on limit (column_after c b') front') all' in
+    let later : prefix ++ rest ≡ prefix' ++ rest' = cc in
+    let both = both_true (goes_on limit c b) (all_go_on limit (column_after c b) prefix) all in
+    let both' = both_true (goes_on limit c b') (all_go_on limit (column_after c b') prefix') all' in
     let next : column_after c b' ≡ column_after c b = ap (column_after c) (sym first) in
-    let tails = front-unique limit (column_after c b) front rest front' rest' later both.1 stop (rw next at both'.1) (rw next at stop') in
-    let fronts : front ≡ front' = tails.0 in
+    let tails = prefix-unique limit (column_after c b) prefix rest prefix' rest' later both.1 stop (rw next at both'.1) (rw next at stop') in
+    let prefixes : prefix ≡ prefix' = tails.0 in
     (cc, tails.1)
 
 pub IsIndent-unique : (text : List ℕ) (limit place total place' total' : ℕ) → IsIndent text limit place total → IsIndent text limit place' total' → (place ≡ place') × (total ≡ total')
 IsIndent-unique text limit place total place' total' one other =
-    let same = front-unique limit 0 one.front one.rest other.front other.rest (sym one.parts ∙ other.parts) one.passed one.stopped other.passed other.stopped in
-    (one.at ∙ rw (same.0, same.1) (sym other.at), one.counted ∙ rw (same.0, same.1) (sym other.counted))
+    let same = prefix-unique limit 0 one.prefix one.rest other.prefix other.rest (sym one.parts ∙ other.parts) one.passed one.stopped other.passed other.stopped in
+    (one.last_place ∙ rw (same.0, same.1) (sym other.last_place), one.counted ∙ rw (same.0, same.1) (sym other.counted))
 
 -- how far a byte that goes on moves the column
 pub goes_on-column : (limit column b : ℕ) → goes_on limit column b ≡ true → (column_after column b ≡ column + 1) ⊎ (column_after column b ≤ limit)
@@ -85,12 +85,12 @@ module _ (text : List ℕ) (limit i column : ℕ) (inside : i < length text) (is
       let next : drop i text ≡ get_or text i 0 ∷ drop (suc i) text = drop-cons text i 0 inside in
       let long : length (take i text) ≡ i = length-take-le i text (omega (arith, inside)) in
       record {
-        front = take i text;
+        prefix = take i text;
         rest = drop i text;
         parts = sym (take-append-drop i text);
         passed = all;
         stopped = rw next (rw (← is_column) (not_false _ stops));
-        at = rw next (sym long);
+        last_place = rw next (sym long);
         counted = counted ∙ ap (λ k. k + (if get_or text i 0 == 32 then 1 else 0)) is_column ∙ rw next refl;
       }
 

@@ -7,7 +7,7 @@ use Rattle.std.proofs.lemmas.Bool.{cases_Bool, eqb-true}
 use Rattle.std.proofs.lemmas.Bool.Decides.{nat_tests}
 use Rattle.std.proofs.Math.Seq.{drop-append_seam, take-append_seam}
 use Rattle.markdown_scanners_tree.specs.Bytes.{begins_with, is_white_space_in_line, is_line_ending, line_ending, line_head, line_length, IsBlankLine, is_blank, blank_line}
-use Rattle.markdown_scanners_tree.proofs.FrontLemmas.{list_all-run, list_all-implies, begins_with-after_run, prefix_len-parts}
+use Rattle.markdown_scanners_tree.proofs.PrefixLemmas.{list_all-prefix, list_all-implies, begins_with-after_prefix, prefix_len-parts}
 
 -- a line ending does not begin with white space in the line, nor with any byte but LF and CR
 pub first-line_ending : (p : ℕ → Bool) → p 10 ≡ false → p 13 ≡ false → (rest : List ℕ) (ending : ℕ) → line_ending rest ≡ Some ending → begins_with p rest ≡ false
@@ -35,16 +35,16 @@ line_ending-exists (b ∷ bytes) stop =
     ]
 
 -- bytes that end no line, before a line ending, are the head
-pub head_parts : (front rest : List ℕ) (ending : ℕ) → list_all ends_no_line front ≡ true → line_ending rest ≡ Some ending → prefix_len ends_no_line (front ++ rest) ≡ length front
-head_parts front rest ending all ends = prefix_len-parts ends_no_line front rest all (first-line_ending ends_no_line refl refl rest ending ends)
+pub head_parts : (prefix rest : List ℕ) (ending : ℕ) → list_all ends_no_line prefix ≡ true → line_ending rest ≡ Some ending → prefix_len ends_no_line (prefix ++ rest) ≡ length prefix
+head_parts prefix rest ending all ends = prefix_len-parts ends_no_line prefix rest all (first-line_ending ends_no_line refl refl rest ending ends)
 
-pub line_head-parts : (front rest : List ℕ) (ending : ℕ) → list_all ends_no_line front ≡ true → line_ending rest ≡ Some ending → line_head (front ++ rest) ≡ front
-line_head-parts front rest ending all ends = rw (head_parts front rest ending all ends) (take-append_seam front rest)
+pub line_head-parts : (prefix rest : List ℕ) (ending : ℕ) → list_all ends_no_line prefix ≡ true → line_ending rest ≡ Some ending → line_head (prefix ++ rest) ≡ prefix
+line_head-parts prefix rest ending all ends = rw (head_parts prefix rest ending all ends) (take-append_seam prefix rest)
 
-pub line_length-parts : (front rest : List ℕ) (ending : ℕ) → list_all ends_no_line front ≡ true → line_ending rest ≡ Some ending → line_length (front ++ rest) ≡ length front + ending
-line_length-parts front rest ending all ends =
-    let at = head_parts front rest ending all ends in
-    rw (at, take-append_seam front rest, drop-append_seam front rest, ends) refl
+pub line_length-parts : (prefix rest : List ℕ) (ending : ℕ) → list_all ends_no_line prefix ≡ true → line_ending rest ≡ Some ending → line_length (prefix ++ rest) ≡ length prefix + ending
+line_length-parts prefix rest ending all ends =
+    let at = head_parts prefix rest ending all ends in
+    rw (at, take-append_seam prefix rest, drop-append_seam prefix rest, ends) refl
 
 abbrev after_space : List ℕ → List ℕ
 after_space bytes = drop (prefix_len is_white_space_in_line bytes) bytes
@@ -55,7 +55,7 @@ IsBlankLine-found bytes ending h = record {
   rest = after_space bytes;
   ending = ending;
   parts = sym (take-append-drop (prefix_len is_white_space_in_line bytes) bytes);
-  spaces = list_all-run is_white_space_in_line bytes;
+  spaces = list_all-prefix is_white_space_in_line bytes;
   ends = h;
   counted = ap (λ n. n + ending) (sym (length-prefix_len is_white_space_in_line bytes));
 }
@@ -80,12 +80,12 @@ blank_line-is bytes n line =
     ap (λ t. cond t (Some (line_length bytes)) None) blank ∙ ap (λ k. Some k) counted
 
 pub blank_line-none : (bytes : List ℕ) → ((n : ℕ) → ¬ IsBlankLine bytes n) → blank_line bytes ≡ None
-blank_line-none bytes absent =
+blank_line-none bytes none =
     elim (cases_Bool (is_blank bytes)) [
       | inl blank ↦ (
           let h = prefix_len ends_no_line bytes in
-          let ends = line_ending-exists (drop h bytes) (begins_with-after_run ends_no_line bytes) in
-          absurd (absent (length (take h bytes) + ends.0) (record {
+          let ends = line_ending-exists (drop h bytes) (begins_with-after_prefix ends_no_line bytes) in
+          absurd (none (length (take h bytes) + ends.0) (record {
             space = take h bytes;
             rest = drop h bytes;
             ending = ends.0;

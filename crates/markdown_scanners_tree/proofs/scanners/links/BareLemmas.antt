@@ -1,13 +1,14 @@
 -- A bare link destination, read unit by unit.
-use Rattle.std.proofs.Common.{◌≡◌, ℕ, zero, suc, ◌+◌, ◌<◌, ◌≤◌, Bool, true, false, cond, ltb, eqb, List, [], ◌∷◌, ◌++◌, length, take, drop, get_or, refl, ap, ◌∙◌, sym, subst, arith, ◌≢◌, inl, inr, ◌⊎◌}
+use Rattle.std.proofs.Common.{◌≡◌, ℕ, zero, suc, ◌+◌, ◌<◌, ◌≤◌, Bool, true, false, cond, ltb, leb, eqb, List, [], ◌∷◌, ◌++◌, length, take, drop, get_or, refl, ap, ◌∙◌, sym, subst, arith, ◌≢◌, inl, inr, ◌⊎◌}
 use Rattle.std.specs.List.{concat, list_all}
 use Rattle.std.proofs.lemmas.List.{length-append}
-use Rattle.markdown_scanners_tree.proofs.FrontLemmas.{both_true}
+use Rattle.markdown_scanners_tree.proofs.PrefixLemmas.{both_true}
 use Rattle.std.proofs.lemmas.List.Sums.{sum_by-cons}
-use Rattle.std.proofs.lemmas.Bool.{false≢true, or_cases, ltb-true, ltb-false, and_parts, eqb-true, le-ltb, lt-ltb, eq-eqb, ne_eqb, and_from}
+use Rattle.std.proofs.lemmas.Bool.{false≢true, or_cases, ltb-true, leb-true, leb-false, and_parts, eqb-true, le-ltb, lt-ltb, eq-eqb, ne_eqb, and_from}
 use Rattle.std.specs.Prelude.{◌||◌, ◌&&◌}
 use Rattle.std.proofs.lemmas.List.{drop_all}
 use Rattle.markdown_scanners_tree.proofs.scanners.escapes.UnitLemmas.{units_single_at, units_escape_at, plain_byte}
+use Rattle.markdown_scanners_tree.specs.Ascii.{space, left_parenthesis, right_parenthesis}
 use Rattle.markdown_scanners_tree.specs.scanners.Escapes.{units, starts_escape}
 use Rattle.markdown_scanners_tree.specs.scanners.links.LinkDestination.{is_single, stands_bare, opening_count, closing_count, IsBalanced, ends_bare, IsBareFrom}
 
@@ -17,17 +18,17 @@ Turns u d d' = d' + closing_count (u ∷ []) ≡ d + opening_count (u ∷ [])
 
 pub opening-cons : (u : List ℕ) (us : List (List ℕ)) → opening_count (u ∷ us) ≡ opening_count (u ∷ []) + opening_count us
 opening-cons u us =
-    let e : opening_count (u ∷ us) ≡ cond (is_single 40 u) 1 0 + opening_count us = sum_by-cons (λ x. cond (is_single 40 x) 1 0) u us in
-    let one : opening_count (u ∷ []) ≡ 0 + cond (is_single 40 u) 1 0 = refl in
+    let e : opening_count (u ∷ us) ≡ cond (is_single left_parenthesis u) 1 0 + opening_count us = sum_by-cons (λ x. cond (is_single left_parenthesis x) 1 0) u us in
+    let one : opening_count (u ∷ []) ≡ 0 + cond (is_single left_parenthesis u) 1 0 = refl in
     omega (arith, e, one)
 
 pub closing-cons : (u : List ℕ) (us : List (List ℕ)) → closing_count (u ∷ us) ≡ closing_count (u ∷ []) + closing_count us
 closing-cons u us =
-    let e : closing_count (u ∷ us) ≡ cond (is_single 41 u) 1 0 + closing_count us = sum_by-cons (λ x. cond (is_single 41 x) 1 0) u us in
-    let one : closing_count (u ∷ []) ≡ 0 + cond (is_single 41 u) 1 0 = refl in
+    let e : closing_count (u ∷ us) ≡ cond (is_single right_parenthesis u) 1 0 + closing_count us = sum_by-cons (λ x. cond (is_single right_parenthesis x) 1 0) u us in
+    let one : closing_count (u ∷ []) ≡ 0 + cond (is_single right_parenthesis u) 1 0 = refl in
     omega (arith, e, one)
 
--- a balanced list with one more unit in front
+-- a balanced list with one more unit at its front
 pub balanced_on : (most d d' : ℕ) (u : List ℕ) (us : List (List ℕ)) → Turns u d d' → d ≤ most → IsBalanced most d' us → IsBalanced most d (u ∷ us)
 balanced_on most d d' u us turns low is = record {
   never_below = below;
@@ -61,29 +62,29 @@ step_forth most d d' n t t' u first stands turns low is = record {
   inner = u ∷ is.inner;
   more = is.more;
   splits = first ∙ ap (λ us. u ∷ us) is.splits;
-  made = and_from (stands_bare u) (list_all stands_bare is.inner) stands is.made;
+  each_stands = and_from (stands_bare u) (list_all stands_bare is.inner) stands is.each_stands;
   balanced = balanced_on most d d' u is.inner turns low is.balanced;
   ends = is.ends;
-  long = omega (arith, is.long, length-append u (concat is.inner));
+  n_is_length = omega (arith, is.n_is_length, length-append u (concat is.inner));
 }
 
 -- of what stands in a destination only `)` may end it
-pub ends_unit : (u : List ℕ) (us : List (List ℕ)) → stands_bare u ≡ true → ends_bare (u ∷ us) ≡ true → u ≡ 41 ∷ []
+pub ends_unit : (u : List ℕ) (us : List (List ℕ)) → stands_bare u ≡ true → ends_bare (u ∷ us) ≡ true → u ≡ right_parenthesis ∷ []
 ends_unit [] us stands ends = absurd (false≢true stands)
-ends_unit (b ∷ []) us stands ends = elim (or_cases (ltb b 33) (eqb b 41) ends) [
-  | inl low ↦ absurd (omega (arith, ltb-true b 33 low, ltb-true 32 b stands))
-  | inr close ↦ ap (λ x. x ∷ []) (eqb-true b 41 close)
+ends_unit (b ∷ []) us stands ends = elim (or_cases (leb b space) (eqb b right_parenthesis) ends) [
+  | inl low ↦ absurd (omega (arith, leb-true b space low, ltb-true space b stands))
+  | inr close ↦ ap (λ x. x ∷ []) (eqb-true b right_parenthesis close)
 ]
 ends_unit (b ∷ c ∷ cs) us stands ends = absurd (false≢true ends)
 
 pub step_back : (most d d' n : ℕ) (t t' u : List ℕ) → units t ≡ u ∷ units t' → stands_bare u ≡ true → Turns u d d'
     → IsBareFrom most d t n → (m : ℕ) × (n ≡ length u + m) × IsBareFrom most d' t' m
-step_back most d d' n t t' u first stands turns is = go is.inner is.splits is.made is.balanced is.long where
+step_back most d d' n t t' u first stands turns is = go is.inner is.splits is.each_stands is.balanced is.n_is_length where
   go : (inner : List (List ℕ)) → units t ≡ inner ++ is.more → list_all stands_bare inner ≡ true → IsBalanced most d inner → n ≡ length (concat inner)
       → (m : ℕ) × (n ≡ length u + m) × IsBareFrom most d' t' m
   go [] splits made balanced long =
-      let close : u ≡ 41 ∷ [] = ends_unit u (units t') stands (ap ends_bare (sym first ∙ splits) ∙ is.ends) in
-      let turned : Turns (41 ∷ []) d d' = subst (λ x. Turns x d d') close turns in
+      let close : u ≡ right_parenthesis ∷ [] = ends_unit u (units t') stands (ap ends_bare (sym first ∙ splits) ∙ is.ends) in
+      let turned : Turns (right_parenthesis ∷ []) d d' = subst (λ x. Turns x d d') close turns in
       absurd (omega (arith, turned, balanced.closed))
   go (v ∷ inner) splits made balanced long =
       let both : u ∷ units t' ≡ v ∷ (inner ++ is.more) = sym first ∙ splits in
@@ -95,22 +96,22 @@ step_back most d d' n t t' u first stands turns is = go is.inner is.splits is.ma
           inner = inner;
           more = is.more;
           splits = rest;
-          made = (both_true (stands_bare v) (list_all stands_bare inner) made).1;
+          each_stands = (both_true (stands_bare v) (list_all stands_bare inner) made).1;
           balanced = balanced_off most d d' v inner (subst (λ x. Turns x d d') same turns) balanced;
           ends = is.ends;
-          long = refl;
+          n_is_length = refl;
         },
       )
 
 -- a parenthesis too deep: no destination
-pub too_deep : (most n : ℕ) (t : List ℕ) (us : List (List ℕ)) → units t ≡ (40 ∷ []) ∷ us → IsBareFrom most most t n → ⊥
+pub too_deep : (most n : ℕ) (t : List ℕ) (us : List (List ℕ)) → units t ≡ (left_parenthesis ∷ []) ∷ us → IsBareFrom most most t n → ⊥
 too_deep most n t us first is = go is.inner is.splits is.balanced where
   go : (inner : List (List ℕ)) → units t ≡ inner ++ is.more → IsBalanced most most inner → ⊥
   go [] splits balanced = false≢true (ap ends_bare (sym first ∙ splits) ∙ is.ends)
   go (v ∷ inner) splits balanced =
-      let same : 40 ∷ [] ≡ v = ap head_of (sym first ∙ splits) in
+      let same : left_parenthesis ∷ [] ≡ v = ap head_of (sym first ∙ splits) in
       let one : most + opening_count (v ∷ []) ≤ most + closing_count (v ∷ []) = balanced.never_above 1 (omega arith) in
-      let one' : most + opening_count ((40 ∷ []) ∷ []) ≤ most + closing_count ((40 ∷ []) ∷ []) = subst (λ x. most + opening_count (x ∷ []) ≤ most + closing_count (x ∷ [])) (sym same) one in
+      let one' : most + opening_count ((left_parenthesis ∷ []) ∷ []) ≤ most + closing_count ((left_parenthesis ∷ []) ∷ []) = subst (λ x. most + opening_count (x ∷ []) ≤ most + closing_count (x ∷ [])) (sym same) one in
       absurd (omega (arith, one'))
 
 -- where the text ends or a byte ends it: the empty destination, with no parenthesis open
@@ -119,10 +120,10 @@ bare_here most t ends = record {
   inner = [];
   more = units t;
   splits = refl;
-  made = refl;
+  each_stands = refl;
   balanced = record { never_below = λ k l. never k; never_above = λ k l. above k; closed = refl };
   ends = ends;
-  long = refl;
+  n_is_length = refl;
 } where
   never : (k : ℕ) → closing_count (take k []) ≤ 0 + opening_count (take k [])
   never zero = omega arith
@@ -134,7 +135,7 @@ bare_here most t ends = record {
 
 -- the text ends, or with a byte that is neither in a destination nor `)`, while a parenthesis is open: no destination
 pub left_open : (most d n : ℕ) (t : List ℕ) → 0 < d → stands_bare (head_of (units t)) ≡ false → IsBareFrom most d t n → ⊥
-left_open most d n t open' stop is = go is.inner is.splits is.made is.balanced where
+left_open most d n t open' stop is = go is.inner is.splits is.each_stands is.balanced where
   go : (inner : List (List ℕ)) → units t ≡ inner ++ is.more → list_all stands_bare inner ≡ true → IsBalanced most d inner → ⊥
   go [] splits made balanced = absurd (omega (arith, balanced.closed, open'))
   go (v ∷ inner) splits made balanced =
@@ -143,7 +144,7 @@ left_open most d n t open' stop is = go is.inner is.splits is.made is.balanced w
 -- After i bytes, behind `depth` open parentheses: the whole text's destinations are those of the rest.
 pub record IsBareSoFar (most depth i : ℕ) (bytes : List ℕ) : Type 0 where
   pub within : i ≤ length bytes
-  pub low : depth ≤ most
+  pub depth_at_most : depth ≤ most
   pub forth : (n : ℕ) → IsBareFrom most depth (drop i bytes) n → IsBareFrom most 0 bytes (i + n)
   pub back : (n : ℕ) → IsBareFrom most 0 bytes n → (m : ℕ) × (n ≡ i + m) × IsBareFrom most depth (drop i bytes) m
 
@@ -152,8 +153,8 @@ pub so_far_more : (most d d' i j : ℕ) (bytes u : List ℕ) → IsBareSoFar mos
     → j ≤ length bytes → stands_bare u ≡ true → Turns u d d' → d' ≤ most → IsBareSoFar most d' j bytes
 so_far_more most d d' i j bytes u is first long in' stands turns low = record {
   within = in';
-  low = low;
-  forth = λ n there. subst (IsBareFrom most 0 bytes) (omega (arith, long)) (is.forth (length u + n) (step_forth most d d' n (drop i bytes) (drop j bytes) u first stands turns is.low there));
+  depth_at_most = low;
+  forth = λ n there. subst (IsBareFrom most 0 bytes) (omega (arith, long)) (is.forth (length u + n) (step_forth most d d' n (drop i bytes) (drop j bytes) u first stands turns is.depth_at_most there));
   back = λ n there.
       let old = is.back n there in
       let new = step_back most d d' old.0 (drop i bytes) (drop j bytes) u first stands turns old.2 in
@@ -166,30 +167,30 @@ or_right false y e = e
 
 -- whether the byte ends a destination behind d open parentheses
 abbrev pub ends_at : ℕ → ℕ → Bool
-ends_at b d = ltb b 33 || (eqb b 41 && eqb d 0)
+ends_at b d = leb b space || (eqb b right_parenthesis && eqb d 0)
 
 pub or_false : (x y : Bool) → (x || y) ≡ false → (x ≡ false) × (y ≡ false)
 or_false true y e = absurd (false≢true (sym e))
 or_false false y e = (refl, e)
 
-pub goes_on : (b d : ℕ) → ends_at b d ≡ false → (stands_bare (b ∷ []) ≡ true) × (b ≡ 41 → d ≡ 0 → ⊥)
+pub goes_on : (b d : ℕ) → ends_at b d ≡ false → (stands_bare (b ∷ []) ≡ true) × (b ≡ right_parenthesis → d ≡ 0 → ⊥)
 goes_on b d e =
-    let parts = or_false (ltb b 33) (eqb b 41 && eqb d 0) e in
-    (lt-ltb 32 b (omega (arith, ltb-false b 33 parts.0)), λ close none. false≢true (sym parts.1 ∙ and_from (eqb b 41) (eqb d 0) (eq-eqb b 41 close) (eq-eqb d 0 none)))
+    let parts = or_false (leb b space) (eqb b right_parenthesis && eqb d 0) e in
+    (lt-ltb space b (omega (arith, leb-false b space parts.0)), λ close none. false≢true (sym parts.1 ∙ and_from (eqb b right_parenthesis) (eqb d 0) (eq-eqb b right_parenthesis close) (eq-eqb d 0 none)))
 
-pub turns_open : (b d d' : ℕ) → b ≡ 40 → d' ≡ d + 1 → Turns (b ∷ []) d d'
+pub turns_open : (b d d' : ℕ) → b ≡ left_parenthesis → d' ≡ d + 1 → Turns (b ∷ []) d d'
 turns_open b d d' is more = subst (λ x. Turns (x ∷ []) d d') (sym is) (omega (arith, more))
 
-pub turns_close : (b d d' : ℕ) → b ≡ 41 → d' + 1 ≡ d → Turns (b ∷ []) d d'
+pub turns_close : (b d d' : ℕ) → b ≡ right_parenthesis → d' + 1 ≡ d → Turns (b ∷ []) d d'
 turns_close b d d' is less = subst (λ x. Turns (x ∷ []) d d') (sym is) (omega (arith, less))
 
-pub turns_other : (b d d' : ℕ) → b ≢ 40 → b ≢ 41 → d' ≡ d → Turns (b ∷ []) d d'
-turns_other b d d' n40 n41 same = rw (ne_eqb b 40 n40, ne_eqb b 41 n41) (omega (arith, same))
+pub turns_other : (b d d' : ℕ) → b ≢ left_parenthesis → b ≢ right_parenthesis → d' ≡ d → Turns (b ∷ []) d d'
+turns_other b d d' n40 n41 same = rw (ne_eqb b left_parenthesis n40, ne_eqb b right_parenthesis n41) (omega (arith, same))
 
 -- two bytes, then one
 pub so_far_escape : (most d i : ℕ) (bytes : List ℕ) → IsBareSoFar most d i bytes → i + 2 ≤ length bytes → starts_escape (drop i bytes) ≡ true → IsBareSoFar most d (i + 2) bytes
 so_far_escape most d i bytes is in' escape =
-    so_far_more most d d i (i + 2) bytes (get_or bytes i 0 ∷ get_or bytes (i + 1) 0 ∷ []) is (units_escape_at bytes i in' escape) refl in' refl refl is.low
+    so_far_more most d d i (i + 2) bytes (get_or bytes i 0 ∷ get_or bytes (i + 1) 0 ∷ []) is (units_escape_at bytes i in' escape) refl in' refl refl is.depth_at_most
 
 pub so_far_single : (most d d' i : ℕ) (bytes : List ℕ) → IsBareSoFar most d i bytes → i < length bytes → starts_escape (drop i bytes) ≡ false
     → ends_at (get_or bytes i 0) d ≡ false → Turns (get_or bytes i 0 ∷ []) d d' → d' ≤ most → IsBareSoFar most d' (i + 1) bytes
@@ -209,10 +210,10 @@ stop_ends bytes i d is = elim is [
   | inl past ↦ ap (λ t. ends_bare (units t)) (drop_all i bytes past)
   | inr at ↦ ap ends_bare (units_single_at bytes i at.0 (stop_plain bytes i d at.0 at.1)) ∙ weaker (get_or bytes i 0) d at.1
 ] where
-  weaker : (b d : ℕ) → ends_at b d ≡ true → (ltb b 33 || eqb b 41) ≡ true
-  weaker b d e = elim (or_cases (ltb b 33) (eqb b 41 && eqb d 0) e) [
+  weaker : (b d : ℕ) → ends_at b d ≡ true → (leb b space || eqb b right_parenthesis) ≡ true
+  weaker b d e = elim (or_cases (leb b space) (eqb b right_parenthesis && eqb d 0) e) [
     | inl low ↦ rw low refl
-    | inr close ↦ or_right (ltb b 33) (eqb b 41) (and_parts (eqb b 41) (eqb d 0) close).0
+    | inr close ↦ or_right (leb b space) (eqb b right_parenthesis) (and_parts (eqb b right_parenthesis) (eqb d 0) close).0
   ]
 
 pub found_here : (most i : ℕ) (bytes : List ℕ) → IsBareSoFar most 0 i bytes → IsStop bytes i 0 → IsBareFrom most 0 bytes i
@@ -224,13 +225,13 @@ none_open most d i n bytes is stop open' there =
       | inl past ↦ ap (λ t. stands_bare (head_of (units t))) (drop_all i bytes past)
       | inr at ↦ ap (λ us. stands_bare (head_of us)) (units_single_at bytes i at.0 (stop_plain bytes i d at.0 at.1)) ∙ shut (get_or bytes i 0) d open' at.1
     ]) rest.2 where
-      shut : (b d : ℕ) → 0 < d → ends_at b d ≡ true → ltb 32 b ≡ false
-      shut b d open' e = elim (or_cases (ltb b 33) (eqb b 41 && eqb d 0) e) [
-        | inl low ↦ le-ltb 32 b (omega (arith, ltb-true b 33 low))
-        | inr close ↦ absurd (omega (arith, open', eqb-true d 0 (and_parts (eqb b 41) (eqb d 0) close).1))
+      shut : (b d : ℕ) → 0 < d → ends_at b d ≡ true → ltb space b ≡ false
+      shut b d open' e = elim (or_cases (leb b space) (eqb b right_parenthesis && eqb d 0) e) [
+        | inl low ↦ le-ltb space b (omega (arith, leb-true b space low))
+        | inr close ↦ absurd (omega (arith, open', eqb-true d 0 (and_parts (eqb b right_parenthesis) (eqb d 0) close).1))
       ]
 
-pub none_deep : (most d i n : ℕ) (bytes : List ℕ) → IsBareSoFar most d i bytes → i < length bytes → starts_escape (drop i bytes) ≡ false → get_or bytes i 0 ≡ 40 → d ≡ most
+pub none_deep : (most d i n : ℕ) (bytes : List ℕ) → IsBareSoFar most d i bytes → i < length bytes → starts_escape (drop i bytes) ≡ false → get_or bytes i 0 ≡ left_parenthesis → d ≡ most
     → IsBareFrom most 0 bytes n → ⊥
 none_deep most d i n bytes is in' plain open' full there =
     let rest = is.back n there in

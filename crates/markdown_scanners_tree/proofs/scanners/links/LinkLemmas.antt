@@ -1,6 +1,6 @@
 -- Pipes of wikilinks, and absolute URIs in angle brackets.
 use Rattle.std.proofs.Common.{◌≡◌, ℕ, suc, ◌+◌, ◌-◌, ◌<◌, ◌≤◌, true, ◌==◌, min, List, [], ◌∷◌, ◌++◌, length, take, drop, get_or, refl, sym, ap, ◌∙◌, subst, arith, inl, inr, Option, Some, None, append_assoc, one-add}
-use Rattle.std.specs.Prelude.{position, IfNone}
+use Rattle.std.specs.Prelude.{position}
 use Rattle.std.specs.List.{prefix_len}
 use Rattle.std.proofs.lemmas.Bool.{lt-ltb, le-ltb, cases_lt, eqb-true}
 use Rattle.std.proofs.lemmas.List.{length-append, take_all, take_rest, take_at, drop_at, get_or_at, get_or-drop, length-drop, length-take, get_or-take}
@@ -8,10 +8,11 @@ use Rattle.std.proofs.lemmas.List.Folds.{length-prefix_len}
 use Rattle.std.specs.Str.{IsUtf8, IsCharBoundary}
 use Rattle.std.proofs.lemmas.Str.{IsCharBoundary-after_ascii}
 use Rattle.memchr.specs.Find.{IsFirstByte, is_byte}
+use Rattle.markdown_scanners_tree.specs.Ascii.{colon, less_than_sign, greater_than_sign}
 use Rattle.markdown_scanners_tree.specs.Bytes.{is_letter}
 use Rattle.markdown_scanners_tree.specs.scanners.links.LinkDestination.{IsPointedFrom, IsBareFrom, IsLinkDestination}
-use Rattle.markdown_scanners_tree.specs.scanners.links.Autolink.{is_scheme_byte, is_uri_byte, IsSchemeInFront, IsUriAutolink}
-use Rattle.markdown_scanners_tree.proofs.FrontLemmas.{list_all-run, prefix_len-parts, split_at}
+use Rattle.markdown_scanners_tree.specs.scanners.links.Autolink.{is_scheme_byte, is_uri_byte, StartsWithScheme, IsUriAutolink}
+use Rattle.markdown_scanners_tree.proofs.PrefixLemmas.{list_all-prefix, prefix_len-parts, split_at}
 use Rattle.markdown_scanners_tree.proofs.ScanLemmas.{prefix_len-found, prefix_len-not_found}
 
 -- a search by `memchr` answers the first position
@@ -36,120 +37,120 @@ window_is bytes text start n m same least =
       | inr more ↦ take_all (min n (length xs)) xs (omega (arith, more)) ∙ sym (take_all n xs more)
     ]
 
--- what holds anyway holds where nothing is answered
-pub IfNone-anyway : {T : Type 0} (P : Type 0) (answer : Option T) → P → IfNone answer P
-IfNone-anyway P None holds = holds
-IfNone-anyway P (Some x) holds = tt
-
 -- a letter, then the longest run of scheme bytes, and a colon
 pub scheme_found : (bytes : List ℕ) (n : ℕ) → 0 < length bytes → is_letter (get_or bytes 0 0) ≡ true → n ≡ 1 + prefix_len is_scheme_byte (drop 1 bytes) → 2 ≤ n → n ≤ 32
-    → n < length bytes → get_or bytes n 0 ≡ 58 → IsSchemeInFront bytes n
-scheme_found [] n some letter count low high inside colon = absurd (omega (arith, some))
-scheme_found (b ∷ bs) n some letter count low high inside colon =
+    → n < length bytes → get_or bytes n 0 ≡ colon → StartsWithScheme bytes n
+scheme_found [] n some letter count low high inside ends = absurd (omega (arith, some))
+scheme_found (b ∷ bs) n some letter count low high inside ends =
     let p = prefix_len is_scheme_byte bs in
     let run : length (take p bs) ≡ p = length-prefix_len is_scheme_byte bs in
-    let at : get_or bs p 0 ≡ 58 = sym (ap (λ k. get_or (b ∷ bs) k 0) (count ∙ one-add p)) ∙ colon in
+    let at : get_or bs p 0 ≡ colon = sym (ap (λ k. get_or (b ∷ bs) k 0) (count ∙ one-add p)) ∙ ends in
     record {
       scheme = b ∷ take p bs;
       rest = drop (suc p) bs;
-      parts = ap (λ t. b ∷ t) (split_at bs p 58 (omega (arith, inside, count)) at);
-      is = record {
+      parts = ap (λ t. b ∷ t) (split_at bs p colon (omega (arith, inside, count)) at);
+      is_scheme = record {
         first = b;
         others = take p bs;
         spelled = refl;
         letter = letter;
-        made = list_all-run is_scheme_byte bs;
-        one = omega (arith, run, count, low);
-        few = omega (arith, run, count, high);
+        scheme_bytes = list_all-prefix is_scheme_byte bs;
+        at_least_one = omega (arith, run, count, low);
+        at_most_thirty_one = omega (arith, run, count, high);
       };
-      long = omega (arith, run, count);
+      n_is_length = omega (arith, run, count);
     }
 
--- What a scheme in front says of the bytes at their places.
+-- What a scheme at the front says of the bytes at their places.
 pub record IsSchemeAt (bytes : List ℕ) (n : ℕ) : Type 0 where
-  pub some : 0 < length bytes
+  pub not_empty : 0 < length bytes
   pub letter : is_letter (get_or bytes 0 0) ≡ true
   pub count : n ≡ 1 + prefix_len is_scheme_byte (drop 1 bytes)
-  pub low : 2 ≤ n
-  pub high : n ≤ 32
+  pub at_least_two : 2 ≤ n
+  pub at_most_thirty_two : n ≤ 32
   pub inside : n < length bytes
-  pub colon : get_or bytes n 0 ≡ 58
+  pub ends : get_or bytes n 0 ≡ colon
 
-pub scheme_at : (bytes : List ℕ) (n : ℕ) → IsSchemeInFront bytes n → IsSchemeAt bytes n
+pub scheme_at : (bytes : List ℕ) (n : ℕ) → StartsWithScheme bytes n → IsSchemeAt bytes n
 scheme_at bytes n front =
-    let is = front.is in
-    let parts : bytes ≡ is.first ∷ (is.others ++ 58 ∷ front.rest) = front.parts ∙ ap (λ s. s ++ 58 ∷ front.rest) is.spelled in
-    let run : prefix_len is_scheme_byte (drop 1 bytes) ≡ length is.others = ap (λ t. prefix_len is_scheme_byte (drop 1 t)) parts ∙ prefix_len-parts is_scheme_byte is.others (58 ∷ front.rest) is.made refl in
-    let long : n ≡ 1 + length is.others = omega (arith, front.long, ap length is.spelled) in
+    let scheme = front.is_scheme in
+    let parts : bytes ≡ scheme.first ∷ (scheme.others ++ colon ∷ front.rest) = front.parts ∙ ap (λ s. s ++ colon ∷ front.rest) scheme.spelled in
+    let run : prefix_len is_scheme_byte (drop 1 bytes) ≡ length scheme.others = ap (λ t. prefix_len is_scheme_byte (drop 1 t)) parts ∙ prefix_len-parts is_scheme_byte scheme.others (colon ∷ front.rest) scheme.scheme_bytes refl in
+    let long : n ≡ 1 + length scheme.others = omega (arith, front.n_is_length, ap length scheme.spelled) in
     record {
-      some = omega (arith, ap length parts);
-      letter = ap (λ t. is_letter (get_or t 0 0)) parts ∙ is.letter;
+      not_empty = omega (arith, ap length parts);
+      letter = ap (λ t. is_letter (get_or t 0 0)) parts ∙ scheme.letter;
       count = omega (arith, long, run);
-      low = omega (arith, long, is.one);
-      high = omega (arith, long, is.few);
-      inside = omega (arith, front.long, ap length front.parts, length-append front.scheme (58 ∷ front.rest));
-      colon = ap (λ t. get_or t n 0) front.parts ∙ get_or_at front.scheme 58 front.rest 0 n (sym front.long);
+      at_least_two = omega (arith, long, scheme.at_least_one);
+      at_most_thirty_two = omega (arith, long, scheme.at_most_thirty_one);
+      inside = omega (arith, front.n_is_length, ap length front.parts, length-append front.scheme (colon ∷ front.rest));
+      ends = ap (λ t. get_or t n 0) front.parts ∙ get_or_at front.scheme colon front.rest 0 n (sym front.n_is_length);
     }
 
 -- the address goes on to the first byte that it can't hold
-pub uri_found : (bytes : List ℕ) (n end : ℕ) → IsSchemeInFront bytes n → end ≡ n + 1 + prefix_len is_uri_byte (drop (n + 1) bytes) → end < length bytes → get_or bytes end 0 ≡ 62
+pub uri_found : (bytes : List ℕ) (n end : ℕ) → StartsWithScheme bytes n → end ≡ n + 1 + prefix_len is_uri_byte (drop (n + 1) bytes) → end < length bytes → get_or bytes end 0 ≡ greater_than_sign
     → IsUriAutolink bytes (take end bytes)
 uri_found bytes n end front count inside close =
-    let rest : drop (n + 1) bytes ≡ front.rest = ap (drop (n + 1)) (front.parts ∙ sym (append_assoc front.scheme (58 ∷ []) front.rest))
-    ∙ drop_at (front.scheme ++ 58 ∷ []) front.rest (n + 1) (omega (arith, front.long, length-append front.scheme (58 ∷ []))) in
+    let rest : drop (n + 1) bytes ≡ front.rest = ap (drop (n + 1)) (front.parts ∙ sym (append_assoc front.scheme (colon ∷ []) front.rest))
+    ∙ drop_at (front.scheme ++ colon ∷ []) front.rest (n + 1) (omega (arith, front.n_is_length, length-append front.scheme (colon ∷ []))) in
     let a = prefix_len is_uri_byte front.rest in
     let run : length (take a front.rest) ≡ a = length-prefix_len is_uri_byte front.rest in
     let end_is : end ≡ n + 1 + a = count ∙ ap (λ t. n + 1 + prefix_len is_uri_byte t) rest in
-    let here : get_or front.rest a 0 ≡ 62 = sym (ap (λ t. get_or t a 0) rest) ∙ (get_or-drop (n + 1) bytes a 0 ∙ (ap (λ k. get_or bytes k 0) (sym end_is) ∙ close)) in
-    let tail : front.rest ≡ take a front.rest ++ 62 ∷ drop (suc a) front.rest =
-    split_at front.rest a 62 (omega (arith, inside, end_is, front.long, ap length front.parts, length-append front.scheme (58 ∷ front.rest))) here in
-    let uri = front.scheme ++ 58 ∷ take a front.rest in
-    let whole : bytes ≡ uri ++ 62 ∷ drop (suc a) front.rest =
-    front.parts ∙ (ap (λ t. front.scheme ++ 58 ∷ t) tail ∙ sym (append_assoc front.scheme (58 ∷ take a front.rest) (62 ∷ drop (suc a) front.rest))) in
-    let taken : take end bytes ≡ uri = ap (take end) whole ∙ take_at uri (62 ∷ drop (suc a) front.rest) end (omega (arith, end_is, front.long, run, length-append front.scheme (58 ∷ take a front.rest))) in
+    let here : get_or front.rest a 0 ≡ greater_than_sign = sym (ap (λ t. get_or t a 0) rest) ∙ (get_or-drop (n + 1) bytes a 0 ∙ (ap (λ k. get_or bytes k 0) (sym end_is) ∙ close)) in
+    let tail : front.rest ≡ take a front.rest ++ greater_than_sign ∷ drop (suc a) front.rest =
+    split_at front.rest a greater_than_sign (omega (arith, inside, end_is, front.n_is_length, ap length front.parts, length-append front.scheme (colon ∷ front.rest))) here in
+    let uri = front.scheme ++ colon ∷ take a front.rest in
+    let whole : bytes ≡ uri ++ greater_than_sign ∷ drop (suc a) front.rest =
+    front.parts ∙ (ap (λ t. front.scheme ++ colon ∷ t) tail ∙ sym (append_assoc front.scheme (colon ∷ take a front.rest) (greater_than_sign ∷ drop (suc a) front.rest))) in
+    let taken : take end bytes ≡ uri = ap (take end) whole ∙ take_at uri (greater_than_sign ∷ drop (suc a) front.rest) end (omega (arith, end_is, front.n_is_length, run, length-append front.scheme (colon ∷ take a front.rest))) in
     record {
       scheme = front.scheme;
       address = take a front.rest;
       rest = drop (suc a) front.rest;
-      parts = whole ∙ ap (λ u. u ++ 62 ∷ drop (suc a) front.rest) (sym taken);
+      parts = whole ∙ ap (λ u. u ++ greater_than_sign ∷ drop (suc a) front.rest) (sym taken);
       spelled = taken;
-      is = front.is;
-      made = list_all-run is_uri_byte front.rest;
+      is_scheme = front.is_scheme;
+      uri_bytes = list_all-prefix is_uri_byte front.rest;
     }
 
+-- a URI is the bytes up to its `>`
+pub uri_taken : (bytes uri : List ℕ) → IsUriAutolink bytes uri → take (length uri) bytes ≡ uri
+uri_taken bytes uri is = ap (take (length uri)) is.parts ∙ take_at uri (greater_than_sign ∷ is.rest) (length uri) refl
+
 -- a URI begins with its scheme
-pub uri_scheme : (bytes uri : List ℕ) → (is : IsUriAutolink bytes uri) → IsSchemeInFront bytes (length is.scheme)
+pub uri_scheme : (bytes uri : List ℕ) → (is : IsUriAutolink bytes uri) → StartsWithScheme bytes (length is.scheme)
 uri_scheme bytes uri is = record {
   scheme = is.scheme;
-  rest = is.address ++ 62 ∷ is.rest;
-  parts = is.parts ∙ (ap (λ u. u ++ 62 ∷ is.rest) is.spelled ∙ append_assoc is.scheme (58 ∷ is.address) (62 ∷ is.rest));
-  is = is.is;
-  long = refl;
+  rest = is.address ++ greater_than_sign ∷ is.rest;
+  parts = is.parts ∙ (ap (λ u. u ++ greater_than_sign ∷ is.rest) is.spelled ∙ append_assoc is.scheme (colon ∷ is.address) (greater_than_sign ∷ is.rest));
+  is_scheme = is.is_scheme;
+  n_is_length = refl;
 }
 
 -- and its `>` stands where the address can't go on
-pub uri_close : (bytes uri : List ℕ) (n end : ℕ) → IsUriAutolink bytes uri → IsSchemeInFront bytes n → end ≡ n + 1 + prefix_len is_uri_byte (drop (n + 1) bytes)
-    → (end < length bytes) × (get_or bytes end 0 ≡ 62)
+pub uri_close : (bytes uri : List ℕ) (n end : ℕ) → IsUriAutolink bytes uri → StartsWithScheme bytes n → end ≡ n + 1 + prefix_len is_uri_byte (drop (n + 1) bytes)
+    → (end < length bytes) × (get_or bytes end 0 ≡ greater_than_sign)
 unfolding uri_scheme
 uri_close bytes uri n end is front count =
     let first = uri_scheme bytes uri is in
     let same : n ≡ length is.scheme = (scheme_at bytes n front).count ∙ sym (scheme_at bytes (length is.scheme) first).count in
-    let rest : drop (n + 1) bytes ≡ is.address ++ 62 ∷ is.rest = ap (drop (n + 1)) (first.parts ∙ sym (append_assoc is.scheme (58 ∷ []) (is.address ++ 62 ∷ is.rest)))
-    ∙ drop_at (is.scheme ++ 58 ∷ []) (is.address ++ 62 ∷ is.rest) (n + 1) (omega (arith, same, length-append is.scheme (58 ∷ []))) in
-    let run : prefix_len is_uri_byte (drop (n + 1) bytes) ≡ length is.address = ap (prefix_len is_uri_byte) rest ∙ prefix_len-parts is_uri_byte is.address (62 ∷ is.rest) is.made refl in
-    let long : end ≡ length uri = omega (arith, count, run, same, ap length is.spelled, length-append is.scheme (58 ∷ is.address)) in
-    (omega (arith, long, ap length is.parts, length-append uri (62 ∷ is.rest)), ap (λ t. get_or t end 0) is.parts ∙ get_or_at uri 62 is.rest 0 end (sym long))
+    let rest : drop (n + 1) bytes ≡ is.address ++ greater_than_sign ∷ is.rest = ap (drop (n + 1)) (first.parts ∙ sym (append_assoc is.scheme (colon ∷ []) (is.address ++ greater_than_sign ∷ is.rest)))
+    ∙ drop_at (is.scheme ++ colon ∷ []) (is.address ++ greater_than_sign ∷ is.rest) (n + 1) (omega (arith, same, length-append is.scheme (colon ∷ []))) in
+    let run : prefix_len is_uri_byte (drop (n + 1) bytes) ≡ length is.address = ap (prefix_len is_uri_byte) rest ∙ prefix_len-parts is_uri_byte is.address (greater_than_sign ∷ is.rest) is.uri_bytes refl in
+    let long : end ≡ length uri = omega (arith, count, run, same, ap length is.spelled, length-append is.scheme (colon ∷ is.address)) in
+    (omega (arith, long, ap length is.parts, length-append uri (greater_than_sign ∷ is.rest)), ap (λ t. get_or t end 0) is.parts ∙ get_or_at uri greater_than_sign is.rest 0 end (sym long))
 
 -- a destination is pointed where the text begins with `<`, else bare
-pub no_pointed : (most : ℕ) (text : List ℕ) → text ≡ 60 ∷ drop 1 text → ((n : ℕ) → ¬ IsPointedFrom (drop 1 text) n) → (taken : ℕ) (destination : List ℕ) → ¬ IsLinkDestination most text taken destination
+pub no_pointed : (most : ℕ) (text : List ℕ) → text ≡ less_than_sign ∷ drop 1 text → ((n : ℕ) → ¬ IsPointedFrom (drop 1 text) n)
+    → (taken : ℕ) (destination : List ℕ) → ¬ IsLinkDestination most text taken destination
 no_pointed most text opens none taken destination (inl pointed) = none pointed.n (subst (λ t. IsPointedFrom t pointed.n) (sym (ap (drop 1) pointed.opens)) pointed.pointed)
 no_pointed most text opens none taken destination (inr bare) = bare.unpointed (drop 1 text) opens
 
-pub no_bare : (most : ℕ) (text : List ℕ) → ((after : List ℕ) → text ≡ 60 ∷ after → ⊥) → ((n : ℕ) → ¬ IsBareFrom most 0 text n) → (taken : ℕ) (destination : List ℕ) → ¬ IsLinkDestination most text taken destination
+pub no_bare : (most : ℕ) (text : List ℕ) → ((after : List ℕ) → text ≡ less_than_sign ∷ after → ⊥) → ((n : ℕ) → ¬ IsBareFrom most 0 text n) → (taken : ℕ) (destination : List ℕ) → ¬ IsLinkDestination most text taken destination
 no_bare most text unpointed none taken destination (inl pointed) = unpointed pointed.after pointed.opens
 no_bare most text unpointed none taken destination (inr bare) = none taken bare.bare
 
-pub opened_by : (text : List ℕ) → get_or text 0 0 ≡ 60 → text ≡ 60 ∷ drop 1 text
+pub opened_by : (text : List ℕ) → get_or text 0 0 ≡ less_than_sign → text ≡ less_than_sign ∷ drop 1 text
 opened_by [] first = absurd (omega (arith, first))
 opened_by (b ∷ text) first = ap (λ x. x ∷ text) first
 

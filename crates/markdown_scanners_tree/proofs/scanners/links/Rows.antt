@@ -15,28 +15,28 @@ pointed_row = record {
     inner = codes "a" ∷ codes "\\>" ∷ codes "b" ∷ [];
     more = codes "c" ∷ [];
     splits = refl;
-    made = refl;
-    long = refl;
+    each_stands = refl;
+    n_is_length = refl;
   };
-  long = refl;
-  lies = refl;
+  with_brackets = refl;
+  slice = refl;
 }
 
 -- `((a))`, at most two deep
 bare_row : IsBareFrom 2 0 (codes "((a))") 5
 bare_row =
-    step_forth 2 0 1 4 (codes "((a))") (codes "(a))") (40 ∷ []) refl refl refl (omega arith)
-    (step_forth 2 1 2 3 (codes "(a))") (codes "a))") (40 ∷ []) refl refl refl (omega arith)
-    (step_forth 2 2 2 2 (codes "a))") (codes "))") (97 ∷ []) refl refl refl (omega arith)
-    (step_forth 2 2 1 1 (codes "))") (codes ")") (41 ∷ []) refl refl refl (omega arith)
-    (step_forth 2 1 0 0 (codes ")") [] (41 ∷ []) refl refl refl (omega arith) (bare_here 2 [] refl)))))
+    step_forth 2 0 1 4 (codes "((a))") (codes "(a))") (codes "(") refl refl refl (omega arith)
+    (step_forth 2 1 2 3 (codes "(a))") (codes "a))") (codes "(") refl refl refl (omega arith)
+    (step_forth 2 2 2 2 (codes "a))") (codes "))") (codes "a") refl refl refl (omega arith)
+    (step_forth 2 2 1 1 (codes "))") (codes ")") (codes ")") refl refl refl (omega arith)
+    (step_forth 2 1 0 0 (codes ")") [] (codes ")") refl refl refl (omega arith) (bare_here 2 [] refl)))))
 
 -- `(((a)))` is three deep
 deep_row : (n : ℕ) → ¬ IsBareFrom 2 0 (codes "(((a)))") n
 deep_row n is =
-    let one = step_back 2 0 1 n (codes "(((a)))") (codes "((a)))") (40 ∷ []) refl refl refl is in
-    let two = step_back 2 1 2 one.0 (codes "((a)))") (codes "(a)))") (40 ∷ []) refl refl refl one.2 in
-    too_deep 2 two.0 (codes "(a)))") (units (codes "a)))")) refl two.2
+    let after_one = step_back 2 0 1 n (codes "(((a)))") (codes "((a)))") (codes "(") refl refl refl is in
+    let after_two = step_back 2 1 2 after_one.0 (codes "((a)))") (codes "(a)))") (codes "(") refl refl refl after_one.2 in
+    too_deep 2 after_two.0 (codes "(a)))") (units (codes "a)))")) refl after_two.2
 
 -- the empty text
 empty_row : IsBareFrom 1 0 [] 0
@@ -50,6 +50,6 @@ autolink_row = record {
   rest = [];
   parts = refl;
   spelled = refl;
-  is = record { first = 97; others = codes "b"; spelled = refl; letter = refl; made = refl; one = omega arith; few = omega arith };
-  made = refl;
+  is_scheme = record { first = 97; others = codes "b"; spelled = refl; letter = refl; scheme_bytes = refl; at_least_one = omega arith; at_most_thirty_one = omega arith };
+  uri_bytes = refl;
 }

@@ -1,17 +1,18 @@
 -- List markers, the number of their digits, and the space after them.
-use Rattle.std.proofs.Common.{◌≡◌, ℕ, zero, suc, ◌+◌, ◌-◌, ◌*◌, ◌^◌, ◌<◌, ◌≤◌, Bool, true, false, cond, List, [], ◌∷◌, ◌++◌, length, take, drop, get_or, refl, sym, ap, ◌∙◌, arith, add-one, append_assoc}
+use Rattle.std.proofs.Common.{◌≡◌, ℕ, zero, suc, ◌+◌, ◌-◌, ◌*◌, ◌^◌, ◌<◌, ◌≤◌, Bool, true, false, cond, List, [], ◌∷◌, ◌++◌, length, take, drop, get_or, refl, sym, ap, ◌∙◌, arith, append_assoc}
 use Rattle.std.specs.List.{prefix_len, list_all}
 use Rattle.std.proofs.lemmas.Bool.Decides.{nat_tests}
 use Rattle.std.proofs.lemmas.List.{take-append-drop, length-append, length-take-le, take_more}
 use Rattle.std.proofs.lemmas.List.Folds.{length-prefix_len}
-use Rattle.std.proofs.Math.Nat.{pow-succ'}
-use Rattle.std.proofs.Math.Seq.{drop-append_seam, drop-cons}
+use Rattle.std.proofs.Math.Seq.{drop-append_seam}
 use Rattle.markdown_scanners_tree.specs.Bytes.{begins_with, is_digit, IsBlankLine}
 use Rattle.markdown_scanners_tree.specs.scanners.Indent.{IsIndent}
 use Rattle.markdown_scanners_tree.specs.scanners.list_items.ListMarker.{is_bullet, is_delimiter}
 use Rattle.markdown_scanners_tree.specs.scanners.list_items.ListItem.{IsListMarker, bullet, ordered, IsItemSpace, blank, indented_code, text}
-use Rattle.markdown_scanners_tree.specs.Numbers.{decimal_value}
-use Rattle.markdown_scanners_tree.proofs.FrontLemmas.{both_true, list_all-run, prefix_len-parts}
+use Rattle.std.specs.Str.Parse.{AllDigits, digits_value}
+use Rattle.std.specs.Int.{IsInRange}
+use Rattle.std.proofs.lemmas.Str.{digit_value_digit}
+use Rattle.markdown_scanners_tree.proofs.PrefixLemmas.{both_true, list_all-prefix, prefix_len-parts}
 use Rattle.markdown_scanners_tree.proofs.scanners.indent.IndentLemmas.{IsIndent-unique}
 
 -- how many bytes a list marker at the front has, if one stands there
@@ -25,12 +26,12 @@ digit_no_bullet : (b : ℕ) → is_digit b ≡ true → is_bullet b ≡ false
 digit_no_bullet b is = grind (arith, nat_tests)
 
 -- what stands before and at the delimiter of an ordered list marker
-pub ordered-front : (digits : List ℕ) (delimiter : ℕ) (rest : List ℕ) → 1 ≤ length digits → list_all is_digit digits ≡ true → is_delimiter delimiter ≡ true
+pub ordered-parts : (digits : List ℕ) (delimiter : ℕ) (rest : List ℕ) → 1 ≤ length digits → list_all is_digit digits ≡ true → is_delimiter delimiter ≡ true
     → (begins_with is_bullet ((digits ++ delimiter ∷ []) ++ rest) ≡ false)
     × (prefix_len is_digit ((digits ++ delimiter ∷ []) ++ rest) ≡ length digits)
     × (drop (length digits) ((digits ++ delimiter ∷ []) ++ rest) ≡ delimiter ∷ rest)
-ordered-front [] delimiter rest one all is = absurd (omega (arith, one))
-ordered-front (d ∷ digits) delimiter rest one all is =
+ordered-parts [] delimiter rest one all is = absurd (omega (arith, one))
+ordered-parts (d ∷ digits) delimiter rest one all is =
     let joined : ((d ∷ digits) ++ delimiter ∷ []) ++ rest ≡ (d ∷ digits) ++ (delimiter ∷ rest) = append_assoc (d ∷ digits) (delimiter ∷ []) rest in (
       digit_no_bullet d (both_true (is_digit d) (list_all is_digit digits) all).0,
       ap (prefix_len is_digit) joined ∙ prefix_len-parts is_digit (d ∷ digits) (delimiter ∷ rest) all (delimiter_no_digit delimiter is),
@@ -40,24 +41,24 @@ ordered-front (d ∷ digits) delimiter rest one all is =
 pub marker-length : (marker : List ℕ) (delimiter start : ℕ) (rest : List ℕ) → IsListMarker marker delimiter start → marker_length (marker ++ rest) ≡ length marker
 marker-length marker delimiter start rest (bullet b is) = rw is refl
 marker-length marker delimiter start rest (ordered digits d one few all is) =
-    let front = ordered-front digits d rest one all is in
-    rw front.0 (omega (arith, front.1, length-append digits (d ∷ [])))
+    let at = ordered-parts digits d rest one all is in
+    rw at.0 (omega (arith, at.1, length-append digits (d ∷ [])))
 
 -- a marker where no bullet stands: one to nine digits and a delimiter
 pub ordered-only : (bytes marker : List ℕ) (delimiter start : ℕ) (rest : List ℕ) → bytes ≡ marker ++ rest → begins_with is_bullet bytes ≡ false → IsListMarker marker delimiter start
     → (1 ≤ prefix_len is_digit bytes) × (prefix_len is_digit bytes ≤ 9) × (begins_with is_delimiter (drop (prefix_len is_digit bytes) bytes) ≡ true)
 ordered-only bytes marker delimiter start rest parts no_bullet (bullet b is) = absurd (let begins = rw (parts, is) at no_bullet in cc)
 ordered-only bytes marker delimiter start rest parts no_bullet (ordered digits d one few all is) =
-    let front = ordered-front digits d rest one all is in
-    let run : prefix_len is_digit bytes ≡ length digits = ap (prefix_len is_digit) parts ∙ front.1 in
-    let after : drop (prefix_len is_digit bytes) bytes ≡ d ∷ rest = ap (λ n. drop n bytes) run ∙ ap (drop (length digits)) parts ∙ front.2 in
+    let at = ordered-parts digits d rest one all is in
+    let run : prefix_len is_digit bytes ≡ length digits = ap (prefix_len is_digit) parts ∙ at.1 in
+    let after : drop (prefix_len is_digit bytes) bytes ≡ d ∷ rest = ap (λ n. drop n bytes) run ∙ ap (drop (length digits)) parts ∙ at.2 in
     (omega (arith, run, one), omega (arith, run, few), rw after is)
 
 pub ordered-scanned : (bytes : List ℕ) (n : ℕ) → n ≡ prefix_len is_digit bytes → 1 ≤ n → n ≤ 9 → n < length bytes → is_delimiter (get_or bytes n 0) ≡ true
-    → IsListMarker (take (n + 1) bytes) (get_or bytes n 0) (decimal_value (take n bytes))
+    → IsListMarker (take (n + 1) bytes) (get_or bytes n 0) (digits_value 10 (take n bytes))
 ordered-scanned bytes n run one few inside is =
     let counted : length (take n bytes) ≡ n = rw run (length-prefix_len is_digit bytes) in
-    let all : list_all is_digit (take n bytes) ≡ true = rw run (list_all-run is_digit bytes) in
+    let all : list_all is_digit (take n bytes) ≡ true = rw run (list_all-prefix is_digit bytes) in
     rw (take_more bytes n 0 inside) (ordered (take n bytes) (get_or bytes n 0) (omega (arith, counted, one)) (omega (arith, counted, few)) all is)
 
 pub begins-at : (p : ℕ → Bool) (bytes : List ℕ) (n : ℕ) → begins_with p (drop n bytes) ≡ true → (n < length bytes) × (p (get_or bytes n 0) ≡ true)
@@ -83,31 +84,12 @@ item-rest bytes width delimiter start inside is marker rest delimiter' start' pa
     let counted : length marker ≡ width = sym there ∙ here ∙ length-take-le width bytes inside in
     sym (ap (λ n. drop n bytes) (sym counted) ∙ ap (drop (length marker)) parts ∙ drop-append_seam marker rest)
 
--- one digit more
-number-step : (number d : ℕ) (ds : List ℕ) → number * 10 ^ length (d ∷ ds) + decimal_value (d ∷ ds) ≡ (number * 10 + (d - 48)) * 10 ^ length ds + decimal_value ds
-number-step number d ds =
-    let power : 10 ^ length (d ∷ ds) ≡ 10 * 10 ^ length ds = pow-succ' 10 (length ds) in
-    rw power (sums number (d - 48) (10 ^ length ds) (decimal_value ds))
-  where
-    sums : (a v p r : ℕ) → a * (10 * p) + (v * p + r) ≡ (a * 10 + v) * p + r
-    sums a v p r = grind arith
-
-pub number-more : (digits : List ℕ) (i number : ℕ) → i < length digits → number < 10 ^ i → list_all is_digit (drop i digits) ≡ true
-    → decimal_value digits ≡ number * 10 ^ length (drop i digits) + decimal_value (drop i digits)
-    → (number * 10 + (get_or digits i 0 - 48) < 10 ^ (i + 1)) × (list_all is_digit (drop (i + 1) digits) ≡ true)
-    × (decimal_value digits ≡ (number * 10 + (get_or digits i 0 - 48)) * 10 ^ length (drop (i + 1) digits) + decimal_value (drop (i + 1) digits))
-number-more digits i number inside small all means =
-    let next : drop i digits ≡ get_or digits i 0 ∷ drop (i + 1) digits = drop-cons digits i 0 inside ∙ ap (λ n. get_or digits i 0 ∷ drop n digits) (sym (add-one i)) in
-    let both = both_true (is_digit (get_or digits i 0)) (list_all is_digit (drop (i + 1) digits)) (ap (list_all is_digit) (sym next) ∙ all) in
-    let low : get_or digits i 0 ≤ 57 = at_most_nine (get_or digits i 0) both.0 in
-    let power : 10 ^ (i + 1) ≡ 10 * 10 ^ i = ap (λ n. 10 ^ n) (add-one i) ∙ pow-succ' 10 i in (
-      omega (arith, power, low, small),
-      both.1,
-      means ∙ ap (λ ds. number * 10 ^ length ds + decimal_value ds) next ∙ number-step number (get_or digits i 0) (drop (i + 1) digits),
-    )
-  where
-    at_most_nine : (d : ℕ) → is_digit d ≡ true → d ≤ 57
-    at_most_nine d is = grind (arith, nat_tests)
+pub all_digits : (digits : List ℕ) → list_all is_digit digits ≡ true → AllDigits 10 digits
+all_digits [] all = tt
+all_digits (d ∷ digits) all =
+    let both = both_true (is_digit d) (list_all is_digit digits) all in
+    let in_range : IsInRange 48 57 d = (grind (arith, nat_tests), grind (arith, nat_tests)) in
+    (omega (arith, digit_value_digit d in_range, in_range.1), all_digits digits both.1)
 
 -- an indent of no column belongs to no item, unless its line is blank
 pub item_space-none : (rest : List ℕ) (place : ℕ) → ((n : ℕ) → ¬ IsBlankLine rest n) → IsIndent rest 5 place 0 → (at space : ℕ) → ¬ IsItemSpace rest at space

@@ -1,11 +1,11 @@
 -- Worked examples of list items, held against the definitions.
 use Rattle.std.proofs.Common.{◌≡◌, [], ◌∷◌, refl, arith}
 use Rattle.markdown_scanners_tree.specs.scanners.list_items.ListItem.{bullet, ordered, text, blank, indented_code, IsListItem}
-use Rattle.markdown_scanners_tree.specs.Numbers.{decimal_value}
+use Rattle.std.specs.Str.Parse.{digits_value}
 use Rattle.markdown_scanners_tree.proofs.scanners.lines.BlankLemmas.{IsBlankLine-only}
 
 -- "123"
-value-row : decimal_value (49 ∷ 50 ∷ 51 ∷ []) ≡ 123
+value-row : digits_value 10 (49 ∷ 50 ∷ 51 ∷ []) ≡ 123
 value-row = refl
 
 -- "-   x"
@@ -18,7 +18,7 @@ item-row = record {
   parts = refl;
   is_marker = bullet 45 refl;
   is_space = text 3 3 (λ n line. (let only = IsBlankLine-only (32 ∷ 32 ∷ 32 ∷ 120 ∷ []) n line in let none = only.1 in cc))
-      (record { front = 32 ∷ 32 ∷ 32 ∷ []; rest = 120 ∷ []; parts = refl; passed = refl; stopped = refl; at = refl; counted = refl }) (omega arith) (omega arith);
+      (record { prefix = 32 ∷ 32 ∷ 32 ∷ []; rest = 120 ∷ []; parts = refl; passed = refl; stopped = refl; last_place = refl; counted = refl }) (omega arith) (omega arith);
   counted = refl;
   columns_are = refl;
 }
@@ -33,7 +33,7 @@ item_code-row = record {
   parts = refl;
   is_marker = ordered (49 ∷ []) 46 (omega arith) (omega arith) refl refl;
   is_space = indented_code 4 5 (λ n line. (let only = IsBlankLine-only (32 ∷ 32 ∷ 32 ∷ 32 ∷ 32 ∷ 32 ∷ 120 ∷ []) n line in let none = only.1 in cc))
-      (record { front = 32 ∷ 32 ∷ 32 ∷ 32 ∷ []; rest = 32 ∷ 32 ∷ 120 ∷ []; parts = refl; passed = refl; stopped = refl; at = refl; counted = refl }) (omega arith);
+      (record { prefix = 32 ∷ 32 ∷ 32 ∷ 32 ∷ []; rest = 32 ∷ 32 ∷ 120 ∷ []; parts = refl; passed = refl; stopped = refl; last_place = refl; counted = refl }) (omega arith);
   counted = refl;
   columns_are = refl;
 }

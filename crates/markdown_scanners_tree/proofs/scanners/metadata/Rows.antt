@@ -14,12 +14,12 @@ closing_line-row = record {
   line = record {
     run = 45 ∷ 45 ∷ 45 ∷ [];
     rest = 32 ∷ 10 ∷ [];
-    space = 32 ∷ [];
+    spaces = 32 ∷ [];
     after = 10 ∷ [];
     is_run = record { parts = refl; all = refl; longest = refl };
-    three = refl;
+    exactly_three = refl;
     parts = refl;
-    spaces = refl;
+    spaces_only = refl;
     ending = 1;
     ends = refl;
     counted = refl;
@@ -29,20 +29,20 @@ closing_line-row = record {
 -- "---\na\n..."
 metadata-row : IsMetadataBlock (45 ∷ 45 ∷ 45 ∷ 10 ∷ 97 ∷ 10 ∷ 46 ∷ 46 ∷ 46 ∷ []) true false 45
 metadata-row = record {
-  allowed = refl;
+  enabled = refl;
   block = record {
     body = 97 ∷ 10 ∷ 46 ∷ 46 ∷ 46 ∷ [];
     opening = record {
       run = 45 ∷ 45 ∷ 45 ∷ [];
       rest = 10 ∷ 97 ∷ 10 ∷ 46 ∷ 46 ∷ 46 ∷ [];
-      space = [];
+      after = [];
       is_run = record { parts = refl; all = refl; longest = refl };
-      three = refl;
+      exactly_three = refl;
       parts = refl;
-      spaces = refl;
+      all_after_opening = refl;
     };
     not_blank = λ n line. (let only = IsBlankLine-only (97 ∷ 10 ∷ 46 ∷ 46 ∷ 46 ∷ []) n line in let none = only.1 in cc);
-    not_closed = λ n close. no_three close.byte (run-only close.byte (97 ∷ 10 ∷ 46 ∷ 46 ∷ 46 ∷ []) close.line.run close.line.rest close.line.is_run).0 close.line.three;
+    not_closed = λ n close. no_three close.byte (run-only close.byte (97 ∷ 10 ∷ 46 ∷ 46 ∷ 46 ∷ []) close.line.run close.line.rest close.line.is_run).0 close.line.exactly_three;
     closed = record {
       before = 97 ∷ [];
       after = 46 ∷ 46 ∷ 46 ∷ [];
@@ -54,12 +54,12 @@ metadata-row = record {
         line = record {
           run = 46 ∷ 46 ∷ 46 ∷ [];
           rest = [];
-          space = [];
+          spaces = [];
           after = [];
           is_run = record { parts = refl; all = refl; longest = refl };
-          three = refl;
+          exactly_three = refl;
           parts = refl;
-          spaces = refl;
+          spaces_only = refl;
           ending = 0;
           ends = refl;
           counted = refl;

@@ -1,11 +1,12 @@
 -- The states of the tag scanner agree with the grammar of tags.
-use Rattle.std.proofs.Common.{ℕ, List, [], ◌∷◌, ◌++◌, ◌≤◌, ◌≡◌, true, false, ◌==◌, refl, sym, ap, ◌∙◌, subst, append_assoc, inl, inr, ◌⊎◌, ◌↔◌, arith}
-use Rattle.std.proofs.lemmas.Bool.{cases_Bool, eqb-true}
+use Rattle.std.proofs.Common.{ℕ, List, [], ◌∷◌, ◌++◌, ◌≤◌, ◌≡◌, true, false, ◌==◌, ◌||◌, refl, sym, ap, ◌∙◌, subst, append_assoc, inl, inr, ◌⊎◌, ◌↔◌, arith}
+use Rattle.std.proofs.lemmas.Bool.{cases_Bool}
 use Rattle.std.proofs.lemmas.Bool.Decides.{nat_tests}
 use Rattle.std.proofs.lemmas.List.{append-nil}
-use Rattle.markdown_scanners_tree.specs.Bytes.{is_line_ending}
-use Rattle.markdown_scanners_tree.specs.scanners.html_tag.HtmlTag.{IsOpenTag, IsClosingTag}
-use Rattle.markdown_scanners_tree.specs.scanners.tag_state.private.TagMachine.{next_state, state_after, is_tag_end, is_final}
+use Rattle.markdown_scanners_tree.specs.Ascii.{line_feed, carriage_return, quotation_mark, apostrophe, slash, less_than_sign, equals_sign, greater_than_sign}
+use Rattle.markdown_scanners_tree.specs.Bytes.{is_letter, is_white_space, is_white_space_in_line, is_line_ending, is_unquoted}
+use Rattle.markdown_scanners_tree.specs.scanners.html_tag.HtmlTag.{IsOpenTag, IsClosingTag, is_tag_name_byte, is_attribute_start, is_attribute_byte}
+use Rattle.markdown_scanners_tree.specs.scanners.tag_state.private.TagMachine.{next_state, after_part, after_attribute_name, before_value, after_closing_name, state_after, is_tag_end, is_final}
 use Rattle.markdown_scanners_tree.specs.declared.scanners.tag_state.TagState.{TagState}
 use Rattle.markdown_scanners_tree.specs.declared.scanners.tag_state.TagState.TheVariants.{Start, Opened, Name, Spaced, AttributeName, AfterName, BeforeValue, Unquoted, Quoted, AfterValue, Slashed, Open, Closing, ClosingName, ClosingSpaced, ClosingReturned, ClosingEnded, Closed, Refused}
 use Rattle.markdown_scanners_tree.proofs.scanners.tag_state.TagReading.{Leads, leads_next}
@@ -42,7 +43,7 @@ tag_at_end ClosingEnded bytes endings l e = cc
 
 end_of_tag : (bytes : List ℕ) (endings : ℕ) → IsTagOf bytes endings → is_tag_end (state_after Start bytes) endings ≡ true
 end_of_tag bytes endings (inl o) = ap (λ s. is_tag_end s endings) (open_whole bytes o)
-end_of_tag bytes endings (inr (c, few)) = ap (λ s. is_tag_end s endings) (closing_whole bytes c) ∙ grind (arith, nat_tests)
+end_of_tag bytes endings (inr (c, at_most_one)) = ap (λ s. is_tag_end s endings) (closing_whole bytes c) ∙ grind (arith, nat_tests)
 
 -- bytes are a tag exactly where the scanner comes to its end with them
 pub tag_exactly : (bytes : List ℕ) (endings : ℕ) → IsTagOf bytes endings ↔ (is_tag_end (state_after Start bytes) endings ≡ true)
@@ -91,51 +92,67 @@ final_goes_nowhere ClosingSpaced x xs endings e = cc
 final_goes_nowhere ClosingReturned x xs endings e = cc
 final_goes_nowhere ClosingEnded x xs endings e = cc
 
--- no tag ends in LF or CR
-line_feed_ends_none : (s : TagState) (endings : ℕ) → is_tag_end (next_state s 10) endings ≡ false
-line_feed_ends_none Start endings = refl
-line_feed_ends_none Opened endings = refl
-line_feed_ends_none Name endings = refl
-line_feed_ends_none Spaced endings = refl
-line_feed_ends_none AttributeName endings = refl
-line_feed_ends_none AfterName endings = refl
-line_feed_ends_none BeforeValue endings = refl
-line_feed_ends_none Unquoted endings = refl
-line_feed_ends_none (Quoted q) endings = elim (cases_Bool (10 == q)) [ inl e ↦ rw e refl | inr e ↦ rw e refl ]
-line_feed_ends_none AfterValue endings = refl
-line_feed_ends_none Slashed endings = refl
-line_feed_ends_none Closing endings = refl
-line_feed_ends_none ClosingName endings = refl
-line_feed_ends_none ClosingSpaced endings = refl
-line_feed_ends_none ClosingReturned endings = refl
-line_feed_ends_none ClosingEnded endings = refl
-line_feed_ends_none Open endings = refl
-line_feed_ends_none Closed endings = refl
-line_feed_ends_none Refused endings = refl
+-- a byte other than `>` ends no tag
+module _ (b endings : ℕ) (other : (b == greater_than_sign) ≡ false) where
+  abbrev EndsNone : TagState → Type 0
+  EndsNone s = is_tag_end s endings ≡ false
 
-return_ends_none : (s : TagState) (endings : ℕ) → is_tag_end (next_state s 13) endings ≡ false
-return_ends_none Start endings = refl
-return_ends_none Opened endings = refl
-return_ends_none Name endings = refl
-return_ends_none Spaced endings = refl
-return_ends_none AttributeName endings = refl
-return_ends_none AfterName endings = refl
-return_ends_none BeforeValue endings = refl
-return_ends_none Unquoted endings = refl
-return_ends_none (Quoted q) endings = elim (cases_Bool (13 == q)) [ inl e ↦ rw e refl | inr e ↦ rw e refl ]
-return_ends_none AfterValue endings = refl
-return_ends_none Slashed endings = refl
-return_ends_none Closing endings = refl
-return_ends_none ClosingName endings = refl
-return_ends_none ClosingSpaced endings = refl
-return_ends_none ClosingReturned endings = refl
-return_ends_none ClosingEnded endings = refl
-return_ends_none Open endings = refl
-return_ends_none Closed endings = refl
-return_ends_none Refused endings = refl
+  part_ends_none : EndsNone (after_part b)
+  part_ends_none = elim (cases_Bool (is_white_space b)) [
+    | inl w ↦ rw w refl
+    | inr w ↦ elim (cases_Bool (b == slash)) [ inl k ↦ rw (w, k) refl | inr k ↦ rw (w, k, other) refl ]
+  ]
+
+  attribute_name_ends_none : EndsNone (after_attribute_name b)
+  attribute_name_ends_none = elim (cases_Bool (is_white_space b)) [
+    | inl w ↦ rw w refl
+    | inr w ↦ elim (cases_Bool (b == equals_sign)) [ inl k ↦ rw (w, k) refl | inr k ↦ rw (w, k) (rw w at part_ends_none) ]
+  ]
+
+  before_value_ends_none : EndsNone (before_value b)
+  before_value_ends_none = elim (cases_Bool (is_white_space b)) [
+    | inl w ↦ rw w refl
+    | inr w ↦ elim (cases_Bool (is_unquoted b)) [
+      | inl u ↦ rw (w, u) refl
+      | inr u ↦ elim (cases_Bool (b == apostrophe)) [
+        | inl k ↦ rw (w, u, k) refl
+        | inr k ↦ elim (cases_Bool (b == quotation_mark)) [ inl q ↦ rw (w, u, k, q) refl | inr q ↦ rw (w, u, k, q) refl ]
+      ]
+    ]
+  ]
+
+  closing_name_ends_none : EndsNone (after_closing_name b)
+  closing_name_ends_none = elim (cases_Bool (is_white_space_in_line b)) [
+    | inl w ↦ rw w refl
+    | inr w ↦ elim (cases_Bool (b == carriage_return)) [
+      | inl k ↦ rw (w, k) refl
+      | inr k ↦ elim (cases_Bool (b == line_feed)) [ inl l ↦ rw (w, k, l) refl | inr l ↦ rw (w, k, l, other) refl ]
+    ]
+  ]
+
+  other_ends_none : (s : TagState) → EndsNone (next_state s b)
+  other_ends_none Start = elim (cases_Bool (b == less_than_sign)) [ inl k ↦ rw k refl | inr k ↦ rw k refl ]
+  other_ends_none Opened = elim (cases_Bool (is_letter b)) [ inl l ↦ rw l refl | inr l ↦ elim (cases_Bool (b == slash)) [ inl k ↦ rw (l, k) refl | inr k ↦ rw (l, k) refl ] ]
+  other_ends_none Name = elim (cases_Bool (is_tag_name_byte b)) [ inl k ↦ rw k refl | inr k ↦ rw k part_ends_none ]
+  other_ends_none Spaced = elim (cases_Bool (is_attribute_start b)) [ inl k ↦ rw k refl | inr k ↦ rw k part_ends_none ]
+  other_ends_none AttributeName = elim (cases_Bool (is_attribute_byte b)) [ inl k ↦ rw k refl | inr k ↦ rw k attribute_name_ends_none ]
+  other_ends_none AfterName = elim (cases_Bool (is_attribute_start b)) [ inl k ↦ rw k refl | inr k ↦ rw k attribute_name_ends_none ]
+  other_ends_none BeforeValue = before_value_ends_none
+  other_ends_none Unquoted = elim (cases_Bool (is_unquoted b)) [ inl k ↦ rw k refl | inr k ↦ rw k part_ends_none ]
+  other_ends_none (Quoted quote) = elim (cases_Bool (b == quote)) [ inl k ↦ rw k refl | inr k ↦ rw k refl ]
+  other_ends_none AfterValue = part_ends_none
+  other_ends_none Slashed = rw other refl
+  other_ends_none Closing = elim (cases_Bool (is_letter b)) [ inl k ↦ rw k refl | inr k ↦ rw k refl ]
+  other_ends_none ClosingName = elim (cases_Bool (is_tag_name_byte b)) [ inl k ↦ rw k refl | inr k ↦ rw k closing_name_ends_none ]
+  other_ends_none ClosingSpaced = closing_name_ends_none
+  other_ends_none ClosingReturned = elim (cases_Bool (is_white_space_in_line b || b == line_feed)) [ inl k ↦ rw k refl | inr k ↦ rw (k, other) refl ]
+  other_ends_none ClosingEnded = elim (cases_Bool (is_white_space_in_line b)) [ inl k ↦ rw k refl | inr k ↦ rw (k, other) refl ]
+  other_ends_none Open = refl
+  other_ends_none Closed = refl
+  other_ends_none Refused = refl
 
 pub line_ending_ends_none : (s : TagState) (b endings : ℕ) → is_line_ending b ≡ true → is_tag_end (next_state s b) endings ≡ false
-line_ending_ends_none s b endings e = elim (cases_Bool (b == 10)) [
-  | inl lf ↦ ap (λ z. is_tag_end (next_state s z) endings) (eqb-true b 10 lf) ∙ line_feed_ends_none s endings
-  | inr no_lf ↦ ap (λ z. is_tag_end (next_state s z) endings) (eqb-true b 13 (rw no_lf at e)) ∙ return_ends_none s endings
-]
+line_ending_ends_none s b endings e = other_ends_none b endings not_closing s
+  where
+    not_closing : (b == greater_than_sign) ≡ false
+    not_closing = grind (arith, nat_tests)

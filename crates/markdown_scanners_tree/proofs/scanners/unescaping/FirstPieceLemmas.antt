@@ -1,31 +1,32 @@
--- The first piece of a text, by what stands in front.
+-- The first piece of a text, by what stands at the front.
 use Rattle.std.proofs.Common.{◌≡◌, ◌≢◌, ℕ, ◌+◌, ◌-◌, ◌<◌, ◌≤◌, Bool, true, false, List, [], ◌∷◌, ◌++◌, length, get_or, refl, ap, ◌∙◌, sym, subst, arith, inl, inr, ◌⊎◌, eqb}
 use Rattle.std.specs.Prelude.{◌&&◌}
 use Rattle.std.proofs.lemmas.List.{append-nil, drop_all, length-append, get_or_append_left, get_or_at}
 use Rattle.std.proofs.lemmas.Bool.{false≢true, and_parts, and_from, eqb-true}
+use Rattle.markdown_scanners_tree.specs.Ascii.{carriage_return, number_sign, ampersand, semicolon, backslash, vertical_line}
 use Rattle.markdown_scanners_tree.specs.Bytes.{is_punctuation}
 use Rattle.markdown_scanners_tree.specs.scanners.Escapes.{starts_escape}
-use Rattle.markdown_scanners_tree.specs.scanners.entities.CharacterReference.{Lookup, StartsWithReference, IsReference}
+use Rattle.markdown_scanners_tree.specs.scanners.entities.CharacterReference.{Lookup, IsReference}
 use Rattle.markdown_scanners_tree.specs.scanners.unescaping.Unescaping.{Piece, IsFirstFit, IsItself, Fits, IsTablePipe, IsBackslashEscape, IsAmpersandReference, IsDroppedReturn}
-use Rattle.markdown_scanners_tree.specs.scanners.unescaping.private.FirstPiece.{IsFirstPiece, starts_pipe}
-use Rattle.markdown_scanners_tree.proofs.scanners.entities.ReferenceUnique.{same_front, same_meaning}
+use Rattle.markdown_scanners_tree.specs.scanners.unescaping.private.FirstPiece.{IsFirstPiece, StartsWithAmpersandReference, starts_pipe}
+use Rattle.markdown_scanners_tree.proofs.scanners.entities.ReferenceUnique.{same_source, same_meaning}
 
 pub no_pipe : (t : Bool) (text : List ℕ) → (t && starts_pipe text) ≡ false → ¬ Fits (IsTablePipe t) text
 no_pipe t text none fits =
-    let whole : text ≡ 92 ∷ 92 ∷ 124 ∷ fits.1 = fits.3 ∙ ap (λ s. s ++ fits.1) fits.4.1 in
+    let whole : text ≡ backslash ∷ backslash ∷ vertical_line ∷ fits.1 = fits.3 ∙ ap (λ s. s ++ fits.1) fits.4.1 in
     false≢true (sym none ∙ and_from t (starts_pipe text) fits.4.0 (ap starts_pipe whole))
 
 pub no_escape : (text : List ℕ) → starts_escape text ≡ false → ¬ Fits IsBackslashEscape text
 no_escape text none fits =
-    let whole : text ≡ 92 ∷ fits.4.0 ∷ fits.1 = fits.3 ∙ ap (λ s. s ++ fits.1) fits.4.2 in
+    let whole : text ≡ backslash ∷ fits.4.0 ∷ fits.1 = fits.3 ∙ ap (λ s. s ++ fits.1) fits.4.2 in
     false≢true (sym none ∙ (ap starts_escape whole ∙ fits.4.1))
 
-pub no_reference : (known : Lookup) (text : List ℕ) → (get_or text 0 0 ≡ 38 → (n : ℕ) (meaning : List ℕ) → ¬ StartsWithReference known text n meaning) → ¬ Fits (IsAmpersandReference known) text
+pub no_reference : (known : Lookup) (text : List ℕ) → ((n : ℕ) (meaning : List ℕ) → ¬ StartsWithAmpersandReference known text n meaning) → ¬ Fits (IsAmpersandReference known) text
 no_reference known text none fits =
-    let at : get_or text 0 0 ≡ 38 = ap (λ x. get_or x 0 0) (fits.3 ∙ ap (λ s. s ++ fits.1) fits.4.1) in
-    none at (length fits.0) fits.2 (record { front = fits.0; rest = fits.1; splits = fits.3; long = refl; is = fits.4.2 })
+    let at : get_or text 0 0 ≡ ampersand = ap (λ x. get_or x 0 0) (fits.3 ∙ ap (λ s. s ++ fits.1) fits.4.1) in
+    none (length fits.0) fits.2 (at, record { source = fits.0; rest = fits.1; splits = fits.3; n_is_length = refl; is_reference = fits.4.2 })
 
-pub no_return : (text : List ℕ) → get_or text 0 0 ≢ 13 → ¬ Fits IsDroppedReturn text
+pub no_return : (text : List ℕ) → get_or text 0 0 ≢ carriage_return → ¬ Fits IsDroppedReturn text
 no_return text none fits = none (ap (λ x. get_or x 0 0) (fits.3 ∙ ap (λ s. s ++ fits.1) fits.4.0))
 
 -- two bytes or more are no byte that means itself
@@ -37,20 +38,20 @@ pipe_piece t known [] yes' starts = absurd (false≢true starts)
 pipe_piece t known (a ∷ []) yes' starts = absurd (false≢true starts)
 pipe_piece t known (a ∷ b ∷ []) yes' starts = absurd (false≢true starts)
 pipe_piece t known (a ∷ b ∷ c ∷ rest) yes' starts =
-    let ab = and_parts (eqb a 92 && eqb b 92) (eqb c 124) starts in
-    let each = and_parts (eqb a 92) (eqb b 92) ab.0 in
-    let a92 = eqb-true a 92 each.0 in let b92 = eqb-true b 92 each.1 in let c124 = eqb-true c 124 ab.1 in
+    let ab = and_parts (eqb a backslash && eqb b backslash) (eqb c vertical_line) starts in
+    let each = and_parts (eqb a backslash) (eqb b backslash) ab.0 in
+    let a92 = eqb-true a backslash each.0 in let b92 = eqb-true b backslash each.1 in let c124 = eqb-true c vertical_line ab.1 in
     record {
-      piece = record { source = 92 ∷ 92 ∷ 124 ∷ []; meaning = 124 ∷ [] };
+      piece = record { source = backslash ∷ backslash ∷ vertical_line ∷ []; meaning = vertical_line ∷ [] };
       rest = rest;
-      splits = ap (λ x. x ∷ b ∷ c ∷ rest) a92 ∙ (ap (λ x. 92 ∷ x ∷ c ∷ rest) b92 ∙ ap (λ x. 92 ∷ 92 ∷ x ∷ rest) c124);
+      splits = ap (λ x. x ∷ b ∷ c ∷ rest) a92 ∙ (ap (λ x. backslash ∷ x ∷ c ∷ rest) b92 ∙ ap (λ x. backslash ∷ backslash ∷ x ∷ rest) c124);
       first = inl (yes', refl, refl);
-      long = refl;
-      one = omega arith;
-      less = omega arith;
+      n_is_length = refl;
+      at_least_one = omega arith;
+      dropped_within = omega arith;
       means = refl;
       itself = λ e. absurd (omega (arith, e));
-      changed = λ _. not_itself (92 ∷ 92 ∷ 124 ∷ []) (124 ∷ []) (omega arith);
+      changed = λ _. not_itself (backslash ∷ backslash ∷ vertical_line ∷ []) (vertical_line ∷ []) (omega arith);
       from_ascii = λ _. omega (arith, a92);
       to_ascii = λ _. omega (arith, b92);
     }
@@ -59,34 +60,34 @@ pub escape_piece : (t : Bool) (known : Lookup) (text : List ℕ) → (t && start
 escape_piece t known [] none starts = absurd (false≢true starts)
 escape_piece t known (a ∷ []) none starts = absurd (false≢true starts)
 escape_piece t known (a ∷ p ∷ rest) none starts =
-    let each = and_parts (eqb a 92) (is_punctuation p) starts in
-    let a92 = eqb-true a 92 each.0 in
+    let each = and_parts (eqb a backslash) (is_punctuation p) starts in
+    let a92 = eqb-true a backslash each.0 in
     record {
-      piece = record { source = 92 ∷ p ∷ []; meaning = p ∷ [] };
+      piece = record { source = backslash ∷ p ∷ []; meaning = p ∷ [] };
       rest = rest;
       splits = ap (λ x. x ∷ p ∷ rest) a92;
       first = inr (no_pipe t (a ∷ p ∷ rest) none, inl (p, each.1, refl, refl));
-      long = refl;
-      one = omega arith;
-      less = omega arith;
+      n_is_length = refl;
+      at_least_one = omega arith;
+      dropped_within = omega arith;
       means = refl;
       itself = λ e. absurd (omega (arith, e));
-      changed = λ _. not_itself (92 ∷ p ∷ []) (p ∷ []) (omega arith);
+      changed = λ _. not_itself (backslash ∷ p ∷ []) (p ∷ []) (omega arith);
       from_ascii = λ _. omega (arith, a92);
       to_ascii = λ _. omega (arith, a92);
     }
 
 pub return_piece : (t : Bool) (known : Lookup) (text : List ℕ) → 0 < length text → (t && starts_pipe text) ≡ false → starts_escape text ≡ false
-    → (get_or text 0 0 ≡ 38 → (n : ℕ) (meaning : List ℕ) → ¬ StartsWithReference known text n meaning) → get_or text 0 0 ≡ 13 → IsFirstPiece t known text 1 1 []
+    → ((n : ℕ) (meaning : List ℕ) → ¬ StartsWithAmpersandReference known text n meaning) → get_or text 0 0 ≡ carriage_return → IsFirstPiece t known text 1 1 []
 return_piece t known [] some none1 none2 none3 at = absurd (omega (arith, some))
 return_piece t known (b ∷ rest) some none1 none2 none3 at = record {
-  piece = record { source = 13 ∷ []; meaning = [] };
+  piece = record { source = carriage_return ∷ []; meaning = [] };
   rest = rest;
   splits = ap (λ x. x ∷ rest) at;
   first = inr (no_pipe t (b ∷ rest) none1, inr (no_escape (b ∷ rest) none2, inr (no_reference known (b ∷ rest) none3, inl (refl, refl))));
-  long = refl;
-  one = omega arith;
-  less = omega arith;
+  n_is_length = refl;
+  at_least_one = omega arith;
+  dropped_within = omega arith;
   means = refl;
   itself = λ e. absurd (omega (arith, e));
   changed = λ _ is. absurd (omega (arith, ap length is.2));
@@ -95,16 +96,16 @@ return_piece t known (b ∷ rest) some none1 none2 none3 at = record {
 }
 
 pub itself_piece : (t : Bool) (known : Lookup) (text : List ℕ) → 0 < length text → (t && starts_pipe text) ≡ false → starts_escape text ≡ false
-    → (get_or text 0 0 ≡ 38 → (n : ℕ) (meaning : List ℕ) → ¬ StartsWithReference known text n meaning) → get_or text 0 0 ≢ 13 → IsFirstPiece t known text 1 0 []
+    → ((n : ℕ) (meaning : List ℕ) → ¬ StartsWithAmpersandReference known text n meaning) → get_or text 0 0 ≢ carriage_return → IsFirstPiece t known text 1 0 []
 itself_piece t known [] some none1 none2 none3 at = absurd (omega (arith, some))
 itself_piece t known (b ∷ rest) some none1 none2 none3 at = record {
   piece = record { source = b ∷ []; meaning = b ∷ [] };
   rest = rest;
   splits = refl;
   first = inr (no_pipe t (b ∷ rest) none1, inr (no_escape (b ∷ rest) none2, inr (no_reference known (b ∷ rest) none3, inr (no_return (b ∷ rest) at, (b, refl, refl)))));
-  long = refl;
-  one = omega arith;
-  less = omega arith;
+  n_is_length = refl;
+  at_least_one = omega arith;
+  dropped_within = omega arith;
   means = refl;
   itself = λ _. (b, refl, refl);
   changed = λ e. absurd (omega (arith, e));
@@ -113,39 +114,40 @@ itself_piece t known (b ∷ rest) some none1 none2 none3 at = record {
 }
 
 -- a reference is a byte, some bytes and a semicolon
-pub reference_shape : (known : Lookup) (front meaning : List ℕ) → IsReference known front meaning → (opener : ℕ) × (body : List ℕ) × (front ≡ opener ∷ (body ++ 59 ∷ []))
-reference_shape known front meaning is = elim is [
-  | inl decimal ↦ (decimal.opener, 35 ∷ decimal.digits, decimal.spelled)
+pub reference_shape : (known : Lookup) (source meaning : List ℕ) → IsReference known source meaning → (opener : ℕ) × (body : List ℕ) × (source ≡ opener ∷ (body ++ semicolon ∷ []))
+reference_shape known source meaning is = elim is [
+  | inl decimal ↦ (decimal.opener, number_sign ∷ decimal.digits, decimal.spelled)
   | inr other ↦ elim other [
-    | inl hexadecimal ↦ (hexadecimal.opener, 35 ∷ hexadecimal.mark ∷ hexadecimal.digits, hexadecimal.spelled)
+    | inl hexadecimal ↦ (hexadecimal.opener, number_sign ∷ hexadecimal.mark ∷ hexadecimal.digits, hexadecimal.spelled)
     | inr entity ↦ (entity.opener, entity.name, entity.spelled)
   ]
 ]
 
 pub reference_piece : (t : Bool) (known : Lookup) (text : List ℕ) (n : ℕ) (meaning : List ℕ) → (t && starts_pipe text) ≡ false → starts_escape text ≡ false
-    → get_or text 0 0 ≡ 38 → StartsWithReference known text n meaning → IsFirstPiece t known text n n meaning
-reference_piece t known text n meaning none1 none2 at is =
-    let shape = reference_shape known is.front meaning is.is in
-    let whole : text ≡ shape.0 ∷ (shape.1 ++ 59 ∷ []) ++ is.rest = is.splits ∙ ap (λ f. f ++ is.rest) shape.2 in
-    let amp : shape.0 ≡ 38 = sym (ap (λ x. get_or x 0 0) whole) ∙ at in
-    let long : length is.front ≡ length shape.1 + 2 = omega (arith, ap length shape.2, length-append shape.1 (59 ∷ [])) in
-    let place : n - 1 ≡ length (shape.0 ∷ shape.1) = omega (arith, is.long, long) in
-    let last : get_or text (n - 1) 0 ≡ 59 =
-    ap (λ x. get_or x (n - 1) 0) whole ∙ (ap (λ k. get_or (shape.0 ∷ (shape.1 ++ 59 ∷ []) ++ is.rest) k 0) place
-    ∙ (get_or_append_left (shape.0 ∷ (shape.1 ++ 59 ∷ [])) is.rest 0 (length (shape.0 ∷ shape.1)) (omega (arith, length-append shape.1 (59 ∷ [])))
-    ∙ get_or_at (shape.0 ∷ shape.1) 59 [] 0 (length (shape.0 ∷ shape.1)) refl)) in
+    → StartsWithAmpersandReference known text n meaning → IsFirstPiece t known text n n meaning
+reference_piece t known text n meaning none1 none2 starts =
+    let is = starts.1 in
+    let shape = reference_shape known is.source meaning is.is_reference in
+    let whole : text ≡ shape.0 ∷ (shape.1 ++ semicolon ∷ []) ++ is.rest = is.splits ∙ ap (λ s. s ++ is.rest) shape.2 in
+    let amp : shape.0 ≡ ampersand = sym (ap (λ x. get_or x 0 0) whole) ∙ starts.0 in
+    let long : length is.source ≡ length shape.1 + 2 = omega (arith, ap length shape.2, length-append shape.1 (semicolon ∷ [])) in
+    let place : n - 1 ≡ length (shape.0 ∷ shape.1) = omega (arith, is.n_is_length, long) in
+    let last : get_or text (n - 1) 0 ≡ semicolon =
+    ap (λ x. get_or x (n - 1) 0) whole ∙ (ap (λ k. get_or (shape.0 ∷ (shape.1 ++ semicolon ∷ []) ++ is.rest) k 0) place
+    ∙ (get_or_append_left (shape.0 ∷ (shape.1 ++ semicolon ∷ [])) is.rest 0 (length (shape.0 ∷ shape.1)) (omega (arith, length-append shape.1 (semicolon ∷ [])))
+    ∙ get_or_at (shape.0 ∷ shape.1) semicolon [] 0 (length (shape.0 ∷ shape.1)) refl)) in
     record {
-      piece = record { source = is.front; meaning = meaning };
+      piece = record { source = is.source; meaning = meaning };
       rest = is.rest;
       splits = is.splits;
-      first = inr (no_pipe t text none1, inr (no_escape text none2, inl (shape.1 ++ 59 ∷ [], shape.2 ∙ ap (λ x. x ∷ (shape.1 ++ 59 ∷ [])) amp, is.is)));
-      long = is.long;
-      one = omega (arith, is.long, long);
-      less = omega arith;
-      means = sym (ap (λ r. meaning ++ r) (drop_all n is.front (omega (arith, is.long))) ∙ append-nil meaning);
-      itself = λ e. absurd (omega (arith, e, is.long, long));
-      changed = λ _. not_itself is.front meaning (omega (arith, long));
-      from_ascii = λ _. omega (arith, at);
+      first = inr (no_pipe t text none1, inr (no_escape text none2, inl (shape.1 ++ semicolon ∷ [], shape.2 ∙ ap (λ x. x ∷ (shape.1 ++ semicolon ∷ [])) amp, is.is_reference)));
+      n_is_length = is.n_is_length;
+      at_least_one = omega (arith, is.n_is_length, long);
+      dropped_within = omega arith;
+      means = sym (ap (λ r. meaning ++ r) (drop_all n is.source (omega (arith, is.n_is_length))) ∙ append-nil meaning);
+      itself = λ e. absurd (omega (arith, e, is.n_is_length, long));
+      changed = λ _. not_itself is.source meaning (omega (arith, long));
+      from_ascii = λ _. omega (arith, starts.0);
       to_ascii = λ _. omega (arith, last);
     }
 
@@ -165,12 +167,12 @@ escape_once source rest meaning source' rest' meaning' same is is' =
     let here : get_or (source ++ rest) 1 0 ≡ is.0 = ap (λ s. get_or (s ++ rest) 1 0) is.2 in
     let there : get_or (source' ++ rest') 1 0 ≡ is'.0 = ap (λ s. get_or (s ++ rest') 1 0) is'.2 in
     let byte : is.0 ≡ is'.0 = sym here ∙ (ap (λ s. get_or s 1 0) same ∙ there) in
-    (is.2 ∙ (ap (λ b. 92 ∷ b ∷ []) byte ∙ sym is'.2), is.3 ∙ (ap (λ b. b ∷ []) byte ∙ sym is'.3))
+    (is.2 ∙ (ap (λ b. backslash ∷ b ∷ []) byte ∙ sym is'.2), is.3 ∙ (ap (λ b. b ∷ []) byte ∙ sym is'.3))
 
 reference_once : (known : Lookup) → FitsOnce (IsAmpersandReference known)
 reference_once known source rest meaning source' rest' meaning' same is is' =
-    let front : source ≡ source' = same_front known source rest meaning source' rest' meaning' same is.2 is'.2 in
-    (front, same_meaning known source' meaning meaning' (subst (λ f. IsReference known f meaning) front is.2) is'.2)
+    let sources : source ≡ source' = same_source known source rest meaning source' rest' meaning' same is.2 is'.2 in
+    (sources, same_meaning known source' meaning meaning' (subst (λ s. IsReference known s meaning) sources is.2) is'.2)
 
 return_once : FitsOnce IsDroppedReturn
 return_once source rest meaning source' rest' meaning' same is is' = (is.0 ∙ sym is'.0, is.1 ∙ sym is'.1)

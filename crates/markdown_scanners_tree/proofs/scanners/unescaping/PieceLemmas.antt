@@ -1,12 +1,14 @@
 -- The pieces of a text, found one after another.
-use Rattle.std.proofs.Common.{◌≡◌, ℕ, ◌+◌, ◌-◌, ◌^◌, ◌<◌, ◌≤◌, Bool, false, min, nat_lt, if◌then◌else◌, List, [], ◌∷◌, ◌++◌, length, take, drop, refl, ap, ◌∙◌, sym, subst, arith, append_assoc, take-add, inl, inr}
+use Rattle.std.proofs.Common.{◌≡◌, ℕ, ◌+◌, ◌-◌, ◌^◌, ◌<◌, ◌≤◌, Bool, false, min, List, [], ◌∷◌, ◌++◌, length, take, drop, refl, ap, ◌∙◌, sym, subst, arith, append_assoc, take-add, inl, inr}
+use Rattle.std.specs.Prelude.{String}
+use Rattle.std.specs.String.{string_bytes, string_len}
 use Rattle.std.specs.Str.{IsUtf8, IsCharBoundary}
 use Rattle.std.proofs.lemmas.Str.{IsCharBoundary-after_ascii, IsCharBoundary-start}
 use Rattle.std.proofs.lemmas.List.{length-append, length-drop, append-nil, append_cancel_left, drop-drop, drop_at, take_at, drop_all, take_all, get_or-drop, drop-take}
-use Rattle.std.proofs.lemmas.Bool.{cases_lt, lt-ltb, le-ltb}
+use Rattle.std.proofs.lemmas.Bool.{cases_lt}
 use Rattle.markdown_scanners_tree.specs.scanners.entities.CharacterReference.{Lookup}
 use Rattle.markdown_scanners_tree.specs.scanners.unescaping.Unescaping.{Piece, ArePieces, IsFirstFit, IsItself, AreThemselves, joined_meanings}
-use Rattle.markdown_scanners_tree.specs.scanners.unescaping.private.FirstPiece.{IsFirstPiece}
+use Rattle.markdown_scanners_tree.specs.scanners.unescaping.private.FirstPiece.{IsFirstPiece, IsPushed, change_len}
 use Rattle.markdown_scanners_tree.proofs.scanners.unescaping.FirstPieceLemmas.{same_first}
 
 -- pieces that mean themselves mean the text
@@ -18,49 +20,49 @@ themselves_join in_table known text (p ∷ ps) are selves =
 -- The first piece at place i, which is n bytes long.
 module _ (in_table : Bool) (known : Lookup) (text : List ℕ) (i n dropped : ℕ) (instead : List ℕ) (is : IsFirstPiece in_table known (drop i text) n dropped instead) where
   after_first : drop (i + n) text ≡ is.rest
-  after_first = sym (drop-drop n i text) ∙ (ap (drop n) is.splits ∙ drop_at is.piece.source is.rest n (sym is.long))
+  after_first = sym (drop-drop n i text) ∙ (ap (drop n) is.splits ∙ drop_at is.piece.source is.rest n (sym is.n_is_length))
 
   source_is : is.piece.source ≡ take n (drop i text)
-  source_is = sym (ap (take n) is.splits ∙ take_at is.piece.source is.rest n (sym is.long))
+  source_is = sym (ap (take n) is.splits ∙ take_at is.piece.source is.rest n (sym is.n_is_length))
 
   -- the pieces after it, with it
   pub one_more : (qs : List Piece) → ArePieces in_table known (drop (i + n) text) qs → ArePieces in_table known (drop i text) (is.piece ∷ qs)
   one_more qs are = (is.rest, is.splits, is.first, subst (λ r. ArePieces in_table known r qs) after_first are)
 
   pub first_within : i ≤ length text → i + n ≤ length text
-  first_within in' = omega (arith, is.long, ap length is.splits, length-append is.piece.source is.rest, length-drop i text, in')
+  first_within in' = omega (arith, is.n_is_length, ap length is.splits, length-append is.piece.source is.rest, length-drop i text, in')
 
   -- where it is changed, the text may be cut after what is dropped of it
   dropped_cut : IsUtf8 text → 0 < dropped → i + n ≤ length text → IsCharBoundary text (i + dropped)
   dropped_cut utf8 some in' =
       let at : i + (dropped - 1) + 1 ≡ i + dropped = omega (arith, some) in
-      subst (IsCharBoundary text) at (IsCharBoundary-after_ascii text (i + (dropped - 1)) utf8 (omega (arith, some, is.less, in'))
+      subst (IsCharBoundary text) at (IsCharBoundary-after_ascii text (i + (dropped - 1)) utf8 (omega (arith, some, is.dropped_within, in'))
       (subst (λ b. b < 128) (get_or-drop i text (dropped - 1) 0) (is.to_ascii some)))
 
   meaning_len : length is.piece.meaning ≡ length instead + (n - dropped)
-  meaning_len = omega (arith, ap length is.means, length-append instead (drop dropped is.piece.source), length-drop dropped is.piece.source, is.long, is.less)
+  meaning_len = omega (arith, ap length is.means, length-append instead (drop dropped is.piece.source), length-drop dropped is.piece.source, is.n_is_length, is.dropped_within)
 
   -- Some pieces of what stands at the place are this one and those after it.
   record IsFirstOf (qs : List Piece) : Type 0 where
     later : List Piece
-    are : ArePieces in_table known (drop (i + n) text) later
+    later_are : ArePieces in_table known (drop (i + n) text) later
     joined : joined_meanings qs ≡ is.piece.meaning ++ joined_meanings later
     itself : AreThemselves qs → dropped ≡ 0
-    selves : AreThemselves qs → AreThemselves later
-    all : dropped ≡ 0 → AreThemselves later → AreThemselves qs
+    later_themselves : AreThemselves qs → AreThemselves later
+    themselves : dropped ≡ 0 → AreThemselves later → AreThemselves qs
 
   first_of : (qs : List Piece) → ArePieces in_table known (drop i text) qs → IsFirstOf qs
-  first_of [] are = absurd (omega (arith, is.one, is.long, ap length (sym are ∙ is.splits), length-append is.piece.source is.rest))
+  first_of [] are = absurd (omega (arith, is.at_least_one, is.n_is_length, ap length (sym are ∙ is.splits), length-append is.piece.source is.rest))
   first_of (q ∷ qs) are =
       let same = same_first in_table known (drop i text) is.piece q is.rest are.0 is.splits are.1 is.first are.2 in
       let rest : is.rest ≡ are.0 = append_cancel_left q.source is.rest are.0 (ap (λ s. s ++ is.rest) (sym same.0) ∙ (sym is.splits ∙ are.1)) in
       record {
         later = qs;
-        are = subst (λ r. ArePieces in_table known r qs) (sym (after_first ∙ rest)) are.3;
+        later_are = subst (λ r. ArePieces in_table known r qs) (sym (after_first ∙ rest)) are.3;
         joined = ap (λ m. m ++ joined_meanings qs) (sym same.1);
         itself = λ selves. elim_dropped (λ some. is.changed some (subst (λ m. IsItself is.piece.source m) (sym same.1) (subst (λ s. IsItself s q.meaning) (sym same.0) selves.0)));
-        selves = λ selves. selves.1;
-        all = λ none rest_selves. (subst (λ m. IsItself q.source m) same.1 (subst (λ s. IsItself s is.piece.meaning) same.0 (is.itself none)), rest_selves);
+        later_themselves = λ selves. selves.1;
+        themselves = λ none rest_selves. (subst (λ m. IsItself q.source m) same.1 (subst (λ s. IsItself s is.piece.meaning) same.0 (is.itself none)), rest_selves);
       }
     where
       elim_dropped : (0 < dropped → ⊥) → dropped ≡ 0
@@ -89,10 +91,10 @@ measured_more in_table known text i n dropped instead changes changes' len len' 
           let old = so_far.back ps are in
           let first = first_of in_table known text i n dropped instead is old.0 old.1 in (
             first.later,
-            first.are,
+            first.later_are,
             omega (arith, old.2, ap length first.joined, length-append is.piece.meaning (joined_meanings first.later)),
-            λ selves. (on (old.3 selves).0 (first.itself (old.3 selves).1), first.selves (old.3 selves).1),
-            λ no' selves. old.4 (off no').0 (first.all (off no').1 selves),
+            λ selves. (on (old.3 selves).0 (first.itself (old.3 selves).1), first.later_themselves (old.3 selves).1),
+            λ no' selves. old.4 (off no').0 (first.themselves (off no').1 selves),
           );
     }
 
@@ -170,12 +172,12 @@ module _ (in_table : Bool) (known : Lookup) (text : List ℕ) (i n run : ℕ) (b
         let self = is.itself refl in
         let same : is.piece.meaning ≡ take n (drop i text) = self.2 ∙ (sym self.1 ∙ source_is in_table known text i n 0 instead is) in (
           first.later,
-          first.are,
+          first.later_are,
           old.2 ∙ ap (λ r. out ++ r)
               (ap (λ m. take (i - run) (drop run text) ++ m) (first.joined ∙ ap (λ m. m ++ joined_meanings first.later) same)
               ∙ (sym (append_assoc (take (i - run) (drop run text)) (take n (drop i text)) (joined_meanings first.later))
               ∙ ap (λ r. r ++ joined_meanings first.later) (sym (run_on text run i n so_far.ordered)))),
-          omega (arith, old.3, so_far.ordered, ap length first.joined, length-append is.piece.meaning (joined_meanings first.later), ap length self.2, ap length self.1, is.long),
+          omega (arith, old.3, so_far.ordered, ap length first.joined, length-append is.piece.meaning (joined_meanings first.later), ap length self.2, ap length self.1, is.n_is_length),
         );
   }
 
@@ -186,51 +188,50 @@ module _ (in_table : Bool) (known : Lookup) (text : List ℕ) (i n run : ℕ) (b
       let in' = first_within in_table known text i n dropped instead is so_far.within in
       record {
         within = in';
-        ordered = omega (arith, is.less);
+        ordered = omega (arith, is.dropped_within);
         cut = dropped_cut in_table known text i n dropped instead is utf8 some in';
         back = λ ps are.
             let old = so_far.back ps are in
             let first = first_of in_table known text i n dropped instead is old.0 old.1 in
-            let whole : n ≡ dropped + (n - dropped) = omega (arith, is.less) in
-            let left : n - dropped ≡ i + n - (i + dropped) = omega (arith, is.less) in
+            let whole : n ≡ dropped + (n - dropped) = omega (arith, is.dropped_within) in
+            let left : n - dropped ≡ i + n - (i + dropped) = omega (arith, is.dropped_within) in
             let kept : drop dropped is.piece.source ≡ take (i + n - (i + dropped)) (drop (i + dropped) text) =
             ap (drop dropped) (source_is in_table known text i n dropped instead is) ∙ (ap (λ k. drop dropped (take k (drop i text))) whole ∙ (drop-take dropped (n - dropped) (drop i text) ∙ (ap (λ k. take k (drop dropped (drop i text))) left ∙ ap (take (i + n - (i + dropped))) (drop-drop dropped i text)))) in (
               first.later,
-              first.are,
+              first.later_are,
               old.2 ∙ (ap (λ m. out ++ (take (i - run) (drop run text) ++ m)) (first.joined ∙ ap (λ m. m ++ joined_meanings first.later) (is.means ∙ ap (λ r. instead ++ r) kept))
                   ∙ regroup out (take (i - run) (drop run text)) instead (take (i + n - (i + dropped)) (drop (i + dropped) text)) (joined_meanings first.later)),
-              omega (arith, old.3, so_far.ordered, is.less, ap length first.joined, length-append is.piece.meaning (joined_meanings first.later), meaning_len in_table known text i n dropped instead is),
+              omega (arith, old.3, so_far.ordered, is.dropped_within, ap length first.joined, length-append is.piece.meaning (joined_meanings first.later), meaning_len in_table known text i n dropped instead is),
             );
       }
 
-  -- one more piece, as the answers of a push tell of it
-  pub built_more : (dropped : ℕ) (instead : List ℕ) (run' : ℕ) (out' : List ℕ) (out_len' : ℕ) → IsUtf8 text → IsFirstPiece in_table known (drop i text) n dropped instead
-      → run' ≡ (if nat_lt 0 dropped then i + dropped else run) → out' ≡ (if nat_lt 0 dropped then out ++ (take (i - run) (drop run text) ++ instead) else out)
-      → out_len' ≡ (if nat_lt 0 dropped then out_len + ((i - run) + length instead) else out_len) → IsBuilt in_table known text (i + n) run' base base_len out' out_len'
-  built_more dropped instead run' out' out_len' utf8 is run_is out_is len_is =
-      elim (cases_lt 0 dropped) [
-        | inl some ↦
-            let test = lt-ltb 0 dropped some in
-            let r : run' ≡ i + dropped = run_is ∙ rw test refl in
-            let o : out' ≡ out ++ (take (i - run) (drop run text) ++ instead) = out_is ∙ rw test refl in
-            let l : out_len' ≡ out_len + ((i - run) + length instead) = len_is ∙ rw test refl in
-            rw (r, o, l) (built_changed dropped instead utf8 is some)
-        | inr none ↦
-            let test = le-ltb 0 dropped none in
-            let r : run' ≡ run = run_is ∙ rw test refl in
-            let o : out' ≡ out = out_is ∙ rw test refl in
-            let l : out_len' ≡ out_len = len_is ∙ rw test refl in
-            let zero' : dropped ≡ 0 = omega (arith, none) in
-            rw (r, o, l) (built_plain instead (subst (λ d. IsFirstPiece in_table known (drop i text) n d instead) zero' is))
-      ]
-
   -- where there is room for all that the pieces mean, there is room for what is appended at a piece
   pub built_room : (dropped : ℕ) (instead : List ℕ) (ps : List Piece) (capacity : ℕ) → IsFirstPiece in_table known (drop i text) n dropped instead → ArePieces in_table known text ps
-      → base_len + length (joined_meanings ps) ≤ capacity → out_len + ((i - run) + length instead) ≤ capacity
+      → base_len + length (joined_meanings ps) ≤ capacity → out_len + change_len run i instead ≤ capacity
   built_room dropped instead ps capacity is are room =
       let old = so_far.back ps are in
       let first = first_of in_table known text i n dropped instead is old.0 old.1 in
       omega (arith, room, old.3, ap length first.joined, length-append is.piece.meaning (joined_meanings first.later), meaning_len in_table known text i n dropped instead is)
+
+-- the same in equal terms
+same_built : (in_table : Bool) (known : Lookup) (text : List ℕ) (i run run' : ℕ) (base : List ℕ) (base_len : ℕ) (out out' : List ℕ) (out_len out_len' : ℕ)
+    → run ≡ run' → out ≡ out' → out_len ≡ out_len' → IsBuilt in_table known text i run' base base_len out' out_len' → IsBuilt in_table known text i run base base_len out out_len
+same_built in_table known text i run run' base base_len out out' out_len out_len' runs outs lens built = rw (runs, outs, lens) built
+
+-- one more piece, as a push tells of it
+pub built_more : {Z : Type 0} (in_table : Bool) (known : Lookup) (text : List ℕ) (i n run : ℕ) (base : List ℕ) (base_len dropped : ℕ) (instead : List ℕ) (old new : String Z) (next : ℕ)
+    → IsBuilt in_table known text i run base base_len (string_bytes old) (string_len old) → IsUtf8 text → IsFirstPiece in_table known (drop i text) n dropped instead
+    → IsPushed text run i dropped instead old new next → IsBuilt in_table known text (i + n) next base base_len (string_bytes new) (string_len new)
+built_more in_table known text i n run base base_len dropped instead old new next so_far utf8 is pushed = elim (cases_lt 0 dropped) [
+  | inl some ↦
+      let after = pushed.changed some in
+      same_built in_table known text (i + n) next (i + dropped) base base_len (string_bytes new) _ (string_len new) _ after.0 after.1 after.2 (built_changed in_table known text i n run base base_len (string_bytes old) (string_len old) so_far dropped instead utf8 is some)
+  | inr none ↦
+      let zero' : dropped ≡ 0 = omega (arith, none) in
+      let after = pushed.itself zero' in
+      same_built in_table known text (i + n) next run base base_len (string_bytes new) _ (string_len new) _ after.0 after.1.0 after.1.1 (built_plain in_table known text i n run base base_len (string_bytes old) (string_len old) so_far instead
+      (subst (λ d. IsFirstPiece in_table known (drop i text) n d instead) zero' is))
+]
 
 -- at the end: the rest from `run` on completes what the pieces mean
 pub built_end : (in_table : Bool) (known : Lookup) (text : List ℕ) (i run : ℕ) (base : List ℕ) (base_len : ℕ) (out : List ℕ) (out_len : ℕ) → IsBuilt in_table known text i run base base_len out out_len

@@ -1,4 +1,5 @@
--- The bytes that scans of raw HTML pass over, as a function of the text and the accepted places. (CommonMark 0.31.2, section 6.6, raw HTML)
+-- The bytes that scans of raw HTML pass over, as a function of the text and the accepted places.
+-- (CommonMark 0.31.2, section 6.6, raw HTML)
 use Rattle.std.specs.Prelude.{ℕ, ◌+◌, Bool, true, false, ◌&&◌, is_none, List, [], ◌∷◌}
 use Rattle.std.specs.List.{list_any}
 use Rattle.markdown_scanners_tree.specs.inline_html.InlineHtml.{Kind, Comment, Cdata, Declaration, Processing, Opening, Begins, Hyphen, Bracket, Nothing, opening_at, find_at, cost}
@@ -29,7 +30,8 @@ is_shut_after text earlier kind = list_any (is_unclosed text kind) earlier
 -- the sum over the places, each with those before it
 abbrev pub sum_after : List ℕ → List ℕ → List ℕ → ℕ
 sum_after text earlier [] = 0
-sum_after text earlier (p ∷ places) = cost text (is_shut_after text earlier) (opening_at text p) p + sum_after text (p ∷ earlier) places
+sum_after text earlier (p ∷ places) =
+    cost text (is_shut_after text earlier) (opening_at text p) p + sum_after text (p ∷ earlier) places
 
 -- the bytes that scans at the places pass over
 abbrev pub bytes_passed : List ℕ → List ℕ → ℕ

@@ -1,4 +1,5 @@
--- A run of scans of raw HTML over rising places of one text, and the bytes that it passes over. (CommonMark 0.31.2, section 6.6, raw HTML)
+-- A run of scans of raw HTML over rising places of one text, and the bytes that it passes over.
+-- (CommonMark 0.31.2, section 6.6, raw HTML)
 use Rattle.std.specs.Prelude.{ℕ, ◌+◌, ◌*◌, ◌≤◌, ◌<◌, Bool, true, false, nat_le, nat_lt, is_none, List, [], ◌∷◌, length, Option, Some, None, Result, Ok, Err, unwrap_or, if◌then◌else◌}
 use Rattle.markdown_scanners_tree.specs.declared.inline_html.HtmlStop.{HtmlStop}
 use Rattle.markdown_scanners_tree.specs.declared.inline_html.HtmlStop.TheVariants.{NoOpener, NotRising, InsideFind}
@@ -23,7 +24,8 @@ shutting shut Cdata = record shut { cdata = true }
 shutting shut Declaration = record shut { declaration = true }
 shutting shut Processing = record shut { processing = true }
 
--- a text, the last place accepted and the end of the last find (each 0 before the first), the shut kinds, the bytes passed over, the steps
+-- a text, the last place accepted and the end of the last find (each 0 before the first), the shut kinds, the bytes
+-- passed over, the steps
 pub record Run : Type 0 where
   pub text : List ℕ
   pub last : ℕ
@@ -83,12 +85,16 @@ run_after run p None = run_step run p
 -- the finds of the places in turn, up to the first refused
 abbrev pub run_answers : Run → List ℕ → List (Option ℕ)
 run_answers run [] = []
-run_answers run (p ∷ places) = if is_none (refusal run p) then find_at run.text p ∷ run_answers (run_step run p) places else []
+run_answers run (p ∷ places) =
+    if is_none (refusal run p) then find_at run.text p ∷ run_answers (run_step run p) places
+    else []
 
 -- the bytes passed over at them
 abbrev pub run_passed : Run → List ℕ → ℕ
 run_passed run [] = run.passed
-run_passed run (p ∷ places) = if is_none (refusal run p) then run_passed (run_step run p) places else run.passed
+run_passed run (p ∷ places) =
+    if is_none (refusal run p) then run_passed (run_step run p) places
+    else run.passed
 
 abbrev pub stop_at : Option HtmlStop → ℕ → Option (ℕ × HtmlStop) → Option (ℕ × HtmlStop)
 stop_at None i later = later
@@ -106,7 +112,9 @@ one_if b = if b then 1 else 0
 abbrev pub count_shut : ShutKinds → ℕ
 count_shut shut = one_if shut.comment + one_if shut.cdata + one_if shut.declaration + one_if shut.processing
 
--- The bytes passed over are at most four for each byte of the text and eight for each step; while a kind is open, once the text for each shut kind, the way to the last find, and eight for each step.
+-- The bytes passed over are at most four for each byte of the text and eight for each step; while a kind is open, once
+-- the text for each shut kind, the way to the last find, and eight for each step.
 pub record IsWithinBudget (run : Run) : Type 0 where
   pub whole : run.passed ≤ 4 * length run.text + 8 * run.steps
-  pub while_open : count_shut run.shut < 4 → run.passed ≤ count_shut run.shut * length run.text + run.find_end + 8 * run.steps
+  pub while_open : count_shut run.shut < 4
+      → run.passed ≤ count_shut run.shut * length run.text + run.find_end + 8 * run.steps

@@ -1,1 +1,1 @@
-pub mod KeptFields
+pub mod RunFields

@@ -1,4 +1,5 @@
--- A list of calls on a line, as if its tabs were written out. (CommonMark 0.31.2, section 2.2, tabs)
+-- A list of calls on a line, as if its tabs were written out.
+-- (CommonMark 0.31.2, section 2.2, tabs)
 use Rattle.std.specs.Prelude.{ℕ, Bool, true, false, ◌&&◌, not, nat_le, List, [], ◌∷◌, ◌+◌, ◌-◌, ◌^◌, length, drop, Option, Some, None, if◌then◌else◌}
 use Rattle.markdown_scanners_tree.specs.Columns.{expanded, is_on_byte, bytes_below}
 use Rattle.markdown_scanners_tree.specs.line.PlainStep.{plain_step}
@@ -20,14 +21,16 @@ is_indent_small (ItemCall indent) = nat_le indent (2 ^ 64 - 17)
 is_indent_small (DefinitionCall indent) = nat_le indent (2 ^ 64 - 17)
 is_indent_small _ = true
 
--- why a call is refused, if it is, where a byte or the end of the head stands at the column that is reached, or where none does
+-- why a call is refused, if it is, where a byte or the end of the head stands at the column that is
+-- reached, or where none does
 abbrev pub refusal : Bool → LineCall → Option LineStop
 refusal on_byte call =
     if not (takes_space call) && not on_byte then Some SpacePending
     else if not (is_indent_small call) then Some IndentTooLarge
     else None
 
--- the answers, the column of the written out line that is reached, and why the next call is refused, if one is
+-- the answers, the column of the written out line that is reached, and why the next call is
+-- refused, if one is
 pub record Run : Type 0 where
   pub answers : List LineAnswer
   pub column : ℕ
@@ -37,7 +40,8 @@ pub record Run : Type 0 where
 abbrev pub after_answer : LineAnswer → Run → Run
 after_answer a run = record run { answers = a ∷ run.answers }
 
--- the calls in order from a column: each takes bytes of the written out line, so as many columns (2.2)
+-- the calls in order from a column: each takes bytes of the written out line, so as many columns
+-- (2.2)
 abbrev pub run_from : List ℕ → ℕ → List LineCall → Run
 run_from line column [] = record { answers = []; column = column; stop = None }
 run_from line column (call ∷ calls) =

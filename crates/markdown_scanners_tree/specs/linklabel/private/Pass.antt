@@ -1,7 +1,10 @@
 -- What the two passes over a label tell each other.
-use Rattle.std.specs.Prelude.{ℕ, Bool, true, false, ◌&&◌, ◌==◌, not, List, [], ◌∷◌, ◌≡◌, ◌+◌, length, take, IsCharBoundary, if◌then◌else◌}
+use Rattle.std.specs.Prelude.{ℕ, Bool, true, false, ◌||◌, ◌&&◌, ◌==◌, not, List, [], ◌∷◌, ◌≡◌, ◌+◌, length, take, IsCharBoundary, if◌then◌else◌}
 use Rattle.markdown_scanners_tree.specs.Bytes.{begins_with, is_between}
+use Rattle.markdown_scanners_tree.specs.Ascii.{space, backslash, vertical_line}
+use Rattle.markdown_scanners_tree.specs.linklabel.Answer.{without_first_space, without_last_space}
 use Rattle.markdown_scanners_tree.specs.linklabel.Label.{Label, IsLabel}
+use Rattle.markdown_scanners_tree.specs.declared.linklabel.Tally.{Tally}
 use Rattle.markdown_scanners_tree.specs.declared.linklabel.Measure.{Measure}
 
 -- how many characters begin at this byte
@@ -15,29 +18,57 @@ space_len has_word in_run = if has_word && in_run then 1 else 0
 -- a backslash directly before a pipe stands at the front, and a cell of a table drops it
 abbrev pub starts_dropped : Bool → List ℕ → Bool
 starts_dropped is_in_table [] = false
-starts_dropped is_in_table (b ∷ bs) = is_in_table && (b == 92 && begins_with (λ c. c == 124) bs)
+starts_dropped is_in_table (b ∷ bs) =
+    is_in_table && (b == backslash && begins_with (λ c. c == vertical_line) bs)
 
--- the one answer for these bytes
-pub record IsOnlySkip (answers : List ℕ → ℕ → Type 0) (rest : List ℕ) (skip : ℕ) : Type 0 where
-  pub answer : answers rest skip
-  pub only : (other : ℕ) → answers rest other → other ≡ skip
+-- before anything was read
+abbrev pub new_tally : Tally
+new_tally = record {
+  characters = 0;
+  length = 0;
+  has_word = false;
+  in_run = false;
+  has_ending = false;
+  is_spaced = true;
+  is_rewritten = false;
+}
 
-abbrev pub without_first_space : List ℕ → List ℕ
-without_first_space [] = []
-without_first_space (b ∷ bs) = if b == 32 then bs else b ∷ bs
+-- after a line ending of this many bytes
+abbrev pub tally_past_ending : Tally → ℕ → Tally
+tally_past_ending y len = record y {
+  characters = y.characters + len;
+  in_run = true;
+  has_ending = true;
+  is_spaced = false;
+}
 
-abbrev pub without_last_space : List ℕ → List ℕ
-without_last_space [] = []
-without_last_space (b ∷ []) = if b == 32 then [] else b ∷ []
-without_last_space (b ∷ c ∷ bs) = b ∷ without_last_space (c ∷ bs)
+-- after a byte of white space that ends no line
+abbrev pub tally_past_space : Tally → ℕ → Tally
+tally_past_space y byte = record y {
+  characters = y.characters + 1;
+  in_run = true;
+  is_spaced = y.is_spaced && (byte == space && not y.in_run);
+}
+
+-- after a byte of a word, which is or is not dropped
+abbrev pub tally_past_word : Tally → ℕ → Bool → Tally
+tally_past_word y byte dropped = record y {
+  characters = y.characters + begun byte;
+  length = y.length + space_len y.has_word y.in_run + (if dropped then 0 else 1);
+  has_word = true;
+  in_run = false;
+  has_ending = false;
+  is_rewritten = y.is_rewritten || dropped;
+}
 
 -- the source has one label, and the first pass told of it what the second one needs
 pub record IsMeasure (answers : List ℕ → ℕ → Type 0) (source : List ℕ) (is_in_table : Bool) (m : Measure) : Type 0 where
   pub label : Label
-  pub is : IsLabel answers source is_in_table label
+  pub is_label : IsLabel answers source is_in_table label
   pub only : (other : Label) → IsLabel answers source is_in_table other → other ≡ label
-  pub taken : m.close + 1 ≡ label.len
-  pub sized : m.length ≡ length label.text
-  pub same : m.is_plain ≡ label.plain
+  pub len_is : m.close + 1 ≡ label.len
+  pub length_is : m.length ≡ length label.text
+  pub plain_is : m.is_plain ≡ label.plain
   pub stands : label.plain ≡ true → label.text ≡ without_last_space (without_first_space (take m.close source))
   pub cut : IsCharBoundary source m.close
+  pub behind : IsCharBoundary source (m.close + 1)

@@ -1,7 +1,7 @@
 use Rattle.std.proofs.Common.{◌≡◌, ◌+◌, ◌-◌, drop, ap, sym, ◌∙◌, arith}
 use Rattle.std.proofs.lemmas.List.{drop-drop}
 use Rattle.markdown_scanners_tree.specs.scanners.Breaks.{is_thematic_break}
-use Rattle.markdown_scanners_tree.proofs.FrontLemmas.{from_place}
+use Rattle.markdown_scanners_tree.proofs.PrefixLemmas.{from_place}
 use Rattle.markdown_scanners_tree.proofs.line.LineStart.begins_break.Goals as goal
 
 pub invariant_of-self : goal.invariant_of-self

@@ -2,7 +2,7 @@ use Rattle.std.proofs.Common.{◌≡◌, ◌-◌, ◌≤◌, false, sym, ap, ◌
 use Rattle.std.proofs.lemmas.List.{length-drop, length-take-le}
 use Rattle.markdown_scanners_tree.specs.line.State.{unscanned}
 use Rattle.markdown_scanners_tree.specs.scanners.Breaks.{is_thematic_break}
-use Rattle.markdown_scanners_tree.proofs.FrontLemmas.{from_place}
+use Rattle.markdown_scanners_tree.proofs.PrefixLemmas.{from_place}
 use Rattle.markdown_scanners_tree.proofs.line.ItemLemmas.{marker-found, marker-none, marker-width}
 use Rattle.markdown_scanners_tree.proofs.line.LineStart.list_marker.Goals as goal
 use Rattle.markdown_scanners_tree.proofs.line.LineStart.list_marker.Goals.{else-width-eq1-via-then-width-eq1+else-begins_break, else-width-eq1-via-else-width-eq1}
@@ -24,14 +24,19 @@ returns-in_err-width-clause-none c =
     let s = c.self.inside in
     let bytes = take (length s.bytes.now - s.place) (drop s.place s.bytes.now) in
     let same : bytes ≡ unscanned c.args.self.now = from_place s.bytes.now s.place ∙ ap unscanned c.self.view_is in
-    rw c.from_residual.ensures (rw same at (marker-none bytes c.in_err-width.ensures.absent))
+    rw c.from_residual.ensures (rw same at (marker-none bytes (λ n delimiter start. c.in_err-width.ensures.found (n, delimiter, start))))
 
 pub returns-clause-inside : goal.returns-clause-inside
 returns-clause-inside c =
     let s = c.self.inside in
+    let inside : c.in_ok-width.width ≤ length s.bytes.now - s.place =
+    omega (arith, ap length (from_place s.bytes.now s.place), length-drop s.place s.bytes.now, c.in_ok-width.ensures.within) in
+    rw (← c.self.view_is) (omega arith)
+
+pub returns-clause-width : goal.returns-clause-width
+returns-clause-width c =
+    let s = c.self.inside in
     let bytes = take (length s.bytes.now - s.place) (drop s.place s.bytes.now) in
-    let within = c.in_ok-width.ensures.within in
     let short = marker-width (take c.in_ok-width.width bytes) c.in_ok-width.delimiter c.in_ok-width.start c.in_ok-width.ensures.found in
-    let count = length-take-le c.in_ok-width.width bytes within in
-    let inside : c.in_ok-width.width ≤ length s.bytes.now - s.place = omega (arith, ap length (from_place s.bytes.now s.place), length-drop s.place s.bytes.now) in
-    rw (← c.self.view_is) (omega arith, omega arith)
+    let count = length-take-le c.in_ok-width.width bytes c.in_ok-width.ensures.within in
+    omega arith

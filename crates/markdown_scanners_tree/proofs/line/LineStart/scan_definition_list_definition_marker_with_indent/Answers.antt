@@ -6,7 +6,7 @@ use Rattle.markdown_scanners_tree.proofs.line.LineStart.scan_definition_list_def
 pub returns-then-ne-clause-step : goal.returns-then-ne-clause-step
 returns-then-ne-clause-step c =
     let old = c.args.self.now in
-    let other = begins_with-other c.next_byte.result (unscanned old) (drop (old.place + 1) old.bytes) 58 c.next_byte.ensures.byte c.next_byte.ensures.end
+    let other = begins_with-other c.next_byte.result (unscanned old) (drop (old.place + 1) old.bytes) 58 c.next_byte.ensures.byte c.next_byte.ensures.none
     (sym c.ne.ensures ∙ c.if-ne.true) in
     λ none. definition_refused c.args.indent old c.next_byte.ensures.phase none other
 

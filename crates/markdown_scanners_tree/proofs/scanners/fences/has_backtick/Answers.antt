@@ -1,6 +1,8 @@
-use Rattle.std.proofs.Common.{◌==◌, ap, take, ◌∙◌}
-use Rattle.std.specs.List.{list_any}
+use Rattle.markdown_scanners_tree.proofs.scanners.fences.FenceLemmas.{backtick-found, backtick-not_found}
 use Rattle.markdown_scanners_tree.proofs.scanners.fences.has_backtick.Goals as goal
 
-pub returns : goal.returns
-returns c = c.has_byte.ensures ∙ ap (λ n. list_any (λ b. b == 96) (take n c.args.bytes.now)) c.scan_to_line_feed.ensures.front
+pub returns-in-Some : goal.returns-in-Some
+returns-in-Some c = backtick-found c.args.bytes.now c.in-Some.place c.in-Some.ensures
+
+pub returns-in-None : goal.returns-in-None
+returns-in-None c = backtick-not_found c.args.bytes.now c.in-None.ensures

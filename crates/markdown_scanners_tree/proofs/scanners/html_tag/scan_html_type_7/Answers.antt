@@ -1,11 +1,11 @@
 use Rattle.markdown_scanners_tree.proofs.scanners.html_tag.TagAlone.{tag_alone, no_tag_alone, not_alone}
 use Rattle.markdown_scanners_tree.proofs.scanners.html_tag.scan_html_type_7.Goals as goal
 
-pub returns-in_err-tag-clause-absent : goal.returns-in_err-tag-clause-absent
-returns-in_err-tag-clause-absent c = rw c.from_residual.ensures (no_tag_alone _ (λ rest n a. a) c.args.data.now c.in_err-tag.ensures.none)
+pub returns-in_err-tag-clause-found : goal.returns-in_err-tag-clause-found
+returns-in_err-tag-clause-found c = rw c.from_residual.ensures (no_tag_alone _ (λ rest n a. a) c.args.data.now c.in_err-tag.ensures.none)
 
-pub returns-in_err-scan_blank_line-clause-absent : goal.returns-in_err-scan_blank_line-clause-absent
-returns-in_err-scan_blank_line-clause-absent c = rw c.from_residual-in_err-scan_blank_line.ensures (not_alone _ (λ rest n a. a) c.args.data.now c.in_ok-tag.tag.end (λ front k. (c.in_ok-tag.ensures.only front k).1) c.in_err-scan_blank_line.ensures.absent)
+pub returns-in_err-scan_blank_line-clause-found : goal.returns-in_err-scan_blank_line-clause-found
+returns-in_err-scan_blank_line-clause-found c = rw c.from_residual-in_err-scan_blank_line.ensures (not_alone _ (λ rest n a. a) c.args.data.now c.in_ok-tag.tag.end (λ prefix k. (c.in_ok-tag.ensures.only prefix k).1) c.in_err-scan_blank_line.ensures.found)
 
 pub returns-clause-found : goal.returns-clause-found
 returns-clause-found c =

@@ -6,8 +6,8 @@ use Rattle.markdown_scanners_tree.proofs.scanners.links.pointed_len.Goals.{then-
 pub loop-i-preserved-then-starts_escape : goal.loop-i-preserved-then-starts_escape
 loop-i-preserved-then-starts_escape c = pointed_escape c.loop-i.i c.args.bytes.now c.loop-i.invariant (c.if-starts_escape.ensures.two refl) (sym c.if-starts_escape.ensures.value)
 
-pub returns-then-refuses_pointed-clause-absent : goal.returns-then-refuses_pointed-clause-absent
-returns-then-refuses_pointed-clause-absent c =
+pub returns-then-refuses_pointed-clause-found : goal.returns-then-refuses_pointed-clause-found
+returns-then-refuses_pointed-clause-found c =
     pointed_refused c.loop-i.i c.args.bytes.now c.loop-i.invariant c.loop-i-test.true (sym c.if-starts_escape.ensures.value) (sym c.if-refuses_pointed.ensures) c.if-bytes-i-ne62.true
 
 pub loop-i-preserved : goal.loop-i-preserved
@@ -20,5 +20,5 @@ returns-then-i-bytes-clause-found c = elim c.loop-i-test.branch [
   | else-loop-i-test w ↦ absurd (omega (arith, c.if-i-bytes.true, w.loop-i-test.false))
 ]
 
-pub returns-else-i-bytes-clause-absent : goal.returns-else-i-bytes-clause-absent
-returns-else-i-bytes-clause-absent c = pointed_open c.loop-i.i c.args.bytes.now c.loop-i.invariant c.if-i-bytes.false
+pub returns-else-i-bytes-clause-found : goal.returns-else-i-bytes-clause-found
+returns-else-i-bytes-clause-found c = pointed_open c.loop-i.i c.args.bytes.now c.loop-i.invariant c.if-i-bytes.false

@@ -1,12 +1,17 @@
-use Rattle.std.proofs.Common.{sym, subst, arith}
+use Rattle.std.proofs.Common.{ap, sym, subst, length, arith}
+use Rattle.std.specs.Option.{option_map}
+use Rattle.markdown_values.specs.strings.Text.{cow_text}
 use Rattle.markdown_scanners_tree.specs.scanners.links.Autolink.{IsUriAutolink}
-use Rattle.markdown_scanners_tree.proofs.scanners.links.LinkLemmas.{IfNone-anyway, text_from, cut_behind}
+use Rattle.markdown_scanners_tree.proofs.SomeExactlyLemmas.{SomeExactly-from_none}
+use Rattle.markdown_scanners_tree.proofs.scanners.links.LinkLemmas.{uri_taken, text_from, cut_behind}
 use Rattle.markdown_scanners_tree.proofs.scanners.links.scan_autolink.Goals as goal
 
-pub returns-in_err-n-clause-absent : goal.returns-in_err-n-clause-absent
-returns-in_err-n-clause-absent c =
+pub returns-in_err-n-clause-found : goal.returns-in_err-n-clause-found
+returns-in_err-n-clause-found c =
     let read = text_from c.as_bytes.result.now c.args.text.now c.args.start c.as_bytes.ensures.value in
-    IfNone-anyway _ c.from_residual.result (λ uri is. c.in_err-n.ensures.absent uri (subst (λ t. IsUriAutolink t uri) (sym read) is))
+    SomeExactly-from_none _ (ap (option_map (λ r. cow_text r.1)) c.from_residual.ensures) (λ uri is.
+    let here = subst (λ t. IsUriAutolink t uri) (sym read) is in
+    c.in_err-n.ensures.found (length uri) (subst (IsUriAutolink _) (sym (uri_taken _ uri here)) here))
 
 pub returns-clause-boundary : goal.returns-clause-boundary
 returns-clause-boundary c =

@@ -1,40 +1,44 @@
-use Rattle.std.proofs.Common.{◌≡◌, ◌+◌, ◌<◌, ap, ◌∙◌, sym, subst, take, drop, length, length-drop, get_or, arith, inr}
+use Rattle.std.proofs.Common.{Bor, ℕ, List, ◌≡◌, ◌+◌, ◌<◌, ap, ◌∙◌, sym, subst, take, drop, length, length-drop, get_or, arith, inr}
 use Rattle.std.proofs.lemmas.Bool.{eqb-true}
 use Rattle.std.proofs.lemmas.List.{take_rest, get_or-drop, drop-drop}
 use Rattle.std.proofs.lemmas.Str.{IsCharBoundary-after_ascii}
+use Rattle.std.specs.Option.{option_map}
 use Rattle.std.specs.Str.{IsCharBoundary}
+use Rattle.markdown_scanners_tree.specs.Ascii.{less_than_sign}
 use Rattle.markdown_scanners_tree.specs.scanners.links.LinkDestination.{IsPointedFrom, IsBareFrom}
-use Rattle.markdown_scanners_tree.proofs.scanners.links.LinkLemmas.{IfNone-anyway, no_pointed, no_bare, opened_by, text_from, cut_behind}
+use Rattle.markdown_scanners_tree.proofs.SomeExactlyLemmas.{SomeExactly-from_none}
+use Rattle.markdown_scanners_tree.proofs.scanners.links.LinkLemmas.{no_pointed, no_bare, opened_by, text_from, cut_behind}
 use Rattle.markdown_scanners_tree.proofs.scanners.links.scan_link_dest.Goals as goal
 use Rattle.markdown_scanners_tree.proofs.scanners.links.scan_link_dest.Goals.{else-not-is_empty-via-then-not-is_empty+else-bytes-eq60, else-not-is_empty-via-else-not-is_empty}
 
-pub returns-in_err-n-clause-absent : goal.returns-in_err-n-clause-absent
-returns-in_err-n-clause-absent c =
+pub returns-in_err-n-clause-found : goal.returns-in_err-n-clause-found
+returns-in_err-n-clause-found c =
     let text = drop c.args.start c.args.data.now in
     let read = text_from c.as_bytes.result.now c.args.data.now c.args.start c.as_bytes.ensures.value in
     let opens = opened_by text (ap (λ t. get_or t 0 0) (sym read) ∙ c.if-bytes-eq60.true) in
     let after = take_rest _ 1 ∙ ap (drop 1) read in
-    IfNone-anyway _ c.from_residual.result (no_pointed (c.args.max_next + 1) text opens (λ n is. c.in_err-n.ensures.absent n (subst (λ t. IsPointedFrom t n) (sym after) is)))
+    SomeExactly-from_none _ (ap (option_map (λ (r : ℕ × Bor (List ℕ)). (r.0, r.1.now))) c.from_residual.ensures) (λ r.
+    no_pointed (c.args.max_next + 1) text opens (λ n is. c.in_err-n.ensures.found n (subst (λ t. IsPointedFrom t n) (sym after) is)) r.0 r.1)
 
 pub range-requires-clause-start_boundary : goal.range-requires-clause-start_boundary
 range-requires-clause-start_boundary c = λ _.
     let text = drop c.args.start c.args.data.now in
     let read = text_from c.as_bytes.result.now c.args.data.now c.args.start c.as_bytes.ensures.value in
-    let first : get_or text 0 0 ≡ 60 = ap (λ t. get_or t 0 0) (sym read) ∙ c.if-bytes-eq60.true in
+    let first : get_or text 0 0 ≡ less_than_sign = ap (λ t. get_or t 0 0) (sym read) ∙ c.if-bytes-eq60.true in
     let inside : c.args.start < length c.args.data.now = omega (arith, ap length (opened_by text first), length-drop c.args.start c.args.data.now) in
     let here : c.args.start ≡ c.args.start + 0 = omega arith in
-    let ascii : get_or c.args.data.now c.args.start 0 ≡ 60 = ap (λ k. get_or c.args.data.now k 0) here ∙ (sym (get_or-drop c.args.start c.args.data.now 0 0) ∙ first) in
+    let ascii : get_or c.args.data.now c.args.start 0 ≡ less_than_sign = ap (λ k. get_or c.args.data.now k 0) here ∙ (sym (get_or-drop c.args.start c.args.data.now 0 0) ∙ first) in
     IsCharBoundary-after_ascii c.args.data.now c.args.start c.utf8.data inside (omega (arith, ascii))
 
-pub returns-in_err-n-2-clause-absent : goal.returns-in_err-n-2-clause-absent
-returns-in_err-n-2-clause-absent c =
+pub returns-in_err-n-2-clause-found : goal.returns-in_err-n-2-clause-found
+returns-in_err-n-2-clause-found c =
     let read = text_from c.as_bytes.result.now c.args.data.now c.args.start c.as_bytes.ensures.value in
-    IfNone-anyway _ c.from_residual-in_err-n-2.result (no_bare (c.args.max_next + 1) (drop c.args.start c.args.data.now)
+    SomeExactly-from_none _ (ap (option_map (λ (r : ℕ × Bor (List ℕ)). (r.0, r.1.now))) c.from_residual-in_err-n-2.ensures) (λ r. no_bare (c.args.max_next + 1) (drop c.args.start c.args.data.now)
     (λ after e. elim c.else-not-is_empty.branch [
       | else-not-is_empty-via-then-not-is_empty+else-bytes-eq60 w ↦ w.if-bytes-eq60.false (ap (λ t. get_or t 0 0) (read ∙ e))
       | else-not-is_empty-via-else-not-is_empty w ↦ absurd (omega (arith, ap length (read ∙ e), eqb-true _ 0 (sym c.is_empty.ensures ∙ w.if-not-is_empty.false)))
     ])
-    (λ n is. c.in_err-n-2.ensures.absent n (subst (λ t. IsBareFrom (c.args.max_next + 1) 0 t n) (sym read) is)))
+    (λ n is. c.in_err-n-2.ensures.found n (subst (λ t. IsBareFrom (c.args.max_next + 1) 0 t n) (sym read) is)) r.0 r.1)
 
 pub returns-clause-found : goal.returns-clause-found
 returns-clause-found c =
@@ -46,7 +50,7 @@ returns-clause-found c =
         | else-not-is_empty-via-else-not-is_empty w ↦ absurd (omega (arith, ap length (read ∙ e), eqb-true _ 0 (sym c.is_empty.ensures ∙ w.if-not-is_empty.false)))
       ];
       bare = subst (λ t. IsBareFrom (c.args.max_next + 1) 0 t n) read c.in_ok-n-2.ensures.found;
-      lies = c.range-2.ensures.value ∙ ap (λ k. take k (drop c.args.start c.args.data.now)) (omega arith);
+      slice = c.range-2.ensures.value ∙ ap (λ k. take k (drop c.args.start c.args.data.now)) (omega arith);
     })
 
 pub returns-then-bytes-eq60-clause-boundary : goal.returns-then-bytes-eq60-clause-boundary

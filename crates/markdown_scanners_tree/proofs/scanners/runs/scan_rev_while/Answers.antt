@@ -16,7 +16,7 @@ pub returns-clause-accepted : goal.returns-clause-accepted
 returns-clause-accepted g c =
     let before = c.loop-count.invariant in
     record {
-      front = take c.loop-count.count (reverse c.args.«data».now);
+      prefix = take c.loop-count.count (reverse c.args.«data».now);
       rest = drop c.loop-count.count (reverse c.args.«data».now);
       parts = sym (take-append-drop c.loop-count.count (reverse c.args.«data».now));
       count = sym (length-take-le c.loop-count.count (reverse c.args.«data».now) (omega (arith, before.1, length-reverse c.args.«data».now)));
@@ -32,7 +32,7 @@ returns-then-not-f-clause-accepted g c =
     let below : c.loop-count.count < length (reverse c.args.«data».now) = omega (arith, inside, length-reverse c.args.«data».now) in
     let called : goal.F-step g c.loop-count.f (get_or (reverse c.args.«data».now) c.loop-count.count 0) false c.f.new.self = rw (get_or-reverse c.args.«data».now c.loop-count.count 0 inside) (search of_calls) in
     record {
-      front = take c.loop-count.count (reverse c.args.«data».now);
+      prefix = take c.loop-count.count (reverse c.args.«data».now);
       rest = drop c.loop-count.count (reverse c.args.«data».now);
       parts = sym (take-append-drop c.loop-count.count (reverse c.args.«data».now));
       count = sym (length-take-le c.loop-count.count (reverse c.args.«data».now) (omega (arith, before.1, length-reverse c.args.«data».now)));

@@ -15,7 +15,7 @@ pub returns-clause-accepted : goal.returns-clause-accepted
 returns-clause-accepted g c =
     let before = c.loop-count.invariant in
     record {
-      front = take c.loop-count.count c.args.«data».now;
+      prefix = take c.loop-count.count c.args.«data».now;
       rest = drop c.loop-count.count c.args.«data».now;
       parts = sym (take-append-drop c.loop-count.count c.args.«data».now);
       count = sym (length-take-le c.loop-count.count c.args.«data».now before.1);
@@ -30,7 +30,7 @@ returns-then-not-f-clause-accepted g c =
     let below : c.loop-count.count < length c.args.«data».now = omega arith in
     let called : goal.F-step g c.loop-count.f (get_or c.args.«data».now c.loop-count.count 0) false c.f.new.self = search of_calls in
     record {
-      front = take c.loop-count.count c.args.«data».now;
+      prefix = take c.loop-count.count c.args.«data».now;
       rest = drop c.loop-count.count c.args.«data».now;
       parts = sym (take-append-drop c.loop-count.count c.args.«data».now);
       count = sym (length-take-le c.loop-count.count c.args.«data».now before.1);

@@ -1,6 +1,7 @@
 use Rattle.std.proofs.Common.{◌≡◌, sym, ◌∙◌, subst, false, []}
 use Rattle.std.specs.Prelude.{◌&&◌}
 use Rattle.std.proofs.lemmas.Bool.{and_left, and_right}
+use Rattle.markdown_values.specs.declared.strings.CowStr.TheVariants.{Boxed}
 use Rattle.markdown_values.specs.strings.Text.{cow_text}
 use Rattle.markdown_scanners_tree.specs.scanners.unescaping.private.FirstPiece.{IsFirstPiece, starts_pipe}
 use Rattle.markdown_scanners_tree.proofs.scanners.unescaping.FirstPieceLemmas.{pipe_piece, escape_piece, reference_piece, return_piece, itself_piece}
@@ -26,7 +27,7 @@ returns-in-Some g c =
       | else-is_in_table-via-else-is_in_table w ↦ and_left c.args.is_in_table (starts_pipe c.args.bytes.now) w.if-is_in_table.false
     ] in
     reference_piece c.args.is_in_table (g.E.Entities.known c.args.entities.now) c.args.bytes.now c.in-Some.length (cow_text c.in-Some.text) none (sym c.if-starts_escape.ensures.value)
-    c.in-Some.ensures.found.0 c.in-Some.ensures.found.1
+    c.in-Some.ensures
 
 pub returns : goal.returns
 returns g c =
@@ -36,7 +37,7 @@ returns g c =
     ] in
     elim c.if-bytes-eq13.branch [
       | then-bytes-eq13 w ↦ subst (λ d. IsFirstPiece c.args.is_in_table (g.E.Entities.known c.args.entities.now) c.args.bytes.now 1 d []) (sym w.result-is)
-          (return_piece c.args.is_in_table (g.E.Entities.known c.args.entities.now) c.args.bytes.now c.requires none (sym c.if-starts_escape.ensures.value) c.in_default.ensures.absent w.if-bytes-eq13.true)
+          (return_piece c.args.is_in_table (g.E.Entities.known c.args.entities.now) c.args.bytes.now c.requires none (sym c.if-starts_escape.ensures.value) (λ n meaning. c.in_default.ensures (n, Boxed meaning)) w.if-bytes-eq13.true)
       | else-bytes-eq13 w ↦ subst (λ d. IsFirstPiece c.args.is_in_table (g.E.Entities.known c.args.entities.now) c.args.bytes.now 1 d []) (sym w.result-is)
-          (itself_piece c.args.is_in_table (g.E.Entities.known c.args.entities.now) c.args.bytes.now c.requires none (sym c.if-starts_escape.ensures.value) c.in_default.ensures.absent w.if-bytes-eq13.false)
+          (itself_piece c.args.is_in_table (g.E.Entities.known c.args.entities.now) c.args.bytes.now c.requires none (sym c.if-starts_escape.ensures.value) (λ n meaning. c.in_default.ensures (n, Boxed meaning)) w.if-bytes-eq13.false)
     ]

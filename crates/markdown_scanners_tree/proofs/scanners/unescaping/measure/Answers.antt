@@ -14,13 +14,13 @@ loop-i-preserved g c =
     let n = c.first_size-size.result.source in
     let at : take (length c.as_bytes-bytes.result.now - c.loop-i.i) (drop c.loop-i.i c.as_bytes-bytes.result.now) ≡ drop c.loop-i.i text =
     take_rest c.as_bytes-bytes.result.now c.loop-i.i ∙ ap (drop c.loop-i.i) c.as_bytes-bytes.ensures.value in
-    let is : IsFirstPiece c.args.is_in_table known (drop c.loop-i.i text) n size.0 size.1 = subst (λ bs. IsFirstPiece c.args.is_in_table known bs n size.0 size.1) at size.2 in
-    let len : c.saturating_add-len.result ≡ min (c.loop-i.len + (length size.1 + (n - size.0))) (2 ^ 64 - 1) = omega (arith, c.saturating_add-len.ensures, size.3) in
-    let more = λ (off : c.if-changes.changes ≡ false → (c.loop-i.changes ≡ false) × (size.0 ≡ 0)) (on : c.loop-i.changes ≡ false → size.0 ≡ 0 → c.if-changes.changes ≡ false).
-    measured_more c.args.is_in_table known text c.loop-i.i n size.0 size.1 c.loop-i.changes c.if-changes.changes c.loop-i.len c.saturating_add-len.result c.loop-i.invariant is off on len in
+    let is : IsFirstPiece c.args.is_in_table known (drop c.loop-i.i text) n size.dropped size.instead = subst (λ bs. IsFirstPiece c.args.is_in_table known bs n size.dropped size.instead) at size.first in
+    let len : c.saturating_add-len.result ≡ min (c.loop-i.len + (length size.instead + (n - size.dropped))) (2 ^ 64 - 1) = omega (arith, c.saturating_add-len.ensures, size.meaning_saturates) in
+    let more = λ (off : c.if-changes.changes ≡ false → (c.loop-i.changes ≡ false) × (size.dropped ≡ 0)) (on : c.loop-i.changes ≡ false → size.dropped ≡ 0 → c.if-changes.changes ≡ false).
+    measured_more c.args.is_in_table known text c.loop-i.i n size.dropped size.instead c.loop-i.changes c.if-changes.changes c.loop-i.len c.saturating_add-len.result c.loop-i.invariant is off on len in
     elim c.if-changes.branch [
       | then-changes w ↦ more (λ no'. absurd (false≢true (sym no' ∙ (w.changes-is ∙ w.if-changes.true)))) (λ no' _. absurd (false≢true (sym no' ∙ w.if-changes.true)))
-      | else-changes w ↦ more (λ no'. (w.if-changes.false, omega (arith, ltb-false 0 size.0 (sym size.4 ∙ (sym w.changes-is ∙ no'))))) (λ _ none. w.changes-is ∙ (size.4 ∙ le-ltb 0 size.0 (omega (arith, none))))
+      | else-changes w ↦ more (λ no'. (w.if-changes.false, omega (arith, ltb-false 0 size.dropped (sym size.changed ∙ (sym w.changes-is ∙ no'))))) (λ _ none. w.changes-is ∙ (size.changed ∙ le-ltb 0 size.dropped (omega (arith, none))))
     ]
 
 pub returns-clause-pieces : goal.returns-clause-pieces

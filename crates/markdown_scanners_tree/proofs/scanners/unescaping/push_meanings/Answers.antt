@@ -38,8 +38,8 @@ loop-i-preserved g c =
     take_rest c.as_bytes-bytes.result.now c.loop-i.i ∙ ap (drop c.loop-i.i) c.as_bytes-bytes.ensures.value in
     let is = subst (λ bs. IsFirstPiece c.args.is_in_table known bs p.length p.dropped (replacement p.text)) at c.first_piece-piece.ensures in
     record {
-      built = built_more c.args.is_in_table known c.args.text.now c.loop-i.i p.length c.loop-i.run (string_bytes c.args.out.now) (string_len c.args.out.now) (string_bytes c.loop-i.out) (string_len c.loop-i.out) c.loop-i.invariant.built
-          p.dropped (replacement p.text) _ _ _ c.utf8.text is c.in_ok-run.ensures.run c.in_ok-run.ensures.bytes c.in_ok-run.ensures.len;
+      built = built_more c.args.is_in_table known c.args.text.now c.loop-i.i p.length c.loop-i.run (string_bytes c.args.out.now) (string_len c.args.out.now) p.dropped (replacement p.text) c.loop-i.out _ _
+          c.loop-i.invariant.built c.utf8.text is c.in_ok-run.ensures.pushed;
       capacity = omega (arith, c.loop-i.invariant.capacity, c.push_change.ensures.capacity);
     }
 

@@ -1,5 +1,7 @@
--- What a tag scanner keeps of the bytes that it has read: what they end in. (CommonMark 0.31.2, section 6.6, raw HTML)
+-- The state that a tag scanner has of the bytes that it has read: what they end in.
+-- (CommonMark 0.31.2, section 6.6, raw HTML)
 use Rattle.std.specs.Prelude.{ℕ, Bool, true, false, ◌||◌, ◌&&◌, ◌==◌, not, nat_le, List, [], ◌∷◌, if◌then◌else◌}
+use Rattle.markdown_scanners_tree.specs.Ascii.{line_feed, carriage_return, quotation_mark, apostrophe, slash, less_than_sign, equals_sign, greater_than_sign}
 use Rattle.markdown_scanners_tree.specs.Bytes.{begins_with, is_letter, is_unquoted, is_white_space, is_white_space_in_line}
 use Rattle.markdown_scanners_tree.specs.scanners.html_tag.HtmlTag.{is_tag_name_byte, is_attribute_start, is_attribute_byte}
 use Rattle.markdown_scanners_tree.specs.declared.scanners.tag_state.TagState.{TagState}
@@ -7,24 +9,41 @@ use Rattle.markdown_scanners_tree.specs.declared.scanners.tag_state.TagState.The
 
 -- after a name or a value, where the byte belongs to neither
 abbrev pub after_part : ℕ → TagState
-after_part b = if is_white_space b then Spaced else if b == 47 then Slashed else if b == 62 then Open else Refused
+after_part b =
+    if is_white_space b then Spaced
+    else if b == slash then Slashed
+    else if b == greater_than_sign then Open
+    else Refused
 
 -- after an attribute name, where the byte begins and continues none
 abbrev pub after_attribute_name : ℕ → TagState
-after_attribute_name b = if is_white_space b then AfterName else if b == 61 then BeforeValue else after_part b
+after_attribute_name b =
+    if is_white_space b then AfterName
+    else if b == equals_sign then BeforeValue
+    else after_part b
 
 -- where a value must begin
 abbrev pub before_value : ℕ → TagState
-before_value b = if is_white_space b then BeforeValue else if is_unquoted b then Unquoted else if b == 39 then Quoted 39 else if b == 34 then Quoted 34 else Refused
+before_value b =
+    if is_white_space b then BeforeValue
+    else if is_unquoted b then Unquoted
+    else if b == apostrophe then Quoted apostrophe
+    else if b == quotation_mark then Quoted quotation_mark
+    else Refused
 
 -- after the name of a closing tag, where the byte does not belong to it
 abbrev pub after_closing_name : ℕ → TagState
-after_closing_name b = if is_white_space_in_line b then ClosingSpaced else if b == 13 then ClosingReturned else if b == 10 then ClosingEnded else if b == 62 then Closed else Refused
+after_closing_name b =
+    if is_white_space_in_line b then ClosingSpaced
+    else if b == carriage_return then ClosingReturned
+    else if b == line_feed then ClosingEnded
+    else if b == greater_than_sign then Closed
+    else Refused
 
 -- after one more byte
 abbrev pub next_state : TagState → ℕ → TagState
-next_state Start b = if b == 60 then Opened else Refused
-next_state Opened b = if is_letter b then Name else if b == 47 then Closing else Refused
+next_state Start b = if b == less_than_sign then Opened else Refused
+next_state Opened b = if is_letter b then Name else if b == slash then Closing else Refused
 next_state Name b = if is_tag_name_byte b then Name else after_part b
 next_state Spaced b = if is_attribute_start b then AttributeName else after_part b
 next_state AttributeName b = if is_attribute_byte b then AttributeName else after_attribute_name b
@@ -33,12 +52,18 @@ next_state BeforeValue b = before_value b
 next_state Unquoted b = if is_unquoted b then Unquoted else after_part b
 next_state (Quoted quote) b = if b == quote then AfterValue else Quoted quote
 next_state AfterValue b = after_part b
-next_state Slashed b = if b == 62 then Open else Refused
+next_state Slashed b = if b == greater_than_sign then Open else Refused
 next_state Closing b = if is_letter b then ClosingName else Refused
 next_state ClosingName b = if is_tag_name_byte b then ClosingName else after_closing_name b
 next_state ClosingSpaced b = after_closing_name b
-next_state ClosingReturned b = if is_white_space_in_line b || b == 10 then ClosingEnded else if b == 62 then Closed else Refused
-next_state ClosingEnded b = if is_white_space_in_line b then ClosingEnded else if b == 62 then Closed else Refused
+next_state ClosingReturned b =
+    if is_white_space_in_line b || b == line_feed then ClosingEnded
+    else if b == greater_than_sign then Closed
+    else Refused
+next_state ClosingEnded b =
+    if is_white_space_in_line b then ClosingEnded
+    else if b == greater_than_sign then Closed
+    else Refused
 next_state Open b = Refused
 next_state Closed b = Refused
 next_state Refused b = Refused
@@ -64,4 +89,5 @@ is_final _ = false
 -- A line of the source ends with the first of the bytes: it is LF, or a CR that no LF follows.
 abbrev pub ends_source_line : List ℕ → Bool
 ends_source_line [] = false
-ends_source_line (b ∷ bs) = b == 10 || (b == 13 && not (begins_with (λ c. c == 10) bs))
+ends_source_line (b ∷ bs) =
+    b == line_feed || (b == carriage_return && not (begins_with (λ c. c == line_feed) bs))

@@ -1,4 +1,4 @@
--- The longest run at the front of a list of bytes, and the parts that it cuts the list into.
+-- The longest prefix that a test accepts, and the parts that it cuts a list of bytes into.
 use Rattle.std.proofs.Common.{◌≡◌, ℕ, zero, suc, ◌-◌, ◌<◌, Bool, true, false, ◌&&◌, List, [], ◌∷◌, ◌++◌, length, take, drop, get_or, refl, sym, ap, ◌∙◌, arith, inl, inr, one-add}
 use Rattle.std.specs.List.{prefix_len, list_all}
 use Rattle.std.proofs.lemmas.Bool.{cases_Bool}
@@ -10,22 +10,22 @@ pub both_true : (a b : Bool) → (a && b) ≡ true → (a ≡ true) × (b ≡ tr
 both_true true b h = (refl, h)
 both_true false b h = cc
 
-pub list_all-run : (p : ℕ → Bool) (xs : List ℕ) → list_all p (take (prefix_len p xs) xs) ≡ true
-list_all-run p [] = refl
-list_all-run p (x ∷ xs) = elim (cases_Bool (p x)) [ inl passes ↦ rw (passes, one-add, passes) (list_all-run p xs) | inr fails ↦ rw fails ]
+pub list_all-prefix : (p : ℕ → Bool) (xs : List ℕ) → list_all p (take (prefix_len p xs) xs) ≡ true
+list_all-prefix p [] = refl
+list_all-prefix p (x ∷ xs) = elim (cases_Bool (p x)) [ inl passes ↦ rw (passes, one-add, passes) (list_all-prefix p xs) | inr fails ↦ rw fails ]
 
-pub begins_with-after_run : (p : ℕ → Bool) (xs : List ℕ) → begins_with p (drop (prefix_len p xs) xs) ≡ false
-begins_with-after_run p [] = refl
-begins_with-after_run p (x ∷ xs) = elim (cases_Bool (p x)) [ inl passes ↦ rw (passes, one-add) (begins_with-after_run p xs) | inr fails ↦ rw (fails, fails) ]
+pub begins_with-after_prefix : (p : ℕ → Bool) (xs : List ℕ) → begins_with p (drop (prefix_len p xs) xs) ≡ false
+begins_with-after_prefix p [] = refl
+begins_with-after_prefix p (x ∷ xs) = elim (cases_Bool (p x)) [ inl passes ↦ rw (passes, one-add) (begins_with-after_prefix p xs) | inr fails ↦ rw (fails, fails) ]
 
--- a front that passes, before a rest that does not begin with what passes, is the run
-pub prefix_len-parts : (p : ℕ → Bool) (front rest : List ℕ) → list_all p front ≡ true → begins_with p rest ≡ false → prefix_len p (front ++ rest) ≡ length front
+-- a prefix that passes, before a rest that does not begin with what passes, is the longest
+pub prefix_len-parts : (p : ℕ → Bool) (prefix rest : List ℕ) → list_all p prefix ≡ true → begins_with p rest ≡ false → prefix_len p (prefix ++ rest) ≡ length prefix
 prefix_len-parts p [] [] all stop = refl
 prefix_len-parts p [] (x ∷ rest) all stop = rw stop
-prefix_len-parts p (x ∷ front) rest all stop =
-    let both = both_true (p x) (list_all p front) all in
+prefix_len-parts p (x ∷ prefix) rest all stop =
+    let both = both_true (p x) (list_all p prefix) all in
     let passes : p x ≡ true = both.0 in
-    rw passes (rw (prefix_len-parts p front rest both.1 stop, one-add))
+    rw passes (rw (prefix_len-parts p prefix rest both.1 stop, one-add))
 
 -- `&bytes[i..]`
 pub from_place : (bytes : List ℕ) (i : ℕ) → take (length bytes - i) (drop i bytes) ≡ drop i bytes

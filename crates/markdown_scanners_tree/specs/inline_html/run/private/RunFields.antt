@@ -1,4 +1,4 @@
--- What the fields of a run of scans keep.
+-- The fields of a run of scans.
 use Rattle.std.specs.Prelude.{ℕ, ◌≡◌, ◌≢◌, ◌≤◌, ◌<◌, Bool, ◌&&◌, ◌==◌, nat_lt, length}
 use Rattle.markdown_scanners_tree.specs.declared.inline_html.HtmlScanGuard.{HtmlScanGuard}
 use Rattle.markdown_scanners_tree.specs.inline_html.CountedText.{CountedBytes}
@@ -28,15 +28,17 @@ run_of counted guard last find_end steps = record {
   steps = steps;
 }
 
--- The guard is true wherever a step may come, and its number of a kind that is not shut stops no such step.
-pub record IsKept (counted : CountedBytes) (guard : HtmlScanGuard) (last find_end steps : ℕ) : Type 0 where
+-- They are those of a run: the guard is true wherever a step may come, and its number of a kind that is not shut stops
+-- no such step.
+pub record AreRunFields (counted : CountedBytes) (guard : HtmlScanGuard) (last find_end steps : ℕ) : Type 0 where
   pub true_guard : (q : ℕ) → last < q → find_end ≤ q → IsTrueGuard counted.text guard q
   pub low_comment : guard.comment ≢ length counted.text → guard.comment ≤ find_end
   pub low_cdata : guard.cdata ≢ length counted.text → guard.cdata ≡ 0
   pub low_declaration : guard.declaration ≢ length counted.text → guard.declaration ≡ 0
   pub low_processing : guard.processing ≢ length counted.text → guard.processing ≡ 0
-  pub fresh : steps ≡ 0 → (guard.comment ≡ 0) × (guard.cdata ≡ 0) × (guard.declaration ≡ 0) × (guard.processing ≡ 0)
-  pub few : steps ≤ last
-  pub last_in : last ≤ length counted.text
-  pub end_in : find_end ≤ length counted.text
+  pub new_guard : steps ≡ 0
+      → (guard.comment ≡ 0) × (guard.cdata ≡ 0) × (guard.declaration ≡ 0) × (guard.processing ≡ 0)
+  pub steps_at_most_last : steps ≤ last
+  pub last_in_text : last ≤ length counted.text
+  pub find_end_in_text : find_end ≤ length counted.text
   pub budget : IsWithinBudget (run_of counted guard last find_end steps)

@@ -1,4 +1,4 @@
--- What the fields of a run keep over a step that is not refused.
+-- The fields of a run stay those of a run over a step that is not refused.
 use Rattle.std.proofs.Common.{◌≡◌, ℕ, ◌+◌, ◌≤◌, ◌<◌, Bool, true, false, List, length, refl, sym, ap, subst, ◌∙◌, arith, ⊎_elim, ◌⊎◌, inl, inr, Option, Some, None, cond}
 use Rattle.std.specs.Prelude.{IfSome, unwrap_or, option_map, ◌≢◌, nat_lt, nat_le}
 use Rattle.std.proofs.lemmas.Bool.{cases_eq, cases_lt, lt-ltb, le-ltb, le-leb, lt-leb, eq-eqb, eqb-true, and_parts, ne_eqb, and_from, and_right}
@@ -8,9 +8,9 @@ use Rattle.markdown_scanners_tree.specs.inline_html.CountedText.{CountedBytes, p
 use Rattle.markdown_scanners_tree.specs.inline_html.InlineHtml.{Kind, Comment, Cdata, Declaration, Processing, Opening, Begins, Hyphen, Bracket, Nothing, closer, lead, first_closer, closed_at, end_of, find_at, declared_at, opening_at, opener_before, cost}
 use Rattle.markdown_scanners_tree.specs.inline_html.Guard.{is_stopped, with_number, searched_guard, guarded_answer, guard_after, IsTrueGuard, IsTrueScan}
 use Rattle.markdown_scanners_tree.specs.inline_html.run.Run.{ShutKinds, Run, is_shut, shutting, shut_by, run_step, refusal, IsWithinBudget}
-use Rattle.markdown_scanners_tree.specs.inline_html.run.private.KeptFields.{says_shut, shut_kinds, run_of, IsKept}
+use Rattle.markdown_scanners_tree.specs.inline_html.run.private.RunFields.{says_shut, shut_kinds, run_of, AreRunFields}
 use Rattle.markdown_scanners_tree.proofs.inline_html.Openings.{declared_at-end}
-use Rattle.markdown_scanners_tree.proofs.inline_html.Scans.{first_place-bounds}
+use Rattle.markdown_scanners_tree.proofs.inline_html.Scans.{cost-same, first_place-bounds}
 use Rattle.markdown_scanners_tree.proofs.inline_html.TrueGuards.{opening_at-declared, opening_at-processing, opener-mark}
 use Rattle.markdown_scanners_tree.proofs.inline_html.run.Budget.{run_step-budget, end_of-bounds}
 
@@ -111,14 +111,6 @@ numbers-after text e guard Hyphen p = same-numbers _ _ guard
 numbers-after text e guard Bracket p = same-numbers _ _ guard
 numbers-after text e guard Nothing p = same-numbers _ _ guard
 
--- the kinds that are stopped decide what a scan costs
-cost-same : (text : List ℕ) (f h : Kind → Bool) (opening : Opening) (p : ℕ) → ((kind : Kind) → f kind ≡ h kind) → cost text f opening p ≡ cost text h opening p
-unfolding cost
-cost-same text f h (Begins kind) p same = rw (same kind)
-cost-same text f h Hyphen p same = rw (same Comment)
-cost-same text f h Bracket p same = refl
-cost-same text f h Nothing p same = refl
-
 cost-processing : (text : List ℕ) (f h : Kind → Bool) (p : ℕ) → f Processing ≡ h Processing → cost text f (Begins Processing) p ≡ cost text h (Begins Processing) p
 unfolding cost
 cost-processing text f h p same = rw same
@@ -150,21 +142,21 @@ outside-some (Some end) e q outside = outside
 
 -- ---- one step
 
-module _ (t : CountedBytes) (guard : HtmlScanGuard) (last e steps p : ℕ) (kept : IsKept t guard last e steps) (two : 2 ≤ p) (in_text : p ≤ length t.text) (outside : e ≤ p) where
+module _ (t : CountedBytes) (guard : HtmlScanGuard) (last e steps p : ℕ) (fields : AreRunFields t guard last e steps) (two : 2 ≤ p) (in_text : p ≤ length t.text) (outside : e ≤ p) where
   fresh-number : steps ≡ 0 → (kind : Kind) → number guard kind ≡ 0
-  fresh-number none Comment = (kept.fresh none).0
-  fresh-number none Cdata = (kept.fresh none).1
-  fresh-number none Declaration = (kept.fresh none).2
-  fresh-number none Processing = (kept.fresh none).3
+  fresh-number none Comment = (fields.new_guard none).0
+  fresh-number none Cdata = (fields.new_guard none).1
+  fresh-number none Declaration = (fields.new_guard none).2
+  fresh-number none Processing = (fields.new_guard none).3
 
   processing-agrees : is_stopped guard p Processing ≡ is_shut (shut_kinds (length t.text) guard steps) Processing
-  processing-agrees = stops-upto guard.processing (length t.text) steps p (omega arith) in_text kept.low_processing (λ none. fresh-number none Processing)
+  processing-agrees = stops-upto guard.processing (length t.text) steps p (omega arith) in_text fields.low_processing (λ none. fresh-number none Processing)
 
   -- below the end of the text the guard stops exactly the shut kinds
   kind-agrees : p < length t.text → (kind : Kind) → is_stopped guard p kind ≡ is_shut (shut_kinds (length t.text) guard steps) kind
-  kind-agrees below Comment = stops-below guard.comment (length t.text) steps e p below outside kept.low_comment (λ none. fresh-number none Comment)
-  kind-agrees below Cdata = stops-below guard.cdata (length t.text) steps 0 p below (omega arith) (λ other. omega (arith, kept.low_cdata other)) (λ none. fresh-number none Cdata)
-  kind-agrees below Declaration = stops-below guard.declaration (length t.text) steps 0 p below (omega arith) (λ other. omega (arith, kept.low_declaration other)) (λ none. fresh-number none Declaration)
+  kind-agrees below Comment = stops-below guard.comment (length t.text) steps e p below outside fields.low_comment (λ none. fresh-number none Comment)
+  kind-agrees below Cdata = stops-below guard.cdata (length t.text) steps 0 p below (omega arith) (λ other. omega (arith, fields.low_cdata other)) (λ none. fresh-number none Cdata)
+  kind-agrees below Declaration = stops-below guard.declaration (length t.text) steps 0 p below (omega arith) (λ other. omega (arith, fields.low_declaration other)) (λ none. fresh-number none Declaration)
   kind-agrees below Processing = processing-agrees
 
   cost-declared : cost t.text (is_stopped guard p) (declared_at t.text p) p ≡ cost t.text (is_shut (shut_kinds (length t.text) guard steps)) (declared_at t.text p) p
@@ -300,26 +292,26 @@ module _ (t : CountedBytes) (guard : HtmlScanGuard) (last e steps p : ℕ) (kept
         changed
 
     ends : (e ≤ unwrap_or answer e) × (unwrap_or answer e ≤ length t.text)
-    ends = rw scan.finds (end-bounds (find_at t.text p) e p (length t.text) outside kept.end_in (end_of-bounds t.text (opening_at t.text p) p))
+    ends = rw scan.finds (end-bounds (find_at t.text p) e p (length t.text) outside fields.find_end_in_text (end_of-bounds t.text (opening_at t.text p) p))
 
     true-later : (q : ℕ) → p < q → unwrap_or answer e ≤ q → IsTrueGuard t.text after q
-    true-later q later_place outside_find = scan.keeps q later_place (outside-some answer e q outside_find)
+    true-later q later_place outside_find = scan.stays_true q later_place (outside-some answer e q outside_find)
 
-    -- what the fields keep
-    pub stays-kept : last < p → IsKept u after p (unwrap_or answer e) (steps + 1)
-    stays-kept later =
-        let budget = subst IsWithinBudget (sym run-steps) (run_step-budget (run_of t guard last e steps) p kept.budget outside in_text) in
+    -- the fields are still those of a run
+    pub fields-stay : last < p → AreRunFields u after p (unwrap_or answer e) (steps + 1)
+    fields-stay later =
+        let budget = subst IsWithinBudget (sym run-steps) (run_step-budget (run_of t guard last e steps) p fields.budget outside in_text) in
         let same : u.text ≡ t.text = ap (λ v. v.text) counts in
         record {
           true_guard = rw same true-later;
-          low_comment = rw same (low-comment guard.comment after.comment (unwrap_or answer e) numbers.comment ends.0 kept.low_comment);
-          low_cdata = rw same (low-kind guard.cdata after.cdata 0 numbers.cdata kept.low_cdata);
-          low_declaration = rw same (low-kind guard.declaration after.declaration 0 numbers.declaration kept.low_declaration);
-          low_processing = rw same (low-kind guard.processing after.processing 0 numbers.processing kept.low_processing);
-          fresh = λ none. absurd (omega arith);
-          few = omega (arith, kept.few);
-          last_in = rw same in_text;
-          end_in = rw same ends.1;
+          low_comment = rw same (low-comment guard.comment after.comment (unwrap_or answer e) numbers.comment ends.0 fields.low_comment);
+          low_cdata = rw same (low-kind guard.cdata after.cdata 0 numbers.cdata fields.low_cdata);
+          low_declaration = rw same (low-kind guard.declaration after.declaration 0 numbers.declaration fields.low_declaration);
+          low_processing = rw same (low-kind guard.processing after.processing 0 numbers.processing fields.low_processing);
+          new_guard = λ none. absurd (omega arith);
+          steps_at_most_last = omega (arith, fields.steps_at_most_last);
+          last_in_text = rw same in_text;
+          find_end_in_text = rw same ends.1;
           budget = budget;
         }
 
