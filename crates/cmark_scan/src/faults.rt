@@ -1,6 +1,6 @@
 // What went wrong, and how it is told.
 ghost use Rattle.std.specs.Prelude.{◌≡◌, codes};
-ghost use Rattle.cmark_scan.specs.faults.Faults.{fault_line, AppendsFront};
+ghost use Rattle.cmark_scan.specs.faults.Faults.{fault_line, AppendsPrefix};
 
 use std::alloc::AllocError;
 use std::io::Write;
@@ -39,7 +39,7 @@ impl Fault {
 /// Tells of a fault, and answers the status that it ends the program with.
 pub(crate) fn report_fault<V: Write>(faults: &mut V, fault: Fault) -> u8
     ensures status { result ≡ 3 }
-    ensures line { AppendsFront (V.contents faults.old) (V.contents faults.new) (fault_line fault) }
+    ensures line { AppendsPrefix (V.contents faults.old) (V.contents faults.new) (fault_line fault) }
 {
     complain(faults, fault.line());
     3
@@ -47,7 +47,7 @@ pub(crate) fn report_fault<V: Write>(faults: &mut V, fault: Fault) -> u8
 
 /// Writes a line to the faults, as far as they take it. What becomes of it changes no status.
 pub(crate) fn complain<V: Write>(faults: &mut V, line: &str)
-    ensures { AppendsFront (V.contents faults.old) (V.contents faults.new) line.now }
+    ensures { AppendsPrefix (V.contents faults.old) (V.contents faults.new) line.now }
 {
     let mut rest = line.as_bytes();
     while !rest.is_empty() {

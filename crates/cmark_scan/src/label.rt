@@ -1,7 +1,8 @@
 // The label at the front of a text, and its printed lines.
-ghost use Rattle.std.specs.Prelude.{◌≡◌, Bool, true, false, IsTrue, IfOk, Some, string_bytes};
-ghost use Rattle.markdown_values.specs.strings.Text.{cow_text, IsBorrowed};
-ghost use Rattle.cmark_scan.specs.printing.Printed.{IsLabelOutcome, label_lines};
+ghost use Rattle.std.specs.Prelude.{◌≡◌, IfOk, Some, string_bytes};
+ghost use Rattle.markdown_values.specs.strings.Text.{cow_text};
+ghost use Rattle.markdown_scanners_tree.specs.linklabel.Answer.{is_borrowed};
+ghost use Rattle.cmark_scan.specs.label.LabelRun.{IsLabelOutcome, label_lines};
 ghost use Rattle.cmark_scan.specs.report.Report.{outcome_view};
 
 use crate::report::Report;
@@ -10,7 +11,7 @@ use markdown_values::strings::CowStr;
 use std::alloc::{AllocError, Global};
 
 /// What the label at the front of the input comes to, out of a table, where nothing is skipped.
-pub(crate) fn label_report(alloc: Global, bytes: &[u8]) -> Result<Report, AllocError>
+pub(crate) fn label_report(alloc: Global, bytes: &[u8]) -> Result<Report<'static>, AllocError>
     ensures { IfOk result (λ report. IsLabelOutcome bytes.now (outcome_view report)) }
 {
     let Ok(text) = str::from_utf8(bytes) else {
@@ -20,21 +21,23 @@ pub(crate) fn label_report(alloc: Global, bytes: &[u8]) -> Result<Report, AllocE
         ensures { result ≡ Some 0 }
     { Some(0) };
     match scan_link_label_rest(alloc, text, &handler, false)? {
-        Some((taken, label)) => Ok(Report::Done(label_text(alloc, taken, &label)?)),
-        None => Ok(Report::Stopped(String::from_str(alloc, "none\n")?)),
+        Some((taken, label)) => {
+            let text = label_text(alloc, taken, &label)?;
+            Ok(Report::Done(CowStr::from_string(alloc, text)?))
+        }
+        None => Ok(Report::Stopped(CowStr::from("none\n"))),
     }
 }
 
 fn is_borrowed(label: &CowStr<'_>) -> bool
-    ensures lent { IsTrue result → IsBorrowed label.now }
-    ensures owned { result ≡ false → ¬ IsBorrowed label.now }
+    ensures { result ≡ is_borrowed label.now }
 {
     matches!(label, CowStr::Borrowed(_))
 }
 
 fn label_text(alloc: Global, taken: usize, label: &CowStr<'_>) -> Result<String, AllocError>
-    ensures { IfOk result (λ text. (borrowed : Bool) × (string_bytes text ≡ label_lines taken borrowed (cow_text label.now))
-        × (borrowed ≡ true → IsBorrowed label.now) × (borrowed ≡ false → ¬ IsBorrowed label.now)) }
+    ensures { IfOk result (λ text. string_bytes text
+        ≡ label_lines taken (is_borrowed label.now) (cow_text label.now)) }
 {
     let borrowed = is_borrowed(label);
     let mut text = String::new(alloc);

@@ -9,16 +9,21 @@ use crate::printing::run_text;
 use crate::report::Report;
 use crate::words::parse_calls;
 use markdown_scanners_tree::line::run_line;
+use markdown_values::strings::CowStr;
 use std::alloc::{AllocError, Global};
 
 /// What the calls that the words ask for come to on the line.
-pub(crate) fn line_report(alloc: Global, words: &[&str], bytes: &[u8]) -> Result<Report, AllocError>
+pub(crate) fn line_report(
+    alloc: Global,
+    words: &[&str],
+    bytes: &[u8],
+) -> Result<Report<'static>, AllocError>
     ensures { IfOk result (λ report.
         IsOutcome (scan_line (calls_of (texts words.now))) bytes.now (outcome_view report)) }
 {
     let calls = parse_calls(alloc, words)?;
     let run = run_line(alloc, bytes, &calls)?;
-    let text = run_text(alloc, &calls, &run)?;
+    let text = CowStr::from_string(alloc, run_text(alloc, &calls, &run)?)?;
     match &run.stop {
         Some(_) => Ok(Report::Stopped(text)),
         None => Ok(Report::Done(text)),

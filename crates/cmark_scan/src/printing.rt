@@ -41,7 +41,8 @@ fn push_answers(
 }
 
 fn push_answer(text: &mut String, call: &LineCall, answer: &LineAnswer) -> Result<(), AllocError>
-    ensures { OnOk result (string_bytes text.new ≡ string_bytes text.old ++ answer_line (call.now, answer.now)) }
+    ensures { OnOk result (string_bytes text.new ≡
+        string_bytes text.old ++ answer_line (call.now, answer.now)) }
 {
     let name = call_name(call);
     match answer {

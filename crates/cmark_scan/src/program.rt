@@ -1,11 +1,11 @@
 //! What the program does with its words, its input and its output.
-ghost use Rattle.std.specs.Prelude.{◌≡◌, ◌≢◌, IfOk, IfSome, IfErr, OnOk, IsSome, IsNone};
+ghost use Rattle.std.specs.Prelude.{◌≡◌, ◌≢◌, IfOk, IfSome, IfErr, IsSome, IsNone};
 ghost use Rattle.std.specs.Io.KnownBytes.{Appends, IsAtEnd};
 ghost use Rattle.cmark_scan.specs.words.Words.{request_of};
 ghost use Rattle.cmark_scan.specs.words.Command.{texts, request_view};
-ghost use Rattle.cmark_scan.specs.printing.Printed.{Outcome, IsOutcome};
+ghost use Rattle.cmark_scan.specs.printing.Printed.{IsOutcome, IsPrinted};
 ghost use Rattle.cmark_scan.specs.report.Report.{outcome_view};
-ghost use Rattle.cmark_scan.specs.faults.Faults.{fault_line, IsBeforeWriting, Tells};
+ghost use Rattle.cmark_scan.specs.faults.Faults.{IsBeforeWriting, TellsFault};
 
 use crate::faults::{Fault, complain, report_fault};
 use crate::html::html_report;
@@ -24,8 +24,9 @@ const NOT_TEXT: &str = "not UTF-8\n";
 
 /// Runs the program on its words, without its name, and answers its status.
 ///
-/// 0: done. 1: the run stopped before one of its calls, there is no label, or the input of `unescape` or `label` isn't UTF-8. 2: other words, and the input is not read.
-/// 3: a fault of the reader, of memory or of the writer. All output is built before any of it is written.
+/// 0: done. 1: the run stopped before one of its calls, there is no label, or the input of
+/// `unescape` or `label` isn't UTF-8. 2: other words, and the input is not read. 3: a fault of the
+/// reader, of memory or of the writer. All output is built before any of it is written.
 pub fn run_program<R: Read, W: Write, V: Write>(
     alloc: Global,
     words: &[&str],
@@ -38,19 +39,26 @@ pub fn run_program<R: Read, W: Write, V: Write>(
     ensures status { result ≡ 2 → IsNone (request_of (texts words.now)) }
 
     ensures printed { result ≢ 3 → IfSome (request_of (texts words.now)) (λ request.
-        IfSome (R.remaining input.old) (λ bytes. (outcome : Outcome) × IsOutcome request bytes outcome
-        × (result ≡ outcome.status) × Appends (W.contents output.old) (W.contents output.new) outcome.printed)) }
-    ensures read { result ≢ 3 → IsSome (request_of (texts words.now)) → IsAtEnd (R.remaining input.new) }
+        IfSome (R.remaining input.old) (λ bytes.
+        IsPrinted request bytes result (W.contents output.old) (W.contents output.new))) }
+    ensures read { result ≢ 3 → IsSome (request_of (texts words.now)) →
+        IsAtEnd (R.remaining input.new) }
 
-    // After a read fault or want of memory nothing was written.
-    ensures unread { Tells (V.contents faults.old) (V.contents faults.new) (fault_line Fault.Read) → output.new ≡ output.old }
-    ensures no_memory { Tells (V.contents faults.old) (V.contents faults.new) (fault_line Fault.Memory) → output.new ≡ output.old }
+    // After a read fault, or out of memory, nothing was written.
+    ensures unread { TellsFault Fault.Read (V.contents faults.old) (V.contents faults.new) →
+        output.new ≡ output.old }
+    ensures no_memory { TellsFault Fault.Memory (V.contents faults.old) (V.contents faults.new) →
+        output.new ≡ output.old }
 {
     let Some(command) = parse_command(words) else {
         complain(faults, USAGE);
         return 2;
     };
-    match answer(alloc, command, input, output) {
+    let bytes = match read_all(alloc, input) {
+        Ok(bytes) => bytes,
+        Err(fault) => return report_fault(faults, fault),
+    };
+    match answer(alloc, command, &bytes, output) {
         Ok(Report::Done(_)) => 0,
         Ok(Report::Stopped(_)) => 1,
         Ok(Report::NotText) => {
@@ -61,24 +69,24 @@ pub fn run_program<R: Read, W: Write, V: Write>(
     }
 }
 
-// Reads the input, and writes what the command prints for it.
-fn answer<R: Read, W: Write>(
+// Writes what the command prints for the input.
+fn answer<'a, W: Write>(
     alloc: Global,
     command: Command<'_>,
-    input: &mut R,
+    bytes: &'a [u8],
     output: &mut W,
-) -> Result<Report, Fault>
-    ensures outcome { IfOk result (λ report. IfSome (R.remaining input.old) (λ bytes. IsOutcome (request_view command.entry) bytes (outcome_view report))) }
-    ensures written { IfOk result (λ report. Appends (W.contents output.old) (W.contents output.new) (outcome_view report).printed) }
-    ensures read { OnOk result (IsAtEnd (R.remaining input.new)) }
+) -> Result<Report<'a>, Fault>
+    ensures outcome { IfOk result (λ report.
+        IsOutcome (request_view command.entry) bytes.now (outcome_view report)) }
+    ensures written { IfOk result (λ report.
+        Appends (W.contents output.old) (W.contents output.new) (outcome_view report).printed) }
     ensures unwritten { IfErr result (λ fault. IsBeforeWriting fault → output.new ≡ output.old) }
     ensures no_text { IfOk result (λ report. report ≡ Report.NotText → output.new ≡ output.old) }
 {
-    let bytes = read_all(alloc, input)?;
-    let report = report_on(alloc, command, &bytes)?;
+    let report = report_on(alloc, command, bytes)?;
     match &report {
         Report::Done(text) | Report::Stopped(text) => {
-            if output.write_all(text.as_bytes()).is_err() {
+            if output.write_all(text.as_str().as_bytes()).is_err() {
                 return Err(Fault::Write);
             }
         }
@@ -88,8 +96,13 @@ fn answer<R: Read, W: Write>(
 }
 
 // What the command comes to on the input.
-fn report_on(alloc: Global, command: Command<'_>, bytes: &[u8]) -> Result<Report, AllocError>
-    ensures { IfOk result (λ report. IsOutcome (request_view command.entry) bytes.now (outcome_view report)) }
+fn report_on<'a>(
+    alloc: Global,
+    command: Command<'_>,
+    bytes: &'a [u8],
+) -> Result<Report<'a>, AllocError>
+    ensures { IfOk result (λ report.
+        IsOutcome (request_view command.entry) bytes.now (outcome_view report)) }
 {
     match command {
         Command::Line(words) => line_report(alloc, words, bytes),

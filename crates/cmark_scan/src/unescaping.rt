@@ -1,6 +1,5 @@
 // Resolving escapes and references, with the few entities that the program knows.
-ghost use Rattle.std.specs.Prelude.{◌≡◌, List, IfOk, false, string_bytes};
-ghost use Rattle.markdown_scanners_tree.specs.scanners.unescaping.Unescaping.{Piece, ArePieces, joined_meanings};
+ghost use Rattle.std.specs.Prelude.{IfOk};
 ghost use Rattle.cmark_scan.specs.printing.Printed.{IsOutcome};
 ghost use Rattle.cmark_scan.specs.report.Report.{outcome_view};
 ghost use Rattle.cmark_scan.specs.unescaping.EntityTexts.{entity_text};
@@ -34,22 +33,13 @@ impl Entities for KnownEntities {
     }
 }
 
-/// What the input comes to with its escapes and references resolved.
-pub(crate) fn unescape_report(alloc: Global, bytes: &[u8]) -> Result<Report, AllocError>
+/// What the input comes to with its escapes and references resolved, out of a table.
+pub(crate) fn unescape_report(alloc: Global, bytes: &[u8]) -> Result<Report<'_>, AllocError>
     ensures { IfOk result (λ report. IsOutcome scan_unescape bytes.now (outcome_view report)) }
 {
     let Ok(text) = from_utf8(bytes) else {
         return Ok(Report::NotText);
     };
-    let unescaped = unescaped_text(alloc, text)?;
-    Ok(Report::Done(unescaped))
-}
-
-// The text with its escapes and references resolved, out of a table.
-fn unescaped_text(alloc: Global, text: &str) -> Result<String, AllocError>
-    ensures { IfOk result (λ out. (pieces : List Piece) × ArePieces false entity_text text.now pieces
-        × (string_bytes out ≡ joined_meanings pieces)) }
-{
     let unescaped = unescape(alloc, CowStr::from(text), false, &KnownEntities)?;
-    unescaped.into_string(alloc)
+    Ok(Report::Done(unescaped))
 }

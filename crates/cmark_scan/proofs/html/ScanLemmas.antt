@@ -1,5 +1,5 @@
 -- The scans of a text, place by place, as a run makes them.
-use Rattle.std.proofs.Common.{◌≡◌, ◌⊎◌, inl, inr, ℕ, suc, ◌+◌, ◌-◌, ◌≤◌, ◌<◌, true, false, List, [], ◌∷◌, ◌++◌, length, take, refl, ap, sym, ◌∙◌, arith, Option, Some, None, append-nil, append_assoc, is_none}
+use Rattle.std.proofs.Common.{◌≡◌, ◌⊎◌, inl, inr, ℕ, suc, ◌+◌, ◌-◌, ◌≤◌, ◌<◌, true, false, List, [], ◌∷◌, ◌++◌, length, take, refl, ap, sym, ◌∙◌, arith, Option, Some, None, append-nil, append_assoc}
 use Rattle.std.specs.List.{flat_map}
 use Rattle.std.proofs.lemmas.List.{take_all, length-map}
 use Rattle.std.proofs.lemmas.Bool.{cases_lt, lt-leb, lt-ltb, le-leb}
@@ -9,8 +9,7 @@ use Rattle.markdown_scanners_tree.specs.inline_html.InlineHtml.{opener_before, f
 use Rattle.markdown_scanners_tree.specs.inline_html.run.Passed.{bytes_passed}
 use Rattle.markdown_scanners_tree.specs.inline_html.run.Run.{Run, new_run, refusal, run_after, run_step, run_answers, run_passed}
 use Rattle.markdown_scanners_tree.proofs.ForCallers.{accepted, opener-bounds, passed-counted}
-use Rattle.cmark_scan.specs.html.HtmlScans.{is_scanned, end_after, before_later, scans_from, scans_of, places_of}
-use Rattle.cmark_scan.specs.printing.Printed.{scan_text}
+use Rattle.cmark_scan.specs.html.HtmlScans.{is_scanned, end_after, before_later, scans_from, scans_of, scans_at, places_of, scan_text}
 
 -- the scans that are left from a place on
 abbrev pub left : List ℕ → Run → ℕ → List (ℕ × Option ℕ)
@@ -93,7 +92,7 @@ module _ (bytes : List ℕ) (run : Run) (p : ℕ) (text : run.text ≡ bytes) (r
         }
 
 pub step_kept : (bytes : List ℕ) (run : Run) (p : ℕ) (written : List ℕ) → p ≤ length bytes → IsUnderWay bytes run p written
-    → IsUnderWay bytes (run_after run p (refusal run p)) (p + 1) (written ++ flat_map scan_text (before_later (is_none (refusal run p)) (p, find_at run.text p) []))
+    → IsUnderWay bytes (run_after run p (refusal run p)) (p + 1) (written ++ flat_map scan_text (scans_at run p))
 step_kept bytes run p written within way =
     elim (made_or_refused bytes run p way.text way.rising) [
       | inl made ↦ rw made.0 (made_kept bytes run p way.text way.rising within written made way)

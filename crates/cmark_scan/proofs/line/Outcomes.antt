@@ -8,7 +8,8 @@ use Rattle.markdown_scanners_tree.specs.declared.line.run.LineRun.{LineRun}
 use Rattle.cmark_scan.specs.printing.Run.{Run, run_of, run_view}
 use Rattle.cmark_scan.specs.words.Words.{call_of, calls_of}
 use Rattle.cmark_scan.specs.words.Command.{texts}
-use Rattle.cmark_scan.specs.printing.Printed.{Outcome, run_text, stop_status}
+use Rattle.cmark_scan.specs.printing.Outcome.{Outcome}
+use Rattle.cmark_scan.specs.printing.Printed.{run_text, stop_status}
 use Rattle.cmark_scan.proofs.words.Texts.{calls_of_texts}
 
 abbrev outcome : List ℕ → ℕ → Outcome

@@ -7,8 +7,10 @@ use Rattle.markdown_scanners_tree.specs.declared.line.run.LineAnswer.TheVariants
 use Rattle.markdown_scanners_tree.specs.declared.line.run.LineStop.TheVariants.{SpacePending}
 use Rattle.cmark_scan.specs.words.Words.{call_of, request_of, scan_line, scan_html, scan_unescape, scan_label}
 use Rattle.cmark_scan.specs.unescaping.EntityTexts.{entity_text}
-use Rattle.cmark_scan.specs.html.HtmlScans.{scans_from, scans_of}
-use Rattle.cmark_scan.specs.printing.Printed.{run_text, html_text, label_lines, line_of}
+use Rattle.cmark_scan.specs.html.HtmlScans.{html_text, scans_from, scans_of}
+use Rattle.cmark_scan.specs.label.LabelRun.{label_lines}
+use Rattle.cmark_scan.specs.printing.Outcome.{line_of}
+use Rattle.cmark_scan.specs.printing.Printed.{run_text}
 use Rattle.markdown_scanners_tree.specs.inline_html.InlineHtml.{declared_at, opening_at, least_place, cost}
 
 largest_number : call_of (codes "upto:18446744073709551615") ≡ Some (call.Upto 18446744073709551615)

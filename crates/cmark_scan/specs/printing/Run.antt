@@ -24,4 +24,9 @@ run_of calls line = record {
 
 -- the run as the library gives it
 abbrev pub run_view : LineRun → Run
-run_view run = record { answers = run.answers.items; rest = run.rest.items; scanned = run.scanned; stop = run.stop }
+run_view run = record {
+  answers = run.answers.items;
+  rest = run.rest.items;
+  scanned = run.scanned;
+  stop = run.stop;
+}

@@ -5,13 +5,15 @@ use Rattle.std.specs.Prelude.{option_and_then, is_some}
 use Rattle.std.specs.Str.{all_ascii_digits, bytes_eq}
 use Rattle.std.specs.Str.Parse.{digits_value}
 use Rattle.std.specs.Prelude.{codes, ◌==◌}
+use Rattle.markdown_scanners_tree.specs.Ascii.{colon}
 use Rattle.markdown_scanners_tree.specs.declared.line.run.LineCall.{LineCall}
 use Rattle.markdown_scanners_tree.specs.declared.line.run.LineCall.TheVariants as call
 
 -- the number of a word of decimal digits, one or more, where a `usize` holds it
 abbrev pub number_of : List ℕ → Option ℕ
 number_of digits =
-    if (nat_lt 0 (length digits) && all_ascii_digits digits) && nat_lt (digits_value 10 digits) (2 ^ 64)
+    if (nat_lt 0 (length digits) && all_ascii_digits digits)
+    && nat_lt (digits_value 10 digits) (2 ^ 64)
     then Some (digits_value 10 digits) else None
 
 -- the call that a name and a number ask for
@@ -28,8 +30,9 @@ abbrev pub call_of : List ℕ → Option LineCall
 call_of word =
     if bytes_eq word (codes "eol") then Some call.Eol
     else (if bytes_eq word (codes "quote") then Some call.Quote
-    else (if nat_lt (position_or_len (λ b. b == 58) word) (length word)
-    then option_and_then (numbered_call (before_first (λ b. b == 58) word)) (number_of (after_first (λ b. b == 58) word))
+    else (if nat_lt (position_or_len (λ b. b == colon) word) (length word)
+    then option_and_then (numbered_call (before_first (λ b. b == colon) word))
+    (number_of (after_first (λ b. b == colon) word))
     else None))
 
 -- each word asks for a call
@@ -47,7 +50,8 @@ pub data Request : Type 0 where
   scan_unescape : Request
   scan_label : Request
 
--- the request that the words make, where they make one: `line` and words that each ask for a call; `html`, `unescape` or `label` alone
+-- the request that the words make, where they make one: `line` and words that each ask for a call;
+-- `html`, `unescape` or `label` alone
 abbrev pub request_of : List (List ℕ) → Option Request
 request_of [] = None
 request_of (word ∷ words) =

@@ -2,8 +2,7 @@
 use Rattle.std.proofs.Common.{◌≡◌, ◌<◌, ◌+◌, ◌∙◌, append_assoc, string_bytes, length, arith}
 use Rattle.std.specs.List.{flat_map}
 use Rattle.markdown_scanners_tree.specs.inline_html.run.Passed.{bytes_passed}
-use Rattle.cmark_scan.specs.html.HtmlScans.{scans_of, places_of}
-use Rattle.cmark_scan.specs.printing.Printed.{scan_text}
+use Rattle.cmark_scan.specs.html.HtmlScans.{scans_of, places_of, scan_text}
 use Rattle.cmark_scan.proofs.html.ScanLemmas.{step_kept, ended}
 use Rattle.cmark_scan.proofs.html.html_text.Goals as goal
 use Rattle.cmark_scan.proofs.html.html_text.Goals.{else-loop-place-test, then-loop-place-test+in_ok-push_step+else-place-place-end}

@@ -1,10 +1,10 @@
 -- The handler answers 0 for each rest, and nothing else.
 use Rattle.std.proofs.Common.{ℕ, ◌≡◌, Some, rules, of_calls, refl, sym, ◌∙◌, ap, subst, inl, inr}
 use Rattle.std.proofs.lemmas.Str.{IsCharBoundary-start}
+use Rattle.markdown_scanners_tree.specs.linklabel.Answer.{answered_label}
 use Rattle.markdown_scanners_tree.specs.linklabel.Label.{Label}
 use Rattle.cmark_scan.specs.label.LabelRun.{IsLabelOf, SkipsNothing}
-use Rattle.cmark_scan.specs.printing.Printed.{label_lines}
-use Rattle.cmark_scan.proofs.label.LabelLemmas.{label_of_more, lent_is_plain}
+use Rattle.cmark_scan.proofs.label.LabelLemmas.{label_of_more}
 use Rattle.cmark_scan.proofs.label.label_report.Goals as goal
 
 same : (m n : ℕ) → Some m ≡ Some n → m ≡ n
@@ -12,22 +12,21 @@ same m n e = cc
 
 pub scan_link_label_rest-requires-clause-steady : goal.scan_link_label_rest-requires-clause-steady
 scan_link_label_rest-requires-clause-steady c = record {
-  one = λ rest a b u x y. (let e : a ≡ Some 0 = search (rules, of_calls) in let f : b ≡ Some 0 = search (rules, of_calls) in e ∙ sym f);
+  one_answer = λ rest a b u x y. (let e : a ≡ Some 0 = search (rules, of_calls) in let f : b ≡ Some 0 = search (rules, of_calls) in e ∙ sym f);
   inside = λ rest skip u x. (let e : Some skip ≡ Some 0 = search (rules, of_calls) in rw (same skip 0 e) (IsCharBoundary-start rest u));
 }
 
-pub returns-in_ok-label_text-in-Some : goal.returns-in_ok-label_text-in-Some
-returns-in_ok-label_text-in-Some c =
+pub returns-in_ok-from_string-in-Some : goal.returns-in_ok-from_string-in-Some
+returns-in_ok-from_string-in-Some c =
     let found = rw c.in-Some.is at c.in_ok-taken.ensures.found in
     let text = c.in-Ok.ensures.cases in
-    let lines = c.in_ok-label_text-in-Some.ensures in
-    let lent = lent_is_plain c.in-Some.label found.0.plain lines.0 found.2.lent found.2.built lines.2 lines.3 in
-    let is : IsLabelOf c.args.bytes.now found.0 = subst (λ z. IsLabelOf z found.0) text.0 (label_of_more _ SkipsNothing (λ rest skip x. (let e : Some skip ≡ Some 0 = search (rules, of_calls) in same skip 0 e)) _ _ found.0 found.1) in
-    inl (text.1, (found.0, is, λ i. record { printed = (lines.1 ∙ (λ j. label_lines (found.2.taken_all j) (lent j) (found.2.same_text j))) i; status = 0 }))
+    let label = answered_label (c.in-Some.taken, c.in-Some.label) in
+    let is : IsLabelOf c.args.bytes.now label = subst (λ z. IsLabelOf z label) text.0 (label_of_more _ SkipsNothing (λ rest skip x. (let e : Some skip ≡ Some 0 = search (rules, of_calls) in same skip 0 e)) _ _ label found) in
+    inl (text.1, (label, is, λ i. record { printed = (c.in_ok-from_string-in-Some.ensures.text ∙ c.in_ok-text-in-Some.ensures) i; status = 0 }))
 
-pub returns-in_ok-from_str-in-None : goal.returns-in_ok-from_str-in-None
-returns-in_ok-from_str-in-None c =
-    let none = rw c.in-None.is at c.in_ok-taken.ensures.none in
+pub returns-in-None : goal.returns-in-None
+returns-in-None c =
+    let none = rw c.in-None.is at c.in_ok-taken.ensures.found in
     let text = c.in-Ok.ensures.cases in
     let no_label : (label : Label) → IsLabelOf c.args.bytes.now label → ⊥ = λ label l. none label (label_of_more SkipsNothing _ (λ rest skip e. record { shown = record c.in-Ok.text { now = rest }; shows = refl; says = record { met = ap Some e } }) _ _ label (subst (λ z. IsLabelOf z label) (sym text.0) l)) in
-    inr (inl (text.1, no_label, λ i. record { printed = c.in_ok-from_str-in-None.ensures.ok i; status = 1 }))
+    inr (inl (text.1, no_label, λ i. record { printed = c.from.ensures.0 i; status = 1 }))

@@ -15,9 +15,9 @@ pub returns-in-Ok-Stopped-clause-no_memory : goal.returns-in-Ok-Stopped-clause-n
 returns-in-Ok-Stopped-clause-no_memory g c = λ told. absurd (nothing_told (g.V.Write.contents c.args.faults.now) 111 _ told)
 
 pub returns-clause-unread : goal.returns-clause-unread
-returns-clause-unread g c = λ told. c.in-Err.ensures.unwritten
-    (before_writing (g.V.Write.contents c.args.faults.now) (g.V.Write.contents c.report_fault.new.faults) c.in-Err.fault 114 _ (omega arith) c.report_fault.ensures.line told)
+returns-clause-unread g c = λ told. c.in-Err-answer.ensures.unwritten
+    (before_writing (g.V.Write.contents c.args.faults.now) (g.V.Write.contents c.report_fault-in-Err-answer.new.faults) c.in-Err-answer.fault 114 _ (omega arith) c.report_fault-in-Err-answer.ensures.line told)
 
 pub returns-clause-no_memory : goal.returns-clause-no_memory
-returns-clause-no_memory g c = λ told. c.in-Err.ensures.unwritten
-    (before_writing (g.V.Write.contents c.args.faults.now) (g.V.Write.contents c.report_fault.new.faults) c.in-Err.fault 111 _ (omega arith) c.report_fault.ensures.line told)
+returns-clause-no_memory g c = λ told. c.in-Err-answer.ensures.unwritten
+    (before_writing (g.V.Write.contents c.args.faults.now) (g.V.Write.contents c.report_fault-in-Err-answer.new.faults) c.in-Err-answer.fault 111 _ (omega arith) c.report_fault-in-Err-answer.ensures.line told)
