@@ -3,7 +3,7 @@ ghost use Rattle.std.specs.Prelude.{◌≡◌, ◌↔◌, IsTrue, Some};
 ghost use Rattle.markdown_scanners_tree.specs.linklabel.Key.{label_key};
 ghost use Rattle.cmark_vectors.specs.Markers.{skipped};
 
-use crate::bounds::{are_equal, hash_of};
+use cmark_vectors_values::bounds::{are_equal, hash_of};
 use markdown_scanners_tree::linklabel::{FootnoteLabel, LinkLabel, scan_link_label_rest};
 use markdown_values::strings::CowStr;
 use std::alloc::{AllocError, Global};
@@ -47,13 +47,13 @@ fn footnotes_match_as_links_do(rt: HostRuntime) -> Result<(), Fail> {
     Ok(())
 }
 
-/// The bytes taken, whether the text is lent, and the text.
+/// The bytes taken, whether the text is borrowed, and the text.
 type Answer<'t> = Option<(usize, bool, CowStr<'t>)>;
 
 fn with_variant(found: Option<(usize, CowStr<'_>)>) -> Answer<'_> {
     let (taken, label) = found?;
-    let lent = matches!(label, CowStr::Borrowed(_));
-    Some((taken, lent, label))
+    let borrowed = matches!(label, CowStr::Borrowed(_));
+    Some((taken, borrowed, label))
 }
 
 // How many bytes of a marker stand at the front.
@@ -100,7 +100,7 @@ fn scan_skipping_all(alloc: Global, text: &str) -> Result<Answer<'_>, AllocError
     Ok(with_variant(found))
 }
 
-/// The bytes taken, whether the text is lent, and the text, as a row has them.
+/// The bytes taken, whether the text is borrowed, and the text, as a row has them.
 type Expected = Option<(usize, bool, &'static str)>;
 
 /// A text, the marker before its lines, whether it is in a table, and the answer.
@@ -111,7 +111,7 @@ type LineRow = (&'static str, bool, Expected);
 
 fn assert_answer(rt: &impl Abort, answer: &Answer<'_>, expected: &Expected, text: &str) {
     let found = match answer {
-        Some((taken, lent, label)) => Some((*taken, *lent, label.as_str())),
+        Some((taken, borrowed, label)) => Some((*taken, *borrowed, label.as_str())),
         None => None,
     };
     assert_eq!(rt; found, *expected, "on {text:?}");
@@ -204,7 +204,7 @@ fn with_letters(
     Ok(text)
 }
 
-// Letters, what stands between them, letters, the marker, the bytes taken, and whether the label is lent.
+// Letters, what stands between them, letters, the marker, the bytes taken, and whether the label is borrowed.
 const LONG_ROWS: [(usize, &str, usize, &[u8], usize, bool); 4] = [
     (999, "", 0, b"", 1000, true),
     (998, "é", 0, b"", 1001, true),
@@ -214,15 +214,15 @@ const LONG_ROWS: [(usize, &str, usize, &[u8], usize, bool); 4] = [
 
 #[test]
 fn labels_of_999_characters_are_read(rt: HostRuntime) -> Result<(), Fail> {
-    for (front, middle, back, marker, taken, lent) in LONG_ROWS {
+    for (front, middle, back, marker, taken, borrowed) in LONG_ROWS {
         let text = with_letters(rt.alloc(), front, middle, back)?;
         let answer = scan_after_markers(rt.alloc(), text.as_str(), marker, false)?;
-        let Some((bytes, is_lent, label)) = answer else {
+        let Some((bytes, is_borrowed, label)) = answer else {
             return Err(Fail::from("no label"));
         };
-        let skipped = if lent { 1 } else { middle.len() };
+        let skipped = if borrowed { 1 } else { middle.len() };
         assert_eq!(rt; bytes, taken, "of {middle:?}");
-        assert_eq!(rt; is_lent, lent, "of {middle:?}");
+        assert_eq!(rt; is_borrowed, borrowed, "of {middle:?}");
         assert_eq!(rt; label.as_str().len(), taken - skipped, "of {middle:?}");
     }
     Ok(())
@@ -251,11 +251,11 @@ fn labels_read_back(rt: HostRuntime) -> Result<(), Fail> {
         let mut closed = String::from_str(rt.alloc(), label.as_str())?;
         closed.push(']')?;
         let again = scan_in_one_line(rt.alloc(), closed.as_str(), false)?;
-        let Some((taken, lent, same)) = again else {
+        let Some((taken, borrowed, same)) = again else {
             return Err(Fail::from("no label"));
         };
         assert_eq!(rt; taken, closed.len(), "on {text:?}");
-        assert!(rt; lent, "on {text:?}");
+        assert!(rt; borrowed, "on {text:?}");
         assert_eq!(rt; same.as_str(), label.as_str(), "on {text:?}");
     }
     Ok(())

@@ -318,11 +318,3 @@ fn takes_a_hundred_thousand_tabs(rt: HostRuntime) -> Result<(), Fail> {
     assert_eq!(rt; run.stop, None);
     Ok(())
 }
-
-#[test]
-fn runs_that_differ_are_not_equal(rt: HostRuntime) -> Result<(), Fail> {
-    let run: LineRun = run_line(rt.alloc(), b"\tx", &[LineCall::Upto(1)])?;
-    let other = run_line(rt.alloc(), b"\tx", &[LineCall::Upto(2)])?;
-    assert_ne!(rt; run, other);
-    Ok(())
-}

@@ -1,5 +1,5 @@
 -- What is skipped ends in an ASCII byte, or is nothing.
-use Rattle.std.proofs.Common.{ℕ, refl, ◌≡◌, ◌<◌, ◌≤◌, ◌-◌, ◌+◌, ◌&&◌, Bool, true, false, Option, Some, List, arith, rules, of_calls, sym, ap, ◌∙◌, subst, cond, length, nat_lt, nat_le, nat_eq, slice_index}
+use Rattle.std.proofs.Common.{ℕ, refl, ◌≡◌, ◌<◌, ◌≤◌, ◌-◌, ◌+◌, ◌&&◌, Bool, true, false, Some, List, arith, rules, of_calls, sym, ◌∙◌, subst, cond, length, nat_lt, nat_le, nat_eq, slice_index}
 use Rattle.std.proofs.lemmas.Bool.{and_parts}
 use Rattle.std.proofs.lemmas.Bool.Decides.{nat_tests}
 use Rattle.std.proofs.lemmas.Str.{IsCharBoundary-start, IsCharBoundary-after_ascii}
@@ -27,6 +27,6 @@ cut marker rest u = by (nat_lt 0 (length marker) && nat_le (length marker) (leng
 
 pub scan_link_label_rest-requires-clause-steady : goal.scan_link_label_rest-requires-clause-steady
 scan_link_label_rest-requires-clause-steady c = record {
-  one = λ rest a b u x y. (let e : a ≡ Some (skipped c.args.marker.now rest) = search (rules, of_calls) in let f : b ≡ Some (skipped c.args.marker.now rest) = search (rules, of_calls) in e ∙ sym f);
+  one_answer = λ rest a b u x y. (let e : a ≡ Some (skipped c.args.marker.now rest) = search (rules, of_calls) in let f : b ≡ Some (skipped c.args.marker.now rest) = search (rules, of_calls) in e ∙ sym f);
   inside = λ rest skip u x. (let e : Some skip ≡ Some (skipped c.args.marker.now rest) = search (rules, of_calls) in subst (IsCharBoundary rest) (sym (same skip (skipped c.args.marker.now rest) e)) (cut c.args.marker.now rest u));
 }

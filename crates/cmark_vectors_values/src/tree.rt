@@ -1,7 +1,7 @@
 //! Trees: runs of calls, their nodes, spine and focus, and children that are cut.
 ghost use Rattle.std.specs.Prelude.{◌≡◌, ◌∷◌, [], length, IfOk, IfSome};
 ghost use Rattle.markdown_values.specs.tree.Truncate.{first_other, CanCut};
-ghost use Rattle.cmark_vectors.specs.Pieces.{spans_of, IsParent};
+ghost use Rattle.cmark_vectors_values.specs.Pieces.{spans_of, IsParent};
 
 use crate::pieces::Piece;
 use markdown_values::tree::{Node, Tree, TreeIndex};
@@ -140,6 +140,18 @@ fn trees_of_few_nodes_have_no_parents(rt: HostRuntime) -> Result<(), Fail> {
     assert_eq!(rt; tree[a].next, None);
     assert_eq!(rt; tree.next_sibling(b), None);
     assert_eq!(rt; tree.cur(), None);
+    Ok(())
+}
+
+#[test]
+fn a_node_is_got_by_an_index_of_the_tree(rt: HostRuntime) -> Result<(), Fail> {
+    let alloc = rt.alloc();
+    let (large, indices) = nested(alloc)?;
+    let [first, _, _, last] = indices;
+    assert_eq!(rt; large.get(first).map(|node| node.item.name), Some('A'));
+    assert_eq!(rt; large.get(last).map(|node| node.item.name), Some('D'));
+    let small: Tree<Piece> = Tree::with_capacity(alloc, 1)?;
+    assert!(rt; small.get(last).is_none());
     Ok(())
 }
 

@@ -34,7 +34,7 @@ fn inlined(text: &str) -> Option<CowStr<'static>> {
     }
 }
 
-fn lent<T: AsStr>(text: &T) -> &str {
+fn borrowed<T: AsStr>(text: &T) -> &str {
     text.as_str()
 }
 
@@ -49,7 +49,7 @@ fn texts_of_at_most_22_bytes_are_inlined(rt: HostRuntime) {
     assert_eq!(rt; InlineStr::from('a').as_str(), "a");
     assert_eq!(rt; InlineStr::from('🍔').as_str().len(), 4);
     assert_eq!(rt; InlineStr::from('🍔').as_str(), "🍔");
-    assert_eq!(rt; lent(&InlineStr::from('é')), "é");
+    assert_eq!(rt; borrowed(&InlineStr::from('é')), "é");
     for (text, fits) in [
         ("", true),
         (OF_15, true),
@@ -71,24 +71,24 @@ fn texts_of_at_most_22_bytes_are_inlined(rt: HostRuntime) {
 }
 
 #[test]
-fn a_character_is_inlined_and_a_text_is_lent(rt: HostRuntime) {
+fn a_character_is_inlined_and_a_text_is_borrowed(rt: HostRuntime) {
     let letter = CowStr::from('c');
     assert_eq!(rt; variant(&letter), "inlined");
     assert_eq!(rt; letter.as_str(), "c");
     let sign = CowStr::from('藏');
     assert_eq!(rt; sign.as_str(), "藏");
     for text in ["", "a", OF_22, OF_30] {
-        let lent_text = CowStr::from(text);
-        assert_eq!(rt; variant(&lent_text), "borrowed");
-        assert_eq!(rt; lent(&lent_text), text);
+        let borrowed_text = CowStr::from(text);
+        assert_eq!(rt; variant(&borrowed_text), "borrowed");
+        assert_eq!(rt; borrowed(&borrowed_text), text);
     }
 }
 
 #[test]
 fn each_variant_gives_its_string(rt: HostRuntime) -> Result<(), Fail> {
     let alloc = rt.alloc();
-    let lent_text = CowStr::from("some text").into_string(alloc)?;
-    assert_eq!(rt; lent_text.as_str(), "some text");
+    let borrowed_text = CowStr::from("some text").into_string(alloc)?;
+    assert_eq!(rt; borrowed_text.as_str(), "some text");
     let inlined_text = CowStr::from('s').into_string(alloc)?;
     assert_eq!(rt; inlined_text.as_str(), "s");
     let owned_text = boxed(alloc, "s")?.into_string(alloc)?;
@@ -105,7 +105,7 @@ fn a_string_is_owned(rt: HostRuntime) -> Result<(), Fail> {
     if let CowStr::Boxed(owned) = &text {
         let owned: &BoxedStr = owned;
         assert_eq!(rt; owned.as_str(), "a");
-        assert_eq!(rt; lent(owned), "a");
+        assert_eq!(rt; borrowed(owned), "a");
     }
     Ok(())
 }
@@ -128,7 +128,7 @@ fn copies_stay_lent_or_short(rt: HostRuntime) -> Result<(), Fail> {
     Ok(())
 }
 
-// The variant and the text of what is lent nowhere.
+// The variant and the text of what is borrowed nowhere.
 fn static_is(
     alloc: Global,
     text: CowStr<'_>,
@@ -153,16 +153,16 @@ fn static_texts_are_lent_nowhere(rt: HostRuntime) -> Result<(), Fail> {
 #[test]
 fn texts_are_equal_whatever_holds_them(rt: HostRuntime) -> Result<(), Fail> {
     let owned = boxed(rt.alloc(), "a")?;
-    let lent_text = CowStr::from("a");
+    let borrowed_text = CowStr::from("a");
     let inlined_text = CowStr::from('a');
-    assert!(rt; are_equal(&owned, &lent_text));
-    assert!(rt; are_equal(&lent_text, &inlined_text));
+    assert!(rt; are_equal(&owned, &borrowed_text));
+    assert!(rt; are_equal(&borrowed_text, &inlined_text));
     assert!(rt; are_equal(&inlined_text, &owned));
-    assert_eq!(rt; hash_of(&owned), hash_of(&lent_text));
-    assert_eq!(rt; hash_of(&lent_text), hash_of(&inlined_text));
+    assert_eq!(rt; hash_of(&owned), hash_of(&borrowed_text));
+    assert_eq!(rt; hash_of(&borrowed_text), hash_of(&inlined_text));
     assert_eq!(rt; hash_of(&InlineStr::from('a')), hash_of(&inlined_text));
-    assert!(rt; !are_equal(&lent_text, &CowStr::from('b')));
-    assert!(rt; !are_equal(&lent_text, &CowStr::from("")));
+    assert!(rt; !are_equal(&borrowed_text, &CowStr::from('b')));
+    assert!(rt; !are_equal(&borrowed_text, &CowStr::from("")));
     assert!(rt; inlined(OF_22) == Some(CowStr::from(OF_22)));
     assert!(rt; inlined(OF_23).is_none());
     Ok(())

@@ -3,7 +3,7 @@ use Rattle.std.specs.Prelude.{◌≡◌, ℕ, suc, List, [], ◌∷◌, None}
 use Rattle.markdown_values.specs.tree.Linked.{Linked}
 use Rattle.markdown_values.specs.tree.Tree.{isolated}
 use Rattle.markdown_values.specs.tree.Truncate.{Span}
-use Rattle.cmark_vectors.specs.declared.pieces.Piece.{Piece}
+use Rattle.cmark_vectors_values.specs.declared.pieces.Piece.{Piece}
 
 abbrev pub span_of : Piece → Span
 span_of p = record { start = p.start; end = p.end; escaped = p.escaped }

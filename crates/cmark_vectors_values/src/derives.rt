@@ -15,6 +15,11 @@ use std::fmt::Debug;
 use std::hash::Hash;
 use std::test::Fail;
 
+fn is_printed<T: Debug>(alloc: Global, value: &T) -> Result<bool, AllocError> {
+    let text = debug_printed(alloc, value)?;
+    Ok(!text.is_empty())
+}
+
 // The lesser value and the greater one, by every derive of a value that is copied, ordered and hashed.
 fn are_ordered<T: Clone + Copy + Debug + Eq + Ord + Hash>(
     alloc: Global,
@@ -28,7 +33,7 @@ fn are_ordered<T: Clone + Copy + Debug + Eq + Ord + Hash>(
         && hash_of(&clone) == hash_of(&less);
     let is_less = less.cmp(&more) == Ordering::Less
         && less.partial_cmp(&more) == Some(Ordering::Less);
-    let is_printed = !debug_printed(alloc, &less)?.is_empty();
+    let is_printed = is_printed(alloc, &less)?;
     Ok(is_same && is_less && is_printed && !are_equal(&less, &more))
 }
 
@@ -58,7 +63,7 @@ fn are_copied<T: Clone + Copy + Debug + PartialEq>(
 ) -> Result<bool, AllocError> {
     let copy = one;
     let clone = one.clone()?;
-    let is_printed = !debug_printed(alloc, &one)?.is_empty();
+    let is_printed = is_printed(alloc, &one)?;
     Ok(copy == one && clone == one && one != other && is_printed)
 }
 
@@ -75,7 +80,7 @@ fn is_compared<T: Debug + PartialEq>(
     one: &T,
     other: &T,
 ) -> Result<bool, AllocError> {
-    let is_printed = !debug_printed(alloc, one)?.is_empty();
+    let is_printed = is_printed(alloc, one)?;
     Ok(*one == *one && *one != *other && is_printed)
 }
 
@@ -108,11 +113,11 @@ fn texts_and_references_are_printed_by_debug(rt: HostRuntime) -> Result<(), Fail
     let alloc = rt.alloc();
     let owned = CowStr::from_string(alloc, String::from_str(alloc, "a")?)?;
     if let CowStr::Boxed(text) = &owned {
-        assert!(rt; !debug_printed(alloc, text)?.is_empty());
+        assert!(rt; is_printed(alloc, text)?);
     }
-    assert!(rt; !debug_printed(alloc, &owned)?.is_empty());
-    assert!(rt; !debug_printed(alloc, &InlineStr::from('a'))?.is_empty());
-    assert!(rt; !debug_printed(alloc, &StringTooLongError)?.is_empty());
+    assert!(rt; is_printed(alloc, &owned)?);
+    assert!(rt; is_printed(alloc, &InlineStr::from('a'))?);
+    assert!(rt; is_printed(alloc, &StringTooLongError)?);
     let link = debug_printed(alloc, &ReferenceLabel::Link(CowStr::from("a")))?;
     let note = debug_printed(alloc, &ReferenceLabel::Footnote(CowStr::from("a")))?;
     assert!(rt; link != note);
@@ -126,7 +131,7 @@ fn is_between<T: Clone + Copy + Debug + Eq + PartialOrd>(
 ) -> Result<bool, AllocError> {
     let copy = less;
     let is_same = are_equal(&copy, &less) && are_equal(&less.clone()?, &less);
-    let is_printed = !debug_printed(alloc, &less)?.is_empty();
+    let is_printed = is_printed(alloc, &less)?;
     Ok(is_same && less < more && !(more <= less) && is_printed)
 }
 

@@ -273,7 +273,7 @@ fn static_tag_is(alloc: Global, tag: Tag<'_>, wanted: &Tag<'_>) -> Result<bool, 
     Ok(tag == *wanted)
 }
 
-// A copy of a tag, and the tag with nothing lent, equal the tag.
+// A copy of a tag, and the tag with nothing borrowed, equal the tag.
 fn tag_is_kept(alloc: Global, tag: Tag<'_>) -> Result<bool, AllocError> {
     let copy = tag.clone(alloc)?;
     let is_equal = copy == tag;
@@ -356,7 +356,7 @@ fn has_boxed_texts(event: &Event<'_>) -> bool {
     }
 }
 
-// Whether the event with nothing lent equals this one, and its texts are owned.
+// Whether the event with nothing borrowed equals this one, and its texts are owned.
 fn becomes_owned(alloc: Global, event: Event<'_>, wanted: &Event<'_>) -> Result<bool, AllocError> {
     let event = event.into_static(alloc)?;
     Ok(has_boxed_texts(&event) && event == *wanted)
