@@ -1,0 +1,20 @@
+-- What lines begin with, in the words of the line starts. Callers take these words as they are; the function that answers one opens it.
+use Rattle.std.specs.Prelude.{ℕ, List, Option}
+use Rattle.markdown_scanners_tree.specs.line.State.{LineState, after_space}
+use Rattle.markdown_scanners_tree.specs.line.Outcome.{after_quote, item_outcome}
+
+-- the start of a line
+abbrev pub start_of : List ℕ → LineState
+start_of line = record { bytes = line; place = 0; pending = 0; phase = 0 }
+
+-- the place behind at most three spaces and the marker of a block quote
+unfoldable pub behind_quote : LineState → LineState
+behind_quote start = after_quote (after_space 3 start)
+
+-- the list item behind at most three spaces: its bullet or delimiter, its start number and the indent of its text
+unfoldable pub item_behind : LineState → Option (ℕ × ℕ × ℕ)
+item_behind start = (item_outcome 0 (after_space 3 start)).answer
+
+-- the place behind at most three spaces and the marker of a list item
+unfoldable pub behind_item : LineState → LineState
+behind_item start = (item_outcome 0 (after_space 3 start)).state

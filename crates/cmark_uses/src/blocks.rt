@@ -1,0 +1,125 @@
+//! Blocks that their lines tell: thematic breaks, tables, fenced code and metadata.
+ghost use Rattle.std.specs.Prelude.{◌≡◌, ◌≤◌, ◌++◌, ℕ, List, length, drop, true, IsTrue, IfOk, IfSome, IfNone};
+ghost use Rattle.markdown_scanners_tree.specs.scanners.Breaks.{IsThematicBreak, is_thematic_break};
+ghost use Rattle.markdown_scanners_tree.specs.scanners.Fences.{IsCodeFence, IsClosingCodeFence};
+ghost use Rattle.markdown_scanners_tree.specs.scanners.Metadata.{IsMetadataBlock};
+ghost use Rattle.markdown_scanners_tree.specs.scanners.Tables.{IsDelimiterRow};
+
+use markdown_scanners_tree::scanners::{
+    scan_closing_code_fence, scan_code_fence, scan_hrule, scan_metadata_block, scan_nextline,
+    scan_table_head,
+};
+use markdown_values::values::{Alignment, MetadataBlockKind};
+use std::alloc::{AllocError, Global};
+
+/// Whether the line is a thematic break: three or more of one marker, and nothing else but spaces and tabs.
+pub fn is_break(line: &[u8]) -> bool
+    ensures test { result ≡ is_thematic_break line.now }
+    ensures made { IsTrue result → IsThematicBreak line.now }
+{
+    scan_hrule(line).is_ok()
+}
+
+/// The alignments of a table's columns, in order, where the line is the delimiter row of a table.
+pub fn table_columns(alloc: Global, line: &[u8]) -> Result<Option<Vec<Alignment>>, AllocError>
+    ensures found { IfOk result (λ found. IfSome found (λ columns.
+        (n : ℕ) × IsDelimiterRow line.now n columns.items)) }
+    ensures none { IfOk result (λ found. IfNone found (
+        (n : ℕ) (columns : _) → ¬ IsDelimiterRow line.now n columns)) }
+{
+    let (len, columns) = scan_table_head(alloc, line)?;
+    if len == 0 {
+        return Ok(None);
+    }
+    Ok(Some(columns))
+}
+
+/// How many columns the table has whose delimiter row the line is.
+pub fn column_count(alloc: Global, line: &[u8]) -> Result<Option<usize>, AllocError>
+    ensures { IfOk result (λ found. IfSome found (λ count. (n : ℕ) × (columns : List Alignment)
+        × IsDelimiterRow line.now n columns × (length columns ≡ count))) }
+{
+    match table_columns(alloc, line)? {
+        Some(columns) => Ok(Some(columns.len())),
+        None => Ok(None),
+    }
+}
+
+// The place of the first line from the front that closes a block of fenced code.
+fn closing_place(text: &[u8], fence: u8, count: usize) -> usize
+    ensures within { result ≤ length text.now }
+    ensures closed { (n : ℕ) × IsClosingCodeFence (drop result text.now) fence count n }
+{
+    for place in 0..text.len() {
+        let begins_line = place == 0 || text[place - 1] == b'\n';
+        if begins_line && scan_closing_code_fence(&text[place..], fence, count).is_some() {
+            return place;
+        }
+    }
+    text.len()
+}
+
+/// A text that begins with fenced code, in three parts: the line of the opening fence, the content, and what begins with
+/// the closing fence, or with the end of the text. The fences stand at the fronts of their lines.
+pub fn fenced_code(text: &[u8]) -> Option<(&[u8], &[u8], &[u8])>
+    ensures parts { IfSome result (λ r. text.now ≡ r.0.now ++ (r.1.now ++ r.2.now)) }
+    ensures fences { IfSome result (λ r. (count fence n : ℕ)
+        × IsCodeFence text.now count fence × IsClosingCodeFence r.2.now fence count n) }
+    ensures none { IfNone result ((fence : ℕ × ℕ) → ¬ IsCodeFence text.now fence.0 fence.1) }
+{
+    let (count, fence) = scan_code_fence(text)?;
+    let (opening, after) = text.split_at(scan_nextline(text));
+    let (code, closing) = after.split_at(closing_place(after, fence, count));
+    Some((opening, code, closing))
+}
+
+/// The kind of the metadata block that a document begins with.
+pub fn metadata_kind(document: &[u8]) -> Option<MetadataBlockKind>
+    ensures found { IfSome result (λ _. (byte : ℕ) × IsMetadataBlock document.now true true byte) }
+    ensures none { IfNone result ((r : ℕ × ℕ) → ¬ IsMetadataBlock document.now true true r.1) }
+{
+    let (_, byte) = scan_metadata_block(document, true, true)?;
+    if byte == b'-' {
+        Some(MetadataBlockKind::YamlStyle)
+    } else {
+        Some(MetadataBlockKind::PlusesStyle)
+    }
+}
+
+#[cfg(test)]
+mod tests {
+    use super::*;
+    use std::test::Fail;
+
+    #[test]
+    fn breaks_are_told_from_items(rt: HostRuntime) {
+        assert!(rt; is_break(b"* * *\n"));
+        assert!(rt; !is_break(b"* * a\n"));
+    }
+
+    #[test]
+    fn columns_are_aligned(rt: HostRuntime) -> Result<(), Fail> {
+        assert_eq!(rt; column_count(rt.alloc(), b"| --- | :-: |\n")?, Some(2));
+        assert_eq!(rt; column_count(rt.alloc(), b"| --- | abc |\n")?, None);
+        Ok(())
+    }
+
+    #[test]
+    fn code_stands_between_its_fences(rt: HostRuntime) -> Result<(), Fail> {
+        let Some((opening, code, closing)) = fenced_code(b"```rust\nlet a = 1;\n``\n```\nText\n")
+        else {
+            return Err(Fail::from("no fence"));
+        };
+        assert_eq!(rt; opening, b"```rust\n".as_slice());
+        assert_eq!(rt; code, b"let a = 1;\n``\n".as_slice());
+        assert_eq!(rt; closing, b"```\nText\n".as_slice());
+        Ok(())
+    }
+
+    #[test]
+    fn metadata_stands_between_lines(rt: HostRuntime) {
+        let kind = metadata_kind(b"---\ntitle: Uses\n---\n# Uses\n");
+        assert_eq!(rt; kind, Some(MetadataBlockKind::YamlStyle));
+        assert_eq!(rt; metadata_kind(b"---\n\nText\n"), None);
+    }
+}

@@ -1,0 +1,54 @@
+//! Headings: their levels and their texts.
+ghost use Rattle.std.specs.Prelude.{◌≡◌, ◌++◌, ℕ, replicate, IfSome, IfNone};
+ghost use Rattle.markdown_values.specs.values.Headings.{heading_number};
+ghost use Rattle.markdown_scanners_tree.specs.Ascii.{number_sign};
+ghost use Rattle.markdown_scanners_tree.specs.SomeExactly.{SomeExactly};
+ghost use Rattle.markdown_scanners_tree.specs.scanners.Headings.{IsAtxHeading, IsSetextUnderline};
+
+use markdown_scanners_tree::scanners::{scan_atx_heading, scan_setext_heading};
+use markdown_values::values::HeadingLevel;
+
+/// The level of the ATX heading that a line is, and None where it is none.
+pub fn heading_level(line: &[u8]) -> Option<HeadingLevel>
+    ensures { SomeExactly (IsAtxHeading line.now) result }
+{
+    scan_atx_heading(line)
+}
+
+/// What stands in an ATX heading behind its opening, which has one `#` for each level.
+pub fn heading_text(line: &[u8]) -> Option<&[u8]>
+    ensures { IfSome result (λ text. (level : HeadingLevel)
+        × (line.now ≡ replicate (heading_number level) number_sign ++ text.now)) }
+{
+    let level = scan_atx_heading(line)?;
+    Some(&line[level as usize..])
+}
+
+/// The level that a line gives to the text above it, where the line is the underline of a heading.
+pub fn level_above(line: &[u8]) -> Option<HeadingLevel>
+    ensures found { IfSome result (λ level. (n : ℕ) × IsSetextUnderline line.now n level) }
+    ensures none { IfNone result ((r : ℕ × HeadingLevel) → ¬ IsSetextUnderline line.now r.0 r.1) }
+{
+    let (_, level) = scan_setext_heading(line)?;
+    Some(level)
+}
+
+#[cfg(test)]
+mod tests {
+    use super::*;
+
+    #[test]
+    fn an_atx_heading_has_a_level_and_a_text(rt: HostRuntime) {
+        assert_eq!(rt; heading_level(b"## Usage"), Some(HeadingLevel::H2));
+        assert_eq!(rt; heading_text(b"## Usage"), Some(b" Usage".as_slice()));
+        assert_eq!(rt; heading_level(b"#hashtag"), None);
+        assert_eq!(rt; heading_text(b"####### seven"), None);
+    }
+
+    #[test]
+    fn an_underline_makes_a_heading(rt: HostRuntime) {
+        assert_eq!(rt; level_above(b"=====\n"), Some(HeadingLevel::H1));
+        assert_eq!(rt; level_above(b"---  \n"), Some(HeadingLevel::H2));
+        assert_eq!(rt; level_above(b"= =\n"), None);
+    }
+}

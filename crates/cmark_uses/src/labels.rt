@@ -1,0 +1,85 @@
+//! Labels: read, kept, and looked up by their keys.
+ghost use Rattle.std.specs.Prelude.{◌≡◌, nat_eq, false, find, IfOk, IfSome};
+ghost use Rattle.std.specs.Option.{option_copied};
+ghost use Rattle.std.specs.Cmp.Lexicographic.{pointwise};
+ghost use Rattle.markdown_scanners_tree.specs.linklabel.Key.{label_key};
+ghost use Rattle.markdown_scanners_tree.specs.linklabel.Label.{ReadsBack, ends_in_backslash};
+
+use markdown_scanners_tree::linklabel::{LinkLabel, scan_link_label_rest};
+use markdown_values::strings::CowStr;
+use std::alloc::{AllocError, Global};
+
+/// A link reference definition: its label, and where it leads.
+#[derive(Drop)]
+pub struct Definition<'a> {
+    pub label: LinkLabel<'a>,
+    pub destination: CowStr<'a>,
+}
+
+/// Whether two labels match: they do exactly where their keys are equal.
+pub fn do_match(one: &LinkLabel, other: &LinkLabel) -> bool
+    ensures { result ≡ pointwise nat_eq (label_key one.now) (label_key other.now) }
+{
+    *one == *other
+}
+
+/// The first definition of a label, which is the one that counts.
+pub fn definition_of<'d>(
+    definitions: &'d [Definition<'d>],
+    label: &LinkLabel,
+) -> Option<&'d Definition<'d>>
+    ensures { option_copied result
+        ≡ find (λ d. pointwise nat_eq (label_key d.label) (label_key label.now)) definitions.now }
+{
+    definitions.iter().find(|d| do_match(&d.label, label))
+}
+
+/// The label whose opening bracket has been read, where its line has all of it, and how many bytes it takes.
+pub fn label_in_line<'t>(
+    alloc: Global,
+    text: &'t str,
+) -> Result<Option<(usize, LinkLabel<'t>)>, AllocError>
+    ensures reads_back { IfOk result (λ found. IfSome found (λ r.
+        ends_in_backslash r.1 ≡ false → ReadsBack r.1)) }
+{
+    let no_next_line = |_: &[u8]| -> Option<usize> { None };
+    let Some((taken, label)) = scan_link_label_rest(alloc, text, &no_next_line, false)? else {
+        return Ok(None);
+    };
+    let label = LinkLabel::new(alloc, label)?;
+    Ok(Some((taken, label)))
+}
+
+#[cfg(test)]
+mod tests {
+    use super::*;
+    use std::test::Fail;
+
+    fn definition(
+        alloc: Global,
+        text: &'static str,
+        destination: &'static str,
+    ) -> Result<Definition<'static>, AllocError> {
+        Ok(Definition {
+            label: LinkLabel::new(alloc, CowStr::from(text))?,
+            destination: CowStr::from(destination),
+        })
+    }
+
+    #[test]
+    fn the_first_definition_counts(rt: HostRuntime) -> Result<(), Fail> {
+        let alloc = rt.alloc();
+        let definitions = [
+            definition(alloc, "Rattle", "/one")?,
+            definition(alloc, "RATTLE", "/two")?,
+        ];
+        let Some((_, label)) = label_in_line(alloc, "rattle] for more")? else {
+            return Err(Fail::from("no label"));
+        };
+        let Some(found) = definition_of(&definitions, &label) else {
+            return Err(Fail::from("no definition"));
+        };
+        assert_eq!(rt; found.destination.as_str(), "/one");
+        Ok(())
+    }
+}

@@ -1,0 +1,11 @@
+//! Small uses of the library, each with a contract of its own.
+#![tactic(auto)]
+
+pub mod blocks;
+pub mod headings;
+pub mod html;
+pub mod labels;
+pub mod lines;
+pub mod links;
+pub mod options;
+pub mod outline;

@@ -1,0 +1,109 @@
+//! Lines in containers, read column by column: their markers, and what stands behind them.
+ghost use Rattle.std.specs.Prelude.{◌≡◌, ◌++◌, length, count_by, is_some, IfOk};
+ghost use Rattle.std.specs.List.{filter_map};
+ghost use Rattle.markdown_scanners_tree.specs.line.Outcome.{task_outcome};
+ghost use Rattle.cmark_uses.specs.Markers.{start_of, behind_quote, behind_item, item_behind};
+
+use markdown_scanners_tree::line::LineStart;
+use std::alloc::{AllocError, Global};
+
+// Goes past the marker of a block quote, behind at most three spaces.
+#[tactic(auto, unfolding(crate::specs::Markers::behind_quote))]
+fn pass_quote(start: &mut LineStart)
+    ensures state { start.new ≡ behind_quote start.old }
+    ensures bytes { start.new.bytes ≡ start.old.bytes }
+{
+    start.scan_space_upto(3);
+    start.scan_blockquote_marker();
+}
+
+// Goes past the marker of a list item, behind at most three spaces.
+#[tactic(auto, unfolding(crate::specs::Markers::behind_item))]
+fn pass_item(start: &mut LineStart)
+    ensures state { start.new ≡ behind_item start.old }
+    ensures bytes { start.new.bytes ≡ start.old.bytes }
+{
+    start.scan_space_upto(3);
+    start.scan_list_marker_with_indent(0);
+}
+
+/// The markers of its block quote and its list item, and what stands behind them in a line.
+pub fn split_markers(line: &[u8]) -> (&[u8], &[u8])
+    ensures parts { line.now ≡ result.0.now ++ result.1.now }
+    ensures markers { length result.0.now ≡ (behind_item (behind_quote (start_of line.now))).place }
+{
+    let mut start = LineStart::new(line);
+    pass_quote(&mut start);
+    pass_item(&mut start);
+    line.split_at(start.bytes_scanned())
+}
+
+// The list item that begins at the place, behind at most three spaces.
+#[tactic(auto, unfolding(crate::specs::Markers::item_behind))]
+fn item_at(start: &mut LineStart) -> Option<(u8, u64, usize)>
+    ensures { result ≡ item_behind start.old }
+{
+    start.scan_space_upto(3);
+    start.scan_list_marker_with_indent(0)
+}
+
+/// The list item that a line begins: its bullet or delimiter, the number that it starts at, and the indent of its text.
+pub fn item_of(line: &[u8]) -> Option<(u8, u64, usize)>
+    ensures { result ≡ item_behind (start_of line.now) }
+{
+    item_at(&mut LineStart::new(line))
+}
+
+/// The items that lines begin, in order.
+pub fn items_of(alloc: Global, lines: &[&[u8]]) -> Result<Vec<(u8, u64, usize)>, AllocError>
+    ensures { IfOk result (λ items. items.items
+        ≡ filter_map (λ line. item_behind (start_of line.now)) lines.now) }
+{
+    lines.iter().filter_map(|line| item_of(line)).collect(alloc)
+}
+
+/// How many items lines begin.
+pub fn item_count(lines: &[&[u8]]) -> usize
+    ensures { result ≡ count_by (λ line. is_some (item_behind (start_of line.now))) lines.now }
+{
+    lines.iter().filter(|line| item_of(line).is_some()).count()
+}
+
+/// Whether the box before an item's text is ticked; None where there is no box.
+pub fn is_ticked(item: &[u8]) -> Option<bool>
+    ensures { result ≡ (task_outcome (start_of item.now)).answer }
+{
+    LineStart::new(item).scan_task_list_marker()
+}
+
+#[cfg(test)]
+mod tests {
+    use super::*;
+    use std::test::Fail;
+
+    #[test]
+    fn lines_are_split_from_their_markers(rt: HostRuntime) {
+        let (markers, text) = split_markers(b"  > 1. milk");
+        assert_eq!(rt; markers, b"  > 1. ".as_slice());
+        assert_eq!(rt; text, b"milk".as_slice());
+    }
+
+    #[test]
+    fn items_are_read_from_their_lines(rt: HostRuntime) -> Result<(), Fail> {
+        let lines: [&[u8]; 4] = [b"7. Boil", b"   the water", b"8. Brew", b" 9) Drink"];
+        let items = items_of(rt.alloc(), &lines)?;
+        assert_eq!(rt;
+            items.as_slice(),
+            [(b'.', 7, 3), (b'.', 8, 3), (b')', 9, 3)].as_slice()
+        );
+        assert_eq!(rt; item_count(&lines), 3);
+        Ok(())
+    }
+
+    #[test]
+    fn boxes_are_ticked_or_not(rt: HostRuntime) {
+        assert_eq!(rt; is_ticked(b"[x] Milk"), Some(true));
+        assert_eq!(rt; is_ticked(b"[ ] Bread"), Some(false));
+        assert_eq!(rt; is_ticked(b"Eggs"), None);
+    }
+}

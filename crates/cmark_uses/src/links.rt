@@ -1,0 +1,144 @@
+//! Links: destinations, autolinks, and the characters that references stand for.
+ghost use Rattle.markdown_scanners_tree.specs.SomeExactly.{SomeExactly};
+ghost use Rattle.std.specs.Option.{option_map};
+ghost use Rattle.std.specs.Prelude.{◌≡◌, ◌<◌, ◌+◌, ℕ, List, length, drop, codes, false, Some, None, IfOk, IfSome, IfNone, if◌then◌else◌};
+ghost use Rattle.std.specs.Str.{IsCharBoundary, bytes_eq};
+ghost use Rattle.markdown_values.specs.strings.Text.{cow_text};
+ghost use Rattle.markdown_scanners_tree.specs.scanners.entities.CharacterReference.{StartsWithReference};
+ghost use Rattle.markdown_scanners_tree.specs.scanners.links.Autolink.{IsUriAutolink};
+ghost use Rattle.markdown_scanners_tree.specs.scanners.links.LinkDestination.{IsLinkDestination};
+ghost use Rattle.markdown_scanners_tree.specs.scanners.unescaping.Unescaping.{Piece, ArePieces, joined_meanings};
+
+use markdown_scanners_tree::scanners::{
+    Entities, scan_autolink, scan_entity, scan_link_dest, unescape,
+};
+use markdown_values::strings::CowStr;
+use std::alloc::{AllocError, Global};
+
+// How deep the parentheses of a destination may nest, less one.
+const DEPTH: usize = 31;
+
+/// The entities of a program that needs few of them.
+pub struct FewEntities;
+
+impl Entities for FewEntities {
+    ghost known = { λ _ name. if bytes_eq name (codes "amp") then Some (codes "&") else None };
+
+    fn get(&self, name: &[u8]) -> Option<&'static str> {
+        if name == b"amp".as_slice() {
+            Some("&")
+        } else {
+            None
+        }
+    }
+}
+
+/// The link destination from `start` on: how many bytes it takes, and how it is written. `start` is a place between two
+/// characters.
+pub fn raw_destination(text: &str, start: usize) -> Option<(usize, &str)>
+    requires { IsCharBoundary text.now start }
+    ensures found { SomeExactly (λ (r : ℕ × List ℕ). IsLinkDestination 32 (drop start text.now) r.0 r.1)
+        (option_map (λ r. (r.0, r.1.now)) result) }
+{
+    scan_link_dest(text, start, DEPTH)
+}
+
+/// A text with its backslash escapes and character references resolved.
+pub fn resolved<'a, E: Entities>(
+    alloc: Global,
+    text: &'a str,
+    entities: &E,
+) -> Result<CowStr<'a>, AllocError>
+    ensures { (pieces : List Piece) × ArePieces false (E.known entities.now) text.entry.now pieces
+        × IfOk result (λ resolved. cow_text resolved ≡ joined_meanings pieces) }
+{
+    unescape(alloc, CowStr::from(text), false, entities)
+}
+
+/// Where a link leads: its destination from `start` on, with escapes and references resolved.
+pub fn link_target<'a, E: Entities>(
+    alloc: Global,
+    text: &'a str,
+    start: usize,
+    entities: &E,
+) -> Result<Option<CowStr<'a>>, AllocError>
+    requires { IsCharBoundary text.now start }
+    ensures found { IfOk result (λ found. IfSome found (λ target.
+        (taken : ℕ) × (raw : List ℕ) × (pieces : List Piece)
+        × IsLinkDestination 32 (drop start text.entry.now) taken raw
+        × ArePieces false (E.known entities.now) raw pieces
+        × (cow_text target ≡ joined_meanings pieces))) }
+    ensures none { IfOk result (λ found. IfNone found ((r : ℕ × List ℕ)
+        → ¬ IsLinkDestination 32 (drop start text.entry.now) r.0 r.1)) }
+{
+    let Some((_, raw)) = raw_destination(text, start) else {
+        return Ok(None);
+    };
+    let target = resolved(alloc, raw, entities)?;
+    Ok(Some(target))
+}
+
+/// The address of the autolink whose `<` stands before `start`, and the text behind its `>`.
+pub fn autolink(text: &str, start: usize) -> Option<(CowStr<'_>, &str)>
+    requires { IsCharBoundary text.now start }
+    ensures uri { IfSome result (λ r. IsUriAutolink (drop start text.now) (cow_text r.0)) }
+    ensures after { IfSome result (λ r. (end : ℕ) × (r.1.now ≡ drop end text.now)
+        × (end ≡ start + length (cow_text r.0) + 1)) }
+    ensures none { IfNone result ((uri : List ℕ) → ¬ IsUriAutolink (drop start text.now) uri) }
+{
+    let (end, uri, _) = scan_autolink(text, start)?;
+    let (_, after) = text.split_at(end);
+    Some((uri, after))
+}
+
+/// The text that the character reference at the front stands for.
+pub fn referenced<E: Entities>(text: &[u8], entities: &E) -> Option<CowStr<'static>>
+    ensures found { IfSome result (λ meaning. (n : ℕ)
+        × StartsWithReference (E.known entities.now) text.now n (cow_text meaning)) }
+    ensures none { 0 < length text.now → IfNone result ((n : ℕ) (meaning : List ℕ)
+        → ¬ StartsWithReference (E.known entities.now) text.now n meaning) }
+{
+    if text.is_empty() {
+        return None;
+    }
+    let (_, meaning) = scan_entity(text, entities);
+    meaning
+}
+
+#[cfg(test)]
+mod tests {
+    use super::*;
+    use std::test::Fail;
+
+    #[test]
+    fn a_destination_is_resolved(rt: HostRuntime) -> Result<(), Fail> {
+        let target = link_target(rt.alloc(), "[a](/b?c&amp;d\\*)", 4, &FewEntities)?;
+        let Some(target) = target else {
+            return Err(Fail::from("no destination"));
+        };
+        assert_eq!(rt; target.as_str(), "/b?c&d*");
+        assert_eq!(rt; raw_destination("[a](<b c>)", 4), Some((5, "b c")));
+        assert_eq!(rt; raw_destination("[a](<b", 4), None);
+        Ok(())
+    }
+
+    #[test]
+    fn an_autolink_ends_at_its_bracket(rt: HostRuntime) -> Result<(), Fail> {
+        let Some((uri, after)) = autolink("<https://commonmark.org> says", 1) else {
+            return Err(Fail::from("no autolink"));
+        };
+        assert_eq!(rt; uri.as_str(), "https://commonmark.org");
+        assert_eq!(rt; after, " says");
+        Ok(())
+    }
+
+    #[test]
+    fn a_reference_means_a_character(rt: HostRuntime) -> Result<(), Fail> {
+        let Some(meaning) = referenced(b"&#35; one", &FewEntities) else {
+            return Err(Fail::from("no reference"));
+        };
+        assert_eq!(rt; meaning.as_str(), "#");
+        assert!(rt; referenced(b"&nosuch;", &FewEntities).is_none());
+        Ok(())
+    }
+}
