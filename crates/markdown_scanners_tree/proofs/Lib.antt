@@ -1,4 +1,5 @@
 pub mod ForCallers
+pub mod HandlerLemmas
 pub mod PrefixLemmas
 pub mod KeptReading
 pub mod KeptStep

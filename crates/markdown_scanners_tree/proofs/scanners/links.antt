@@ -1,4 +1,5 @@
 pub mod BareLemmas
 pub mod LinkLemmas
+pub mod OneDestination
 pub mod PointedLemmas
 pub mod Rows

@@ -2,7 +2,7 @@
 ghost use Rattle.std.specs.Prelude.{◌≡◌, ◌≤◌, ◌==◌, length, count_by, false, IsTrue, IfOk, IfErr, MatchResult};
 ghost use Rattle.std.specs.List.{prefix_len};
 ghost use Rattle.markdown_scanners_tree.specs.Bytes.{begins_with};
-ghost use Rattle.markdown_scanners_tree.specs.scanners.Breaks.{is_break_marker, is_break_byte, is_thematic_break, IsThematicBreakLine, NoBreakBefore, break_length};
+ghost use Rattle.markdown_scanners_tree.specs.scanners.Breaks.{is_break_marker, is_break_byte, IsThematicBreak, is_thematic_break, IsThematicBreakLine, NoBreakBefore, break_length};
 
 use crate::scanners::lines::scan_eol;
 
@@ -10,9 +10,11 @@ use crate::scanners::lines::scan_eol;
 ///
 /// Where no thematic break stands there, the error is a place before which none begins, so that
 /// a caller need not look again there. (CommonMark 0.31.2, section 4.1.)
+#[tactic(auto, using(crate::proofs::scanners::breaks::BreakLemmas::thematic_breaks))]
 pub fn scan_hrule(bytes: &[u8]) -> Result<usize, usize>
     ensures found { IfOk result (IsThematicBreakLine bytes.now) }
     ensures none { IfErr result (λ n. is_thematic_break bytes.now ≡ false) }
+    ensures no_break { IfErr result (λ n. ¬ IsThematicBreak bytes.now) }
     ensures stopped { IfErr result (λ n. n ≡ break_length bytes.now) }
     ensures none_before { IfErr result (NoBreakBefore bytes.now) }
     ensures within { MatchResult result (λ n. n ≤ length bytes.now) (λ n. n ≤ length bytes.now) }

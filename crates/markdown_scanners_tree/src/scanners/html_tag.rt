@@ -1,5 +1,5 @@
 //! Open and closing tags, over the lines of containers or alone in a line.
-ghost use Rattle.std.specs.Prelude.{IsOk, ◌≡◌, ◌≢◌, ◌≤◌, [], IfOk, OnErr, List, IfSome, IfNone, length};
+ghost use Rattle.std.specs.Prelude.{ℕ, IsOk, ◌≡◌, ◌≢◌, ◌≤◌, [], IfOk, OnErr, List, IfSome, IfNone, length};
 ghost use Rattle.markdown_scanners_tree.specs.SomeExactly.{SomeExactly};
 ghost use Rattle.markdown_scanners_tree.specs.Handler.{Answers, IsSteady};
 ghost use Rattle.markdown_scanners_tree.specs.Kept.{KeptByte, bytes_of};
@@ -148,6 +148,7 @@ pub fn scan_html_block_inner<F: Fn(&[u8]) -> usize>(
 /// 4.6, start condition 7; the tag names that other start conditions take are not left out here.)
 pub fn scan_html_type_7(data: &[u8]) -> Option<usize>
     ensures found { SomeExactly (IsTagAloneInLine «data».now) result }
+    ensures only { IfSome result (λ n. (other : ℕ) → IsTagAloneInLine «data».now other → other ≡ n) }
     ensures within { IfSome result (λ n. n ≤ length «data».now) }
 {
     let tag = measure_tag(data, None::<&fn(&[u8]) -> usize>)?;

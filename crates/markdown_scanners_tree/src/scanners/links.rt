@@ -19,7 +19,7 @@ use memchr::memchr;
 /// The first pipe in the `len` bytes from `start` on, cut at the text's end: the place after the
 /// pipe, and the text before it. `start` is a place between two characters.
 pub fn scan_wikilink_pipe(data: &str, start: usize, len: usize) -> Option<(usize, &str)>
-    requires { IsCharBoundary «data».now start }
+    requires { 0 < start → IsCharBoundary «data».now start }
     ensures found { option_map (λ r. length r.1.now) result
         ≡ position (λ b. b == vertical_line) (take len (drop start «data».now)) }
     ensures place { IfSome result (λ r. r.0 ≡ start + length r.1.now + 1) }
@@ -38,10 +38,13 @@ pub fn scan_wikilink_pipe(data: &str, start: usize, len: usize) -> Option<(usize
 ///
 /// (CommonMark 0.31.2, section 6.3.)
 pub fn scan_link_dest(data: &str, start: usize, max_next: usize) -> Option<(usize, &str)>
-    requires { IsCharBoundary «data».now start }
+    requires { 0 < start → IsCharBoundary «data».now start }
     ensures found { SomeExactly
         (λ (r : ℕ × List ℕ). IsLinkDestination (max_next + 1) (drop start «data».now) r.0 r.1)
         (option_map (λ r. (r.0, r.1.now)) result) }
+    ensures only { IfSome result (λ r. (other : ℕ × List ℕ)
+        → IsLinkDestination (max_next + 1) (drop start «data».now) other.0 other.1
+        → other ≡ (r.0, r.1.now)) }
     ensures boundary { IfSome result (λ r. IsCharBoundary «data».now (start + r.0)) }
 {
     let bytes = &data.as_bytes()[start..];
@@ -119,9 +122,11 @@ fn ends_destination(b: u8, depth: usize) -> bool
 ///
 /// (CommonMark 0.31.2, section 6.5.)
 pub fn scan_autolink<'a>(text: &'a str, start: usize) -> Option<(usize, CowStr<'a>, LinkType)>
-    requires { IsCharBoundary text.now start }
+    requires { 0 < start → IsCharBoundary text.now start }
     ensures found { SomeExactly (IsUriAutolink (drop start text.now))
         (option_map (λ r. cow_text r.1) result) }
+    ensures only { IfSome result (λ r. (uri : List ℕ)
+        → IsUriAutolink (drop start text.now) uri → uri ≡ cow_text r.1) }
     ensures place { IfSome result (λ r. r.0 ≡ start + length (cow_text r.1) + 1) }
     ensures slice { IfSome result (λ r. cow_text r.1 ≡ slice_range text.now start (r.0 - 1)) }
     ensures boundary { IfSome result (λ r. IsCharBoundary text.now r.0) }

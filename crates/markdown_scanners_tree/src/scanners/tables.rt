@@ -24,6 +24,7 @@ pub fn scan_table_head(alloc: Global, data: &[u8]) -> Result<(usize, Vec<Alignme
     ensures found { IfOk result (λ r. 0 < r.0 → IsDelimiterRow «data».now r.0 r.1.items) }
     ensures none { IfOk result (λ r. r.0 ≡ 0 → NoDelimiterRow «data».now) }
     ensures empty { IfOk result (λ r. r.0 ≡ 0 → r.1.items ≡ []) }
+    ensures some_alignment { IfOk result (λ r. 0 < r.0 → 0 < length r.1.items) }
     ensures within { IfOk result (λ r. r.0 ≤ length «data».now) }
 {
     let indent = scan_ch_repeat(data, b' ');

@@ -1,5 +1,5 @@
 -- A handler gives one answer for one rest, and a skip ends at a character boundary.
-use Rattle.std.proofs.Common.{ℕ, ◌≡◌, ◌+◌, ◌∙◌, Option, Some, None, IfSome, ap, drop}
+use Rattle.std.proofs.Common.{ℕ, zero, suc, ◌≡◌, ◌+◌, ◌∙◌, arith, Option, Some, None, IfSome, ap, subst, drop}
 use Rattle.std.proofs.lemmas.Str.{IsUtf8-drop, IsCharBoundary-from_rest}
 use Rattle.std.specs.Fn.{FnReturnsAt}
 use Rattle.std.specs.Str.{IsUtf8, IsCharBoundary}
@@ -42,4 +42,5 @@ returns-clause-cut g c = by c.handler.result (record { shown = _; shows = rest_i
 
     by : (r : Option ℕ) → FnReturnsAt g.F.Fn c.args.handler.now (drop c.args.place c.args.text.now) r → IfSome r (λ skip. IsCharBoundary c.args.text.now (c.args.place + skip))
     by None h = tt
-    by (Some skip) h = IsCharBoundary-from_rest c.args.text.now c.args.place skip c.requires.cut.0 (c.requires.steady.inside _ skip rest h)
+    by (Some zero) h = subst (IsCharBoundary c.args.text.now) (omega arith) c.requires.cut
+    by (Some (suc skip)) h = IsCharBoundary-from_rest c.args.text.now c.args.place (suc skip) c.requires.cut.0 (c.requires.steady.inside _ (suc skip) rest h (omega arith))

@@ -37,3 +37,6 @@ is_thematic_break-only bytes test =
 
 pub is_thematic_break-none : (bytes : List ℕ) → ¬ IsThematicBreak bytes → is_thematic_break bytes ≡ false
 is_thematic_break-none bytes none = elim (cases_Bool (is_thematic_break bytes)) [ inl test ↦ absurd (none (is_thematic_break-only bytes test)) | inr fails ↦ fails ]
+
+-- a thematic break stands at the front exactly where the test says so
+pub ruleset thematic_breaks = (is_thematic_break-found, is_thematic_break-only, is_thematic_break-none)

@@ -1,5 +1,5 @@
 -- Line endings, heads of lines and blank lines.
-use Rattle.std.proofs.Common.{◌≡◌, ℕ, ◌+◌, Bool, true, false, not, cond, List, [], ◌∷◌, ◌++◌, length, take, drop, refl, sym, ap, ◌∙◌, arith, inl, inr, nat_eq, Some, None}
+use Rattle.std.proofs.Common.{subst, ◌≡◌, ℕ, ◌+◌, Bool, true, false, not, cond, List, [], ◌∷◌, ◌++◌, length, take, drop, refl, sym, ap, ◌∙◌, arith, inl, inr, nat_eq, Some, None}
 use Rattle.std.specs.List.{prefix_len, list_all}
 use Rattle.std.proofs.lemmas.List.{take-append-drop}
 use Rattle.std.proofs.lemmas.List.Folds.{length-prefix_len}
@@ -70,7 +70,7 @@ IsBlankLine-only bytes n line =
 space_in_line : (b : ℕ) → is_white_space_in_line b ≡ true → ends_no_line b ≡ true
 space_in_line b h = grind (arith, nat_tests)
 
--- the length of a blank line, and where there is none
+-- the length of a blank line
 pub blank_line-is : (bytes : List ℕ) (n : ℕ) → IsBlankLine bytes n → blank_line bytes ≡ Some n
 blank_line-is bytes n line =
     let all = list_all-implies is_white_space_in_line ends_no_line space_in_line line.space line.spaces in
@@ -79,21 +79,33 @@ blank_line-is bytes n line =
     let counted : line_length bytes ≡ n = rw line.parts (line_length-parts line.space line.rest line.ending all line.ends) ∙ sym line.counted in
     ap (λ t. cond t (Some (line_length bytes)) None) blank ∙ ap (λ k. Some k) counted
 
+-- the test answers the question
+pub is_blank-found : (bytes : List ℕ) → (n : ℕ) × IsBlankLine bytes n → is_blank bytes ≡ true
+is_blank-found bytes (n, line) = elim (cases_Bool (is_blank bytes)) [
+  | inl blank ↦ blank
+  | inr other ↦ absurd (let none : blank_line bytes ≡ None = rw other refl in let some : Some n ≡ None = sym (blank_line-is bytes n line) ∙ none in cc)
+]
+
+pub is_blank-only : (bytes : List ℕ) → is_blank bytes ≡ true → IsBlankLine bytes (line_length bytes)
+is_blank-only bytes blank =
+    let h = prefix_len ends_no_line bytes in
+    let ends = line_ending-exists (drop h bytes) (begins_with-after_prefix ends_no_line bytes) in
+    let line : IsBlankLine bytes (length (take h bytes) + ends.0) = record {
+      space = take h bytes;
+      rest = drop h bytes;
+      ending = ends.0;
+      parts = sym (take-append-drop h bytes);
+      spaces = blank;
+      ends = ends.1;
+      counted = refl;
+    } in
+    let some : Some (line_length bytes) ≡ Some (length (take h bytes) + ends.0) = sym (ap (λ t. cond t (Some (line_length bytes)) None) blank) ∙ blank_line-is bytes (length (take h bytes) + ends.0) line in
+    let same : line_length bytes ≡ length (take h bytes) + ends.0 = cc in
+    subst (IsBlankLine bytes) (sym same) line
+
+-- and where there is none
 pub blank_line-none : (bytes : List ℕ) → ((n : ℕ) → ¬ IsBlankLine bytes n) → blank_line bytes ≡ None
-blank_line-none bytes none =
-    elim (cases_Bool (is_blank bytes)) [
-      | inl blank ↦ (
-          let h = prefix_len ends_no_line bytes in
-          let ends = line_ending-exists (drop h bytes) (begins_with-after_prefix ends_no_line bytes) in
-          absurd (none (length (take h bytes) + ends.0) (record {
-            space = take h bytes;
-            rest = drop h bytes;
-            ending = ends.0;
-            parts = sym (take-append-drop h bytes);
-            spaces = blank;
-            ends = ends.1;
-            counted = refl;
-          }))
-          )
-      | inr other ↦ ap (λ t. cond t (Some (line_length bytes)) None) other
-    ]
+blank_line-none bytes none = elim (cases_Bool (is_blank bytes)) [ inl blank ↦ absurd (none (line_length bytes) (is_blank-only bytes blank)) | inr other ↦ ap (λ t. cond t (Some (line_length bytes)) None) other ]
+
+-- a blank line stands at the front exactly where the test says so
+pub ruleset blank_lines = (is_blank-found, is_blank-only)

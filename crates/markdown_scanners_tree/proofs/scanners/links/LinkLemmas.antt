@@ -127,18 +127,31 @@ uri_scheme bytes uri is = record {
   n_is_length = refl;
 }
 
--- and its `>` stands where the address can't go on
-pub uri_close : (bytes uri : List ℕ) (n end : ℕ) → IsUriAutolink bytes uri → StartsWithScheme bytes n → end ≡ n + 1 + prefix_len is_uri_byte (drop (n + 1) bytes)
-    → (end < length bytes) × (get_or bytes end 0 ≡ greater_than_sign)
+-- its address goes on to the first byte that it can't hold
+uri_length : (bytes uri : List ℕ) (n end : ℕ) → IsUriAutolink bytes uri → StartsWithScheme bytes n → end ≡ n + 1 + prefix_len is_uri_byte (drop (n + 1) bytes) → end ≡ length uri
 unfolding uri_scheme
-uri_close bytes uri n end is front count =
+uri_length bytes uri n end is front count =
     let first = uri_scheme bytes uri is in
     let same : n ≡ length is.scheme = (scheme_at bytes n front).count ∙ sym (scheme_at bytes (length is.scheme) first).count in
     let rest : drop (n + 1) bytes ≡ is.address ++ greater_than_sign ∷ is.rest = ap (drop (n + 1)) (first.parts ∙ sym (append_assoc is.scheme (colon ∷ []) (is.address ++ greater_than_sign ∷ is.rest)))
     ∙ drop_at (is.scheme ++ colon ∷ []) (is.address ++ greater_than_sign ∷ is.rest) (n + 1) (omega (arith, same, length-append is.scheme (colon ∷ []))) in
     let run : prefix_len is_uri_byte (drop (n + 1) bytes) ≡ length is.address = ap (prefix_len is_uri_byte) rest ∙ prefix_len-parts is_uri_byte is.address (greater_than_sign ∷ is.rest) is.uri_bytes refl in
-    let long : end ≡ length uri = omega (arith, count, run, same, ap length is.spelled, length-append is.scheme (colon ∷ is.address)) in
+    omega (arith, count, run, same, ap length is.spelled, length-append is.scheme (colon ∷ is.address))
+
+-- and its `>` stands there
+pub uri_close : (bytes uri : List ℕ) (n end : ℕ) → IsUriAutolink bytes uri → StartsWithScheme bytes n → end ≡ n + 1 + prefix_len is_uri_byte (drop (n + 1) bytes)
+    → (end < length bytes) × (get_or bytes end 0 ≡ greater_than_sign)
+uri_close bytes uri n end is front count =
+    let long = uri_length bytes uri n end is front count in
     (omega (arith, long, ap length is.parts, length-append uri (greater_than_sign ∷ is.rest)), ap (λ t. get_or t end 0) is.parts ∙ get_or_at uri greater_than_sign is.rest 0 end (sym long))
+
+-- a text begins with one URI at most
+pub one_uri : (bytes uri uri' : List ℕ) → IsUriAutolink bytes uri → IsUriAutolink bytes uri' → uri ≡ uri'
+one_uri bytes uri uri' is is' =
+    let front = uri_scheme bytes uri is in
+    let long = uri_length bytes uri _ _ is front refl in
+    let long' = uri_length bytes uri' _ _ is' front refl in
+    sym (uri_taken bytes uri is) ∙ (ap (λ k. take k bytes) (sym long ∙ long') ∙ uri_taken bytes uri' is')
 
 -- a destination is pointed where the text begins with `<`, else bare
 pub no_pointed : (most : ℕ) (text : List ℕ) → text ≡ less_than_sign ∷ drop 1 text → ((n : ℕ) → ¬ IsPointedFrom (drop 1 text) n)

@@ -8,7 +8,7 @@ use Rattle.std.proofs.lemmas.Bool.Decides.{nat_tests}
 use Rattle.std.proofs.Math.Seq.{drop-append_seam, take-append_seam}
 use Rattle.std.proofs.Math.Dec.{eqb-suc-zero}
 use Rattle.std.proofs.Math.ListN.{replicate}
-use Rattle.std.proofs.lemmas.List.{length-replicate, length-append}
+use Rattle.std.proofs.lemmas.List.{length-replicate, length-append, length-map}
 use Rattle.markdown_values.specs.declared.values.Alignment.{Alignment}
 use Rattle.markdown_values.specs.declared.values.Alignment.TheVariants as Aligned
 use Rattle.markdown_scanners_tree.specs.Ascii.{vertical_line}
@@ -386,3 +386,25 @@ delimiter_row-length false (c ∷ cells) last pipe =
 
 pub IsDelimiterRow-some : (bytes : List ℕ) (n : ℕ) (alignments : List Alignment) → IsDelimiterRow bytes n alignments → ¬ (n ≡ 0)
 IsDelimiterRow-some bytes n alignments it none = let some = delimiter_row-length it.piped it.cells it.last it.some_pipe in let counted = it.counted in omega (arith, some, counted, none)
+
+-- a hyphen is no space
+hyphen_counts : (bytes : List ℕ) → list_any is_hyphen bytes ≡ true → list_any (λ b. not (is_space b)) bytes ≡ true
+hyphen_counts [] some = some
+hyphen_counts (b ∷ bs) some = elim (cases_Bool (is_hyphen b)) [
+  | inl here ↦ (let same : b ≡ 45 = eqb-true b 45 here in rw same refl)
+  | inr other ↦ (
+      let later : list_any is_hyphen bs ≡ true = rw other at some in
+      let counts = hyphen_counts bs later in
+      elim (cases_Bool (is_space b)) [ inl space ↦ rw space counts | inr none ↦ rw none refl ]
+      )
+]
+
+counted_some : (cells : List (List ℕ)) (last : List ℕ) → list_any is_hyphen (flat_map (λ cell. cell) cells ++ last) ≡ true → 0 < length (counted_cells cells last)
+counted_some [] last some = (let counts : list_any (λ b. not (is_space b)) last ≡ true = hyphen_counts last some in rw counts (omega arith))
+counted_some (cell ∷ cells) last some = omega arith
+
+-- a delimiter row has a column
+pub IsDelimiterRow-some_alignment : (bytes : List ℕ) (n : ℕ) (alignments : List Alignment) → IsDelimiterRow bytes n alignments → 0 < length alignments
+IsDelimiterRow-some_alignment bytes n alignments it =
+    let some = counted_some it.cells it.last it.some_hyphen in
+    omega (arith, some, ap length it.aligned, length-map (counted_cells it.cells it.last) alignment)

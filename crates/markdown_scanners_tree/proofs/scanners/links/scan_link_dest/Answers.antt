@@ -1,4 +1,4 @@
-use Rattle.std.proofs.Common.{Bor, ℕ, List, ◌≡◌, ◌+◌, ◌<◌, ap, ◌∙◌, sym, subst, take, drop, length, length-drop, get_or, arith, inr}
+use Rattle.std.proofs.Common.{Bor, ℕ, List, ◌≡◌, ◌+◌, ◌<◌, ap, ◌∙◌, sym, subst, take, drop, length, length-drop, get_or, arith, inl, inr, refl, ◌-◌}
 use Rattle.std.proofs.lemmas.Bool.{eqb-true}
 use Rattle.std.proofs.lemmas.List.{take_rest, get_or-drop, drop-drop}
 use Rattle.std.proofs.lemmas.Str.{IsCharBoundary-after_ascii}
@@ -8,6 +8,7 @@ use Rattle.markdown_scanners_tree.specs.Ascii.{less_than_sign}
 use Rattle.markdown_scanners_tree.specs.scanners.links.LinkDestination.{IsPointedFrom, IsBareFrom}
 use Rattle.markdown_scanners_tree.proofs.SomeExactlyLemmas.{SomeExactly-from_none}
 use Rattle.markdown_scanners_tree.proofs.scanners.links.LinkLemmas.{no_pointed, no_bare, opened_by, text_from, cut_behind}
+use Rattle.markdown_scanners_tree.proofs.scanners.links.OneDestination.{one_destination}
 use Rattle.markdown_scanners_tree.proofs.scanners.links.scan_link_dest.Goals as goal
 use Rattle.markdown_scanners_tree.proofs.scanners.links.scan_link_dest.Goals.{else-not-is_empty-via-then-not-is_empty+else-bytes-eq60, else-not-is_empty-via-else-not-is_empty}
 
@@ -29,6 +30,19 @@ range-requires-clause-start_boundary c = λ _.
     let here : c.args.start ≡ c.args.start + 0 = omega arith in
     let ascii : get_or c.args.data.now c.args.start 0 ≡ less_than_sign = ap (λ k. get_or c.args.data.now k 0) here ∙ (sym (get_or-drop c.args.start c.args.data.now 0 0) ∙ first) in
     IsCharBoundary-after_ascii c.args.data.now c.args.start c.utf8.data inside (omega (arith, ascii))
+
+pub returns-then-bytes-eq60-clause-found : goal.returns-then-bytes-eq60-clause-found
+returns-then-bytes-eq60-clause-found c =
+    let read = text_from c.as_bytes.result.now c.args.data.now c.args.start c.as_bytes.ensures.value in
+    let after = take_rest _ 1 ∙ ap (drop 1) read in
+    inl (record {
+      after = drop 1 (drop c.args.start c.args.data.now);
+      n = c.in_ok-n.n;
+      opens = opened_by (drop c.args.start c.args.data.now) (ap (λ t. get_or t 0 0) (sym read) ∙ c.if-bytes-eq60.true);
+      pointed = subst (λ t. IsPointedFrom t c.in_ok-n.n) after c.in_ok-n.ensures.found;
+      with_brackets = refl;
+      slice = c.range.ensures.value ∙ (ap (λ k. take k (drop (c.args.start + 1) c.args.data.now)) (omega arith) ∙ ap (take (c.in_ok-n.n + 2 - 1 - 1)) (sym (drop-drop 1 c.args.start c.args.data.now)));
+    })
 
 pub returns-in_err-n-2-clause-found : goal.returns-in_err-n-2-clause-found
 returns-in_err-n-2-clause-found c =
@@ -59,3 +73,9 @@ returns-then-bytes-eq60-clause-boundary c =
     let after = take_rest _ 1 ∙ (ap (drop 1) read ∙ drop-drop 1 c.args.start c.args.data.now) in
     subst (IsCharBoundary c.args.data.now) (omega arith)
     (cut_behind _ c.args.data.now (c.args.start + 1) c.in_ok-n.n after c.utf8.data c.in_ok-n.ensures.within (omega (arith, c.in_ok-n.ensures.cut)))
+
+pub returns-then-bytes-eq60-clause-only : goal.returns-then-bytes-eq60-clause-only
+returns-then-bytes-eq60-clause-only c = λ other is. one_destination (c.args.max_next + 1) (drop c.args.start c.args.data.now) other.0 other.1 _ _ is (returns-then-bytes-eq60-clause-found c)
+
+pub returns-clause-only : goal.returns-clause-only
+returns-clause-only c = λ other is. one_destination (c.args.max_next + 1) (drop c.args.start c.args.data.now) other.0 other.1 _ _ is (returns-clause-found c)

@@ -1,5 +1,5 @@
 use Rattle.std.proofs.Common.{arith, rules, sym, ◌∙◌}
-use Rattle.markdown_scanners_tree.proofs.scanners.tables.DelimiterRowLemmas.{delimiter_row-too_far, no_cells, delimiter_row-found, delimiter_row-refused, IsDelimiterRow-some}
+use Rattle.markdown_scanners_tree.proofs.scanners.tables.DelimiterRowLemmas.{delimiter_row-too_far, no_cells, delimiter_row-found, delimiter_row-refused, IsDelimiterRow-some, IsDelimiterRow-some_alignment}
 use Rattle.markdown_scanners_tree.proofs.scanners.tables.scan_table_head.Goals as goal
 
 pub returns-then-indent-gt-MOST_SPACES-clause-none : goal.returns-then-indent-gt-MOST_SPACES-clause-none
@@ -15,7 +15,7 @@ returns-then-is_delimiter_row c =
     let row = delimiter_row-found c.args.«data».now c.scan_ch_repeat-indent.result c.scan_ch-piped.result c.scan_ch_repeat-indent.ensures.run c.scan_ch-piped.ensures.first _ _ _ _ scanned
     (omega arith) c.scan_ch_repeat-indent.ensures.within c.scan_ch-piped.ensures.within (sym c.is_delimiter_row.ensures ∙ c.if-is_delimiter_row.true) in
     let some = IsDelimiterRow-some _ _ _ row in
-    record { found = λ _. row; none = λ none. absurd (some none); empty = λ none. absurd (some none); within = search rules }
+    record { found = λ _. row; none = λ none. absurd (some none); empty = λ none. absurd (some none); some_alignment = λ _. IsDelimiterRow-some_alignment _ _ _ row; within = search rules }
 
 pub returns-else-is_delimiter_row-clause-none : goal.returns-else-is_delimiter_row-clause-none
 returns-else-is_delimiter_row-clause-none c _ =

@@ -1,0 +1,52 @@
+-- What a label's handler skips is good where it is ASCII, as the markers of containers are.
+use Rattle.std.proofs.Common.{ℕ, zero, suc, ◌≡◌, ◌+◌, ◌-◌, ◌<◌, ◌≤◌, ◌&&◌, Bool, true, List, [], ◌∷◌, length, take, get_or, nat_lt, nat_eq, refl, sym, subst, arith, Option, Some}
+use Rattle.std.specs.List.{list_all, prefix_len, starts_with}
+use Rattle.std.specs.Fn.{FnReturnsAt, Shared}
+use Rattle.std.specs.Str.{IsUtf8, IsCharBoundary}
+use Rattle.std.proofs.lemmas.Bool.{eqb-true, ltb-true}
+use Rattle.std.proofs.lemmas.List.{length-take}
+use Rattle.std.proofs.lemmas.List.Sums.{prefix_len-le-length}
+use Rattle.std.proofs.lemmas.Str.{IsCharBoundary-start, IsCharBoundary-after_ascii}
+use Rattle.markdown_scanners_tree.specs.Handler.{IsSteadyAtChars, IsAsciiFront}
+use Rattle.markdown_scanners_tree.proofs.PrefixLemmas.{both_true}
+use denote.Ref.{Bor}
+
+-- behind an ASCII byte a text may be cut
+pub cut_behind_ascii : (rest : List ℕ) (skip : ℕ) → IsUtf8 rest → skip ≤ length rest → 0 < skip → get_or rest (skip - 1) 0 < 128 → IsCharBoundary rest skip
+cut_behind_ascii rest skip utf8 within some ascii =
+    subst (IsCharBoundary rest) (omega (arith, some)) (IsCharBoundary-after_ascii rest (skip - 1) utf8 (omega (arith, some, within)) ascii)
+
+last_ascii : (rest : List ℕ) (k : ℕ) → k < length rest → list_all (λ b. nat_lt b 128) (take (suc k) rest) ≡ true → get_or rest k 0 < 128
+last_ascii [] k inside all = absurd (omega (arith, inside))
+last_ascii (b ∷ rest) zero inside all = ltb-true b 128 (both_true (nat_lt b 128) true all).0
+last_ascii (b ∷ rest) (suc k) inside all = last_ascii rest k (omega (arith, inside)) (both_true (nat_lt b 128) (list_all (λ c. nat_lt c 128) (take (suc k) rest)) all).1
+
+-- and behind an ASCII front
+pub cut_behind_front : (rest : List ℕ) (skip : ℕ) → IsUtf8 rest → IsAsciiFront rest skip → IsCharBoundary rest skip
+cut_behind_front rest zero utf8 front = IsCharBoundary-start rest utf8
+cut_behind_front rest (suc k) utf8 front =
+    subst (IsCharBoundary rest) (omega arith) (IsCharBoundary-after_ascii rest k utf8 (omega (arith, front.0)) (last_ascii rest k (omega (arith, front.0)) front.1))
+
+-- a front that `starts_with` finds
+pub front_found : (rest front : List ℕ) → starts_with nat_eq rest front ≡ true → list_all (λ b. nat_lt b 128) front ≡ true → IsAsciiFront rest (length front)
+front_found rest [] found ascii = (omega arith, refl)
+front_found [] (b ∷ front) found ascii = cc
+front_found (c ∷ rest) (b ∷ front) found ascii =
+    let both = both_true (nat_eq b c) (starts_with nat_eq rest front) found in
+    let low = both_true (nat_lt b 128) (list_all (λ x. nat_lt x 128) front) ascii in
+    let first : nat_lt c 128 ≡ true = subst (λ x. nat_lt x 128 ≡ true) (eqb-true b c both.0) low.0 in
+    let more = front_found rest front both.1 low.1 in
+    (omega (arith, more.0), rw first more.1)
+
+-- a handler that skips an ASCII front is good
+pub steady_at_ascii : {F : Type 0} (g : Shared F (Bor (List ℕ) × Unit {0}) (Option ℕ)) (f : F)
+    → ((rest : List ℕ) (a b : Option ℕ) → IsUtf8 rest → FnReturnsAt g f rest a → FnReturnsAt g f rest b → a ≡ b)
+    → ((rest : List ℕ) (skip : ℕ) → IsUtf8 rest → FnReturnsAt g f rest (Some skip) → IsAsciiFront rest skip)
+    → IsSteadyAtChars g f
+steady_at_ascii g f one ascii = record {
+  one_answer = one;
+  inside = λ rest skip utf8 answers some. cut_behind_front rest skip utf8 (ascii rest skip utf8 answers);
+}
+
+-- an ASCII front, and that a text may be cut behind it
+pub ruleset ascii_fronts = (cut_behind_ascii, cut_behind_front, front_found)
