@@ -1,5 +1,5 @@
 //! Link labels: worked rows, hostile texts, and which labels match.
-ghost use Rattle.std.specs.Prelude.{◌≡◌, ◌↔◌, IsTrue, Some};
+ghost use Rattle.std.specs.Prelude.{◌≡◌, ◌↔◌, ◌≤◌, ◌<◌, ◌-◌, length, slice_index, IsTrue};
 ghost use Rattle.markdown_scanners_tree.specs.linklabel.Key.{label_key};
 ghost use Rattle.cmark_vectors.specs.Markers.{skipped};
 
@@ -58,7 +58,9 @@ fn with_variant(found: Option<(usize, CowStr<'_>)>) -> Answer<'_> {
 
 // How many bytes of a marker stand at the front.
 fn skipped_of(marker: &[u8], rest: &[u8]) -> usize
-    ensures { result ≡ skipped marker.now rest.now }
+    ensures value { result ≡ skipped marker.now rest.now }
+    ensures within { result ≤ length rest.now }
+    ensures ascii { 0 < result → slice_index rest.now (result - 1) < 128 }
 {
     let len = marker.len();
     if len > 0 && len <= rest.len() && rest.starts_with(marker) && rest[len - 1] < 128 {
@@ -69,15 +71,14 @@ fn skipped_of(marker: &[u8], rest: &[u8]) -> usize
 }
 
 // Reads a label in a container whose lines begin with the marker or with nothing.
+#[tactic(auto, using(markdown_scanners_tree::proofs::ForCallers::ascii_fronts))]
 fn scan_after_markers<'t>(
     alloc: Global,
     text: &'t str,
     marker: &[u8],
     is_in_table: bool,
 ) -> Result<Answer<'t>, AllocError> {
-    let handler = |rest: &[u8]| -> Option<usize>
-        ensures { result ≡ Some (skipped marker.entry.now rest.now) }
-    { Some(skipped_of(marker, rest)) };
+    let handler = |rest: &[u8]| -> Option<usize> { Some(skipped_of(marker, rest)) };
     let found = scan_link_label_rest(alloc, text, &handler, is_in_table)?;
     Ok(with_variant(found))
 }

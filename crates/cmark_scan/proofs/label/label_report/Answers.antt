@@ -1,6 +1,5 @@
 -- The handler answers 0 for each rest, and nothing else.
 use Rattle.std.proofs.Common.{ℕ, ◌≡◌, Some, rules, of_calls, refl, sym, ◌∙◌, ap, subst, inl, inr}
-use Rattle.std.proofs.lemmas.Str.{IsCharBoundary-start}
 use Rattle.markdown_scanners_tree.specs.linklabel.Answer.{answered_label}
 use Rattle.markdown_scanners_tree.specs.linklabel.Label.{Label}
 use Rattle.cmark_scan.specs.label.LabelRun.{IsLabelOf, SkipsNothing}
@@ -9,12 +8,6 @@ use Rattle.cmark_scan.proofs.label.label_report.Goals as goal
 
 same : (m n : ℕ) → Some m ≡ Some n → m ≡ n
 same m n e = cc
-
-pub scan_link_label_rest-requires-clause-steady : goal.scan_link_label_rest-requires-clause-steady
-scan_link_label_rest-requires-clause-steady c = record {
-  one_answer = λ rest a b u x y. (let e : a ≡ Some 0 = search (rules, of_calls) in let f : b ≡ Some 0 = search (rules, of_calls) in e ∙ sym f);
-  inside = λ rest skip u x. (let e : Some skip ≡ Some 0 = search (rules, of_calls) in rw (same skip 0 e) (IsCharBoundary-start rest u));
-}
 
 pub returns-in_ok-from_string-in-Some : goal.returns-in_ok-from_string-in-Some
 returns-in_ok-from_string-in-Some c =
