@@ -1,29 +1,47 @@
 //! Blocks that their lines tell: thematic breaks, tables, fenced code and metadata.
-ghost use Rattle.std.specs.Prelude.{◌≡◌, ◌≤◌, ◌++◌, ℕ, List, length, drop, true, IsTrue, IfOk, IfSome, IfNone};
-ghost use Rattle.markdown_scanners_tree.specs.scanners.Breaks.{IsThematicBreak, is_thematic_break};
+ghost use Rattle.std.specs.Prelude.{◌≡◌, ◌≤◌, ◌<◌, ◌↔◌, ◌/◌, ◌++◌, ℕ, List, length, drop, true, IsTrue, IfOk, IfSome, IfNone};
+ghost use Rattle.markdown_scanners_tree.specs.Bytes.{IsBlankLine};
+ghost use Rattle.markdown_scanners_tree.specs.scanners.Breaks.{IsThematicBreak};
 ghost use Rattle.markdown_scanners_tree.specs.scanners.Fences.{IsCodeFence, IsClosingCodeFence};
 ghost use Rattle.markdown_scanners_tree.specs.scanners.Metadata.{IsMetadataBlock};
 ghost use Rattle.markdown_scanners_tree.specs.scanners.Tables.{IsDelimiterRow};
 
 use markdown_scanners_tree::scanners::{
-    scan_closing_code_fence, scan_code_fence, scan_hrule, scan_metadata_block, scan_nextline,
-    scan_table_head,
+    scan_blank_line, scan_closing_code_fence, scan_code_fence, scan_hrule, scan_metadata_block,
+    scan_nextline, scan_table_head,
 };
 use markdown_values::values::{Alignment, MetadataBlockKind};
 use std::alloc::{AllocError, Global};
 
 /// Whether the line is a thematic break: three or more of one marker, and nothing else but spaces and tabs.
 pub fn is_break(line: &[u8]) -> bool
-    ensures test { result ≡ is_thematic_break line.now }
-    ensures made { IsTrue result → IsThematicBreak line.now }
+    ensures { IsTrue result ↔ IsThematicBreak line.now }
 {
     scan_hrule(line).is_ok()
+}
+
+/// Where the text does not begin with a thematic break: a place before which none begins, so that a parser need not
+/// look there again.
+#[tactic(auto, using(markdown_scanners_tree::proofs::ForCallers::thematic_breaks))]
+pub fn break_free(text: &[u8]) -> Option<usize>
+    ensures { IfSome result (λ place. (k : ℕ) → k < place → ¬ IsThematicBreak (drop k text.now)) }
+{
+    scan_hrule(text).err()
+}
+
+/// Whether the line is blank.
+#[tactic(auto, using(markdown_scanners_tree::proofs::ForCallers::blank_lines))]
+pub fn is_blank(line: &[u8]) -> bool
+    ensures { IsTrue result ↔ ((n : ℕ) × IsBlankLine line.now n) }
+{
+    scan_blank_line(line).is_some()
 }
 
 /// The alignments of a table's columns, in order, where the line is the delimiter row of a table.
 pub fn table_columns(alloc: Global, line: &[u8]) -> Result<Option<Vec<Alignment>>, AllocError>
     ensures found { IfOk result (λ found. IfSome found (λ columns.
         (n : ℕ) × IsDelimiterRow line.now n columns.items)) }
+    ensures some_column { IfOk result (λ found. IfSome found (λ columns. 0 < length columns.items)) }
     ensures none { IfOk result (λ found. IfNone found (
         (n : ℕ) (columns : _) → ¬ IsDelimiterRow line.now n columns)) }
 {
@@ -32,6 +50,17 @@ pub fn table_columns(alloc: Global, line: &[u8]) -> Result<Option<Vec<Alignment>
         return Ok(None);
     }
     Ok(Some(columns))
+}
+
+/// How wide each column is, where the table whose delimiter row the line is has this width.
+pub fn column_width(alloc: Global, line: &[u8], width: usize) -> Result<Option<usize>, AllocError>
+    ensures { IfOk result (λ found. IfSome found (λ each. (n : ℕ) × (columns : List Alignment)
+        × IsDelimiterRow line.now n columns × (each ≡ width / length columns))) }
+{
+    match table_columns(alloc, line)? {
+        Some(columns) => Ok(Some(width / columns.len())),
+        None => Ok(None),
+    }
 }
 
 /// How many columns the table has whose delimiter row the line is.
@@ -95,12 +124,21 @@ mod tests {
     fn breaks_are_told_from_items(rt: HostRuntime) {
         assert!(rt; is_break(b"* * *\n"));
         assert!(rt; !is_break(b"* * a\n"));
+        assert_eq!(rt; break_free(b"* * a * * *\n"), Some(4));
+        assert_eq!(rt; break_free(b"* * *\n"), None);
+    }
+
+    #[test]
+    fn blank_lines_hold_white_space_alone(rt: HostRuntime) {
+        assert!(rt; is_blank(b" \t\n"));
+        assert!(rt; !is_blank(b" a\n"));
     }
 
     #[test]
     fn columns_are_aligned(rt: HostRuntime) -> Result<(), Fail> {
         assert_eq!(rt; column_count(rt.alloc(), b"| --- | :-: |\n")?, Some(2));
         assert_eq!(rt; column_count(rt.alloc(), b"| --- | abc |\n")?, None);
+        assert_eq!(rt; column_width(rt.alloc(), b"| --- | :-: |\n", 80)?, Some(40));
         Ok(())
     }
 

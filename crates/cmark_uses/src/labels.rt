@@ -1,11 +1,12 @@
 //! Labels: read, kept, and looked up by their keys.
-ghost use Rattle.std.specs.Prelude.{◌≡◌, nat_eq, false, find, IfOk, IfSome};
+ghost use Rattle.std.specs.Prelude.{◌≡◌, ℕ, drop, nat_eq, false, find, IfOk, IfSome};
 ghost use Rattle.std.specs.Option.{option_copied};
 ghost use Rattle.std.specs.Cmp.Lexicographic.{pointwise};
 ghost use Rattle.markdown_scanners_tree.specs.linklabel.Key.{label_key};
 ghost use Rattle.markdown_scanners_tree.specs.linklabel.Label.{ReadsBack, ends_in_backslash};
 
 use markdown_scanners_tree::linklabel::{LinkLabel, scan_link_label_rest};
+use markdown_scanners_tree::scanners::scan_blockquote_start;
 use markdown_values::strings::CowStr;
 use std::alloc::{AllocError, Global};
 
@@ -31,7 +32,7 @@ pub fn definition_of<'d>(
     ensures { option_copied result
         ≡ find (λ d. pointwise nat_eq (label_key d.label) (label_key label.now)) definitions.now }
 {
-    definitions.iter().find(|d| do_match(&d.label, label))
+    definitions.iter().find(|d| d.label == *label)
 }
 
 /// The label whose opening bracket has been read, where its line has all of it, and how many bytes it takes.
@@ -48,6 +49,27 @@ pub fn label_in_line<'t>(
     };
     let label = LinkLabel::new(alloc, label)?;
     Ok(Some((taken, label)))
+}
+
+/// The label over the lines of a block quote whose opening bracket has been read, without the markers of its lines, and
+/// what stands behind its closing bracket. A line without a marker ends the text.
+#[tactic(auto, using(markdown_scanners_tree::proofs::ForCallers::ascii_fronts))]
+pub fn label_in_quote<'t>(
+    alloc: Global,
+    text: &'t str,
+) -> Result<Option<(LinkLabel<'t>, &'t str)>, AllocError>
+    ensures reads_back { IfOk result (λ found. IfSome found (λ r.
+        ends_in_backslash r.0 ≡ false → ReadsBack r.0)) }
+    ensures behind { IfOk result (λ found. IfSome found (λ r. (taken : ℕ)
+        × (r.1.now ≡ drop taken text.entry.now))) }
+{
+    let behind_marker = |rest: &[u8]| scan_blockquote_start(rest);
+    let Some((taken, label)) = scan_link_label_rest(alloc, text, &behind_marker, false)? else {
+        return Ok(None);
+    };
+    let (_, behind) = text.split_at(taken);
+    let label = LinkLabel::new(alloc, label)?;
+    Ok(Some((label, behind)))
 }
 
 #[cfg(test)]
@@ -80,6 +102,17 @@ mod tests {
             return Err(Fail::from("no definition"));
         };
         assert_eq!(rt; found.destination.as_str(), "/one");
+        Ok(())
+    }
+
+    #[test]
+    fn a_label_loses_the_markers_of_its_quote(rt: HostRuntime) -> Result<(), Fail> {
+        let Some((label, behind)) = label_in_quote(rt.alloc(), "Link\n> label]: /url")? else {
+            return Err(Fail::from("no label"));
+        };
+        assert_eq!(rt; label.as_str(), "Link label");
+        assert_eq!(rt; behind, ": /url");
+        assert!(rt; label_in_quote(rt.alloc(), "Link\nlabel]: /url")?.is_none());
         Ok(())
     }
 }

@@ -7,7 +7,7 @@ ghost use Rattle.markdown_values.specs.strings.Text.{cow_text};
 ghost use Rattle.markdown_scanners_tree.specs.scanners.entities.CharacterReference.{StartsWithReference};
 ghost use Rattle.markdown_scanners_tree.specs.scanners.links.Autolink.{IsUriAutolink};
 ghost use Rattle.markdown_scanners_tree.specs.scanners.links.LinkDestination.{IsLinkDestination};
-ghost use Rattle.markdown_scanners_tree.specs.scanners.unescaping.Unescaping.{Piece, ArePieces, joined_meanings};
+ghost use Rattle.markdown_scanners_tree.specs.scanners.unescaping.Unescaping.{Piece, ArePieces, ForPieces, joined_meanings};
 
 use markdown_scanners_tree::scanners::{
     Entities, scan_autolink, scan_entity, scan_link_dest, unescape,
@@ -36,11 +36,19 @@ impl Entities for FewEntities {
 /// The link destination from `start` on: how many bytes it takes, and how it is written. `start` is a place between two
 /// characters.
 pub fn raw_destination(text: &str, start: usize) -> Option<(usize, &str)>
-    requires { IsCharBoundary text.now start }
+    requires { 0 < start → IsCharBoundary text.now start }
     ensures found { SomeExactly (λ (r : ℕ × List ℕ). IsLinkDestination 32 (drop start text.now) r.0 r.1)
         (option_map (λ r. (r.0, r.1.now)) result) }
 {
     scan_link_dest(text, start, DEPTH)
+}
+
+/// The link destination that a text begins with: how many bytes it takes, and how it is written. It is the only one.
+pub fn leading_destination(text: &str) -> Option<(usize, &str)>
+    ensures only { IfSome result (λ r. (other : ℕ × List ℕ)
+        → IsLinkDestination 32 text.now other.0 other.1 → other ≡ (r.0, r.1.now)) }
+{
+    scan_link_dest(text, 0, DEPTH)
 }
 
 /// A text with its backslash escapes and character references resolved.
@@ -55,6 +63,19 @@ pub fn resolved<'a, E: Entities>(
     unescape(alloc, CowStr::from(text), false, entities)
 }
 
+/// The title of a link: whatever pieces its text falls into, what they mean.
+#[tactic(auto, using(markdown_scanners_tree::proofs::ForCallers::same_pieces))]
+pub fn link_title<'a, E: Entities>(
+    alloc: Global,
+    text: &'a str,
+    entities: &E,
+) -> Result<CowStr<'a>, AllocError>
+    ensures { ForPieces false (E.known entities.now) text.entry.now (λ pieces.
+        IfOk result (λ title. cow_text title ≡ joined_meanings pieces)) }
+{
+    resolved(alloc, text, entities)
+}
+
 /// Where a link leads: its destination from `start` on, with escapes and references resolved.
 pub fn link_target<'a, E: Entities>(
     alloc: Global,
@@ -62,7 +83,7 @@ pub fn link_target<'a, E: Entities>(
     start: usize,
     entities: &E,
 ) -> Result<Option<CowStr<'a>>, AllocError>
-    requires { IsCharBoundary text.now start }
+    requires { 0 < start → IsCharBoundary text.now start }
     ensures found { IfOk result (λ found. IfSome found (λ target.
         (taken : ℕ) × (raw : List ℕ) × (pieces : List Piece)
         × IsLinkDestination 32 (drop start text.entry.now) taken raw
@@ -80,7 +101,7 @@ pub fn link_target<'a, E: Entities>(
 
 /// The address of the autolink whose `<` stands before `start`, and the text behind its `>`.
 pub fn autolink(text: &str, start: usize) -> Option<(CowStr<'_>, &str)>
-    requires { IsCharBoundary text.now start }
+    requires { 0 < start → IsCharBoundary text.now start }
     ensures uri { IfSome result (λ r. IsUriAutolink (drop start text.now) (cow_text r.0)) }
     ensures after { IfSome result (λ r. (end : ℕ) × (r.1.now ≡ drop end text.now)
         × (end ≡ start + length (cow_text r.0) + 1)) }
@@ -119,6 +140,9 @@ mod tests {
         assert_eq!(rt; target.as_str(), "/b?c&d*");
         assert_eq!(rt; raw_destination("[a](<b c>)", 4), Some((5, "b c")));
         assert_eq!(rt; raw_destination("[a](<b", 4), None);
+        assert_eq!(rt; leading_destination("/b (title)"), Some((2, "/b")));
+        let title = link_title(rt.alloc(), "Q&amp;A", &FewEntities)?;
+        assert_eq!(rt; title.as_str(), "Q&A");
         Ok(())
     }
 
