@@ -1,3 +1,4 @@
+mod cuts;
 mod html;
 mod label;
 mod unescaping;

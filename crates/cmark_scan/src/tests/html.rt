@@ -5,7 +5,7 @@ use std::alloc::Global;
 use std::process::Abort;
 use std::test::Fail;
 
-const HTML: &[&str] = &["html"];
+pub(super) const HTML: &[&str] = &["html"];
 
 #[test]
 fn prints_scans_of_inline_html(rt: HostRuntime) -> Result<(), Fail> {
