@@ -1,15 +1,18 @@
 //! Backslash escapes and character references in a text.
-ghost use Rattle.std.specs.Prelude.{◌≡◌, ◌+◌, ◌-◌, ◌<◌, ◌≤◌, ◌^◌, ◌++◌, Ok, IfOk, IsOk, OnOk, false, length, min};
+ghost use Rattle.std.specs.Prelude.{◌≡◌, ◌+◌, ◌-◌, ◌<◌, ◌≤◌, ◌^◌, ◌++◌, ℕ, [], Ok, IfOk, IfSome, IsOk, OnOk, false, length, min, slice_index};
 ghost use Rattle.std.specs.Str.{IsCharBoundary};
 ghost use Rattle.std.specs.String.{string_bytes, string_len, string_capacity};
 ghost use Rattle.markdown_values.specs.strings.Text.{cow_text, IsBoxed};
+ghost use Rattle.markdown_scanners_tree.specs.Ascii.{backslash};
 ghost use Rattle.markdown_scanners_tree.specs.SomeExactly.{SomeExactly};
+ghost use Rattle.markdown_scanners_tree.specs.scanners.entities.CharacterReference.{Lookup};
 ghost use Rattle.markdown_scanners_tree.specs.scanners.unescaping.Unescaping.{HasPieces, ForPieces, joined_meanings, AreThemselves};
-ghost use Rattle.markdown_scanners_tree.specs.scanners.unescaping.private.FirstPiece.{IsFirstPiece, IsFirstSize, IsPushed, StartsWithAmpersandReference, change_len, replacement, starts_pipe as starts_pipe_at};
+ghost use Rattle.markdown_scanners_tree.specs.scanners.unescaping.private.FirstPiece.{IsFirstPiece, IsFirstSize, IsPushed, HasRoom, StartsWithAmpersandReference, begins_change, starts_pipe as starts_pipe_at};
 
 use crate::scanners::entities::{Entities, scan_entity};
 use crate::scanners::escapes::starts_escape;
 use markdown_values::strings::CowStr;
+use memchr::memchr3;
 use std::alloc::{AllocError, Global};
 
 /// The text with its backslash escapes and character references resolved, and without CR.
@@ -83,57 +86,77 @@ fn push_meanings<E: Entities>(
         string_len out.old + length (joined_meanings pieces) ≤ string_capacity out.old
         → IsOk result) }
 {
-    let bytes = text.as_bytes();
     let mut run = 0;
     let mut i = 0;
-    while i < bytes.len() {
-        let piece = first_piece(&bytes[i..], is_in_table, entities);
-        let next = i + piece.length;
-        run = push_change(out, text, run, i, piece)?;
-        i = next;
+    while i < text.len() {
+        (run, i) = push_first(out, text, run, i, is_in_table, entities)?;
     }
     out.push_str(&text[run..])
 }
 
-// Where the piece at the place is changed, appends the text from `run` up to it, and what stands in
-// for its front. Answers where the text begins that isn't appended yet.
-fn push_change(
+// Where a changed piece stands at the place, appends the text from `run` up to it, and what stands
+// in for its front. Answers where the text begins that isn't appended yet, and the place behind the
+// piece, or behind a run of pieces that mean themselves.
+fn push_first<E: Entities>(
     out: &mut String,
     text: &str,
     run: usize,
     place: usize,
-    piece: FirstPiece,
-) -> Result<usize, AllocError>
+    is_in_table: bool,
+    entities: &E,
+) -> Result<(usize, usize), AllocError>
     requires ordered { run ≤ place }
-    requires within { place + piece.dropped ≤ length text.now }
+    requires within { place < length text.now }
     requires start { IsCharBoundary text.now run }
-    requires end { 0 < piece.dropped → IsCharBoundary text.now place }
-    ensures pushed { IfOk result
-        (IsPushed text.now run place piece.dropped (replacement piece.text) out.old out.new) }
+    ensures within { IfOk result (λ r. r.1 ≤ length text.now) }
+    ensures on { IfOk result (λ r. place < r.1) }
+    ensures pushed { IfOk result (λ r. IsPushed is_in_table (E.known entities.now) text.now
+        run place out.old out.new r.0 r.1) }
     ensures capacity { string_capacity out.old ≤ string_capacity out.new }
-    ensures room { (0 < piece.dropped → string_len out.old
-        + change_len run place (replacement piece.text) ≤ string_capacity out.old) → IsOk result }
+    ensures room { HasRoom is_in_table (E.known entities.now) text.now run place out.old
+        → IsOk result }
 {
-    if piece.dropped == 0 {
-        return Ok(run);
+    let bytes = &text.as_bytes()[place..];
+    match bytes[0] {
+        b'\r' => {
+            out.push_str(&text[run..place])?;
+            Ok((place + 1, place + 1))
+        }
+        b'\\' => {
+            let dropped = escape_len(bytes, is_in_table);
+            if dropped == 0 {
+                return Ok((run, place + 1));
+            }
+            out.push_str(&text[run..place])?;
+            Ok((place + dropped, place + dropped + 1))
+        }
+        b'&' => match ampersand_reference(bytes, entities) {
+            Some((length, meaning)) => {
+                push_both(out, &text[run..place], meaning.as_str())?;
+                Ok((place + length, place + length))
+            }
+            None => Ok((run, place + 1)),
+        },
+        _ => Ok((run, place + plain_len(bytes))),
     }
-    out.push_str(&text[run..place])?;
-    if let Some(instead) = &piece.text {
-        out.push_str(instead.as_str())?;
-    }
-    Ok(place + piece.dropped)
 }
 
-// The first piece of a text: how long it is, how many bytes are dropped at its front, and what
-// stands in for them.
-#[derive(Drop)]
-struct FirstPiece {
-    length: usize,
-    dropped: usize,
-    text: Option<CowStr<'static>>,
+// Appends two texts. With room for both no growth is refused.
+fn push_both(out: &mut String, first: &str, second: &str) -> Result<(), AllocError>
+    ensures bytes { OnOk result
+        (string_bytes out.new ≡ string_bytes out.old ++ (first.now ++ second.now)) }
+    ensures len { OnOk result (string_len out.new
+        ≡ string_len out.old + (length first.now + length second.now)) }
+    ensures capacity { string_capacity out.old ≤ string_capacity out.new }
+    ensures room { string_len out.old + (length first.now + length second.now)
+        ≤ string_capacity out.old → IsOk result }
+{
+    out.push_str(first)?;
+    out.push_str(second)
 }
 
-// The length of the first piece, and of what it means.
+// The length of the first piece of a text, or of a run of pieces that mean themselves, and of what
+// is meant.
 #[derive(Clone, Copy)]
 struct PieceSize {
     source: usize,
@@ -141,55 +164,79 @@ struct PieceSize {
     is_changed: bool,
 }
 
-// The sizes of the first piece of a text that isn't empty.
+// The sizes of what stands at the front of a text that isn't empty.
 fn first_size<E: Entities>(bytes: &[u8], is_in_table: bool, entities: &E) -> PieceSize
     requires { 0 < length bytes.now }
-    ensures { IsFirstSize is_in_table (E.known entities.now) bytes.now
+    ensures some { 0 < result.source }
+    ensures within { result.source ≤ length bytes.now }
+    ensures size { IsFirstSize is_in_table (E.known entities.now) bytes.now
         result.source result.meaning result.is_changed }
 {
-    let piece = first_piece(bytes, is_in_table, entities);
-    let instead = match &piece.text {
-        Some(text) => text.as_str().len(),
-        None => 0,
-    };
-    PieceSize {
-        source: piece.length,
-        meaning: instead.saturating_add(piece.length - piece.dropped),
-        is_changed: piece.dropped > 0,
+    match bytes[0] {
+        b'\r' => PieceSize {
+            source: 1,
+            meaning: 0,
+            is_changed: true,
+        },
+        b'\\' => {
+            let dropped = escape_len(bytes, is_in_table);
+            if dropped == 0 {
+                return plain_size(1);
+            }
+            PieceSize {
+                source: dropped + 1,
+                meaning: 1,
+                is_changed: true,
+            }
+        }
+        b'&' => match ampersand_reference(bytes, entities) {
+            Some((source, text)) => PieceSize {
+                source,
+                meaning: text.as_str().len(),
+                is_changed: true,
+            },
+            None => plain_size(1),
+        },
+        _ => plain_size(plain_len(bytes)),
     }
 }
 
-// The first piece of a text that isn't empty.
-fn first_piece<E: Entities>(bytes: &[u8], is_in_table: bool, entities: &E) -> FirstPiece
-    requires { 0 < length bytes.now }
-    ensures { IsFirstPiece is_in_table (E.known entities.now) bytes.now
-        result.length result.dropped (replacement result.text) }
+// The sizes of so many pieces that mean themselves.
+fn plain_size(length: usize) -> PieceSize
+    ensures { result ≡ record { source = length; meaning = length; is_changed = false } }
+{
+    PieceSize {
+        source: length,
+        meaning: length,
+        is_changed: false,
+    }
+}
+
+// How many bytes at the front come before a byte with which a changed piece may begin.
+fn plain_len(bytes: &[u8]) -> usize
+    ensures plain { (k : ℕ) → k < result → begins_change (slice_index bytes.now k) ≡ false }
+    ensures within { result ≤ length bytes.now }
+    ensures some { 0 < length bytes.now → begins_change (slice_index bytes.now 0) ≡ false
+        → 0 < result }
+{
+    memchr3(b'\\', b'&', b'\r', bytes).unwrap_or(bytes.len())
+}
+
+// How many bytes are dropped from the first piece of a text that begins with a backslash. One byte
+// is left of it.
+fn escape_len(bytes: &[u8], is_in_table: bool) -> usize
+    requires some { 0 < length bytes.now }
+    requires begins { slice_index bytes.now 0 ≡ backslash }
+    ensures piece { (known : Lookup)
+        → IsFirstPiece is_in_table known bytes.now (result + 1) result [] }
+    ensures within { result + 1 ≤ length bytes.now }
 {
     if is_in_table && starts_pipe(bytes) {
-        return FirstPiece {
-            length: 3,
-            dropped: 2,
-            text: None,
-        };
-    }
-    if starts_escape(bytes, 0) {
-        return FirstPiece {
-            length: 2,
-            dropped: 1,
-            text: None,
-        };
-    }
-    if let Some((length, text)) = ampersand_reference(bytes, entities) {
-        return FirstPiece {
-            length,
-            dropped: length,
-            text: Some(text),
-        };
-    }
-    FirstPiece {
-        length: 1,
-        dropped: if bytes[0] == b'\r' { 1 } else { 0 },
-        text: None,
+        2
+    } else if starts_escape(bytes, 0) {
+        1
+    } else {
+        0
     }
 }
 
@@ -203,8 +250,9 @@ fn starts_pipe(bytes: &[u8]) -> bool
 // The character reference at the front, from `&` on.
 fn ampersand_reference<E: Entities>(bytes: &[u8], entities: &E) -> Option<(usize, CowStr<'static>)>
     requires { 0 < length bytes.now }
-    ensures { SomeExactly (λ r.
+    ensures reference { SomeExactly (λ r.
         StartsWithAmpersandReference (E.known entities.now) bytes.now r.0 (cow_text r.1)) result }
+    ensures within { IfSome result (λ r. r.0 ≤ length bytes.now) }
 {
     if bytes[0] != b'&' {
         return None;

@@ -1,14 +1,14 @@
 -- The first piece of a text, by what stands at the front.
-use Rattle.std.proofs.Common.{◌≡◌, ◌≢◌, ℕ, ◌+◌, ◌-◌, ◌<◌, ◌≤◌, Bool, true, false, List, [], ◌∷◌, ◌++◌, length, get_or, refl, ap, ◌∙◌, sym, subst, arith, inl, inr, ◌⊎◌, eqb}
-use Rattle.std.specs.Prelude.{◌&&◌}
-use Rattle.std.proofs.lemmas.List.{append-nil, drop_all, length-append, get_or_append_left, get_or_at}
-use Rattle.std.proofs.lemmas.Bool.{false≢true, and_parts, and_from, eqb-true}
+use Rattle.std.proofs.Common.{◌≡◌, ◌≢◌, ℕ, ◌+◌, ◌-◌, ◌<◌, ◌≤◌, Bool, true, false, List, [], ◌∷◌, ◌++◌, length, drop, get_or, refl, ap, ◌∙◌, sym, subst, arith, inl, inr, ◌⊎◌, eqb}
+use Rattle.std.specs.Prelude.{◌&&◌, ◌||◌}
+use Rattle.std.proofs.lemmas.List.{append-nil, drop_all, length-append, length-drop, get_or-drop, get_or_append_left, get_or_at}
+use Rattle.std.proofs.lemmas.Bool.{false≢true, and_parts, and_from, and_left, and_right, or_parts, eqb-true, eq-eqb, false_from_ne_true}
 use Rattle.markdown_scanners_tree.specs.Ascii.{carriage_return, number_sign, ampersand, semicolon, backslash, vertical_line}
 use Rattle.markdown_scanners_tree.specs.Bytes.{is_punctuation}
 use Rattle.markdown_scanners_tree.specs.scanners.Escapes.{starts_escape}
 use Rattle.markdown_scanners_tree.specs.scanners.entities.CharacterReference.{Lookup, IsReference}
 use Rattle.markdown_scanners_tree.specs.scanners.unescaping.Unescaping.{Piece, IsFirstFit, IsItself, Fits, IsTablePipe, IsBackslashEscape, IsAmpersandReference, IsDroppedReturn}
-use Rattle.markdown_scanners_tree.specs.scanners.unescaping.private.FirstPiece.{IsFirstPiece, StartsWithAmpersandReference, starts_pipe}
+use Rattle.markdown_scanners_tree.specs.scanners.unescaping.private.FirstPiece.{IsFirstPiece, StartsWithAmpersandReference, IsChanged, ArePlain, begins_change, starts_pipe}
 use Rattle.markdown_scanners_tree.proofs.scanners.entities.ReferenceUnique.{same_source, same_meaning}
 
 pub no_pipe : (t : Bool) (text : List ℕ) → (t && starts_pipe text) ≡ false → ¬ Fits (IsTablePipe t) text
@@ -113,6 +113,32 @@ itself_piece t known (b ∷ rest) some none1 none2 none3 at = record {
   to_ascii = λ e. absurd (omega (arith, e));
 }
 
+-- no piece that is dropped from begins with another byte than a backslash
+pub no_backslash : (text : List ℕ) → get_or text 0 0 ≢ backslash → (starts_pipe text ≡ false) × (starts_escape text ≡ false)
+no_backslash [] other = (refl, refl)
+no_backslash (a ∷ []) other = (refl, refl)
+no_backslash (a ∷ b ∷ []) other = (refl, and_left (eqb a backslash) (is_punctuation b) (false_from_ne_true (eqb a backslash) (λ same. other (eqb-true a backslash same))))
+no_backslash (a ∷ b ∷ c ∷ rest) other =
+    let no' = false_from_ne_true (eqb a backslash) (λ same. other (eqb-true a backslash same)) in (
+      and_left (eqb a backslash && eqb b backslash) (eqb c vertical_line) (and_left (eqb a backslash) (eqb b backslash) no'),
+      and_left (eqb a backslash) (is_punctuation b) no',
+    )
+
+-- `&` alone, or another byte that begins no change, means itself
+pub lone_piece : (t : Bool) (known : Lookup) (text : List ℕ) → 0 < length text → get_or text 0 0 ≢ backslash → get_or text 0 0 ≢ carriage_return
+    → ((n : ℕ) (meaning : List ℕ) → ¬ StartsWithAmpersandReference known text n meaning) → IsFirstPiece t known text 1 0 []
+lone_piece t known text some no' no_cr none =
+    let other = no_backslash text no' in
+    itself_piece t known text some (and_right t (starts_pipe text) other.0) other.1 none no_cr
+
+pub plain_piece : (t : Bool) (known : Lookup) (text : List ℕ) → 0 < length text → begins_change (get_or text 0 0) ≡ false → IsFirstPiece t known text 1 0 []
+plain_piece t known text some plain =
+    let b = get_or text 0 0 in
+    let front = or_parts (eqb b backslash || eqb b ampersand) (eqb b carriage_return) plain in
+    let two = or_parts (eqb b backslash) (eqb b ampersand) front.0 in
+    lone_piece t known text some (λ is. false≢true (sym two.0 ∙ eq-eqb b backslash is)) (λ is. false≢true (sym front.1 ∙ eq-eqb b carriage_return is))
+    (λ n meaning starts. false≢true (sym two.1 ∙ eq-eqb b ampersand starts.0))
+
 -- a reference is a byte, some bytes and a semicolon
 pub reference_shape : (known : Lookup) (source meaning : List ℕ) → IsReference known source meaning → (opener : ℕ) × (body : List ℕ) × (source ≡ opener ∷ (body ++ semicolon ∷ []))
 reference_shape known source meaning is = elim is [
@@ -150,6 +176,33 @@ reference_piece t known text n meaning none1 none2 starts =
       from_ascii = λ _. omega (arith, starts.0);
       to_ascii = λ _. omega (arith, last);
     }
+
+-- CR is a changed piece, and so is a reference
+pub return_changed : (t : Bool) (known : Lookup) (text : List ℕ) → 0 < length text → get_or text 0 0 ≡ carriage_return → IsChanged t known text 1 1 []
+return_changed t known text some at =
+    let other = no_backslash text (λ is. absurd (omega (arith, is, at))) in
+    record {
+      first = return_piece t known text some (and_right t (starts_pipe text) other.0) other.1 (λ n meaning starts. absurd (omega (arith, starts.0, at))) at;
+      some = omega arith;
+    }
+
+pub reference_changed : (t : Bool) (known : Lookup) (text : List ℕ) (n : ℕ) (meaning : List ℕ) → StartsWithAmpersandReference known text n meaning → IsChanged t known text n n meaning
+reference_changed t known text n meaning starts =
+    let other = no_backslash text (λ is. absurd (omega (arith, is, starts.0))) in
+    let piece = reference_piece t known text n meaning (and_right t (starts_pipe text) other.0) other.1 starts in
+    record { first = piece; some = omega (arith, piece.at_least_one) }
+
+-- one byte that means itself, and bytes that begin no change
+pub lone_plain : (t : Bool) (known : Lookup) (text : List ℕ) → IsFirstPiece t known text 1 0 [] → ArePlain t known text 1
+lone_plain t known text is k in' =
+    let zero' : k ≡ 0 = omega (arith, in') in
+    subst (λ m. IsFirstPiece t known (drop m text) 1 0 []) (sym zero') is
+
+pub are_plain : (t : Bool) (known : Lookup) (text : List ℕ) (n : ℕ) → n ≤ length text → ((k : ℕ) → k < n → begins_change (get_or text k 0) ≡ false) → ArePlain t known text n
+are_plain t known text n within plain k in' =
+    let at : k + 0 ≡ k = omega arith in
+    plain_piece t known (drop k text) (omega (arith, length-drop k text, within, in'))
+    (ap begins_change (get_or-drop k text 0 0 ∙ ap (λ m. get_or text m 0) at) ∙ plain k in')
 
 -- the same source with the same meaning
 abbrev pub IsSame : List ℕ → List ℕ → List ℕ → List ℕ → Type 0

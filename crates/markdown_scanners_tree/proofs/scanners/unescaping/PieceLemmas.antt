@@ -1,14 +1,14 @@
 -- The pieces of a text, found one after another.
-use Rattle.std.proofs.Common.{◌≡◌, ℕ, ◌+◌, ◌-◌, ◌^◌, ◌<◌, ◌≤◌, Bool, false, min, List, [], ◌∷◌, ◌++◌, length, take, drop, refl, ap, ◌∙◌, sym, subst, arith, append_assoc, take-add, inl, inr}
-use Rattle.std.specs.Prelude.{String}
+use Rattle.std.proofs.Common.{◌≡◌, ℕ, zero, suc, ◌+◌, ◌-◌, ◌^◌, ◌<◌, ◌≤◌, Bool, true, false, min, List, [], ◌∷◌, ◌++◌, length, take, drop, refl, ap, ◌∙◌, sym, subst, arith, append_assoc, take-add, inl, inr}
+use Rattle.std.specs.Prelude.{String, slice_range}
 use Rattle.std.specs.String.{string_bytes, string_len}
 use Rattle.std.specs.Str.{IsUtf8, IsCharBoundary}
 use Rattle.std.proofs.lemmas.Str.{IsCharBoundary-after_ascii, IsCharBoundary-start}
 use Rattle.std.proofs.lemmas.List.{length-append, length-drop, append-nil, append_cancel_left, drop-drop, drop_at, take_at, drop_all, take_all, get_or-drop, drop-take}
-use Rattle.std.proofs.lemmas.Bool.{cases_lt}
+use Rattle.std.proofs.lemmas.Bool.{false≢true}
 use Rattle.markdown_scanners_tree.specs.scanners.entities.CharacterReference.{Lookup}
 use Rattle.markdown_scanners_tree.specs.scanners.unescaping.Unescaping.{Piece, ArePieces, IsFirstFit, IsItself, AreThemselves, joined_meanings}
-use Rattle.markdown_scanners_tree.specs.scanners.unescaping.private.FirstPiece.{IsFirstPiece, IsPushed, change_len}
+use Rattle.markdown_scanners_tree.specs.scanners.unescaping.private.FirstPiece.{IsFirstPiece, IsChanged, IsFirstSize, ArePlain, IsPushed, change_len}
 use Rattle.markdown_scanners_tree.proofs.scanners.unescaping.FirstPieceLemmas.{same_first}
 
 -- pieces that mean themselves mean the text
@@ -97,6 +97,45 @@ measured_more in_table known text i n dropped instead changes changes' len len' 
             λ no' selves. old.4 (off no').0 (first.themselves (off no').1 selves),
           );
     }
+
+-- the same with another word for whether a piece is changed
+measured_flag : (in_table : Bool) (known : Lookup) (text : List ℕ) (i : ℕ) (changes changes' : Bool) (len : ℕ) → IsMeasured in_table known text i changes len
+    → (changes' ≡ false → changes ≡ false) → (changes ≡ false → changes' ≡ false) → IsMeasured in_table known text i changes' len
+measured_flag in_table known text i changes changes' len so_far off on = record {
+  within = so_far.within;
+  total = so_far.total;
+  counted = so_far.counted;
+  forth = so_far.forth;
+  back = λ ps are. let old = so_far.back ps are in (old.0, old.1, old.2, λ selves. (on (old.3 selves).0, (old.3 selves).1), λ no' selves. old.4 (off no') selves);
+}
+
+-- after pieces that mean themselves
+measured_plain_run : (in_table : Bool) (known : Lookup) (text : List ℕ) (i n : ℕ) (changes : Bool) (len len' : ℕ) → IsMeasured in_table known text i changes len
+    → ArePlain in_table known (drop i text) n → len' ≡ min (len + n) (2 ^ 64 - 1) → IsMeasured in_table known text (i + n) changes len'
+measured_plain_run in_table known text i zero changes len len' so_far plain more =
+    let same : len ≡ len' = omega (arith, more, so_far.counted) in
+    let at : i ≡ i + 0 = omega arith in
+    subst (λ j. IsMeasured in_table known text j changes len') at (subst (λ l. IsMeasured in_table known text i changes l) same so_far)
+measured_plain_run in_table known text i (suc n) changes len len' so_far plain more =
+    let before = measured_plain_run in_table known text i n changes len (min (len + n) (2 ^ 64 - 1)) so_far (λ k in'. plain k (omega (arith, in'))) refl in
+    let last = subst (λ bs. IsFirstPiece in_table known bs 1 0 []) (drop-drop n i text) (plain n (omega arith)) in
+    let at : i + n + 1 ≡ i + suc n = omega arith in
+    subst (λ j. IsMeasured in_table known text j changes len') at
+    (measured_more in_table known text (i + n) 1 0 [] changes changes (min (len + n) (2 ^ 64 - 1)) len' before last (λ no'. (no', refl)) (λ no' _. no') (omega (arith, more)))
+
+-- one step on, by the sizes of what stands at the place
+pub measured_step : (in_table : Bool) (known : Lookup) (text : List ℕ) (i source meaning : ℕ) (changed changes changes' : Bool) (len len' : ℕ) → IsMeasured in_table known text i changes len
+    → IsFirstSize in_table known (drop i text) source meaning changed → (changes' ≡ false → (changes ≡ false) × (changed ≡ false)) → (changes ≡ false → changed ≡ false → changes' ≡ false)
+    → len' ≡ min (len + meaning) (2 ^ 64 - 1) → IsMeasured in_table known text (i + source) changes' len'
+measured_step in_table known text i source meaning false changes changes' len len' so_far size off on more =
+    measured_flag in_table known text (i + source) changes changes' len'
+    (measured_plain_run in_table known text i source changes len len' so_far size.1 (more ∙ ap (λ m. min (len + m) (2 ^ 64 - 1)) size.0)) (λ no'. (off no').0) (λ no'. on no' refl)
+measured_step in_table known text i source meaning true changes changes' len len' so_far size off on more =
+    let dropped = size.0 in
+    let instead = size.1 in
+    let is = size.2 in
+    let len_is : len' ≡ min (len + (length instead + (source - dropped))) (2 ^ 64 - 1) = omega (arith, more, size.3) in
+    measured_more in_table known text i source dropped instead changes changes' len len' so_far is.first (λ no'. absurd (false≢true (sym (off no').1))) (λ no' none. absurd (omega (arith, none, is.some))) len_is
 
 -- every piece has a source
 first_some : (in_table : Bool) (known : Lookup) (text : List ℕ) (p : Piece) → IsFirstFit in_table known text p → 1 ≤ length p.source
@@ -213,25 +252,57 @@ module _ (in_table : Bool) (known : Lookup) (text : List ℕ) (i n run : ℕ) (b
       let first = first_of in_table known text i n dropped instead is old.0 old.1 in
       omega (arith, room, old.3, ap length first.joined, length-append is.piece.meaning (joined_meanings first.later), meaning_len in_table known text i n dropped instead is)
 
--- the same in equal terms
-same_built : (in_table : Bool) (known : Lookup) (text : List ℕ) (i run run' : ℕ) (base : List ℕ) (base_len : ℕ) (out out' : List ℕ) (out_len out_len' : ℕ)
-    → run ≡ run' → out ≡ out' → out_len ≡ out_len' → IsBuilt in_table known text i run' base base_len out' out_len' → IsBuilt in_table known text i run base base_len out out_len
-same_built in_table known text i run run' base base_len out out' out_len out_len' runs outs lens built = rw (runs, outs, lens) built
+-- pieces that mean themselves lengthen the run
+built_plain_run : (in_table : Bool) (known : Lookup) (text : List ℕ) (i n run : ℕ) (base : List ℕ) (base_len : ℕ) (out : List ℕ) (out_len : ℕ) → IsBuilt in_table known text i run base base_len out out_len
+    → ArePlain in_table known (drop i text) n → IsBuilt in_table known text (i + n) run base base_len out out_len
+built_plain_run in_table known text i zero run base base_len out out_len so_far plain =
+    let at : i ≡ i + 0 = omega arith in
+    subst (λ j. IsBuilt in_table known text j run base base_len out out_len) at so_far
+built_plain_run in_table known text i (suc n) run base base_len out out_len so_far plain =
+    let before = built_plain_run in_table known text i n run base base_len out out_len so_far (λ k in'. plain k (omega (arith, in'))) in
+    let last = subst (λ bs. IsFirstPiece in_table known bs 1 0 []) (drop-drop n i text) (plain n (omega arith)) in
+    let at : i + n + 1 ≡ i + suc n = omega arith in
+    subst (λ j. IsBuilt in_table known text j run base base_len out out_len) at (built_plain in_table known text (i + n) 1 run base base_len out out_len before [] last)
 
--- one more piece, as a push tells of it
-pub built_more : {Z : Type 0} (in_table : Bool) (known : Lookup) (text : List ℕ) (i n run : ℕ) (base : List ℕ) (base_len dropped : ℕ) (instead : List ℕ) (old new : String Z) (next : ℕ)
-    → IsBuilt in_table known text i run base base_len (string_bytes old) (string_len old) → IsUtf8 text → IsFirstPiece in_table known (drop i text) n dropped instead
-    → IsPushed text run i dropped instead old new next → IsBuilt in_table known text (i + n) next base base_len (string_bytes new) (string_len new)
-built_more in_table known text i n run base base_len dropped instead old new next so_far utf8 is pushed = elim (cases_lt 0 dropped) [
-  | inl some ↦
-      let after = pushed.changed some in
-      same_built in_table known text (i + n) next (i + dropped) base base_len (string_bytes new) _ (string_len new) _ after.0 after.1 after.2 (built_changed in_table known text i n run base base_len (string_bytes old) (string_len old) so_far dropped instead utf8 is some)
-  | inr none ↦
-      let zero' : dropped ≡ 0 = omega (arith, none) in
-      let after = pushed.itself zero' in
-      same_built in_table known text (i + n) next run base base_len (string_bytes new) _ (string_len new) _ after.0 after.1.0 after.1.1 (built_plain in_table known text i n run base base_len (string_bytes old) (string_len old) so_far instead
-      (subst (λ d. IsFirstPiece in_table known (drop i text) n d instead) zero' is))
-]
+-- the same in equal terms
+same_built : (in_table : Bool) (known : Lookup) (text : List ℕ) (i i' run run' : ℕ) (base : List ℕ) (base_len : ℕ) (out out' : List ℕ) (out_len out_len' : ℕ)
+    → i ≡ i' → run ≡ run' → out ≡ out' → out_len ≡ out_len' → IsBuilt in_table known text i' run' base base_len out' out_len' → IsBuilt in_table known text i run base base_len out out_len
+same_built in_table known text i i' run run' base base_len out out' out_len out_len' places runs outs lens built = rw (places, runs, outs, lens) built
+
+-- one step on, as a push tells of it
+pub built_step : {Z : Type 0} (in_table : Bool) (known : Lookup) (text : List ℕ) (i run : ℕ) (base : List ℕ) (base_len : ℕ) (old new : String Z) (run' next : ℕ)
+    → IsBuilt in_table known text i run base base_len (string_bytes old) (string_len old) → IsUtf8 text → i < next → IsPushed in_table known text run i old new run' next
+    → IsBuilt in_table known text next run' base base_len (string_bytes new) (string_len new)
+built_step in_table known text i run base base_len old new run' next so_far utf8 on (inl plain) =
+    let at : next ≡ i + (next - i) = omega (arith, on) in
+    same_built in_table known text next (i + (next - i)) run' run base base_len (string_bytes new) (string_bytes old) (string_len new) (string_len old) at plain.0 plain.1.0 plain.1.1
+    (built_plain_run in_table known text i (next - i) run base base_len (string_bytes old) (string_len old) so_far plain.2)
+built_step in_table known text i run base base_len old new run' next so_far utf8 on (inr changed) =
+    let at : next ≡ i + (next - i) = omega (arith, on) in
+    let is = changed.2 in
+    same_built in_table known text next (i + (next - i)) run' (i + changed.0) base base_len (string_bytes new) _ (string_len new) _ at changed.3 changed.4 changed.5
+    (built_changed in_table known text i (next - i) run base base_len (string_bytes old) (string_len old) so_far changed.0 changed.1 utf8 is.first is.some)
+
+-- what a push of the text from `run` up to a changed piece, and of what stands in for its front, comes to
+pub pushed_change : {Z : Type 0} (in_table : Bool) (known : Lookup) (text : List ℕ) (run place n dropped next : ℕ) (instead kept : List ℕ) (old new : String Z)
+    → IsChanged in_table known (drop place text) n dropped instead → next ≡ place + n → kept ≡ slice_range text run place → length kept ≡ place - run
+    → string_bytes new ≡ string_bytes old ++ (kept ++ instead) → string_len new ≡ string_len old + (length kept + length instead) → IsPushed in_table known text run place old new (place + dropped) next
+pushed_change in_table known text run place n dropped next instead kept old new is at kept_is kept_len bytes len =
+    let long : n ≡ next - place = omega (arith, at) in
+    inr (dropped, instead, subst (λ k. IsChanged in_table known (drop place text) k dropped instead) long is, refl,
+      bytes ∙ ap (λ k. string_bytes old ++ (k ++ instead)) kept_is, omega (arith, len, kept_len))
+
+-- the same where nothing stands in
+pub pushed_drop : {Z : Type 0} (in_table : Bool) (known : Lookup) (text : List ℕ) (run place n dropped next : ℕ) (kept : List ℕ) (old new : String Z)
+    → IsChanged in_table known (drop place text) n dropped [] → next ≡ place + n → kept ≡ slice_range text run place → length kept ≡ place - run
+    → string_bytes new ≡ string_bytes old ++ kept → string_len new ≡ string_len old + length kept → IsPushed in_table known text run place old new (place + dropped) next
+pushed_drop in_table known text run place n dropped next kept old new is at kept_is kept_len bytes len =
+    pushed_change in_table known text run place n dropped next [] kept old new is at kept_is kept_len (bytes ∙ ap (λ k. string_bytes old ++ k) (sym (append-nil kept))) (omega (arith, len))
+
+pub pushed_nothing : {Z : Type 0} (in_table : Bool) (known : Lookup) (text : List ℕ) (run place n : ℕ) (old : String Z) → ArePlain in_table known (drop place text) n → IsPushed in_table known text run place old old run (place + n)
+pushed_nothing in_table known text run place n old are =
+    let long : n ≡ place + n - place = omega arith in
+    inl (refl, (refl, refl), subst (ArePlain in_table known (drop place text)) long are)
 
 -- at the end: the rest from `run` on completes what the pieces mean
 pub built_end : (in_table : Bool) (known : Lookup) (text : List ℕ) (i run : ℕ) (base : List ℕ) (base_len : ℕ) (out : List ℕ) (out_len : ℕ) → IsBuilt in_table known text i run base base_len out out_len

@@ -1,8 +1,8 @@
 use Rattle.std.proofs.Common.{◌≡◌, ◌+◌, ◌-◌, ◌^◌, min, arith, sym, ap, subst, ◌∙◌, length, take, drop, false}
-use Rattle.std.proofs.lemmas.Bool.{false≢true, ltb-false, le-ltb}
+use Rattle.std.proofs.lemmas.Bool.{false≢true}
 use Rattle.std.proofs.lemmas.List.{take_rest}
-use Rattle.markdown_scanners_tree.specs.scanners.unescaping.private.FirstPiece.{IsFirstPiece}
-use Rattle.markdown_scanners_tree.proofs.scanners.unescaping.PieceLemmas.{measured_more, measured_pieces, measured_plain, measured_changed, measured_len}
+use Rattle.markdown_scanners_tree.specs.scanners.unescaping.private.FirstPiece.{IsFirstSize}
+use Rattle.markdown_scanners_tree.proofs.scanners.unescaping.PieceLemmas.{measured_step, measured_pieces, measured_plain, measured_changed, measured_len}
 use Rattle.markdown_scanners_tree.proofs.scanners.unescaping.measure.Goals as goal
 use Rattle.markdown_scanners_tree.proofs.scanners.unescaping.measure.Goals.{then-changes, else-changes}
 
@@ -10,17 +10,16 @@ pub loop-i-preserved : goal.loop-i-preserved
 loop-i-preserved g c =
     let known = g.E.Entities.known c.args.entities.now in
     let text = c.args.text.now in
-    let size = c.first_size-size.ensures in
-    let n = c.first_size-size.result.source in
+    let size = c.first_size-size.result in
     let at : take (length c.as_bytes-bytes.result.now - c.loop-i.i) (drop c.loop-i.i c.as_bytes-bytes.result.now) ≡ drop c.loop-i.i text =
     take_rest c.as_bytes-bytes.result.now c.loop-i.i ∙ ap (drop c.loop-i.i) c.as_bytes-bytes.ensures.value in
-    let is : IsFirstPiece c.args.is_in_table known (drop c.loop-i.i text) n size.dropped size.instead = subst (λ bs. IsFirstPiece c.args.is_in_table known bs n size.dropped size.instead) at size.first in
-    let len : c.saturating_add-len.result ≡ min (c.loop-i.len + (length size.instead + (n - size.dropped))) (2 ^ 64 - 1) = omega (arith, c.saturating_add-len.ensures, size.meaning_saturates) in
-    let more = λ (off : c.if-changes.changes ≡ false → (c.loop-i.changes ≡ false) × (size.dropped ≡ 0)) (on : c.loop-i.changes ≡ false → size.dropped ≡ 0 → c.if-changes.changes ≡ false).
-    measured_more c.args.is_in_table known text c.loop-i.i n size.dropped size.instead c.loop-i.changes c.if-changes.changes c.loop-i.len c.saturating_add-len.result c.loop-i.invariant is off on len in
+    let is = subst (λ bs. IsFirstSize c.args.is_in_table known bs size.source size.meaning size.is_changed) at c.first_size-size.ensures.size in
+    let len : c.saturating_add-len.result ≡ min (c.loop-i.len + size.meaning) (2 ^ 64 - 1) = omega (arith, c.saturating_add-len.ensures) in
+    let more = λ (off : c.if-changes.changes ≡ false → (c.loop-i.changes ≡ false) × (size.is_changed ≡ false)) (on : c.loop-i.changes ≡ false → size.is_changed ≡ false → c.if-changes.changes ≡ false).
+    measured_step c.args.is_in_table known text c.loop-i.i size.source size.meaning size.is_changed c.loop-i.changes c.if-changes.changes c.loop-i.len c.saturating_add-len.result c.loop-i.invariant is off on len in
     elim c.if-changes.branch [
       | then-changes w ↦ more (λ no'. absurd (false≢true (sym no' ∙ (w.changes-is ∙ w.if-changes.true)))) (λ no' _. absurd (false≢true (sym no' ∙ w.if-changes.true)))
-      | else-changes w ↦ more (λ no'. (w.if-changes.false, omega (arith, ltb-false 0 size.dropped (sym size.changed ∙ (sym w.changes-is ∙ no'))))) (λ _ none. w.changes-is ∙ (size.changed ∙ le-ltb 0 size.dropped (omega (arith, none))))
+      | else-changes w ↦ more (λ no'. (w.if-changes.false, sym w.changes-is ∙ no')) (λ _ none. w.changes-is ∙ none)
     ]
 
 pub returns-clause-pieces : goal.returns-clause-pieces

@@ -10,4 +10,4 @@ invariant-loop-i g l = record {
 }
 
 abbrev pub decreases-loop-i : goal.decreases-loop-i
-decreases-loop-i g l = length l.bytes - l.i
+decreases-loop-i g l = length l.text - l.i

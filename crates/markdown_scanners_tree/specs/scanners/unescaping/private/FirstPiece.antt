@@ -1,17 +1,10 @@
 -- The first piece of a text: its length, how many bytes are dropped at its front, and what stands
 -- in for them.
-use Rattle.std.specs.Prelude.{ℕ, Bool, List, [], ◌++◌, ◌≡◌, ◌≤◌, ◌<◌, ◌+◌, ◌-◌, ◌^◌, length, drop, slice_index, slice_range, min, nat_lt, Option, Some, None, ◌∷◌, false, ◌&&◌, ◌==◌, String}
-use Rattle.std.specs.String.{string_bytes, string_len, StringUnchanged}
-use Rattle.markdown_values.specs.declared.strings.CowStr.{CowStr}
-use Rattle.markdown_values.specs.strings.Text.{cow_text}
-use Rattle.markdown_scanners_tree.specs.Ascii.{ampersand, backslash, vertical_line}
+use Rattle.std.specs.Prelude.{ℕ, Bool, true, false, List, [], ◌∷◌, ◌++◌, ◌≡◌, ◌⊎◌, ◌≤◌, ◌<◌, ◌+◌, ◌-◌, ◌^◌, length, drop, slice_index, slice_range, min, ◌&&◌, ◌||◌, ◌==◌, String}
+use Rattle.std.specs.String.{string_bytes, string_len, string_capacity, StringUnchanged}
+use Rattle.markdown_scanners_tree.specs.Ascii.{carriage_return, ampersand, backslash, vertical_line}
 use Rattle.markdown_scanners_tree.specs.scanners.entities.CharacterReference.{Lookup, StartsWithReference}
 use Rattle.markdown_scanners_tree.specs.scanners.unescaping.Unescaping.{Piece, IsFirstFit, IsItself}
-
--- the text that stands in, if any
-abbrev pub replacement : Option CowStr → List ℕ
-replacement None = []
-replacement (Some text) = cow_text text
 
 -- The text begins with two backslashes and a pipe.
 abbrev pub starts_pipe : List ℕ → Bool
@@ -19,6 +12,10 @@ starts_pipe [] = false
 starts_pipe (a ∷ []) = false
 starts_pipe (a ∷ b ∷ []) = false
 starts_pipe (a ∷ b ∷ c ∷ rest) = a == backslash && b == backslash && c == vertical_line
+
+-- a changed piece may begin with this byte
+abbrev pub begins_change : ℕ → Bool
+begins_change b = b == backslash || b == ampersand || b == carriage_return
 
 -- The text begins with a character reference of n bytes, from `&` on.
 abbrev pub StartsWithAmpersandReference : Lookup → List ℕ → ℕ → List ℕ → Type 0
@@ -43,15 +40,25 @@ pub record IsFirstPiece (in_table : Bool) (known : Lookup) (text : List ℕ)
   pub from_ascii : 0 < dropped → slice_index text 0 < 128
   pub to_ascii : 0 < dropped → slice_index text (dropped - 1) < 128
 
--- The length of the text's first piece, that of what it means (at most what a `usize` holds), and
--- whether the piece is changed.
-pub record IsFirstSize (in_table : Bool) (known : Lookup) (text : List ℕ)
-    (source meaning : ℕ) (is_changed : Bool) : Type 0 where
-  pub dropped : ℕ
-  pub instead : List ℕ
-  pub first : IsFirstPiece in_table known text source dropped instead
-  pub meaning_saturates : meaning ≡ min (length instead + (source - dropped)) (2 ^ 64 - 1)
-  pub changed : is_changed ≡ nat_lt 0 dropped
+-- Each of the n bytes at the front is a piece that means itself.
+abbrev pub ArePlain : Bool → Lookup → List ℕ → ℕ → Type 0
+ArePlain in_table known text n =
+    (k : ℕ) → k < n → IsFirstPiece in_table known (drop k text) 1 0 []
+
+-- The first piece is changed: it is n bytes long, some are dropped, and these stand in for them.
+pub record IsChanged (in_table : Bool) (known : Lookup) (text : List ℕ)
+    (n dropped : ℕ) (instead : List ℕ) : Type 0 where
+  pub first : IsFirstPiece in_table known text n dropped instead
+  pub some : 0 < dropped
+
+-- The length of what stands at the front, and that of what it means (at most what a `usize` holds):
+-- of pieces that mean themselves, or of one that is changed.
+abbrev pub IsFirstSize : Bool → Lookup → List ℕ → ℕ → ℕ → Bool → Type 0
+IsFirstSize in_table known text source meaning false =
+    (meaning ≡ source) × ArePlain in_table known text source
+IsFirstSize in_table known text source meaning true =
+    (dropped : ℕ) × (instead : List ℕ) × IsChanged in_table known text source dropped instead
+    × (meaning ≡ min (length instead + (source - dropped)) (2 ^ 64 - 1))
 
 -- how many bytes are appended at a changed piece: the text from `run` up to its place, and what
 -- stands in for its front
@@ -59,10 +66,20 @@ abbrev pub change_len : ℕ → ℕ → List ℕ → ℕ
 change_len run place instead = (place - run) + length instead
 
 -- At a changed piece the text from `run` up to its place and what stands in for its front are
--- appended, and `next` is the place behind what is dropped. At one that means itself all stays.
-pub record IsPushed {Z : Type 0} (text : List ℕ) (run place dropped : ℕ) (instead : List ℕ)
-    (old new : String Z) (next : ℕ) : Type 0 where
-  pub itself : dropped ≡ 0 → (next ≡ run) × StringUnchanged old new
-  pub changed : 0 < dropped → (next ≡ place + dropped)
-      × (string_bytes new ≡ string_bytes old ++ (slice_range text run place ++ instead))
-      × (string_len new ≡ string_len old + change_len run place instead)
+-- appended, and `run'` is the place behind what is dropped, `next` that behind the piece. At pieces
+-- that mean themselves all stays but the place.
+abbrev pub IsPushed : {Z : Type 0} → Bool → Lookup → List ℕ → ℕ → ℕ → String Z → String Z → ℕ → ℕ → Type 0
+IsPushed in_table known text run place old new run' next =
+    ((run' ≡ run) × StringUnchanged old new
+    × ArePlain in_table known (drop place text) (next - place))
+    ⊎ ((dropped : ℕ) × (instead : List ℕ)
+    × IsChanged in_table known (drop place text) (next - place) dropped instead
+    × (run' ≡ place + dropped)
+    × (string_bytes new ≡ string_bytes old ++ (slice_range text run place ++ instead))
+    × (string_len new ≡ string_len old + change_len run place instead))
+
+-- There is room for what is appended at a changed piece.
+abbrev pub HasRoom : {Z : Type 0} → Bool → Lookup → List ℕ → ℕ → ℕ → String Z → Type 0
+HasRoom in_table known text run place old = (n dropped : ℕ) (instead : List ℕ)
+    → IsChanged in_table known (drop place text) n dropped instead
+    → string_len old + change_len run place instead ≤ string_capacity old
