@@ -1,5 +1,5 @@
 -- The longest prefix that a test accepts, and the parts that it cuts a list of bytes into.
-use Rattle.std.proofs.Common.{◌≡◌, ℕ, zero, suc, ◌-◌, ◌<◌, Bool, true, false, ◌&&◌, List, [], ◌∷◌, ◌++◌, length, take, drop, get_or, refl, sym, ap, ◌∙◌, arith, inl, inr, one-add}
+use Rattle.std.proofs.Common.{◌≡◌, ℕ, zero, suc, min, ◌+◌, ◌-◌, ◌<◌, ◌≤◌, Bool, true, false, ◌&&◌, List, [], ◌∷◌, ◌++◌, length, take, drop, get_or, refl, sym, ap, ◌∙◌, arith, inl, inr, one-add}
 use Rattle.std.specs.List.{prefix_len, list_all}
 use Rattle.std.proofs.lemmas.Bool.{cases_Bool}
 use Rattle.std.proofs.lemmas.List.{take_all, length-drop, take-append-drop}
@@ -52,3 +52,19 @@ list_all-drop p (suc k) (b ∷ bytes) all = list_all-drop p k bytes (both_true (
 pub split_at : (bytes : List ℕ) (n byte : ℕ) → n < length bytes → get_or bytes n 0 ≡ byte → bytes ≡ take n bytes ++ byte ∷ drop (suc n) bytes
 split_at bytes n byte inside here =
     sym (ap (λ r. take n bytes ++ r) (sym (drop-cons bytes n 0 inside ∙ ap (λ b. b ∷ drop (suc n) bytes) here)) ∙ take-append-drop n bytes)
+
+-- the longest prefix of the first bytes alone
+prefix_len-first : (p : ℕ → Bool) (n : ℕ) (bytes : List ℕ) → prefix_len p (take n bytes) ≡ min n (prefix_len p bytes)
+prefix_len-first p zero bytes = omega arith
+prefix_len-first p (suc n) [] = omega arith
+prefix_len-first p (suc n) (b ∷ bytes) =
+    let rest = prefix_len-first p n bytes in
+    elim (cases_Bool (p b)) [ inl passes ↦ rw passes (omega (arith, rest)) | inr fails ↦ rw fails (omega arith) ]
+
+-- Of a prefix that may have at most `limit` bytes, the first `limit + 1` bytes tell whether it is the longest one.
+module _ (p : ℕ → Bool) (bytes front : List ℕ) (n limit : ℕ) (first : front ≡ take (limit + 1) bytes) (run : n ≡ prefix_len p front) where
+  pub counted_up_to : n ≡ min (limit + 1) (prefix_len p bytes)
+  counted_up_to = run ∙ ap (prefix_len p) first ∙ prefix_len-first p (limit + 1) bytes
+
+  pub is_longest : n ≤ limit → n ≡ prefix_len p bytes
+  is_longest few = omega (arith, counted_up_to, few)

@@ -11,6 +11,7 @@ use crate::scanners::classes::is_ascii_digit;
 use crate::scanners::indent::calc_indent;
 use crate::scanners::lines::scan_blank_line;
 use crate::scanners::numbers::number_of;
+use crate::scanners::runs::first_bytes;
 
 // How many digits the number of an ordered list item may have.
 const MOST_DIGITS: usize = 9;
@@ -54,7 +55,7 @@ fn scan_ordered_marker(bytes: &[u8]) -> Option<(usize, u8, usize)>
     ensures found { SomeExactly (λ r. IsListMarker (take r.0 bytes.now) r.1 r.2) result }
     ensures within { IfSome result (λ r. r.0 ≤ length bytes.now) }
 {
-    let digits = scan_digits(bytes);
+    let digits = scan_digits(first_bytes(bytes, MOST_DIGITS + 1));
     if digits == 0 || digits > MOST_DIGITS {
         return None;
     }

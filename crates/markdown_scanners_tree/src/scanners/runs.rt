@@ -1,5 +1,5 @@
 //! Runs of bytes at the front or the back.
-ghost use Rattle.std.specs.Prelude.{◌≡◌, ◌≤◌, ◌==◌, length, reverse, if◌then◌else◌};
+ghost use Rattle.std.specs.Prelude.{◌≡◌, ◌≤◌, ◌==◌, length, take, reverse, if◌then◌else◌};
 ghost use Rattle.std.specs.List.{prefix_len, list_any};
 ghost use Rattle.markdown_scanners_tree.specs.Bytes.{begins_with, is_alphanumeric, is_space_or_tab, is_white_space_in_line};
 ghost use Rattle.markdown_scanners_tree.specs.scanners.Runs.{IsAccepted};
@@ -92,6 +92,15 @@ pub(in crate::scanners) fn scan_alphanumerics(bytes: &[u8]) -> usize
         .iter()
         .take_while(|b| is_ascii_alphanumeric(**b))
         .count()
+}
+
+// The first bytes, so many or all. A run that may have no more than `count - 1` bytes is told from a
+// longer one by these.
+pub(in crate::scanners) fn first_bytes(bytes: &[u8], count: usize) -> &[u8]
+    ensures first { result.now ≡ take count bytes.now }
+    ensures within { length result.now ≤ length bytes.now }
+{
+    &bytes[..count.min(bytes.len())]
 }
 
 // Whether the byte stands somewhere in the bytes.
