@@ -44,10 +44,12 @@ pub struct LineStart<'a> {
     pending: usize,
     // No thematic break begins at a place from the present one up to this one.
     no_break_before: usize,
+    // A thematic break begins at this place.
+    known_break: Option<usize>,
 }
 
 impl<'a> Model for LineStart<'a> {
-    ghost use Rattle.std.specs.Prelude.{ℕ, ◌%◌, ◌≤◌, ◌*◌, ◌<◌, ◌≡◌, length, drop, false};
+    ghost use Rattle.std.specs.Prelude.{ℕ, ◌%◌, ◌≤◌, ◌*◌, ◌<◌, ◌≡◌, length, drop, true, false, IfSome};
     ghost use Rattle.markdown_scanners_tree.specs.line.State.{LineState};
     ghost use Rattle.markdown_scanners_tree.specs.scanners.Breaks.{is_thematic_break};
 
@@ -61,7 +63,8 @@ impl<'a> Model for LineStart<'a> {
         × (s.column ≤ 4 * s.place)
         × (s.pending < 4)
         × ((k : ℕ) → s.place ≤ k → k < s.no_break_before
-        → is_thematic_break (drop k s.bytes.now) ≡ false) };
+        → is_thematic_break (drop k s.bytes.now) ≡ false)
+        × IfSome s.known_break (λ k. is_thematic_break (drop k s.bytes.now) ≡ true) };
 }
 
 impl Clone for LineStart<'_> {
@@ -85,6 +88,7 @@ impl<'a> LineStart<'a> {
             column: 0,
             pending: 0,
             no_break_before: 0,
+            known_break: None,
         }
     }
 
@@ -114,6 +118,7 @@ impl<'a> LineStart<'a> {
             column: self.column,
             pending: self.pending,
             no_break_before: self.no_break_before,
+            known_break: self.known_break,
         }
     }
 
@@ -308,8 +313,8 @@ impl<'a> LineStart<'a> {
         Some((width, delimiter, start as u64))
     }
 
-    // Whether a thematic break begins at the place. Where none does, the bytes that were read need
-    // not be read again.
+    // Whether a thematic break begins at the place. The bytes that were read to tell are not read
+    // again: where one begins its place is kept, and where none does, how far they reach.
     fn begins_break(&mut self) -> bool
         ensures answer { result ≡ is_thematic_break (unscanned self.old) }
         ensures state { self.new ≡ self.old }
@@ -317,8 +322,14 @@ impl<'a> LineStart<'a> {
         if self.place < self.no_break_before {
             return false;
         }
+        if self.known_break == Some(self.place) {
+            return true;
+        }
         match scan_hrule(&self.bytes[self.place..]) {
-            Ok(_) => true,
+            Ok(_) => {
+                self.known_break = Some(self.place);
+                true
+            }
             Err(length) => {
                 self.no_break_before = self.place + length;
                 false

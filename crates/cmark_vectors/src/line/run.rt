@@ -270,20 +270,21 @@ fn runs_over_markers_and_tabs(rt: HostRuntime) -> Result<(), Fail> {
     assert_rows(&rt, rt.alloc(), &rows)
 }
 
-fn run_bullets(alloc: Global, count: usize) -> Result<LineRun, Fail> {
+// A line of so many equal parts and what ends it, with a call for a list item's marker for each part.
+fn run_markers(alloc: Global, part: &[u8], count: usize, last: &[u8]) -> Result<LineRun, Fail> {
     let mut line = Vec::new(alloc);
     let mut calls = Vec::new(alloc);
     for _ in 0..count {
-        line.extend_from_slice(b"- ")?;
+        line.extend_from_slice(part)?;
         calls.push(LineCall::List(0))?;
     }
-    line.push(b'x')?;
+    line.extend_from_slice(last)?;
     Ok(run_line(alloc, &line, &calls)?)
 }
 
 #[test]
 fn passes_ten_thousand_bullets(rt: HostRuntime) -> Result<(), Fail> {
-    let run = run_bullets(rt.alloc(), 10_000)?;
+    let run = run_markers(rt.alloc(), b"- ", 10_000, b"x")?;
     assert_eq!(rt; run.answers.len(), 10_000);
     for answer in &run.answers {
         assert_eq!(rt; *answer, LineAnswer::List(Some((b'-', 0, 2))));
@@ -298,9 +299,36 @@ fn passes_ten_thousand_bullets(rt: HostRuntime) -> Result<(), Fail> {
 // to the end, this run would read some 10^11 bytes and not end within a test's time.
 #[test]
 fn looks_for_a_thematic_break_once(rt: HostRuntime) -> Result<(), Fail> {
-    let run = run_bullets(rt.alloc(), 400_000)?;
+    let run = run_markers(rt.alloc(), b"- ", 400_000, b"x")?;
     assert_eq!(rt; run.answers.len(), 400_000);
     assert_eq!(rt; run.scanned, 800_000);
+    Ok(())
+}
+
+fn assert_no_marker(rt: &impl Abort, run: &LineRun, calls: usize) {
+    assert_eq!(rt; run.answers.len(), calls);
+    for answer in &run.answers {
+        assert_eq!(rt; *answer, LineAnswer::List(None));
+    }
+    assert_eq!(rt; run.scanned, 0);
+    assert_eq!(rt; run.stop, None);
+}
+
+// The line is a thematic break, so no call passes a bullet. Were the line read to its end by each, this
+// run would read some 10^11 bytes.
+#[test]
+fn finds_a_thematic_break_once(rt: HostRuntime) -> Result<(), Fail> {
+    let run = run_markers(rt.alloc(), b"- ", 400_000, b"\n")?;
+    assert_no_marker(&rt, &run, 400_000);
+    Ok(())
+}
+
+// Ten digits are no marker, however many follow. Were all read by each call, this run would read some
+// 10^11 bytes.
+#[test]
+fn looks_at_ten_digits(rt: HostRuntime) -> Result<(), Fail> {
+    let run = run_markers(rt.alloc(), b"1", 400_000, b". x")?;
+    assert_no_marker(&rt, &run, 400_000);
     Ok(())
 }
 

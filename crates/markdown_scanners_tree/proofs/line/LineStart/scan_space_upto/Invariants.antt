@@ -8,7 +8,8 @@ invariant-loop-left l =
     let old = l.initial.self-inside in
     record {
       same : now.bytes ≡ old.bytes;
-      memo : now.no_break_before ≡ old.no_break_before;
+      none_before : now.no_break_before ≡ old.no_break_before;
+      known : now.known_break ≡ old.known_break;
       taking : IsTaking old.bytes.now old.place old.column old.pending l.initial.left now.place now.column now.pending l.left;
     }
 
