@@ -79,6 +79,17 @@ fn takes_schemes_of_thirty_two_letters(rt: HostRuntime) -> Result<(), Fail> {
     Ok(())
 }
 
+// Were all letters read by each call, this test would read some 10^11 bytes.
+#[test]
+fn looks_at_thirty_three_letters(rt: HostRuntime) -> Result<(), Fail> {
+    let mut text = "a".repeat(rt.alloc(), 1_000_000)?;
+    text.push_str(":>")?;
+    for _ in 0..100_000 {
+        assert!(rt; autolink(&rt, text.as_str(), 0).is_none());
+    }
+    Ok(())
+}
+
 #[test]
 fn looks_for_pipes_in_the_bytes_asked_for(rt: HostRuntime) {
     assert_eq!(rt; wikilink_pipe(&rt, "a|b]]", 0, 3), Some((2, "a")));

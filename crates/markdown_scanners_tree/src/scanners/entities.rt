@@ -10,7 +10,7 @@ ghost use Rattle.markdown_scanners_tree.specs.scanners.entities.CharacterReferen
 ghost use Rattle.markdown_scanners_tree.specs.scanners.entities.private.Digits.{StartsWithNumber};
 
 use crate::scanners::numbers::number_of;
-use crate::scanners::runs::scan_alphanumerics;
+use crate::scanners::runs::{first_bytes, scan_alphanumerics};
 use markdown_values::strings::CowStr;
 
 /// A table of entity names and their texts.
@@ -96,7 +96,7 @@ fn scan_number(bytes: &[u8], radix: u32, limit: usize) -> Option<(usize, u32)>
     requires at_most_seven { limit ≤ 7 }
     ensures { SomeExactly (λ r. StartsWithNumber radix limit bytes.now r.0 r.1) result }
 {
-    let n = digit_prefix_len(bytes, radix);
+    let n = digit_prefix_len(first_bytes(bytes, limit + 1), radix);
     if n == 0 || n > limit || n == bytes.len() || bytes[n] != b';' {
         return None;
     }

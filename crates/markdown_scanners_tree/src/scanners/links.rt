@@ -12,9 +12,13 @@ ghost use Rattle.markdown_scanners_tree.specs.scanners.links.Autolink.{IsUriAuto
 
 use crate::scanners::classes::{is_ascii_alphanumeric, is_ascii_letter};
 use crate::scanners::escapes::starts_escape;
+use crate::scanners::runs::first_bytes;
 use markdown_values::strings::CowStr;
 use markdown_values::values::LinkType;
 use memchr::memchr;
+
+// How many bytes a scheme may have.
+const MOST_SCHEME_BYTES: usize = 32;
 
 /// The first pipe in the `len` bytes from `start` on, cut at the text's end: the place after the
 /// pipe, and the text before it. `start` is a place between two characters.
@@ -161,8 +165,8 @@ fn scheme_len(bytes: &[u8]) -> Option<usize>
     if bytes.is_empty() || !is_ascii_letter(bytes[0]) {
         return None;
     }
-    let n = 1 + scheme_prefix_len(&bytes[1..]);
-    if n < 2 || n > 32 || n == bytes.len() || bytes[n] != b':' {
+    let n = 1 + scheme_prefix_len(first_bytes(&bytes[1..], MOST_SCHEME_BYTES));
+    if n < 2 || n > MOST_SCHEME_BYTES || n == bytes.len() || bytes[n] != b':' {
         return None;
     }
     Some(n)
