@@ -206,11 +206,12 @@ fn with_letters(
 }
 
 // Letters, what stands between them, letters, the marker, the bytes taken, and whether the label is borrowed.
-const LONG_ROWS: [(usize, &str, usize, &[u8], usize, bool); 4] = [
+const LONG_ROWS: [(usize, &str, usize, &[u8], usize, bool); 5] = [
     (999, "", 0, b"", 1000, true),
     (998, "é", 0, b"", 1001, true),
     (499, "\n> ", 499, b"> ", 1002, false),
     (449, "  ", 450, b"", 902, false),
+    (997, "\n", 1, b"", 1000, false),
 ];
 
 #[test]
@@ -231,10 +232,26 @@ fn labels_of_999_characters_are_read(rt: HostRuntime) -> Result<(), Fail> {
 
 #[test]
 fn labels_of_more_characters_are_not_read(rt: HostRuntime) -> Result<(), Fail> {
-    for (count, middle) in [(1000, ""), (999, " ")] {
+    for (count, middle) in [(1000, ""), (999, " "), (998, "\r\n")] {
         let text = with_letters(rt.alloc(), count, middle, 0)?;
         let answer = scan_after_markers(rt.alloc(), text.as_str(), b"", false)?;
         assert!(rt; answer.is_none(), "of {count}");
+    }
+    Ok(())
+}
+
+// A label is looked for behind brackets of a long text, which a backslash escapes. Were the text read to its end
+// from each, this test would read some 10^10 bytes, and ask its handler 5 * 10^9 times.
+#[test]
+fn reads_labels_up_to_their_thousandth_character(rt: HostRuntime) -> Result<(), Fail> {
+    let mut text = "\\[\n".repeat(rt.alloc(), 1_000_000)?;
+    text.push(']')?;
+    for line in 0..5_000 {
+        let Some(rest) = text.as_str().get(3 * line + 2..) else {
+            return Err(Fail::from("no line"));
+        };
+        let label = scan_after_markers(rt.alloc(), rest, b"", false)?;
+        assert!(rt; label.is_none(), "of line {line}");
     }
     Ok(())
 }

@@ -22,6 +22,9 @@ use std::alloc::{AllocError, Global};
 use std::hash::{Hash, Hasher};
 use std::marker::Model;
 
+// How many characters the content of a label may have.
+const MOST_CHARACTERS: usize = 999;
+
 /// What a label in brackets names.
 #[derive(Debug, Drop)]
 pub enum ReferenceLabel<'a> {
@@ -305,7 +308,8 @@ struct Measure {
     is_plain: bool,
 }
 
-// The first pass over a label, which takes no memory.
+// The first pass over a label, which takes no memory. It ends with the character that is one too many, and asks the
+// handler no more.
 fn measure_label<F: Fn(&[u8]) -> Option<usize>>(
     text: &str,
     handler: &F,
@@ -320,11 +324,11 @@ fn measure_label<F: Fn(&[u8]) -> Option<usize>>(
     let mut ix = 0;
     let mut escaped = false;
     let mut tally = Tally::new();
-    loop {
+    while tally.characters <= MOST_CHARACTERS {
         match next_part(&bytes[ix..], escaped) {
             NextPart::End | NextPart::Open => return None,
             NextPart::Close => {
-                if tally.has_word && tally.characters <= 999 {
+                if tally.has_word {
                     return Some(Measure {
                         close: ix,
                         length: tally.length,
@@ -334,7 +338,7 @@ fn measure_label<F: Fn(&[u8]) -> Option<usize>>(
                 return None;
             }
             NextPart::Ending(len) => {
-                if tally.has_ending {
+                if tally.has_ending || tally.characters + len > MOST_CHARACTERS {
                     return None;
                 }
                 let skip = skip_at(text, ix + len, handler)?;
@@ -352,6 +356,7 @@ fn measure_label<F: Fn(&[u8]) -> Option<usize>>(
             }
         }
     }
+    None
 }
 
 // A text after the space at its front, if one stands there.

@@ -16,8 +16,8 @@ use Rattle.markdown_scanners_tree.specs.linklabel.private.Pass.{starts_dropped, 
 use Rattle.markdown_scanners_tree.specs.declared.linklabel.NextPart.{NextPart}
 use Rattle.markdown_scanners_tree.specs.declared.linklabel.Tally.{Tally}
 use Rattle.markdown_scanners_tree.proofs.linklabel.Cells.{white_no_backslash}
-use Rattle.markdown_scanners_tree.proofs.linklabel.Steps.{Goes, past_byte, at_byte, no_label_at_end, no_label_at_opening, label_at_closing, closing_label, past_ending, at_ending, no_label_at_ending, ending_seen, label_from}
-use Rattle.markdown_scanners_tree.proofs.linklabel.Seen.{Seen, Seen-word, Seen-space, Seen-ending, two_endings}
+use Rattle.markdown_scanners_tree.proofs.linklabel.Steps.{Goes, past_byte, at_byte, no_label_at_end, no_label_at_opening, label_at_closing, closing_label, past_ending, at_ending, no_label_at_ending, ending_seen, bracketed_after, label_from}
+use Rattle.markdown_scanners_tree.proofs.linklabel.Seen.{Seen, Seen-word, Seen-space, Seen-ending, two_endings, many_with_ending, many_seen}
 
 preceded-nil : (b : Option Bracketed) → preceded [] b ≡ b
 preceded-nil None = refl
@@ -120,17 +120,32 @@ module _ (a : List ℕ → ℕ → Type 0) (source : List ℕ) where
       none_at_ending none t label l = no_label_at_ending a t seen ix h.byte h.others label h.ends
           (λ m g. none m (subst (λ x. x) (λ i. a (drop (sym len_is i) (sym h.parts i)) m) g)) (goes t label l)
 
-      pub none_at_second_ending : (t : Bool) (y : Tally) → y.has_ending ≡ true → Seen t source seen ix rest y → (label : Label) → IsLabel a source t label → ⊥
-      none_at_second_ending t y second s label l = (let g = goes t label l in by g.skips g.answered g.label_is)
+      -- nor where what stands before its next line can't begin a content
+      none_behind_line : (t : Bool) → ((ks : List KeptByte) → is_label_content ((seen ++ kept_line ix (h.byte ∷ h.others)) ++ ks) ≡ false) → (label : Label) → IsLabel a source t label → ⊥
+      none_behind_line t lacks label l = (let g = goes t label l in by g.skips g.answered g.label_is)
         where
           after : (b : Option Bracketed) → label_between t (preceded (seen ++ kept_line ix (h.byte ∷ h.others)) b) ≡ Some label → ⊥
           after None e = cc
-          after (Some b) e = (let broken = two_endings t source seen ix h.byte h.others y b.content h.ends second (subst (λ r. Seen t source seen ix r y) h.parts s) in cc (rw broken at e))
+          after (Some b) e = (let broken = lacks b.content in cc (rw broken at e))
 
           by : (skips : List ℕ) → AreSkips a (h.byte ∷ h.others) skips → label_from false t seen ix (h.byte ∷ h.others) skips ≡ Some label → ⊥
           by [] k e = cc (rw h.ends at e)
           by (m ∷ ms) k e = after (bracketed (pieces (kept_from (ix + (line_len (h.byte ∷ h.others) + m)) (drop (line_len (h.byte ∷ h.others) + m) (h.byte ∷ h.others)) ms)))
               (sym (ending_seen a t seen ix h.byte h.others label h.ends (kept_from (ix + (line_len (h.byte ∷ h.others) + m)) (drop (line_len (h.byte ∷ h.others) + m) (h.byte ∷ h.others)) ms)) ∙ e)
+
+      pub none_at_second_ending : (t : Bool) (y : Tally) → y.has_ending ≡ true → Seen t source seen ix rest y → (label : Label) → IsLabel a source t label → ⊥
+      none_at_second_ending t y second s = none_behind_line t (λ ks. two_endings t source seen ix h.byte h.others y ks h.ends second (subst (λ r. Seen t source seen ix r y) h.parts s))
+
+      pub none_at_late_ending : (t : Bool) (y : Tally) → 999 < y.characters + len → Seen t source seen ix rest y → (label : Label) → IsLabel a source t label → ⊥
+      none_at_late_ending t y many s = none_behind_line t (λ ks. many_with_ending t source seen ix h.byte h.others y ks h.ends (rw len_is at many) (subst (λ r. Seen t source seen ix r y) h.parts s))
+
+    -- after too many characters no label comes
+    pub none_so_late : (t : Bool) (y : Tally) → 999 < y.characters → Seen t source seen ix rest y → (label : Label) → IsLabel a source t label → ⊥
+    none_so_late t y many s label l = (let g = here.ahead t label l in after (bracketed_after escaped (kept_from ix rest g.skips)) g.label_is)
+      where
+        after : (b : Option Bracketed) → label_between t (preceded seen b) ≡ Some label → ⊥
+        after None e = cc
+        after (Some b) e = (let broken = many_seen t source seen ix rest y b.content s many in cc (rw broken at e))
 
     -- where the bracket stands behind no content of a label
     pub none_at_closing : IsBracket escaped rest right_bracket → is_label_content seen ≡ false → (t : Bool) (label : Label) → IsLabel a source t label → ⊥

@@ -1,5 +1,5 @@
 -- What a scan keeps of the bytes that it has seen, and how it tells the facts of a label.
-use Rattle.std.proofs.Common.{ℕ, suc, Bool, true, false, ◌||◌, ◌&&◌, ◌==◌, not, nat_le, List, [], ◌∷◌, ◌++◌, ◌≡◌, ◌+◌, refl, sym, ◌∙◌, ap, subst, cond, arith, append_assoc, append-nil, true≢false, eqb-true, length, length-append}
+use Rattle.std.proofs.Common.{ℕ, suc, Bool, true, false, ◌||◌, ◌&&◌, ◌==◌, not, nat_le, List, [], ◌∷◌, ◌++◌, ◌≡◌, ◌+◌, ◌<◌, refl, sym, ◌∙◌, ap, subst, cond, arith, append_assoc, append-nil, true≢false, eqb-true, length, length-append}
 use Rattle.std.proofs.Math.Bool.{and-true, and-false, and_assoc, or_assoc, or-false, not-not}
 use Rattle.std.proofs.lemmas.Bool.{and_parts}
 use Rattle.std.proofs.lemmas.Bool.Decides.{nat_tests}
@@ -9,9 +9,9 @@ use Rattle.std.proofs.lemmas.List.Sums.{fold-append, sum_by-append}
 use Rattle.std.specs.List.{list_all}
 use Rattle.markdown_scanners_tree.specs.Bytes.{is_line_ending, is_white_space}
 use Rattle.markdown_scanners_tree.specs.Ascii.{right_bracket}
-use Rattle.markdown_scanners_tree.specs.Kept.{KeptByte, in_line, at_line_end, kept_line, kept_return, return_len, line_len, bytes_of}
+use Rattle.markdown_scanners_tree.specs.Kept.{KeptByte, in_line, at_line_end, kept_line, kept_return, return_len, line_len, line_endings, bytes_of}
 use Rattle.markdown_scanners_tree.specs.linklabel.Answer.{without_first_space, without_last_space}
-use Rattle.markdown_scanners_tree.specs.linklabel.Label.{is_white, characters, is_label_content, has_pipe_backslash, in_cell, joined_words, is_plain}
+use Rattle.markdown_scanners_tree.specs.linklabel.Label.{is_white, white_runs, characters, is_label_content, has_pipe_backslash, in_cell, joined_words, is_plain}
 use Rattle.markdown_scanners_tree.specs.linklabel.private.Pass.{begun, space_len, starts_dropped, new_tally, tally_past_ending, tally_past_space, tally_past_word}
 use Rattle.markdown_scanners_tree.specs.declared.linklabel.Tally.{Tally}
 use Rattle.markdown_scanners_tree.proofs.linklabel.Runs.{few, few-white_runs, few_at_ending, lone, lone_runs}
@@ -194,6 +194,23 @@ pub content_of_seen : (t : Bool) (source : List ℕ) (seen : List KeptByte) (ix 
 content_of_seen t source seen ix rest y s =
     let all_few = few-white_runs seen ∙ ap (few false) (sym (append-nil seen)) ∙ s.few_left [] in
     (λ i. (all_few i && nat_le (s.characters_are i) 999) && not (s.has_word_is i)) ∙ ap (λ b. nat_le y.characters 999 && b) (not-not y.has_word)
+
+-- nor does more than 999 characters leave one, whatever comes
+pub too_many : (content : List KeptByte) → 999 < characters content → is_label_content content ≡ false
+too_many content many =
+    let over : nat_le (characters content) 999 ≡ false = grind (arith, nat_tests, many) in
+    let few_endings = list_all (λ run. nat_le (line_endings run) 1) (white_runs content) in
+    let dark = not (list_all is_white content) in
+    ap (λ v. (few_endings && v) && dark) over ∙ ap (λ v. v && dark) (and-false few_endings)
+
+pub many_seen : (t : Bool) (source : List ℕ) (seen : List KeptByte) (ix : ℕ) (rest : List ℕ) (y : Tally) (ks : List KeptByte) → Seen t source seen ix rest y → 999 < y.characters → is_label_content (seen ++ ks) ≡ false
+many_seen t source seen ix rest y ks s many = too_many (seen ++ ks) (omega (arith, s.characters_are, characters-append seen ks, many))
+
+pub many_with_ending : (t : Bool) (source : List ℕ) (seen : List KeptByte) (ix b : ℕ) (bs : List ℕ) (y : Tally) (ks : List KeptByte) → is_line_ending b ≡ true → 999 < y.characters + line_len (b ∷ bs) → Seen t source seen ix (b ∷ bs) y
+    → is_label_content ((seen ++ kept_line ix (b ∷ bs)) ++ ks) ≡ false
+many_with_ending t source seen ix b bs y ks ends many s =
+    let front = kept_line ix (b ∷ bs) in
+    too_many ((seen ++ front) ++ ks) (omega (arith, s.characters_are, (line_is ix b bs ends).counts, characters-append seen front, characters-append (seen ++ front) ks, many))
 
 -- and a second line ending in a run leaves no label
 pub two_endings : (t : Bool) (source : List ℕ) (seen : List KeptByte) (ix b : ℕ) (bs : List ℕ) (y : Tally) (ks : List KeptByte) → is_line_ending b ≡ true → y.has_ending ≡ true → Seen t source seen ix (b ∷ bs) y → is_label_content ((seen ++ kept_line ix (b ∷ bs)) ++ ks) ≡ false

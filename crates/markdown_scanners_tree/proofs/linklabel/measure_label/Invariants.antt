@@ -6,8 +6,8 @@ use Rattle.markdown_scanners_tree.proofs.linklabel.Scan.{IsAt}
 use Rattle.markdown_scanners_tree.proofs.linklabel.Seen.{Seen}
 use Rattle.markdown_scanners_tree.proofs.linklabel.measure_label.Given as goal
 
-abbrev pub invariant-loop-len : goal.invariant-loop-len
-invariant-loop-len g l = record {
+abbrev pub invariant-loop-tally : goal.invariant-loop-tally
+invariant-loop-tally g l = record {
   within : l.ix ≤ length l.bytes;
   characters_fit : l.tally.characters ≤ l.ix;
   length_fits : l.tally.length + space_len l.tally.has_word l.tally.in_run ≤ l.ix;
@@ -16,5 +16,5 @@ invariant-loop-len g l = record {
   told : Seen l.is_in_table l.fn.text seen l.ix (drop l.ix l.fn.text) l.tally;
 }
 
-abbrev pub decreases-loop-len : goal.decreases-loop-len
-decreases-loop-len g l = length l.bytes - l.ix
+abbrev pub decreases-loop-tally : goal.decreases-loop-tally
+decreases-loop-tally g l = length l.bytes - l.ix
