@@ -6,10 +6,6 @@ use std::fmt;
 
 const BULLETS: usize = 10_000;
 
-// Calls on the other parts: a part of 200 bytes has no more bullets, and a part without the `x` is a thematic break, at
-// which each call answers as the first.
-const FEW_CALLS: usize = 100;
-
 const TABS: usize = 100_000;
 
 /// What the runs over several lines add up to.
@@ -97,15 +93,11 @@ fn list_calls(alloc: Global, count: usize) -> Result<Vec<LineCall>, AllocError> 
 fn push_bullets(alloc: Global, output: &mut String) -> Result<(), AllocError> {
     let mut line = "- ".repeat(alloc, BULLETS)?;
     line.push('x')?;
+    let calls = list_calls(alloc, BULLETS)?;
     for side in SIDES {
-        let count = match side {
-            Side::Suffix => BULLETS,
-            _ => FEW_CALLS,
-        };
-        let calls = list_calls(alloc, count)?;
         let totals = totals_of(alloc, line.as_bytes(), side, &calls)?;
         write!(output, "{BULLETS} bullets, {side} 1 to {MOST} bytes, ")?;
-        writeln!(output, "{count} calls: {totals}")?;
+        writeln!(output, "{BULLETS} calls: {totals}")?;
     }
     Ok(())
 }
