@@ -120,7 +120,7 @@ module _ (a : List ℕ → ℕ → Type 0) (source : List ℕ) where
       none_at_ending none t label l = no_label_at_ending a t seen ix h.byte h.others label h.ends
           (λ m g. none m (subst (λ x. x) (λ i. a (drop (sym len_is i) (sym h.parts i)) m) g)) (goes t label l)
 
-      -- nor where what stands before its next line can't begin a content
+      -- where no content begins with what stands up to the line's end
       none_behind_line : (t : Bool) → ((ks : List KeptByte) → is_label_content ((seen ++ kept_line ix (h.byte ∷ h.others)) ++ ks) ≡ false) → (label : Label) → IsLabel a source t label → ⊥
       none_behind_line t lacks label l = (let g = goes t label l in by g.skips g.answered g.label_is)
         where

@@ -195,8 +195,8 @@ content_of_seen t source seen ix rest y s =
     let all_few = few-white_runs seen ∙ ap (few false) (sym (append-nil seen)) ∙ s.few_left [] in
     (λ i. (all_few i && nat_le (s.characters_are i) 999) && not (s.has_word_is i)) ∙ ap (λ b. nat_le y.characters 999 && b) (not-not y.has_word)
 
--- nor does more than 999 characters leave one, whatever comes
-pub too_many : (content : List KeptByte) → 999 < characters content → is_label_content content ≡ false
+-- more than 999 characters leave no label, whatever comes
+too_many : (content : List KeptByte) → 999 < characters content → is_label_content content ≡ false
 too_many content many =
     let over : nat_le (characters content) 999 ≡ false = grind (arith, nat_tests, many) in
     let few_endings = list_all (λ run. nat_le (line_endings run) 1) (white_runs content) in
@@ -212,7 +212,7 @@ many_with_ending t source seen ix b bs y ks ends many s =
     let front = kept_line ix (b ∷ bs) in
     too_many ((seen ++ front) ++ ks) (omega (arith, s.characters_are, (line_is ix b bs ends).counts, characters-append seen front, characters-append (seen ++ front) ks, many))
 
--- and a second line ending in a run leaves no label
+-- nor does a second line ending in a run
 pub two_endings : (t : Bool) (source : List ℕ) (seen : List KeptByte) (ix b : ℕ) (bs : List ℕ) (y : Tally) (ks : List KeptByte) → is_line_ending b ≡ true → y.has_ending ≡ true → Seen t source seen ix (b ∷ bs) y → is_label_content ((seen ++ kept_line ix (b ∷ bs)) ++ ks) ≡ false
 two_endings t source seen ix b bs y ks ends second s =
     let front = kept_line ix (b ∷ bs) in
