@@ -1,0 +1,84 @@
+//! Link labels.
+ghost use Rattle.std.specs.Prelude.{◌≡◌, Some};
+
+use crate::no_memory::texts::hash_of;
+use crate::stop::Stop;
+use crate::telling::{tell_call, tell_consuming, tell_ready_on};
+use crate::texts::boxed;
+use markdown_scanners_tree::linklabel::{LinkLabel, scan_link_label_rest};
+use markdown_values::strings::CowStr;
+use std::alloc::{AllocError, Global};
+use std::fmt;
+use std::io::Write;
+
+/// A label after its opening bracket, in which nothing is skipped.
+pub(crate) fn label(alloc: Global, text: &str) -> Result<Option<(usize, CowStr<'_>)>, AllocError> {
+    let handler = |_rest: &[u8]| -> Option<usize>
+        ensures { result ≡ Some 0 }
+    { Some(0) };
+    scan_link_label_rest(alloc, text, &handler, false)
+}
+
+/// A label that doesn't stand in its text as it is.
+pub(crate) fn short<W: Write>(alloc: Global, output: &mut W) -> Result<(), Stop> {
+    tell_call(
+        output,
+        &"hello world",
+        &|| label(alloc, "hello\r\nworld\r\n]"),
+    )
+}
+
+/// A label of 900 bytes.
+pub(crate) fn of_900_bytes<W: Write>(alloc: Global, output: &mut W) -> Result<(), Stop> {
+    let word = "a".repeat(alloc, 450)?;
+    let text = format!(in alloc; "{word}  {}]", &word[1..])?;
+    tell_call(output, &"two words", &|| label(alloc, text.as_str()))
+}
+
+const STREET: &str = "Straße 0123456789abcdefghijklmnopqrst";
+
+const CAPITALS: &str = "STRASSE 0123456789ABCDEFGHIJKLMNOPQRST";
+
+fn owned_street(alloc: Global) -> Result<CowStr<'static>, AllocError> {
+    boxed(alloc, STREET)
+}
+
+// A label, told by its text.
+#[derive(Drop)]
+struct NewLabel<'a>(LinkLabel<'a>);
+
+impl fmt::Debug for NewLabel<'_> {
+    fn fmt<W: fmt::Write>(&self, f: &mut fmt::Formatter<W>) -> fmt::Result {
+        f.write_str(self.0.as_str())
+    }
+}
+
+/// The label of an owned text, whose folding is longer.
+pub(crate) fn new<W: Write>(alloc: Global, output: &mut W) -> Result<(), Stop> {
+    tell_consuming(alloc, output, STREET, &owned_street, &new_label)
+}
+
+fn new_label(alloc: Global, text: CowStr<'static>) -> Result<NewLabel<'static>, AllocError> {
+    LinkLabel::new(alloc, text).map(NewLabel)
+}
+
+/// Labels are read and compared without memory.
+pub(crate) fn compared<W: Write>(alloc: Global, output: &mut W) -> Result<(), Stop> {
+    tell_ready_on(
+        output,
+        two_labels(alloc),
+        &|labels: &(LinkLabel, LinkLabel)| Ok(compared_labels(&labels.0, &labels.1)),
+    )
+}
+
+fn two_labels(alloc: Global) -> Result<(LinkLabel<'static>, LinkLabel<'static>), AllocError> {
+    let one = LinkLabel::new(alloc, CowStr::from(STREET))?;
+    let other = LinkLabel::new(alloc, CowStr::from(CAPITALS))?;
+    Ok((one, other))
+}
+
+// Whether the one has the text that it was made of, whether they match and whether they have one hash.
+fn compared_labels(one: &LinkLabel<'_>, other: &LinkLabel<'_>) -> (bool, bool, bool) {
+    let is_same_hash = hash_of(one) == hash_of(other);
+    (one.as_str() == STREET, *one == *other, is_same_hash)
+}

@@ -1,0 +1,74 @@
+//! Scanners of inline text, and what the calls that may want memory answer without it.
+ghost use Rattle.std.specs.Prelude.{◌<◌, length};
+
+use crate::inline_html::{Found, scan_tag};
+use crate::labels::label;
+use crate::stop::Stop;
+use crate::telling::{tell, tell_made, tell_ready};
+use crate::texts::Text;
+use crate::unescaping::Ampersand;
+use markdown_scanners_tree::scanners::{
+    scan_autolink, scan_entity, scan_html_block_inner, scan_html_type_7, scan_link_dest,
+    scan_table_head, scan_wikilink_pipe, starts_html_block_type_6, unescape,
+};
+use markdown_values::strings::CowStr;
+use std::alloc::Global;
+use std::io::Write;
+
+pub(crate) fn run<W: Write>(alloc: Global, output: &mut W) -> Result<(), Stop> {
+    tell_ready(output)?;
+    references(output)?;
+    links(output)?;
+    tags(alloc, output)?;
+    unchanged(alloc, output)?;
+    labels(alloc, output)
+}
+
+fn references<W: Write>(output: &mut W) -> Result<(), Stop> {
+    tell_reference(output, b"&#x1F354;")?;
+    tell_reference(output, b"&amp;")?;
+    tell_reference(output, b"&#12345678;")
+}
+
+fn tell_reference<W: Write>(output: &mut W, bytes: &[u8]) -> Result<(), Stop>
+    requires { 0 < length bytes.now }
+{
+    let (length, text) = scan_entity(bytes, &Ampersand);
+    tell(output, (length, text.map(Text)))
+}
+
+fn links<W: Write>(output: &mut W) -> Result<(), Stop> {
+    tell(output, scan_wikilink_pipe("a|b]]", 0, 3))?;
+    tell(output, scan_link_dest("((a))", 0, 1))?;
+    tell(output, scan_link_dest("(((a)))", 0, 1))?;
+    tell(output, scan_autolink("https://a.b>", 0))
+}
+
+fn tags<W: Write>(alloc: Global, output: &mut W) -> Result<(), Stop> {
+    tell(output, starts_html_block_type_6(b"DIV>"))?;
+    tell(output, scan_html_type_7(b"<a b=\t'c'>  \n"))?;
+    let none = None::<&fn(&[u8]) -> usize>;
+    tell_made(
+        output,
+        scan_html_block_inner(alloc, b"<foo bar>", none).map(Found),
+    )?;
+    tell_made(
+        output,
+        scan_html_block_inner(alloc, b"</a\n>", none).map(Found),
+    )?;
+    tell_made(output, scan_tag(alloc, b"<a\nb\nc>"))?;
+    tell_made(output, scan_tag(alloc, b"</a\n\n> >"))
+}
+
+fn unchanged<W: Write>(alloc: Global, output: &mut W) -> Result<(), Stop> {
+    let text = CowStr::from("plain & simple");
+    tell_made(output, unescape(alloc, text, true, &Ampersand).map(Text))?;
+    tell_made(output, scan_table_head(alloc, b"| a |"))
+}
+
+fn labels<W: Write>(alloc: Global, output: &mut W) -> Result<(), Stop> {
+    tell_made(output, label(alloc, "a\\ ]"))?;
+    tell_made(output, label(alloc, " a b ]"))?;
+    tell_made(output, label(alloc, "a  b"))?;
+    tell_made(output, label(alloc, "a\n\nb]"))
+}

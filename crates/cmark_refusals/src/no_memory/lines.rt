@@ -1,0 +1,53 @@
+//! The start of a line.
+use crate::stop::Stop;
+use crate::telling::{tell, tell_ready};
+use markdown_scanners_tree::line::LineStart;
+use std::io::Write;
+
+pub(crate) fn run<W: Write>(output: &mut W) -> Result<(), Stop> {
+    tell_ready(output)?;
+    spaces(output)?;
+    markers(output)?;
+    definitions(output)?;
+    tags(output)
+}
+
+fn place(start: &LineStart<'_>) -> (usize, usize) {
+    (start.bytes_scanned(), start.remaining_space())
+}
+
+fn spaces<W: Write>(output: &mut W) -> Result<(), Stop> {
+    let mut start = LineStart::new(b"\t \tx");
+    tell(output, (start.scan_space(3), start.is_at_eol()))?;
+    tell(output, place(&start))?;
+    tell(output, start.scan_space_upto(2))?;
+    if let Ok(copy) = start.clone() {
+        tell(output, place(&copy))?;
+    }
+    start.scan_all_space();
+    tell(output, place(&start))
+}
+
+fn markers<W: Write>(output: &mut W) -> Result<(), Stop> {
+    let mut start = LineStart::new(b">\t\t- x");
+    tell(output, start.scan_blockquote_marker())?;
+    tell(output, start.scan_space_upto(9))?;
+    tell(output, start.scan_list_marker_with_indent(1))?;
+    tell(output, place(&start))
+}
+
+fn definitions<W: Write>(output: &mut W) -> Result<(), Stop> {
+    let mut start = LineStart::new(b":\tx");
+    let indent = start.scan_definition_list_definition_marker_with_indent(0);
+    tell(output, indent)?;
+    tell(output, place(&start))
+}
+
+fn tags<W: Write>(output: &mut W) -> Result<(), Stop> {
+    let mut start = LineStart::new(b"\t[x] a");
+    tell(output, start.scan_task_list_marker())?;
+    tell(output, place(&start))?;
+    let mut start = LineStart::new(b"[!Note]  \nx");
+    tell(output, start.scan_blockquote_tag())?;
+    tell(output, place(&start))
+}

@@ -1,0 +1,68 @@
+//! Scanners of lines.
+use crate::stop::Stop;
+use crate::telling::{tell, tell_ready};
+use markdown_scanners_tree::scanners::{
+    calc_indent, is_ascii_punctuation, is_ascii_whitespace, is_ascii_whitespace_no_nl,
+    scan_atx_heading, scan_blank_line, scan_blockquote_start, scan_ch, scan_ch_repeat,
+    scan_closing_code_fence, scan_closing_metadata_block, scan_code_fence, scan_eol, scan_hrule,
+    scan_listitem, scan_metadata_block, scan_nextline, scan_rev_while, scan_setext_heading,
+    scan_while, scan_whitespace_no_nl,
+};
+use std::io::Write;
+
+pub(crate) fn run<W: Write>(output: &mut W) -> Result<(), Stop> {
+    tell_ready(output)?;
+    classes(output)?;
+    runs(output)?;
+    endings(output)?;
+    headings(output)?;
+    fences(output)?;
+    items(output)
+}
+
+fn classes<W: Write>(output: &mut W) -> Result<(), Stop> {
+    for byte in [b'\n', b' ', b'-', b'a'] {
+        let space = is_ascii_whitespace(byte);
+        let no_ending = is_ascii_whitespace_no_nl(byte);
+        tell(output, (space, no_ending, is_ascii_punctuation(byte)))?;
+    }
+    Ok(())
+}
+
+fn runs<W: Write>(output: &mut W) -> Result<(), Stop> {
+    tell(output, scan_ch(b"ab", b'a'))?;
+    tell(output, scan_ch_repeat(b"aab", b'a'))?;
+    tell(output, scan_while(b"aab", |b| b == b'a'))?;
+    tell(output, scan_rev_while(b"baa", |b| b == b'a'))?;
+    tell(output, scan_whitespace_no_nl(b" \tx"))
+}
+
+fn endings<W: Write>(output: &mut W) -> Result<(), Stop> {
+    tell(output, scan_eol(b"\rx"))?;
+    tell(output, scan_blank_line(b"\r\r\n"))?;
+    tell(output, scan_nextline(b"a\rb\nc"))?;
+    tell(output, scan_blockquote_start(b"> "))?;
+    tell(output, scan_hrule(b"* * *\n"))?;
+    tell(output, scan_hrule(b"- -x-"))?;
+    tell(output, calc_indent(b"\t x", 4))
+}
+
+fn headings<W: Write>(output: &mut W) -> Result<(), Stop> {
+    tell(output, scan_atx_heading(b"###"))?;
+    tell(output, scan_setext_heading(b"==  \nx"))
+}
+
+fn fences<W: Write>(output: &mut W) -> Result<(), Stop> {
+    tell(output, scan_code_fence(b"~~~a`"))?;
+    tell(output, scan_closing_code_fence(b"````  \n", b'`', 3))?;
+    tell(
+        output,
+        scan_metadata_block(b"---\na: b\n---\n", true, false),
+    )?;
+    tell(output, scan_closing_metadata_block(b"--- \n", b'-'))
+}
+
+fn items<W: Write>(output: &mut W) -> Result<(), Stop> {
+    tell(output, scan_listitem(b"-   x"))?;
+    tell(output, scan_listitem(b"1844674407370955161615!"))
+}

@@ -1,0 +1,83 @@
+//! Texts.
+use crate::stop::Stop;
+use crate::telling::{tell, tell_made, tell_ready, tell_ready_consuming, tell_ready_on};
+use crate::texts::{OF_30, Text, boxed, owned, string_of};
+use markdown_values::strings::{CowStr, InlineStr};
+use std::alloc::{AllocError, Global};
+use std::hash::{BuildHasher, BuildHasherDefault, FoldHasher, Hash};
+use std::io::Write;
+
+const OF_15: &str = "0123456789abcde";
+
+const OF_22: &str = "0123456789abcdefghijkl";
+
+const OF_23: &str = "0123456789abcdefghijklm";
+
+/// Texts that lie in the value itself, and copies of these and of borrowed ones.
+pub(crate) fn run<W: Write>(alloc: Global, output: &mut W) -> Result<(), Stop> {
+    tell_ready(output)?;
+    tell_inlined(output, OF_22)?;
+    tell_inlined(output, OF_23)?;
+    tell_letter(output)?;
+    tell_made(output, copied(alloc, &CowStr::from(OF_30)))?;
+    tell_made(output, copied(alloc, &CowStr::from('藏')))?;
+    tell_made(output, made_static(alloc, CowStr::from('a')))?;
+    tell_made(output, made_static(alloc, CowStr::from(OF_22)))
+}
+
+/// A copy of an owned text that fits in the value itself.
+pub(crate) fn copied_short<W: Write>(alloc: Global, output: &mut W) -> Result<(), Stop> {
+    tell_ready_on(
+        output,
+        boxed(alloc, OF_22),
+        &|text: &CowStr| copied(alloc, text),
+    )
+}
+
+/// An owned text, which borrows nothing.
+pub(crate) fn static_owned<W: Write>(alloc: Global, output: &mut W) -> Result<(), Stop> {
+    tell_ready_consuming(alloc, output, owned(alloc), &made_static)
+}
+
+/// An owned text hands its memory on.
+pub(crate) fn owned_string<W: Write>(alloc: Global, output: &mut W) -> Result<(), Stop> {
+    tell_ready_consuming(alloc, output, boxed(alloc, OF_15), &string_of)
+}
+
+fn tell_inlined<W: Write>(output: &mut W, text: &str) -> Result<(), Stop> {
+    match InlineStr::try_from(text) {
+        Ok(text) => tell(output, (text.as_str(), text.copy() == text)),
+        Err(_) => tell(output, "too long"),
+    }
+}
+
+fn tell_letter<W: Write>(output: &mut W) -> Result<(), Stop> {
+    let letter = InlineStr::from('🍔');
+    let is_same_hash = hash_of(&letter) == hash_of(&letter.as_str());
+    writeln!(output, "{letter} {is_same_hash}")?;
+    Ok(())
+}
+
+/// The hash of a value.
+pub(crate) fn hash_of<T: Hash>(value: &T) -> u64 {
+    let hasher: BuildHasherDefault<FoldHasher> = BuildHasherDefault::default();
+    hasher.hash_one(value)
+}
+
+// A copy, whether it is equal, and whether it has the same hash.
+fn copied<'a>(alloc: Global, text: &CowStr<'a>) -> Result<(Text<'a>, bool, bool), AllocError> {
+    match text.clone(alloc) {
+        Ok(copy) => Ok(compared(copy, text)),
+        Err(error) => Err(error),
+    }
+}
+
+fn compared<'a>(copy: CowStr<'a>, text: &CowStr<'_>) -> (Text<'a>, bool, bool) {
+    let is_same = copy == *text;
+    let is_same_hash = hash_of(&copy) == hash_of(text);
+    (Text(copy), is_same, is_same_hash)
+}
+
+fn made_static(alloc: Global, text: CowStr<'static>) -> Result<Text<'static>, AllocError> {
+    text.into_static(alloc).map(Text)
+}

@@ -1,0 +1,149 @@
+//! Trees, in calls that make nothing.
+ghost use Rattle.std.specs.Prelude.{◌≡◌, ◌∷◌, [], length, IfOk, IfSome};
+ghost use Rattle.markdown_values.specs.tree.Truncate.{first_other, CanCut};
+ghost use Rattle.cmark_refusals.specs.Spans.{spans_of, IsParent};
+
+use crate::stop::Stop;
+use crate::telling::{tell, tell_ready};
+use markdown_values::tree::{SpanItem, Tree, TreeIndex};
+use std::alloc::{AllocError, Global};
+use std::io::Write;
+
+/// A range of bytes.
+#[derive(Clone, Default, Drop)]
+pub struct Span {
+    pub start: usize,
+    pub end: usize,
+}
+
+impl SpanItem for Span {
+    ghost use Rattle.std.specs.Prelude.{refl, false};
+
+    ghost span = { λ p. record { start = p.start; end = p.end; escaped = false } };
+
+    ghost with_range = { λ p start end. record p { start = start; end = end } };
+
+    ghost sets_range = { λ p start end. refl };
+
+    fn start(&self) -> usize {
+        self.start
+    }
+
+    fn end(&self) -> usize {
+        self.end
+    }
+
+    fn set_range(&mut self, start: usize, end: usize) {
+        self.start = start;
+        self.end = end;
+    }
+
+    fn backslash_escaped(&self) -> bool {
+        false
+    }
+}
+
+fn covering(start: usize, end: usize) -> Span
+    ensures { result ≡ record { start = start; end = end } }
+{
+    Span { start, end }
+}
+
+// A node, in it another, and in that two, of which the last is in focus.
+fn nested(alloc: Global) -> Result<(Tree<Span>, [TreeIndex; 4]), AllocError>
+    ensures count { IfOk result (λ made. length made.0.nodes ≡ 5) }
+    ensures indices { IfOk result (λ made. made.1 ≡ 1 ∷ 2 ∷ 3 ∷ 4 ∷ []) }
+{
+    let mut tree = Tree::with_capacity(alloc, 5)?;
+    let a = tree.append(covering(0, 9))?;
+    tree.push()?;
+    let b = tree.append(covering(0, 8))?;
+    tree.push()?;
+    let c = tree.append(covering(0, 3))?;
+    let d = tree.append(covering(3, 8))?;
+    Ok((tree, [a, b, c, d]))
+}
+
+/// The calls that look, and those that change links.
+pub(crate) fn run<W: Write>(alloc: Global, output: &mut W) -> Result<(), Stop> {
+    let (mut tree, [a, b, c, d]) = nested(alloc)?;
+    tell_ready(output)?;
+    tell_spine(output, &tree)?;
+    tree.item_mut(c).end = 4;
+    tell(output, (tree[c].item.end, tree[c].next))?;
+    tell(output, tree.pop())?;
+    tree.truncate_to_parent(c);
+    tell(output, (tree.cur(), tree[b].next))?;
+    tree.set_child(d, Some(c));
+    tree.set_next(b, None);
+    tell(output, (tree[d].child, tree[b].next))?;
+    tell(output, tree.next_sibling(a))?;
+    tree.reset();
+    tell_spine(output, &tree)
+}
+
+fn tell_spine<W: Write>(output: &mut W, tree: &Tree<Span>) -> Result<(), Stop> {
+    tell(output, tree.cur())?;
+    for ix in tree.walk_spine() {
+        tell(output, ix.get())?;
+    }
+    tell(output, tree.spine_len())?;
+    tell(output, (tree.peek_up(), tree.peek_grandparent()))?;
+    tell(output, tree.is_empty())
+}
+
+fn index_after(ix: TreeIndex) -> Option<TreeIndex> {
+    if ix.get() < 100 { Some(ix + 1) } else { None }
+}
+
+fn index_before(ix: TreeIndex) -> Option<TreeIndex> {
+    if ix.get() > 1 { Some(ix - 1) } else { None }
+}
+
+/// The index of the first node, the next and the one before it.
+pub(crate) fn indices<W: Write>(alloc: Global, output: &mut W) -> Result<(), Stop> {
+    let mut tree = Tree::with_capacity(alloc, 2)?;
+    let ix = tree.append(covering(0, 9))?;
+    tell_ready(output)?;
+    tell(output, (ix.get(), index_after(ix), index_before(ix)))
+}
+
+/// The last node goes.
+pub(crate) fn remove_node<W: Write>(alloc: Global, output: &mut W) -> Result<(), Stop> {
+    let mut tree = Tree::with_capacity(alloc, 3)?;
+    tree.append(covering(0, 9))?;
+    tree.push()?;
+    tree.append(covering(0, 8))?;
+    tell_ready(output)?;
+    tell(output, tree.remove_node())?;
+    tell_spine(output, &tree)
+}
+
+// A node that is the parent of none.
+fn parent(alloc: Global) -> Result<Tree<Span>, AllocError>
+    ensures { IfOk result IsParent }
+{
+    let mut tree = Tree::with_capacity(alloc, 3)?;
+    tree.append(covering(0, 9))?;
+    tree.push()?;
+    Ok(tree)
+}
+
+fn cut<W: Write>(alloc: Global, output: &mut W, child: Span, end: usize) -> Result<Tree<Span>, Stop>
+    requires { IfSome (first_other end (spans_of (child ∷ []))) (CanCut end) }
+{
+    let mut tree = parent(alloc)?;
+    tree.append(child)?;
+    tell_ready(output)?;
+    tree.truncate_siblings(end);
+    Ok(tree)
+}
+
+/// A child is cut.
+pub(crate) fn truncate_siblings<W: Write>(alloc: Global, output: &mut W) -> Result<(), Stop> {
+    let tree = cut(alloc, output, covering(3, 8), 4)?;
+    if let Some(ix) = tree.cur() {
+        tell(output, (ix, tree[ix].item.start, tree[ix].item.end))?;
+    }
+    tell_spine(output, &tree)
+}

@@ -1,0 +1,73 @@
+//! Kinds, levels, links, tags and events.
+use crate::events::copied_event;
+use crate::stop::Stop;
+use crate::tags::{copied_kind, copied_tag, lent_fenced, lent_link, static_tag, table};
+use crate::telling::{answer_on, tell, tell_made, tell_ready, tell_ready_consuming, tell_seen};
+use crate::texts::lent;
+use markdown_values::strings::CowStr;
+use markdown_values::values::{CodeBlockKind, Event, HeadingLevel, LinkType, Tag, TagEnd};
+use std::alloc::{AllocError, Global};
+use std::io::Write;
+
+/// The calls that look, and copies of what owns nothing.
+pub(crate) fn run<W: Write>(alloc: Global, output: &mut W) -> Result<(), Stop> {
+    tell_ready(output)?;
+    kinds(alloc, output)?;
+    levels(output)?;
+    tell(output, LinkType::Collapsed.to_unknown())?;
+    tags(alloc, output)?;
+    events(alloc, output)
+}
+
+/// The tag of a table, which borrows nothing.
+pub(crate) fn static_table<W: Write>(alloc: Global, output: &mut W) -> Result<(), Stop> {
+    tell_ready_consuming(alloc, output, table(alloc), &static_tag)
+}
+
+fn tell_kind<W: Write>(
+    output: &mut W,
+    made: Result<CodeBlockKind<'static>, AllocError>,
+) -> Result<(), Stop> {
+    tell_seen(
+        output,
+        made,
+        &|kind: &CodeBlockKind| (kind.is_indented(), kind.is_fenced()),
+    )
+}
+
+fn kinds<W: Write>(alloc: Global, output: &mut W) -> Result<(), Stop> {
+    let indented = Ok(CodeBlockKind::Indented);
+    tell_kind(output, answer_on(alloc, indented, &copied_kind))?;
+    tell_kind(output, answer_on(alloc, lent_fenced(alloc), &copied_kind))?;
+    let letter = CodeBlockKind::Fenced(CowStr::from('r'));
+    tell_kind(output, letter.into_static(alloc))
+}
+
+fn levels<W: Write>(output: &mut W) -> Result<(), Stop> {
+    for number in [3, 7] {
+        match HeadingLevel::try_from(number) {
+            Ok(level) => writeln!(output, "{level}")?,
+            Err(error) => writeln!(output, "not {}", error.0)?,
+        }
+    }
+    Ok(())
+}
+
+fn end_of(tag: Tag<'static>) -> TagEnd {
+    TagEnd::from(tag)
+}
+
+fn tags<W: Write>(alloc: Global, output: &mut W) -> Result<(), Stop> {
+    tell_seen(output, lent_link(alloc), &|tag: &Tag| tag.to_end())?;
+    let list = Tag::List(Some(3)).into_static(alloc);
+    tell_made(output, list.map(end_of))?;
+    tell_made(output, answer_on(alloc, lent_link(alloc), &copied_tag))
+}
+
+fn events<W: Write>(alloc: Global, output: &mut W) -> Result<(), Stop> {
+    let text = lent(alloc).map(Event::Text);
+    tell_made(output, answer_on(alloc, text, &copied_event))?;
+    tell_made(output, Event::TaskListMarker(true).into_static(alloc))?;
+    let end = Ok(Event::End(TagEnd::Table));
+    tell_made(output, answer_on(alloc, end, &copied_event))
+}

@@ -1,0 +1,214 @@
+//! Trees, whose nodes, spine and focus are told before each call and where it is refused.
+ghost use Rattle.std.specs.Prelude.{◌≡◌, ◌≤◌, ◌<◌, ◌+◌, length, IfOk, IsSome};
+
+use crate::stop::Stop;
+use crate::telling::{tell, tell_call, tell_ready};
+use markdown_values::tree::{Tree, TreeIndex};
+use std::alloc::{AllocError, Global};
+use std::io::Write;
+
+#[derive(Clone, Copy)]
+pub(crate) enum TreeCase {
+    WithCapacity,
+    Append,
+    CreateNode,
+    Push,
+    Clone,
+}
+
+pub(crate) fn run<W: Write>(alloc: Global, output: &mut W, case: TreeCase) -> Result<(), Stop> {
+    match case {
+        TreeCase::WithCapacity => with_capacity(alloc, output),
+        TreeCase::Append => append(alloc, output),
+        TreeCase::CreateNode => create_node(alloc, output),
+        TreeCase::Push => push(alloc, output),
+        TreeCase::Clone => clone(alloc, output),
+    }
+}
+
+/// An item that owns memory.
+#[derive(Clone, Default, Drop)]
+pub(crate) struct Named {
+    name: Option<String>,
+}
+
+fn item_named(alloc: Global, name: &str) -> Result<Named, AllocError> {
+    Ok(Named {
+        name: Some(String::from_str(alloc, name)?),
+    })
+}
+
+/// A new tree.
+pub(crate) fn with_capacity<W: Write>(alloc: Global, output: &mut W) -> Result<(), Stop> {
+    tell_call(output, &"no tree", &|| is_new_empty::<Named>(alloc))
+}
+
+fn is_new_empty<T: Default + Drop>(alloc: Global) -> Result<bool, AllocError> {
+    Ok(Tree::<T>::with_capacity(alloc, 5)?.is_empty())
+}
+
+// A, in it B, in that C, and in that D, which is in focus. There is room for no further node.
+fn full(alloc: Global) -> Result<(Tree<Named>, TreeIndex), AllocError>
+    ensures count { IfOk result (λ made. length made.0.nodes ≡ 5) }
+    ensures first { IfOk result (λ made. made.1 ≡ 1) }
+    ensures focus { IfOk result (λ made. IsSome made.0.focus) }
+{
+    let mut tree = Tree::with_capacity(alloc, 5)?;
+    let first = tree.append(item_named(alloc, "A")?)?;
+    tree.push()?;
+    tree.append(item_named(alloc, "B")?)?;
+    tree.push()?;
+    tree.append(item_named(alloc, "C")?)?;
+    tree.push()?;
+    tree.append(item_named(alloc, "D")?)?;
+    Ok((tree, first))
+}
+
+fn tell_link<W: Write>(output: &mut W, link: Option<TreeIndex>) -> Result<(), Stop> {
+    match link {
+        Some(ix) => write!(output, " {}", ix.get())?,
+        None => output.write_all(b" -")?,
+    }
+    Ok(())
+}
+
+// The focus, the spine from the root, and the first nodes: each with its item, its child and its next sibling.
+fn tell_tree<W: Write>(
+    output: &mut W,
+    word: &str,
+    tree: &Tree<Named>,
+    first: TreeIndex,
+    count: usize,
+) -> Result<(), Stop>
+    requires nodes { first + count ≤ length tree.now.nodes }
+    requires few { first + count < 100 }
+{
+    write!(output, "{word} focus")?;
+    tell_link(output, tree.cur())?;
+    write!(output, " spine")?;
+    for ix in tree.walk_spine() {
+        tell_link(output, Some(*ix))?;
+    }
+    for k in 0..count {
+        tell_node(output, tree, first + k)?;
+    }
+    writeln!(output)?;
+    Ok(())
+}
+
+fn tell_node<W: Write>(output: &mut W, tree: &Tree<Named>, ix: TreeIndex) -> Result<(), Stop>
+    requires { ix + 1 ≤ length tree.now.nodes }
+{
+    let node = &tree[ix];
+    let name = match &node.item.name {
+        Some(name) => name.as_str(),
+        None => "-",
+    };
+    write!(output, " node {} {name}", ix.get())?;
+    tell_link(output, node.child)?;
+    tell_link(output, node.next)
+}
+
+/// A node is appended after the focus, and as the only child of a parent.
+pub(crate) fn append<W: Write>(alloc: Global, output: &mut W) -> Result<(), Stop> {
+    let (mut tree, first) = full(alloc)?;
+    append_fifth(alloc, output, &mut tree, first)?;
+    let (mut tree, first) = full(alloc)?;
+    tree.push()?;
+    append_fifth(alloc, output, &mut tree, first)
+}
+
+// The item is made before the call, and again before the second.
+fn append_fifth<W: Write>(
+    alloc: Global,
+    output: &mut W,
+    tree: &mut Tree<Named>,
+    first: TreeIndex,
+) -> Result<(), Stop>
+    requires first { first ≡ 1 }
+    requires count { length tree.old.nodes ≡ 5 }
+{
+    let item = item_named(alloc, "E")?;
+    tell_tree(output, "before", tree, first, 4)?;
+    tell_ready(output)?;
+    let ix = match tree.append(item) {
+        Ok(ix) => ix,
+        Err(_) => {
+            tell_tree(output, "refused", tree, first, 4)?;
+            tree.append(item_named(alloc, "E")?)?
+        }
+    };
+    tell(output, ix)?;
+    tell_tree(output, "after", tree, first, 5)
+}
+
+/// A node is made that no link leads to.
+pub(crate) fn create_node<W: Write>(alloc: Global, output: &mut W) -> Result<(), Stop> {
+    let (mut tree, first) = full(alloc)?;
+    let item = item_named(alloc, "E")?;
+    tell_tree(output, "before", &tree, first, 4)?;
+    tell_ready(output)?;
+    let ix = match tree.create_node(item) {
+        Ok(ix) => ix,
+        Err(_) => {
+            tell_tree(output, "refused", &tree, first, 4)?;
+            tree.create_node(item_named(alloc, "E")?)?
+        }
+    };
+    tell(output, ix)?;
+    tell_tree(output, "after", &tree, first, 5)
+}
+
+/// The first node goes on the spine, and then as many as make it grow.
+pub(crate) fn push<W: Write>(alloc: Global, output: &mut W) -> Result<(), Stop> {
+    let mut tree = Tree::with_capacity(alloc, 8)?;
+    let first = tree.append(item_named(alloc, "A")?)?;
+    push_focus(output, &mut tree, first, 1)?;
+    let (mut tree, first) = full(alloc)?;
+    push_focus(output, &mut tree, first, 4)?;
+    tree.append(item_named(alloc, "E")?)?;
+    push_focus(output, &mut tree, first, 5)?;
+    tree.append(item_named(alloc, "F")?)?;
+    push_focus(output, &mut tree, first, 6)
+}
+
+fn push_focus<W: Write>(
+    output: &mut W,
+    tree: &mut Tree<Named>,
+    first: TreeIndex,
+    count: usize,
+) -> Result<(), Stop>
+    requires first { first ≡ 1 }
+    requires count { length tree.old.nodes ≡ count + 1 }
+    requires few { count < 10 }
+    requires focus { IsSome tree.old.focus }
+    ensures { length tree.new.nodes ≡ length tree.old.nodes }
+{
+    tell_tree(output, "before", tree, first, count)?;
+    tell_ready(output)?;
+    let ix = match tree.push() {
+        Ok(ix) => ix,
+        Err(_) => {
+            tell_tree(output, "refused", tree, first, count)?;
+            tree.push()?
+        }
+    };
+    tell(output, ix)?;
+    tell_tree(output, "after", tree, first, count)
+}
+
+/// A tree is copied, with its items. The answer is the copy, and the tree that was copied.
+pub(crate) fn clone<W: Write>(alloc: Global, output: &mut W) -> Result<(), Stop> {
+    let (tree, first) = full(alloc)?;
+    tell_tree(output, "before", &tree, first, 4)?;
+    tell_ready(output)?;
+    let copy = match tree.clone() {
+        Ok(copy) => copy,
+        Err(_) => {
+            tell_tree(output, "refused", &tree, first, 4)?;
+            tree.clone()?
+        }
+    };
+    tell_tree(output, "copy", &copy, first, 4)?;
+    tell_tree(output, "after", &tree, first, 4)
+}

@@ -1,0 +1,47 @@
+//! Escapes and references.
+use crate::stop::Stop;
+use crate::telling::tell_call;
+use crate::texts::Text;
+use markdown_scanners_tree::scanners::{Entities, unescape};
+use markdown_values::strings::CowStr;
+use std::alloc::{AllocError, Global};
+use std::io::Write;
+
+/// Knows `amp` alone.
+#[derive(Clone, Copy)]
+pub(crate) struct Ampersand;
+
+impl Entities for Ampersand {
+    ghost use Rattle.std.specs.Prelude.{Some, None, codes, if◌then◌else◌};
+    ghost use Rattle.std.specs.Str.{bytes_eq};
+
+    ghost known = { λ _ name. if bytes_eq name (codes "amp") then Some (codes "&") else None };
+
+    fn get(&self, name: &[u8]) -> Option<&'static str> {
+        if name == b"amp".as_slice() {
+            Some("&")
+        } else {
+            None
+        }
+    }
+}
+
+fn unescaped(alloc: Global, text: &str) -> Result<Text<'_>, AllocError> {
+    unescape(alloc, CowStr::from(text), false, &Ampersand).map(Text)
+}
+
+/// An escape, a reference and a line ending of two bytes.
+pub(crate) fn short<W: Write>(alloc: Global, output: &mut W) -> Result<(), Stop> {
+    let text = "a\\*b &amp;lt; &#x1F354; &no; c\r";
+    tell_call(output, &"a\\*b &amp;lt; ..", &|| unescaped(alloc, text))
+}
+
+/// A text whose meaning has 900 bytes.
+pub(crate) fn of_900_bytes<W: Write>(alloc: Global, output: &mut W) -> Result<(), Stop> {
+    let source = "&amp;".repeat(alloc, 900)?;
+    tell_call(
+        output,
+        &"900 references",
+        &|| unescaped(alloc, source.as_str()),
+    )
+}
