@@ -2,6 +2,8 @@
 //! derives of both libraries, by their bounds.
 #![tactic(auto)]
 
+#[cfg(test)]
+mod asserts;
 pub mod bounds;
 #[cfg(test)]
 mod derives;

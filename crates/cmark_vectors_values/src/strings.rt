@@ -1,4 +1,5 @@
 //! Texts: what each call answers, in which variant, and that equality and hash see the text alone.
+use crate::asserts::assert_same;
 use crate::bounds::{are_equal, hash_of, printed};
 use markdown_values::strings::{BoxedStr, CowStr, InlineStr, MAX_INLINE_STR_LEN};
 use std::alloc::{AllocError, Global};
@@ -45,11 +46,11 @@ fn printed_wide<T: Display>(alloc: Global, text: &T) -> Result<String, AllocErro
 #[test]
 fn texts_of_at_most_22_bytes_are_inlined(rt: HostRuntime) {
     assert!(rt; MAX_INLINE_STR_LEN >= 4);
-    assert_eq!(rt; MAX_INLINE_STR_LEN, OF_22.len());
-    assert_eq!(rt; InlineStr::from('a').as_str(), "a");
-    assert_eq!(rt; InlineStr::from('🍔').as_str().len(), 4);
-    assert_eq!(rt; InlineStr::from('🍔').as_str(), "🍔");
-    assert_eq!(rt; borrowed(&InlineStr::from('é')), "é");
+    assert_same(&rt, MAX_INLINE_STR_LEN, OF_22.len());
+    assert_same(&rt, InlineStr::from('a').as_str(), "a");
+    assert_same(&rt, InlineStr::from('🍔').as_str().len(), 4);
+    assert_same(&rt, InlineStr::from('🍔').as_str(), "🍔");
+    assert_same(&rt, borrowed(&InlineStr::from('é')), "é");
     for (text, fits) in [
         ("", true),
         (OF_15, true),
@@ -60,8 +61,8 @@ fn texts_of_at_most_22_bytes_are_inlined(rt: HostRuntime) {
         match InlineStr::try_from(text) {
             Ok(inline) => {
                 assert!(rt; fits, "at {text}");
-                assert_eq!(rt; inline.as_str(), text);
-                assert_eq!(rt; inline.copy().as_str(), text);
+                assert_same(&rt, inline.as_str(), text);
+                assert_same(&rt, inline.copy().as_str(), text);
                 assert!(rt; are_equal(&inline, &inline.copy()));
             }
             Err(_) => assert!(rt; !fits, "at {text}"),
@@ -73,14 +74,14 @@ fn texts_of_at_most_22_bytes_are_inlined(rt: HostRuntime) {
 #[test]
 fn a_character_is_inlined_and_a_text_is_borrowed(rt: HostRuntime) {
     let letter = CowStr::from('c');
-    assert_eq!(rt; variant(&letter), "inlined");
-    assert_eq!(rt; letter.as_str(), "c");
+    assert_same(&rt, variant(&letter), "inlined");
+    assert_same(&rt, letter.as_str(), "c");
     let sign = CowStr::from('藏');
-    assert_eq!(rt; sign.as_str(), "藏");
+    assert_same(&rt, sign.as_str(), "藏");
     for text in ["", "a", OF_22, OF_30] {
         let borrowed_text = CowStr::from(text);
-        assert_eq!(rt; variant(&borrowed_text), "borrowed");
-        assert_eq!(rt; borrowed(&borrowed_text), text);
+        assert_same(&rt, variant(&borrowed_text), "borrowed");
+        assert_same(&rt, borrowed(&borrowed_text), text);
     }
 }
 
@@ -88,24 +89,24 @@ fn a_character_is_inlined_and_a_text_is_borrowed(rt: HostRuntime) {
 fn each_variant_gives_its_string(rt: HostRuntime) -> Result<(), Fail> {
     let alloc = rt.alloc();
     let borrowed_text = CowStr::from("some text").into_string(alloc)?;
-    assert_eq!(rt; borrowed_text.as_str(), "some text");
+    assert_same(&rt, borrowed_text.as_str(), "some text");
     let inlined_text = CowStr::from('s').into_string(alloc)?;
-    assert_eq!(rt; inlined_text.as_str(), "s");
+    assert_same(&rt, inlined_text.as_str(), "s");
     let owned_text = boxed(alloc, "s")?.into_string(alloc)?;
-    assert_eq!(rt; owned_text.as_str(), "s");
+    assert_same(&rt, owned_text.as_str(), "s");
     let sign = CowStr::from('藏').into_string(alloc)?;
-    assert_eq!(rt; sign.as_str(), "藏");
+    assert_same(&rt, sign.as_str(), "藏");
     Ok(())
 }
 
 #[test]
 fn a_string_is_owned(rt: HostRuntime) -> Result<(), Fail> {
     let text = boxed(rt.alloc(), "a")?;
-    assert_eq!(rt; variant(&text), "boxed");
+    assert_same(&rt, variant(&text), "boxed");
     if let CowStr::Boxed(owned) = &text {
         let owned: &BoxedStr = owned;
-        assert_eq!(rt; owned.as_str(), "a");
-        assert_eq!(rt; borrowed(owned), "a");
+        assert_same(&rt, owned.as_str(), "a");
+        assert_same(&rt, borrowed(owned), "a");
     }
     Ok(())
 }
@@ -158,9 +159,9 @@ fn texts_are_equal_whatever_holds_them(rt: HostRuntime) -> Result<(), Fail> {
     assert!(rt; are_equal(&owned, &borrowed_text));
     assert!(rt; are_equal(&borrowed_text, &inlined_text));
     assert!(rt; are_equal(&inlined_text, &owned));
-    assert_eq!(rt; hash_of(&owned), hash_of(&borrowed_text));
-    assert_eq!(rt; hash_of(&borrowed_text), hash_of(&inlined_text));
-    assert_eq!(rt; hash_of(&InlineStr::from('a')), hash_of(&inlined_text));
+    assert_same(&rt, hash_of(&owned), hash_of(&borrowed_text));
+    assert_same(&rt, hash_of(&borrowed_text), hash_of(&inlined_text));
+    assert_same(&rt, hash_of(&InlineStr::from('a')), hash_of(&inlined_text));
     assert!(rt; !are_equal(&borrowed_text, &CowStr::from('b')));
     assert!(rt; !are_equal(&borrowed_text, &CowStr::from("")));
     assert!(rt; inlined(OF_22) == Some(CowStr::from(OF_22)));
@@ -171,11 +172,19 @@ fn texts_are_equal_whatever_holds_them(rt: HostRuntime) -> Result<(), Fail> {
 #[test]
 fn texts_are_printed_alone(rt: HostRuntime) -> Result<(), Fail> {
     let alloc = rt.alloc();
-    assert_eq!(rt; printed(alloc, &InlineStr::from('é'))?.as_str(), "é");
-    assert_eq!(rt; printed(alloc, &boxed(alloc, "é a")?)?.as_str(), "é a");
-    assert_eq!(rt; printed(alloc, &CowStr::from("é a"))?.as_str(), "é a");
-    assert_eq!(rt; printed(alloc, &CowStr::from('é'))?.as_str(), "é");
-    assert_eq!(rt; printed_wide(alloc, &CowStr::from("a"))?.as_str(), "<a>");
-    assert_eq!(rt; printed_wide(alloc, &InlineStr::from('a'))?.as_str(), "<a>");
+    assert_same(&rt, printed(alloc, &InlineStr::from('é'))?.as_str(), "é");
+    assert_same(&rt, printed(alloc, &boxed(alloc, "é a")?)?.as_str(), "é a");
+    assert_same(&rt, printed(alloc, &CowStr::from("é a"))?.as_str(), "é a");
+    assert_same(&rt, printed(alloc, &CowStr::from('é'))?.as_str(), "é");
+    assert_same(
+        &rt,
+        printed_wide(alloc, &CowStr::from("a"))?.as_str(),
+        "<a>",
+    );
+    assert_same(
+        &rt,
+        printed_wide(alloc, &InlineStr::from('a'))?.as_str(),
+        "<a>",
+    );
     Ok(())
 }

@@ -3,6 +3,7 @@ ghost use Rattle.std.specs.Prelude.{◌≡◌, ◌∷◌, [], length, IfOk, IfSo
 ghost use Rattle.markdown_values.specs.tree.Truncate.{first_other, CanCut};
 ghost use Rattle.cmark_vectors_values.specs.Pieces.{spans_of, IsParent};
 
+use crate::asserts::assert_same;
 use crate::pieces::Piece;
 use markdown_values::tree::{Node, Tree, TreeIndex};
 use std::alloc::{AllocError, Global};
@@ -81,39 +82,39 @@ fn appending_after_a_node_cuts_what_followed(rt: HostRuntime) -> Result<(), Fail
     let alloc = rt.alloc();
     let mut tree: Tree<Piece> = Tree::with_capacity(alloc, 4)?;
     let a = tree.append(named('A'))?;
-    assert_eq!(rt; tree.push()?, a);
+    assert_same(&rt, tree.push()?, a);
     let b = tree.append(named('B'))?;
     let c = tree.append(named('C'))?;
-    assert_eq!(rt; tree.pop(), Some(a));
+    assert_same(&rt, tree.pop(), Some(a));
     if tree.cur().is_some() {
-        assert_eq!(rt; tree.push()?, a);
+        assert_same(&rt, tree.push()?, a);
     }
-    assert_eq!(rt; tree.cur(), Some(b));
+    assert_same(&rt, tree.cur(), Some(b));
     let d = tree.append(named('D'))?;
-    assert_eq!(rt; tree.cur(), Some(d));
-    assert_eq!(rt; tree[b].next, Some(d));
-    assert_eq!(rt; tree[c].item.name, 'C');
-    assert_eq!(rt; forest(alloc, &mut tree)?.as_str(), "A(BD)");
+    assert_same(&rt, tree.cur(), Some(d));
+    assert_same(&rt, tree[b].next, Some(d));
+    assert_same(&rt, tree[c].item.name, 'C');
+    assert_same(&rt, forest(alloc, &mut tree)?.as_str(), "A(BD)");
     Ok(())
 }
 
 #[test]
 fn the_spine_leads_from_the_root_to_the_focus(rt: HostRuntime) -> Result<(), Fail> {
     let (mut tree, [a, b, c, d]) = nested(rt.alloc())?;
-    assert_eq!(rt; tree.cur(), Some(d));
-    assert_eq!(rt; tree.peek_up(), Some(b));
-    assert_eq!(rt; tree.peek_grandparent(), Some(a));
-    assert_eq!(rt; tree.spine_len(), 2);
+    assert_same(&rt, tree.cur(), Some(d));
+    assert_same(&rt, tree.peek_up(), Some(b));
+    assert_same(&rt, tree.peek_grandparent(), Some(a));
+    assert_same(&rt, tree.spine_len(), 2);
     let mut spine = tree.walk_spine();
-    assert_eq!(rt; spine.next(), Some(&a));
-    assert_eq!(rt; spine.next(), Some(&b));
-    assert_eq!(rt; spine.next(), None);
-    assert_eq!(rt; spine_names(rt.alloc(), &tree)?.as_str(), "AB");
-    assert_eq!(rt; tree.pop(), Some(b));
-    assert_eq!(rt; tree.peek_grandparent(), None);
+    assert_same(&rt, spine.next(), Some(&a));
+    assert_same(&rt, spine.next(), Some(&b));
+    assert_same(&rt, spine.next(), None);
+    assert_same(&rt, spine_names(rt.alloc(), &tree)?.as_str(), "AB");
+    assert_same(&rt, tree.pop(), Some(b));
+    assert_same(&rt, tree.peek_grandparent(), None);
     tree.truncate_to_parent(c);
-    assert_eq!(rt; tree.cur(), Some(d));
-    assert_eq!(rt; forest(rt.alloc(), &mut tree)?.as_str(), "A(B(C)D)");
+    assert_same(&rt, tree.cur(), Some(d));
+    assert_same(&rt, forest(rt.alloc(), &mut tree)?.as_str(), "A(B(C)D)");
     Ok(())
 }
 
@@ -123,23 +124,23 @@ fn trees_of_few_nodes_have_no_parents(rt: HostRuntime) -> Result<(), Fail> {
     let mut tree: Tree<Piece> = Tree::with_capacity(alloc, 0)?;
     assert!(rt; tree.is_empty());
     tree.reset();
-    assert_eq!(rt; tree.cur(), None);
-    assert_eq!(rt; tree.pop(), None);
-    assert_eq!(rt; tree.remove_node(), None);
-    assert_eq!(rt; tree.peek_up(), None);
-    assert_eq!(rt; tree.peek_grandparent(), None);
-    assert_eq!(rt; tree.spine_len(), 0);
+    assert_same(&rt, tree.cur(), None);
+    assert_same(&rt, tree.pop(), None);
+    assert_same(&rt, tree.remove_node(), None);
+    assert_same(&rt, tree.peek_up(), None);
+    assert_same(&rt, tree.peek_grandparent(), None);
+    assert_same(&rt, tree.spine_len(), 0);
     assert!(rt; tree.is_empty());
     let a = tree.create_node(named('A'))?;
     assert!(rt; !tree.is_empty());
-    assert_eq!(rt; tree.cur(), None);
+    assert_same(&rt, tree.cur(), None);
     let b = tree.append(named('B'))?;
-    assert_eq!(rt; tree.cur(), Some(b));
+    assert_same(&rt, tree.cur(), Some(b));
     tree.reset();
-    assert_eq!(rt; tree.cur(), Some(a));
-    assert_eq!(rt; tree[a].next, None);
-    assert_eq!(rt; tree.next_sibling(b), None);
-    assert_eq!(rt; tree.cur(), None);
+    assert_same(&rt, tree.cur(), Some(a));
+    assert_same(&rt, tree[a].next, None);
+    assert_same(&rt, tree.next_sibling(b), None);
+    assert_same(&rt, tree.cur(), None);
     Ok(())
 }
 
@@ -148,8 +149,8 @@ fn a_node_is_got_by_an_index_of_the_tree(rt: HostRuntime) -> Result<(), Fail> {
     let alloc = rt.alloc();
     let (large, indices) = nested(alloc)?;
     let [first, _, _, last] = indices;
-    assert_eq!(rt; large.get(first).map(|node| node.item.name), Some('A'));
-    assert_eq!(rt; large.get(last).map(|node| node.item.name), Some('D'));
+    assert_same(&rt, large.get(first).map(|node| node.item.name), Some('A'));
+    assert_same(&rt, large.get(last).map(|node| node.item.name), Some('D'));
     let small: Tree<Piece> = Tree::with_capacity(alloc, 1)?;
     assert!(rt; small.get(last).is_none());
     Ok(())
@@ -163,10 +164,10 @@ fn a_removed_node_is_gone(rt: HostRuntime) -> Result<(), Fail> {
     tree.push()?;
     tree.append(named('B'))?;
     let parent = tree.remove_node();
-    assert_eq!(rt; parent, Some(a));
-    assert_eq!(rt; tree.cur(), Some(a));
-    assert_eq!(rt; tree.spine_len(), 0);
-    assert_eq!(rt; forest(alloc, &mut tree)?.as_str(), "A");
+    assert_same(&rt, parent, Some(a));
+    assert_same(&rt, tree.cur(), Some(a));
+    assert_same(&rt, tree.spine_len(), 0);
+    assert_same(&rt, forest(alloc, &mut tree)?.as_str(), "A");
     Ok(())
 }
 
@@ -179,14 +180,14 @@ fn links_and_items_are_set(rt: HostRuntime) -> Result<(), Fail> {
     tree.set_next(c, None);
     tree.set_child(d, Some(c));
     tree.set_child(b, None);
-    assert_eq!(rt; tree[a].child, Some(b));
-    assert_eq!(rt; tree[b].next, Some(d));
-    assert_eq!(rt; tree[b].child, None);
-    assert_eq!(rt; tree[c].next, None);
-    assert_eq!(rt; tree[c].item.name, 'E');
-    assert_eq!(rt; tree[d].child, Some(c));
-    assert_eq!(rt; tree.cur(), Some(d));
-    assert_eq!(rt; forest(alloc, &mut tree)?.as_str(), "A(BD(E))");
+    assert_same(&rt, tree[a].child, Some(b));
+    assert_same(&rt, tree[b].next, Some(d));
+    assert_same(&rt, tree[b].child, None);
+    assert_same(&rt, tree[c].next, None);
+    assert_same(&rt, tree[c].item.name, 'E');
+    assert_same(&rt, tree[d].child, Some(c));
+    assert_same(&rt, tree.cur(), Some(d));
+    assert_same(&rt, forest(alloc, &mut tree)?.as_str(), "A(BD(E))");
     Ok(())
 }
 
@@ -201,11 +202,11 @@ fn index_before(ix: TreeIndex) -> Option<TreeIndex> {
 #[test]
 fn indices_are_added_and_ordered(rt: HostRuntime) -> Result<(), Fail> {
     let (_tree, [a, b, c, d]) = nested(rt.alloc())?;
-    assert_eq!(rt; a.get(), 1);
-    assert_eq!(rt; d.get(), 4);
-    assert_eq!(rt; index_after(c), Some(d));
-    assert_eq!(rt; index_before(b), Some(a));
-    assert_eq!(rt; index_before(a), None);
+    assert_same(&rt, a.get(), 1);
+    assert_same(&rt, d.get(), 4);
+    assert_same(&rt, index_after(c), Some(d));
+    assert_same(&rt, index_before(b), Some(a));
+    assert_same(&rt, index_before(a), None);
     assert!(rt; a < b && c > b && c == c);
     Ok(())
 }
@@ -226,13 +227,13 @@ fn a_copy_has_links_of_its_own(rt: HostRuntime) -> Result<(), Fail> {
     let alloc = rt.alloc();
     let (mut tree, [a, b, c, d]) = nested(alloc)?;
     let mut copy = copied(&tree)?;
-    assert_eq!(rt; copy.cur(), Some(d));
-    assert_eq!(rt; copy.peek_up(), Some(b));
-    assert_eq!(rt; copy.peek_grandparent(), Some(a));
-    assert_eq!(rt; forest(alloc, &mut copy)?.as_str(), "A(B(CD))");
-    assert_eq!(rt; name_at(&tree, c), 'C');
+    assert_same(&rt, copy.cur(), Some(d));
+    assert_same(&rt, copy.peek_up(), Some(b));
+    assert_same(&rt, copy.peek_grandparent(), Some(a));
+    assert_same(&rt, forest(alloc, &mut copy)?.as_str(), "A(B(CD))");
+    assert_same(&rt, name_at(&tree, c), 'C');
     tree.set_child(a, None);
-    assert_eq!(rt; forest(alloc, &mut copy)?.as_str(), "A(B(CD))");
+    assert_same(&rt, forest(alloc, &mut copy)?.as_str(), "A(B(CD))");
     Ok(())
 }
 
@@ -319,10 +320,11 @@ fn a_child_is_cut_at_the_end(rt: HostRuntime) -> Result<(), Fail> {
     let second = covering('B', 3, 5, false);
     let third = covering('C', 5, 9, false);
     let mut tree = cut_three(alloc, first, second, third, 4)?;
-    assert_eq!(rt; focus(&tree), Some(3));
-    assert_eq!(rt;
+    assert_same(&rt, focus(&tree), Some(3));
+    assert_same(
+        &rt,
         ranges(alloc, &mut tree)?.as_slice(),
-        [(0, 3), (3, 4)].as_slice()
+        [(0, 3), (3, 4)].as_slice(),
     );
     Ok(())
 }
@@ -333,11 +335,15 @@ fn a_child_behind_the_end_is_dropped(rt: HostRuntime) -> Result<(), Fail> {
     let first = covering('A', 0, 2, false);
     let second = covering('B', 4, 6, false);
     let mut tree = cut_two(alloc, first, second, 4)?;
-    assert_eq!(rt; focus(&tree), Some(2));
-    assert_eq!(rt; ranges(alloc, &mut tree)?.as_slice(), [(0, 2)].as_slice());
+    assert_same(&rt, focus(&tree), Some(2));
+    assert_same(
+        &rt,
+        ranges(alloc, &mut tree)?.as_slice(),
+        [(0, 2)].as_slice(),
+    );
     let mut tree = cut_one(alloc, covering('A', 4, 6, false), 4)?;
-    assert_eq!(rt; focus(&tree), None);
-    assert_eq!(rt; ranges(alloc, &mut tree)?.len(), 0);
+    assert_same(&rt, focus(&tree), None);
+    assert_same(&rt, ranges(alloc, &mut tree)?.len(), 0);
     Ok(())
 }
 
@@ -347,19 +353,21 @@ fn a_child_behind_a_backslash_takes_it(rt: HostRuntime) -> Result<(), Fail> {
     let first = covering('A', 0, 2, false);
     let second = covering('B', 4, 6, true);
     let mut tree = cut_two(alloc, first, second, 4)?;
-    assert_eq!(rt; focus(&tree), Some(3));
-    assert_eq!(rt;
+    assert_same(&rt, focus(&tree), Some(3));
+    assert_same(
+        &rt,
         ranges(alloc, &mut tree)?.as_slice(),
-        [(0, 2), (3, 4)].as_slice()
+        [(0, 2), (3, 4)].as_slice(),
     );
     let first = covering('A', 0, 2, false);
     let second = covering('B', 4, 6, true);
     let third = covering('C', 6, 8, false);
     let mut tree = cut_three(alloc, first, second, third, 4)?;
-    assert_eq!(rt; focus(&tree), Some(3));
-    assert_eq!(rt;
+    assert_same(&rt, focus(&tree), Some(3));
+    assert_same(
+        &rt,
         ranges(alloc, &mut tree)?.as_slice(),
-        [(0, 2), (3, 4), (6, 8)].as_slice()
+        [(0, 2), (3, 4), (6, 8)].as_slice(),
     );
     Ok(())
 }
@@ -368,15 +376,20 @@ fn a_child_behind_a_backslash_takes_it(rt: HostRuntime) -> Result<(), Fail> {
 fn children_before_the_end_stay(rt: HostRuntime) -> Result<(), Fail> {
     let alloc = rt.alloc();
     let mut tree = cut_one(alloc, covering('A', 0, 1, false), 5)?;
-    assert_eq!(rt; focus(&tree), Some(2));
-    assert_eq!(rt; ranges(alloc, &mut tree)?.as_slice(), [(0, 1)].as_slice());
+    assert_same(&rt, focus(&tree), Some(2));
+    assert_same(
+        &rt,
+        ranges(alloc, &mut tree)?.as_slice(),
+        [(0, 1)].as_slice(),
+    );
     let first = covering('A', 0, 3, false);
     let second = covering('B', 3, 5, false);
     let mut tree = cut_two(alloc, first, second, 5)?;
-    assert_eq!(rt; focus(&tree), Some(3));
-    assert_eq!(rt;
+    assert_same(&rt, focus(&tree), Some(3));
+    assert_same(
+        &rt,
         ranges(alloc, &mut tree)?.as_slice(),
-        [(0, 3), (3, 5)].as_slice()
+        [(0, 3), (3, 5)].as_slice(),
     );
     Ok(())
 }

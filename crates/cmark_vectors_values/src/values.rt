@@ -1,4 +1,5 @@
 //! Tags, events, headings and links: rows of their calls.
+use crate::asserts::{are_different, are_made_same, are_same, assert_same};
 use crate::bounds::printed;
 use markdown_values::strings::CowStr;
 use markdown_values::values::{
@@ -6,6 +7,7 @@ use markdown_values::values::{
     MetadataBlockKind, Tag, TagEnd,
 };
 use std::alloc::{AllocError, Global};
+use std::process::Abort;
 use std::test::Fail;
 
 mod options;
@@ -20,6 +22,24 @@ fn level_of<T: TryInto<HeadingLevel, Error = InvalidHeadingLevel>>(
     number.try_into()
 }
 
+fn assert_level(
+    rt: &impl Abort,
+    alloc: Global,
+    number: usize,
+    level: HeadingLevel,
+    name: &str,
+) -> Result<(), Fail> {
+    assert_same(rt, HeadingLevel::try_from(number), Ok(level));
+    assert_same(rt, level as usize, number);
+    let text = printed(alloc, &level)?;
+    assert_same(rt, text.as_str(), name);
+    Ok(())
+}
+
+fn printed_wide(alloc: Global, level: HeadingLevel) -> Result<String, AllocError> {
+    format!(in alloc; "<{:>4}>", level)
+}
+
 #[test]
 fn levels_are_one_to_six(rt: HostRuntime) -> Result<(), Fail> {
     let levels = [
@@ -31,74 +51,140 @@ fn levels_are_one_to_six(rt: HostRuntime) -> Result<(), Fail> {
         (6, HeadingLevel::H6, "h6"),
     ];
     for (number, level, name) in levels {
-        assert_eq!(rt; HeadingLevel::try_from(number), Ok(level));
-        assert_eq!(rt; level as usize, number);
-        assert_eq!(rt; printed(rt.alloc(), &level)?.as_str(), name);
+        assert_level(&rt, rt.alloc(), number, level, name)?;
     }
     for number in [0, 7, usize::MAX] {
-        assert_eq!(rt;
+        assert_same(
+            &rt,
             HeadingLevel::try_from(number),
-            Err(InvalidHeadingLevel(number))
+            Err(InvalidHeadingLevel(number)),
         );
     }
-    assert_eq!(rt; level_of(6_usize), Ok(HeadingLevel::H6));
-    let wide = format!(in rt.alloc(); "<{:>4}>", HeadingLevel::H3)?;
-    assert_eq!(rt; wide.as_str(), "<h3>");
+    assert_same(&rt, level_of(6_usize), Ok(HeadingLevel::H6));
+    let wide = printed_wide(rt.alloc(), HeadingLevel::H3)?;
+    assert_same(&rt, wide.as_str(), "<h3>");
     Ok(())
 }
 
 #[test]
 fn references_become_unknown(rt: HostRuntime) {
-    assert_eq!(rt;
+    assert_same(
+        &rt,
         LinkType::Reference.to_unknown(),
-        LinkType::ReferenceUnknown
+        LinkType::ReferenceUnknown,
     );
-    assert_eq!(rt;
+    assert_same(
+        &rt,
         LinkType::Collapsed.to_unknown(),
-        LinkType::CollapsedUnknown
+        LinkType::CollapsedUnknown,
     );
-    assert_eq!(rt; LinkType::Shortcut.to_unknown(), LinkType::ShortcutUnknown);
+    assert_same(
+        &rt,
+        LinkType::Shortcut.to_unknown(),
+        LinkType::ShortcutUnknown,
+    );
+}
+
+// A value, a copy of it, and it with nothing borrowed.
+trait Kept {
+    fn copied(&self, alloc: Global) -> Result<Self, AllocError>;
+
+    fn made_static(self, alloc: Global) -> Result<Self, AllocError>;
+}
+
+impl Kept for CodeBlockKind<'static> {
+    fn copied(&self, alloc: Global) -> Result<CodeBlockKind<'static>, AllocError> {
+        self.clone(alloc)
+    }
+
+    fn made_static(self, alloc: Global) -> Result<CodeBlockKind<'static>, AllocError> {
+        self.into_static(alloc)
+    }
+}
+
+impl Kept for Tag<'static> {
+    fn copied(&self, alloc: Global) -> Result<Tag<'static>, AllocError> {
+        self.clone(alloc)
+    }
+
+    fn made_static(self, alloc: Global) -> Result<Tag<'static>, AllocError> {
+        self.into_static(alloc)
+    }
+}
+
+impl Kept for Event<'static> {
+    fn copied(&self, alloc: Global) -> Result<Event<'static>, AllocError> {
+        self.clone(alloc)
+    }
+
+    fn made_static(self, alloc: Global) -> Result<Event<'static>, AllocError> {
+        self.into_static(alloc)
+    }
+}
+
+// A copy of a value, and the value with nothing borrowed, equal the value.
+fn is_kept<T: Drop + Kept + PartialEq>(alloc: Global, value: T) -> Result<bool, AllocError> {
+    let copy = value.copied(alloc)?;
+    let is_equal = copy == value;
+    Ok(value.made_static(alloc)? == copy && is_equal)
+}
+
+// Whether a code block is indented, and whether it is fenced.
+fn indented_and_fenced(kind: CodeBlockKind<'_>) -> (bool, bool) {
+    (kind.is_indented(), kind.is_fenced())
+}
+
+fn fenced(info: &'static str) -> CodeBlockKind<'static> {
+    CodeBlockKind::Fenced(CowStr::from(info))
 }
 
 #[test]
 fn code_blocks_are_indented_or_fenced(rt: HostRuntime) -> Result<(), Fail> {
-    let alloc = rt.alloc();
-    let indented = CodeBlockKind::Indented;
-    assert!(rt; indented.is_indented() && !indented.is_fenced());
-    let fenced = CodeBlockKind::Fenced(CowStr::from("rust"));
-    assert!(rt; fenced.is_fenced() && !fenced.is_indented());
-    assert!(rt; fenced.clone(alloc)? == fenced);
-    assert!(rt; fenced.clone(alloc)?.into_static(alloc)? == fenced);
-    assert!(rt; indented.clone(alloc)?.into_static(alloc)? == indented);
-    assert!(rt; fenced != indented);
-    assert!(rt; fenced != CodeBlockKind::Fenced(CowStr::from("rus")));
+    assert_same(
+        &rt,
+        indented_and_fenced(CodeBlockKind::Indented),
+        (true, false),
+    );
+    assert_same(&rt, indented_and_fenced(fenced("rust")), (false, true));
+    assert!(rt; is_kept(rt.alloc(), fenced("rust"))?);
+    assert!(rt; is_kept(rt.alloc(), CodeBlockKind::Indented)?);
+    assert!(rt; are_different(fenced("rust"), CodeBlockKind::Indented));
+    assert!(rt; are_different(fenced("rust"), fenced("rus")));
     Ok(())
 }
 
-fn list_of_one(alloc: Global, text: &'static str) -> Result<Vec<CowStr<'static>>, AllocError> {
-    let mut texts = Vec::new(alloc);
-    texts.push(CowStr::from(text))?;
-    Ok(texts)
+fn list_of_one<T: Drop>(alloc: Global, item: T) -> Result<Vec<T>, AllocError> {
+    let mut items = Vec::new(alloc);
+    items.push(item)?;
+    Ok(items)
 }
 
-// A heading with one class and one attribute.
-fn heading(
-    alloc: Global,
-    id: &'static str,
-    class: &'static str,
-    attribute: (&'static str, Option<&'static str>),
-) -> Result<Tag<'static>, AllocError> {
-    let (name, value) = attribute;
-    let value = match value {
-        Some(value) => Some(CowStr::from(value)),
-        None => None,
-    };
-    let mut attrs = Vec::new(alloc);
-    attrs.push((CowStr::from(name), value))?;
+/// An identifier, a class, and an attribute's name and value.
+type HeadingParts = (
+    &'static str,
+    &'static str,
+    &'static str,
+    Option<&'static str>,
+);
+
+fn attribute(
+    name: &'static str,
+    value: Option<&'static str>,
+) -> (CowStr<'static>, Option<CowStr<'static>>) {
+    match value {
+        Some(value) => (CowStr::from(name), Some(CowStr::from(value))),
+        None => (CowStr::from(name), None),
+    }
+}
+
+fn heading(alloc: Global, parts: HeadingParts) -> Result<Tag<'static>, AllocError> {
+    let (id, class, name, value) = parts;
+    let attrs = list_of_one(alloc, attribute(name, value))?;
+    let classes = list_of_one(alloc, CowStr::from(class))?;
     Ok(Tag::Heading {
         level: HeadingLevel::H2,
         id: Some(CowStr::from(id)),
-        classes: list_of_one(alloc, class)?,
+        classes,
         attrs,
     })
 }
@@ -130,13 +216,15 @@ fn table(alloc: Global, last: Alignment) -> Result<Tag<'static>, AllocError> {
 
 // A tag is ended by `end`, however it is asked.
 fn ends_as(tag: Tag<'_>, end: TagEnd) -> bool {
-    tag.to_end() == end && TagEnd::from(tag) == end
+    let of_reference = tag.to_end();
+    let of_value = TagEnd::from(tag);
+    of_reference == end && of_value == end
 }
 
 #[test]
 fn tags_with_contents_end_as_the_table_says(rt: HostRuntime) -> Result<(), Fail> {
     let alloc = rt.alloc();
-    let tag = heading(alloc, "i", "c", ("a", None))?;
+    let tag = heading(alloc, ("i", "c", "a", None))?;
     assert!(rt; ends_as(tag, TagEnd::Heading(HeadingLevel::H2)));
     for kind in [
         None,
@@ -187,34 +275,25 @@ fn plain_tags_end_as_the_table_says(rt: HostRuntime) {
     assert!(rt; ends_as(Tag::Subscript, TagEnd::Subscript));
 }
 
-/// An identifier, a class and an attribute.
-type HeadingParts = (
-    &'static str,
-    &'static str,
-    (&'static str, Option<&'static str>),
-);
-
 // Whether headings made of these are equal.
 fn are_equal_headings(
     alloc: Global,
     one: HeadingParts,
     other: HeadingParts,
 ) -> Result<bool, AllocError> {
-    let one = heading(alloc, one.0, one.1, one.2)?;
-    let other = heading(alloc, other.0, other.1, other.2)?;
-    Ok(one == other)
+    are_made_same(heading(alloc, one), heading(alloc, other))
 }
 
 // Equality looks at each part of a tag.
 #[test]
 fn headings_differ_in_each_part(rt: HostRuntime) -> Result<(), Fail> {
-    let parts: HeadingParts = ("i", "c", ("a", Some("v")));
+    let parts: HeadingParts = ("i", "c", "a", Some("v"));
     let others: [HeadingParts; 5] = [
-        ("j", "c", ("a", Some("v"))),
-        ("i", "d", ("a", Some("v"))),
-        ("i", "c", ("b", Some("v"))),
-        ("i", "c", ("a", Some("w"))),
-        ("i", "c", ("a", None)),
+        ("j", "c", "a", Some("v")),
+        ("i", "d", "a", Some("v")),
+        ("i", "c", "b", Some("v")),
+        ("i", "c", "a", Some("w")),
+        ("i", "c", "a", None),
     ];
     assert!(rt; are_equal_headings(rt.alloc(), parts, parts)?);
     for other in others {
@@ -227,15 +306,15 @@ fn headings_differ_in_each_part(rt: HostRuntime) -> Result<(), Fail> {
 type LinkParts = (&'static str, &'static str, &'static str);
 
 fn are_equal_links(one: LinkParts, other: LinkParts) -> bool {
-    link(one.0, one.1, one.2) == link(other.0, other.1, other.2)
+    are_same(link(one.0, one.1, one.2), link(other.0, other.1, other.2))
 }
 
 fn is_equal_image(parts: LinkParts, link_type: LinkType) -> bool {
-    link(parts.0, parts.1, parts.2) == image(link_type)
+    are_same(link(parts.0, parts.1, parts.2), image(link_type))
 }
 
 fn are_equal_images(one: LinkType, other: LinkType) -> bool {
-    image(one) == image(other)
+    are_same(image(one), image(other))
 }
 
 #[test]
@@ -252,12 +331,11 @@ fn links_differ_in_each_part(rt: HostRuntime) {
 }
 
 fn are_equal_tables(alloc: Global, one: Alignment, other: Alignment) -> Result<bool, AllocError> {
-    let one = table(alloc, one)?;
-    Ok(one == table(alloc, other)?)
+    are_made_same(table(alloc, one), table(alloc, other))
 }
 
 fn is_empty_table(alloc: Global, last: Alignment) -> Result<bool, AllocError> {
-    Ok(table(alloc, last)? == Tag::Table(Vec::new(alloc)))
+    are_made_same(table(alloc, last), Ok(Tag::Table(Vec::new(alloc))))
 }
 
 #[test]
@@ -268,72 +346,44 @@ fn tables_differ_in_their_alignments(rt: HostRuntime) -> Result<(), Fail> {
     Ok(())
 }
 
-fn static_tag_is(alloc: Global, tag: Tag<'_>, wanted: &Tag<'_>) -> Result<bool, AllocError> {
-    let tag = tag.into_static(alloc)?;
-    Ok(tag == *wanted)
-}
-
-// A copy of a tag, and the tag with nothing borrowed, equal the tag.
-fn tag_is_kept(alloc: Global, tag: Tag<'_>) -> Result<bool, AllocError> {
-    let copy = tag.clone(alloc)?;
-    let is_equal = copy == tag;
-    Ok(static_tag_is(alloc, tag, &copy)? && is_equal)
-}
-
 #[test]
 fn copies_and_static_tags_equal_the_tag(rt: HostRuntime) -> Result<(), Fail> {
     let alloc = rt.alloc();
-    assert!(rt; tag_is_kept(alloc, Tag::Paragraph)?);
-    assert!(rt; tag_is_kept(alloc, heading(alloc, "i", OF_30, ("a", Some(OF_30)))?)?);
-    assert!(rt; tag_is_kept(alloc, Tag::BlockQuote(Some(BlockQuoteKind::Note)))?);
+    assert!(rt; is_kept(alloc, Tag::Paragraph)?);
+    assert!(rt; is_kept(alloc, heading(alloc, ("i", OF_30, "a", Some(OF_30)))?)?);
+    assert!(rt; is_kept(alloc, Tag::BlockQuote(Some(BlockQuoteKind::Note)))?);
     assert!(rt;
-        tag_is_kept(
+        is_kept(
             alloc,
             Tag::CodeBlock(CodeBlockKind::Fenced(CowStr::from(OF_30)))
         )?
     );
-    assert!(rt; tag_is_kept(alloc, Tag::List(Some(3)))?);
-    assert!(rt; tag_is_kept(alloc, Tag::FootnoteDefinition(CowStr::from(OF_15)))?);
-    assert!(rt; tag_is_kept(alloc, table(alloc, Alignment::Center)?)?);
-    assert!(rt; tag_is_kept(alloc, link(OF_30, OF_15, ""))?);
-    assert!(rt; tag_is_kept(alloc, image(LinkType::WikiLink { has_pothole: true }))?);
-    assert!(rt; tag_is_kept(alloc, Tag::MetadataBlock(MetadataBlockKind::PlusesStyle))?);
+    assert!(rt; is_kept(alloc, Tag::List(Some(3)))?);
+    assert!(rt; is_kept(alloc, Tag::FootnoteDefinition(CowStr::from(OF_15)))?);
+    assert!(rt; is_kept(alloc, table(alloc, Alignment::Center)?)?);
+    assert!(rt; is_kept(alloc, link(OF_30, OF_15, ""))?);
+    assert!(rt; is_kept(alloc, image(LinkType::WikiLink { has_pothole: true }))?);
+    assert!(rt; is_kept(alloc, Tag::MetadataBlock(MetadataBlockKind::PlusesStyle))?);
     Ok(())
-}
-
-fn static_event_is(
-    alloc: Global,
-    event: Event<'_>,
-    wanted: &Event<'_>,
-) -> Result<bool, AllocError> {
-    let event = event.into_static(alloc)?;
-    Ok(event == *wanted)
-}
-
-// The same for an event.
-fn event_is_kept(alloc: Global, event: Event<'_>) -> Result<bool, AllocError> {
-    let copy = event.clone(alloc)?;
-    let is_equal = copy == event;
-    Ok(static_event_is(alloc, event, &copy)? && is_equal)
 }
 
 #[test]
 fn copies_and_static_events_equal_the_event(rt: HostRuntime) -> Result<(), Fail> {
     let alloc = rt.alloc();
     let text = CowStr::from;
-    assert!(rt; event_is_kept(alloc, Event::Start(table(alloc, Alignment::Right)?))?);
-    assert!(rt; event_is_kept(alloc, Event::End(TagEnd::List(true)))?);
-    assert!(rt; event_is_kept(alloc, Event::Text(text(OF_30)))?);
-    assert!(rt; event_is_kept(alloc, Event::Code(text(OF_15)))?);
-    assert!(rt; event_is_kept(alloc, Event::InlineMath(text("x")))?);
-    assert!(rt; event_is_kept(alloc, Event::DisplayMath(text("x")))?);
-    assert!(rt; event_is_kept(alloc, Event::Html(text("<a>")))?);
-    assert!(rt; event_is_kept(alloc, Event::InlineHtml(text("<a>")))?);
-    assert!(rt; event_is_kept(alloc, Event::FootnoteReference(text("1")))?);
-    assert!(rt; event_is_kept(alloc, Event::SoftBreak)?);
-    assert!(rt; event_is_kept(alloc, Event::HardBreak)?);
-    assert!(rt; event_is_kept(alloc, Event::Rule)?);
-    assert!(rt; event_is_kept(alloc, Event::TaskListMarker(true))?);
+    assert!(rt; is_kept(alloc, Event::Start(table(alloc, Alignment::Right)?))?);
+    assert!(rt; is_kept(alloc, Event::End(TagEnd::List(true)))?);
+    assert!(rt; is_kept(alloc, Event::Text(text(OF_30)))?);
+    assert!(rt; is_kept(alloc, Event::Code(text(OF_15)))?);
+    assert!(rt; is_kept(alloc, Event::InlineMath(text("x")))?);
+    assert!(rt; is_kept(alloc, Event::DisplayMath(text("x")))?);
+    assert!(rt; is_kept(alloc, Event::Html(text("<a>")))?);
+    assert!(rt; is_kept(alloc, Event::InlineHtml(text("<a>")))?);
+    assert!(rt; is_kept(alloc, Event::FootnoteReference(text("1")))?);
+    assert!(rt; is_kept(alloc, Event::SoftBreak)?);
+    assert!(rt; is_kept(alloc, Event::HardBreak)?);
+    assert!(rt; is_kept(alloc, Event::Rule)?);
+    assert!(rt; is_kept(alloc, Event::TaskListMarker(true))?);
     Ok(())
 }
 
@@ -341,35 +391,48 @@ fn is_boxed(text: &CowStr<'_>) -> bool {
     matches!(text, CowStr::Boxed(_))
 }
 
-fn has_boxed_texts(event: &Event<'_>) -> bool {
-    match event {
-        Event::Start(
-            Tag::Link {
-                dest_url,
-                title,
-                id,
-                ..
-            },
-        ) => is_boxed(dest_url) && is_boxed(title) && is_boxed(id),
-        Event::Text(text) => is_boxed(text),
-        _ => false,
+trait OwnsTexts {
+    fn owns_its_texts(&self) -> bool;
+}
+
+impl OwnsTexts for Event<'static> {
+    fn owns_its_texts(&self) -> bool {
+        match self {
+            Event::Start(
+                Tag::Link {
+                    dest_url,
+                    title,
+                    id,
+                    ..
+                },
+            ) => is_boxed(dest_url) && is_boxed(title) && is_boxed(id),
+            Event::Text(text) => is_boxed(text),
+            _ => false,
+        }
     }
 }
 
-// Whether the event with nothing borrowed equals this one, and its texts are owned.
-fn becomes_owned(alloc: Global, event: Event<'_>, wanted: &Event<'_>) -> Result<bool, AllocError> {
-    let event = event.into_static(alloc)?;
-    Ok(has_boxed_texts(&event) && event == *wanted)
+// Whether the value, with nothing borrowed, equals this one and owns its texts.
+fn becomes_owned<T: Drop + Kept + OwnsTexts + PartialEq>(
+    alloc: Global,
+    value: T,
+    wanted: T,
+) -> Result<bool, AllocError> {
+    let value = value.made_static(alloc)?;
+    Ok(value.owns_its_texts() && value == wanted)
 }
 
 fn long_link() -> Event<'static> {
     Event::Start(link(OF_30, OF_30, OF_30))
 }
 
+fn long_text() -> Event<'static> {
+    Event::Text(CowStr::from(OF_30))
+}
+
 #[test]
 fn long_texts_of_static_events_are_owned(rt: HostRuntime) -> Result<(), Fail> {
-    assert!(rt; becomes_owned(rt.alloc(), long_link(), &long_link())?);
-    let text = || Event::Text(CowStr::from(OF_30));
-    assert!(rt; becomes_owned(rt.alloc(), text(), &text())?);
+    assert!(rt; becomes_owned(rt.alloc(), long_link(), long_link())?);
+    assert!(rt; becomes_owned(rt.alloc(), long_text(), long_text())?);
     Ok(())
 }

@@ -2,6 +2,7 @@
 ghost use Rattle.std.specs.Prelude.{◌≡◌, ◌-◌, ◌^◌, ◌==◌, ◌↔◌, ◌&&◌, not, if◌then◌else◌, IfSome, IsSome};
 ghost use Rattle.std.specs.Int.RustNames.{bit_and, bit_or, bit_xor};
 
+use crate::asserts::assert_same;
 use bitflags::Flags;
 use markdown_values::values::Options;
 
@@ -191,32 +192,32 @@ fn flags_have_the_names_and_bits_of_the_table(rt: HostRuntime) {
         (Options::ENABLE_WIKILINKS, "ENABLE_WIKILINKS", 32768),
     ];
     let flags = Options::flags();
-    assert_eq!(rt; flags.len(), rows.len());
+    assert_same(&rt, flags.len(), rows.len());
     for (flag, (options, name, bits)) in flags.iter().zip(rows) {
         assert_eq!(rt; options.bits(), bits, "at {name}");
-        assert_eq!(rt; flag.name(), name);
+        assert_same(&rt, flag.name(), name);
         assert_eq!(rt; flag.value().bits(), bits, "at {name}");
     }
 }
 
 #[test]
 fn known_bits_are_those_of_the_table(rt: HostRuntime) {
-    assert_eq!(rt; bits_of_empty(), 0);
-    assert_eq!(rt; bits_of_all(), 65534);
-    assert_eq!(rt; bits_if_known(1), None);
-    assert_eq!(rt; bits_if_known(65534), Some(65534));
-    assert_eq!(rt; bits_if_known(512), Some(512));
+    assert_same(&rt, bits_of_empty(), 0);
+    assert_same(&rt, bits_of_all(), 65534);
+    assert_same(&rt, bits_if_known(1), None);
+    assert_same(&rt, bits_if_known(65534), Some(65534));
+    assert_same(&rt, bits_if_known(512), Some(512));
     let holds_footnotes = Options::from_bits(512).map(|options| options.contains(
         Options::ENABLE_FOOTNOTES,
     ));
-    assert_eq!(rt; holds_footnotes, Some(false));
-    assert_eq!(rt; known_bits(65537), 0);
-    assert_eq!(rt; retained_bits(65537), 65537);
+    assert_same(&rt, holds_footnotes, Some(false));
+    assert_same(&rt, known_bits(65537), 0);
+    assert_same(&rt, retained_bits(65537), 65537);
     assert!(rt; is_empty(0) && !is_empty(1));
     assert!(rt; is_all(65534) && is_all(65535) && !is_all(65532));
-    assert_eq!(rt; complement(6), 65528);
-    assert_eq!(rt; complement(1), 65534);
-    assert_eq!(rt; old_footnotes(), 516);
+    assert_same(&rt, complement(6), 65528);
+    assert_same(&rt, complement(1), 65534);
+    assert_same(&rt, old_footnotes(), 516);
 }
 
 #[test]
@@ -224,18 +225,18 @@ fn options_are_sets_of_bits(rt: HostRuntime) {
     assert!(rt; contains(6, 4) && contains(6, 0) && !contains(4, 516));
     assert!(rt; intersects(4, 516) && !intersects(4, 512) && !intersects(4, 0));
     let tables_and_footnotes = Options::ENABLE_TABLES.union(Options::ENABLE_FOOTNOTES);
-    assert_eq!(rt; tables_and_footnotes.bits(), 6);
-    assert_eq!(rt; union(6, 12), 14);
-    assert_eq!(rt; insert(6, 12), 14);
-    assert_eq!(rt; intersection(6, 12), 4);
-    assert_eq!(rt; difference(516, 4), 512);
+    assert_same(&rt, tables_and_footnotes.bits(), 6);
+    assert_same(&rt, union(6, 12), 14);
+    assert_same(&rt, insert(6, 12), 14);
+    assert_same(&rt, intersection(6, 12), 4);
+    assert_same(&rt, difference(516, 4), 512);
     let all_but_math = Options::all().difference(Options::ENABLE_MATH);
-    assert_eq!(rt; all_but_math.bits(), 64510);
-    assert_eq!(rt; remove(516, 4), 512);
-    assert_eq!(rt; symmetric_difference(6, 12), 10);
-    assert_eq!(rt; toggle(6, 12), 10);
-    assert_eq!(rt; set(6, 8, true), 14);
-    assert_eq!(rt; set(6, 4, false), 2);
+    assert_same(&rt, all_but_math.bits(), 64510);
+    assert_same(&rt, remove(516, 4), 512);
+    assert_same(&rt, symmetric_difference(6, 12), 10);
+    assert_same(&rt, toggle(6, 12), 10);
+    assert_same(&rt, set(6, 8, true), 14);
+    assert_same(&rt, set(6, 4, false), 2);
 }
 
 #[test]
