@@ -1,7 +1,7 @@
 //! Events, each of which owns or lends a text or holds a tag.
 use crate::stop::Stop;
 use crate::tags::{heading, lent_heading};
-use crate::telling::{tell_call_on, tell_consuming};
+use crate::telling::{Copied, MadeOf, tell_consuming, tell_copy};
 use crate::texts::{OF_30, lent, owned};
 use markdown_values::strings::CowStr;
 use markdown_values::values::Event;
@@ -20,26 +20,32 @@ pub(crate) fn run<W: Write>(alloc: Global, output: &mut W, case: EventCase) -> R
     match case {
         EventCase::Clone => clone_all(alloc, output),
         EventCase::IntoStatic => all_into_static(alloc, output),
-        EventCase::StartClone => tell_call_on(alloc, output, &start, &copied_event),
-        EventCase::StartIntoStatic => tell_consuming(
-            alloc,
-            output,
-            OF_30,
-            &lent_start,
-            &static_event,
-        ),
+        EventCase::StartClone => tell_copy(alloc, output, start(alloc)),
+        EventCase::StartIntoStatic => {
+            into_static(alloc, output, lent_start(alloc), lent_start(alloc))
+        }
     }
 }
 
-pub(crate) fn copied_event(
+fn into_static<W: Write>(
     alloc: Global,
-    event: &Event<'static>,
-) -> Result<Event<'static>, AllocError> {
-    event.clone(alloc)
+    output: &mut W,
+    first: Result<Event<'static>, AllocError>,
+    second: Result<Event<'static>, AllocError>,
+) -> Result<(), Stop> {
+    tell_consuming::<W, Event<'static>, Event<'static>>(alloc, output, OF_30, first, second)
 }
 
-fn static_event(alloc: Global, event: Event<'static>) -> Result<Event<'static>, AllocError> {
-    event.into_static(alloc)
+impl Copied for Event<'static> {
+    fn copied(&self, alloc: Global) -> Result<Event<'static>, AllocError> {
+        self.clone(alloc)
+    }
+}
+
+impl MadeOf<Event<'static>> for Event<'static> {
+    fn made_of(alloc: Global, value: Event<'static>) -> Result<Event<'static>, AllocError> {
+        value.into_static(alloc)
+    }
 }
 
 // The events of one text.
@@ -64,12 +70,8 @@ const KINDS: [Kind; 7] = [
     Kind::FootnoteReference,
 ];
 
-fn event_of(
-    kind: Kind,
-    made: Result<CowStr<'static>, AllocError>,
-) -> Result<Event<'static>, AllocError> {
-    let text = made?;
-    Ok(match kind {
+fn event_of(kind: Kind, text: CowStr<'static>) -> Event<'static> {
+    match kind {
         Kind::Text => Event::Text(text),
         Kind::Code => Event::Code(text),
         Kind::InlineMath => Event::InlineMath(text),
@@ -77,14 +79,21 @@ fn event_of(
         Kind::Html => Event::Html(text),
         Kind::InlineHtml => Event::InlineHtml(text),
         Kind::FootnoteReference => Event::FootnoteReference(text),
-    })
+    }
+}
+
+fn owned_event(alloc: Global, kind: Kind) -> Result<Event<'static>, AllocError> {
+    Ok(event_of(kind, owned(alloc)?))
+}
+
+fn lent_event(kind: Kind) -> Result<Event<'static>, AllocError> {
+    Ok(event_of(kind, lent()))
 }
 
 // Each event of one owned text is copied.
 fn clone_all<W: Write>(alloc: Global, output: &mut W) -> Result<(), Stop> {
     for kind in KINDS {
-        let make = |alloc| event_of(kind, owned(alloc));
-        tell_call_on(alloc, output, &make, &copied_event)?;
+        tell_copy(alloc, output, owned_event(alloc, kind))?;
     }
     Ok(())
 }
@@ -92,8 +101,7 @@ fn clone_all<W: Write>(alloc: Global, output: &mut W) -> Result<(), Stop> {
 // Each event of one borrowed text comes to own it.
 fn all_into_static<W: Write>(alloc: Global, output: &mut W) -> Result<(), Stop> {
     for kind in KINDS {
-        let make = |alloc| event_of(kind, lent(alloc));
-        tell_consuming(alloc, output, OF_30, &make, &static_event)?;
+        into_static(alloc, output, lent_event(kind), lent_event(kind))?;
     }
     Ok(())
 }

@@ -3,7 +3,7 @@ ghost use Rattle.std.specs.Prelude.{◌≡◌, Some};
 
 use crate::no_memory::texts::hash_of;
 use crate::stop::Stop;
-use crate::telling::{tell_call, tell_consuming, tell_ready_on};
+use crate::telling::{MadeOf, tell_call, tell_consuming, tell_ready_on};
 use crate::texts::boxed;
 use markdown_scanners_tree::linklabel::{LinkLabel, scan_link_label_rest};
 use markdown_values::strings::CowStr;
@@ -39,10 +39,6 @@ const STREET: &str = "Straße 0123456789abcdefghijklmnopqrst";
 
 const CAPITALS: &str = "STRASSE 0123456789ABCDEFGHIJKLMNOPQRST";
 
-fn owned_street(alloc: Global) -> Result<CowStr<'static>, AllocError> {
-    boxed(alloc, STREET)
-}
-
 // A label, told by its text.
 #[derive(Drop)]
 struct NewLabel<'a>(LinkLabel<'a>);
@@ -53,13 +49,16 @@ impl fmt::Debug for NewLabel<'_> {
     }
 }
 
-/// The label of an owned text, whose folding is longer.
-pub(crate) fn new<W: Write>(alloc: Global, output: &mut W) -> Result<(), Stop> {
-    tell_consuming(alloc, output, STREET, &owned_street, &new_label)
+impl MadeOf<CowStr<'static>> for NewLabel<'static> {
+    fn made_of(alloc: Global, value: CowStr<'static>) -> Result<NewLabel<'static>, AllocError> {
+        LinkLabel::new(alloc, value).map(NewLabel)
+    }
 }
 
-fn new_label(alloc: Global, text: CowStr<'static>) -> Result<NewLabel<'static>, AllocError> {
-    LinkLabel::new(alloc, text).map(NewLabel)
+/// The label of an owned text, whose folding is longer.
+pub(crate) fn new<W: Write>(alloc: Global, output: &mut W) -> Result<(), Stop> {
+    let (first, second) = (boxed(alloc, STREET), boxed(alloc, STREET));
+    tell_consuming::<W, CowStr<'static>, NewLabel<'static>>(alloc, output, STREET, first, second)
 }
 
 /// Labels are read and compared without memory.

@@ -1,6 +1,6 @@
 //! Kinds of code blocks, and tags, with all that owns memory in them.
 use crate::stop::Stop;
-use crate::telling::{tell_call_on, tell_consuming};
+use crate::telling::{Copied, MadeOf, tell_consuming, tell_copy};
 use crate::texts::{OF_30, lent, owned};
 use markdown_values::strings::CowStr;
 use markdown_values::values::{Alignment, CodeBlockKind, HeadingLevel, LinkType, Tag};
@@ -26,84 +26,101 @@ pub(crate) enum TagCase {
 
 pub(crate) fn run<W: Write>(alloc: Global, output: &mut W, case: TagCase) -> Result<(), Stop> {
     match case {
-        TagCase::KindClone => tell_call_on(alloc, output, &fenced, &copied_kind),
-        TagCase::KindIntoStatic => tell_consuming(alloc, output, OF_30, &lent_fenced, &static_kind),
-        TagCase::HeadingClone => tell_call_on(alloc, output, &heading, &copied_tag),
-        TagCase::HeadingIntoStatic => tell_consuming(
+        TagCase::KindClone => tell_copy(alloc, output, fenced(alloc)),
+        TagCase::KindIntoStatic => kind_into_static(alloc, output),
+        TagCase::HeadingClone => tell_copy(alloc, output, heading(alloc)),
+        TagCase::HeadingIntoStatic => {
+            into_static(alloc, output, lent_heading(alloc), lent_heading(alloc))
+        }
+        TagCase::CodeBlockClone => tell_copy(alloc, output, code_block(alloc)),
+        TagCase::CodeBlockIntoStatic => {
+            into_static(alloc, output, lent_code_block(), lent_code_block())
+        }
+        TagCase::FootnoteClone => tell_copy(alloc, output, footnote(alloc)),
+        TagCase::FootnoteIntoStatic => {
+            into_static(alloc, output, lent_footnote(), lent_footnote())
+        }
+        TagCase::TableClone => tell_copy(alloc, output, table(alloc)),
+        TagCase::LinkClone => tell_copy(alloc, output, link(alloc)),
+        TagCase::LinkIntoStatic => into_static(alloc, output, lent_link(alloc), lent_link(alloc)),
+        TagCase::ImageClone => tell_copy(alloc, output, image(alloc)),
+        TagCase::ImageIntoStatic => into_static(
             alloc,
             output,
-            OF_30,
-            &lent_heading,
-            &static_tag,
+            lent_image(alloc),
+            lent_image(alloc),
         ),
-        TagCase::CodeBlockClone => tell_call_on(alloc, output, &code_block, &copied_tag),
-        TagCase::CodeBlockIntoStatic => tell_consuming(
-            alloc,
-            output,
-            OF_30,
-            &lent_code_block,
-            &static_tag,
-        ),
-        TagCase::FootnoteClone => tell_call_on(alloc, output, &footnote, &copied_tag),
-        TagCase::FootnoteIntoStatic => tell_consuming(
-            alloc,
-            output,
-            OF_30,
-            &lent_footnote,
-            &static_tag,
-        ),
-        TagCase::TableClone => tell_call_on(alloc, output, &table, &copied_tag),
-        TagCase::LinkClone => tell_call_on(alloc, output, &link, &copied_tag),
-        TagCase::LinkIntoStatic => tell_consuming(alloc, output, OF_30, &lent_link, &static_tag),
-        TagCase::ImageClone => tell_call_on(alloc, output, &image, &copied_tag),
-        TagCase::ImageIntoStatic => tell_consuming(alloc, output, OF_30, &lent_image, &static_tag),
     }
 }
 
-pub(crate) fn copied_kind(
+fn kind_into_static<W: Write>(alloc: Global, output: &mut W) -> Result<(), Stop> {
+    tell_consuming::<W, CodeBlockKind<'static>, CodeBlockKind<'static>>(
+        alloc,
+        output,
+        OF_30,
+        Ok(lent_fenced()),
+        Ok(lent_fenced()),
+    )
+}
+
+fn into_static<W: Write>(
     alloc: Global,
-    kind: &CodeBlockKind<'static>,
-) -> Result<CodeBlockKind<'static>, AllocError> {
-    kind.clone(alloc)
+    output: &mut W,
+    first: Result<Tag<'static>, AllocError>,
+    second: Result<Tag<'static>, AllocError>,
+) -> Result<(), Stop> {
+    tell_consuming::<W, Tag<'static>, Tag<'static>>(alloc, output, OF_30, first, second)
 }
 
-fn static_kind(
-    alloc: Global,
-    kind: CodeBlockKind<'static>,
-) -> Result<CodeBlockKind<'static>, AllocError> {
-    kind.into_static(alloc)
+impl Copied for CodeBlockKind<'static> {
+    fn copied(&self, alloc: Global) -> Result<CodeBlockKind<'static>, AllocError> {
+        self.clone(alloc)
+    }
 }
 
-pub(crate) fn copied_tag(alloc: Global, tag: &Tag<'static>) -> Result<Tag<'static>, AllocError> {
-    tag.clone(alloc)
+impl MadeOf<CodeBlockKind<'static>> for CodeBlockKind<'static> {
+    fn made_of(
+        alloc: Global,
+        value: CodeBlockKind<'static>,
+    ) -> Result<CodeBlockKind<'static>, AllocError> {
+        value.into_static(alloc)
+    }
 }
 
-pub(crate) fn static_tag(alloc: Global, tag: Tag<'static>) -> Result<Tag<'static>, AllocError> {
-    tag.into_static(alloc)
+impl Copied for Tag<'static> {
+    fn copied(&self, alloc: Global) -> Result<Tag<'static>, AllocError> {
+        self.clone(alloc)
+    }
+}
+
+impl MadeOf<Tag<'static>> for Tag<'static> {
+    fn made_of(alloc: Global, value: Tag<'static>) -> Result<Tag<'static>, AllocError> {
+        value.into_static(alloc)
+    }
 }
 
 fn fenced(alloc: Global) -> Result<CodeBlockKind<'static>, AllocError> {
     owned(alloc).map(CodeBlockKind::Fenced)
 }
 
-pub(crate) fn lent_fenced(alloc: Global) -> Result<CodeBlockKind<'static>, AllocError> {
-    lent(alloc).map(CodeBlockKind::Fenced)
+pub(crate) fn lent_fenced() -> CodeBlockKind<'static> {
+    CodeBlockKind::Fenced(lent())
 }
 
 fn code_block(alloc: Global) -> Result<Tag<'static>, AllocError> {
     fenced(alloc).map(Tag::CodeBlock)
 }
 
-fn lent_code_block(alloc: Global) -> Result<Tag<'static>, AllocError> {
-    lent_fenced(alloc).map(Tag::CodeBlock)
+fn lent_code_block() -> Result<Tag<'static>, AllocError> {
+    Ok(Tag::CodeBlock(lent_fenced()))
 }
 
 fn footnote(alloc: Global) -> Result<Tag<'static>, AllocError> {
     owned(alloc).map(Tag::FootnoteDefinition)
 }
 
-fn lent_footnote(alloc: Global) -> Result<Tag<'static>, AllocError> {
-    lent(alloc).map(Tag::FootnoteDefinition)
+fn lent_footnote() -> Result<Tag<'static>, AllocError> {
+    Ok(Tag::FootnoteDefinition(lent()))
 }
 
 fn two<T: Drop>(alloc: Global, first: T, second: T) -> Result<Vec<T>, AllocError> {
@@ -115,6 +132,10 @@ fn two<T: Drop>(alloc: Global, first: T, second: T) -> Result<Vec<T>, AllocError
 
 pub(crate) fn table(alloc: Global) -> Result<Tag<'static>, AllocError> {
     Ok(Tag::Table(two(alloc, Alignment::None, Alignment::Center)?))
+}
+
+fn lent_text(_alloc: Global) -> Result<CowStr<'static>, AllocError> {
+    Ok(lent())
 }
 
 // What owns memory in a heading: an identifier, two classes and two attributes.
@@ -152,7 +173,7 @@ pub(crate) fn heading(alloc: Global) -> Result<Tag<'static>, AllocError> {
 }
 
 pub(crate) fn lent_heading(alloc: Global) -> Result<Tag<'static>, AllocError> {
-    heading_texts(alloc, &lent).map(heading_of)
+    heading_texts(alloc, &lent_text).map(heading_of)
 }
 
 // What owns memory in a link or an image.
@@ -199,7 +220,7 @@ fn link(alloc: Global) -> Result<Tag<'static>, AllocError> {
 }
 
 pub(crate) fn lent_link(alloc: Global) -> Result<Tag<'static>, AllocError> {
-    link_texts(alloc, &lent).map(link_of)
+    link_texts(alloc, &lent_text).map(link_of)
 }
 
 fn image(alloc: Global) -> Result<Tag<'static>, AllocError> {
@@ -207,5 +228,5 @@ fn image(alloc: Global) -> Result<Tag<'static>, AllocError> {
 }
 
 fn lent_image(alloc: Global) -> Result<Tag<'static>, AllocError> {
-    link_texts(alloc, &lent).map(image_of)
+    link_texts(alloc, &lent_text).map(image_of)
 }

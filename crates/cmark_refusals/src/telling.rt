@@ -5,6 +5,16 @@ use std::alloc::{AllocError, Global};
 use std::fmt::Debug;
 use std::io::Write;
 
+/// A value of which a call makes a copy.
+pub(crate) trait Copied {
+    fn copied(&self, alloc: Global) -> Result<Self, AllocError>;
+}
+
+/// What a call makes of a value that it consumes.
+pub(crate) trait MadeOf<T> {
+    fn made_of(alloc: Global, value: T) -> Result<Self, AllocError>;
+}
+
 /// The end of what a case is made of: what comes next is the call.
 pub(crate) fn tell_ready<W: Write>(output: &mut W) -> Result<(), Stop> {
     output.write_all(b"ready\n")?;
@@ -49,16 +59,13 @@ pub(crate) fn tell_seen<W: Write, T: Drop, D: Debug + Drop, F: Fn(&T) -> D>(
     tell(output, look(&value))
 }
 
-/// What a call on a value answers.
-pub(crate) fn answer_on<T: Drop, U, F: Fn(Global, &T) -> Result<U, AllocError>>(
+/// A copy of a value; the value itself is dropped.
+pub(crate) fn copy_of<T: Copied + Drop>(
     alloc: Global,
     made: Result<T, AllocError>,
-    call: &F,
-) -> Result<U, AllocError>
-    requires { F.IsAlwaysCallable call.now }
-{
+) -> Result<T, AllocError> {
     let value = made?;
-    call(alloc, &value)
+    value.copied(alloc)
 }
 
 /// Tells that the value is ready, and then what a call on it answers.
@@ -75,17 +82,14 @@ pub(crate) fn tell_ready_on<W: Write, T: Drop, U: Debug + Drop, F: Fn(&T) -> Res
 }
 
 /// The same of a call that consumes the value.
-pub(crate) fn tell_ready_consuming<
-    W: Write,
-    T: Drop,
-    U: Debug + Drop,
-    F: Fn(Global, T) -> Result<U, AllocError>,
->(alloc: Global, output: &mut W, made: Result<T, AllocError>, call: &F) -> Result<(), Stop>
-    requires { F.IsAlwaysCallable call.now }
-{
+pub(crate) fn tell_ready_consuming<W: Write, T: Drop, U: MadeOf<T> + Debug + Drop>(
+    alloc: Global,
+    output: &mut W,
+    made: Result<T, AllocError>,
+) -> Result<(), Stop> {
     let value = made?;
     tell_ready(output)?;
-    tell(output, call(alloc, value)?)
+    tell(output, U::made_of(alloc, value)?)
 }
 
 /// Makes the call, and where it is refused makes it again.
@@ -106,46 +110,39 @@ pub(crate) fn tell_call<W: Write, S: Debug, T: Debug + Drop, F: Fn() -> Result<T
     }
 }
 
-/// The same of a call on a value that is made for it.
-pub(crate) fn tell_call_on<
-    W: Write,
-    T: Debug + Drop,
-    U: Debug + Drop,
-    M: Fn(Global) -> Result<T, AllocError>,
-    F: Fn(Global, &T) -> Result<U, AllocError>,
->(alloc: Global, output: &mut W, make: &M, call: &F) -> Result<(), Stop>
-    requires make { M.IsAlwaysCallable make.now }
-    requires call { F.IsAlwaysCallable call.now }
-{
-    let value = make(alloc)?;
+/// The same of the call that copies a value.
+pub(crate) fn tell_copy<W: Write, T: Copied + Debug + Drop>(
+    alloc: Global,
+    output: &mut W,
+    made: Result<T, AllocError>,
+) -> Result<(), Stop> {
+    let value = made?;
     tell_before(output, &value)?;
-    match call(alloc, &value) {
-        Ok(answer) => tell(output, answer),
+    match value.copied(alloc) {
+        Ok(copy) => tell(output, copy),
         Err(_) => {
             tell_refused(output, &value)?;
-            tell(output, call(alloc, &value)?)
+            tell(output, value.copied(alloc)?)
         }
     }
 }
 
-/// The same of a call that consumes a value, which is made before the call, and again before the second.
-pub(crate) fn tell_consuming<
-    W: Write,
-    T: Drop,
-    U: Debug + Drop,
-    M: Fn(Global) -> Result<T, AllocError>,
-    F: Fn(Global, T) -> Result<U, AllocError>,
->(alloc: Global, output: &mut W, state: &str, make: &M, call: &F) -> Result<(), Stop>
-    requires make { M.IsAlwaysCallable make.now }
-    requires call { F.IsAlwaysCallable call.now }
-{
-    let value = make(alloc)?;
+/// The same of a call that consumes a value: the second is there for the second call.
+pub(crate) fn tell_consuming<W: Write, T: Drop, U: MadeOf<T> + Debug + Drop>(
+    alloc: Global,
+    output: &mut W,
+    state: &str,
+    first: Result<T, AllocError>,
+    second: Result<T, AllocError>,
+) -> Result<(), Stop> {
+    let value = first?;
+    let another = second?;
     tell_before(output, &state)?;
-    match call(alloc, value) {
+    match U::made_of(alloc, value) {
         Ok(answer) => tell(output, answer),
         Err(_) => {
             tell_refused(output, &state)?;
-            tell(output, call(alloc, make(alloc)?)?)
+            tell(output, U::made_of(alloc, another)?)
         }
     }
 }

@@ -1,6 +1,6 @@
 //! Texts: cases of `CowStr`.
 use crate::stop::Stop;
-use crate::telling::{tell_call_on, tell_consuming};
+use crate::telling::{Copied, MadeOf, tell_consuming, tell_copy};
 use markdown_values::strings::{CowStr, InlineStr};
 use std::alloc::{AllocError, Global};
 use std::fmt;
@@ -43,38 +43,46 @@ pub(crate) fn owned(alloc: Global) -> Result<CowStr<'static>, AllocError> {
 }
 
 /// The same text, borrowed.
-pub(crate) fn lent(_alloc: Global) -> Result<CowStr<'static>, AllocError> {
-    Ok(CowStr::from(OF_30))
+pub(crate) fn lent() -> CowStr<'static> {
+    CowStr::from(OF_30)
 }
 
-fn inlined(_alloc: Global) -> Result<CowStr<'static>, AllocError> {
-    Ok(CowStr::Inlined(InlineStr::from('藏')))
+fn inlined() -> CowStr<'static> {
+    CowStr::Inlined(InlineStr::from('藏'))
 }
 
 fn string(alloc: Global) -> Result<String, AllocError> {
     String::from_str(alloc, OF_30)
 }
 
-fn copied_text(alloc: Global, text: &CowStr<'static>) -> Result<CowStr<'static>, AllocError> {
-    text.clone(alloc)
+impl Copied for CowStr<'static> {
+    fn copied(&self, alloc: Global) -> Result<CowStr<'static>, AllocError> {
+        self.clone(alloc)
+    }
 }
 
-fn text_of(alloc: Global, string: String) -> Result<CowStr<'static>, AllocError> {
-    CowStr::from_string(alloc, string)
+impl MadeOf<String> for CowStr<'static> {
+    fn made_of(alloc: Global, value: String) -> Result<CowStr<'static>, AllocError> {
+        CowStr::from_string(alloc, value)
+    }
 }
 
-pub(crate) fn string_of(alloc: Global, text: CowStr<'static>) -> Result<String, AllocError> {
-    text.into_string(alloc)
+impl MadeOf<CowStr<'static>> for String {
+    fn made_of(alloc: Global, value: CowStr<'static>) -> Result<String, AllocError> {
+        value.into_string(alloc)
+    }
 }
 
-fn static_text(alloc: Global, text: CowStr<'static>) -> Result<CowStr<'static>, AllocError> {
-    text.into_static(alloc)
+impl MadeOf<CowStr<'static>> for Text<'static> {
+    fn made_of(alloc: Global, value: CowStr<'static>) -> Result<Text<'static>, AllocError> {
+        value.into_static(alloc).map(Text)
+    }
 }
 
 pub(crate) fn run<W: Write>(alloc: Global, output: &mut W, case: TextCase) -> Result<(), Stop> {
     match case {
         TextCase::FromString => from_string(alloc, output),
-        TextCase::Clone => clone(alloc, output),
+        TextCase::Clone => tell_copy(alloc, output, owned(alloc)),
         TextCase::IntoString => into_string(alloc, output),
         TextCase::IntoStatic => into_static(alloc, output),
     }
@@ -82,21 +90,33 @@ pub(crate) fn run<W: Write>(alloc: Global, output: &mut W, case: TextCase) -> Re
 
 // An owned text keeps the memory of its `String`.
 fn from_string<W: Write>(alloc: Global, output: &mut W) -> Result<(), Stop> {
-    tell_consuming(alloc, output, OF_30, &string, &text_of)
-}
-
-// A long owned text is copied.
-fn clone<W: Write>(alloc: Global, output: &mut W) -> Result<(), Stop> {
-    tell_call_on(alloc, output, &owned, &copied_text)
+    let (first, second) = (string(alloc), string(alloc));
+    tell_consuming::<W, String, CowStr<'static>>(alloc, output, OF_30, first, second)
 }
 
 // A borrowed text and an inlined one become a `String`.
 fn into_string<W: Write>(alloc: Global, output: &mut W) -> Result<(), Stop> {
-    tell_consuming(alloc, output, OF_30, &lent, &string_of)?;
-    tell_consuming(alloc, output, "藏", &inlined, &string_of)
+    tell_string(alloc, output, OF_30, Ok(lent()), Ok(lent()))?;
+    tell_string(alloc, output, "藏", Ok(inlined()), Ok(inlined()))
+}
+
+fn tell_string<W: Write>(
+    alloc: Global,
+    output: &mut W,
+    state: &str,
+    first: Result<CowStr<'static>, AllocError>,
+    second: Result<CowStr<'static>, AllocError>,
+) -> Result<(), Stop> {
+    tell_consuming::<W, CowStr<'static>, String>(alloc, output, state, first, second)
 }
 
 // A long borrowed text is owned.
 fn into_static<W: Write>(alloc: Global, output: &mut W) -> Result<(), Stop> {
-    tell_consuming(alloc, output, OF_30, &lent, &static_text)
+    tell_consuming::<W, CowStr<'static>, Text<'static>>(
+        alloc,
+        output,
+        OF_30,
+        Ok(lent()),
+        Ok(lent()),
+    )
 }

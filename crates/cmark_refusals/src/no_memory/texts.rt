@@ -1,7 +1,7 @@
 //! Texts.
 use crate::stop::Stop;
-use crate::telling::{tell, tell_made, tell_ready, tell_ready_consuming, tell_ready_on};
-use crate::texts::{OF_30, Text, boxed, owned, string_of};
+use crate::telling::{MadeOf, tell, tell_made, tell_ready, tell_ready_consuming, tell_ready_on};
+use crate::texts::{OF_30, Text, boxed, owned};
 use markdown_values::strings::{CowStr, InlineStr};
 use std::alloc::{AllocError, Global};
 use std::hash::{BuildHasher, BuildHasherDefault, FoldHasher, Hash};
@@ -21,8 +21,8 @@ pub(crate) fn run<W: Write>(alloc: Global, output: &mut W) -> Result<(), Stop> {
     tell_letter(output)?;
     tell_made(output, copied(alloc, &CowStr::from(OF_30)))?;
     tell_made(output, copied(alloc, &CowStr::from('藏')))?;
-    tell_made(output, made_static(alloc, CowStr::from('a')))?;
-    tell_made(output, made_static(alloc, CowStr::from(OF_22)))
+    tell_made(output, Text::made_of(alloc, CowStr::from('a')))?;
+    tell_made(output, Text::made_of(alloc, CowStr::from(OF_22)))
 }
 
 /// A copy of an owned text that fits in the value itself.
@@ -36,12 +36,13 @@ pub(crate) fn copied_short<W: Write>(alloc: Global, output: &mut W) -> Result<()
 
 /// An owned text, which borrows nothing.
 pub(crate) fn static_owned<W: Write>(alloc: Global, output: &mut W) -> Result<(), Stop> {
-    tell_ready_consuming(alloc, output, owned(alloc), &made_static)
+    tell_ready_consuming::<W, CowStr<'static>, Text<'static>>(alloc, output, owned(alloc))
 }
 
 /// An owned text hands its memory on.
 pub(crate) fn owned_string<W: Write>(alloc: Global, output: &mut W) -> Result<(), Stop> {
-    tell_ready_consuming(alloc, output, boxed(alloc, OF_15), &string_of)
+    let text = boxed(alloc, OF_15);
+    tell_ready_consuming::<W, CowStr<'static>, String>(alloc, output, text)
 }
 
 fn tell_inlined<W: Write>(output: &mut W, text: &str) -> Result<(), Stop> {
@@ -76,8 +77,4 @@ fn compared<'a>(copy: CowStr<'a>, text: &CowStr<'_>) -> (Text<'a>, bool, bool) {
     let is_same = copy == *text;
     let is_same_hash = hash_of(&copy) == hash_of(text);
     (Text(copy), is_same, is_same_hash)
-}
-
-fn made_static(alloc: Global, text: CowStr<'static>) -> Result<Text<'static>, AllocError> {
-    text.into_static(alloc).map(Text)
 }

@@ -1,8 +1,7 @@
 //! Kinds, levels, links, tags and events.
-use crate::events::copied_event;
 use crate::stop::Stop;
-use crate::tags::{copied_kind, copied_tag, lent_fenced, lent_link, static_tag, table};
-use crate::telling::{answer_on, tell, tell_made, tell_ready, tell_ready_consuming, tell_seen};
+use crate::tags::{lent_fenced, lent_link, table};
+use crate::telling::{copy_of, tell, tell_made, tell_ready, tell_ready_consuming, tell_seen};
 use crate::texts::lent;
 use markdown_values::strings::CowStr;
 use markdown_values::values::{CodeBlockKind, Event, HeadingLevel, LinkType, Tag, TagEnd};
@@ -21,7 +20,7 @@ pub(crate) fn run<W: Write>(alloc: Global, output: &mut W) -> Result<(), Stop> {
 
 /// The tag of a table, which borrows nothing.
 pub(crate) fn static_table<W: Write>(alloc: Global, output: &mut W) -> Result<(), Stop> {
-    tell_ready_consuming(alloc, output, table(alloc), &static_tag)
+    tell_ready_consuming::<W, Tag<'static>, Tag<'static>>(alloc, output, table(alloc))
 }
 
 fn tell_kind<W: Write>(
@@ -37,8 +36,8 @@ fn tell_kind<W: Write>(
 
 fn kinds<W: Write>(alloc: Global, output: &mut W) -> Result<(), Stop> {
     let indented = Ok(CodeBlockKind::Indented);
-    tell_kind(output, answer_on(alloc, indented, &copied_kind))?;
-    tell_kind(output, answer_on(alloc, lent_fenced(alloc), &copied_kind))?;
+    tell_kind(output, copy_of(alloc, indented))?;
+    tell_kind(output, copy_of(alloc, Ok(lent_fenced())))?;
     let letter = CodeBlockKind::Fenced(CowStr::from('r'));
     tell_kind(output, letter.into_static(alloc))
 }
@@ -61,13 +60,12 @@ fn tags<W: Write>(alloc: Global, output: &mut W) -> Result<(), Stop> {
     tell_seen(output, lent_link(alloc), &|tag: &Tag| tag.to_end())?;
     let list = Tag::List(Some(3)).into_static(alloc);
     tell_made(output, list.map(end_of))?;
-    tell_made(output, answer_on(alloc, lent_link(alloc), &copied_tag))
+    tell_made(output, copy_of(alloc, lent_link(alloc)))
 }
 
 fn events<W: Write>(alloc: Global, output: &mut W) -> Result<(), Stop> {
-    let text = lent(alloc).map(Event::Text);
-    tell_made(output, answer_on(alloc, text, &copied_event))?;
+    tell_made(output, copy_of(alloc, Ok(Event::Text(lent()))))?;
     tell_made(output, Event::TaskListMarker(true).into_static(alloc))?;
     let end = Ok(Event::End(TagEnd::Table));
-    tell_made(output, answer_on(alloc, end, &copied_event))
+    tell_made(output, copy_of(alloc, end))
 }
