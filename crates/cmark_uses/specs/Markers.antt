@@ -1,7 +1,7 @@
 -- What lines begin with, in the words of the line starts. Callers take these words as they are; the function that answers one opens it.
-use Rattle.std.specs.Prelude.{ℕ, List, Option}
+use Rattle.std.specs.Prelude.{ℕ, Bool, List, Option}
 use Rattle.markdown_scanners_tree.specs.line.State.{LineState, after_space}
-use Rattle.markdown_scanners_tree.specs.line.Outcome.{after_quote, item_outcome}
+use Rattle.markdown_scanners_tree.specs.line.Outcome.{after_quote, item_outcome, task_outcome}
 
 -- the start of a line
 abbrev pub start_of : List ℕ → LineState
@@ -18,3 +18,7 @@ item_behind start = (item_outcome 0 (after_space 3 start)).answer
 -- the place behind at most three spaces and the marker of a list item
 unfoldable pub behind_item : LineState → LineState
 behind_item start = (item_outcome 0 (after_space 3 start)).state
+
+-- whether the box of a task list item, behind at most three spaces, is ticked
+unfoldable pub box_behind : LineState → Option Bool
+box_behind start = (task_outcome start).answer

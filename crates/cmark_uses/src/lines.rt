@@ -1,8 +1,7 @@
 //! Lines in containers, read column by column: their markers, and what stands behind them.
 ghost use Rattle.std.specs.Prelude.{◌≡◌, ◌++◌, length, count_by, is_some, IfOk};
 ghost use Rattle.std.specs.List.{filter_map};
-ghost use Rattle.markdown_scanners_tree.specs.line.Outcome.{task_outcome};
-ghost use Rattle.cmark_uses.specs.Markers.{start_of, behind_quote, behind_item, item_behind};
+ghost use Rattle.cmark_uses.specs.Markers.{start_of, behind_quote, behind_item, item_behind, box_behind};
 
 use markdown_scanners_tree::line::LineStart;
 use std::alloc::{AllocError, Global};
@@ -69,11 +68,19 @@ pub fn item_count(lines: &[&[u8]]) -> usize
     lines.iter().filter(|line| item_of(line).is_some()).count()
 }
 
+// The box that stands at the place, and whether it is ticked.
+#[tactic(auto, unfolding(crate::specs::Markers::box_behind))]
+fn box_at(start: &mut LineStart) -> Option<bool>
+    ensures { result ≡ box_behind start.old }
+{
+    start.scan_task_list_marker()
+}
+
 /// Whether the box before an item's text is ticked; None where there is no box.
 pub fn is_ticked(item: &[u8]) -> Option<bool>
-    ensures { result ≡ (task_outcome (start_of item.now)).answer }
+    ensures { result ≡ box_behind (start_of item.now) }
 {
-    LineStart::new(item).scan_task_list_marker()
+    box_at(&mut LineStart::new(item))
 }
 
 #[cfg(test)]
