@@ -148,7 +148,8 @@ pub fn scan_html_block_inner<F: Fn(&[u8]) -> usize>(
 /// 4.6, start condition 7; the tag names that other start conditions take are not left out here.)
 pub fn scan_html_type_7(data: &[u8]) -> Option<usize>
     ensures found { SomeExactly (IsTagAloneInLine «data».now) result }
-    ensures only { IfSome result (λ n. (other : ℕ) → IsTagAloneInLine «data».now other → other ≡ n) }
+    ensures only { IfSome result (λ n. (other : ℕ)
+        → IsTagAloneInLine «data».now other → other ≡ n) }
     ensures within { IfSome result (λ n. n ≤ length «data».now) }
 {
     let tag = measure_tag(data, None::<&fn(&[u8]) -> usize>)?;

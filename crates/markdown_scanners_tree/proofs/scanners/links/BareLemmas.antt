@@ -4,7 +4,7 @@ use Rattle.std.specs.List.{concat, list_all}
 use Rattle.std.proofs.lemmas.List.{length-append}
 use Rattle.markdown_scanners_tree.proofs.PrefixLemmas.{both_true}
 use Rattle.std.proofs.lemmas.List.Sums.{sum_by-cons}
-use Rattle.std.proofs.lemmas.Bool.{false≢true, or_cases, ltb-true, leb-true, leb-false, and_parts, eqb-true, le-ltb, lt-ltb, eq-eqb, ne_eqb, and_from}
+use Rattle.std.proofs.lemmas.Bool.{false≢true, or_cases, or_parts, or_right, ltb-true, leb-true, leb-false, and_parts, eqb-true, le-ltb, lt-ltb, eq-eqb, ne_eqb, and_from}
 use Rattle.std.specs.Prelude.{◌||◌, ◌&&◌}
 use Rattle.std.proofs.lemmas.List.{drop_all}
 use Rattle.markdown_scanners_tree.proofs.scanners.escapes.UnitLemmas.{units_single_at, units_escape_at, plain_byte}
@@ -161,21 +161,13 @@ so_far_more most d d' i j bytes u is first long in' stands turns low = record {
       (new.0, omega (arith, old.1, new.1, long), new.2);
 }
 
-pub or_right : (x y : Bool) → y ≡ true → (x || y) ≡ true
-or_right true y e = refl
-or_right false y e = e
-
 -- whether the byte ends a destination behind d open parentheses
 abbrev pub ends_at : ℕ → ℕ → Bool
 ends_at b d = leb b space || (eqb b right_parenthesis && eqb d 0)
 
-pub or_false : (x y : Bool) → (x || y) ≡ false → (x ≡ false) × (y ≡ false)
-or_false true y e = absurd (false≢true (sym e))
-or_false false y e = (refl, e)
-
 pub goes_on : (b d : ℕ) → ends_at b d ≡ false → (stands_bare (b ∷ []) ≡ true) × (b ≡ right_parenthesis → d ≡ 0 → ⊥)
 goes_on b d e =
-    let parts = or_false (leb b space) (eqb b right_parenthesis && eqb d 0) e in
+    let parts = or_parts (leb b space) (eqb b right_parenthesis && eqb d 0) e in
     (lt-ltb space b (omega (arith, leb-false b space parts.0)), λ close none. false≢true (sym parts.1 ∙ and_from (eqb b right_parenthesis) (eqb d 0) (eq-eqb b right_parenthesis close) (eq-eqb d 0 none)))
 
 pub turns_open : (b d d' : ℕ) → b ≡ left_parenthesis → d' ≡ d + 1 → Turns (b ∷ []) d d'
