@@ -289,8 +289,14 @@ pub pushed_change : {Z : Type 0} (in_table : Bool) (known : Lookup) (text : List
     → string_bytes new ≡ string_bytes old ++ (kept ++ instead) → string_len new ≡ string_len old + (length kept + length instead) → IsPushed in_table known text run place old new (place + dropped) next
 pushed_change in_table known text run place n dropped next instead kept old new is at kept_is kept_len bytes len =
     let long : n ≡ next - place = omega (arith, at) in
-    inr (dropped, instead, subst (λ k. IsChanged in_table known (drop place text) k dropped instead) long is, refl,
-      bytes ∙ ap (λ k. string_bytes old ++ (k ++ instead)) kept_is, omega (arith, len, kept_len))
+    inr (
+      dropped,
+      instead,
+      subst (λ k. IsChanged in_table known (drop place text) k dropped instead) long is,
+      refl,
+      bytes ∙ ap (λ k. string_bytes old ++ (k ++ instead)) kept_is,
+      omega (arith, len, kept_len),
+    )
 
 -- the same where nothing stands in
 pub pushed_drop : {Z : Type 0} (in_table : Bool) (known : Lookup) (text : List ℕ) (run place n dropped next : ℕ) (kept : List ℕ) (old new : String Z)

@@ -31,8 +31,11 @@ returns-in-Some-clause-size g c = (
 pub returns-in-None-clause-size : goal.returns-in-None-clause-size
 returns-in-None-clause-size g c =
     let known = g.E.Entities.known c.args.entities.now in
-    rw c.plain_size-in-None.ensures (refl, lone_plain c.args.is_in_table known c.args.bytes.now
-    (lone_piece c.args.is_in_table known c.args.bytes.now c.requires (λ b. absurd (omega (arith, b, c.in-38.is))) (λ b. absurd (omega (arith, b, c.in-38.is))) (λ n meaning. c.in-None.ensures.reference (n, Boxed meaning))))
+    rw c.plain_size-in-None.ensures (
+      refl,
+      lone_plain c.args.is_in_table known c.args.bytes.now
+          (lone_piece c.args.is_in_table known c.args.bytes.now c.requires (λ b. absurd (omega (arith, b, c.in-38.is))) (λ b. absurd (omega (arith, b, c.in-38.is))) (λ n meaning. c.in-None.ensures.reference (n, Boxed meaning))),
+    )
 
 pub returns-in_default-clause-size : goal.returns-in_default-clause-size
 returns-in_default-clause-size g c =

@@ -92,7 +92,7 @@ returns-in-None-clause-pushed g c =
     let known = g.E.Entities.known c.args.entities.now in
     let bytes = c.as_bytes.result.now in
     let piece = lone_piece c.args.is_in_table known (rest c.args.text.now bytes c.args.place c.as_bytes.ensures.value) (omega (arith, c.requires.within, c.as_bytes.ensures.len))
-        (λ b. absurd (omega (arith, b, c.in-38.is))) (λ b. absurd (omega (arith, b, c.in-38.is))) (λ n meaning. c.in-None.ensures.reference (n, Boxed meaning)) in
+    (λ b. absurd (omega (arith, b, c.in-38.is))) (λ b. absurd (omega (arith, b, c.in-38.is))) (λ n meaning. c.in-None.ensures.reference (n, Boxed meaning)) in
     pushed_nothing c.args.is_in_table known c.args.text.now c.args.run c.args.place 1 c.args.out.now (lone_at c.args.text.now bytes c.args.place c.as_bytes.ensures.value c.args.is_in_table known piece)
 
 pub returns-in_default-clause-pushed : goal.returns-in_default-clause-pushed
