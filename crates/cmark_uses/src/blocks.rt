@@ -1,7 +1,7 @@
 //! Blocks that their lines tell: thematic breaks, tables, fenced code and metadata.
 ghost use Rattle.std.specs.Prelude.{◌≡◌, ◌≤◌, ◌<◌, ◌↔◌, ◌/◌, ◌++◌, ℕ, List, length, drop, true, IsTrue, IfOk, IfSome, IfNone};
 ghost use Rattle.markdown_scanners_tree.specs.Bytes.{IsBlankLine};
-ghost use Rattle.markdown_scanners_tree.specs.scanners.Breaks.{IsThematicBreak};
+ghost use Rattle.markdown_scanners_tree.specs.scanners.Breaks.{IsThematicBreak, break_length};
 ghost use Rattle.markdown_scanners_tree.specs.scanners.Fences.{IsCodeFence, IsClosingCodeFence};
 ghost use Rattle.markdown_scanners_tree.specs.scanners.Metadata.{IsMetadataBlock};
 ghost use Rattle.markdown_scanners_tree.specs.scanners.Tables.{IsDelimiterRow};
@@ -24,7 +24,9 @@ pub fn is_break(line: &[u8]) -> bool
 /// look there again.
 #[tactic(auto, using(markdown_scanners_tree::proofs::ForCallers::thematic_breaks))]
 pub fn break_free(text: &[u8]) -> Option<usize>
-    ensures { IfSome result (λ place. (k : ℕ) → k < place → ¬ IsThematicBreak (drop k text.now)) }
+    ensures free { IfSome result (λ place. (k : ℕ) → k < place → ¬ IsThematicBreak (drop k text.now)) }
+    ensures far { IfSome result (λ place. place ≡ break_length text.now) }
+    ensures none { IfNone result (IsThematicBreak text.now) }
 {
     scan_hrule(text).err()
 }
@@ -54,8 +56,10 @@ pub fn table_columns(alloc: Global, line: &[u8]) -> Result<Option<Vec<Alignment>
 
 /// How wide each column is, where the table whose delimiter row the line is has this width.
 pub fn column_width(alloc: Global, line: &[u8], width: usize) -> Result<Option<usize>, AllocError>
-    ensures { IfOk result (λ found. IfSome found (λ each. (n : ℕ) × (columns : List Alignment)
+    ensures found { IfOk result (λ found. IfSome found (λ each. (n : ℕ) × (columns : List Alignment)
         × IsDelimiterRow line.now n columns × (each ≡ width / length columns))) }
+    ensures none { IfOk result (λ found. IfNone found (
+        (n : ℕ) (columns : _) → ¬ IsDelimiterRow line.now n columns)) }
 {
     match table_columns(alloc, line)? {
         Some(columns) => Ok(Some(width / columns.len())),
@@ -65,8 +69,10 @@ pub fn column_width(alloc: Global, line: &[u8], width: usize) -> Result<Option<u
 
 /// How many columns the table has whose delimiter row the line is.
 pub fn column_count(alloc: Global, line: &[u8]) -> Result<Option<usize>, AllocError>
-    ensures { IfOk result (λ found. IfSome found (λ count. (n : ℕ) × (columns : List Alignment)
+    ensures found { IfOk result (λ found. IfSome found (λ count. (n : ℕ) × (columns : List Alignment)
         × IsDelimiterRow line.now n columns × (length columns ≡ count))) }
+    ensures none { IfOk result (λ found. IfNone found (
+        (n : ℕ) (columns : _) → ¬ IsDelimiterRow line.now n columns)) }
 {
     match table_columns(alloc, line)? {
         Some(columns) => Ok(Some(columns.len())),

@@ -17,8 +17,9 @@ pub fn heading_level(line: &[u8]) -> Option<HeadingLevel>
 
 /// What stands in an ATX heading behind its opening, which has one `#` for each level.
 pub fn heading_text(line: &[u8]) -> Option<&[u8]>
-    ensures { IfSome result (λ text. (level : HeadingLevel)
+    ensures found { IfSome result (λ text. (level : HeadingLevel) × IsAtxHeading line.now level
         × (line.now ≡ replicate (heading_number level) number_sign ++ text.now)) }
+    ensures none { IfNone result ((level : HeadingLevel) → ¬ IsAtxHeading line.now level) }
 {
     let level = scan_atx_heading(line)?;
     Some(&line[level as usize..])

@@ -45,6 +45,8 @@ pub fn raw_destination(text: &str, start: usize) -> Option<(usize, &str)>
 
 /// The link destination that a text begins with: how many bytes it takes, and how it is written. It is the only one.
 pub fn leading_destination(text: &str) -> Option<(usize, &str)>
+    ensures found { SomeExactly (λ (r : ℕ × List ℕ). IsLinkDestination 32 text.now r.0 r.1)
+        (option_map (λ r. (r.0, r.1.now)) result) }
     ensures only { IfSome result (λ r. (other : ℕ × List ℕ)
         → IsLinkDestination 32 text.now other.0 other.1 → other ≡ (r.0, r.1.now)) }
 {
