@@ -1,6 +1,4 @@
 //! Link labels.
-ghost use Rattle.std.specs.Prelude.{◌≡◌, Some};
-
 use crate::no_memory::texts::hash_of;
 use crate::stop::Stop;
 use crate::telling::{MadeOf, tell_call, tell_consuming, tell_ready_on};
@@ -13,9 +11,7 @@ use std::io::Write;
 
 /// A label after its opening bracket, in which nothing is skipped.
 pub(crate) fn label(alloc: Global, text: &str) -> Result<Option<(usize, CowStr<'_>)>, AllocError> {
-    let handler = |_rest: &[u8]| -> Option<usize>
-        ensures { result ≡ Some 0 }
-    { Some(0) };
+    let handler = |_: &[u8]| -> Option<usize> { Some(0) };
     scan_link_label_rest(alloc, text, &handler, false)
 }
 
