@@ -1,11 +1,9 @@
 -- What a label's handler skips is good where it is ASCII, as the markers of containers are.
-use Rattle.std.proofs.Common.{ℕ, zero, suc, ◌≡◌, ◌+◌, ◌-◌, ◌<◌, ◌≤◌, ◌&&◌, Bool, true, List, [], ◌∷◌, length, take, get_or, nat_lt, nat_eq, refl, sym, subst, arith, Option, Some}
-use Rattle.std.specs.List.{list_all, prefix_len, starts_with}
+use Rattle.std.proofs.Common.{ℕ, zero, suc, ◌≡◌, ◌-◌, ◌<◌, ◌≤◌, true, List, [], ◌∷◌, length, take, get_or, nat_lt, nat_eq, refl, subst, arith, Option, Some}
+use Rattle.std.specs.List.{list_all, starts_with}
 use Rattle.std.specs.Fn.{FnReturnsAt, Shared}
 use Rattle.std.specs.Str.{IsUtf8, IsCharBoundary}
 use Rattle.std.proofs.lemmas.Bool.{eqb-true, ltb-true}
-use Rattle.std.proofs.lemmas.List.{length-take}
-use Rattle.std.proofs.lemmas.List.Sums.{prefix_len-le-length}
 use Rattle.std.proofs.lemmas.Str.{IsCharBoundary-start, IsCharBoundary-after_ascii}
 use Rattle.markdown_scanners_tree.specs.Handler.{IsSteadyAtChars, IsAsciiFront}
 use Rattle.markdown_scanners_tree.proofs.PrefixLemmas.{both_true}

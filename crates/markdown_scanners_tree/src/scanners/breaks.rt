@@ -22,10 +22,8 @@ pub fn scan_hrule(bytes: &[u8]) -> Result<usize, usize>
     if bytes.len() < 3 {
         return Err(0);
     }
-    match bytes {
-        [b'*', ..] => scan_break_of(bytes, b'*'),
-        [b'-', ..] => scan_break_of(bytes, b'-'),
-        [b'_', ..] => scan_break_of(bytes, b'_'),
+    match bytes[0] {
+        marker @ (b'*' | b'-' | b'_') => scan_break_of(bytes, marker),
         _ => Err(0),
     }
 }
@@ -59,10 +57,12 @@ fn scan_break_of(bytes: &[u8], marker: u8) -> Result<usize, usize>
     ensures within { MatchResult result (λ n. n ≤ length bytes.now) (λ n. n ≤ length bytes.now) }
 {
     let run = scan_break_bytes(bytes, marker);
-    let markers = count_of(&bytes[..run], marker);
-    match scan_eol(&bytes[run..]) {
-        None => Err(run),
-        Some(ending) if markers >= 3 => Ok(run + ending),
-        Some(ending) => Err(run + ending),
+    let Some(ending) = scan_eol(&bytes[run..]) else {
+        return Err(run);
+    };
+    if count_of(&bytes[..run], marker) >= 3 {
+        Ok(run + ending)
+    } else {
+        Err(run + ending)
     }
 }

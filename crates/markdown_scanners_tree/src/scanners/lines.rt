@@ -56,8 +56,7 @@ pub fn scan_blockquote_start(data: &[u8]) -> Option<usize>
     ensures within { IfSome result (λ n. n ≤ length «data».now) }
 {
     match data {
-        [b'>', b' ', ..] => Some(2),
-        [b'>', ..] => Some(1),
+        [b'>', rest @ ..] => Some(if rest.starts_with(b" ") { 2 } else { 1 }),
         _ => None,
     }
 }

@@ -1,10 +1,10 @@
 //! Link destinations, autolinks and wikilinks.
-ghost use Rattle.std.specs.Prelude.{ℕ, List, ◌≡◌, ◌+◌, ◌-◌, ◌<◌, ◌≤◌, ◌==◌, ◌||◌, ◌&&◌, nat_le, IfSome, length, drop, take, slice_range, slice_index, position};
+ghost use Rattle.std.specs.Prelude.{ℕ, List, ◌≡◌, ◌+◌, ◌-◌, ◌<◌, ◌≤◌, ◌==◌, ◌||◌, IfSome, length, drop, take, slice_range, slice_index, position};
 ghost use Rattle.std.specs.List.{prefix_len};
 ghost use Rattle.std.specs.Option.{option_map};
 ghost use Rattle.std.specs.Str.{IsCharBoundary};
 ghost use Rattle.markdown_values.specs.strings.Text.{cow_text, IsBorrowed};
-ghost use Rattle.markdown_scanners_tree.specs.Ascii.{vertical_line, space, right_parenthesis, less_than_sign, greater_than_sign};
+ghost use Rattle.markdown_scanners_tree.specs.Ascii.{vertical_line, less_than_sign, greater_than_sign};
 ghost use Rattle.markdown_scanners_tree.specs.Bytes.{is_line_ending};
 ghost use Rattle.markdown_scanners_tree.specs.SomeExactly.{SomeExactly};
 ghost use Rattle.markdown_scanners_tree.specs.scanners.links.LinkDestination.{IsLinkDestination, IsBareFrom, IsPointedFrom};
@@ -95,30 +95,19 @@ fn bare_len(bytes: &[u8], max_next: usize) -> Option<usize>
 {
     let mut i = 0;
     let mut depth = 0;
-    while i < bytes.len() && !ends_destination(bytes[i], depth) {
-        if starts_escape(bytes, i) {
-            i += 2;
-        } else {
-            let b = bytes[i];
-            if b == b'(' {
-                if depth > max_next {
-                    return None;
-                }
-                depth += 1;
-            } else if b == b')' {
-                depth -= 1;
-            }
-            i += 1;
+    while i < bytes.len() {
+        match bytes[i] {
+            b'\0'..=b' ' => break,
+            b'\\' if starts_escape(bytes, i) => i += 1,
+            b'(' if depth > max_next => return None,
+            b'(' => depth += 1,
+            b')' if depth == 0 => break,
+            b')' => depth -= 1,
+            _ => {}
         }
+        i += 1;
     }
     if depth == 0 { Some(i) } else { None }
-}
-
-// Whether the byte ends a bare destination behind `depth` open parentheses.
-fn ends_destination(b: u8, depth: usize) -> bool
-    ensures { result ≡ (nat_le b space || (b == right_parenthesis && depth == 0)) }
-{
-    b <= b' ' || (b == b')' && depth == 0)
 }
 
 /// The absolute URI from `start` on that `>` ends: the place after the `>`, and the text before it.

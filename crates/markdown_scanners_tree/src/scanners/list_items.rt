@@ -37,8 +37,10 @@ pub(crate) fn scan_marker(bytes: &[u8]) -> Option<(usize, u8, usize)>
 {
     if begins_with_bullet(bytes) {
         Some((1, bytes[0], 0))
-    } else {
+    } else if begins_with_digit(bytes) {
         scan_ordered_marker(bytes)
+    } else {
+        None
     }
 }
 
@@ -47,6 +49,13 @@ fn begins_with_bullet(bytes: &[u8]) -> bool
     ensures { result ≡ begins_with is_bullet bytes.now }
 {
     matches!(bytes, [b'-' | b'+' | b'*', ..])
+}
+
+// Whether a digit stands at the front.
+fn begins_with_digit(bytes: &[u8]) -> bool
+    ensures { result ≡ begins_with is_digit bytes.now }
+{
+    matches!(bytes, [b'0'..=b'9', ..])
 }
 
 // The same as `scan_marker`, where no bullet stands at the front.

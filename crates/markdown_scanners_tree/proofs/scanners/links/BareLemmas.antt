@@ -4,7 +4,7 @@ use Rattle.std.specs.List.{concat, list_all}
 use Rattle.std.proofs.lemmas.List.{length-append}
 use Rattle.markdown_scanners_tree.proofs.PrefixLemmas.{both_true}
 use Rattle.std.proofs.lemmas.List.Sums.{sum_by-cons}
-use Rattle.std.proofs.lemmas.Bool.{false≢true, or_cases, or_parts, or_right, ltb-true, leb-true, leb-false, and_parts, eqb-true, le-ltb, lt-ltb, eq-eqb, ne_eqb, and_from}
+use Rattle.std.proofs.lemmas.Bool.{false≢true, false_from_ne_true, or_cases, or_parts, or_left, or_right, le-leb, ltb-true, leb-true, leb-false, and_parts, eqb-true, le-ltb, lt-ltb, eq-eqb, ne_eqb, and_from}
 use Rattle.std.specs.Prelude.{◌||◌, ◌&&◌}
 use Rattle.std.proofs.lemmas.List.{drop_all}
 use Rattle.markdown_scanners_tree.proofs.scanners.escapes.UnitLemmas.{units_single_at, units_escape_at, plain_byte}
@@ -164,6 +164,19 @@ so_far_more most d d' i j bytes u is first long in' stands turns low = record {
 -- whether the byte ends a destination behind d open parentheses
 abbrev pub ends_at : ℕ → ℕ → Bool
 ends_at b d = leb b space || (eqb b right_parenthesis && eqb d 0)
+
+-- such a byte, and one that is above space and closes an open parenthesis or is none
+pub ends_low : (b d : ℕ) → b ≤ space → ends_at b d ≡ true
+ends_low b d low = or_left (leb b space) (eqb b right_parenthesis && eqb d 0) (le-leb b space low)
+
+pub ends_closing : (b d : ℕ) → b ≡ right_parenthesis → d ≡ 0 → ends_at b d ≡ true
+ends_closing b d close none = or_right (leb b space) (eqb b right_parenthesis && eqb d 0) (and_from (eqb b right_parenthesis) (eqb d 0) (eq-eqb b right_parenthesis close) (eq-eqb d 0 none))
+
+pub no_end : (b d : ℕ) → space < b → (b ≡ right_parenthesis → d ≡ 0 → ⊥) → ends_at b d ≡ false
+no_end b d high opened = false_from_ne_true (ends_at b d) (λ ends. elim (or_cases (leb b space) (eqb b right_parenthesis && eqb d 0) ends) [
+  | inl low ↦ omega (arith, high, leb-true b space low)
+  | inr close ↦ let both = and_parts (eqb b right_parenthesis) (eqb d 0) close in opened (eqb-true b right_parenthesis both.0) (eqb-true d 0 both.1)
+])
 
 pub goes_on : (b d : ℕ) → ends_at b d ≡ false → (stands_bare (b ∷ []) ≡ true) × (b ≡ right_parenthesis → d ≡ 0 → ⊥)
 goes_on b d e =
