@@ -1,0 +1,165 @@
+//! Runs the same calls of two builds side by side, on the same inputs and in the same loops; `bench/run` builds and
+//! starts it.
+//!
+//! `side_by_side MODE real FILE [CALL..]` or `side_by_side MODE hostile [CALL..]`, where MODE is `check`, `time`,
+//! `allocations` or `callgrind`. A side is a set of C functions `SIDE_CALL(text, its length, places, how many, rounds)`,
+//! each of which answers the sum of its answers. Those of `ours` are linked in; those of `reference` are in the shared
+//! library that the variable REFERENCE names, if it is set. What a side lacks is left out.
+use std::ffi::{CStr, CString, c_char, c_int, c_ulong, c_void};
+use std::hint::black_box;
+use std::time::Instant;
+
+mod inputs;
+use inputs::Input;
+
+type Function = unsafe extern "C" fn(*const u8, usize, *const usize, usize, usize) -> u64;
+
+unsafe extern "C" {
+    fn dlopen(path: *const c_char, how: c_int) -> *mut c_void;
+    fn dlsym(library: *mut c_void, name: *const c_char) -> *mut c_void;
+    fn dlerror() -> *const c_char;
+    fn zero_instructions();
+    fn dump_instructions(name: *const c_char);
+    fn allocations() -> c_ulong;
+    fn growths() -> c_ulong;
+}
+
+const RTLD_NOW: c_int = 2;
+/// Times are the best of so many tries, each of at least so many seconds.
+const TRIES: usize = 7;
+const LEAST_SECONDS: f64 = 0.002;
+
+/// A build of the calls: this program itself, where no library is given.
+struct Side {
+    name: &'static str,
+    library: *mut c_void,
+}
+
+impl Side {
+    fn all() -> Vec<Side> {
+        let mut all = vec![Side { name: "ours", library: std::ptr::null_mut() }];
+        if let Some(path) = std::env::var("REFERENCE").ok().filter(|path| !path.is_empty()) {
+            let path = CString::new(path).expect("a path without a NUL");
+            let library = unsafe { dlopen(path.as_ptr(), RTLD_NOW) };
+            assert!(!library.is_null(), "{}", unsafe { CStr::from_ptr(dlerror()) }.to_string_lossy());
+            all.push(Side { name: "reference", library });
+        }
+        all
+    }
+
+    fn function(&self, call: &str) -> Option<Function> {
+        let name = CString::new(format!("{}_{call}", self.name)).expect("a name without a NUL");
+        let found = unsafe { dlsym(self.library, name.as_ptr()) };
+        (!found.is_null()).then(|| unsafe { std::mem::transmute::<*mut c_void, Function>(found) })
+    }
+}
+
+fn run(function: Function, input: &Input, rounds: usize) -> u64 {
+    let (text, at) = (&input.text, &input.at);
+    black_box(unsafe { function(text.as_ptr(), text.len(), at.as_ptr(), at.len(), rounds) })
+}
+
+/// Seconds of one round; what no round costs is taken off.
+fn seconds(function: Function, input: &Input) -> f64 {
+    let timed = |rounds| {
+        let start = Instant::now();
+        run(function, input, rounds);
+        start.elapsed().as_secs_f64()
+    };
+    let mut rounds = 1;
+    while timed(rounds) < LEAST_SECONDS && rounds < 1 << 20 {
+        rounds *= 2;
+    }
+    let best = |rounds| (0..TRIES).map(|_| timed(rounds)).fold(f64::MAX, f64::min);
+    let none = best(0);
+    (best(rounds) - none).max(0.0) / rounds as f64
+}
+
+/// Allocations and growths of one round.
+fn requests(function: Function, input: &Input) -> [u64; 2] {
+    let counted = |rounds| {
+        let before = unsafe { [allocations(), growths()] };
+        run(function, input, rounds);
+        let after = unsafe { [allocations(), growths()] };
+        [after[0] - before[0], after[1] - before[1]]
+    };
+    let (none, one) = (counted(0), counted(1));
+    [one[0] - none[0], one[1] - none[1]]
+}
+
+/// How many rounds callgrind counts: more where much is made before the first, which costs a little more or less each
+/// time.
+fn counted_rounds(call: &str) -> usize {
+    match call {
+        "label_eq" => 200,
+        "label_hash" => 20,
+        "clone_lent" | "clone_inlined" | "clone_boxed" | "tree_walk" => 10,
+        _ => 1,
+    }
+}
+
+/// Two dumps for callgrind, of no round and of some; their names tell what was run.
+fn dump(function: Function, input: &Input, name: &str, call: &str) {
+    run(function, input, 0);
+    for rounds in [0, counted_rounds(call)] {
+        let part = CString::new(format!("{name}|{rounds}")).expect("a name without a NUL");
+        unsafe { zero_instructions() };
+        run(function, input, rounds);
+        unsafe { dump_instructions(part.as_ptr()) };
+    }
+}
+
+/// Prints a line for a call on an input: both names, how many places, and an answer a side.
+fn report(mode: &str, what: &str, call: &str, input: &Input, sides: &[Side]) {
+    let found = sides.iter().filter_map(|side| Some((side.name, side.function(call)?)));
+    let places = input.at.len();
+    let mut answers = vec![];
+    for (side, function) in found {
+        answers.push(match mode {
+            // a hash may be any number
+            "check" if call == "label_hash" => format!("{side}=0"),
+            "check" => format!("{side}={}", run(function, input, 1)),
+            "time" => format!("{side}={:.1}", seconds(function, input) * 1e9),
+            "allocations" => {
+                let [new, grown] = requests(function, input);
+                format!("{side}={new}+{grown}")
+            }
+            "callgrind" => {
+                dump(function, input, &format!("{what}|{call}|{places}|{side}"), call);
+                continue;
+            }
+            _ => panic!("no such mode: {mode}"),
+        });
+    }
+    println!("{what}\t{call}\t{places}\t{}", answers.join("\t"));
+}
+
+fn main() {
+    let words: Vec<String> = std::env::args().collect();
+    let (mode, is_real) = (words[1].as_str(), words[2] == "real");
+    let only = &words[if is_real { 4 } else { 3 }..];
+    let is_wanted = |call: &str| only.is_empty() || only.iter().any(|word| word == call);
+    let sides = Side::all();
+    // what is done once for a process, such as asking which processor this is, is done here
+    let text = b"[a]: <b> \\& &amp; <!-- c --><?d?><![CDATA[e]]>\n---\nf: g\n---\n| - |\n".to_vec();
+    let small = Input { at: (0..text.len()).collect(), text };
+    for (call, _) in inputs::CALLS.iter().filter(|(call, _)| is_wanted(call)) {
+        for function in sides.iter().filter_map(|side| side.function(call)) {
+            run(function, &small, 1);
+        }
+    }
+    if is_real {
+        let text = std::fs::read(&words[3]).expect("the text");
+        for (call, _) in inputs::CALLS.iter().filter(|(call, _)| is_wanted(call)) {
+            if let Some(input) = inputs::real(call, &text) {
+                report(mode, "real", call, &input, &sides);
+            }
+        }
+    } else {
+        for hostile in inputs::hostile().iter().filter(|hostile| is_wanted(hostile.call)) {
+            for size in [1, 2] {
+                report(mode, &format!("{} (x{size})", hostile.name), hostile.call, &hostile.input(size), &sides);
+            }
+        }
+    }
+}

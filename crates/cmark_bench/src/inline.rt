@@ -1,0 +1,121 @@
+//! Entities, unescaping, link destinations, autolinks and wikilinks.
+ghost use Rattle.std.specs.Prelude.{◌≡◌, List, None, ℕ};
+
+use crate::loops::{bit, each_place, each_rest, each_stretch, two};
+use markdown_scanners_tree::scanners::*;
+use markdown_values::strings::CowStr;
+use std::alloc::Global;
+
+// The entities that both sides know.
+#[derive(Clone, Copy)]
+struct Known;
+
+impl Entities for Known {
+    ghost use Rattle.cmark_bench.specs.EntityTexts.{entity_text};
+
+    ghost known = { λ _ name. entity_text name };
+
+    fn get(&self, name: &[u8]) -> Option<&'static str> {
+        if name == b"amp".as_slice() {
+            Some("&")
+        } else if name == b"lt".as_slice() {
+            Some("<")
+        } else if name == b"gt".as_slice() {
+            Some(">")
+        } else if name == b"quot".as_slice() {
+            Some("\"")
+        } else {
+            None
+        }
+    }
+}
+
+#[unsafe(no_mangle)]
+pub extern "C" fn ours_entity(text: &[u8], at: &[usize], rounds: usize) -> u64 {
+    let call = |b: &[u8]| -> u64 {
+        if b.is_empty() {
+            return 0;
+        }
+        let (n, text) = scan_entity(b, &Known);
+        match text {
+            Some(text) => two(n, text.as_str().len() as u64),
+            None => 0,
+        }
+    };
+    each_rest(text, at, rounds, &call)
+}
+
+fn unescaped(alloc: Global, text: &str, is_in_table: bool) -> u64 {
+    match unescape(alloc, CowStr::from(text), is_in_table, &Known) {
+        Ok(out) => two(out.as_str().len(), bit(matches!(&out, CowStr::Borrowed(_)))),
+        Err(_) => 0,
+    }
+}
+
+#[unsafe(no_mangle)]
+pub extern "C" fn ours_unescape(alloc: Global, text: &[u8], at: &[usize], rounds: usize) -> u64 {
+    let call = |text: &str| -> u64 { unescaped(alloc, text, false) };
+    each_stretch(text, at, rounds, &call)
+}
+
+#[unsafe(no_mangle)]
+pub extern "C" fn ours_unescape_table(
+    alloc: Global,
+    text: &[u8],
+    at: &[usize],
+    rounds: usize,
+) -> u64 {
+    let call = |text: &str| -> u64 { unescaped(alloc, text, true) };
+    each_stretch(text, at, rounds, &call)
+}
+
+fn destination(text: &str, place: usize, parentheses: usize) -> u64 {
+    if !text.is_char_boundary(place) {
+        return 0;
+    }
+    match scan_link_dest(text, place, parentheses) {
+        Some((n, destination)) => two(n, destination.len() as u64),
+        None => 0,
+    }
+}
+
+#[unsafe(no_mangle)]
+pub extern "C" fn ours_link_dest(text: &[u8], at: &[usize], rounds: usize) -> u64 {
+    let call = |text: &str, place: usize| -> u64 { destination(text, place, 32) };
+    each_place(text, at, rounds, &call)
+}
+
+// With no limit on parentheses.
+#[unsafe(no_mangle)]
+pub extern "C" fn ours_link_dest_deep(text: &[u8], at: &[usize], rounds: usize) -> u64 {
+    let call = |text: &str, place: usize| -> u64 { destination(text, place, usize::MAX) };
+    each_place(text, at, rounds, &call)
+}
+
+#[unsafe(no_mangle)]
+pub extern "C" fn ours_autolink(text: &[u8], at: &[usize], rounds: usize) -> u64 {
+    let call = |text: &str, place: usize| -> u64 {
+        if !text.is_char_boundary(place) {
+            return 0;
+        }
+        match scan_autolink(text, place) {
+            Some((n, uri, _)) => two(n, uri.as_str().len() as u64),
+            None => 0,
+        }
+    };
+    each_place(text, at, rounds, &call)
+}
+
+#[unsafe(no_mangle)]
+pub extern "C" fn ours_wikilink(text: &[u8], at: &[usize], rounds: usize) -> u64 {
+    let call = |text: &str, place: usize| -> u64 {
+        if !text.is_char_boundary(place) {
+            return 0;
+        }
+        match scan_wikilink_pipe(text, place, 80) {
+            Some((n, label)) => two(n, label.len() as u64),
+            None => 0,
+        }
+    };
+    each_place(text, at, rounds, &call)
+}
