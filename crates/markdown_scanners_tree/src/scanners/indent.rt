@@ -1,5 +1,5 @@
 //! The indent of a line.
-ghost use Rattle.std.specs.Prelude.{◌≡◌, ◌+◌, ◌-◌, ◌/◌, ◌<◌, ◌≤◌, length};
+ghost use Rattle.std.specs.Prelude.{◌≡◌, ◌+◌, ◌-◌, ◌/◌, ◌<◌, ◌≤◌, IfNone, IfSome, false, length, true};
 ghost use Rattle.markdown_scanners_tree.specs.Columns.{column_after, next_tab_stop};
 ghost use Rattle.markdown_scanners_tree.specs.scanners.Indent.{IsIndent, goes_on};
 
@@ -18,36 +18,26 @@ pub fn calc_indent(text: &[u8], max: usize) -> (usize, usize)
     let mut i = 0;
     while i < text.len() {
         let byte = text[i];
-        if !space_goes_on(max, column, byte) {
+        let Some(next) = column_behind(column, byte, max) else {
             return (i, if byte == b' ' { column + 1 } else { column });
-        }
-        column = column_behind(column, byte);
+        };
+        column = next;
         i += 1;
     }
     (i.saturating_sub(1), column)
 }
 
-// Whether the byte at this column is a space or tab after which the indent goes on.
-fn space_goes_on(max: usize, column: usize, byte: u8) -> bool
+// The column after the space or tab at this column, if the indent goes on with it.
+fn column_behind(column: usize, byte: u8, max: usize) -> Option<usize>
     requires { column < usize.MAX - 4 }
-    ensures { result ≡ goes_on max column byte }
+    ensures moved { IfSome result (λ next. next ≡ column_after column byte) }
+    ensures goes_on { IfSome result (λ next. goes_on max column byte ≡ true) }
+    ensures stops { IfNone result (goes_on max column byte ≡ false) }
 {
     match byte {
-        b' ' => column + 1 != max,
-        b'\t' => tab_stop(column) <= max,
-        _ => false,
-    }
-}
-
-// The column after the byte at this column.
-fn column_behind(column: usize, byte: u8) -> usize
-    requires { column < usize.MAX - 4 }
-    ensures { result ≡ column_after column byte }
-{
-    if byte == b'\t' {
-        tab_stop(column)
-    } else {
-        column + 1
+        b' ' if column + 1 != max => Some(column + 1),
+        b'\t' if tab_stop(column) <= max => Some(tab_stop(column)),
+        _ => None,
     }
 }
 
