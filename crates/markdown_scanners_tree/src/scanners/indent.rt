@@ -17,28 +17,15 @@ pub fn calc_indent(text: &[u8], max: usize) -> (usize, usize)
     let mut column = 0;
     let mut i = 0;
     while i < text.len() {
-        let byte = text[i];
-        let Some(next) = column_behind(column, byte, max) else {
-            return (i, if byte == b' ' { column + 1 } else { column });
-        };
-        column = next;
+        match text[i] {
+            b' ' if column + 1 == max => return (i, max),
+            b' ' => column += 1,
+            b'\t' if tab_stop(column) <= max => column = tab_stop(column),
+            _ => return (i, column),
+        }
         i += 1;
     }
     (i.saturating_sub(1), column)
-}
-
-// The column after the space or tab at this column, if the indent goes on with it.
-fn column_behind(column: usize, byte: u8, max: usize) -> Option<usize>
-    requires { column < usize.MAX - 4 }
-    ensures moved { IfSome result (λ next. next ≡ column_after column byte) }
-    ensures goes_on { IfSome result (λ next. goes_on max column byte ≡ true) }
-    ensures stops { IfNone result (goes_on max column byte ≡ false) }
-{
-    match byte {
-        b' ' if column + 1 != max => Some(column + 1),
-        b'\t' if tab_stop(column) <= max => Some(tab_stop(column)),
-        _ => None,
-    }
 }
 
 // The next multiple of four above the column.

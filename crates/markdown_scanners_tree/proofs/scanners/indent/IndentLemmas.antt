@@ -1,10 +1,10 @@
 -- Prefixes of spaces and tabs, and the one indent that a text has.
-use Rattle.std.proofs.Common.{◌≡◌, ◌⊎◌, inl, inr, ℕ, zero, suc, ◌+◌, ◌*◌, ◌/◌, ◌<◌, ◌≤◌, true, false, not, ◌==◌, List, [], ◌∷◌, ◌++◌, length, take, drop, get_or, refl, sym, ap, ◌∙◌, arith, add-one, if◌then◌else◌}
-use Rattle.std.proofs.lemmas.Bool.{cases_Bool, eqb-true, leb-true, ne_eqb}
+use Rattle.std.proofs.Common.{◌≡◌, ℕ, zero, suc, ◌+◌, ◌<◌, ◌≤◌, true, false, not, ◌==◌, List, [], ◌∷◌, ◌++◌, length, take, drop, get_or, refl, sym, ap, ◌∙◌, arith, add-one, if◌then◌else◌}
+use Rattle.std.proofs.lemmas.Bool.{eq-eqb, le-leb, lt-leb, ne_eqb}
 use Rattle.std.proofs.lemmas.List.{take-append-drop, length-take-le}
 use Rattle.std.proofs.Math.Seq.{drop-cons}
 use Rattle.markdown_scanners_tree.specs.Bytes.{ends_or_begins_with}
-use Rattle.markdown_scanners_tree.specs.Columns.{column_after, column_past}
+use Rattle.markdown_scanners_tree.specs.Columns.{column_after, column_past, next_tab_stop}
 use Rattle.markdown_scanners_tree.specs.scanners.Indent.{goes_on, all_go_on, IsIndent}
 use Rattle.markdown_scanners_tree.proofs.PrefixLemmas.{both_true}
 use Rattle.markdown_scanners_tree.proofs.RunLemmas.{not_true, not_false}
@@ -65,17 +65,21 @@ IsIndent-unique text limit place total place' total' one other =
     let same = prefix-unique limit 0 one.prefix one.rest other.prefix other.rest (sym one.parts ∙ other.parts) one.passed one.stopped other.passed other.stopped in
     (one.last_place ∙ rw (same.0, same.1) (sym other.last_place), one.counted ∙ rw (same.0, same.1) (sym other.counted))
 
--- how far a byte that goes on moves the column
-pub goes_on-column : (limit column b : ℕ) → goes_on limit column b ≡ true → (column_after column b ≡ column + 1) ⊎ (column_after column b ≤ limit)
-goes_on-column limit column b goes =
-    elim (cases_Bool (b == 9)) [
-      | inl tab ↦ (
-          let is_tab = eqb-true b 9 tab in
-          let below = rw is_tab at goes in
-          inr (rw is_tab (leb-true (4 * (column / 4 + 1)) limit below))
-          )
-      | inr other ↦ inl (rw other refl)
-    ]
+-- which bytes go on
+pub space_goes : (limit column : ℕ) → ¬ (column + 1 ≡ limit) → goes_on limit column 32 ≡ true
+space_goes limit column below = rw (ne_eqb (column + 1) limit below) refl
+
+pub space_stops : (limit column : ℕ) → column + 1 ≡ limit → goes_on limit column 32 ≡ false
+space_stops limit column full = rw (eq-eqb (column + 1) limit full) refl
+
+pub tab_goes : (limit column : ℕ) → next_tab_stop column ≤ limit → goes_on limit column 9 ≡ true
+tab_goes limit column within = le-leb (next_tab_stop column) limit within
+
+pub tab_stops : (limit column : ℕ) → limit < next_tab_stop column → goes_on limit column 9 ≡ false
+tab_stops limit column past = lt-leb (next_tab_stop column) limit past
+
+pub other_stops : (limit column b : ℕ) → ¬ (b ≡ 32) → ¬ (b ≡ 9) → goes_on limit column b ≡ false
+other_stops limit column b no_space no_tab = rw (ne_eqb b 32 no_space, ne_eqb b 9 no_tab) refl
 
 -- a byte that does not go on ends the indent
 module _ (text : List ℕ) (limit i column : ℕ) (inside : i < length text) (is_column : column ≡ column_past 0 (take i text)) (all : all_go_on limit 0 (take i text) ≡ true)
