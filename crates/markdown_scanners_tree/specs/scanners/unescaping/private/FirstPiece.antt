@@ -1,6 +1,6 @@
 -- The first piece of a text: its length, how many bytes are dropped at its front, and what stands
 -- in for them.
-use Rattle.std.specs.Prelude.{ℕ, Bool, true, false, List, [], ◌∷◌, ◌++◌, ◌≡◌, ◌⊎◌, ◌≤◌, ◌<◌, ◌+◌, ◌-◌, ◌^◌, length, drop, slice_index, slice_range, min, ◌&&◌, ◌||◌, ◌==◌, String}
+use Rattle.std.specs.Prelude.{ℕ, Bool, false, List, [], ◌∷◌, ◌++◌, ◌≡◌, ◌⊎◌, ◌≤◌, ◌<◌, ◌+◌, ◌-◌, length, drop, slice_index, slice_range, ◌&&◌, ◌||◌, ◌==◌, String}
 use Rattle.std.specs.String.{string_bytes, string_len, string_capacity, StringUnchanged}
 use Rattle.markdown_scanners_tree.specs.Ascii.{carriage_return, ampersand, backslash, vertical_line}
 use Rattle.markdown_scanners_tree.specs.scanners.entities.CharacterReference.{Lookup, StartsWithReference}
@@ -51,14 +51,13 @@ pub record IsChanged (in_table : Bool) (known : Lookup) (text : List ℕ)
   pub first : IsFirstPiece in_table known text n dropped instead
   pub some : 0 < dropped
 
--- The length of what stands at the front, and that of what it means (at most what a `usize` holds):
--- of pieces that mean themselves, or of one that is changed.
-abbrev pub IsFirstSize : Bool → Lookup → List ℕ → ℕ → ℕ → Bool → Type 0
-IsFirstSize in_table known text source meaning false =
-    (meaning ≡ source) × ArePlain in_table known text source
-IsFirstSize in_table known text source meaning true =
-    (dropped : ℕ) × (instead : List ℕ) × IsChanged in_table known text source dropped instead
-    × (meaning ≡ min (length instead + (source - dropped)) (2 ^ 64 - 1))
+-- The length of what stands at the front, how many bytes are dropped of it, and how many stand in
+-- for them: of pieces that mean themselves, or of one that is changed.
+abbrev pub IsFirstSize : Bool → Lookup → List ℕ → ℕ → ℕ → ℕ → Type 0
+IsFirstSize in_table known text source dropped inserted =
+    ((dropped ≡ 0) × (inserted ≡ 0) × ArePlain in_table known text source)
+    ⊎ ((instead : List ℕ) × IsChanged in_table known text source dropped instead
+    × (inserted ≡ length instead))
 
 -- how many bytes are appended at a changed piece: the text from `run` up to its place, and what
 -- stands in for its front
