@@ -1,1 +1,2 @@
 pub mod DelimiterRowLemmas
+pub mod RowLemmas

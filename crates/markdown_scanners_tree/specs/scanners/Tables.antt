@@ -1,5 +1,5 @@
 -- The delimiter row of a table. (GitHub Flavored Markdown 0.29, section 4.10, tables)
-use Rattle.std.specs.Prelude.{ℕ, Bool, true, false, not, List, [], ◌∷◌, ◌++◌, ◌≡◌, ◌==◌, ◌||◌, ◌&&◌, ◌+◌, ◌≤◌, length, drop, Some, IsTrue, replicate, filter, flat_map, map, if◌then◌else◌}
+use Rattle.std.specs.Prelude.{ℕ, Bool, true, false, not, List, [], ◌∷◌, ◌++◌, ◌≡◌, ◌==◌, ◌||◌, ◌&&◌, ◌+◌, ◌≤◌, length, take, drop, is_some, Some, IsTrue, replicate, filter, flat_map, map, if◌then◌else◌}
 use Rattle.std.specs.List.{prefix_len, list_all, list_any}
 use Rattle.markdown_values.specs.declared.values.Alignment.{Alignment}
 use Rattle.markdown_values.specs.declared.values.Alignment.TheVariants as Aligned
@@ -22,6 +22,16 @@ is_pipe b = b == vertical_line
 -- a byte of a cell: space, `:` or `-`
 abbrev pub is_cell_byte : ℕ → Bool
 is_cell_byte b = is_space b || is_colon b || is_hyphen b
+
+-- a byte of a delimiter row: of a cell, or a pipe
+abbrev pub is_row_byte : ℕ → Bool
+is_row_byte b = is_cell_byte b || is_pipe b
+
+-- A pipe stands in the longest prefix of bytes of a delimiter row, and the line ends behind it.
+abbrev pub may_be_row : List ℕ → Bool
+may_be_row bytes =
+    is_some (line_ending (drop (prefix_len is_row_byte bytes) bytes))
+    && list_any is_pipe (take (prefix_len is_row_byte bytes) bytes)
 
 -- a list of cell bytes with a hyphen
 abbrev pub is_cell : List ℕ → Bool

@@ -2,7 +2,7 @@
 ghost use Rattle.std.specs.Prelude.{◌≡◌, ◌+◌, ◌<◌, ◌≤◌, ◌==◌, [], length, drop, ◌++◌, map, IsTrue, false, not, ◌||◌, ◌&&◌, OnOk, IfSome, IfNone, IfOk};
 ghost use Rattle.std.specs.List.{prefix_len, list_any};
 ghost use Rattle.markdown_scanners_tree.specs.Bytes.{begins_with};
-ghost use Rattle.markdown_scanners_tree.specs.scanners.Tables.{is_cell_byte, alignment, alignment_by, counted_last_cell, is_space, is_pipe, after_cell, NoCells, AreScannedCells, IsDelimiterRow, NoDelimiterRow};
+ghost use Rattle.markdown_scanners_tree.specs.scanners.Tables.{is_cell_byte, is_row_byte, may_be_row, alignment, alignment_by, counted_last_cell, is_space, is_hyphen, is_colon, is_pipe, after_cell, NoCells, AreScannedCells, IsDelimiterRow, NoDelimiterRow};
 
 use crate::scanners::lines::scan_eol;
 use crate::scanners::runs::{has_byte, scan_ch, scan_ch_repeat};
@@ -31,6 +31,9 @@ pub fn scan_table_head(alloc: Global, data: &[u8]) -> Result<(usize, Vec<Alignme
     if indent > MOST_SPACES {
         return Ok((0, Vec::new(alloc)));
     }
+    if !may_be_row(&data[indent..]) {
+        return Ok((0, Vec::new(alloc)));
+    }
     let piped = scan_ch(&data[indent..], b'|');
     let start = indent + piped;
     let Some(cells) = scan_cells(alloc, &data[start..])? else {
@@ -41,6 +44,26 @@ pub fn scan_table_head(alloc: Global, data: &[u8]) -> Result<(usize, Vec<Alignme
     } else {
         Ok((0, Vec::new(alloc)))
     }
+}
+
+// Whether nothing but pipes and bytes of cells stands at the front up to the line's end, and a pipe
+// among them. Few lines that are no delimiter row get past this, and none of a text without pipes.
+fn may_be_row(bytes: &[u8]) -> bool
+    ensures { result ≡ may_be_row bytes.now }
+{
+    let n = scan_row_bytes(bytes);
+    scan_eol(&bytes[n..]).is_some() && has_byte(&bytes[..n], b'|')
+}
+
+// The length of the longest prefix of pipes and bytes of cells.
+fn scan_row_bytes(bytes: &[u8]) -> usize
+    ensures run { result ≡ prefix_len is_row_byte bytes.now }
+    ensures within { result ≤ length bytes.now }
+{
+    bytes
+        .iter()
+        .take_while(|b| matches!(**b, b'-' | b'|' | b' ' | b':'))
+        .count()
 }
 
 // Whether a pipe and a hyphen stand in a delimiter row: a cell that a pipe ended has a hyphen.
@@ -73,7 +96,7 @@ fn scan_cells(alloc: Global, bytes: &[u8]) -> Result<Option<Cells>, AllocError>
     let mut i = 0;
     while let Some(len) = scan_ended_cell(&bytes[i..]) {
         let cell = &bytes[i..i + len];
-        if !has_byte(cell, b'-') {
+        if !has_hyphen(cell) {
             return Ok(None);
         }
         alignments.push(alignment_of(cell))?;
@@ -85,7 +108,7 @@ fn scan_cells(alloc: Global, bytes: &[u8]) -> Result<Option<Cells>, AllocError>
     let Some(ending) = scan_eol(&bytes[i + len..]) else {
         return Ok(None);
     };
-    let hyphen = has_byte(last, b'-');
+    let hyphen = has_hyphen(last);
     push_last(&mut alignments, last)?;
     Ok(Some(Cells {
         length: i + len + ending,
@@ -93,6 +116,13 @@ fn scan_cells(alloc: Global, bytes: &[u8]) -> Result<Option<Cells>, AllocError>
         ended,
         hyphen,
     }))
+}
+
+// Whether the cell has a hyphen, which is most often its first byte, or its second.
+fn has_hyphen(cell: &[u8]) -> bool
+    ensures { result ≡ list_any is_hyphen cell.now }
+{
+    cell.iter().any(|b| *b == b'-')
 }
 
 // Adds the alignment of a last cell that counts.
@@ -148,8 +178,15 @@ fn alignment_of(cell: &[u8]) -> Alignment
         return Alignment::None;
     }
     let begins = cell[i] == b':';
-    let later = has_byte(&cell[i + 1..], b':');
+    let later = has_colon(&cell[i + 1..]);
     alignment_by(begins, later)
+}
+
+// Whether the bytes of a cell, few in most tables, have a colon.
+fn has_colon(bytes: &[u8]) -> bool
+    ensures { result ≡ list_any is_colon bytes.now }
+{
+    bytes.iter().any(|b| *b == b':')
 }
 
 // The alignment by a colon at the front and one later.

@@ -1,9 +1,18 @@
-use Rattle.std.proofs.Common.{arith, rules, sym, ◌∙◌}
+use Rattle.std.proofs.Common.{arith, rules, ap, sym, ◌∙◌, ◌-◌, length, take, drop}
+use Rattle.std.specs.List.{prefix_len}
+use Rattle.markdown_scanners_tree.specs.scanners.Tables.{is_space, may_be_row}
+use Rattle.markdown_scanners_tree.proofs.PrefixLemmas.{from_place}
+use Rattle.markdown_scanners_tree.proofs.scanners.tables.RowLemmas.{no_row}
 use Rattle.markdown_scanners_tree.proofs.scanners.tables.DelimiterRowLemmas.{delimiter_row-too_far, no_cells, delimiter_row-found, delimiter_row-refused, IsDelimiterRow-some, IsDelimiterRow-some_alignment}
 use Rattle.markdown_scanners_tree.proofs.scanners.tables.scan_table_head.Goals as goal
 
 pub returns-then-indent-gt-MOST_SPACES-clause-none : goal.returns-then-indent-gt-MOST_SPACES-clause-none
 returns-then-indent-gt-MOST_SPACES-clause-none c _ = delimiter_row-too_far c.args.«data».now c.scan_ch_repeat-indent.result c.scan_ch_repeat-indent.ensures.run (omega arith)
+
+pub returns-then-not-may_be_row-clause-none : goal.returns-then-not-may_be_row-clause-none
+returns-then-not-may_be_row-clause-none c _ =
+    no_row c.args.«data».now
+    (ap may_be_row (sym (from_place c.args.«data».now (prefix_len is_space c.args.«data».now)) ∙ ap (λ i. take (length c.args.«data».now - i) (drop i c.args.«data».now)) (sym c.scan_ch_repeat-indent.ensures.run)) ∙ sym c.may_be_row.ensures ∙ c.if-not-may_be_row.true)
 
 pub returns-in_default-clause-none : goal.returns-in_default-clause-none
 returns-in_default-clause-none c _ =

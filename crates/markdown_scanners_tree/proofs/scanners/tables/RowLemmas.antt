@@ -1,0 +1,58 @@
+-- What a delimiter row is made of.
+use Rattle.std.proofs.Common.{◌≡◌, ℕ, Bool, true, false, not, ◌||◌, List, [], ◌∷◌, ◌++◌, length, drop, refl, sym, ap, ◌∙◌, Some, append_assoc}
+use Rattle.std.specs.List.{prefix_len, list_all, list_any, flat_map}
+use Rattle.std.proofs.lemmas.List.Folds.{list_all-append, list_any-append}
+use Rattle.std.proofs.Math.Seq.{drop-append_seam, take-append_seam}
+use Rattle.std.proofs.Math.ListN.{replicate}
+use Rattle.std.proofs.lemmas.List.{length-replicate}
+use Rattle.std.proofs.lemmas.Bool.{false≢true}
+use Rattle.markdown_scanners_tree.specs.Ascii.{vertical_line}
+use Rattle.markdown_scanners_tree.specs.Bytes.{line_ending}
+use Rattle.markdown_scanners_tree.specs.scanners.Tables.{is_cell_byte, is_row_byte, is_cell, is_pipe, is_space, is_empty, may_be_row, ended_cell, delimiter_row, NoDelimiterRow}
+use Rattle.markdown_scanners_tree.proofs.PrefixLemmas.{both_true, prefix_len-parts}
+use Rattle.markdown_scanners_tree.proofs.scanners.lines.BlankLemmas.{first-line_ending}
+use Rattle.markdown_scanners_tree.proofs.scanners.tables.DelimiterRowLemmas.{IsDelimiterRow-only}
+
+-- all bytes of a delimiter row are those of cells, and pipes
+row_bytes : (bytes : List ℕ) → list_all is_cell_byte bytes ≡ true → list_all is_row_byte bytes ≡ true
+row_bytes [] all = refl
+row_bytes (b ∷ bytes) all =
+    let both = both_true (is_cell_byte b) (list_all is_cell_byte bytes) all in
+    rw both.0 (row_bytes bytes both.1)
+
+cells_bytes : (cells : List (List ℕ)) → list_all is_cell cells ≡ true → list_all is_row_byte (flat_map ended_cell cells) ≡ true
+cells_bytes [] all = refl
+cells_bytes (c ∷ cells) all =
+    let both = both_true (is_cell c) (list_all is_cell cells) all in
+    let cell = (both_true (list_all is_cell_byte c) _ both.0).0 in
+    rw (list_all-append is_row_byte (c ++ vertical_line ∷ []) (flat_map ended_cell cells), list_all-append is_row_byte c (vertical_line ∷ []), row_bytes c cell, cells_bytes cells both.1) refl
+
+row_all : (piped : Bool) (cells : List (List ℕ)) (last : List ℕ) → list_all is_cell cells ≡ true → list_all is_cell_byte last ≡ true → list_all is_row_byte (delimiter_row piped cells last) ≡ true
+row_all true cells last all all' = rw (list_all-append is_row_byte (flat_map ended_cell cells) last, cells_bytes cells all, row_bytes last all') refl
+row_all false cells last all all' = rw (list_all-append is_row_byte (flat_map ended_cell cells) last, cells_bytes cells all, row_bytes last all') refl
+
+-- a pipe is among them
+row_pipe : (piped : Bool) (cells : List (List ℕ)) (last : List ℕ) → (piped || not (is_empty cells)) ≡ true → list_any is_pipe (delimiter_row piped cells last) ≡ true
+row_pipe true cells last some = refl
+row_pipe false [] last some = absurd (false≢true some)
+row_pipe false (c ∷ cells) last some = rw (list_any-append is_pipe ((c ++ vertical_line ∷ []) ++ flat_map ended_cell cells) last, list_any-append is_pipe (c ++ vertical_line ∷ []) (flat_map ended_cell cells), list_any-append is_pipe c (vertical_line ∷ [])) (or_true (list_any is_pipe c) _ _)
+  where
+    or_true : (a b c : Bool) → (((a || true) || b) || c) ≡ true
+    or_true true b c = refl
+    or_true false b c = refl
+
+-- what is made of such bytes and then ends its line may be a row
+made_row : (row rest : List ℕ) (ending : ℕ) → list_all is_row_byte row ≡ true → list_any is_pipe row ≡ true → line_ending rest ≡ Some ending → may_be_row (row ++ rest) ≡ true
+made_row row rest ending all some ends =
+    let run : prefix_len is_row_byte (row ++ rest) ≡ length row = prefix_len-parts is_row_byte row rest all (first-line_ending is_row_byte refl refl rest ending ends) in
+    rw (run, drop-append_seam row rest, take-append_seam row rest, ends, some) refl
+
+pub no_row : (bytes : List ℕ) → may_be_row (drop (prefix_len is_space bytes) bytes) ≡ false → NoDelimiterRow bytes
+no_row bytes none n alignments it =
+    let only = IsDelimiterRow-only bytes n alignments it in
+    let row = delimiter_row it.piped it.cells it.last in
+    let parts : bytes ≡ replicate it.indent 32 ++ (row ++ it.rest) = it.parts ∙ append_assoc (replicate it.indent 32) row it.rest in
+    let dropped : drop it.indent bytes ≡ row ++ it.rest =
+    rw parts (ap (λ m. drop m (replicate it.indent 32 ++ (row ++ it.rest))) (sym (length-replicate it.indent 32)) ∙ drop-append_seam (replicate it.indent 32) (row ++ it.rest)) in
+    let made = made_row row it.rest it.ending (row_all it.piped it.cells it.last it.all_cells it.last_cell) (row_pipe it.piped it.cells it.last it.some_pipe) it.ends in
+    false≢true (sym none ∙ ap may_be_row (ap (λ m. drop m bytes) only.0 ∙ dropped) ∙ made)
