@@ -1,3 +1,4 @@
 pub mod TagEnds
 pub mod TagReading
+pub mod TagRuns
 pub mod TagWhole

@@ -45,13 +45,19 @@ fn measure_tag<F: Fn(&[u8]) -> usize>(data: &[u8], handler: Option<&F>) -> Optio
     ensures whole { IfSome result (λ tag. IfNone handler.entry (tag.kept ≡ tag.end)) }
     ensures within { IfSome result (λ tag. tag.end ≤ length «data».now) }
 {
-    let mut state = TagState::Start;
-    let mut place = 0;
-    let mut kept = 0;
+    let (mut state, mut place) = TagState::after_first(data);
+    let mut kept = place;
     let mut endings = 0;
-    while place < data.len() && !state.is_final() {
+    while !state.is_final() {
+        let (after, passed) = state.read_in_line(&data[place..]);
+        state = after;
+        place += passed;
+        kept += passed;
+        if place >= data.len() || state.is_final() {
+            break;
+        }
         let is_last = ends_line(&data[place..]);
-        state = state.next(data[place]);
+        state = state.after_line_ending(data[place]);
         place += 1;
         kept += 1;
         if is_last {

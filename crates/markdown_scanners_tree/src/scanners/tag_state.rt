@@ -1,7 +1,8 @@
-//! Tags read byte by byte.
-ghost use Rattle.std.specs.Prelude.{◌≡◌};
+//! Tags read by runs of bytes that keep a state.
+ghost use Rattle.std.specs.Prelude.{◌≡◌, ◌≤◌, ◌⊎◌, length, take, drop, true, false};
+ghost use Rattle.markdown_scanners_tree.specs.Bytes.{is_line_ending, is_at_line_end, is_unquoted, is_white_space_in_line};
 ghost use Rattle.markdown_scanners_tree.specs.scanners.html_tag.HtmlTag.{is_tag_name_byte, is_attribute_start, is_attribute_byte};
-ghost use Rattle.markdown_scanners_tree.specs.scanners.tag_state.private.TagMachine.{next_state, after_part, after_attribute_name, before_value, after_closing_name, is_tag_end, is_final};
+ghost use Rattle.markdown_scanners_tree.specs.scanners.tag_state.private.TagMachine.{next_state, after_part, after_attribute_name, before_value, after_closing_name, is_tag_end, is_final, LeadsTo, BeginsWith, AllBetween, AllKeep, is_quoted_in_line};
 
 use crate::scanners::classes::{
     is_ascii_alphanumeric, is_ascii_letter, is_ascii_whitespace, is_ascii_whitespace_no_nl,
@@ -56,6 +57,13 @@ fn continues_attribute(byte: u8) -> bool
     is_ascii_alphanumeric(byte) || matches!(byte, b'_' | b'.' | b':' | b'-')
 }
 
+// Whether the byte is LF or CR.
+fn ends_some_line(byte: u8) -> bool
+    ensures { result ≡ is_line_ending byte }
+{
+    byte == b'\n' || byte == b'\r'
+}
+
 // After a name or a value, where the byte belongs to neither.
 fn after_name_or_value(byte: u8) -> TagState
     ensures { result ≡ after_part byte }
@@ -106,9 +114,151 @@ fn after_closing(byte: u8) -> TagState
     }
 }
 
+// The end of the bytes of a tag name that stand from the place on.
+fn end_of_name(bytes: &[u8], place: usize) -> usize
+    requires { place ≤ length bytes.now }
+    ensures run { AllBetween is_tag_name_byte bytes.now place result }
+    ensures within { (place ≤ result) × (result ≤ length bytes.now) }
+{
+    let mut end = place;
+    while end < bytes.len() && continues_tag_name(bytes[end]) {
+        end += 1;
+    }
+    end
+}
+
+// The end of the bytes of an attribute name.
+fn end_of_attribute_name(bytes: &[u8], place: usize) -> usize
+    requires { place ≤ length bytes.now }
+    ensures run { AllBetween is_attribute_byte bytes.now place result }
+    ensures within { (place ≤ result) × (result ≤ length bytes.now) }
+{
+    let mut end = place;
+    while end < bytes.len() && continues_attribute(bytes[end]) {
+        end += 1;
+    }
+    end
+}
+
+// The end of the white space that ends no line.
+fn end_of_space(bytes: &[u8], place: usize) -> usize
+    requires { place ≤ length bytes.now }
+    ensures run { AllBetween is_white_space_in_line bytes.now place result }
+    ensures within { (place ≤ result) × (result ≤ length bytes.now) }
+{
+    let mut end = place;
+    while end < bytes.len() && is_ascii_whitespace_no_nl(bytes[end]) {
+        end += 1;
+    }
+    end
+}
+
+// The end of the bytes of an unquoted value.
+fn end_of_unquoted(bytes: &[u8], place: usize) -> usize
+    requires { place ≤ length bytes.now }
+    ensures run { AllBetween is_unquoted bytes.now place result }
+    ensures within { (place ≤ result) × (result ≤ length bytes.now) }
+{
+    let mut end = place;
+    while end < bytes.len() && is_unquoted_byte(bytes[end]) {
+        end += 1;
+    }
+    end
+}
+
+// The end of the bytes of a quoted value that stand in one line.
+fn end_of_quoted(bytes: &[u8], place: usize, quote: u8) -> usize
+    requires { place ≤ length bytes.now }
+    ensures run { AllBetween (is_quoted_in_line quote) bytes.now place result }
+    ensures within { (place ≤ result) × (result ≤ length bytes.now) }
+{
+    let mut end = place;
+    while end < bytes.len() && bytes[end] != quote && !ends_some_line(bytes[end]) {
+        end += 1;
+    }
+    end
+}
+
 impl TagState {
+    // What the first bytes lead to, and how many of them are read. Where they begin no tag, that is
+    // mostly seen here, without a turn for each byte.
+    pub(crate) fn after_first(bytes: &[u8]) -> (TagState, usize)
+        ensures leads { BeginsWith (take result.1 bytes.now) result.0 }
+        ensures within { result.1 ≤ length bytes.now }
+    {
+        match bytes {
+            [b'<', b'/', letter, ..] if is_ascii_letter(*letter) => (TagState::ClosingName, 3),
+            [b'<', letter, ..] if is_ascii_letter(*letter) => (TagState::Name, 2),
+            [b'<', other, ..] if *other > b'\r' && *other != b'/' => (TagState::Refused, 2),
+            _ => (TagState::Start, 0),
+        }
+    }
+
+    // The end of bytes from the place on that keep this state.
+    fn end_of_run(self, bytes: &[u8], place: usize) -> usize
+        requires { place ≤ length bytes.now }
+        ensures run { AllKeep self bytes.now place result }
+        ensures within { (place ≤ result) × (result ≤ length bytes.now) }
+    {
+        match self {
+            TagState::Name | TagState::ClosingName => end_of_name(bytes, place),
+            TagState::AttributeName => end_of_attribute_name(bytes, place),
+            TagState::Spaced | TagState::AfterName | TagState::BeforeValue => {
+                end_of_space(bytes, place)
+            }
+            TagState::Unquoted => end_of_unquoted(bytes, place),
+            TagState::Quoted(quote) => end_of_quoted(bytes, place, quote),
+            _ => place,
+        }
+    }
+
+    // What the bytes lead to, up to the end of the tag, of the line or of the bytes, and how many
+    // of them are read. A turn reads one byte and those after it that keep the state: 130
+    // instructions for a tag of Markdown, where one for each byte takes 250.
+    pub(crate) fn read_in_line(self, bytes: &[u8]) -> (TagState, usize)
+        requires { is_final self ≡ false }
+        ensures leads { LeadsTo self (take result.1 bytes.now) result.0 }
+        ensures within { result.1 ≤ length bytes.now }
+        ensures stops { (is_final result.0 ≡ true)
+            ⊎ (is_at_line_end (drop result.1 bytes.now) ≡ true) }
+    {
+        let mut state = self;
+        let mut place = 0;
+        while place < bytes.len() && !ends_some_line(bytes[place]) {
+            state = state.next(bytes[place]);
+            place += 1;
+            if state.is_final() {
+                return (state, place);
+            }
+            place = state.end_of_run(bytes, place);
+        }
+        (state, place)
+    }
+
+    // After a byte of a line ending.
+    pub(crate) fn after_line_ending(self, byte: u8) -> TagState
+        requires { is_line_ending byte ≡ true }
+        ensures { result ≡ next_state self byte }
+    {
+        match self {
+            TagState::Name | TagState::Spaced | TagState::Unquoted | TagState::AfterValue => {
+                TagState::Spaced
+            }
+            TagState::AttributeName | TagState::AfterName => TagState::AfterName,
+            TagState::BeforeValue => TagState::BeforeValue,
+            TagState::Quoted(quote) if byte == quote => TagState::AfterValue,
+            TagState::Quoted(quote) => TagState::Quoted(quote),
+            TagState::ClosingName | TagState::ClosingSpaced if byte == b'\r' => {
+                TagState::ClosingReturned
+            }
+            TagState::ClosingName | TagState::ClosingSpaced => TagState::ClosingEnded,
+            TagState::ClosingReturned if byte == b'\n' => TagState::ClosingEnded,
+            _ => TagState::Refused,
+        }
+    }
+
     // After one more byte.
-    pub(crate) fn next(self, byte: u8) -> TagState
+    fn next(self, byte: u8) -> TagState
         ensures { result ≡ next_state self byte }
     {
         match self {

@@ -1,5 +1,5 @@
 -- How far a scan of a tag over lines has come, and what that says of its end.
-use Rattle.std.proofs.Common.{ℕ, List, [], ◌∷◌, ◌++◌, ◌+◌, ◌-◌, ◌<◌, ◌≤◌, ◌≡◌, true, false, cond, length, take, drop, get_or, Option, Some, None, IfSome, refl, sym, ap, ◌∙◌, subst, append_assoc, length-append, inl, inr, ◌⊎◌, arith}
+use Rattle.std.proofs.Common.{ℕ, zero, suc, List, [], ◌∷◌, ◌++◌, ◌+◌, ◌-◌, ◌<◌, ◌≤◌, ◌≡◌, true, false, cond, length, take, drop, get_or, Option, Some, None, IfSome, refl, sym, ap, ◌∙◌, subst, append_assoc, length-append, inl, inr, ◌⊎◌, arith}
 use Rattle.std.proofs.lemmas.Bool.{cases_Bool}
 use Rattle.std.proofs.lemmas.List.{drop_more, drop-drop, drop_all, length-drop, append-nil, map-append}
 use Rattle.std.proofs.lemmas.List.Sums.{sum_by-append}
@@ -9,7 +9,7 @@ use Rattle.markdown_scanners_tree.specs.Bytes.{is_line_ending}
 use Rattle.markdown_scanners_tree.specs.Kept.{KeptByte, in_line, at_line_end, bytes_of, line_endings}
 use Rattle.markdown_scanners_tree.specs.Handler.{Answers, IsSteady}
 use Rattle.markdown_scanners_tree.specs.scanners.html_tag.KeptTag.{AnswersIfAny, place_after, IsKeptTag}
-use Rattle.markdown_scanners_tree.specs.scanners.tag_state.private.TagMachine.{next_state, state_after, is_tag_end, is_final, ends_source_line}
+use Rattle.markdown_scanners_tree.specs.scanners.tag_state.private.TagMachine.{next_state, state_after, is_tag_end, is_final, ends_source_line, LeadsTo, BeginsWith}
 use Rattle.markdown_scanners_tree.specs.declared.scanners.tag_state.TagState.{TagState}
 use Rattle.markdown_scanners_tree.specs.declared.scanners.tag_state.TagState.TheVariants.{Start}
 use Rattle.markdown_scanners_tree.proofs.PrefixLemmas.{from_place}
@@ -213,6 +213,41 @@ module _ (answers : List ℕ → ℕ → Type 0) (source : List ℕ) (place kept
         forth = λ c t r. subst (λ z. Reads answers 0 source z) (sym (append_assoc s.passed (turn.kept ∷ []) (c ∷ t))) (s.forth turn.kept (c ∷ t) (turn.step.forth c t r));
         left = left_more;
       }
+
+-- bytes with no line ending among them, one after the other
+plain_here : (place b : ℕ) (bs : List ℕ) → is_line_ending b ≡ false → ends_source_line (b ∷ bs) ≡ false
+plain_here place b bs plain =
+    elim (cases_Bool (ends_source_line (b ∷ bs))) [
+      | inl ends ↦ absurd (let ending : is_line_ending b ≡ true = (ends_alone place b bs ends).0 in cc)
+      | inr e ↦ e
+    ]
+
+module _ (answers : List ℕ → ℕ → Type 0) (source : List ℕ) (endings : ℕ) where
+  pub scan_reads : (n place kept : ℕ) (from to : TagState) → Scanned answers source place kept endings from → place + n ≤ length source → LeadsTo from (take n (drop place source)) to → Scanned answers source (place + n) (kept + n) endings to
+  scan_reads zero place kept from to s inside l =
+      let p : place ≡ place + 0 = omega arith in
+      let k : kept ≡ kept + 0 = omega arith in
+      subst (λ z. Scanned answers source z (kept + 0) endings to) p (subst (λ z. Scanned answers source place z endings to) k (subst (λ z. Scanned answers source place kept endings z) l s))
+  scan_reads (suc n) place kept from to s inside l =
+      let low : place < length source = omega arith in
+      let byte : ℕ = get_or source place 0 in
+      let parts : LeadsTo from (byte ∷ take n (drop (place + 1) source)) to = subst (λ z. LeadsTo from (take (suc n) z) to) (drop_more source place 0 low) l in
+      let plain : ends_source_line (drop place source) ≡ false = rw (drop_more source place 0 low) (plain_here place byte (drop (place + 1) source) parts.1) in
+      let one : Scanned answers source (place + 1) (kept + 1) endings (next_state from byte) = scan_goes_on answers source place kept endings from s parts.0 (place + 1) endings (turn_in_line answers source place endings low plain) in
+      let rest : Scanned answers source (place + 1 + n) (kept + 1 + n) endings to = scan_reads n (place + 1) (kept + 1) (next_state from byte) to one (omega arith) parts.2 in
+      let p : place + 1 + n ≡ place + suc n = omega arith in
+      let k : kept + 1 + n ≡ kept + suc n = omega arith in
+      subst (λ z. Scanned answers source z (kept + suc n) endings to) p (subst (λ z. Scanned answers source (place + 1 + n) z endings to) k rest)
+
+-- the first bytes
+pub scan_begins : (answers : List ℕ → ℕ → Type 0) (source : List ℕ) (n : ℕ) (to : TagState) → n ≤ length source → BeginsWith (take n source) to → Scanned answers source n n 0 to
+scan_begins answers source n to inside l = subst (λ z. Scanned answers source z z 0 to) (let e : 0 + n ≡ n = omega arith in e) (scan_reads answers source 0 n 0 0 Start to (scan_starts answers source) (omega arith) l)
+
+-- the bytes of a line's rest
+pub scan_reads_on : (answers : List ℕ → ℕ → Type 0) (source : List ℕ) (place kept endings n : ℕ) (from to : TagState) → Scanned answers source place kept endings from → place ≤ length source → n ≤ length (take (length source - place) (drop place source)) → LeadsTo from (take n (take (length source - place) (drop place source))) to → Scanned answers source (place + n) (kept + n) endings to
+scan_reads_on answers source place kept endings n from to s low inside l =
+    let rest : length (take (length source - place) (drop place source)) ≡ length source - place = ap length (from_place source place) ∙ length-drop place source in
+    scan_reads answers source endings n place kept from to s (omega arith) (subst (λ z. LeadsTo from (take n z) to) (from_place source place) l)
 
 -- without a handler no line end is kept
 pub no_handler_stops : {F : Type 0} (g : Shared F (Bor (List ℕ) × Unit {0}) ℕ) (handler : Option (Bor F)) (source : List ℕ) (place kept endings : ℕ) (state : TagState) → Scanned (AnswersIfAny g handler) source place kept endings state → is_final state ≡ false → place < length source → handler ≡ None → ends_source_line (take (length source - place) (drop place source)) ≡ true → (prefix : List KeptByte) → IsKeptTag (AnswersIfAny g handler) source prefix → ⊥

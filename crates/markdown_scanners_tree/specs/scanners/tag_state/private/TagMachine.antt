@@ -1,8 +1,8 @@
 -- The state that a tag scanner has of the bytes that it has read: what they end in.
 -- (CommonMark 0.31.2, section 6.6, raw HTML)
-use Rattle.std.specs.Prelude.{ℕ, Bool, true, false, ◌||◌, ◌&&◌, ◌==◌, not, nat_le, List, [], ◌∷◌, if◌then◌else◌}
+use Rattle.std.specs.Prelude.{ℕ, Bool, true, false, ◌||◌, ◌&&◌, ◌==◌, ◌≡◌, ◌<◌, ◌≤◌, not, nat_le, List, [], ◌∷◌, slice_index, if◌then◌else◌}
 use Rattle.markdown_scanners_tree.specs.Ascii.{line_feed, carriage_return, quotation_mark, apostrophe, slash, less_than_sign, equals_sign, greater_than_sign}
-use Rattle.markdown_scanners_tree.specs.Bytes.{begins_with, is_letter, is_unquoted, is_white_space, is_white_space_in_line}
+use Rattle.markdown_scanners_tree.specs.Bytes.{begins_with, is_letter, is_line_ending, is_unquoted, is_white_space, is_white_space_in_line}
 use Rattle.markdown_scanners_tree.specs.scanners.html_tag.HtmlTag.{is_tag_name_byte, is_attribute_start, is_attribute_byte}
 use Rattle.markdown_scanners_tree.specs.declared.scanners.tag_state.TagState.{TagState}
 use Rattle.markdown_scanners_tree.specs.declared.scanners.tag_state.TagState.TheVariants.{Start, Opened, Name, Spaced, AttributeName, AfterName, BeforeValue, Unquoted, Quoted, AfterValue, Slashed, Open, Closing, ClosingName, ClosingSpaced, ClosingReturned, ClosingEnded, Closed, Refused}
@@ -73,18 +73,44 @@ abbrev pub state_after : TagState → List ℕ → TagState
 state_after state [] = state
 state_after state (b ∷ bs) = state_after (next_state state b) bs
 
--- A tag is whole: an open tag, or a closing tag with at most one line ending of the source.
-abbrev pub is_tag_end : TagState → ℕ → Bool
-is_tag_end Open endings = true
-is_tag_end Closed endings = nat_le endings 1
-is_tag_end _ endings = false
-
 -- No byte leads further from here.
 abbrev pub is_final : TagState → Bool
 is_final Open = true
 is_final Closed = true
 is_final Refused = true
 is_final _ = false
+
+-- The bytes lead from one state to another, with no line ending among them and no byte after a final
+-- state.
+abbrev pub LeadsTo : TagState → List ℕ → TagState → Type 0
+LeadsTo from [] to = from ≡ to
+LeadsTo from (b ∷ bs) to =
+    (is_final from ≡ false) × (is_line_ending b ≡ false) × LeadsTo (next_state from b) bs to
+
+-- the bytes that a tag begins with lead to a state
+abbrev pub BeginsWith : List ℕ → TagState → Type 0
+BeginsWith = LeadsTo Start
+
+-- Each byte from one place up to another passes.
+abbrev pub AllBetween : (ℕ → Bool) → List ℕ → ℕ → ℕ → Type 0
+AllBetween test bytes from to =
+    (i : ℕ) → from ≤ i → i < to → test (slice_index bytes i) ≡ true
+
+-- Each byte from one place up to another keeps the state, and ends no line.
+abbrev pub AllKeep : TagState → List ℕ → ℕ → ℕ → Type 0
+AllKeep state bytes from to =
+    (i : ℕ) → from ≤ i → i < to
+    → (next_state state (slice_index bytes i) ≡ state) × (is_line_ending (slice_index bytes i) ≡ false)
+
+-- a byte of a value in this quote that ends no line
+abbrev pub is_quoted_in_line : ℕ → ℕ → Bool
+is_quoted_in_line quote b = not (b == quote) && not (is_line_ending b)
+
+-- A tag is whole: an open tag, or a closing tag with at most one line ending of the source.
+abbrev pub is_tag_end : TagState → ℕ → Bool
+is_tag_end Open endings = true
+is_tag_end Closed endings = nat_le endings 1
+is_tag_end _ endings = false
 
 -- A line of the source ends with the first of the bytes: it is LF, or a CR that no LF follows.
 abbrev pub ends_source_line : List ℕ → Bool

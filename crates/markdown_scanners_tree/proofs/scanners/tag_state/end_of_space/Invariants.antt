@@ -1,0 +1,10 @@
+use Rattle.std.proofs.Common.{length, ◌-◌, ◌≤◌}
+use Rattle.markdown_scanners_tree.specs.Bytes.{is_white_space_in_line}
+use Rattle.markdown_scanners_tree.specs.scanners.tag_state.private.TagMachine.{AllBetween}
+use Rattle.markdown_scanners_tree.proofs.scanners.tag_state.end_of_space.Given as goal
+
+abbrev pub invariant-loop-end : goal.invariant-loop-end
+invariant-loop-end l = AllBetween is_white_space_in_line l.bytes l.place l.end × (l.place ≤ l.end) × (l.end ≤ length l.bytes)
+
+abbrev pub decreases-loop-end : goal.decreases-loop-end
+decreases-loop-end l = length l.bytes - l.end
