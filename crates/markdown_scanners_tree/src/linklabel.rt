@@ -1,5 +1,5 @@
 //! Link labels: the bracketed names by which references and footnotes are matched.
-ghost use Rattle.std.specs.Prelude.{length, drop, ◌≡◌, ◌⊎◌, ◌≤◌, ◌+◌, ◌++◌, ◌&&◌, not, ℕ, true, false, IfOk, OnOk, IsOk, IfSome, IfNone, option_map, string_bytes, encode_utf8_all, nat_eq, IsCharBoundary};
+ghost use Rattle.std.specs.Prelude.{length, drop, ◌≡◌, ◌⊎◌, ◌≤◌, ◌+◌, ◌++◌, ◌&&◌, not, ℕ, true, false, IfOk, OnOk, IsOk, IfSome, IfNone, option_map, string_bytes, flat_map, nat_eq, IsCharBoundary};
 ghost use Rattle.std.specs.Cmp.{on_equiv, on_per, partial_equiv_from_equiv};
 ghost use Rattle.std.specs.Cmp.Lexicographic.{pointwise, nat_list_eq_equiv};
 ghost use Rattle.std.specs.Cmp.Rules.{hashing};
@@ -16,7 +16,7 @@ ghost use Rattle.markdown_scanners_tree.specs.linklabel.Key.{label_key};
 ghost use Rattle.markdown_scanners_tree.specs.linklabel.private.Pass.{begun, space_len, starts_dropped, new_tally, tally_past_ending, tally_past_space, tally_past_word, IsMeasure};
 
 use crate::scanners::{is_ascii_punctuation, is_ascii_whitespace};
-use caseless::default_case_fold_str;
+use caseless::{Caseless, default_caseless_match_str};
 use markdown_values::strings::CowStr;
 use std::alloc::{AllocError, Global};
 use std::hash::{Hash, Hasher};
@@ -35,38 +35,29 @@ pub enum ReferenceLabel<'a> {
 }
 
 /// A label by which references find their definitions. Two are equal where their texts have the same full case
-/// folding (CommonMark 0.31.2, section 6.3, link labels). The folding is kept beside the text, so that
-/// comparing and hashing take no memory.
+/// folding (CommonMark 0.31.2, section 6.3, link labels). The text is folded on the way where labels are compared
+/// or hashed, so that neither takes memory.
 #[derive(Drop)]
 pub struct LinkLabel<'a> {
     text: CowStr<'a>,
-    key: String,
 }
 
 impl<'a> Model for LinkLabel<'a> {
-    ghost use Rattle.std.specs.Prelude.{ℕ, List, ◌≡◌, encode_utf8_all};
-    ghost use Rattle.std.specs.String.{string_bytes};
+    ghost use Rattle.std.specs.Prelude.{ℕ, List};
     ghost use Rattle.markdown_values.specs.strings.Text.{cow_text};
-    ghost use Rattle.markdown_scanners_tree.specs.linklabel.Key.{label_key};
 
     ghost Value = { List ℕ };
 
     ghost view = { λ l. cow_text l.text };
-
-    ghost invariant = { λ l. string_bytes l.key ≡ encode_utf8_all (label_key (cow_text l.text)) };
 }
 
 impl<'a> LinkLabel<'a> {
-    /// The label with this text.
-    ///
-    /// # Errors
-    ///
-    /// `AllocError` where memory for the folding is refused; the text is dropped then.
-    pub fn new(alloc: Global, text: CowStr<'a>) -> Result<LinkLabel<'a>, AllocError>
-        ensures { IfOk result (λ label. label ≡ cow_text text.entry) }
+    /// The label with this text, always `Ok`: it takes no memory.
+    pub fn new(_alloc: Global, text: CowStr<'a>) -> Result<LinkLabel<'a>, AllocError>
+        ensures label { IfOk result (λ label. label ≡ cow_text text.entry) }
+        ensures no_memory { IsOk result }
     {
-        let key = default_case_fold_str(alloc, text.as_str())?;
-        Ok(LinkLabel { text, key })
+        Ok(LinkLabel { text })
     }
 
     /// The text as it was given, its case unchanged.
@@ -83,7 +74,7 @@ impl<'a> PartialEq for LinkLabel<'a> {
     ghost laws = { on_per label_key (partial_equiv_from_equiv nat_list_eq_equiv) };
 
     fn eq(&self, other: &LinkLabel<'a>) -> bool {
-        self.key.as_str() == other.key.as_str()
+        default_caseless_match_str(self.text.as_str(), other.text.as_str())
     }
 }
 
@@ -92,12 +83,16 @@ impl<'a> Eq for LinkLabel<'a> {
 }
 
 impl<'a> Hash for LinkLabel<'a> {
-    ghost hash_input = { λ l. fed.str (encode_utf8_all (label_key l)) };
+    ghost hash_input = { λ l. flat_map fed.char (label_key l) ++ fed.u8 255 };
 
     ghost respects_eq = { Prim.search (hashing, rules) };
 
     fn hash<H: Hasher>(&self, state: &mut H) {
-        self.key.as_str().hash(state);
+        for c in self.text.as_str().chars().default_case_fold() {
+            c.hash(state);
+        }
+        // Characters are hashed as four bytes each, so this one ends the key.
+        state.write_u8(0xFF);
     }
 }
 

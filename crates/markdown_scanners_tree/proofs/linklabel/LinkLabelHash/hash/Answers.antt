@@ -1,0 +1,42 @@
+-- The characters of the key are hashed as they are folded.
+use Rattle.std.proofs.Common.{ℕ, List, [], ◌∷◌, ◌≡◌, Option, Some, None, refl, sym, ◌∙◌, ap, subst, MatchOption}
+use Rattle.std.specs.Hash as fed
+use Rattle.std.specs.Hash.{fed_then}
+use Rattle.std.specs.List.{fold, flat_map}
+use Rattle.std.specs.Str.Iter.{chars_steps}
+use Rattle.caseless.specs.CaseFold.{FoldsCaseTo}
+use Rattle.std.proofs.lemmas.Str.{Chars-gives, encodes-chars}
+use Rattle.markdown_scanners_tree.specs.linklabel.Key.{label_key}
+use Rattle.markdown_scanners_tree.proofs.linklabel.LinkLabelHash.hash.Goals as goal
+
+-- what a call gave of the characters that are left
+abbrev Gave : (List ℕ → Type 0) → List ℕ → Option ℕ → Type 0
+Gave HasLeft cs r = MatchOption r (cs ≡ []) (λ c. (rest : List ℕ) × (cs ≡ c ∷ rest) × HasLeft rest)
+
+first_left : (HasLeft : List ℕ → Type 0) (cs : List ℕ) (r : Option ℕ) (c : ℕ) → Gave HasLeft cs r → r ≡ Some c → (rest : List ℕ) × (cs ≡ c ∷ rest) × HasLeft rest
+first_left HasLeft cs r c y e = subst (Gave HasLeft cs) e y
+
+none_left : (HasLeft : List ℕ → Type 0) (cs : List ℕ) (r : Option ℕ) → Gave HasLeft cs r → r ≡ None → cs ≡ []
+none_left HasLeft cs r y e = subst (Gave HasLeft cs) e y
+
+pub loop-c-init : goal.loop-c-init
+loop-c-init g c = record {
+  left = label_key c.args.self.now;
+  folds = subst (λ z. z) (λ i. FoldsCaseTo chars_steps (sym c.into_iter-c-iterator.ensures.into_iter_gives i) (label_key ((c.as_str.ensures ∙ c.self.view_is) i)))
+      (c.default_case_fold-c-items.ensures.text _ (Chars-gives _ _ (encodes-chars _ c.as_str.utf8 ∙ sym c.chars.ensures.rest)));
+  same = refl;
+}
+
+pub loop-c-preserved : goal.loop-c-preserved
+loop-c-preserved g c =
+    let first = first_left (FoldsCaseTo chars_steps c.next.new.self) _ _ c.in-Some.c (c.next.ensures.steps.first.at _ c.loop-c.invariant.folds) c.in-Some.is in record {
+      left = first.0;
+      folds = first.2;
+      same = ap (λ s. fold g.H.Hasher.write s (flat_map fed.char first.0)) c.hash.ensures ∙ ap (λ zs. fold g.H.Hasher.write c.loop-c.state (flat_map fed.char zs)) (sym first.1) ∙ c.loop-c.invariant.same;
+    }
+
+pub returns : goal.returns
+returns g c =
+    let done = none_left (FoldsCaseTo chars_steps c.next.new.self) _ _ (c.next.ensures.steps.first.at _ c.loop-c.invariant.folds) c.in-None.is in
+    fed_then g.H.Hasher.write c.args.state.now c.loop-c.state c.write_u8.new.self (flat_map fed.char (label_key c.args.self.now)) (fed.u8 255)
+    (ap (λ zs. fold g.H.Hasher.write c.loop-c.state (flat_map fed.char zs)) (sym done) ∙ c.loop-c.invariant.same) c.write_u8.ensures
