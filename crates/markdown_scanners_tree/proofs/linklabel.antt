@@ -1,3 +1,4 @@
+pub mod AsciiKeys
 pub mod Cells
 pub mod Keys
 pub mod MeasureLemmas

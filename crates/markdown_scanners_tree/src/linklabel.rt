@@ -1,5 +1,5 @@
 //! Link labels: the bracketed names by which references and footnotes are matched.
-ghost use Rattle.std.specs.Prelude.{length, drop, ◌≡◌, ◌⊎◌, ◌≤◌, ◌+◌, ◌++◌, ◌&&◌, not, ℕ, true, false, IfOk, OnOk, IsOk, IfSome, IfNone, option_map, string_bytes, flat_map, nat_eq, IsCharBoundary};
+ghost use Rattle.std.specs.Prelude.{length, drop, ◌≡◌, ◌⊎◌, ◌≤◌, ◌+◌, ◌++◌, ◌&&◌, not, ℕ, true, false, IfOk, OnOk, IsOk, IfSome, IfNone, option_map, string_bytes, encode_utf8, map, nat_eq, IsCharBoundary};
 ghost use Rattle.std.specs.Cmp.{on_equiv, on_per, partial_equiv_from_equiv};
 ghost use Rattle.std.specs.Cmp.Lexicographic.{pointwise, nat_list_eq_equiv};
 ghost use Rattle.std.specs.Cmp.Rules.{hashing};
@@ -15,8 +15,11 @@ ghost use Rattle.markdown_scanners_tree.specs.linklabel.private.NextPart.{IsNext
 ghost use Rattle.markdown_scanners_tree.specs.linklabel.Key.{label_key};
 ghost use Rattle.markdown_scanners_tree.specs.linklabel.private.Pass.{begun, space_len, starts_dropped, new_tally, tally_past_ending, tally_past_space, tally_past_word, IsMeasure};
 
+mod key;
+
 use crate::scanners::{is_ascii_punctuation, is_ascii_whitespace};
-use caseless::{Caseless, default_caseless_match_str};
+use caseless::default_caseless_match_str;
+use key::{eq_ascii, hash_ascii, hash_folded};
 use markdown_values::strings::CowStr;
 use std::alloc::{AllocError, Global};
 use std::hash::{Hash, Hasher};
@@ -36,19 +39,22 @@ pub enum ReferenceLabel<'a> {
 
 /// A label by which references find their definitions. Two are equal where their texts have the same full case
 /// folding (CommonMark 0.31.2, section 6.3, link labels). The text is folded on the way where labels are compared
-/// or hashed, so that neither takes memory.
+/// or hashed, so that neither takes memory; that of an ASCII text byte by byte.
 #[derive(Drop)]
 pub struct LinkLabel<'a> {
     text: CowStr<'a>,
+    is_ascii: bool,
 }
 
 impl<'a> Model for LinkLabel<'a> {
-    ghost use Rattle.std.specs.Prelude.{ℕ, List};
+    ghost use Rattle.std.specs.Prelude.{ℕ, List, IsAscii, IsTrue};
     ghost use Rattle.markdown_values.specs.strings.Text.{cow_text};
 
     ghost Value = { List ℕ };
 
     ghost view = { λ l. cow_text l.text };
+
+    ghost invariant = { λ l. IsTrue l.is_ascii → IsAscii (cow_text l.text) };
 }
 
 impl<'a> LinkLabel<'a> {
@@ -57,7 +63,8 @@ impl<'a> LinkLabel<'a> {
         ensures label { IfOk result (λ label. label ≡ cow_text text.entry) }
         ensures no_memory { IsOk result }
     {
-        Ok(LinkLabel { text })
+        let is_ascii = text.as_str().is_ascii();
+        Ok(LinkLabel { text, is_ascii })
     }
 
     /// The text as it was given, its case unchanged.
@@ -74,7 +81,11 @@ impl<'a> PartialEq for LinkLabel<'a> {
     ghost laws = { on_per label_key (partial_equiv_from_equiv nat_list_eq_equiv) };
 
     fn eq(&self, other: &LinkLabel<'a>) -> bool {
-        default_caseless_match_str(self.text.as_str(), other.text.as_str())
+        if self.is_ascii && other.is_ascii {
+            eq_ascii(self.as_str(), other.as_str())
+        } else {
+            default_caseless_match_str(self.as_str(), other.as_str())
+        }
     }
 }
 
@@ -83,15 +94,17 @@ impl<'a> Eq for LinkLabel<'a> {
 }
 
 impl<'a> Hash for LinkLabel<'a> {
-    ghost hash_input = { λ l. flat_map fed.char (label_key l) ++ fed.u8 255 };
+    ghost hash_input = { λ l. map encode_utf8 (label_key l) ++ fed.u8 255 };
 
     ghost respects_eq = { Prim.search (hashing, rules) };
 
     fn hash<H: Hasher>(&self, state: &mut H) {
-        for c in self.text.as_str().chars().default_case_fold() {
-            c.hash(state);
+        if self.is_ascii {
+            hash_ascii(self.as_str(), state);
+        } else {
+            hash_folded(self.as_str(), state);
         }
-        // Characters are hashed as four bytes each, so this one ends the key.
+        // No UTF-8 has this byte, so it ends the key.
         state.write_u8(0xFF);
     }
 }

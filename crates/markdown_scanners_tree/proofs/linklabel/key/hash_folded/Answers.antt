@@ -1,13 +1,10 @@
 -- The characters of the key are hashed as they are folded.
-use Rattle.std.proofs.Common.{ℕ, List, [], ◌∷◌, ◌≡◌, Option, Some, None, refl, sym, ◌∙◌, ap, subst, MatchOption}
-use Rattle.std.specs.Hash as fed
-use Rattle.std.specs.Hash.{fed_then}
-use Rattle.std.specs.List.{fold, flat_map}
+use Rattle.std.proofs.Common.{ℕ, List, [], ◌∷◌, ◌≡◌, Option, Some, None, refl, sym, ◌∙◌, ap, subst, MatchOption, encode_utf8, fold, map}
 use Rattle.std.specs.Str.Iter.{chars_steps}
 use Rattle.caseless.specs.CaseFold.{FoldsCaseTo}
 use Rattle.std.proofs.lemmas.Str.{Chars-gives, encodes-chars}
 use Rattle.markdown_scanners_tree.specs.linklabel.Key.{label_key}
-use Rattle.markdown_scanners_tree.proofs.linklabel.LinkLabelHash.hash.Goals as goal
+use Rattle.markdown_scanners_tree.proofs.linklabel.key.hash_folded.Goals as goal
 
 -- what a call gave of the characters that are left
 abbrev Gave : (List ℕ → Type 0) → List ℕ → Option ℕ → Type 0
@@ -21,9 +18,9 @@ none_left HasLeft cs r y e = subst (Gave HasLeft cs) e y
 
 pub loop-c-init : goal.loop-c-init
 loop-c-init g c = record {
-  left = label_key c.args.self.now;
-  folds = subst (λ z. z) (λ i. FoldsCaseTo chars_steps (sym c.into_iter-c-iterator.ensures.into_iter_gives i) (label_key ((c.as_str.ensures ∙ c.self.view_is) i)))
-      (c.default_case_fold-c-items.ensures.text _ (Chars-gives _ _ (encodes-chars _ c.as_str.utf8 ∙ sym c.chars.ensures.rest)));
+  left = label_key c.args.text.now;
+  folds = subst (λ z. z) (λ i. FoldsCaseTo chars_steps (sym c.into_iter-c-iterator.ensures.into_iter_gives i) (label_key c.args.text.now))
+      (c.default_case_fold-c-items.ensures.text _ (Chars-gives _ _ (encodes-chars _ c.utf8.text ∙ sym c.chars.ensures.rest)));
   same = refl;
 }
 
@@ -32,11 +29,11 @@ loop-c-preserved g c =
     let first = first_left (FoldsCaseTo chars_steps c.next.new.self) _ _ c.in-Some.c (c.next.ensures.steps.first.at _ c.loop-c.invariant.folds) c.in-Some.is in record {
       left = first.0;
       folds = first.2;
-      same = ap (λ s. fold g.H.Hasher.write s (flat_map fed.char first.0)) c.hash.ensures ∙ ap (λ zs. fold g.H.Hasher.write c.loop-c.state (flat_map fed.char zs)) (sym first.1) ∙ c.loop-c.invariant.same;
+      same = ap (λ s. fold g.H.Hasher.write s (map encode_utf8 first.0)) (c.write.ensures ∙ ap (g.H.Hasher.write c.loop-c.state) (c.as_bytes.ensures.value ∙ c.encode_utf8.ensures.value))
+          ∙ ap (λ left. fold g.H.Hasher.write c.loop-c.state (map encode_utf8 left)) (sym first.1) ∙ c.loop-c.invariant.same;
     }
 
 pub returns : goal.returns
 returns g c =
     let done = none_left (FoldsCaseTo chars_steps c.next.new.self) _ _ (c.next.ensures.steps.first.at _ c.loop-c.invariant.folds) c.in-None.is in
-    fed_then g.H.Hasher.write c.args.state.now c.loop-c.state c.write_u8.new.self (flat_map fed.char (label_key c.args.self.now)) (fed.u8 255)
-    (ap (λ zs. fold g.H.Hasher.write c.loop-c.state (flat_map fed.char zs)) (sym done) ∙ c.loop-c.invariant.same) c.write_u8.ensures
+    ap (λ left. fold g.H.Hasher.write c.loop-c.state (map encode_utf8 left)) (sym done) ∙ c.loop-c.invariant.same
