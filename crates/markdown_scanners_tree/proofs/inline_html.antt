@@ -1,3 +1,4 @@
+pub mod LastBytes
 pub mod LeastPlaces
 pub mod Openings
 pub mod Rows
