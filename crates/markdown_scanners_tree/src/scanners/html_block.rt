@@ -135,5 +135,6 @@ pub fn starts_html_block_type_6(data: &[u8]) -> bool
 {
     let after = without_slash(data);
     let length = scan_alphanumerics(after);
-    is_block_name(&after[..length]) && ends_name(&after[length..])
+    // The byte after the name is asked first, since a search among the names takes longer.
+    ends_name(&after[length..]) && is_block_name(&after[..length])
 }

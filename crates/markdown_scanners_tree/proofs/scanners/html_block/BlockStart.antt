@@ -77,18 +77,18 @@ block_to bytes b =
     rw (e, n) (subst IsBlockName (sym (take-append_seam b.name b.rest)) b.named, ap ends_block_name (drop-append_seam b.name b.rest) ∙ b.ended)
 
 -- by the tests of a scan
-module _ (bytes after : List ℕ) (n : ℕ) (named : Bool) (a : after ≡ after_slash bytes) (k : n ≡ run after) (h : IsTrue named ↔ IsBlockName (take n after)) where
+module _ (bytes after : List ℕ) (n : ℕ) (ended : Bool) (a : after ≡ after_slash bytes) (k : n ≡ run after) (e : ended ≡ ends_block_name (take (length after - n) (drop n after))) where
   name_is : take n after ≡ take (run (after_slash bytes)) (after_slash bytes)
   name_is = ap (λ z. take z after) k ∙ ap (λ z. take (run z) z) a
 
   rest_is : take (length after - n) (drop n after) ≡ drop (run (after_slash bytes)) (after_slash bytes)
   rest_is = from_place after n ∙ ap (λ z. drop z after) k ∙ ap (λ z. drop (run z) z) a
 
-  pub starts_where_named : (ended : Bool) → ended ≡ ends_block_name (take (length after - n) (drop n after)) → named ≡ true → IsTrue ended ↔ IsBlockStart bytes
-  starts_where_named ended e t = (
-    λ w. block_from bytes (subst IsBlockName name_is (h.0 t)) (ap ends_block_name (sym rest_is) ∙ sym e ∙ w),
-    λ b. e ∙ ap ends_block_name rest_is ∙ (block_to bytes b).1,
+  pub starts_where_ended : (named : Bool) → (IsTrue named ↔ IsBlockName (take n after)) → ended ≡ true → IsTrue named ↔ IsBlockStart bytes
+  starts_where_ended named h t = (
+    λ w. block_from bytes (subst IsBlockName name_is (h.0 w)) (ap ends_block_name (sym rest_is) ∙ sym e ∙ t),
+    λ b. h.1 (subst IsBlockName (sym name_is) (block_to bytes b).0),
   )
 
-  pub starts_not_unnamed : named ≡ false → IsTrue named ↔ IsBlockStart bytes
-  starts_not_unnamed f = (λ t. cc, λ b. h.1 (subst IsBlockName (sym name_is) (block_to bytes b).0))
+  pub starts_not_unended : ended ≡ false → IsTrue ended ↔ IsBlockStart bytes
+  starts_not_unended f = (λ t. cc, λ b. e ∙ ap ends_block_name rest_is ∙ (block_to bytes b).1)
