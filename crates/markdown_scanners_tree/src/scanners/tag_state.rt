@@ -188,6 +188,7 @@ impl TagState {
     {
         match bytes {
             [b'<', b'/', letter, ..] if is_ascii_letter(*letter) => (TagState::ClosingName, 3),
+            [b'<', b'/', other, ..] if *other > b'\r' => (TagState::Refused, 3),
             [b'<', letter, ..] if is_ascii_letter(*letter) => (TagState::Name, 2),
             [b'<', other, ..] if *other > b'\r' && *other != b'/' => (TagState::Refused, 2),
             _ => (TagState::Start, 0),
@@ -206,6 +207,7 @@ impl TagState {
             TagState::Spaced | TagState::AfterName | TagState::BeforeValue => {
                 end_of_space(bytes, place)
             }
+            TagState::ClosingSpaced | TagState::ClosingEnded => end_of_space(bytes, place),
             TagState::Unquoted => end_of_unquoted(bytes, place),
             TagState::Quoted(quote) => end_of_quoted(bytes, place, quote),
             _ => place,
@@ -213,7 +215,7 @@ impl TagState {
     }
 
     // What the bytes lead to, up to the end of the tag, of the line or of the bytes, and how many
-    // of them are read. A turn reads one byte and those after it that keep the state: 130
+    // of them are read. A turn reads one byte and those after it that keep the state: 120
     // instructions for a tag of Markdown, where one for each byte takes 250.
     pub(crate) fn read_in_line(self, bytes: &[u8]) -> (TagState, usize)
         requires { is_final self ≡ false }
@@ -235,7 +237,8 @@ impl TagState {
         (state, place)
     }
 
-    // After a byte of a line ending.
+    // After a byte of a line ending. Not inlined, so that the loop over lines stays small.
+    #[inline(never)]
     pub(crate) fn after_line_ending(self, byte: u8) -> TagState
         requires { is_line_ending byte ≡ true }
         ensures { result ≡ next_state self byte }
