@@ -5,6 +5,7 @@ pub mod MeasureLemmas
 pub mod ReadsBack
 pub mod Room
 pub mod Rows
+pub mod RunSteps
 pub mod Runs
 pub mod Scan
 pub mod Seen

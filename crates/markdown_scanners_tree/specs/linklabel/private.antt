@@ -1,2 +1,3 @@
 pub mod NextPart
 pub mod Pass
+pub mod Run

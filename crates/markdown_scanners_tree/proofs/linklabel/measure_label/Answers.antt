@@ -1,14 +1,16 @@
 -- The first pass over a label.
-use Rattle.std.proofs.Common.{ℕ, ◌≡◌, ◌≤◌, ◌+◌, ◌∷◌, ◌++◌, Some, None, true, false, [], List, Bool, sym, ◌∙◌, ap, subst, cond, drop, length, arith, nat_le, ◌&&◌, not, inl, inr, IfNone, Option}
+use Rattle.std.proofs.Common.{ℕ, ◌≡◌, ◌≤◌, ◌+◌, ◌∷◌, ◌++◌, Some, None, true, false, [], List, Bool, refl, sym, ◌∙◌, ap, subst, cond, drop, length, arith, nat_le, ◌&&◌, not, inl, inr, IfNone, Option}
 use Rattle.std.proofs.lemmas.Bool.Decides.{nat_tests}
-use Rattle.std.proofs.lemmas.List.{drop-drop}
+use Rattle.std.proofs.lemmas.List.{drop-drop, length-drop}
 use Rattle.markdown_scanners_tree.specs.Bytes.{is_between}
 use Rattle.markdown_scanners_tree.specs.Handler.{Skips}
 use Rattle.markdown_scanners_tree.specs.Kept.{KeptByte, in_line, kept_line}
 use Rattle.markdown_scanners_tree.specs.linklabel.private.NextPart.{IsNextPart}
-use Rattle.markdown_scanners_tree.specs.linklabel.private.Pass.{IsMeasure, space_len, starts_dropped, tally_past_word}
+use Rattle.markdown_scanners_tree.specs.linklabel.private.Pass.{IsMeasure, space_len, starts_dropped, tally_past_word, tally_past_run}
+use Rattle.markdown_scanners_tree.specs.linklabel.private.Run.{IsRun}
 use Rattle.markdown_scanners_tree.specs.declared.linklabel.NextPart.TheVariants.{End, Open, Close, Ending, Space, Word}
 use Rattle.markdown_scanners_tree.proofs.linklabel.MeasureLemmas.{measured, not_measured}
+use Rattle.markdown_scanners_tree.proofs.linklabel.RunSteps.{past_run}
 use Rattle.markdown_scanners_tree.proofs.linklabel.Scan.{IsAt, IsOnlySkip, at_start, none_at_end, none_at_opening, none_at_ending, none_at_second_ending, none_at_late_ending, none_so_late, after_word, after_space, after_ending, next_part_at, rest_is, ending_fits, byte_fits, byte_rest, cut_after_ending, told_word, told_space, told_ending}
 use Rattle.markdown_scanners_tree.proofs.linklabel.Seen.{Seen, Seen-none}
 use Rattle.markdown_scanners_tree.proofs.linklabel.measure_label.Goals as goal
@@ -106,20 +108,29 @@ loop-tally-preserved-in-Space g c =
 pub loop-tally-preserved : goal.loop-tally-preserved
 loop-tally-preserved g c =
     let o : IsNextPart c.loop-tally.escaped (drop c.loop-tally.ix c.args.text.now) (Word c.in-Word.byte c.in-Word.escapes) = next_part_at _ _ _ _ _ _ c.as_bytes-bytes.ensures.value c.next_part.ensures c.in-Word.is in
-    let jx = c.loop-tally.ix + 1 in
+    let kx = c.loop-tally.ix + 1 in
+    let len = c.word_run-run.result.len in
+    let jx = c.loop-tally.ix + (1 + len) in
     let next = byte_rest c.args.text.now c.loop-tally.ix c.in-Word.byte o.others o.parts in
     let fits = byte_fits c.args.text.now c.loop-tally.ix c.in-Word.byte o.others o.parts in
     let drops : c.is_dropped.result ≡ starts_dropped c.args.is_in_table (drop c.loop-tally.ix c.args.text.now) = c.is_dropped.ensures ∙ ap (starts_dropped c.args.is_in_table) (rest_is c.as_bytes-bytes.result.now c.loop-tally.ix ∙ ap (drop c.loop-tally.ix) c.as_bytes-bytes.ensures.value) in
     let begins = at_most_one (not (is_between 128 191 c.in-Word.byte)) in
     let writes = one_or_none (starts_dropped c.args.is_in_table (drop c.loop-tally.ix c.args.text.now)) in
-    subst (λ y. record { within : jx ≤ length c.as_bytes-bytes.result.now; characters_fit : y.characters ≤ jx; length_fits : y.length + space_len y.has_word y.in_run ≤ jx; seen : List KeptByte; at : IsAt (Skips g.F.Fn c.args.handler.now) c.args.text.now c.in-Word.escapes seen jx (drop jx c.args.text.now); told : Seen c.args.is_in_table c.args.text.now seen jx (drop jx c.args.text.now) y }) (sym (c.past_word-tally.ensures ∙ ap (tally_past_word c.loop-tally.tally c.in-Word.byte) drops))
+    let first = tally_past_word c.loop-tally.tally c.in-Word.byte (starts_dropped c.args.is_in_table (drop c.loop-tally.ix c.args.text.now)) in
+    let behind = rest_is c.as_bytes-bytes.result.now (c.loop-tally.ix + 1) ∙ ap (drop (c.loop-tally.ix + 1)) c.as_bytes-bytes.ensures.value in
+    let run : IsRun c.args.is_in_table c.in-Word.escapes (drop (c.loop-tally.ix + 1) c.args.text.now) c.word_run-run.result.len c.word_run-run.result.characters c.word_run-run.result.escapes = subst (λ z. IsRun c.args.is_in_table c.in-Word.escapes z c.word_run-run.result.len c.word_run-run.result.characters c.word_run-run.result.escapes) behind c.word_run-run.ensures.run in
+    let p = past_run (Skips g.F.Fn c.args.handler.now) c.args.text.now c.args.is_in_table _ _ kx _ first refl refl refl (after_word _ _ _ _ _ _ c.loop-tally.invariant.at _ _ _ o next) (told_word _ _ _ _ _ _ _ c.loop-tally.invariant.told _ _ _ o next) _ _ _ run in
+    let place : c.loop-tally.ix + 1 + c.word_run-run.result.len ≡ c.loop-tally.ix + (1 + c.word_run-run.result.len) = omega arith in
+    let rest : drop c.word_run-run.result.len (drop (c.loop-tally.ix + 1) c.args.text.now) ≡ drop (c.loop-tally.ix + (1 + c.word_run-run.result.len)) c.args.text.now = drop-drop c.word_run-run.result.len (c.loop-tally.ix + 1) c.args.text.now ∙ ap (λ n. drop n c.args.text.now) place in
+    subst (λ y. record { within : jx ≤ length c.as_bytes-bytes.result.now; characters_fit : y.characters ≤ jx; length_fits : y.length + space_len y.has_word y.in_run ≤ jx; seen : List KeptByte; at : IsAt (Skips g.F.Fn c.args.handler.now) c.args.text.now c.word_run-run.result.escapes seen jx (drop jx c.args.text.now); told : Seen c.args.is_in_table c.args.text.now seen jx (drop jx c.args.text.now) y })
+    (sym (c.past_run-tally.ensures ∙ ap (λ y. tally_past_run y c.word_run-run.result.len c.word_run-run.result.characters) (c.past_word.ensures ∙ ap (tally_past_word c.loop-tally.tally c.in-Word.byte) drops)))
     (record {
-      within = omega (arith, ap length c.as_bytes-bytes.ensures.value, fits);
-      characters_fit = omega (arith, c.loop-tally.invariant.characters_fit, begins);
+      within = omega (arith, ap length c.as_bytes-bytes.ensures.value, fits, c.word_run-run.ensures.within, ap length behind, length-drop (c.loop-tally.ix + 1) c.args.text.now);
+      characters_fit = omega (arith, c.loop-tally.invariant.characters_fit, begins, c.word_run-run.ensures.fits);
       length_fits = omega (arith, c.loop-tally.invariant.length_fits, writes);
-      seen = c.loop-tally.invariant.seen ++ in_line c.in-Word.byte c.loop-tally.ix ∷ [];
-      at = after_word _ _ _ _ _ _ c.loop-tally.invariant.at _ _ _ o next;
-      told = told_word _ _ _ _ _ _ _ c.loop-tally.invariant.told _ _ _ o next;
+      seen = p.seen;
+      at = subst (λ z. z) (λ i. IsAt (Skips g.F.Fn c.args.handler.now) c.args.text.now c.word_run-run.result.escapes p.seen (place i) (rest i)) p.at;
+      told = subst (λ z. z) (λ i. Seen c.args.is_in_table c.args.text.now p.seen (place i) (rest i) (tally_past_run first c.word_run-run.result.len c.word_run-run.result.characters)) p.told;
     })
 
 pub returns-clause-none : goal.returns-clause-none

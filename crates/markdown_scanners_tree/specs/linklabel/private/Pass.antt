@@ -61,6 +61,13 @@ tally_past_word y byte dropped = record y {
   is_rewritten = y.is_rewritten || dropped;
 }
 
+-- after more bytes of a word, in which so many characters begin
+abbrev pub tally_past_run : Tally → ℕ → ℕ → Tally
+tally_past_run y len characters = record y {
+  characters = y.characters + characters;
+  length = y.length + len;
+}
+
 -- the source has one label, and the first pass told of it what the second one needs
 pub record IsMeasure (answers : List ℕ → ℕ → Type 0) (source : List ℕ) (is_in_table : Bool) (m : Measure) : Type 0 where
   pub label : Label
