@@ -215,9 +215,8 @@ struct Run {
     escapes: bool,
 }
 
-// The bytes of a word at the front, up to one that a cell of a table drops. They are counted here before the tally is
-// changed, which is changed once a word and not once a byte: a quarter of the instructions. No more are read than a
-// label has characters, and one.
+// The bytes of a word at the front, up to one that a cell of a table drops. The tally is changed once for all of them,
+// which halves the instructions. No more are read than a label has characters, and one.
 fn word_run(rest: &[u8], escaped: bool, is_in_table: bool) -> Run
     ensures run { IsRun is_in_table escaped rest.now result.len result.characters result.escapes }
     ensures within { result.len ≤ length rest.now }
@@ -400,8 +399,7 @@ fn measure_label<F: Fn(&[u8]) -> Option<usize>>(
     ensures none { IfNone result (HasNoLabel (Skips F.Fn handler.now) text.now is_in_table) }
 {
     let bytes = text.as_bytes();
-    let mut ix = 0;
-    let mut escaped = false;
+    let (mut ix, mut escaped) = (0, false);
     let mut tally = Tally::new();
     while tally.characters <= MOST_CHARACTERS {
         match next_part(&bytes[ix..], escaped) {
@@ -430,9 +428,8 @@ fn measure_label<F: Fn(&[u8]) -> Option<usize>>(
             }
             NextPart::Word(byte, escapes) => {
                 let run = word_run(&bytes[ix + 1..], escapes, is_in_table);
-                tally = tally
-                    .past_word(byte, is_dropped(&bytes[ix..], is_in_table))
-                    .past_run(run);
+                let dropped = is_dropped(&bytes[ix..], is_in_table);
+                tally = tally.past_word(byte, dropped).past_run(run);
                 escaped = run.escapes;
                 ix += 1 + run.len;
             }
