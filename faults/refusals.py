@@ -1,9 +1,9 @@
 """The cases of cmark_refusals: each request refused in turn, alone or with all that follow it."""
 
 READY = b"ready\n"
-# How many of its calls a case must see refused, where that isn't each: a `String` keeps its memory, and a spine has room
-# for a few nodes.
-REFUSED = {"text_from_string": 0, "tree_push": 2}
+# How many of its calls a case must see refused, where that isn't each: a `String` keeps its memory, a new label takes
+# none, and a spine has room for a few nodes.
+REFUSED = {"link_label_new": 0, "text_from_string": 0, "tree_push": 2}
 
 
 def sections(text):

@@ -51,7 +51,7 @@ impl MadeOf<CowStr<'static>> for NewLabel<'static> {
     }
 }
 
-/// The label of an owned text, whose folding is longer.
+/// The label of an owned text, which takes no memory of its own.
 pub(crate) fn new<W: Write>(alloc: Global, output: &mut W) -> Result<(), Stop> {
     let (first, second) = (boxed(alloc, STREET), boxed(alloc, STREET));
     tell_consuming::<W, CowStr<'static>, NewLabel<'static>>(alloc, output, STREET, first, second)
