@@ -39,7 +39,7 @@ pub fn scan_table_head(alloc: Global, data: &[u8]) -> Result<(usize, Vec<Alignme
     let Some(cells) = scan_cells(alloc, &data[start..])? else {
         return Ok((0, Vec::new(alloc)));
     };
-    if is_delimiter_row(piped == 1, cells.ended, cells.hyphen) {
+    if has_hyphens(cells.ended, cells.hyphen) {
         Ok((start + cells.length, cells.alignments))
     } else {
         Ok((0, Vec::new(alloc)))
@@ -66,11 +66,11 @@ fn scan_row_bytes(bytes: &[u8]) -> usize
         .count()
 }
 
-// Whether a pipe and a hyphen stand in a delimiter row: a cell that a pipe ended has a hyphen.
-fn is_delimiter_row(piped: bool, ended: bool, hyphen: bool) -> bool
-    ensures { result ≡ ((piped || ended) && (ended || hyphen)) }
+// Whether a hyphen stands in the cells: each that a pipe ended has one.
+fn has_hyphens(ended: bool, hyphen: bool) -> bool
+    ensures { result ≡ (ended || hyphen) }
 {
-    (piped || ended) && (ended || hyphen)
+    ended || hyphen
 }
 
 // What a scan of a delimiter row's cells tells of them.

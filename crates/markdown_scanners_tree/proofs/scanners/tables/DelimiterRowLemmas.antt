@@ -235,7 +235,7 @@ AreCells-same bytes (c ∷ more) last rest ending cells' last' rest' ending' are
     let same = AreCells-same (flat_map ended_cell more ++ (last ++ rest)) more last rest ending tail.0 last' rest' ending' (record { parts = refl; all_cells = both.1; last_cell = are.last_cell; ends = are.ends }) tail.3 in
     (tail.1 ∙ ap (λ x. c ∷ x) same.0, same.1)
 
-cell_byte_no_pipe : (b : ℕ) → is_cell_byte b ≡ true → is_pipe b ≡ false
+pub cell_byte_no_pipe : (b : ℕ) → is_cell_byte b ≡ true → is_pipe b ≡ false
 cell_byte_no_pipe b is = grind (arith, nat_tests)
 
 not_piped : (bytes : List ℕ) (cells : List (List ℕ)) (last rest : List ℕ) (ending : ℕ) → AreCells bytes cells last rest ending → begins_with is_pipe bytes ≡ false
@@ -255,7 +255,7 @@ begins_with-prefix : (p : ℕ → Bool) (prefix rest : List ℕ) → begins_with
 begins_with-prefix p [] rest h = refl
 begins_with-prefix p (b ∷ prefix) rest h = h
 
-abbrev pipe_length : Bool → ℕ
+abbrev pub pipe_length : Bool → ℕ
 pipe_length piped = cond piped 1 0
 
 delimiter_row-rest : (piped : Bool) (cells : List (List ℕ)) (last rest : List ℕ) → delimiter_row piped cells last ++ rest ≡ cond piped (vertical_line ∷ []) [] ++ (flat_map ended_cell cells ++ (last ++ rest))
@@ -348,7 +348,7 @@ module _ (bytes : List ℕ) (indent pipe : ℕ) (run : indent ≡ prefix_len is_
       let only = IsDelimiterRow-only bytes n alignments it in
       none it.cells it.last it.rest it.ending (rw cells_start (rw only.1 only.2))
 
-  pipe_test : (pipe == 1) ≡ begins_with is_pipe (drop (prefix_len is_space bytes) bytes)
+  pub pipe_test : (pipe == 1) ≡ begins_with is_pipe (drop (prefix_len is_space bytes) bytes)
   pipe_test = rw pipe_counted (test (begins_with is_pipe (drop (prefix_len is_space bytes) bytes)))
     where
       test : (b : Bool) → (pipe_length b == 1) ≡ b

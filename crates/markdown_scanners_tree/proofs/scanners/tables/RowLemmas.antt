@@ -1,17 +1,18 @@
 -- What a delimiter row is made of.
-use Rattle.std.proofs.Common.{◌≡◌, ℕ, Bool, true, false, not, ◌||◌, List, [], ◌∷◌, ◌++◌, length, drop, refl, sym, ap, ◌∙◌, Some, append_assoc}
+use Rattle.std.proofs.Common.{take, ◌&&◌, ◌≡◌, ◌+◌, ◌-◌, ◌==◌, cond, inl, inr, ℕ, Bool, true, false, not, ◌||◌, List, [], ◌∷◌, ◌++◌, length, drop, refl, sym, ap, ◌∙◌, Some, append_assoc}
 use Rattle.std.specs.List.{prefix_len, list_all, list_any, flat_map}
 use Rattle.std.proofs.lemmas.List.Folds.{list_all-append, list_any-append}
 use Rattle.std.proofs.Math.Seq.{drop-append_seam, take-append_seam}
 use Rattle.std.proofs.Math.ListN.{replicate}
 use Rattle.std.proofs.lemmas.List.{length-replicate}
-use Rattle.std.proofs.lemmas.Bool.{false≢true}
+use Rattle.std.proofs.lemmas.Bool.{false≢true, cases_Bool, or_right}
 use Rattle.markdown_scanners_tree.specs.Ascii.{vertical_line}
-use Rattle.markdown_scanners_tree.specs.Bytes.{line_ending}
-use Rattle.markdown_scanners_tree.specs.scanners.Tables.{is_cell_byte, is_row_byte, is_cell, is_pipe, is_space, is_empty, may_be_row, ended_cell, delimiter_row, NoDelimiterRow}
-use Rattle.markdown_scanners_tree.proofs.PrefixLemmas.{both_true, prefix_len-parts}
+use Rattle.markdown_scanners_tree.specs.Bytes.{begins_with, line_ending}
+use Rattle.markdown_values.specs.declared.values.Alignment.{Alignment}
+use Rattle.markdown_scanners_tree.specs.scanners.Tables.{is_cell_byte, is_row_byte, is_cell, is_pipe, is_space, is_empty, may_be_row, ended_cell, delimiter_row, AreCells, AreScannedCells, NoDelimiterRow}
+use Rattle.markdown_scanners_tree.proofs.PrefixLemmas.{from_place, both_true, prefix_len-parts}
 use Rattle.markdown_scanners_tree.proofs.scanners.lines.BlankLemmas.{first-line_ending}
-use Rattle.markdown_scanners_tree.proofs.scanners.tables.DelimiterRowLemmas.{IsDelimiterRow-only}
+use Rattle.markdown_scanners_tree.proofs.scanners.tables.DelimiterRowLemmas.{IsDelimiterRow-only, cell_byte_no_pipe, pipe_length, pipe_test, cells_start}
 
 -- all bytes of a delimiter row are those of cells, and pipes
 row_bytes : (bytes : List ℕ) → list_all is_cell_byte bytes ≡ true → list_all is_row_byte bytes ≡ true
@@ -56,3 +57,33 @@ no_row bytes none n alignments it =
     rw parts (ap (λ m. drop m (replicate it.indent 32 ++ (row ++ it.rest))) (sym (length-replicate it.indent 32)) ∙ drop-append_seam (replicate it.indent 32) (row ++ it.rest)) in
     let made = made_row row it.rest it.ending (row_all it.piped it.cells it.last it.all_cells it.last_cell) (row_pipe it.piped it.cells it.last it.some_pipe) it.ends in
     false≢true (sym none ∙ ap may_be_row (ap (λ m. drop m bytes) only.0 ∙ dropped) ∙ made)
+
+-- what may be a row has a pipe in front of its cells or behind one
+no_pipe : (bytes : List ℕ) → list_all is_cell_byte bytes ≡ true → list_any is_pipe bytes ≡ false
+no_pipe [] all = refl
+no_pipe (b ∷ bytes) all =
+    let both = both_true (is_cell_byte b) (list_all is_cell_byte bytes) all in
+    rw (cell_byte_no_pipe b both.0) (no_pipe bytes both.1)
+
+pub some_pipe : (bytes : List ℕ) (cells : List (List ℕ)) (last rest : List ℕ) (ending : ℕ) → may_be_row bytes ≡ true → AreCells (drop (pipe_length (begins_with is_pipe bytes)) bytes) cells last rest ending
+    → (begins_with is_pipe bytes || not (is_empty cells)) ≡ true
+some_pipe bytes (c ∷ cells) last rest ending may are = or_right (begins_with is_pipe bytes) true refl
+some_pipe bytes [] last rest ending may are = elim (cases_Bool (begins_with is_pipe bytes)) [
+  | inl piped ↦ rw piped refl
+  | inr none ↦ (
+      let parts : bytes ≡ last ++ rest = rw none at are.parts in
+      let run : prefix_len is_row_byte (last ++ rest) ≡ length last = prefix_len-parts is_row_byte last rest (row_bytes last are.last_cell) (first-line_ending is_row_byte refl refl rest ending are.ends) in
+      let made : may_be_row (last ++ rest) ≡ false = rw (run, drop-append_seam last rest, take-append_seam last rest, are.ends, no_pipe last are.last_cell) refl in
+      absurd (false≢true (sym made ∙ ap may_be_row (sym parts) ∙ may))
+      )
+]
+
+-- what the test of a row's front and that of its cells tell together
+pub row_tests : (bytes : List ℕ) (indent pipe : ℕ) (run : indent ≡ prefix_len is_space bytes) (pipe_is : pipe ≡ cond (begins_with is_pipe (take (length bytes - indent) (drop indent bytes))) 1 0)
+    → (n : ℕ) (alignments : List Alignment) (some_ended hyphen : Bool) (scanned : AreScannedCells (take (length bytes - (indent + pipe)) (drop (indent + pipe) bytes)) n alignments some_ended hyphen)
+    → may_be_row (take (length bytes - indent) (drop indent bytes)) ≡ true → (some_ended || hyphen) ≡ true → (((pipe == 1) || some_ended) && (some_ended || hyphen)) ≡ true
+row_tests bytes indent pipe run pipe_is n alignments some_ended hyphen scanned may hyphens =
+    let at : take (length bytes - indent) (drop indent bytes) ≡ drop (prefix_len is_space bytes) bytes = from_place bytes indent ∙ ap (λ i. drop i bytes) run in
+    let pipes = some_pipe (drop (prefix_len is_space bytes) bytes) scanned.cells scanned.last scanned.rest scanned.ending (ap may_be_row (sym at) ∙ may) (rw (cells_start bytes indent pipe run pipe_is) at scanned.are_cells) in
+    let some = rw scanned.tells_ended at hyphens in
+    rw (pipe_test bytes indent pipe run pipe_is, scanned.tells_ended) (rw pipes some)

@@ -1,8 +1,9 @@
 use Rattle.std.proofs.Common.{arith, rules, ap, sym, ◌∙◌, ◌-◌, length, take, drop}
 use Rattle.std.specs.List.{prefix_len}
+use Rattle.std.proofs.lemmas.Bool.{and_right}
 use Rattle.markdown_scanners_tree.specs.scanners.Tables.{is_space, may_be_row}
 use Rattle.markdown_scanners_tree.proofs.PrefixLemmas.{from_place}
-use Rattle.markdown_scanners_tree.proofs.scanners.tables.RowLemmas.{no_row}
+use Rattle.markdown_scanners_tree.proofs.scanners.tables.RowLemmas.{no_row, row_tests}
 use Rattle.markdown_scanners_tree.proofs.scanners.tables.DelimiterRowLemmas.{delimiter_row-too_far, no_cells, delimiter_row-found, delimiter_row-refused, IsDelimiterRow-some, IsDelimiterRow-some_alignment}
 use Rattle.markdown_scanners_tree.proofs.scanners.tables.scan_table_head.Goals as goal
 
@@ -18,15 +19,16 @@ pub returns-in_default-clause-none : goal.returns-in_default-clause-none
 returns-in_default-clause-none c _ =
     no_cells c.args.«data».now c.scan_ch_repeat-indent.result c.scan_ch-piped.result c.scan_ch_repeat-indent.ensures.run c.scan_ch-piped.ensures.first (rw c.in_default.is at c.in_ok-cells.ensures.none)
 
-pub returns-then-is_delimiter_row : goal.returns-then-is_delimiter_row
-returns-then-is_delimiter_row c =
+pub returns-then-has_hyphens : goal.returns-then-has_hyphens
+returns-then-has_hyphens c =
     let scanned = rw c.in-Some.is at c.in_ok-cells.ensures.found in
     let row = delimiter_row-found c.args.«data».now c.scan_ch_repeat-indent.result c.scan_ch-piped.result c.scan_ch_repeat-indent.ensures.run c.scan_ch-piped.ensures.first _ _ _ _ scanned
-    (omega arith) c.scan_ch_repeat-indent.ensures.within c.scan_ch-piped.ensures.within (sym c.is_delimiter_row.ensures ∙ c.if-is_delimiter_row.true) in
+    (omega arith) c.scan_ch_repeat-indent.ensures.within c.scan_ch-piped.ensures.within
+    (row_tests c.args.«data».now c.scan_ch_repeat-indent.result c.scan_ch-piped.result c.scan_ch_repeat-indent.ensures.run c.scan_ch-piped.ensures.first _ _ _ _ scanned (sym c.may_be_row.ensures ∙ c.if-not-may_be_row.false) (sym c.has_hyphens.ensures ∙ c.if-has_hyphens.true)) in
     let some = IsDelimiterRow-some _ _ _ row in
     record { found = λ _. row; none = λ none. absurd (some none); empty = λ none. absurd (some none); some_alignment = λ _. IsDelimiterRow-some_alignment _ _ _ row; within = search rules }
 
-pub returns-else-is_delimiter_row-clause-none : goal.returns-else-is_delimiter_row-clause-none
-returns-else-is_delimiter_row-clause-none c _ =
+pub returns-else-has_hyphens-clause-none : goal.returns-else-has_hyphens-clause-none
+returns-else-has_hyphens-clause-none c _ =
     let scanned = rw c.in-Some.is at c.in_ok-cells.ensures.found in
-    delimiter_row-refused c.args.«data».now c.scan_ch_repeat-indent.result c.scan_ch-piped.result c.scan_ch_repeat-indent.ensures.run c.scan_ch-piped.ensures.first _ _ _ _ scanned (sym c.is_delimiter_row.ensures ∙ c.if-is_delimiter_row.false)
+    delimiter_row-refused c.args.«data».now c.scan_ch_repeat-indent.result c.scan_ch-piped.result c.scan_ch_repeat-indent.ensures.run c.scan_ch-piped.ensures.first _ _ _ _ scanned (and_right _ _ (sym c.has_hyphens.ensures ∙ c.if-has_hyphens.false))
