@@ -39,8 +39,8 @@ const ALERTS: [(&str, BlockQuoteKind); 5] = [
 pub struct LineStart<'a> {
     bytes: &'a [u8],
     place: usize,
-    // At most four columns a byte, which may be more than a `usize` holds.
-    column: u128,
+    // Counted modulo 2^64: tab stops ask for its remainder modulo four alone.
+    column: usize,
     pending: usize,
     // No thematic break begins at a place from the present one up to this one.
     no_break_before: usize,
@@ -60,7 +60,6 @@ impl<'a> Model for LineStart<'a> {
 
     ghost invariant = { λ s.
         (s.place ≤ length s.bytes.now)
-        × (s.column ≤ 4 * s.place)
         × (s.pending < 4)
         × ((k : ℕ) → s.place ≤ k → k < s.no_break_before
         → is_thematic_break (drop k s.bytes.now) ≡ false)
@@ -139,7 +138,7 @@ impl<'a> LineStart<'a> {
         ensures { self.new ≡ bytes_further count self.old }
     {
         self.place += count;
-        self.column += count as u128;
+        self.column = self.column.wrapping_add(count);
     }
 
     // Passes the byte at the place as one column.
@@ -148,7 +147,7 @@ impl<'a> LineStart<'a> {
         ensures { self.new ≡ bytes_further 1 self.old }
     {
         self.place += 1;
-        self.column += 1;
+        self.column = self.column.wrapping_add(1);
     }
 
     /// Whether a line ending, or the end of the bytes, stands at the place. Pending columns are
@@ -176,14 +175,14 @@ impl<'a> LineStart<'a> {
             match self.bytes[self.place] {
                 b' ' => {
                     self.place += 1;
-                    self.column += 1;
+                    self.column = self.column.wrapping_add(1);
                     left -= 1;
                 }
                 b'\t' => {
-                    let width = (4 - self.column % 4) as usize;
+                    let width = 4 - self.column % 4;
                     let taken = left.min(width);
                     self.place += 1;
-                    self.column += width as u128;
+                    self.column = self.column.wrapping_add(width);
                     self.pending = width - taken;
                     left -= taken;
                 }
@@ -422,7 +421,7 @@ impl<'a> LineStart<'a> {
     {
         let mut rest = Vec::new(alloc);
         push_spaces(&mut rest, self.pending)?;
-        let mut phase = (self.column % 4) as usize;
+        let mut phase = self.column % 4;
         let unscanned = &self.bytes[self.place..];
         for (index, byte) in unscanned.iter().enumerate() {
             if ends_line(*byte) {

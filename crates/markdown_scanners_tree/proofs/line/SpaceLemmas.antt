@@ -164,7 +164,6 @@ pub record IsTaking (bytes : List ℕ) (place₀ c₀ p₀ n place c p left : �
   pub within : left ≤ n
   pub inside : place ≤ length bytes
   pub small : p < 4
-  pub bounded : c ≤ 4 * place
   pub whole : min p left ≡ 0
 
 -- one space or tab more, with as many of its columns as are left to take
@@ -187,7 +186,6 @@ taking_next {bytes} {place₀} {c₀} {p₀} {n} {place} {c} {p} {left} b {c'} {
       within = omega (arith, t.within);
       inside = omega arith;
       small = omega arith;
-      bounded = omega (arith, t.bounded);
       whole = omega arith;
     }
 

@@ -1,4 +1,4 @@
-use Rattle.std.proofs.Common.{◌≡◌}
+use Rattle.std.proofs.Common.{ℕ, ◌≡◌, ◌%◌}
 use Rattle.markdown_scanners_tree.proofs.line.SpaceLemmas.{IsTaking}
 use Rattle.markdown_scanners_tree.proofs.line.LineStart.scan_space_upto.Given as goal
 
@@ -10,7 +10,9 @@ invariant-loop-left l =
       same : now.bytes ≡ old.bytes;
       none_before : now.no_break_before ≡ old.no_break_before;
       known : now.known_break ≡ old.known_break;
-      taking : IsTaking old.bytes.now old.place old.column old.pending l.initial.left now.place now.column now.pending l.left;
+      column : ℕ;
+      same_phase : column % 4 ≡ now.column % 4;
+      taking : IsTaking old.bytes.now old.place old.column old.pending l.initial.left now.place column now.pending l.left;
     }
 
 -- proposed from the loop's first test
