@@ -118,11 +118,14 @@ fn scan_cells(alloc: Global, bytes: &[u8]) -> Result<Option<Cells>, AllocError>
     }))
 }
 
-// Whether the cell has a hyphen, which is most often its first byte, or its second.
+// Whether the cell has a hyphen, which is most often its first byte.
 fn has_hyphen(cell: &[u8]) -> bool
     ensures { result ≡ list_any is_hyphen cell.now }
 {
-    cell.iter().any(|b| *b == b'-')
+    match cell {
+        [b'-', ..] => true,
+        _ => has_byte(cell, b'-'),
+    }
 }
 
 // Adds the alignment of a last cell that counts.
@@ -182,11 +185,11 @@ fn alignment_of(cell: &[u8]) -> Alignment
     alignment_by(begins, later)
 }
 
-// Whether the bytes of a cell, few in most tables, have a colon.
+// Whether these bytes of a cell have a colon. There are none of them in a cell of one byte.
 fn has_colon(bytes: &[u8]) -> bool
     ensures { result ≡ list_any is_colon bytes.now }
 {
-    bytes.iter().any(|b| *b == b':')
+    !bytes.is_empty() && has_byte(bytes, b':')
 }
 
 // The alignment by a colon at the front and one later.
