@@ -82,7 +82,9 @@ impl<'a> PartialEq for LinkLabel<'a> {
     ghost laws = { on_per label_key (partial_equiv_from_equiv nat_list_eq_equiv) };
 
     fn eq(&self, other: &LinkLabel<'a>) -> bool {
-        if self.is_ascii && other.is_ascii {
+        if self.as_str() == other.as_str() {
+            true
+        } else if self.is_ascii && other.is_ascii {
             eq_ascii(self.as_str(), other.as_str())
         } else {
             default_caseless_match_str(self.as_str(), other.as_str())
