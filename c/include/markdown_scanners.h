@@ -1,0 +1,223 @@
+/* The scanners of Markdown's lines, blocks and inline text, as C functions.
+ *
+ * They stand over the library `markdown_scanners_tree`, and each is proved to answer what that library's definitions
+ * say, after CommonMark 0.31.2 (https://spec.commonmark.org/0.31.2/), whose sections stand in brackets below. They are
+ * scanners: each reads from the front of the bytes that it is given, or from a place in a text, and says what begins
+ * there. None reads ahead for the next construct, so a caller goes through its document and asks.
+ *
+ * Bytes and texts. A pointer and a length in bytes go together; nothing has to end in a zero byte, and zero bytes are
+ * read as any other. The pointer may be null where the length is 0. The bytes are read during the call alone, and
+ * none is written but in a buffer. A buffer and the bytes of the same call must not overlap. What is named `bytes` may
+ * be any bytes; what is named `text` must be UTF-8, and is refused where it is not.
+ *
+ * Units. Lengths and places are in bytes, places count from 0, and columns and indents are in columns of a line whose
+ * tabs go to stops of four (2.2).
+ *
+ * Answers. A length or a place that there may be none of is `MDS_NONE` where there is none. Calls that can refuse what
+ * they are given answer a struct with a field `status` of `enum mds_status`: `MDS_OK` where there is an answer,
+ * `MDS_NOTHING` where nothing of the kind stands there, and else why they refused. The other fields mean something
+ * where the comment of the struct says so, and are 0 otherwise.
+ *
+ * Memory and threads. Texts that are made go into the caller's buffer. Where it is too short it is left as it was, and
+ * `length` says how many bytes it needs; so a first call with no buffer (null and 0) asks for the length. No call keeps
+ * memory or a pointer, or has state, so calls may run in any threads at once. Those that ask the C library for memory
+ * within the call say so, free it before they return, and answer `MDS_NO_MEMORY` where it was refused.
+ */
+#ifndef MARKDOWN_SCANNERS_H
+#define MARKDOWN_SCANNERS_H
+
+#include <stdbool.h>
+#include <stddef.h>
+#include <stdint.h>
+
+#ifdef __cplusplus
+extern "C" {
+#endif
+
+/* In place of a length or a place, where nothing is found. */
+#define MDS_NONE SIZE_MAX
+
+/* What a call comes to. */
+enum mds_status {
+    MDS_OK = 0,           /* an answer */
+    MDS_NOTHING = 1,      /* nothing of the kind stands there */
+    MDS_NOT_UTF8 = 2,     /* the text is not UTF-8 */
+    MDS_PAST_END = 3,     /* the place is past the end of the text */
+    MDS_NOT_BOUNDARY = 4, /* the place is inside a character */
+    MDS_TOO_LARGE = 5,    /* a limit or an indent is so large that columns can't be added to it */
+    MDS_EMPTY = 6,        /* there are no bytes */
+    MDS_TOO_SHORT = 7,    /* the buffer is too short */
+    MDS_NO_MEMORY = 8,    /* memory was refused */
+    MDS_NO_OPENER = 9     /* no `<!` or `<?` ends at the place */
+};
+
+/* ---- Bytes and lines ---- */
+
+/* Space, tab, LF, VT, FF or CR. (2.1) */
+bool mds_is_whitespace(uint8_t byte);
+
+/* Space, tab, VT or FF: white space that ends no line. (2.1) */
+bool mds_is_whitespace_in_line(uint8_t byte);
+
+/* An ASCII punctuation character. (2.1) */
+bool mds_is_punctuation(uint8_t byte);
+
+/* How many bytes of white space that ends no line stand at the front. */
+size_t mds_scan_whitespace_in_line(const uint8_t *bytes, size_t length);
+
+/* The length of the line ending at the front: 1 for LF or CR, 2 for CR LF, 0 at the end of the bytes; else MDS_NONE.
+ * (2.1) */
+size_t mds_scan_eol(const uint8_t *bytes, size_t length);
+
+/* The place behind the first LF, or the length where there is none. */
+size_t mds_scan_nextline(const uint8_t *bytes, size_t length);
+
+/* The length of the blank line at the front with its ending, or MDS_NONE where the line is not blank. Of no bytes it
+ * is 0. (4.9) */
+size_t mds_scan_blank_line(const uint8_t *bytes, size_t length);
+
+/* The length of the block quote marker at the front, `>` and at most one space: 1 or 2, or MDS_NONE. (5.1) */
+size_t mds_scan_blockquote_start(const uint8_t *bytes, size_t length);
+
+/* A list item. Where there is none `length` is MDS_NONE. */
+struct mds_list_item {
+    size_t length;     /* bytes of the marker and of the white space behind it that belongs to it */
+    size_t start;      /* the number of an ordered item, else 0 */
+    size_t indent;     /* columns from the marker to the item's text */
+    uint8_t delimiter; /* `-`, `+` or `*`; `.` or `)` of an ordered item */
+};
+
+/* The list item that begins at the front. (5.2) */
+struct mds_list_item mds_scan_listitem(const uint8_t *bytes, size_t length);
+
+/* An indent, where the status is MDS_OK; else it is MDS_TOO_LARGE. */
+struct mds_indent {
+    uint32_t status;
+    size_t place;   /* of the last byte that was looked at; 0 of no bytes */
+    size_t columns; /* of the spaces and tabs that were counted */
+};
+
+/* The columns of the spaces and tabs at the front, up to `max`, which is SIZE_MAX / 4 at most. A space that fills `max`
+ * columns is counted and ends the scan; a tab that would go past `max` ends it uncounted, as each other byte does.
+ * (2.2) */
+struct mds_indent mds_calc_indent(const uint8_t *bytes, size_t length, size_t max);
+
+/* ---- Blocks ---- */
+
+/* The length of the thematic break's line at the front with its ending, or MDS_NONE. (4.1) */
+size_t mds_scan_hrule(const uint8_t *bytes, size_t length);
+
+/* The level, 1 to 6, of the ATX heading at the front, which has as many `#`; 0 where there is none. (4.2) */
+uint32_t mds_scan_atx_heading(const uint8_t *bytes, size_t length);
+
+/* A setext heading's underline. Where there is none `length` is MDS_NONE. */
+struct mds_underline {
+    size_t length;  /* bytes of its line, with the ending */
+    uint32_t level; /* 1 of `=`, 2 of `-` */
+};
+
+/* The setext heading underline at the front. (4.3) */
+struct mds_underline mds_scan_setext_heading(const uint8_t *bytes, size_t length);
+
+/* A fence, of code or of metadata. Where there is none `length` is MDS_NONE. */
+struct mds_fence {
+    size_t length; /* how many of the fence's bytes stand there */
+    uint8_t byte;  /* a backtick or `~` of code; `-` or `+` of metadata */
+};
+
+/* The opening code fence at the front; its info string is not taken. (4.5) */
+struct mds_fence mds_scan_code_fence(const uint8_t *bytes, size_t length);
+
+/* The length of the closing code fence at the front, with the spaces behind it and without its line ending, of a fence
+ * that was opened by `count` of the byte `fence`; or MDS_NONE. At the end of the bytes a fence closes too: 0. (4.5) */
+size_t mds_scan_closing_code_fence(const uint8_t *bytes, size_t length, uint8_t fence, size_t count);
+
+/* The opening line of a metadata block that a later line closes, of `---` where `yaml` is true and of `+++` where
+ * `pluses` is. (An extension of pulldown-cmark) */
+struct mds_fence mds_scan_metadata_block(const uint8_t *bytes, size_t length, bool yaml, bool pluses);
+
+/* The length of the line at the front that closes a metadata block opened by the byte `fence`, without its line
+ * ending, or MDS_NONE. */
+size_t mds_scan_closing_metadata_block(const uint8_t *bytes, size_t length, uint8_t fence);
+
+/* ---- Parts of inline text ---- */
+
+/* A part of a text, where the status is MDS_OK. It is MDS_NOTHING where there is none; MDS_PAST_END, MDS_NOT_UTF8 or
+ * MDS_NOT_BOUNDARY where the text or the place was refused. */
+struct mds_part {
+    uint32_t status;
+    size_t end;    /* the place behind all that belongs to it */
+    size_t start;  /* the place of its own text */
+    size_t length; /* bytes of its own text */
+};
+
+/* The link destination that begins at the place `start`, with or without angle brackets; they are no part of its own
+ * text. Parentheses may stand in each other `max_next` + 1 deep. An empty destination without brackets is one too.
+ * (6.3) */
+struct mds_part mds_scan_link_dest(const uint8_t *text, size_t length, size_t start, size_t max_next);
+
+/* The absolute URI of the autolink whose `<` stands just before the place `start`; the end is behind its `>`. (6.5) */
+struct mds_part mds_scan_autolink(const uint8_t *text, size_t length, size_t start);
+
+/* What stands before the first pipe of the `count` bytes from the place `start` on; the end is behind the pipe. (An
+ * extension of pulldown-cmark) */
+struct mds_part mds_scan_wikilink_pipe(const uint8_t *text, size_t length, size_t start, size_t count);
+
+/* ---- HTML ---- */
+
+/* Whether an HTML block that one of the names of start condition 6 opens begins here; the bytes are those behind the
+ * `<`. (4.6) */
+bool mds_starts_html_block_type_6(const uint8_t *bytes, size_t length);
+
+/* The length of the open or closing tag at the front that stands alone in its line, or MDS_NONE. (4.6, start condition
+ * 7) */
+size_t mds_scan_html_type_7(const uint8_t *bytes, size_t length);
+
+/* The length of the open or closing tag at the front, which holds no line ending; or MDS_NONE. (6.6) */
+size_t mds_scan_html_tag(const uint8_t *bytes, size_t length);
+
+/* An end, where the status is MDS_OK. It is MDS_NOTHING where there is none, or MDS_NO_OPENER. */
+struct mds_end {
+    uint32_t status;
+    size_t end; /* the place behind the closer */
+};
+
+/* The end of the comment, CDATA section, declaration or processing instruction whose `<!` or `<?` ends at `place`.
+ * (6.6) */
+struct mds_end mds_scan_inline_html(const uint8_t *bytes, size_t length, size_t place);
+
+/* ---- Texts that are made ---- */
+
+/* A text for the caller's buffer, where the status is MDS_OK, and at its front; where it is MDS_TOO_SHORT the buffer is
+ * as it was, and `taken` and `length` are told all the same. */
+struct mds_text {
+    uint32_t status;
+    size_t taken;  /* bytes of the input that it stands for */
+    size_t length; /* bytes that it has or needs in the buffer */
+};
+
+/* What the character reference at the front stands for: a decimal or hexadecimal one, or one of the entities `amp`,
+ * `lt`, `gt` and `quot`. Others are MDS_NOTHING. MDS_EMPTY where there are no bytes. (2.5) */
+struct mds_text mds_scan_entity(const uint8_t *bytes, size_t length, uint8_t *buffer, size_t capacity);
+
+/* The text with its backslash escapes and the character references of mds_scan_entity resolved; CR are left out. In a
+ * cell of a table (`in_table`) a pipe loses the backslashes before it. MDS_NOT_UTF8. Memory is asked for where the text
+ * changes, at its exact length. (2.4, 2.5) */
+struct mds_text mds_unescape(const uint8_t *text, size_t length, bool in_table, uint8_t *buffer, size_t capacity);
+
+/* The link label whose opening bracket stands just before the text: its words, joined by one space; `taken` counts its
+ * closing bracket. MDS_NOTHING where there is none, MDS_NOT_UTF8. Labels may go on over lines, of which nothing is
+ * left out. In a cell of a table (`in_table`) a pipe loses one backslash before it. Memory is asked for where the
+ * label is not in the text as it is, at its exact length. (6.3) */
+struct mds_text mds_scan_link_label(const uint8_t *text, size_t length, bool in_table, uint8_t *buffer, size_t capacity);
+
+/* Whether two labels, as mds_scan_link_label writes them, match, so that the one refers to what the other defines:
+ * MDS_OK or MDS_NOTHING. They do where their full case foldings are equal. MDS_NOT_UTF8, MDS_NO_MEMORY: memory is
+ * asked for. (6.3) */
+uint32_t mds_labels_match(const uint8_t *one, size_t one_length, const uint8_t *other, size_t other_length);
+
+#ifdef __cplusplus
+}
+#endif
+
+#endif

@@ -1,0 +1,110 @@
+//! Thematic breaks, headings, code fences and metadata blocks.
+ghost use Rattle.std.specs.Prelude.{◌≡◌, ◌⊎◌, ℕ};
+ghost use Rattle.markdown_scanners_tree.specs.scanners.Breaks.{IsThematicBreakLine};
+ghost use Rattle.markdown_scanners_tree.specs.scanners.Fences.{IsCodeFence, IsClosingCodeFence};
+ghost use Rattle.markdown_scanners_tree.specs.scanners.Headings.{IsAtxHeading, IsSetextUnderline};
+ghost use Rattle.markdown_scanners_tree.specs.scanners.Metadata.{IsMetadataBlock, IsClosingMetadataBlock};
+ghost use Rattle.markdown_scanners_c.specs.Answers.{none, FoundExactly, FoundLevel, FoundWithLevel};
+
+use crate::status::NONE;
+use markdown_scanners_tree::scanners::{
+    scan_atx_heading, scan_closing_code_fence, scan_closing_metadata_block, scan_code_fence,
+    scan_hrule, scan_metadata_block, scan_setext_heading,
+};
+
+/// `mds_scan_hrule`
+#[unsafe(no_mangle)]
+pub extern "C" fn mds_scan_hrule(bytes: &[u8]) -> usize
+    ensures { FoundExactly (IsThematicBreakLine bytes.now) result result }
+{
+    scan_hrule(bytes).unwrap_or(NONE)
+}
+
+/// `mds_scan_atx_heading`
+#[unsafe(no_mangle)]
+pub extern "C" fn mds_scan_atx_heading(bytes: &[u8]) -> u32
+    ensures { FoundLevel (IsAtxHeading bytes.now) result }
+{
+    match scan_atx_heading(bytes) {
+        Some(level) => level as u32,
+        None => 0,
+    }
+}
+
+/// `struct mds_underline`
+#[repr(C)]
+pub struct Underline {
+    pub length: usize,
+    pub level: u32,
+}
+
+/// `mds_scan_setext_heading`
+#[unsafe(no_mangle)]
+pub extern "C" fn mds_scan_setext_heading(bytes: &[u8]) -> Underline
+    ensures { FoundWithLevel (IsSetextUnderline bytes.now) result.length result.level }
+{
+    match scan_setext_heading(bytes) {
+        Some((length, level)) => Underline {
+            length,
+            level: level as u32,
+        },
+        None => Underline {
+            length: NONE,
+            level: 0,
+        },
+    }
+}
+
+/// `struct mds_fence`
+#[repr(C)]
+pub struct Fence {
+    pub length: usize,
+    pub byte: u8,
+}
+
+/// `mds_scan_code_fence`
+#[unsafe(no_mangle)]
+pub extern "C" fn mds_scan_code_fence(bytes: &[u8]) -> Fence
+    ensures { FoundExactly (λ (r : ℕ × ℕ). IsCodeFence bytes.now r.0 r.1)
+        result.length (result.length, result.byte) }
+{
+    match scan_code_fence(bytes) {
+        Some((length, byte)) => Fence { length, byte },
+        None => Fence {
+            length: NONE,
+            byte: 0,
+        },
+    }
+}
+
+/// `mds_scan_closing_code_fence`
+#[unsafe(no_mangle)]
+pub extern "C" fn mds_scan_closing_code_fence(bytes: &[u8], fence: u8, count: usize) -> usize
+    ensures { FoundExactly (IsClosingCodeFence bytes.now fence count) result result }
+{
+    scan_closing_code_fence(bytes, fence, count).unwrap_or(NONE)
+}
+
+/// `mds_scan_metadata_block`
+#[unsafe(no_mangle)]
+pub extern "C" fn mds_scan_metadata_block(bytes: &[u8], yaml: bool, pluses: bool) -> Fence
+    ensures found { FoundExactly (λ (r : ℕ × ℕ). IsMetadataBlock bytes.now yaml pluses r.1)
+        result.length (result.length, result.byte) }
+    ensures opening { (result.length ≡ 3) ⊎ (result.length ≡ none) }
+{
+    match scan_metadata_block(bytes, yaml, pluses) {
+        Some((length, byte)) => Fence { length, byte },
+        None => Fence {
+            length: NONE,
+            byte: 0,
+        },
+    }
+}
+
+/// `mds_scan_closing_metadata_block`
+#[unsafe(no_mangle)]
+pub extern "C" fn mds_scan_closing_metadata_block(bytes: &[u8], fence: u8) -> usize
+    ensures { FoundExactly (IsClosingMetadataBlock bytes.now fence) result result }
+{
+    scan_closing_metadata_block(bytes, fence).unwrap_or(NONE)
+}

@@ -1,0 +1,71 @@
+//! HTML blocks, tags and inline HTML.
+ghost use Rattle.std.specs.Prelude.{◌≡◌, ◌↔◌, ◌⊎◌, ℕ, List, None, Some, IsTrue};
+ghost use Rattle.markdown_scanners_tree.specs.Kept.{KeptByte};
+ghost use Rattle.markdown_scanners_tree.specs.inline_html.InlineHtml.{find_at, opener_before};
+ghost use Rattle.markdown_scanners_tree.specs.scanners.HtmlBlock.{IsBlockStart};
+ghost use Rattle.markdown_scanners_tree.specs.scanners.html_tag.HtmlTag.{IsTagAloneInLine};
+ghost use Rattle.markdown_scanners_tree.specs.scanners.html_tag.KeptTag.{IsKeptTag, place_after};
+ghost use Rattle.markdown_scanners_c.specs.Answers.{FoundExactly};
+ghost use Rattle.markdown_scanners_c.specs.Status.{ok, nothing, no_opener};
+
+use crate::status::{NO_OPENER, NONE, NOTHING, OK};
+use markdown_scanners_tree::inline_html::InlineHtmlRun;
+use markdown_scanners_tree::scanners::{
+    scan_html_block_inner, scan_html_type_7, starts_html_block_type_6,
+};
+use std::alloc::Global;
+
+/// `mds_starts_html_block`
+#[unsafe(no_mangle)]
+pub extern "C" fn mds_starts_html_block_type_6(bytes: &[u8]) -> bool
+    ensures { IsTrue result ↔ IsBlockStart bytes.now }
+{
+    starts_html_block_type_6(bytes)
+}
+
+/// `mds_scan_html_type_7`
+#[unsafe(no_mangle)]
+pub extern "C" fn mds_scan_html_type_7(bytes: &[u8]) -> usize
+    ensures { FoundExactly (IsTagAloneInLine bytes.now) result result }
+{
+    scan_html_type_7(bytes).unwrap_or(NONE)
+}
+
+/// `mds_scan_html_tag`
+#[unsafe(no_mangle)]
+pub extern "C" fn mds_scan_html_tag(alloc: Global, bytes: &[u8]) -> usize
+    ensures { FoundExactly (λ n. (tag : List KeptByte)
+        × IsKeptTag (λ rest skip. ⊥) bytes.now tag × (n ≡ place_after 0 tag)) result result }
+{
+    match scan_html_block_inner(alloc, bytes, None::<&fn(&[u8]) -> usize>) {
+        Ok(Some((_, length))) => length,
+        _ => NONE,
+    }
+}
+
+/// `struct mds_end`
+#[repr(C)]
+pub struct End {
+    pub status: u32,
+    pub end: usize,
+}
+
+/// `mds_scan_inline_html`
+#[unsafe(no_mangle)]
+pub extern "C" fn mds_scan_inline_html(bytes: &[u8], place: usize) -> End
+    ensures { ((result.status ≡ no_opener) × (opener_before bytes.now place ≡ None))
+        ⊎ ((result.status ≡ nothing) × (find_at bytes.now place ≡ None))
+        ⊎ ((result.status ≡ ok) × (find_at bytes.now place ≡ Some result.end)) }
+{
+    match InlineHtmlRun::new(bytes).step(place) {
+        Ok(Some(end)) => End { status: OK, end },
+        Ok(None) => End {
+            status: NOTHING,
+            end: 0,
+        },
+        Err(_) => End {
+            status: NO_OPENER,
+            end: 0,
+        },
+    }
+}

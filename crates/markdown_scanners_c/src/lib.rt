@@ -1,0 +1,10 @@
+//! The scanners of `markdown_scanners_tree` as C functions, whose header is `markdown_scanners.h`.
+#![tactic(auto)]
+
+mod blocks;
+mod html;
+mod inline;
+mod labels;
+mod lines;
+mod status;
+mod texts;

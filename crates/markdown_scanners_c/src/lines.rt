@@ -1,0 +1,141 @@
+//! Bytes, line endings, blank lines, indents, and markers of block quotes and list items.
+ghost use Rattle.std.specs.Prelude.{◌≡◌, ◌≤◌, ◌<◌, ◌/◌, ◌⊎◌, ℕ, Some};
+ghost use Rattle.std.specs.List.{prefix_len};
+ghost use Rattle.markdown_scanners_tree.specs.Bytes.{IsBlankLine, is_white_space, is_white_space_in_line, is_punctuation, line_ending};
+ghost use Rattle.markdown_scanners_tree.specs.scanners.Indent.{IsIndent};
+ghost use Rattle.markdown_scanners_tree.specs.scanners.Lines.{next_line, IsBlockQuoteStart};
+ghost use Rattle.markdown_scanners_tree.specs.scanners.list_items.ListItem.{IsListItem};
+ghost use Rattle.markdown_scanners_c.specs.Answers.{none, FoundExactly};
+ghost use Rattle.markdown_scanners_c.specs.Status.{ok, too_large};
+
+use crate::status::{NONE, OK, TOO_LARGE};
+use markdown_scanners_tree::scanners::{
+    calc_indent, is_ascii_punctuation, is_ascii_whitespace, is_ascii_whitespace_no_nl,
+    scan_blank_line, scan_blockquote_start, scan_eol, scan_listitem, scan_nextline,
+    scan_whitespace_no_nl,
+};
+
+/// `mds_is_whitespace`
+#[unsafe(no_mangle)]
+pub extern "C" fn mds_is_whitespace(byte: u8) -> bool
+    ensures { result ≡ is_white_space byte }
+{
+    is_ascii_whitespace(byte)
+}
+
+/// `mds_is_whitespace_in_line`
+#[unsafe(no_mangle)]
+pub extern "C" fn mds_is_whitespace_in_line(byte: u8) -> bool
+    ensures { result ≡ is_white_space_in_line byte }
+{
+    is_ascii_whitespace_no_nl(byte)
+}
+
+/// `mds_is_punctuation`
+#[unsafe(no_mangle)]
+pub extern "C" fn mds_is_punctuation(byte: u8) -> bool
+    ensures { result ≡ is_punctuation byte }
+{
+    is_ascii_punctuation(byte)
+}
+
+/// `mds_scan_whitespace_in_line`
+#[unsafe(no_mangle)]
+pub extern "C" fn mds_scan_whitespace_in_line(bytes: &[u8]) -> usize
+    ensures { result ≡ prefix_len is_white_space_in_line bytes.now }
+{
+    scan_whitespace_no_nl(bytes)
+}
+
+/// `mds_scan_eol`
+#[unsafe(no_mangle)]
+pub extern "C" fn mds_scan_eol(bytes: &[u8]) -> usize
+    ensures { FoundExactly (λ n. line_ending bytes.now ≡ Some n) result result }
+{
+    scan_eol(bytes).unwrap_or(NONE)
+}
+
+/// `mds_scan_nextline`
+#[unsafe(no_mangle)]
+pub extern "C" fn mds_scan_nextline(bytes: &[u8]) -> usize
+    ensures { result ≡ next_line bytes.now }
+{
+    scan_nextline(bytes)
+}
+
+/// `mds_scan_blank_line`
+#[unsafe(no_mangle)]
+pub extern "C" fn mds_scan_blank_line(bytes: &[u8]) -> usize
+    ensures { FoundExactly (IsBlankLine bytes.now) result result }
+{
+    scan_blank_line(bytes).unwrap_or(NONE)
+}
+
+/// `mds_scan_blockquote_start`
+#[unsafe(no_mangle)]
+pub extern "C" fn mds_scan_blockquote_start(bytes: &[u8]) -> usize
+    ensures { FoundExactly (IsBlockQuoteStart bytes.now) result result }
+{
+    scan_blockquote_start(bytes).unwrap_or(NONE)
+}
+
+/// `struct mds_list_item`
+#[repr(C)]
+pub struct ListItem {
+    pub length: usize,
+    pub start: usize,
+    pub indent: usize,
+    pub delimiter: u8,
+}
+
+/// `mds_scan_listitem`
+#[unsafe(no_mangle)]
+pub extern "C" fn mds_scan_listitem(bytes: &[u8]) -> ListItem
+    ensures { FoundExactly (λ (r : ℕ × ℕ × ℕ × ℕ). IsListItem bytes.now r.0 r.1 r.2 r.3)
+        result.length (result.length, result.delimiter, result.start, result.indent) }
+{
+    match scan_listitem(bytes) {
+        Some((length, delimiter, start, indent)) => ListItem {
+            length,
+            start,
+            indent,
+            delimiter,
+        },
+        None => ListItem {
+            length: NONE,
+            start: 0,
+            indent: 0,
+            delimiter: 0,
+        },
+    }
+}
+
+/// `struct mds_indent`
+#[repr(C)]
+pub struct Indent {
+    pub status: u32,
+    pub place: usize,
+    pub columns: usize,
+}
+
+/// `mds_calc_indent`
+#[unsafe(no_mangle)]
+pub extern "C" fn mds_calc_indent(bytes: &[u8], max: usize) -> Indent
+    ensures { ((result.status ≡ ok) × (max ≤ usize.MAX / 4)
+        × IsIndent bytes.now max result.place result.columns)
+        ⊎ ((result.status ≡ too_large) × (usize.MAX / 4 < max)) }
+{
+    if max > usize::MAX / 4 {
+        return Indent {
+            status: TOO_LARGE,
+            place: 0,
+            columns: 0,
+        };
+    }
+    let (place, columns) = calc_indent(bytes, max);
+    Indent {
+        status: OK,
+        place,
+        columns,
+    }
+}

@@ -1,0 +1,115 @@
+//! Texts that references and escapes stand for, written into a buffer of the caller's.
+ghost use Rattle.std.specs.Prelude.{◌≡◌, length};
+ghost use Rattle.markdown_scanners_c.specs.Buffer.{IsWritten};
+ghost use Rattle.markdown_scanners_c.specs.Texts.{IsReferenceText, IsMeaningText, IsUnescapedText};
+
+use crate::status::{EMPTY, NO_MEMORY, NOT_UTF8, NOTHING, OK, TOO_SHORT};
+use markdown_scanners_tree::scanners::{Entities, scan_entity, unescape};
+use markdown_values::strings::CowStr;
+use std::alloc::Global;
+
+/// The entities that the C functions know.
+#[derive(Clone, Copy)]
+struct KnownEntities;
+
+impl Entities for KnownEntities {
+    ghost use Rattle.markdown_scanners_c.specs.EntityTexts.{entity_text};
+
+    ghost known = { λ _ name. entity_text name };
+
+    fn get(&self, name: &[u8]) -> Option<&'static str> {
+        if name == b"amp".as_slice() {
+            Some("&")
+        } else if name == b"lt".as_slice() {
+            Some("<")
+        } else if name == b"gt".as_slice() {
+            Some(">")
+        } else if name == b"quot".as_slice() {
+            Some("\"")
+        } else {
+            None
+        }
+    }
+}
+
+/// `struct mds_text`
+#[repr(C)]
+pub struct Text {
+    pub status: u32,
+    pub taken: usize,
+    pub length: usize,
+}
+
+/// No text, but a status.
+pub(crate) fn no_text(status: u32) -> Text
+    ensures { result.status ≡ status }
+{
+    Text {
+        status,
+        taken: 0,
+        length: 0,
+    }
+}
+
+/// Writes the text at the front of the buffer, where there is room for it.
+pub(crate) fn write_text(text: &[u8], taken: usize, buffer: &mut [u8]) -> Text
+    ensures written { IsWritten text.now buffer.old buffer.new result.status result.length }
+    ensures taken { result.taken ≡ taken }
+{
+    let length = text.len();
+    if length > buffer.len() {
+        return Text {
+            status: TOO_SHORT,
+            taken,
+            length,
+        };
+    }
+    buffer[..length].copy_from_slice(text);
+    Text {
+        status: OK,
+        taken,
+        length,
+    }
+}
+
+/// `mds_scan_entity`
+#[tactic(auto, unfolding(crate::specs::Texts::IsReferenceText))]
+#[unsafe(no_mangle)]
+pub extern "C" fn mds_scan_entity(bytes: &[u8], buffer: &mut [u8]) -> Text
+    ensures { IsReferenceText bytes.now buffer.old buffer.new result }
+{
+    if bytes.is_empty() {
+        return no_text(EMPTY);
+    }
+    let (taken, meaning) = scan_entity(bytes, &KnownEntities);
+    match meaning {
+        Some(meaning) => write_text(meaning.as_str().as_bytes(), taken, buffer),
+        None => no_text(NOTHING),
+    }
+}
+
+/// `mds_unescape`
+#[unsafe(no_mangle)]
+pub extern "C" fn mds_unescape(
+    alloc: Global,
+    text: &[u8],
+    is_in_table: bool,
+    buffer: &mut [u8],
+) -> Text
+    ensures { IsUnescapedText is_in_table text.now buffer.old buffer.new result }
+{
+    match str::from_utf8(text) {
+        Ok(text) => unescaped(alloc, text, is_in_table, buffer),
+        Err(_) => no_text(NOT_UTF8),
+    }
+}
+
+#[tactic(auto, unfolding(crate::specs::Texts::IsMeaningText))]
+fn unescaped(alloc: Global, text: &str, is_in_table: bool, buffer: &mut [u8]) -> Text
+    ensures { IsMeaningText is_in_table text.now buffer.old buffer.new result }
+{
+    match unescape(alloc, CowStr::from(text), is_in_table, &KnownEntities) {
+        Ok(meaning) => write_text(meaning.as_str().as_bytes(), text.len(), buffer),
+        Err(_) => no_text(NO_MEMORY),
+    }
+}
