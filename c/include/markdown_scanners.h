@@ -39,16 +39,28 @@ extern "C" {
 
 /* What a call comes to. */
 enum mds_status {
-    MDS_OK = 0,           /* an answer */
-    MDS_NOTHING = 1,      /* nothing of the kind stands there */
-    MDS_NOT_UTF8 = 2,     /* the text is not UTF-8 */
-    MDS_PAST_END = 3,     /* the place is past the end of the text */
-    MDS_NOT_BOUNDARY = 4, /* the place is inside a character */
-    MDS_TOO_LARGE = 5,    /* a limit or an indent is so large that columns can't be added to it */
-    MDS_EMPTY = 6,        /* there are no bytes */
-    MDS_TOO_SHORT = 7,    /* the buffer is too short */
-    MDS_NO_MEMORY = 8,    /* memory was refused */
-    MDS_NO_OPENER = 9     /* no `<!` or `<?` ends at the place */
+    MDS_OK = 0,             /* an answer */
+    MDS_NOTHING = 1,        /* nothing of the kind stands there */
+    MDS_NOT_UTF8 = 2,       /* the text is not UTF-8 */
+    MDS_PAST_END = 3,       /* the place is past the end of the text */
+    MDS_NOT_BOUNDARY = 4,   /* the place is inside a character */
+    MDS_TOO_LARGE = 5,      /* a limit or an indent is so large that columns can't be added to it */
+    MDS_EMPTY = 6,          /* there are no bytes */
+    MDS_TOO_SHORT = 7,      /* the buffer is too short */
+    MDS_NO_MEMORY = 8,      /* memory was refused */
+    MDS_NO_OPENER = 9,      /* no `<!` or `<?` ends at the place */
+    MDS_NOT_RISING = 10,    /* the place is not above the one before it */
+    MDS_INSIDE_FIND = 11,   /* the place is inside what was found before it */
+    MDS_SPACE_PENDING = 12, /* columns of a tab are pending, and the call is not one that takes space */
+    MDS_BAD_KIND = 13       /* a call has no known kind */
+};
+
+/* A text for the caller's buffer, where the status is MDS_OK, and at its front; where it is MDS_TOO_SHORT the buffer is
+ * as it was, and `taken` and `length` are told all the same. */
+struct mds_text {
+    uint32_t status;
+    size_t taken;  /* bytes of the input that it stands for */
+    size_t length; /* bytes that it has or needs in the buffer */
 };
 
 /* ---- Bytes and lines ---- */
@@ -102,6 +114,48 @@ struct mds_indent {
  * (2.2) */
 struct mds_indent mds_calc_indent(const uint8_t *bytes, size_t length, size_t max);
 
+/* ---- Runs of calls on the start of a line ---- */
+
+/* What a call reads at the place in the line that the calls before it have reached, column by column. */
+enum mds_line_call_kind {
+    MDS_SPACE = 0,     /* `number` columns of space, or fewer where there are fewer: found where there were as many */
+    MDS_UPTO = 1,      /* at most `number` columns of space: how many */
+    MDS_EOL = 2,       /* whether the line ends there; takes nothing */
+    MDS_QUOTE = 3,     /* a block quote marker with at most one column of space (5.1) */
+    MDS_LIST = 4,      /* a list item's marker with the columns that belong to it, `number` being its indent (5.2) */
+    MDS_DEFINITION = 5 /* the marker `:` of a definition, `number` being its indent; an extension of pulldown-cmark */
+};
+
+struct mds_line_call {
+    uint32_t kind; /* of enum mds_line_call_kind */
+    size_t number; /* columns of space, or an indent of SIZE_MAX - 16 at most; of no other call */
+};
+
+struct mds_line_answer {
+    bool found;        /* of MDS_UPTO always */
+    uint8_t delimiter; /* of a list item: `-`, `+`, `*`, `.` or `)` */
+    uint64_t start;    /* of an ordered list item: its number */
+    size_t number;     /* columns taken by MDS_UPTO; the indent of what an item or a definition holds */
+};
+
+/* What a run came to. `count` is how many calls were made before it stopped; `scanned` how many bytes of the line they
+ * have passed; `rest` how many bytes what is left of the line has. All are 0 where the status is MDS_BAD_KIND or
+ * MDS_NO_MEMORY. */
+struct mds_line_run {
+    uint32_t status;
+    size_t count, scanned, rest;
+};
+
+/* Makes the calls in turn on the line, as on the line with its tabs written out to stops of four. It stops before the
+ * first call that is refused: MDS_SPACE_PENDING where a tab is taken in part and the call takes no space, MDS_TOO_LARGE
+ * where an indent is too large; else the status is MDS_OK. In all these cases the answers stand at the front of
+ * `answers`, and what is left of the line, its tabs before the line ending written out, at the front of `rest`. Where
+ * one of these has no room nothing is written, and the status is MDS_TOO_SHORT. MDS_BAD_KIND. Memory is asked for:
+ * MDS_NO_MEMORY. (2.2) */
+struct mds_line_run mds_run_line(
+    const uint8_t *bytes, size_t length, const struct mds_line_call *calls, size_t call_count,
+    struct mds_line_answer *answers, size_t capacity, uint8_t *rest, size_t rest_capacity);
+
 /* ---- Blocks ---- */
 
 /* The length of the thematic break's line at the front with its ending, or MDS_NONE. (4.1) */
@@ -139,6 +193,14 @@ struct mds_fence mds_scan_metadata_block(const uint8_t *bytes, size_t length, bo
 /* The length of the line at the front that closes a metadata block opened by the byte `fence`, without its line
  * ending, or MDS_NONE. */
 size_t mds_scan_closing_metadata_block(const uint8_t *bytes, size_t length, uint8_t fence);
+
+/* How a column of a table is aligned. */
+enum mds_alignment { MDS_ALIGN_NONE = 0, MDS_ALIGN_LEFT = 1, MDS_ALIGN_CENTER = 2, MDS_ALIGN_RIGHT = 3 };
+
+/* The delimiter row of a table at the front: `taken` is its length with the line ending, `length` how many columns it
+ * has, whose alignments, each a number of enum mds_alignment, stand at the front of the buffer. MDS_NOTHING where there
+ * is none. Memory is asked for: MDS_NO_MEMORY. (GitHub Flavored Markdown 0.29, 4.10) */
+struct mds_text mds_scan_table_head(const uint8_t *bytes, size_t length, uint8_t *alignments, size_t capacity);
 
 /* ---- Parts of inline text ---- */
 
@@ -186,15 +248,22 @@ struct mds_end {
  * (6.6) */
 struct mds_end mds_scan_inline_html(const uint8_t *bytes, size_t length, size_t place);
 
-/* ---- Texts that are made ---- */
-
-/* A text for the caller's buffer, where the status is MDS_OK, and at its front; where it is MDS_TOO_SHORT the buffer is
- * as it was, and `taken` and `length` are told all the same. */
-struct mds_text {
+/* What a run found. `count` is how many ends it found before it stopped, or 0 where memory was refused. */
+struct mds_html_run {
     uint32_t status;
-    size_t taken;  /* bytes of the input that it stands for */
-    size_t length; /* bytes that it has or needs in the buffer */
+    size_t count;
 };
+
+/* The ends of what begins at each of the places in turn, as mds_scan_inline_html finds them, MDS_NONE where nothing does
+ * or where it isn't closed. The run goes through the text once: for a text of n bytes and k places it passes over 4n + 8k
+ * bytes at most, whatever the text. It stops before the first place that is refused: MDS_NO_OPENER, MDS_NOT_RISING, or
+ * MDS_INSIDE_FIND where it is below the last end; else the status is MDS_OK. In all these cases the ends stand at the
+ * front of `ends`; where it has no room for them, for which as many as there are places is enough, the status is
+ * MDS_TOO_SHORT. Memory is asked for: MDS_NO_MEMORY. (6.6) */
+struct mds_html_run mds_run_inline_html(
+    const uint8_t *bytes, size_t length, const size_t *places, size_t place_count, size_t *ends, size_t capacity);
+
+/* ---- Texts that are made ---- */
 
 /* What the character reference at the front stands for: a decimal or hexadecimal one, or one of the entities `amp`,
  * `lt`, `gt` and `quot`. Others are MDS_NOTHING. MDS_EMPTY where there are no bytes. (2.5) */

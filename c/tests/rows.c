@@ -247,6 +247,85 @@ static void inline_html(void) {
     END(mds_scan_inline_html(NULL, 0, 2), MDS_NO_OPENER, 0);
 }
 
+static void html_runs(void) {
+    const size_t places[] = {2, 7, 12, 17}, falling[] = {2, 2}, inside[] = {2, 9}, nowhere[] = {2, SIZE_MAX};
+    size_t ends[4] = {0, 0, 0, 0};
+    struct mds_html_run run = mds_run_inline_html(OF("<!-- <!x> <!-- <![CDATA[ ]]>"), places, 4, ends, 4);
+    SAME(run.status, MDS_OK), SAME(run.count, 4);
+    SAME(ends[0], MDS_NONE), SAME(ends[1], 9), SAME(ends[2], MDS_NONE), SAME(ends[3], 28);
+    ends[0] = 7;
+    run = mds_run_inline_html(OF("<!-- <!x> <!-- <![CDATA[ ]]>"), places, 4, ends, 3);
+    SAME(run.status, MDS_TOO_SHORT), SAME(run.count, 4), SAME(ends[0], 7);
+    run = mds_run_inline_html(OF("<!a>"), falling, 2, ends, 4);
+    SAME(run.status, MDS_NOT_RISING), SAME(run.count, 1), SAME(ends[0], 4), SAME(ends[1], 9);
+    run = mds_run_inline_html(OF("<!-- a <!-- b --> <!-- c"), inside, 2, ends, 1);
+    SAME(run.status, MDS_INSIDE_FIND), SAME(run.count, 1), SAME(ends[0], 17);
+    run = mds_run_inline_html(OF("<?a?>"), nowhere, 2, ends, 4);
+    SAME(run.status, MDS_NO_OPENER), SAME(run.count, 1), SAME(ends[0], 5);
+    run = mds_run_inline_html(NULL, 0, places, 1, NULL, 0);
+    SAME(run.status, MDS_NO_OPENER), SAME(run.count, 0);
+    run = mds_run_inline_html(OF("<!a>"), NULL, 0, NULL, 0);
+    SAME(run.status, MDS_OK), SAME(run.count, 0);
+}
+
+#define CALLS(...) (const struct mds_line_call[]){__VA_ARGS__}, sizeof((const struct mds_line_call[]){__VA_ARGS__}) / sizeof(struct mds_line_call)
+
+static struct mds_line_answer answers[4];
+static uint8_t left[16];
+
+static void answer_is(int line, size_t index, bool found, uint8_t delimiter, uint64_t start, size_t number) {
+    same(line, "found", answers[index].found, found);
+    same(line, "delimiter", answers[index].delimiter, delimiter);
+    same(line, "start", answers[index].start, start);
+    same(line, "number", answers[index].number, number);
+}
+
+static void run_is(int line, struct mds_line_run run, uint32_t status, size_t count, size_t scanned, const char *rest) {
+    same(line, "status", run.status, status);
+    same(line, "count", run.count, count);
+    same(line, "scanned", run.scanned, scanned);
+    same(line, "rest", run.rest, strlen(rest));
+    same(line, "what is left", memcmp(left, rest, strlen(rest)), 0);
+}
+
+#define RUN(literal, status, count, scanned, rest, ...) \
+    run_is(__LINE__, mds_run_line(OF(literal), CALLS(__VA_ARGS__), answers, 4, left, 16), status, count, scanned, rest)
+#define ANSWER(index, found, delimiter, start, number) answer_is(__LINE__, index, found, delimiter, start, number)
+
+static void line_runs(void) {
+    RUN("   x", MDS_OK, 3, 3, "x", {MDS_UPTO, 2}, {MDS_SPACE, 1}, {MDS_EOL, 0});
+    ANSWER(0, true, 0, 0, 2), ANSWER(1, true, 0, 0, 0), ANSWER(2, false, 0, 0, 0);
+    RUN(">\t- x", MDS_SPACE_PENDING, 1, 2, "  - x", {MDS_QUOTE, 0}, {MDS_LIST, 0});
+    ANSWER(0, true, 0, 0, 0);
+    RUN(">\t- x", MDS_OK, 3, 4, "x", {MDS_QUOTE, 0}, {MDS_UPTO, 3}, {MDS_LIST, 2});
+    ANSWER(1, true, 0, 0, 2), ANSWER(2, true, '-', 0, 4);
+    RUN("123456789. x", MDS_OK, 1, 11, "x", {MDS_LIST, 0});
+    ANSWER(0, true, '.', 123456789, 11);
+    RUN("1234567890. x", MDS_OK, 1, 0, "1234567890. x", {MDS_LIST, 0});
+    ANSWER(0, false, 0, 0, 0);
+    RUN(":    x", MDS_OK, 1, 5, "x", {MDS_DEFINITION, 0});
+    ANSWER(0, true, 0, 0, 5);
+    RUN("- x", MDS_TOO_LARGE, 0, 0, "- x", {MDS_LIST, SIZE_MAX});
+    RUN("- x", MDS_OK, 1, 2, "x", {MDS_LIST, SIZE_MAX - 16});
+    ANSWER(0, true, '-', 0, SIZE_MAX - 14);
+    RUN("", MDS_OK, 1, 0, "", {MDS_EOL, 0});
+    ANSWER(0, true, 0, 0, 0);
+    RUN("x", MDS_BAD_KIND, 0, 0, "", {MDS_EOL, 0}, {6, 0});
+}
+
+/* Where a buffer is too short, both are as they were. */
+static void short_line_runs(void) {
+    answers[0].number = 77, left[0] = 'z';
+    struct mds_line_run run = mds_run_line(OF("  x"), CALLS({MDS_UPTO, 2}, {MDS_EOL, 0}), answers, 1, left, 16);
+    SAME(run.status, MDS_TOO_SHORT), SAME(run.count, 2), SAME(run.scanned, 2), SAME(run.rest, 1);
+    SAME(answers[0].number, 77), SAME(left[0], 'z');
+    run = mds_run_line(OF("  x"), CALLS({MDS_UPTO, 2}, {MDS_EOL, 0}), answers, 2, left, 0);
+    SAME(run.status, MDS_TOO_SHORT), SAME(run.count, 2), SAME(run.scanned, 2), SAME(run.rest, 1);
+    SAME(answers[0].number, 77), SAME(left[0], 'z');
+    run = mds_run_line(NULL, 0, NULL, 0, NULL, 0, NULL, 0);
+    SAME(run.status, MDS_OK), SAME(run.count, 0), SAME(run.scanned, 0), SAME(run.rest, 0);
+}
+
 /* A buffer of so many bytes before the edge, each 'z'. */
 static uint8_t *buffer_of(size_t capacity) {
     static uint8_t filled[ROOM];
@@ -265,8 +344,8 @@ static bool is_left(const uint8_t *buffer, size_t from, size_t to) {
 }
 
 /* The text is made in a buffer that has room for it, in one with more room, and in none that is shorter. */
-static void makes(int line, making *call, const char *input, size_t input_length, size_t taken, const char *wanted) {
-    size_t length = strlen(wanted);
+static void makes(
+    int line, making *call, const char *input, size_t input_length, size_t taken, const char *wanted, size_t length) {
     const uint8_t *bytes = at_edge(0, input, input_length);
     for (size_t capacity = 0; capacity < length + 3; capacity++) {
         uint8_t *buffer = buffer_of(capacity);
@@ -292,7 +371,8 @@ static void refuses(int line, making *call, const char *input, size_t input_leng
     same(line, "the buffer is left", is_left(buffer, 0, 9), true);
 }
 
-#define MAKES(call, input, taken, wanted) makes(__LINE__, call, input, sizeof(input) - 1, taken, wanted)
+#define MAKES(call, input, taken, wanted) \
+    makes(__LINE__, call, input, sizeof(input) - 1, taken, wanted, sizeof(wanted) - 1)
 #define REFUSES(call, input, status) refuses(__LINE__, call, input, sizeof(input) - 1, status)
 
 static struct mds_text unescape(const uint8_t *bytes, size_t length, uint8_t *buffer, size_t capacity) {
@@ -325,6 +405,15 @@ static void references(void) {
     REFUSES(mds_scan_entity, "\xff", MDS_NOTHING);
     REFUSES(mds_scan_entity, "", MDS_EMPTY);
     refuses(__LINE__, mds_scan_entity, NULL, 0, MDS_EMPTY);
+}
+
+static void tables(void) {
+    MAKES(mds_scan_table_head, "--|:--:|--:\n", 12, "\0\2\3");
+    MAKES(mds_scan_table_head, "|-|:", 4, "\0\1");
+    REFUSES(mds_scan_table_head, "||-|", MDS_NOTHING);
+    REFUSES(mds_scan_table_head, "    -|-", MDS_NOTHING);
+    REFUSES(mds_scan_table_head, "", MDS_NOTHING);
+    refuses(__LINE__, mds_scan_table_head, NULL, 0, MDS_NOTHING);
 }
 
 static void unescaping(void) {
@@ -385,8 +474,9 @@ int main(void) {
     classes(), lines(), items(), indents();
     breaks_and_headings(), fences(), metadata();
     destinations(), autolinks_and_pipes();
-    html(), inline_html();
-    references(), unescaping();
+    html(), inline_html(), html_runs();
+    line_runs(), short_line_runs();
+    tables(), references(), unescaping();
     labels(), long_labels(), matches();
     printf("rows: %d passed, %d failed\n", passed, failed);
     return failed != 0;

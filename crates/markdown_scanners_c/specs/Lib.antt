@@ -2,7 +2,10 @@ pub mod Answers
 pub mod Buffer
 pub mod EntityTexts
 pub mod Labels
+pub mod LineRuns
 pub mod Parts
+pub mod Runs
 pub mod Status
+pub mod Tables
 pub mod TextPlace
 pub mod Texts

@@ -1,0 +1,23 @@
+-- Delimiter rows of tables. (GitHub Flavored Markdown 0.29, section 4.10, tables)
+use Rattle.std.specs.Prelude.{ℕ, List, ◌≡◌, ◌⊎◌, map}
+use Rattle.markdown_values.specs.declared.values.Alignment.{Alignment}
+use Rattle.markdown_values.specs.declared.values.Alignment.TheVariants as Aligned
+use Rattle.markdown_scanners_tree.specs.scanners.Tables.{IsDelimiterRow, NoDelimiterRow}
+use Rattle.markdown_scanners_c.specs.Buffer.{IsWritten}
+use Rattle.markdown_scanners_c.specs.Status.{nothing, no_memory}
+use Rattle.markdown_scanners_c.specs.declared.texts.Text.{Text}
+
+-- the number of an alignment, as of `enum mds_alignment`
+abbrev pub alignment_number : Alignment → ℕ
+alignment_number Aligned.None = 0
+alignment_number Aligned.Left = 1
+alignment_number Aligned.Center = 2
+alignment_number Aligned.Right = 3
+
+-- No delimiter row at the front; or one, whose alignments are written; or memory was refused.
+unfoldable pub IsTableHead : List ℕ → List ℕ → List ℕ → Text → Type 0
+IsTableHead bytes old new head =
+    ((head.status ≡ nothing) × (new ≡ old) × NoDelimiterRow bytes)
+    ⊎ ((head.status ≡ no_memory) × (new ≡ old))
+    ⊎ ((alignments : List Alignment) × IsDelimiterRow bytes head.taken alignments
+    × IsWritten (map alignment_number alignments) old new head.status head.length)

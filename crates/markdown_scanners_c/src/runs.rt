@@ -1,0 +1,79 @@
+//! Runs of scans of inline HTML.
+ghost use Rattle.std.specs.Prelude.{◌≡◌, IfOk};
+ghost use Rattle.markdown_scanners_tree.specs.inline_html.run.Run.{new_run, run_stop};
+ghost use Rattle.markdown_scanners_c.specs.Runs.{end_number, stop_status, run_ends, AreNumbersWritten, IsHtmlRun};
+
+use crate::status::{INSIDE_FIND, NO_MEMORY, NO_OPENER, NONE, NOT_RISING, OK, TOO_SHORT};
+use markdown_scanners_tree::inline_html::{HtmlStop, run_inline_html};
+use std::alloc::{AllocError, Global};
+
+/// `struct mds_html_run`
+#[repr(C)]
+pub struct HtmlEnds {
+    pub status: u32,
+    pub count: usize,
+}
+
+/// `mds_run_inline_html`
+#[unsafe(no_mangle)]
+pub extern "C" fn mds_run_inline_html(
+    alloc: Global,
+    bytes: &[u8],
+    places: &[usize],
+    ends: &mut [usize],
+) -> HtmlEnds
+    ensures { IsHtmlRun bytes.now places.now ends.old ends.new result }
+{
+    match ends_of(alloc, bytes, places) {
+        Ok((found, done)) => HtmlEnds {
+            status: write_numbers(&found, ends, done),
+            count: found.len(),
+        },
+        Err(_) => HtmlEnds {
+            status: NO_MEMORY,
+            count: 0,
+        },
+    }
+}
+
+#[tactic(auto, unfolding(crate::specs::Runs::AreNumbersWritten))]
+fn write_numbers(numbers: &[usize], buffer: &mut [usize], done: u32) -> u32
+    ensures { AreNumbersWritten numbers.now buffer.old buffer.new done result }
+{
+    if numbers.len() > buffer.len() {
+        return TOO_SHORT;
+    }
+    buffer[..numbers.len()].copy_from_slice(numbers);
+    done
+}
+
+// The ends that are found at the places in turn, and the reason why one is refused, if one is.
+fn ends_of(alloc: Global, bytes: &[u8], places: &[usize]) -> Result<(Vec<usize>, u32), AllocError>
+    ensures ends { IfOk result (λ r. r.0.items ≡ run_ends bytes.now places.now) }
+    ensures status { IfOk result (λ r. r.1 ≡ stop_status (run_stop (new_run bytes.now) 0 places.now)) }
+{
+    let run = run_inline_html(alloc, bytes, places)?;
+    let ends: Vec<usize> = run
+        .answers
+        .iter()
+        .map(|answer| end_of(*answer))
+        .collect(alloc)?;
+    Ok((ends, status_of(&run.stop)))
+}
+
+fn end_of(found: Option<usize>) -> usize
+    ensures { result ≡ end_number found }
+{
+    found.unwrap_or(NONE)
+}
+
+fn status_of(stop: &Option<(usize, HtmlStop)>) -> u32
+    ensures { result ≡ stop_status stop.now }
+{
+    match stop {
+        None => OK,
+        Some((_, HtmlStop::NoOpener)) => NO_OPENER,
+        Some((_, HtmlStop::NotRising)) => NOT_RISING,
+        Some((_, HtmlStop::InsideFind)) => INSIDE_FIND,
+    }
+}

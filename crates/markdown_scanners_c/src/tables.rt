@@ -1,0 +1,52 @@
+//! Delimiter rows of tables.
+ghost use Rattle.std.specs.Prelude.{◌≡◌, List, map, IfOk, IfSome, IfNone};
+ghost use Rattle.markdown_values.specs.declared.values.Alignment.{Alignment as Aligned};
+ghost use Rattle.markdown_scanners_tree.specs.scanners.Tables.{IsDelimiterRow, NoDelimiterRow};
+ghost use Rattle.markdown_scanners_c.specs.Tables.{alignment_number, IsTableHead};
+
+use crate::status::{NO_MEMORY, NOTHING};
+use crate::texts::{Text, no_text, write_text};
+use markdown_scanners_tree::scanners::scan_table_head;
+use markdown_values::values::Alignment;
+use std::alloc::{AllocError, Global};
+
+/// `mds_scan_table_head`
+#[tactic(auto, unfolding(crate::specs::Tables::IsTableHead))]
+#[unsafe(no_mangle)]
+pub extern "C" fn mds_scan_table_head(alloc: Global, bytes: &[u8], alignments: &mut [u8]) -> Text
+    ensures { IsTableHead bytes.now alignments.old alignments.new result }
+{
+    match numbered_columns(alloc, bytes) {
+        Ok(Some((length, columns))) => write_text(&columns, length, alignments),
+        Ok(None) => no_text(NOTHING),
+        Err(_) => no_text(NO_MEMORY),
+    }
+}
+
+// The length of a delimiter row, and the numbers of its alignments.
+fn numbered_columns(alloc: Global, bytes: &[u8]) -> Result<Option<(usize, Vec<u8>)>, AllocError>
+    ensures found { IfOk result (λ found. IfSome found (λ r. (columns : List Aligned)
+        × IsDelimiterRow bytes.now r.0 columns × (r.1.items ≡ map alignment_number columns))) }
+    ensures none { IfOk result (λ found. IfNone found (NoDelimiterRow bytes.now)) }
+{
+    let (length, columns) = scan_table_head(alloc, bytes)?;
+    if length == 0 {
+        return Ok(None);
+    }
+    let numbers: Vec<u8> = columns
+        .iter()
+        .map(|column| number_of(*column))
+        .collect(alloc)?;
+    Ok(Some((length, numbers)))
+}
+
+fn number_of(alignment: Alignment) -> u8
+    ensures { result ≡ alignment_number alignment }
+{
+    match alignment {
+        Alignment::None => 0,
+        Alignment::Left => 1,
+        Alignment::Center => 2,
+        Alignment::Right => 3,
+    }
+}
