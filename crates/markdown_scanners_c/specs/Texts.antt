@@ -1,6 +1,6 @@
 -- Texts that references and escapes stand for. (CommonMark 0.31.2, sections 2.4, backslash escapes, and 2.5, entity and
 -- numeric character references)
-use Rattle.std.specs.Prelude.{ℕ, Bool, List, [], ◌≡◌, ◌⊎◌}
+use Rattle.std.specs.Prelude.{ℕ, Bool, List, [], ◌≡◌, ◌<◌, ◌⊎◌, length}
 use Rattle.std.specs.Str.{IsUtf8}
 use Rattle.markdown_scanners_tree.specs.scanners.entities.CharacterReference.{StartsWithReference}
 use Rattle.markdown_scanners_tree.specs.scanners.unescaping.Unescaping.{Piece, ArePieces, AreThemselves, joined_meanings}
@@ -13,7 +13,7 @@ use Rattle.markdown_scanners_c.specs.declared.texts.Text.{Text}
 unfoldable pub IsReferenceText : List ℕ → List ℕ → List ℕ → Text → Type 0
 IsReferenceText bytes old new text =
     ((text.status ≡ empty) × (bytes ≡ []) × (new ≡ old))
-    ⊎ ((text.status ≡ nothing) × (new ≡ old)
+    ⊎ ((text.status ≡ nothing) × (0 < length bytes) × (new ≡ old)
     × ((n : ℕ) (meaning : List ℕ) → ¬ (StartsWithReference entity_text bytes n meaning)))
     ⊎ ((meaning : List ℕ) × StartsWithReference entity_text bytes text.taken meaning
     × IsWritten meaning old new text.status text.length)
