@@ -12,11 +12,11 @@ ghost use Rattle.markdown_scanners_tree.specs.Handler.{Skips, IsSteadyAtChars};
 ghost use Rattle.markdown_scanners_tree.specs.linklabel.Label.{Label, IsLabel, HasNoLabel, ends_in_backslash, ReadsBack};
 ghost use Rattle.markdown_scanners_tree.specs.linklabel.Answer.{answered_label, is_borrowed, slice_before, without_first_space, without_last_space};
 ghost use Rattle.markdown_scanners_tree.specs.linklabel.private.NextPart.{IsNextPart};
-ghost use Rattle.markdown_scanners_tree.specs.linklabel.private.Run.{is_ordinary, IsKeptByte, IsRun};
 ghost use Rattle.markdown_scanners_tree.specs.linklabel.Key.{label_key};
 ghost use Rattle.markdown_scanners_tree.specs.linklabel.private.Pass.{begun, space_len, starts_dropped, new_tally, tally_past_ending, tally_past_space, tally_past_word, tally_past_run, IsMeasure};
 
 mod key;
+mod word;
 
 use crate::scanners::{is_ascii_punctuation, is_ascii_whitespace};
 use caseless::default_caseless_match_str;
@@ -25,6 +25,7 @@ use markdown_values::strings::CowStr;
 use std::alloc::{AllocError, Global};
 use std::hash::{Hash, Hasher};
 use std::marker::Model;
+use word::{Run, is_ordinary, word_run};
 
 // How many characters the content of a label may have.
 const MOST_CHARACTERS: usize = 999;
@@ -207,61 +208,6 @@ fn is_dropped(rest: &[u8], is_in_table: bool) -> bool
     ensures { result ≡ starts_dropped is_in_table rest.now }
 {
     is_in_table && rest.len() > 1 && rest[0] == b'\\' && rest[1] == b'|'
-}
-
-// Bytes of a word: how many, how many characters begin in them, and whether the last one escapes the next byte.
-#[derive(Clone, Copy, Drop)]
-struct Run {
-    len: usize,
-    characters: usize,
-    escapes: bool,
-}
-
-// The bytes of a word at the front, up to one that a cell of a table drops. The tally is changed once for all of them,
-// which halves the instructions. No more are read than a label has characters, and one.
-fn word_run(rest: &[u8], escaped: bool, is_in_table: bool) -> Run
-    ensures run { IsRun is_in_table escaped rest.now result.len result.characters result.escapes }
-    ensures within { result.len ≤ length rest.now }
-    ensures fits { result.characters ≤ result.len }
-{
-    let mut run = Run {
-        len: 0,
-        characters: 0,
-        escapes: escaped,
-    };
-    while run.len <= MOST_CHARACTERS {
-        let Some((byte, escapes)) = kept_byte(&rest[run.len..], run.escapes, is_in_table) else {
-            return run;
-        };
-        run = Run {
-            len: run.len + 1,
-            characters: run.characters + begun_at(byte),
-            escapes,
-        };
-    }
-    run
-}
-
-// The byte of a word at the front, and whether it escapes the next one. None for one that a cell of a table drops, and
-// for a backslash at the end.
-fn kept_byte(rest: &[u8], escaped: bool, is_in_table: bool) -> Option<(u8, bool)>
-    ensures { IfSome result (λ r. IsKeptByte is_in_table escaped rest.now r.0 r.1) }
-{
-    match rest {
-        [b, ..] if is_ordinary(*b) => Some((*b, false)),
-        [b'\\', b'|', ..] if is_in_table => None,
-        [b'\\', next, ..] => Some((b'\\', !escaped && is_ascii_punctuation(*next))),
-        [b'[', ..] if escaped => Some((b'[', false)),
-        [b']', ..] if escaped => Some((b']', false)),
-        _ => None,
-    }
-}
-
-// Whether the byte is no white space, bracket or backslash.
-fn is_ordinary(byte: u8) -> bool
-    ensures { result ≡ is_ordinary byte }
-{
-    !is_ascii_whitespace(byte) && byte != b'[' && byte != b'\\' && byte != b']'
 }
 
 // How many bytes the handler skips at the start of a line, if the text goes on there.

@@ -1,6 +1,6 @@
 use Rattle.std.proofs.Common.{length, ◌≤◌, ◌-◌}
 use Rattle.markdown_scanners_tree.specs.linklabel.private.Run.{IsRun}
-use Rattle.markdown_scanners_tree.proofs.linklabel.word_run.Given as goal
+use Rattle.markdown_scanners_tree.proofs.linklabel.word.word_run.Given as goal
 
 abbrev pub invariant-loop-run : goal.invariant-loop-run
 invariant-loop-run l = record {
