@@ -18,7 +18,7 @@ ghost use Rattle.markdown_scanners_tree.specs.linklabel.private.Pass.{begun, spa
 mod key;
 mod word;
 
-use crate::scanners::{is_ascii_punctuation, is_ascii_whitespace};
+use crate::scanners::is_ascii_punctuation;
 use caseless::default_caseless_match_str;
 use key::{eq_ascii, hash_ascii, hash_folded};
 use markdown_values::strings::CowStr;
@@ -184,22 +184,23 @@ enum NextPart {
     Word(u8, bool),
 }
 
-// What stands next, where the byte before it was or was not a backslash that escapes.
+// What stands next, where the byte before it was or was not a backslash that escapes. A byte that is tested for nothing
+// else is white space.
 fn next_part(rest: &[u8], escaped: bool) -> NextPart
     ensures { IsNextPart escaped rest.now result }
 {
     match rest {
         [] => NextPart::End,
         [b, ..] if is_ordinary(*b) => NextPart::Word(*b, false),
-        [b'\n', ..] => NextPart::Ending(1),
-        [b'\r', b'\n', ..] => NextPart::Ending(2),
-        [b'\r', ..] => NextPart::Ending(1),
-        [b, ..] if is_ascii_whitespace(*b) => NextPart::Space(*b),
-        [b, ..] if escaped => NextPart::Word(*b, false),
+        [b'[' | b'\\' | b']', ..] if escaped => NextPart::Word(rest[0], false),
         [b'[', ..] => NextPart::Open,
         [b']', ..] => NextPart::Close,
         [b'\\', next, ..] => NextPart::Word(b'\\', is_ascii_punctuation(*next)),
-        [b, ..] => NextPart::Word(*b, false),
+        [b'\\'] => NextPart::Word(b'\\', false),
+        [b'\n', ..] => NextPart::Ending(1),
+        [b'\r', b'\n', ..] => NextPart::Ending(2),
+        [b'\r', ..] => NextPart::Ending(1),
+        [b, ..] => NextPart::Space(*b),
     }
 }
 
