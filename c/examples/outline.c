@@ -371,10 +371,7 @@ static void read_page(struct text page, struct outline *outline) {
 static bool is_defined(const struct outline *outline, struct text label) {
     for (size_t i = 0; i < outline->definitions.count; i++) {
         struct text other = outline->definitions.items[i].text;
-        uint32_t status = mds_labels_match(label.bytes, label.length, other.bytes, other.length);
-        if (status == MDS_NO_MEMORY)
-            fail("memory", "refused");
-        if (status == MDS_OK)
+        if (mds_labels_match(label.bytes, label.length, other.bytes, other.length) == MDS_OK)
             return true;
     }
     return false;

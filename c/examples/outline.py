@@ -205,13 +205,7 @@ class Outline:
         return b"".join(line + b"\n" for line in lines), len(missing)
 
     def is_defined(self, label):
-        for _, other, _ in self.definitions:
-            match = self.mds.labels_match(label, other, len(other))
-            if match == NO_MEMORY:
-                fail("memory", "refused")
-            if match == OK:
-                return True
-        return False
+        return any(self.mds.labels_match(label, other, len(other)) == OK for _, other, _ in self.definitions)
 
 
 class Reader:

@@ -281,8 +281,7 @@ struct mds_text mds_unescape(const uint8_t *text, size_t length, bool in_table, 
 struct mds_text mds_scan_link_label(const uint8_t *text, size_t length, bool in_table, uint8_t *buffer, size_t capacity);
 
 /* Whether two labels, as mds_scan_link_label writes them, match, so that the one refers to what the other defines:
- * MDS_OK or MDS_NOTHING. They do where their full case foldings are equal. MDS_NOT_UTF8, MDS_NO_MEMORY: memory is
- * asked for. (6.3) */
+ * MDS_OK or MDS_NOTHING. They do where their full case foldings are equal. MDS_NOT_UTF8. (6.3) */
 uint32_t mds_labels_match(const uint8_t *one, size_t one_length, const uint8_t *other, size_t other_length);
 
 #ifdef __cplusplus

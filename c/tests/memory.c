@@ -1,7 +1,7 @@
 /* Memory refused: of each call that asks for it, the first, second, .. request is refused until none is left. The call
  * then answers MDS_NO_MEMORY and leaves the buffers as they were, or has its answer without that room ahead; and it frees
- * what it was given. Calls that take
- * none make no request. The linker puts the functions __wrap_.. in the place of the C library's (--wrap). */
+ * what it was given. Calls that take none make no request. The linker puts the functions __wrap_.. in the place of the C
+ * library's (--wrap). */
 #include "markdown_scanners.h"
 
 #include <stdio.h>
@@ -128,13 +128,13 @@ static void run(const char *name, uint32_t (*call)(void), bool asks) {
 int main(void) {
     run("mds_unescape", unescape, true);
     run("mds_scan_link_label", label, true);
-    run("mds_labels_match", match, true);
     run("mds_scan_table_head", table, true);
     run("mds_run_inline_html", html_run, true);
     run("mds_run_line", line_run, true);
     run("mds_unescape of what stays", plain_text, false);
     run("mds_scan_link_label of what stands there", plain_label, false);
     run("mds_scan_link_label of none", no_label, false);
+    run("mds_labels_match", match, false);
     run("mds_scan_entity", entity, false);
     run("mds_scan_html_tag", tag, false);
     printf("memory: %d passed, %d failed\n", passed, failed);

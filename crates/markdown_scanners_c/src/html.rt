@@ -1,5 +1,5 @@
 //! HTML blocks, tags and inline HTML.
-ghost use Rattle.std.specs.Prelude.{◌≡◌, ◌↔◌, ◌⊎◌, ℕ, List, None, Some, IsTrue};
+ghost use Rattle.std.specs.Prelude.{◌≡◌, ◌≢◌, ◌↔◌, ◌⊎◌, ℕ, List, None, Some, IsTrue};
 ghost use Rattle.markdown_scanners_tree.specs.Kept.{KeptByte};
 ghost use Rattle.markdown_scanners_tree.specs.inline_html.InlineHtml.{find_at, opener_before};
 ghost use Rattle.markdown_scanners_tree.specs.scanners.HtmlBlock.{IsBlockStart};
@@ -54,7 +54,8 @@ pub struct End {
 #[unsafe(no_mangle)]
 pub extern "C" fn mds_scan_inline_html(bytes: &[u8], place: usize) -> End
     ensures { ((result.status ≡ no_opener) × (opener_before bytes.now place ≡ None))
-        ⊎ ((result.status ≡ nothing) × (find_at bytes.now place ≡ None))
+        ⊎ ((result.status ≡ nothing) × (opener_before bytes.now place ≢ None)
+        × (find_at bytes.now place ≡ None))
         ⊎ ((result.status ≡ ok) × (find_at bytes.now place ≡ Some result.end)) }
 {
     match InlineHtmlRun::new(bytes).step(place) {

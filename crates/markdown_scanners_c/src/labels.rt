@@ -1,14 +1,14 @@
 //! Link labels.
-ghost use Rattle.std.specs.Prelude.{◌≡◌, ◌⊎◌, Some, IfOk};
+ghost use Rattle.std.specs.Prelude.{◌≡◌, ◌⊎◌, Some};
 ghost use Rattle.std.specs.Str.{IsUtf8};
 ghost use Rattle.markdown_scanners_c.specs.Labels.{IsLabelText, IsScannedLabel, match_status};
-ghost use Rattle.markdown_scanners_c.specs.Status.{not_utf8, no_memory};
+ghost use Rattle.markdown_scanners_c.specs.Status.{not_utf8};
 
 use crate::status::{NO_MEMORY, NOT_UTF8, NOTHING, OK};
 use crate::texts::{Text, no_text, write_text};
 use markdown_scanners_tree::linklabel::{LinkLabel, scan_link_label_rest};
 use markdown_values::strings::CowStr;
-use std::alloc::{AllocError, Global};
+use std::alloc::Global;
 
 /// `mds_scan_link_label`
 #[unsafe(no_mangle)]
@@ -44,19 +44,19 @@ fn label_text(alloc: Global, text: &str, is_in_table: bool, buffer: &mut [u8]) -
 #[unsafe(no_mangle)]
 pub extern "C" fn mds_labels_match(alloc: Global, one: &[u8], other: &[u8]) -> u32
     ensures { ((result ≡ not_utf8) × ¬ (IsUtf8 one.now × IsUtf8 other.now))
-        ⊎ (IsUtf8 one.now × IsUtf8 other.now
-        × ((result ≡ no_memory) ⊎ (result ≡ match_status one.now other.now))) }
+        ⊎ (IsUtf8 one.now × IsUtf8 other.now × (result ≡ match_status one.now other.now)) }
 {
     match (str::from_utf8(one), str::from_utf8(other)) {
-        (Ok(one), Ok(other)) => match_of(alloc, one, other).unwrap_or(NO_MEMORY),
+        (Ok(one), Ok(other)) => match_of(alloc, one, other),
         _ => NOT_UTF8,
     }
 }
 
-fn match_of(alloc: Global, one: &str, other: &str) -> Result<u32, AllocError>
-    ensures { IfOk result (λ status. status ≡ match_status one.now other.now) }
+// A new label takes no memory, so that none is refused.
+fn match_of(alloc: Global, one: &str, other: &str) -> u32
+    ensures { result ≡ match_status one.now other.now }
 {
-    let one = LinkLabel::new(alloc, CowStr::from(one))?;
-    let other = LinkLabel::new(alloc, CowStr::from(other))?;
-    Ok(if one == other { OK } else { NOTHING })
+    let one = LinkLabel::new(alloc, CowStr::from(one)).unwrap();
+    let other = LinkLabel::new(alloc, CowStr::from(other)).unwrap();
+    if one == other { OK } else { NOTHING }
 }
