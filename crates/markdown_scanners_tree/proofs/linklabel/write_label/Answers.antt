@@ -78,9 +78,9 @@ loop-out-preserved-in-Space g c =
       at = after_space _ _ _ _ _ _ c.loop-out.invariant.at _ _ o next;
       pushed = c.loop-out.invariant.pushed;
       written = space_written _ _ _ _ _ _ _ _ _ o next c.loop-out.invariant.written;
-      same = c.loop-out.invariant.same ∙ flushed_out c.args.text.now (string_bytes c.loop-out.out) (take (c.loop-out.ix - c.loop-out.mark) (drop c.loop-out.mark c.args.text.now)) (string_bytes c.push_str-in-Space.new.self) (c.loop-out.ix + 1) (c.in_ok-push_str-in-Space.ensures.bytes ∙ ap (λ z. string_bytes c.loop-out.out ++ z) c.range-in-Space.ensures.value);
-      counts = omega (arith, c.loop-out.invariant.counts, c.in_ok-push_str-in-Space.ensures.len, c.range-in-Space.ensures.len, c.loop-out.invariant.behind);
-      room = omega (arith, c.loop-out.invariant.room, c.in_ok-push_str-in-Space.ensures.capacity);
+      same = c.loop-out.invariant.same ∙ flushed_out c.args.text.now (string_bytes c.loop-out.out) (take (c.loop-out.ix - c.loop-out.mark) (drop c.loop-out.mark c.args.text.now)) (string_bytes c.push_part.new.out) (c.loop-out.ix + 1) (c.in_ok-push_part-in-Space.ensures.bytes ∙ ap (λ z. string_bytes c.loop-out.out ++ z) c.range-in-Space.ensures.value);
+      counts = omega (arith, c.loop-out.invariant.counts, c.in_ok-push_part-in-Space.ensures.len, c.range-in-Space.ensures.len, c.loop-out.invariant.behind);
+      room = omega (arith, c.loop-out.invariant.room, c.in_ok-push_part-in-Space.ensures.capacity);
     }
 
 pub loop-out-preserved : goal.loop-out-preserved
@@ -140,9 +140,9 @@ pub returns-in_err-push_str-in-Ending-clause-fits : goal.returns-in_err-push_str
 returns-in_err-push_str-in-Ending-clause-fits g c = λ label l enough. absurd (no_room (string_len c.args.out.now) (string_capacity c.args.out.now) (string_len c.loop-out.out) (string_capacity c.loop-out.out) (length c.loop-out.invariant.pushed) (length label.text) (length c.range-in-Ending.result.now)
     enough c.loop-out.invariant.room (pushed_fits _ _ _ _ _ _ _ _ _ _ c.loop-out.invariant.at c.loop-out.invariant.written label l) (omega (arith, c.loop-out.invariant.counts, c.range-in-Ending.ensures.len, c.loop-out.invariant.behind)) c.in_err-push_str-in-Ending.ensures.full)
 
-pub returns-in_err-push_str-in-Space-clause-fits : goal.returns-in_err-push_str-in-Space-clause-fits
-returns-in_err-push_str-in-Space-clause-fits g c = λ label l enough. absurd (no_room (string_len c.args.out.now) (string_capacity c.args.out.now) (string_len c.loop-out.out) (string_capacity c.loop-out.out) (length c.loop-out.invariant.pushed) (length label.text) (length c.range-in-Space.result.now)
-    enough c.loop-out.invariant.room (pushed_fits _ _ _ _ _ _ _ _ _ _ c.loop-out.invariant.at c.loop-out.invariant.written label l) (omega (arith, c.loop-out.invariant.counts, c.range-in-Space.ensures.len, c.loop-out.invariant.behind)) c.in_err-push_str-in-Space.ensures.full)
+pub returns-in_err-push_part-in-Space-clause-fits : goal.returns-in_err-push_part-in-Space-clause-fits
+returns-in_err-push_part-in-Space-clause-fits g c = λ label l enough. absurd (no_room (string_len c.args.out.now) (string_capacity c.args.out.now) (string_len c.loop-out.out) (string_capacity c.loop-out.out) (length c.loop-out.invariant.pushed) (length label.text) (length c.range-in-Space.result.now)
+    enough c.loop-out.invariant.room (pushed_fits _ _ _ _ _ _ _ _ _ _ c.loop-out.invariant.at c.loop-out.invariant.written label l) (omega (arith, c.loop-out.invariant.counts, c.range-in-Space.ensures.len, c.loop-out.invariant.behind)) c.in_err-push_part-in-Space.ensures.full)
 
 pub returns-in_err-push_str-in-Word-clause-fits : goal.returns-in_err-push_str-in-Word-clause-fits
 returns-in_err-push_str-in-Word-clause-fits g c = λ label l enough.
