@@ -6,6 +6,7 @@ use Rattle.markdown_scanners_tree.specs.linklabel.Key.{label_key}
 use Rattle.markdown_scanners_tree.specs.linklabel.Label.{Label, IsLabel, HasNoLabel}
 use Rattle.markdown_scanners_c.specs.Buffer.{IsWritten}
 use Rattle.markdown_scanners_c.specs.Status.{ok, nothing, not_utf8, no_memory}
+use Rattle.markdown_scanners_c.specs.Texts.{IsNoText}
 use Rattle.markdown_scanners_c.specs.declared.texts.Text.{Text}
 
 -- nothing is skipped at the start of a line
@@ -16,9 +17,9 @@ SkipsNothing rest skip = skip ≡ 0
 -- as it is.
 unfoldable pub IsLabelText : Bool → List ℕ → List ℕ → List ℕ → Text → Type 0
 IsLabelText in_table bytes old new text =
-    ((text.status ≡ nothing) × (new ≡ old)
+    (IsNoText nothing text × (new ≡ old)
     × ((label : Label) → ¬ (IsLabel SkipsNothing bytes in_table label)))
-    ⊎ ((text.status ≡ no_memory) × (new ≡ old) × ¬ (HasNoLabel SkipsNothing bytes in_table)
+    ⊎ (IsNoText no_memory text × (new ≡ old) × ¬ (HasNoLabel SkipsNothing bytes in_table)
     × ((label : Label) → IsLabel SkipsNothing bytes in_table label → label.plain ≢ true))
     ⊎ ((label : Label) × IsLabel SkipsNothing bytes in_table label × (text.taken ≡ label.len)
     × IsWritten label.text old new text.status text.length)
@@ -26,7 +27,7 @@ IsLabelText in_table bytes old new text =
 -- The bytes are no text; or they are one, and its label is told.
 abbrev pub IsScannedLabel : Bool → List ℕ → List ℕ → List ℕ → Text → Type 0
 IsScannedLabel in_table bytes old new text =
-    ((text.status ≡ not_utf8) × ¬ (IsUtf8 bytes) × (new ≡ old))
+    (IsNoText not_utf8 text × ¬ (IsUtf8 bytes) × (new ≡ old))
     ⊎ (IsUtf8 bytes × IsLabelText in_table bytes old new text)
 
 -- whether two labels have one key, as a status

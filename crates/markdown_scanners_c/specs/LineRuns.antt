@@ -52,10 +52,15 @@ AreWritten made left old_answers new_answers old_rest new_rest done status =
     × ((length old_answers < length made) ⊎ (length old_rest < length left))
     × (new_answers ≡ old_answers) × (new_rest ≡ old_rest))
 
+-- a status, and no run
+abbrev pub IsNoRun : ℕ → LineEnds → Type 0
+IsNoRun status ends =
+    (ends.status ≡ status) × (ends.count ≡ 0) × (ends.scanned ≡ 0) × (ends.rest ≡ 0)
+
 -- Memory was refused; or what a run made and left is told and written.
 unfoldable pub IsMadeRun : List ℕ → Run → List Answer → List Answer → List ℕ → List ℕ → LineEnds → Type 0
 IsMadeRun bytes run old_answers new_answers old_rest new_rest ends =
-    ((ends.status ≡ no_memory) × (new_answers ≡ old_answers) × (new_rest ≡ old_rest))
+    (IsNoRun no_memory ends × (new_answers ≡ old_answers) × (new_rest ≡ old_rest))
     ⊎ ((ends.count ≡ length (map answer_of run.answers)) × (ends.scanned ≡ scanned_after bytes run)
     × (ends.rest ≡ length (rest_after bytes run))
     × AreWritten (map answer_of run.answers) (rest_after bytes run)
@@ -64,7 +69,7 @@ IsMadeRun bytes run old_answers new_answers old_rest new_rest ends =
 -- A call is of no known kind; or the run is made.
 abbrev pub IsLineRun : List ℕ → List Call → List Answer → List Answer → List ℕ → List ℕ → LineEnds → Type 0
 IsLineRun bytes calls old_answers new_answers old_rest new_rest ends =
-    ((ends.status ≡ bad_kind) × (list_all is_known calls ≡ false)
+    (IsNoRun bad_kind ends × (list_all is_known calls ≡ false)
     × (new_answers ≡ old_answers) × (new_rest ≡ old_rest))
     ⊎ ((list_all is_known calls ≡ true)
     × IsMadeRun bytes (plain_run bytes (map line_call calls))

@@ -5,6 +5,7 @@ use Rattle.markdown_values.specs.declared.values.Alignment.TheVariants as Aligne
 use Rattle.markdown_scanners_tree.specs.scanners.Tables.{IsDelimiterRow, NoDelimiterRow}
 use Rattle.markdown_scanners_c.specs.Buffer.{IsWritten}
 use Rattle.markdown_scanners_c.specs.Status.{nothing, no_memory}
+use Rattle.markdown_scanners_c.specs.Texts.{IsNoText}
 use Rattle.markdown_scanners_c.specs.declared.texts.Text.{Text}
 
 -- the number of an alignment, as of `enum mds_alignment`
@@ -17,7 +18,7 @@ alignment_number Aligned.Right = 3
 -- No delimiter row at the front; or one, whose alignments are written; or memory was refused.
 unfoldable pub IsTableHead : List ℕ → List ℕ → List ℕ → Text → Type 0
 IsTableHead bytes old new head =
-    ((head.status ≡ nothing) × (new ≡ old) × NoDelimiterRow bytes)
-    ⊎ ((head.status ≡ no_memory) × (new ≡ old))
+    (IsNoText nothing head × (new ≡ old) × NoDelimiterRow bytes)
+    ⊎ (IsNoText no_memory head × (new ≡ old))
     ⊎ ((alignments : List Alignment) × IsDelimiterRow bytes head.taken alignments
     × IsWritten (map alignment_number alignments) old new head.status head.length)

@@ -14,7 +14,8 @@ IsTextFault bytes place status =
     ⊎ ((status ≡ not_utf8) × (place ≤ length bytes) × ¬ (IsUtf8 bytes))
     ⊎ ((status ≡ not_boundary) × (place ≤ length bytes) × IsUtf8 bytes × ¬ (IsCharBoundary bytes place))
 
--- What a call comes to that is given a text and a place in it: a fault of these, or what the text has there.
-abbrev pub IsAnswerAt : List ℕ → ℕ → ℕ → Type 0 → Type 0
-IsAnswerAt bytes place status Answered =
-    IsTextFault bytes place status ⊎ (IsTextPlace bytes place × Answered)
+-- What a call comes to that is given a text and a place in it: one of these faults is told, or what the text has there.
+abbrev pub IsAnswerAt : List ℕ → ℕ → (ℕ → Type 0) → Type 0 → Type 0
+IsAnswerAt bytes place IsTold Answered =
+    ((status : ℕ) × IsTold status × IsTextFault bytes place status)
+    ⊎ (IsTextPlace bytes place × Answered)

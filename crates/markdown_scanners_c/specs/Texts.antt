@@ -9,11 +9,15 @@ use Rattle.markdown_scanners_c.specs.EntityTexts.{entity_text}
 use Rattle.markdown_scanners_c.specs.Status.{empty, nothing, not_utf8, no_memory}
 use Rattle.markdown_scanners_c.specs.declared.texts.Text.{Text}
 
+-- a status, and no text
+abbrev pub IsNoText : ℕ → Text → Type 0
+IsNoText status text = (text.status ≡ status) × (text.taken ≡ 0) × (text.length ≡ 0)
+
 -- No bytes; or no character reference at their front; or one, whose text is written.
 unfoldable pub IsReferenceText : List ℕ → List ℕ → List ℕ → Text → Type 0
 IsReferenceText bytes old new text =
-    ((text.status ≡ empty) × (bytes ≡ []) × (new ≡ old))
-    ⊎ ((text.status ≡ nothing) × (0 < length bytes) × (new ≡ old)
+    (IsNoText empty text × (bytes ≡ []) × (new ≡ old))
+    ⊎ (IsNoText nothing text × (0 < length bytes) × (new ≡ old)
     × ((n : ℕ) (meaning : List ℕ) → ¬ (StartsWithReference entity_text bytes n meaning)))
     ⊎ ((meaning : List ℕ) × StartsWithReference entity_text bytes text.taken meaning
     × IsWritten meaning old new text.status text.length)
@@ -22,11 +26,11 @@ IsReferenceText bytes old new text =
 unfoldable pub IsMeaningText : Bool → List ℕ → List ℕ → List ℕ → Text → Type 0
 IsMeaningText in_table bytes old new text =
     (pieces : List Piece) × ArePieces in_table entity_text bytes pieces
-    × (IsWritten (joined_meanings pieces) old new text.status text.length
-    ⊎ ((text.status ≡ no_memory) × (new ≡ old) × ¬ (AreThemselves pieces)))
+    × (((text.taken ≡ length bytes) × IsWritten (joined_meanings pieces) old new text.status text.length)
+    ⊎ (IsNoText no_memory text × (new ≡ old) × ¬ (AreThemselves pieces)))
 
 -- The bytes are no text; or they are one, and what it means is written.
 abbrev pub IsUnescapedText : Bool → List ℕ → List ℕ → List ℕ → Text → Type 0
 IsUnescapedText in_table bytes old new text =
-    ((text.status ≡ not_utf8) × ¬ (IsUtf8 bytes) × (new ≡ old))
+    (IsNoText not_utf8 text × ¬ (IsUtf8 bytes) × (new ≡ old))
     ⊎ (IsUtf8 bytes × IsMeaningText in_table bytes old new text)

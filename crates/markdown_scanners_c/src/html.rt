@@ -53,9 +53,10 @@ pub struct End {
 /// `mds_scan_inline_html`
 #[unsafe(no_mangle)]
 pub extern "C" fn mds_scan_inline_html(bytes: &[u8], place: usize) -> End
-    ensures { ((result.status ≡ no_opener) × (opener_before bytes.now place ≡ None))
-        ⊎ ((result.status ≡ nothing) × (opener_before bytes.now place ≢ None)
-        × (find_at bytes.now place ≡ None))
+    ensures { ((result.status ≡ no_opener) × (result.end ≡ 0)
+        × (opener_before bytes.now place ≡ None))
+        ⊎ ((result.status ≡ nothing) × (result.end ≡ 0)
+        × (opener_before bytes.now place ≢ None) × (find_at bytes.now place ≡ None))
         ⊎ ((result.status ≡ ok) × (find_at bytes.now place ≡ Some result.end)) }
 {
     match InlineHtmlRun::new(bytes).step(place) {

@@ -2,7 +2,7 @@
 ghost use Rattle.std.specs.Prelude.{◌≡◌, ◌≤◌, ◌+◌, ℕ, List, drop, take, length, IfOk, IfErr, IfSome, IfNone};
 ghost use Rattle.std.specs.Str.{IsCharBoundary};
 ghost use Rattle.markdown_scanners_tree.specs.scanners.links.LinkDestination.{IsLinkDestination};
-ghost use Rattle.markdown_scanners_c.specs.Parts.{IsUriPart, IsPipePart, IsDestinationPart};
+ghost use Rattle.markdown_scanners_c.specs.Parts.{IsNoPart, IsUriPart, IsPipePart, IsDestinationPart};
 ghost use Rattle.markdown_scanners_c.specs.TextPlace.{IsTextPlace, IsTextFault, IsAnswerAt};
 
 use crate::status::{NOT_BOUNDARY, NOT_UTF8, NOTHING, OK, PAST_END};
@@ -37,7 +37,7 @@ pub(crate) fn text_at(bytes: &[u8], place: usize) -> Result<&str, u32>
 
 // No part, but a status.
 fn no_part(status: u32) -> Part
-    ensures { result.status ≡ status }
+    ensures { IsNoPart status result }
 {
     Part {
         status,
@@ -50,7 +50,7 @@ fn no_part(status: u32) -> Part
 /// `mds_scan_link_dest`
 #[unsafe(no_mangle)]
 pub extern "C" fn mds_scan_link_dest(text: &[u8], start: usize, max_next: usize) -> Part
-    ensures { IsAnswerAt text.now start result.status
+    ensures { IsAnswerAt text.now start (λ status. IsNoPart status result)
         (IsDestinationPart (max_next + 1) text.now start result) }
 {
     match text_at(text, start) {
@@ -59,7 +59,7 @@ pub extern "C" fn mds_scan_link_dest(text: &[u8], start: usize, max_next: usize)
     }
 }
 
-#[tactic(auto, using(crate::proofs::Destinations::destination_in_text), unfolding(crate::specs::Parts::IsDestinationPart))]
+#[tactic(auto, using(crate::proofs::Destinations::destination_in_text, crate::proofs::Destinations::bytes_of_destination), unfolding(crate::specs::Parts::IsDestinationPart))]
 fn destination_part(text: &str, start: usize, max_next: usize) -> Part
     requires { IsCharBoundary text.now start }
     ensures { IsDestinationPart (max_next + 1) text.now start result }
@@ -80,7 +80,8 @@ fn destination_part(text: &str, start: usize, max_next: usize) -> Part
 /// `mds_scan_autolink`
 #[unsafe(no_mangle)]
 pub extern "C" fn mds_scan_autolink(text: &[u8], start: usize) -> Part
-    ensures { IsAnswerAt text.now start result.status (IsUriPart text.now start result) }
+    ensures { IsAnswerAt text.now start (λ status. IsNoPart status result)
+        (IsUriPart text.now start result) }
 {
     match text_at(text, start) {
         Ok(text) => uri_part(text, start),
@@ -107,7 +108,8 @@ fn uri_part(text: &str, start: usize) -> Part
 /// `mds_scan_wikilink_pipe`
 #[unsafe(no_mangle)]
 pub extern "C" fn mds_scan_wikilink_pipe(text: &[u8], start: usize, count: usize) -> Part
-    ensures { IsAnswerAt text.now start result.status (IsPipePart text.now start count result) }
+    ensures { IsAnswerAt text.now start (λ status. IsNoPart status result)
+        (IsPipePart text.now start count result) }
 {
     match text_at(text, start) {
         Ok(text) => pipe_part(text, start, count),

@@ -2,7 +2,7 @@
 ghost use Rattle.std.specs.Prelude.{◌≡◌, length, map, IfOk};
 ghost use Rattle.std.specs.List.{list_all};
 ghost use Rattle.markdown_scanners_tree.specs.line.run.PlainRun.{plain_run, stop_at, rest_after, scanned_after};
-ghost use Rattle.markdown_scanners_c.specs.LineRuns.{is_known, line_call, answer_of, run_status, AreWritten, IsMadeRun, IsLineRun};
+ghost use Rattle.markdown_scanners_c.specs.LineRuns.{IsNoRun, is_known, line_call, answer_of, run_status, AreWritten, IsMadeRun, IsLineRun};
 
 use crate::status::{BAD_KIND, NO_MEMORY, OK, SPACE_PENDING, TOO_LARGE, TOO_SHORT};
 use markdown_scanners_tree::line::{LineAnswer, LineCall, LineRun, LineStop, run_line};
@@ -36,7 +36,7 @@ pub struct LineEnds {
 }
 
 fn no_run(status: u32) -> LineEnds
-    ensures { result.status ≡ status }
+    ensures { IsNoRun status result }
 {
     LineEnds {
         status,

@@ -123,7 +123,8 @@ pub struct Indent {
 pub extern "C" fn mds_calc_indent(bytes: &[u8], max: usize) -> Indent
     ensures { ((result.status ≡ ok) × (max ≤ usize.MAX / 4)
         × IsIndent bytes.now max result.place result.columns)
-        ⊎ ((result.status ≡ too_large) × (usize.MAX / 4 < max)) }
+        ⊎ ((result.status ≡ too_large) × (result.place ≡ 0) × (result.columns ≡ 0)
+        × (usize.MAX / 4 < max)) }
 {
     if max > usize::MAX / 4 {
         return Indent {

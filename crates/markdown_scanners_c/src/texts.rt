@@ -1,7 +1,7 @@
 //! Texts that references and escapes stand for, written into a buffer of the caller's.
 ghost use Rattle.std.specs.Prelude.{◌≡◌, length};
 ghost use Rattle.markdown_scanners_c.specs.Buffer.{IsWritten};
-ghost use Rattle.markdown_scanners_c.specs.Texts.{IsReferenceText, IsMeaningText, IsUnescapedText};
+ghost use Rattle.markdown_scanners_c.specs.Texts.{IsNoText, IsReferenceText, IsMeaningText, IsUnescapedText};
 
 use crate::status::{EMPTY, NO_MEMORY, NOT_UTF8, NOTHING, OK, TOO_SHORT};
 use markdown_scanners_tree::scanners::{Entities, scan_entity, unescape};
@@ -42,7 +42,7 @@ pub struct Text {
 
 /// No text, but a status.
 pub(crate) fn no_text(status: u32) -> Text
-    ensures { result.status ≡ status }
+    ensures { IsNoText status result }
 {
     Text {
         status,

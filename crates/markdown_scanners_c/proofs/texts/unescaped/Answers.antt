@@ -16,7 +16,7 @@ returns-in-Ok c =
     let means : cow_text c.in-Ok.meaning ≡ joined_meanings pieces.0 = c.in-Ok.ensures.text pieces.0 pieces.1 in
     let same : c.as_bytes.result.now ≡ joined_meanings pieces.0 = c.as_bytes.ensures.value ∙ (c.as_str.ensures ∙ means) in
     let w = c.write_text in
-    (pieces.0, are, inl (subst (λ t. IsWritten t c.args.buffer.now w.new.buffer w.result.status w.result.length) same w.ensures.written))
+    (pieces.0, are, inl (w.ensures.taken, subst (λ t. IsWritten t c.args.buffer.now w.new.buffer w.result.status w.result.length) same w.ensures.written))
 
 pub returns-in-Err : goal.returns-in-Err
 unfolding IsMeaningText
