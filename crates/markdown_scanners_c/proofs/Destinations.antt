@@ -43,3 +43,6 @@ bytes_of_destination most start taken text destination fits (inl pointed) =
     inr (omega (arith, (pointed_front start taken text destination fits pointed).0, pointed.with_brackets))
 bytes_of_destination most start taken text destination fits (inr bare) =
     inl (sym (bare_front most start taken text destination fits bare).0)
+
+-- where a destination stands, and how many bytes it takes
+pub ruleset destinations = (destination_in_text, bytes_of_destination)

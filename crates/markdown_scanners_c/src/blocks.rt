@@ -12,7 +12,7 @@ use markdown_scanners_tree::scanners::{
     scan_hrule, scan_metadata_block, scan_setext_heading,
 };
 
-/// `mds_scan_hrule`
+/// The length of the thematic break's line at the front, or `NONE`. (CommonMark 0.31.2, section 4.1)
 #[unsafe(no_mangle)]
 pub extern "C" fn mds_scan_hrule(bytes: &[u8]) -> usize
     ensures { FoundExactly (IsThematicBreakLine bytes.now) result result }
@@ -20,7 +20,7 @@ pub extern "C" fn mds_scan_hrule(bytes: &[u8]) -> usize
     scan_hrule(bytes).unwrap_or(NONE)
 }
 
-/// `mds_scan_atx_heading`
+/// The level of the ATX heading at the front, or 0. (CommonMark 0.31.2, section 4.2)
 #[unsafe(no_mangle)]
 pub extern "C" fn mds_scan_atx_heading(bytes: &[u8]) -> u32
     ensures { FoundLevel (IsAtxHeading bytes.now) result }
@@ -31,14 +31,14 @@ pub extern "C" fn mds_scan_atx_heading(bytes: &[u8]) -> u32
     }
 }
 
-/// `struct mds_underline`
+/// `struct mds_underline` of C: the bytes of an underline's line, or `NONE`, and its level.
 #[repr(C)]
 pub struct Underline {
     pub length: usize,
     pub level: u32,
 }
 
-/// `mds_scan_setext_heading`
+/// The setext heading underline at the front. (CommonMark 0.31.2, section 4.3)
 #[unsafe(no_mangle)]
 pub extern "C" fn mds_scan_setext_heading(bytes: &[u8]) -> Underline
     ensures { FoundWithLevel (IsSetextUnderline bytes.now) result.length result.level }
@@ -55,14 +55,14 @@ pub extern "C" fn mds_scan_setext_heading(bytes: &[u8]) -> Underline
     }
 }
 
-/// `struct mds_fence`
+/// `struct mds_fence` of C: how many bytes a fence has, or `NONE`, and which.
 #[repr(C)]
 pub struct Fence {
     pub length: usize,
     pub byte: u8,
 }
 
-/// `mds_scan_code_fence`
+/// The opening code fence at the front. (CommonMark 0.31.2, section 4.5)
 #[unsafe(no_mangle)]
 pub extern "C" fn mds_scan_code_fence(bytes: &[u8]) -> Fence
     ensures { FoundExactly (λ (r : ℕ × ℕ). IsCodeFence bytes.now r.0 r.1)
@@ -77,7 +77,7 @@ pub extern "C" fn mds_scan_code_fence(bytes: &[u8]) -> Fence
     }
 }
 
-/// `mds_scan_closing_code_fence`
+/// The length of the closing code fence at the front, or `NONE`. (CommonMark 0.31.2, section 4.5)
 #[unsafe(no_mangle)]
 pub extern "C" fn mds_scan_closing_code_fence(bytes: &[u8], fence: u8, count: usize) -> usize
     ensures { FoundExactly (IsClosingCodeFence bytes.now fence count) result result }
@@ -85,7 +85,7 @@ pub extern "C" fn mds_scan_closing_code_fence(bytes: &[u8], fence: u8, count: us
     scan_closing_code_fence(bytes, fence, count).unwrap_or(NONE)
 }
 
-/// `mds_scan_metadata_block`
+/// The opening line of a metadata block that a later line closes.
 #[unsafe(no_mangle)]
 pub extern "C" fn mds_scan_metadata_block(bytes: &[u8], yaml: bool, pluses: bool) -> Fence
     ensures found { FoundExactly (λ (r : ℕ × ℕ). IsMetadataBlock bytes.now yaml pluses r.1)
@@ -101,7 +101,7 @@ pub extern "C" fn mds_scan_metadata_block(bytes: &[u8], yaml: bool, pluses: bool
     }
 }
 
-/// `mds_scan_closing_metadata_block`
+/// The length of the line that closes a metadata block, or `NONE`.
 #[unsafe(no_mangle)]
 pub extern "C" fn mds_scan_closing_metadata_block(bytes: &[u8], fence: u8) -> usize
     ensures { FoundExactly (IsClosingMetadataBlock bytes.now fence) result result }

@@ -15,7 +15,7 @@ use markdown_scanners_tree::scanners::{
 };
 use std::alloc::Global;
 
-/// `mds_starts_html_block`
+/// Whether the bytes behind a `<` begin an HTML block by a name. (CommonMark 0.31.2, section 4.6, start condition 6)
 #[unsafe(no_mangle)]
 pub extern "C" fn mds_starts_html_block_type_6(bytes: &[u8]) -> bool
     ensures { IsTrue result ↔ IsBlockStart bytes.now }
@@ -23,7 +23,7 @@ pub extern "C" fn mds_starts_html_block_type_6(bytes: &[u8]) -> bool
     starts_html_block_type_6(bytes)
 }
 
-/// `mds_scan_html_type_7`
+/// The length of the tag that stands alone in its line, or `NONE`. (CommonMark 0.31.2, section 4.6, start condition 7)
 #[unsafe(no_mangle)]
 pub extern "C" fn mds_scan_html_type_7(bytes: &[u8]) -> usize
     ensures { FoundExactly (IsTagAloneInLine bytes.now) result result }
@@ -31,7 +31,7 @@ pub extern "C" fn mds_scan_html_type_7(bytes: &[u8]) -> usize
     scan_html_type_7(bytes).unwrap_or(NONE)
 }
 
-/// `mds_scan_html_tag`
+/// The length of the tag at the front, in one line, or `NONE`. (CommonMark 0.31.2, section 6.6)
 #[unsafe(no_mangle)]
 pub extern "C" fn mds_scan_html_tag(alloc: Global, bytes: &[u8]) -> usize
     ensures { FoundExactly (λ n. (tag : List KeptByte)
@@ -43,14 +43,14 @@ pub extern "C" fn mds_scan_html_tag(alloc: Global, bytes: &[u8]) -> usize
     }
 }
 
-/// `struct mds_end`
+/// `struct mds_end` of C: a place, where the status is `OK`.
 #[repr(C)]
 pub struct End {
     pub status: u32,
     pub end: usize,
 }
 
-/// `mds_scan_inline_html`
+/// The end of what a `<!` or `<?` that ends at the place begins. (CommonMark 0.31.2, section 6.6)
 #[unsafe(no_mangle)]
 pub extern "C" fn mds_scan_inline_html(bytes: &[u8], place: usize) -> End
     ensures { ((result.status ≡ no_opener) × (result.end ≡ 0)

@@ -8,7 +8,7 @@ ghost use Rattle.markdown_scanners_c.specs.TextPlace.{IsTextPlace, IsTextFault, 
 use crate::status::{NOT_BOUNDARY, NOT_UTF8, NOTHING, OK, PAST_END};
 use markdown_scanners_tree::scanners::{scan_autolink, scan_link_dest, scan_wikilink_pipe};
 
-/// `struct mds_part`
+/// `struct mds_part` of C: a part of a text, in bytes from its front, where the status is `OK`.
 #[repr(C)]
 pub struct Part {
     pub status: u32,
@@ -47,7 +47,7 @@ fn no_part(status: u32) -> Part
     }
 }
 
-/// `mds_scan_link_dest`
+/// The link destination that begins at the place. (CommonMark 0.31.2, section 6.3)
 #[unsafe(no_mangle)]
 pub extern "C" fn mds_scan_link_dest(text: &[u8], start: usize, max_next: usize) -> Part
     ensures { IsAnswerAt text.now start (λ status. IsNoPart status result)
@@ -59,7 +59,7 @@ pub extern "C" fn mds_scan_link_dest(text: &[u8], start: usize, max_next: usize)
     }
 }
 
-#[tactic(auto, using(crate::proofs::Destinations::destination_in_text, crate::proofs::Destinations::bytes_of_destination), unfolding(crate::specs::Parts::IsDestinationPart))]
+#[tactic(auto, using(crate::proofs::Destinations::destinations), unfolding(crate::specs::Parts::IsDestinationPart))]
 fn destination_part(text: &str, start: usize, max_next: usize) -> Part
     requires { IsCharBoundary text.now start }
     ensures { IsDestinationPart (max_next + 1) text.now start result }
@@ -77,7 +77,7 @@ fn destination_part(text: &str, start: usize, max_next: usize) -> Part
     }
 }
 
-/// `mds_scan_autolink`
+/// The URI of the autolink whose `<` stands before the place. (CommonMark 0.31.2, section 6.5)
 #[unsafe(no_mangle)]
 pub extern "C" fn mds_scan_autolink(text: &[u8], start: usize) -> Part
     ensures { IsAnswerAt text.now start (λ status. IsNoPart status result)
@@ -105,7 +105,7 @@ fn uri_part(text: &str, start: usize) -> Part
     }
 }
 
-/// `mds_scan_wikilink_pipe`
+/// What stands before the first pipe of so many bytes.
 #[unsafe(no_mangle)]
 pub extern "C" fn mds_scan_wikilink_pipe(text: &[u8], start: usize, count: usize) -> Part
     ensures { IsAnswerAt text.now start (λ status. IsNoPart status result)

@@ -10,7 +10,7 @@ use markdown_scanners_tree::linklabel::{LinkLabel, scan_link_label_rest};
 use markdown_values::strings::CowStr;
 use std::alloc::Global;
 
-/// `mds_scan_link_label`
+/// Writes the link label whose bracket stands before the text. (CommonMark 0.31.2, section 6.3)
 #[unsafe(no_mangle)]
 pub extern "C" fn mds_scan_link_label(
     alloc: Global,
@@ -40,7 +40,7 @@ fn label_text(alloc: Global, text: &str, is_in_table: bool, buffer: &mut [u8]) -
     }
 }
 
-/// `mds_labels_match`
+/// Whether two labels have one key. (CommonMark 0.31.2, section 6.3)
 #[unsafe(no_mangle)]
 pub extern "C" fn mds_labels_match(alloc: Global, one: &[u8], other: &[u8]) -> u32
     ensures { ((result ≡ not_utf8) × ¬ (IsUtf8 one.now × IsUtf8 other.now))

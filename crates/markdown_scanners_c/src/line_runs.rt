@@ -8,7 +8,7 @@ use crate::status::{BAD_KIND, NO_MEMORY, OK, SPACE_PENDING, TOO_LARGE, TOO_SHORT
 use markdown_scanners_tree::line::{LineAnswer, LineCall, LineRun, LineStop, run_line};
 use std::alloc::{AllocError, Global};
 
-/// `struct mds_line_call`
+/// `struct mds_line_call` of C: a call on a line start, and its number.
 #[repr(C)]
 #[derive(Clone, Copy)]
 pub struct Call {
@@ -16,7 +16,7 @@ pub struct Call {
     pub number: usize,
 }
 
-/// `struct mds_line_answer`
+/// `struct mds_line_answer` of C: the answer of such a call.
 #[repr(C)]
 #[derive(Clone, Copy)]
 pub struct Answer {
@@ -26,7 +26,7 @@ pub struct Answer {
     pub number: usize,
 }
 
-/// `struct mds_line_run`
+/// `struct mds_line_run` of C: how far a run came, in calls and bytes.
 #[repr(C)]
 pub struct LineEnds {
     pub status: u32,
@@ -46,7 +46,7 @@ fn no_run(status: u32) -> LineEnds
     }
 }
 
-/// `mds_run_line`
+/// Makes calls on a line in turn, and writes their answers and what is left of it. (CommonMark 0.31.2, section 2.2)
 #[unsafe(no_mangle)]
 pub extern "C" fn mds_run_line(
     alloc: Global,

@@ -15,7 +15,7 @@ use markdown_scanners_tree::scanners::{
     scan_whitespace_no_nl,
 };
 
-/// `mds_is_whitespace`
+/// Space, tab, LF, VT, FF or CR. (CommonMark 0.31.2, section 2.1)
 #[unsafe(no_mangle)]
 pub extern "C" fn mds_is_whitespace(byte: u8) -> bool
     ensures { result ≡ is_white_space byte }
@@ -23,7 +23,7 @@ pub extern "C" fn mds_is_whitespace(byte: u8) -> bool
     is_ascii_whitespace(byte)
 }
 
-/// `mds_is_whitespace_in_line`
+/// White space that ends no line. (CommonMark 0.31.2, section 2.1)
 #[unsafe(no_mangle)]
 pub extern "C" fn mds_is_whitespace_in_line(byte: u8) -> bool
     ensures { result ≡ is_white_space_in_line byte }
@@ -31,7 +31,7 @@ pub extern "C" fn mds_is_whitespace_in_line(byte: u8) -> bool
     is_ascii_whitespace_no_nl(byte)
 }
 
-/// `mds_is_punctuation`
+/// An ASCII punctuation character. (CommonMark 0.31.2, section 2.1)
 #[unsafe(no_mangle)]
 pub extern "C" fn mds_is_punctuation(byte: u8) -> bool
     ensures { result ≡ is_punctuation byte }
@@ -39,7 +39,7 @@ pub extern "C" fn mds_is_punctuation(byte: u8) -> bool
     is_ascii_punctuation(byte)
 }
 
-/// `mds_scan_whitespace_in_line`
+/// How many bytes of white space that ends no line stand at the front.
 #[unsafe(no_mangle)]
 pub extern "C" fn mds_scan_whitespace_in_line(bytes: &[u8]) -> usize
     ensures { result ≡ prefix_len is_white_space_in_line bytes.now }
@@ -47,7 +47,7 @@ pub extern "C" fn mds_scan_whitespace_in_line(bytes: &[u8]) -> usize
     scan_whitespace_no_nl(bytes)
 }
 
-/// `mds_scan_eol`
+/// The length of the line ending at the front, or `NONE`. (CommonMark 0.31.2, section 2.1)
 #[unsafe(no_mangle)]
 pub extern "C" fn mds_scan_eol(bytes: &[u8]) -> usize
     ensures { FoundExactly (λ n. line_ending bytes.now ≡ Some n) result result }
@@ -55,7 +55,7 @@ pub extern "C" fn mds_scan_eol(bytes: &[u8]) -> usize
     scan_eol(bytes).unwrap_or(NONE)
 }
 
-/// `mds_scan_nextline`
+/// The place behind the first LF, or the length.
 #[unsafe(no_mangle)]
 pub extern "C" fn mds_scan_nextline(bytes: &[u8]) -> usize
     ensures { result ≡ next_line bytes.now }
@@ -63,7 +63,7 @@ pub extern "C" fn mds_scan_nextline(bytes: &[u8]) -> usize
     scan_nextline(bytes)
 }
 
-/// `mds_scan_blank_line`
+/// The length of the blank line at the front, or `NONE`. (CommonMark 0.31.2, section 2.1)
 #[unsafe(no_mangle)]
 pub extern "C" fn mds_scan_blank_line(bytes: &[u8]) -> usize
     ensures { FoundExactly (IsBlankLine bytes.now) result result }
@@ -71,7 +71,7 @@ pub extern "C" fn mds_scan_blank_line(bytes: &[u8]) -> usize
     scan_blank_line(bytes).unwrap_or(NONE)
 }
 
-/// `mds_scan_blockquote_start`
+/// The length of the block quote marker at the front, or `NONE`. (CommonMark 0.31.2, section 5.1)
 #[unsafe(no_mangle)]
 pub extern "C" fn mds_scan_blockquote_start(bytes: &[u8]) -> usize
     ensures { FoundExactly (IsBlockQuoteStart bytes.now) result result }
@@ -79,7 +79,7 @@ pub extern "C" fn mds_scan_blockquote_start(bytes: &[u8]) -> usize
     scan_blockquote_start(bytes).unwrap_or(NONE)
 }
 
-/// `struct mds_list_item`
+/// `struct mds_list_item` of C: a list item's marker, whose length is `NONE` where there is none.
 #[repr(C)]
 pub struct ListItem {
     pub length: usize,
@@ -88,7 +88,7 @@ pub struct ListItem {
     pub delimiter: u8,
 }
 
-/// `mds_scan_listitem`
+/// The list item that begins at the front. (CommonMark 0.31.2, section 5.2)
 #[unsafe(no_mangle)]
 pub extern "C" fn mds_scan_listitem(bytes: &[u8]) -> ListItem
     ensures { FoundExactly (λ (r : ℕ × ℕ × ℕ × ℕ). IsListItem bytes.now r.0 r.1 r.2 r.3)
@@ -110,7 +110,7 @@ pub extern "C" fn mds_scan_listitem(bytes: &[u8]) -> ListItem
     }
 }
 
-/// `struct mds_indent`
+/// `struct mds_indent` of C: columns, and the place of the last byte that was looked at.
 #[repr(C)]
 pub struct Indent {
     pub status: u32,
@@ -118,7 +118,7 @@ pub struct Indent {
     pub columns: usize,
 }
 
-/// `mds_calc_indent`
+/// The columns of spaces and tabs at the front, up to a limit. (CommonMark 0.31.2, section 2.2)
 #[unsafe(no_mangle)]
 pub extern "C" fn mds_calc_indent(bytes: &[u8], max: usize) -> Indent
     ensures { ((result.status ≡ ok) × (max ≤ usize.MAX / 4)

@@ -7,14 +7,14 @@ use crate::status::{INSIDE_FIND, NO_MEMORY, NO_OPENER, NONE, NOT_RISING, OK, TOO
 use markdown_scanners_tree::inline_html::{HtmlStop, run_inline_html};
 use std::alloc::{AllocError, Global};
 
-/// `struct mds_html_run`
+/// `struct mds_html_run` of C: how many ends a run found.
 #[repr(C)]
 pub struct HtmlEnds {
     pub status: u32,
     pub count: usize,
 }
 
-/// `mds_run_inline_html`
+/// Writes the ends of what begins at the places in turn. (CommonMark 0.31.2, section 6.6)
 #[unsafe(no_mangle)]
 pub extern "C" fn mds_run_inline_html(
     alloc: Global,

@@ -32,7 +32,7 @@ impl Entities for KnownEntities {
     }
 }
 
-/// `struct mds_text`
+/// `struct mds_text` of C: how many bytes a text stands for, and how many it has.
 #[repr(C)]
 pub struct Text {
     pub status: u32,
@@ -72,7 +72,7 @@ pub(crate) fn write_text(text: &[u8], taken: usize, buffer: &mut [u8]) -> Text
     }
 }
 
-/// `mds_scan_entity`
+/// Writes what the character reference at the front stands for. (CommonMark 0.31.2, section 2.5)
 #[tactic(auto, unfolding(crate::specs::Texts::IsReferenceText))]
 #[unsafe(no_mangle)]
 pub extern "C" fn mds_scan_entity(bytes: &[u8], buffer: &mut [u8]) -> Text
@@ -88,7 +88,7 @@ pub extern "C" fn mds_scan_entity(bytes: &[u8], buffer: &mut [u8]) -> Text
     }
 }
 
-/// `mds_unescape`
+/// Writes the text with its escapes and references resolved. (CommonMark 0.31.2, sections 2.4 and 2.5)
 #[unsafe(no_mangle)]
 pub extern "C" fn mds_unescape(
     alloc: Global,
