@@ -55,59 +55,9 @@ pub mod tree;
 pub use strings::{CowStr, InlineStr};
 mod loops;
 mod values;
-
-#[derive(Clone, Copy, Debug, PartialEq, Eq)]
-pub enum BlockQuoteKind {
-    Note,
-    Tip,
-    Important,
-    Warning,
-    Caution,
-}
-#[derive(Clone, Copy, Debug, PartialEq, Eq)]
-pub enum HeadingLevel {
-    H1 = 1,
-    H2,
-    H3,
-    H4,
-    H5,
-    H6,
-}
-impl TryFrom<usize> for HeadingLevel {
-    type Error = usize;
-    fn try_from(v: usize) -> Result<Self, usize> {
-        use HeadingLevel::*;
-        match v {
-            1 => Ok(H1),
-            2 => Ok(H2),
-            3 => Ok(H3),
-            4 => Ok(H4),
-            5 => Ok(H5),
-            6 => Ok(H6),
-            _ => Err(v),
-        }
-    }
-}
-#[derive(Clone, Copy, Debug, PartialEq)]
-pub enum Alignment {
-    None,
-    Left,
-    Center,
-    Right,
-}
-#[derive(Clone, Copy, Debug, PartialEq)]
-pub enum LinkType {
-    Inline,
-    Reference,
-    ReferenceUnknown,
-    Collapsed,
-    CollapsedUnknown,
-    Shortcut,
-    ShortcutUnknown,
-    Autolink,
-    Email,
-    WikiLink { has_pothole: bool },
-}
+// what the scanners answer; `build` copies it from `diff/original`
+mod answers;
+pub use answers::{Alignment, BlockQuoteKind, HeadingLevel, LinkType};
 
 macro_rules! export { ($($name:ident $f:ident),* $(,)?) => { $(
     #[no_mangle]

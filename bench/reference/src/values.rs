@@ -143,7 +143,8 @@ fn flat(nodes: usize) -> u64 {
     }
     sum
 }
-fn nested(nodes: usize) -> u64 {
+/// Nodes eight deep, and the sum of their indices.
+fn nested_tree(nodes: usize) -> (Tree<Item>, u64) {
     let mut tree: Tree<Item> = Tree::with_capacity(128);
     let mut sum: u64 = 0;
     for n in 0..nodes {
@@ -156,6 +157,10 @@ fn nested(nodes: usize) -> u64 {
             tree.push();
         }
     }
+    (tree, sum)
+}
+fn nested(nodes: usize) -> u64 {
+    let (mut tree, sum) = nested_tree(nodes);
     sum.wrapping_add(walked(&mut tree, nodes))
 }
 fn walked(tree: &mut Tree<Item>, nodes: usize) -> u64 {
@@ -225,25 +230,11 @@ pub fn static_lent(text: &[u8], at: &[usize], rounds: usize) -> u64 {
     }
     sum
 }
-fn nested_tree(nodes: usize) -> Tree<Item> {
-    let mut tree: Tree<Item> = Tree::with_capacity(128);
-    for n in 0..nodes {
-        tree.append(nth_item(n));
-        if n % 8 == 7 {
-            for _ in 0..7 {
-                tree.pop();
-            }
-        } else if tree.cur().is_some() {
-            tree.push();
-        }
-    }
-    tree
-}
 #[inline(never)]
 pub fn tree_walk(_text: &[u8], at: &[usize], rounds: usize) -> u64 {
     let mut sum: u64 = 0;
     for n in at {
-        let mut tree = nested_tree(*n);
+        let (mut tree, _) = nested_tree(*n);
         for _ in 0..rounds {
             sum = sum.wrapping_add(walked(&mut tree, *n));
         }
