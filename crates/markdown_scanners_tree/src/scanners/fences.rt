@@ -12,29 +12,29 @@ use memchr::memchr2;
 ///
 /// What follows the fence in its line, the info string, is not looked at but for backticks after
 /// a fence of backticks, and a CR does not end that line. (CommonMark 0.31.2, section 4.5.)
-pub fn scan_code_fence(data: &[u8]) -> Option<(usize, u8)>
-    ensures found { SomeExactly (λ r. IsCodeFence «data».now r.0 r.1) result }
-    ensures within { IfSome result (λ r. r.0 ≤ length «data».now) }
+pub fn scan_code_fence(bytes: &[u8]) -> Option<(usize, u8)>
+    ensures found { SomeExactly (λ r. IsCodeFence bytes.now r.0 r.1) result }
+    ensures within { IfSome result (λ r. r.0 ≤ length bytes.now) }
 {
-    match data {
-        [b'`', ..] => scan_fence_of(data, b'`'),
-        [b'~', ..] => scan_fence_of(data, b'~'),
+    match bytes {
+        [b'`', ..] => scan_fence_of(bytes, b'`'),
+        [b'~', ..] => scan_fence_of(bytes, b'~'),
         _ => None,
     }
 }
 
 // The same, where the first byte is known.
-fn scan_fence_of(data: &[u8], byte: u8) -> Option<(usize, u8)>
+fn scan_fence_of(bytes: &[u8], byte: u8) -> Option<(usize, u8)>
     requires of_fence_byte { IsTrue (is_fence_byte byte) }
-    requires begins { IsTrue (begins_with (λ b. b == byte) «data».now) }
-    ensures found { SomeExactly (λ r. IsCodeFence «data».now r.0 r.1) result }
-    ensures within { IfSome result (λ r. r.0 ≤ length «data».now) }
+    requires begins { IsTrue (begins_with (λ b. b == byte) bytes.now) }
+    ensures found { SomeExactly (λ r. IsCodeFence bytes.now r.0 r.1) result }
+    ensures within { IfSome result (λ r. r.0 ≤ length bytes.now) }
 {
-    let run = scan_ch_repeat(data, byte);
+    let run = scan_ch_repeat(bytes, byte);
     if run < 3 {
         return None;
     }
-    if byte == b'`' && has_backtick(&data[run..]) {
+    if byte == b'`' && has_backtick(&bytes[run..]) {
         return None;
     }
     Some((run, byte))

@@ -13,12 +13,12 @@ use markdown_values::values::HeadingLevel;
 /// The level of an ATX heading that begins at the front. (CommonMark 0.31.2, section 4.2.)
 ///
 /// Its opening has as many bytes as the level has number.
-pub fn scan_atx_heading(data: &[u8]) -> Option<HeadingLevel>
-    ensures found { SomeExactly (IsAtxHeading «data».now) result }
-    ensures within { IfSome result (λ level. heading_number level ≤ length «data».now) }
+pub fn scan_atx_heading(bytes: &[u8]) -> Option<HeadingLevel>
+    ensures found { SomeExactly (IsAtxHeading bytes.now) result }
+    ensures within { IfSome result (λ level. heading_number level ≤ length bytes.now) }
 {
-    let run = scan_ch_repeat(data, b'#');
-    if !ends_or_begins_with_space(&data[run..]) {
+    let run = scan_ch_repeat(bytes, b'#');
+    if !ends_or_begins_with_space(&bytes[run..]) {
         return None;
     }
     HeadingLevel::try_from(run).ok()
@@ -36,25 +36,25 @@ fn ends_or_begins_with_space(bytes: &[u8]) -> bool
 
 /// The length in bytes of a setext heading's underline at the front, with its line ending, and
 /// the level of the heading. (CommonMark 0.31.2, section 4.3.)
-pub fn scan_setext_heading(data: &[u8]) -> Option<(usize, HeadingLevel)>
-    ensures found { SomeExactly (λ r. IsSetextUnderline «data».now r.0 r.1) result }
-    ensures within { IfSome result (λ r. r.0 ≤ length «data».now) }
+pub fn scan_setext_heading(bytes: &[u8]) -> Option<(usize, HeadingLevel)>
+    ensures found { SomeExactly (λ r. IsSetextUnderline bytes.now r.0 r.1) result }
+    ensures within { IfSome result (λ r. r.0 ≤ length bytes.now) }
 {
-    match data {
-        [b'=', ..] => scan_underline(data, b'=', HeadingLevel::H1),
-        [b'-', ..] => scan_underline(data, b'-', HeadingLevel::H2),
+    match bytes {
+        [b'=', ..] => scan_underline(bytes, b'=', HeadingLevel::H1),
+        [b'-', ..] => scan_underline(bytes, b'-', HeadingLevel::H2),
         _ => None,
     }
 }
 
 // The same, where the first byte is known.
-fn scan_underline(data: &[u8], byte: u8, level: HeadingLevel) -> Option<(usize, HeadingLevel)>
+fn scan_underline(bytes: &[u8], byte: u8, level: HeadingLevel) -> Option<(usize, HeadingLevel)>
     requires of_level { underline_byte level ≡ Some byte }
-    requires begins { IsTrue (begins_with (λ b. b == byte) «data».now) }
-    ensures found { SomeExactly (λ r. IsSetextUnderline «data».now r.0 r.1) result }
-    ensures within { IfSome result (λ r. r.0 ≤ length «data».now) }
+    requires begins { IsTrue (begins_with (λ b. b == byte) bytes.now) }
+    ensures found { SomeExactly (λ r. IsSetextUnderline bytes.now r.0 r.1) result }
+    ensures within { IfSome result (λ r. r.0 ≤ length bytes.now) }
 {
-    let run = scan_ch_repeat(data, byte);
-    let blank = scan_blank_line(&data[run..])?;
+    let run = scan_ch_repeat(bytes, byte);
+    let blank = scan_blank_line(&bytes[run..])?;
     Some((run + blank, level))
 }

@@ -130,10 +130,10 @@ fn without_slash(bytes: &[u8]) -> &[u8]
 /// They are an optional `/`, one of the names in any ASCII case as the longest run of letters and
 /// digits, and then the end, a space, a tab, a line ending, `>` or `/>`. (CommonMark 0.31.2,
 /// section 4.6, start condition 6.)
-pub fn starts_html_block_type_6(data: &[u8]) -> bool
-    ensures { IsTrue result ↔ IsBlockStart «data».now }
+pub fn starts_html_block_type_6(bytes: &[u8]) -> bool
+    ensures { IsTrue result ↔ IsBlockStart bytes.now }
 {
-    let after = without_slash(data);
+    let after = without_slash(bytes);
     let length = scan_alphanumerics(after);
     // The byte after the name is asked first, since a search among the names takes longer.
     ends_name(&after[length..]) && is_block_name(&after[..length])

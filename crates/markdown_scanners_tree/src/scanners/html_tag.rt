@@ -30,39 +30,39 @@ fn ends_line(rest: &[u8]) -> bool
     }
 }
 
-// How long the tag is that the data begin with.
-fn measure_tag<F: Fn(&[u8]) -> usize>(data: &[u8], handler: Option<&F>) -> Option<TagLength>
+// How long the tag is that the bytes begin with.
+fn measure_tag<F: Fn(&[u8]) -> usize>(bytes: &[u8], handler: Option<&F>) -> Option<TagLength>
     requires callable { IfSome handler (λ f. F.IsAlwaysCallable f.now) }
     requires steady { IfSome handler (λ f. IsSteady F.Fn f.now) }
     ensures found { IfSome result (λ tag. (prefix : List KeptByte)
-        × IsKeptTag (AnswersIfAny F.Fn handler.entry) «data».now prefix
+        × IsKeptTag (AnswersIfAny F.Fn handler.entry) bytes.now prefix
         × (tag.kept ≡ length prefix) × (tag.end ≡ place_after 0 prefix)) }
     ensures only { IfSome result (λ tag. (prefix : List KeptByte)
-        → IsKeptTag (AnswersIfAny F.Fn handler.entry) «data».now prefix
+        → IsKeptTag (AnswersIfAny F.Fn handler.entry) bytes.now prefix
         → (tag.kept ≡ length prefix) × (tag.end ≡ place_after 0 prefix)) }
     ensures none { IfNone result ((prefix : List KeptByte)
-        → ¬ IsKeptTag (AnswersIfAny F.Fn handler.entry) «data».now prefix) }
+        → ¬ IsKeptTag (AnswersIfAny F.Fn handler.entry) bytes.now prefix) }
     ensures whole { IfSome result (λ tag. IfNone handler.entry (tag.kept ≡ tag.end)) }
-    ensures within { IfSome result (λ tag. tag.end ≤ length «data».now) }
+    ensures within { IfSome result (λ tag. tag.end ≤ length bytes.now) }
 {
-    let (mut state, mut place) = TagState::after_first(data);
+    let (mut state, mut place) = TagState::after_first(bytes);
     let mut kept = place;
     let mut endings = 0;
     while !state.is_final() {
-        let (after, passed) = state.read_in_line(&data[place..]);
+        let (after, passed) = state.read_in_line(&bytes[place..]);
         state = after;
         place += passed;
         kept += passed;
-        if place >= data.len() || state.is_final() {
+        if place >= bytes.len() || state.is_final() {
             break;
         }
-        let is_last = ends_line(&data[place..]);
-        state = state.after_line_ending(data[place]);
+        let is_last = ends_line(&bytes[place..]);
+        state = state.after_line_ending(bytes[place]);
         place += 1;
         kept += 1;
         if is_last {
             let skips = handler?;
-            place += skips(&data[place..]);
+            place += skips(&bytes[place..]);
             endings += 1;
         }
     }
@@ -73,40 +73,40 @@ fn measure_tag<F: Fn(&[u8]) -> usize>(data: &[u8], handler: Option<&F>) -> Optio
     }
 }
 
-// The first bytes of the data that are kept. Memory is asked for once, for that many bytes.
+// The kept bytes of a source up to a number of them. Memory is asked for once, for that many bytes.
 fn copy_kept<F: Fn(&[u8]) -> usize>(
     alloc: Global,
-    data: &[u8],
+    bytes: &[u8],
     handler: &F,
     kept: usize,
 ) -> Result<Vec<u8>, AllocError>
     requires callable { F.IsAlwaysCallable handler.now }
     requires steady { IsSteady F.Fn handler.now }
     requires some { (prefix : List KeptByte)
-        × IsKeptPrefix (Answers F.Fn handler.now) «data».now prefix × (kept ≡ length prefix) }
+        × IsKeptPrefix (Answers F.Fn handler.now) bytes.now prefix × (kept ≡ length prefix) }
     ensures copied { IfOk result (λ buffer. (prefix : List KeptByte)
-        → IsKeptPrefix (Answers F.Fn handler.now) «data».now prefix → kept ≡ length prefix
+        → IsKeptPrefix (Answers F.Fn handler.now) bytes.now prefix → kept ≡ length prefix
         → buffer.items ≡ bytes_of prefix) }
 {
     let mut buffer = Vec::with_capacity(alloc, kept)?;
     let mut place = 0;
     while buffer.len() < kept {
-        let is_last = ends_line(&data[place..]);
-        buffer.push_reserved(data[place]);
+        let is_last = ends_line(&bytes[place..]);
+        buffer.push_reserved(bytes[place]);
         place += 1;
         if is_last {
-            place += handler(&data[place..]);
+            place += handler(&bytes[place..]);
         }
     }
     Ok(buffer)
 }
 
-/// The tag that the data begin with, over the lines of containers: its text and its length in
+/// The tag that the bytes begin with, over the lines of containers: its text and its length in
 /// bytes.
 ///
 /// After each line ending in the tag the handler is given the bytes that follow, and answers how
 /// many of them belong to the containers; those are no part of the tag. The text is empty where
-/// the handler skips nothing in the tag, since it then stands in the data. Without a handler a tag
+/// the handler skips nothing in the tag, since it then stands in the bytes. Without a handler a tag
 /// holds no line ending. A closing tag holds at most one. (CommonMark 0.31.2, section 6.6, raw
 /// HTML.)
 ///
@@ -118,47 +118,47 @@ fn copy_kept<F: Fn(&[u8]) -> usize>(
 /// been read, so the handler may be asked twice for one rest.
 pub fn scan_html_block_inner<F: Fn(&[u8]) -> usize>(
     alloc: Global,
-    data: &[u8],
+    bytes: &[u8],
     handler: Option<&F>,
 ) -> Result<Option<(Vec<u8>, usize)>, AllocError>
     requires callable { IfSome handler (λ f. F.IsAlwaysCallable f.now) }
     requires steady { IfSome handler (λ f. IsSteady F.Fn f.now) }
     ensures found { IfOk result (λ answer. IfSome answer (λ tag. (prefix : List KeptByte)
-        × IsKeptTag (AnswersIfAny F.Fn handler.entry) «data».now prefix
+        × IsKeptTag (AnswersIfAny F.Fn handler.entry) bytes.now prefix
         × (tag.0.items ≡ tag_buffer prefix) × (tag.1 ≡ place_after 0 prefix))) }
     ensures only { IfOk result (λ answer. IfSome answer (λ tag. (prefix : List KeptByte)
-        → IsKeptTag (AnswersIfAny F.Fn handler.entry) «data».now prefix
+        → IsKeptTag (AnswersIfAny F.Fn handler.entry) bytes.now prefix
         → (tag.0.items ≡ tag_buffer prefix) × (tag.1 ≡ place_after 0 prefix))) }
     ensures none { IfOk result (λ answer. IfNone answer ((prefix : List KeptByte)
-        → ¬ IsKeptTag (AnswersIfAny F.Fn handler.entry) «data».now prefix)) }
+        → ¬ IsKeptTag (AnswersIfAny F.Fn handler.entry) bytes.now prefix)) }
     ensures memory { OnErr result ((prefix : List KeptByte)
-        × IsKeptTag (AnswersIfAny F.Fn handler.entry) «data».now prefix
+        × IsKeptTag (AnswersIfAny F.Fn handler.entry) bytes.now prefix
         × (tag_buffer prefix ≢ [])) }
     ensures without_handler { IfNone handler.entry (IsOk result) }
     ensures within { IfOk result (λ answer. IfSome answer (λ tag.
-        tag.1 ≤ length «data».now)) }
+        tag.1 ≤ length bytes.now)) }
 {
-    let Some(tag) = measure_tag(data, handler) else {
+    let Some(tag) = measure_tag(bytes, handler) else {
         return Ok(None);
     };
     let buffer = match handler {
-        Some(skips) if tag.kept != tag.end => copy_kept(alloc, data, skips, tag.kept)?,
+        Some(skips) if tag.kept != tag.end => copy_kept(alloc, bytes, skips, tag.kept)?,
         _ => Vec::new(alloc),
     };
     Ok(Some((buffer, tag.end)))
 }
 
-/// The length in bytes of the tag that the data begin with, where the rest of its line is blank.
+/// The length in bytes of the tag that the bytes begin with, where the rest of its line is blank.
 ///
 /// The tag holds no line ending, and the blank rest is not counted. (CommonMark 0.31.2, section
 /// 4.6, start condition 7; the tag names that other start conditions take are not left out here.)
-pub fn scan_html_type_7(data: &[u8]) -> Option<usize>
-    ensures found { SomeExactly (IsTagAloneInLine «data».now) result }
+pub fn scan_html_type_7(bytes: &[u8]) -> Option<usize>
+    ensures found { SomeExactly (IsTagAloneInLine bytes.now) result }
     ensures only { IfSome result (λ n. (other : ℕ)
-        → IsTagAloneInLine «data».now other → other ≡ n) }
-    ensures within { IfSome result (λ n. n ≤ length «data».now) }
+        → IsTagAloneInLine bytes.now other → other ≡ n) }
+    ensures within { IfSome result (λ n. n ≤ length bytes.now) }
 {
-    let tag = measure_tag(data, None::<&fn(&[u8]) -> usize>)?;
-    scan_blank_line(&data[tag.end..])?;
+    let tag = measure_tag(bytes, None::<&fn(&[u8]) -> usize>)?;
+    scan_blank_line(&bytes[tag.end..])?;
     Some(tag.end)
 }

@@ -51,11 +51,11 @@ pub fn scan_nextline(bytes: &[u8]) -> usize
 ///
 /// (CommonMark 0.31.2, section 5.1.) A tab after the marker is not taken, since only a part of
 /// it may belong to the marker.
-pub fn scan_blockquote_start(data: &[u8]) -> Option<usize>
-    ensures found { SomeExactly (IsBlockQuoteStart «data».now) result }
-    ensures within { IfSome result (λ n. n ≤ length «data».now) }
+pub fn scan_blockquote_start(bytes: &[u8]) -> Option<usize>
+    ensures found { SomeExactly (IsBlockQuoteStart bytes.now) result }
+    ensures within { IfSome result (λ n. n ≤ length bytes.now) }
 {
-    match data {
+    match bytes {
         [b'>', rest @ ..] => Some(if rest.starts_with(b" ") { 2 } else { 1 }),
         _ => None,
     }

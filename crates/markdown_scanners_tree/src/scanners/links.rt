@@ -22,18 +22,18 @@ const MOST_SCHEME_BYTES: usize = 32;
 
 /// The first pipe in the `len` bytes from `start` on, cut at the text's end: the place after the
 /// pipe, and the text before it. `start` is a place between two characters.
-pub fn scan_wikilink_pipe(data: &str, start: usize, len: usize) -> Option<(usize, &str)>
-    requires { 0 < start → IsCharBoundary «data».now start }
+pub fn scan_wikilink_pipe(text: &str, start: usize, len: usize) -> Option<(usize, &str)>
+    requires { 0 < start → IsCharBoundary text.now start }
     ensures found { option_map (λ r. length r.1.now) result
-        ≡ position (λ b. b == vertical_line) (take len (drop start «data».now)) }
+        ≡ position (λ b. b == vertical_line) (take len (drop start text.now)) }
     ensures place { IfSome result (λ r. r.0 ≡ start + length r.1.now + 1) }
-    ensures slice { IfSome result (λ r. r.1.now ≡ slice_range «data».now start (r.0 - 1)) }
-    ensures boundary { IfSome result (λ r. IsCharBoundary «data».now r.0) }
+    ensures slice { IfSome result (λ r. r.1.now ≡ slice_range text.now start (r.0 - 1)) }
+    ensures boundary { IfSome result (λ r. IsCharBoundary text.now r.0) }
 {
-    let rest = &data.as_bytes()[start..];
+    let rest = &text.as_bytes()[start..];
     let window = &rest[..len.min(rest.len())];
     let n = memchr(b'|', window)?;
-    Some((start + n + 1, &data[start..start + n]))
+    Some((start + n + 1, &text[start..start + n]))
 }
 
 /// The link destination from `start` on: how many bytes it takes, angle brackets among them, and
@@ -41,23 +41,23 @@ pub fn scan_wikilink_pipe(data: &str, start: usize, len: usize) -> Option<(usize
 /// between two characters.
 ///
 /// (CommonMark 0.31.2, section 6.3.)
-pub fn scan_link_dest(data: &str, start: usize, max_next: usize) -> Option<(usize, &str)>
-    requires { 0 < start → IsCharBoundary «data».now start }
+pub fn scan_link_dest(text: &str, start: usize, max_next: usize) -> Option<(usize, &str)>
+    requires { 0 < start → IsCharBoundary text.now start }
     ensures found { SomeExactly
-        (λ (r : ℕ × List ℕ). IsLinkDestination (max_next + 1) (drop start «data».now) r.0 r.1)
+        (λ (r : ℕ × List ℕ). IsLinkDestination (max_next + 1) (drop start text.now) r.0 r.1)
         (option_map (λ r. (r.0, r.1.now)) result) }
     ensures only { IfSome result (λ r. (other : ℕ × List ℕ)
-        → IsLinkDestination (max_next + 1) (drop start «data».now) other.0 other.1
+        → IsLinkDestination (max_next + 1) (drop start text.now) other.0 other.1
         → other ≡ (r.0, r.1.now)) }
-    ensures boundary { IfSome result (λ r. IsCharBoundary «data».now (start + r.0)) }
+    ensures boundary { IfSome result (λ r. IsCharBoundary text.now (start + r.0)) }
 {
-    let bytes = &data.as_bytes()[start..];
+    let bytes = &text.as_bytes()[start..];
     if !bytes.is_empty() && bytes[0] == b'<' {
         let n = pointed_len(&bytes[1..])?;
-        return Some((n + 2, &data[start + 1..start + 1 + n]));
+        return Some((n + 2, &text[start + 1..start + 1 + n]));
     }
     let n = bare_len(bytes, max_next)?;
-    Some((n, &data[start..start + n]))
+    Some((n, &text[start..start + n]))
 }
 
 // How many bytes stand before the first unescaped `>`, behind the `<`.

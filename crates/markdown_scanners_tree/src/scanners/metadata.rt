@@ -14,18 +14,18 @@ use memchr::memchr;
 ///
 /// A block that no later line closes, or whose first line of content is blank, is none.
 pub fn scan_metadata_block(
-    data: &[u8],
+    bytes: &[u8],
     yaml_style_enabled: bool,
     pluses_style_enabled: bool,
 ) -> Option<(usize, u8)>
     ensures found { SomeExactly
-        (λ r. IsMetadataBlock «data».now yaml_style_enabled pluses_style_enabled r.1) result }
+        (λ r. IsMetadataBlock bytes.now yaml_style_enabled pluses_style_enabled r.1) result }
     ensures opening { IfSome result (λ r. r.0 ≡ 3) }
-    ensures within { IfSome result (λ r. r.0 ≤ length «data».now) }
+    ensures within { IfSome result (λ r. r.0 ≤ length bytes.now) }
 {
-    if is_enabled_block(data, b'-', yaml_style_enabled) {
+    if is_enabled_block(bytes, b'-', yaml_style_enabled) {
         Some((3, b'-'))
-    } else if is_enabled_block(data, b'+', pluses_style_enabled) {
+    } else if is_enabled_block(bytes, b'+', pluses_style_enabled) {
         Some((3, b'+'))
     } else {
         None
@@ -33,22 +33,22 @@ pub fn scan_metadata_block(
 }
 
 // Whether the style is enabled, and a metadata block that the byte opens stands at the front.
-fn is_enabled_block(data: &[u8], byte: u8, enabled: bool) -> bool
-    ensures found { Decides result ((enabled ≡ true) × IsBlockOf byte «data».now) }
-    ensures within { result ≡ true → 3 ≤ length «data».now }
+fn is_enabled_block(bytes: &[u8], byte: u8, enabled: bool) -> bool
+    ensures found { Decides result ((enabled ≡ true) × IsBlockOf byte bytes.now) }
+    ensures within { result ≡ true → 3 ≤ length bytes.now }
 {
-    enabled && is_block_of(data, byte)
+    enabled && is_block_of(bytes, byte)
 }
 
 // Whether a metadata block that the byte opens stands at the front.
-fn is_block_of(data: &[u8], byte: u8) -> bool
-    ensures found { Decides result (IsBlockOf byte «data».now) }
-    ensures within { result ≡ true → 3 ≤ length «data».now }
+fn is_block_of(bytes: &[u8], byte: u8) -> bool
+    ensures found { Decides result (IsBlockOf byte bytes.now) }
+    ensures within { result ≡ true → 3 ≤ length bytes.now }
 {
-    let Some(opening) = scan_opening_line(data, byte) else {
+    let Some(opening) = scan_opening_line(bytes, byte) else {
         return false;
     };
-    let body = &data[opening..];
+    let body = &bytes[opening..];
     if scan_blank_line(body).is_some() {
         return false;
     }
@@ -59,17 +59,17 @@ fn is_block_of(data: &[u8], byte: u8) -> bool
 }
 
 // The length of a block's first line, with the LF that ends it.
-fn scan_opening_line(data: &[u8], byte: u8) -> Option<usize>
-    ensures found { IfSome result (λ n. IsOpeningLine byte «data».now (drop n «data».now)) }
-    ensures none { IfNone result ((body : List ℕ) → ¬ IsOpeningLine byte «data».now body) }
-    ensures within { IfSome result (λ n. (3 ≤ n) × (n ≤ length «data».now)) }
+fn scan_opening_line(bytes: &[u8], byte: u8) -> Option<usize>
+    ensures found { IfSome result (λ n. IsOpeningLine byte bytes.now (drop n bytes.now)) }
+    ensures none { IfNone result ((body : List ℕ) → ¬ IsOpeningLine byte bytes.now body) }
+    ensures within { IfSome result (λ n. (3 ≤ n) × (n ≤ length bytes.now)) }
 {
-    if scan_ch_repeat(data, byte) != 3 {
+    if scan_ch_repeat(bytes, byte) != 3 {
         return None;
     }
-    let space = scan_after_opening(&data[3..]);
+    let space = scan_after_opening(&bytes[3..]);
     let end = 3 + space;
-    if scan_ch(&data[end..], b'\n') == 0 {
+    if scan_ch(&bytes[end..], b'\n') == 0 {
         return None;
     }
     Some(end + 1)

@@ -8,11 +8,11 @@ use crate::scanners::classes::{is_ascii_alphanumeric, is_ascii_whitespace_no_nl}
 use memchr::memchr;
 
 /// 1 where the first byte is `c`, else 0.
-pub fn scan_ch(data: &[u8], c: u8) -> usize
-    ensures first { result ≡ (if begins_with (λ b. b == c) «data».now then 1 else 0) }
-    ensures within { result ≤ length «data».now }
+pub fn scan_ch(bytes: &[u8], c: u8) -> usize
+    ensures first { result ≡ (if begins_with (λ b. b == c) bytes.now then 1 else 0) }
+    ensures within { result ≤ length bytes.now }
 {
-    match data {
+    match bytes {
         [first, ..] if *first == c => 1,
         _ => 0,
     }
@@ -21,14 +21,14 @@ pub fn scan_ch(data: &[u8], c: u8) -> usize
 /// How many bytes from the front `f` accepts before it first refuses one.
 ///
 /// `f` is asked once for each byte, in order, and no more after it has refused one.
-pub fn scan_while<F: FnMut(u8) -> bool>(data: &[u8], mut f: F) -> usize
+pub fn scan_while<F: FnMut(u8) -> bool>(bytes: &[u8], mut f: F) -> usize
     requires { F.IsAlwaysCallable f }
-    ensures accepted { IsAccepted (λ p b r q. F.step p b r q) f «data».now result }
-    ensures within { result ≤ length «data».now }
+    ensures accepted { IsAccepted (λ p b r q. F.step p b r q) f bytes.now result }
+    ensures within { result ≤ length bytes.now }
 {
     let mut count = 0;
-    while count < data.len() {
-        if !f(data[count]) {
+    while count < bytes.len() {
+        if !f(bytes[count]) {
             return count;
         }
         count += 1;
@@ -39,14 +39,14 @@ pub fn scan_while<F: FnMut(u8) -> bool>(data: &[u8], mut f: F) -> usize
 /// How many bytes from the back `f` accepts before it first refuses one.
 ///
 /// `f` is asked once for each byte, from the last one on, and no more after it has refused one.
-pub fn scan_rev_while<F: FnMut(u8) -> bool>(data: &[u8], mut f: F) -> usize
+pub fn scan_rev_while<F: FnMut(u8) -> bool>(bytes: &[u8], mut f: F) -> usize
     requires { F.IsAlwaysCallable f }
-    ensures accepted { IsAccepted (λ p b r q. F.step p b r q) f (reverse «data».now) result }
-    ensures within { result ≤ length «data».now }
+    ensures accepted { IsAccepted (λ p b r q. F.step p b r q) f (reverse bytes.now) result }
+    ensures within { result ≤ length bytes.now }
 {
     let mut count = 0;
-    while count < data.len() {
-        if !f(data[data.len() - 1 - count]) {
+    while count < bytes.len() {
+        if !f(bytes[bytes.len() - 1 - count]) {
             return count;
         }
         count += 1;
@@ -55,19 +55,20 @@ pub fn scan_rev_while<F: FnMut(u8) -> bool>(data: &[u8], mut f: F) -> usize
 }
 
 /// The length of the longest prefix of the byte `c`.
-pub fn scan_ch_repeat(data: &[u8], c: u8) -> usize
-    ensures run { result ≡ prefix_len (λ b. b == c) «data».now }
-    ensures within { result ≤ length «data».now }
+pub fn scan_ch_repeat(bytes: &[u8], c: u8) -> usize
+    ensures run { result ≡ prefix_len (λ b. b == c) bytes.now }
+    ensures within { result ≤ length bytes.now }
 {
-    data.iter().take_while(|b| **b == c).count()
+    bytes.iter().take_while(|b| **b == c).count()
 }
 
 /// The length of the longest prefix of white space that ends no line.
-pub fn scan_whitespace_no_nl(data: &[u8]) -> usize
-    ensures run { result ≡ prefix_len is_white_space_in_line «data».now }
-    ensures within { result ≤ length «data».now }
+pub fn scan_whitespace_no_nl(bytes: &[u8]) -> usize
+    ensures run { result ≡ prefix_len is_white_space_in_line bytes.now }
+    ensures within { result ≤ length bytes.now }
 {
-    data.iter()
+    bytes
+        .iter()
         .take_while(|b| is_ascii_whitespace_no_nl(**b))
         .count()
 }

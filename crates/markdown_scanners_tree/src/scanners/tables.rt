@@ -20,23 +20,23 @@ const MOST_SPACES: usize = 3;
 /// # Errors
 ///
 /// `AllocError` where memory for the alignments is refused.
-pub fn scan_table_head(alloc: Global, data: &[u8]) -> Result<(usize, Vec<Alignment>), AllocError>
-    ensures found { IfOk result (λ r. 0 < r.0 → IsDelimiterRow «data».now r.0 r.1.items) }
-    ensures none { IfOk result (λ r. r.0 ≡ 0 → NoDelimiterRow «data».now) }
+pub fn scan_table_head(alloc: Global, bytes: &[u8]) -> Result<(usize, Vec<Alignment>), AllocError>
+    ensures found { IfOk result (λ r. 0 < r.0 → IsDelimiterRow bytes.now r.0 r.1.items) }
+    ensures none { IfOk result (λ r. r.0 ≡ 0 → NoDelimiterRow bytes.now) }
     ensures empty { IfOk result (λ r. r.0 ≡ 0 → r.1.items ≡ []) }
     ensures some_alignment { IfOk result (λ r. 0 < r.0 → 0 < length r.1.items) }
-    ensures within { IfOk result (λ r. r.0 ≤ length «data».now) }
+    ensures within { IfOk result (λ r. r.0 ≤ length bytes.now) }
 {
-    let indent = scan_ch_repeat(data, b' ');
+    let indent = scan_ch_repeat(bytes, b' ');
     if indent > MOST_SPACES {
         return Ok((0, Vec::new(alloc)));
     }
-    if !may_be_row(&data[indent..]) {
+    if !may_be_row(&bytes[indent..]) {
         return Ok((0, Vec::new(alloc)));
     }
-    let piped = scan_ch(&data[indent..], b'|');
+    let piped = scan_ch(&bytes[indent..], b'|');
     let start = indent + piped;
-    let Some(cells) = scan_cells(alloc, &data[start..])? else {
+    let Some(cells) = scan_cells(alloc, &bytes[start..])? else {
         return Ok((0, Vec::new(alloc)));
     };
     if has_hyphens(cells.ended, cells.hyphen) {

@@ -6,11 +6,11 @@ use Rattle.markdown_scanners_tree.proofs.scanners.html_tag.measure_tag.Given as 
 
 abbrev pub invariant-loop-state : goal.invariant-loop-state
 invariant-loop-state g l =
-    Scanned (AnswersIfAny g.F.Fn l.handler) l.«data» l.place l.kept l.endings l.state
-    × (l.place ≤ length l.«data»)
+    Scanned (AnswersIfAny g.F.Fn l.handler) l.bytes l.place l.kept l.endings l.state
+    × (l.place ≤ length l.bytes)
     × (l.kept ≤ l.place)
     × (l.endings ≤ l.kept)
     × IfNone l.handler (l.kept ≡ l.place)
 
 abbrev pub decreases-loop-state : goal.decreases-loop-state
-decreases-loop-state g l = length l.«data» - l.place
+decreases-loop-state g l = length l.bytes - l.place

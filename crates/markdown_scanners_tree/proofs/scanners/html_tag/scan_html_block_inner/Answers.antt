@@ -6,14 +6,14 @@ use Rattle.markdown_scanners_tree.proofs.scanners.html_tag.scan_html_block_inner
 pub copy_kept-requires-clause-some : goal.copy_kept-requires-clause-some
 copy_kept-requires-clause-some g c =
     let found = c.in-Some.ensures.found in
-    (found.0, prefix_under g.F.Fn c.args.handler c.in-Some-handler.skips c.args.data.now found.0 c.in-Some-handler.is found.1.kept, found.2)
+    (found.0, prefix_under g.F.Fn c.args.handler c.in-Some-handler.skips c.args.bytes.now found.0 c.in-Some-handler.is found.1.kept, found.2)
 
 pub returns-clause-only : goal.returns-clause-only
 returns-clause-only g c = λ prefix tag.
     let sizes = c.in-Some.ensures.only prefix tag in
     elim c.match-handler.branch [
       | in-Some-handler+in_ok-buffer-in-Some-handler w ↦ (
-          let under = prefix_under g.F.Fn c.args.handler w.in-Some-handler.skips c.args.data.now prefix w.in-Some-handler.is tag.kept in
+          let under = prefix_under g.F.Fn c.args.handler w.in-Some-handler.skips c.args.bytes.now prefix w.in-Some-handler.is tag.kept in
           (ap (λ (v : Vec ℕ Global). v.items) w.buffer-is ∙ w.in_ok-buffer-in-Some-handler.ensures.copied prefix under sizes.0 ∙ buffer_built prefix _ _ sizes.0 sizes.1 w.if-tag.true, sizes.1)
           )
       | in_default-handler w ↦ (
