@@ -1,0 +1,72 @@
+"""The wrong bodies of the tree: where they stand, how many there must be, and the texts that each makes."""
+import shutil
+from pathlib import Path
+
+TOP = Path(__file__).resolve().parent.parent
+TOTALS = TOP / "planted/totals"
+
+
+def totals():
+    """How many wrong bodies each crate must have, in must-fail/ and in planted/, by the crate's name."""
+    rows = [line.split() for line in TOTALS.read_text().splitlines() if line.strip() and not line.startswith("#")]
+    return {name: (int(in_gate), int(planted)) for name, in_gate, planted in rows}
+
+
+def in_gate(crate):
+    return sorted((TOP / "crates" / crate / "must-fail").glob("*.edit"))
+
+
+def planted(crate):
+    return sorted((TOP / "planted" / crate).glob("*.edit"))
+
+
+def crate_of(edit):
+    """The name of the crate whose body an edit changes."""
+    return edit.parent.parent.name if edit.parent.name == "must-fail" else edit.parent.name
+
+
+class BadEdit(Exception):
+    """Why an edit can't be applied."""
+
+
+def replaced(text, path, old, new):
+    found = text.count(old)
+    if found != 1:
+        raise BadEdit(f"its old text stands {found} times in {path}, and not once: {old}")
+    return text.replace(old, new)
+
+
+def edited(edit):
+    """The texts of the files that an edit changes, by their path in the crate. Each pair is over what the pairs before it made."""
+    crate, texts, path, old = TOP / "crates" / crate_of(edit), {}, None, None
+    for line in edit.read_text().split("\n"):
+        word, _, rest = line.partition(":")
+        rest = rest.removeprefix(" ")
+        if word == "file":
+            path, old = rest.strip(), None
+            if not (crate / path).is_file():
+                raise BadEdit(f"there is no file {path}")
+        elif word == "old":
+            old = rest
+        elif word == "new":
+            if not path or not old:
+                raise BadEdit("a line new: has no file: and old: before it")
+            text = texts.get(path) or (crate / path).read_text()
+            texts[path], old = replaced(text, path, old, rest), None
+    if not texts:
+        raise BadEdit("it has no pair of lines old: and new:")
+    return texts
+
+
+def copied(room):
+    """Copies what proofs and builds read of the tree into a folder, with the libraries that are built already."""
+    for name in ("crates.txt", "HANDLES"):
+        shutil.copy(TOP / name, room)
+    for crate in (TOP / "crates").iterdir():
+        for part in ("src", "specs", "proofs", "out/rlib"):
+            if (crate / part).is_dir():
+                shutil.copytree(crate / part, room / "crates" / crate.name / part)
+        for part in ("stdin", "stdout", "args"):
+            if (crate / part).is_file():
+                shutil.copy(crate / part, room / "crates" / crate.name)
+    return room

@@ -1,0 +1,65 @@
+"""Builds the tree with a wrong body in it, unproved, and runs the tests and stored runs that may tell it."""
+import subprocess
+import tempfile
+from concurrent.futures import ThreadPoolExecutor
+from pathlib import Path
+
+from edits import copied, crate_of, edited
+
+# What may tell a wrong body of a crate, the quickest first: the stored run of a program, or the tests of a crate.
+TELLERS = {
+    "markdown_values": ["tests cmark_vectors_values", "run cmark_replay", "tests cmark_uses"],
+    "markdown_scanners_tree": ["run cmark_replay", "tests markdown_scanners_tree", "tests cmark_vectors"],
+    "cmark_scan": ["tests cmark_scan", "run cmark_scan"],
+}
+
+
+def stored_run(crate, room):
+    """The words that hold a program's output to its stored run."""
+    cases = room / "cases"
+    cases.mkdir(exist_ok=True)
+    (cases / "stored").write_bytes((crate / "stdin").read_bytes() if (crate / "stdin").is_file() else b"")
+    (cases / "stored.stdout").write_bytes((crate / "stdout").read_bytes())
+    if (crate / "args").is_file():
+        (cases / "stored.args").write_bytes((crate / "args").read_bytes())
+    return ["rt", "try", "--steps", "1", "--cases", str(cases)]
+
+
+def tells(teller, room):
+    """Whether the tests or the stored run fail in the tree of the folder, or None where they were not built."""
+    kind, name = teller.split()
+    crate = room / "crates" / name
+    words = stored_run(crate, room) if kind == "run" else ["rt", "try", "--test", "--steps", "1"]
+    how = {"stdin": subprocess.DEVNULL, "stdout": subprocess.PIPE, "stderr": subprocess.STDOUT, "errors": "replace"}
+    ran = subprocess.run(words, cwd=crate, **how)
+    was_built = "run=none" not in ran.stdout and ("proved=no" in ran.stdout)
+    return ran.returncode != 0 if was_built else None
+
+
+def told_by(edit):
+    """Whether a test or a stored run tells the edit, and which, or why none was found."""
+    crate = crate_of(edit)
+    if crate not in TELLERS:
+        return False, "not tried: a static library is built only where it is proved"
+    with tempfile.TemporaryDirectory(prefix="planted-") as folder:
+        room = copied(Path(folder))
+        for path, text in edited(edit).items():
+            (room / "crates" / crate / path).write_text(text)
+        for teller in TELLERS[crate]:
+            told = tells(teller, room)
+            if told is None:
+                return False, f"NOT BUILT for {teller}"
+            if told:
+                return True, f"told by {teller}"
+    return False, "TOLD BY NO TEST"
+
+
+def try_all(edits, lanes):
+    """Tries the edits, a line each, and counts those that a test or a stored run tells."""
+    told = others = 0
+    with ThreadPoolExecutor(lanes) as pool:
+        for edit, (is_told, found) in zip(edits, pool.map(told_by, edits)):
+            told, others = told + is_told, others + (not is_told)
+            print(f"{crate_of(edit)}/{edit.stem}: {found}", flush=True)
+    print(f"{told} told, {others} not told")
+    return 1 if others or not edits else 0
