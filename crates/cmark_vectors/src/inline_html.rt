@@ -36,6 +36,18 @@ fn scans_find_where_a_construct_ends(rt: HostRuntime) {
 }
 
 #[test]
+fn a_scan_that_finds_no_end_shuts_its_kind(rt: HostRuntime) {
+    let mut guard = HtmlScanGuard::new();
+    assert_eq!(rt; scan_inline_html_comment(b"<!--a", 2, &mut guard), None);
+    assert_eq!(rt; guard.comment, 5);
+    assert_eq!(rt; scan_inline_html_comment(b"<!-->", 2, &mut guard), None);
+    assert_eq!(rt; scan_inline_html_processing(b"<?a", 2, &mut guard), None);
+    assert_eq!(rt; guard.processing, 3);
+    assert_eq!(rt; scan_inline_html_processing(b"<??>", 2, &mut guard), None);
+    assert_eq!(rt; (guard.cdata, guard.declaration), (0, 0));
+}
+
+#[test]
 fn counted_scans_count_what_they_pass_over(rt: HostRuntime) {
     let mut guard = HtmlScanGuard::new();
     let mut text = CountedText::new(b"<!--<?a?><!--");
