@@ -13,7 +13,8 @@ use Rattle.markdown_scanners_tree.proofs.line.ColumnLemmas.{bool_cases, below-sp
 use Rattle.markdown_scanners_tree.proofs.line.SpaceLemmas.{state_of, further-column}
 use Rattle.markdown_scanners_tree.proofs.line.HeadLemmas.{step-fits}
 
--- the state that a run on the line has when it has taken k columns of the written out line; c is the column of its place
+-- the state that a run on the line has when it has taken k columns of the written out line; c is
+-- the column of its place
 pub record Tied (line : List ℕ) (k c : ℕ) (s : LineState) : Type 0 where
   pub shape : s ≡ state_of line s.place s.pending c
   pub at : k + s.pending ≡ c
@@ -74,7 +75,8 @@ abbrev pub after_answers : List LineAnswer → Run → Run
 after_answers answers run = record run { answers = answers ++ run.answers }
 
 -- the run up to a call: the answers so far, and what is still to come from the column reached
-pub record SoFar (line : List ℕ) (calls left : List LineCall) (answers : List LineAnswer) (s : LineState) (k c : ℕ) : Type 0 where
+pub record SoFar (line : List ℕ) (calls left : List LineCall) (answers : List LineAnswer) (s : LineState)
+    (k c : ℕ) : Type 0 where
   pub tied : Tied line k c s
   pub run : plain_run line calls ≡ after_answers answers (run_from line k left)
 
@@ -87,17 +89,20 @@ pub tied_next-state : (line : List ℕ) (k c t : ℕ) (s : LineState) → Tied l
     → Tied line (k + t) (next_column s c t) (columns_further t s)
 tied_next-state line k c t s tied fits rest =
     let P : LineState → Type 0 = λ x. Tied line k c x → c + t ≤ x.pending + head_end c (drop x.place line)
-    → rest_of (columns_further t x) ≡ drop t (rest_of x) → Tied line (k + t) (next_column x c t) (columns_further t x) in
+    → rest_of (columns_further t x) ≡ drop t (rest_of x)
+    → Tied line (k + t) (next_column x c t) (columns_further t x) in
     subst P (sym tied.shape) (λ a b d. tied_next line k c s.place s.pending t a b d) tied fits rest
 
 pub step-fits-state : (call : LineCall) (line : List ℕ) (k c : ℕ) (s : LineState) → Tied line k c s
     → c + (plain_step call (rest_of s)).taken ≤ s.pending + head_end c (drop s.place line)
 step-fits-state call line k c s tied =
-    let P : LineState → Type 0 = λ x. c + (plain_step call (rest_of x)).taken ≤ x.pending + head_end c (drop x.place line) in
+    let P : LineState → Type 0 =
+    λ x. c + (plain_step call (rest_of x)).taken ≤ x.pending + head_end c (drop x.place line) in
     subst P (sym tied.shape) (step-fits call line s.place s.pending c)
 
 -- a run whose first call is not refused, and one whose first call is
-run_from-goes : (line : List ℕ) (k : ℕ) (call : LineCall) (left : List LineCall) → refusal (is_on_byte 0 line k) call ≡ None →
+run_from-goes : (line : List ℕ) (k : ℕ) (call : LineCall) (left : List LineCall)
+    → refusal (is_on_byte 0 line k) call ≡ None →
     let step = plain_step call (drop k (expanded line)) in
     run_from line k (call ∷ left) ≡ after_answer step.answer (run_from line (k + step.taken) left)
 run_from-goes line k call left h =
@@ -117,7 +122,8 @@ run_from-stops line k call left reason h =
       | None ↦ after_answer step.answer (run_from line (k + step.taken) left)
     ]) h
 
-pub so_far_next : (line : List ℕ) (calls left : List LineCall) (answers : List LineAnswer) (s s' : LineState) (k c : ℕ) (call : LineCall) →
+pub so_far_next : (line : List ℕ) (calls left : List LineCall) (answers : List LineAnswer) (s s' : LineState)
+    (k c : ℕ) (call : LineCall) →
     let step = plain_step call (rest_of s) in
     SoFar line calls (call ∷ left) answers s k c → refusal (s.pending == 0) call ≡ None
     → s' ≡ columns_further step.taken s → rest_of s' ≡ drop step.taken (rest_of s)
@@ -130,10 +136,12 @@ so_far_next line calls left answers s s' k c call so allowed state rest =
     let goes = run_from-goes line k call left (ap (λ b. refusal b call) (tied_on line k c s tied) ∙ allowed) in
     let step = plain_step call (rest_of s) in
     let one : run_from line k (call ∷ left) ≡ after_answer step.answer (run_from line (k + step.taken) left) =
-    goes ∙ ap (λ r. after_answer (plain_step call r).answer (run_from line (k + (plain_step call r).taken) left)) tied.rest in
+    goes ∙ ap (λ r. after_answer (plain_step call r).answer
+    (run_from line (k + (plain_step call r).taken) left)) tied.rest in
     record {
       tied = rw state next;
-      run = so.run ∙ ap (after_answers answers) one ∙ rw (append_assoc answers (step.answer ∷ []) (run_from line (k + step.taken) left).answers) refl;
+      run = so.run ∙ ap (after_answers answers) one
+          ∙ rw (append_assoc answers (step.answer ∷ []) (run_from line (k + step.taken) left).answers) refl;
     }
 
 -- where the calls end, or a call is refused, what is so far is the run
@@ -144,10 +152,12 @@ pub so_far_done : (line : List ℕ) (calls : List LineCall) (answers : List Line
 so_far_done line calls answers s k c so =
     rw (so.run) (sym (append-nil answers), refl, sym so.tied.rest, sym (tied_scanned line k c s so.tied))
 
-pub so_far_stopped : (line : List ℕ) (calls left : List LineCall) (call : LineCall) (reason : LineStop) (answers : List LineAnswer) (s : LineState) (k c : ℕ) →
+pub so_far_stopped : (line : List ℕ) (calls left : List LineCall) (call : LineCall) (reason : LineStop)
+    (answers : List LineAnswer) (s : LineState) (k c : ℕ) →
     SoFar line calls (call ∷ left) answers s k c → refusal (s.pending == 0) call ≡ Some reason →
     (answers ≡ (plain_run line calls).answers) × (Some (length answers, reason) ≡ stop_at (plain_run line calls))
     × (rest_of s ≡ rest_after line (plain_run line calls)) × (s.place ≡ scanned_after line (plain_run line calls))
 so_far_stopped line calls left call reason answers s k c so refused =
-    let stops = run_from-stops line k call left reason (ap (λ b. refusal b call) (tied_on line k c s so.tied) ∙ refused) in
+    let stops =
+    run_from-stops line k call left reason (ap (λ b. refusal b call) (tied_on line k c s so.tied) ∙ refused) in
     rw (so.run, stops, append-nil answers) (refl, refl, sym so.tied.rest, sym (tied_scanned line k c s so.tied))

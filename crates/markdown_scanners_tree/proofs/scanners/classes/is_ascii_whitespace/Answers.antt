@@ -6,4 +6,5 @@ use Rattle.markdown_scanners_tree.proofs.scanners.classes.is_ascii_whitespace.Go
 
 pub returns : goal.returns
 unfolding tests_agree_below
-returns c = rw c.classes_of.ensures (tests_agree_at (λ b. not (nat_eq (bit_and (class_bits b) 1) 0)) is_white_space 256 refl c.args.c (omega arith))
+returns c = rw c.classes_of.ensures
+    (tests_agree_at (λ b. not (nat_eq (bit_and (class_bits b) 1) 0)) is_white_space 256 refl c.args.c (omega arith))

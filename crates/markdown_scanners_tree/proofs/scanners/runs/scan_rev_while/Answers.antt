@@ -8,9 +8,16 @@ pub loop-count-preserved : goal.loop-count-preserved
 loop-count-preserved g c =
     let before = c.loop-count.invariant in
     let inside : c.loop-count.count < length c.args.bytes.now = omega arith in
-    let below : c.loop-count.count < length (reverse c.args.bytes.now) = omega (arith, inside, length-reverse c.args.bytes.now) in
-    let called : goal.F-step g c.loop-count.f (get_or (reverse c.args.bytes.now) c.loop-count.count 0) true c.f.new.self = rw (get_or-reverse c.args.bytes.now c.loop-count.count 0 inside) (search of_calls) in
-    (search (rules, of_calls), omega arith, rw (take_more (reverse c.args.bytes.now) c.loop-count.count 0 below) (FoldsTo-push (λ p b q. goal.F-step g p b true q) _ _ _ _ _ before.2 called))
+    let below : c.loop-count.count < length (reverse c.args.bytes.now) =
+    omega (arith, inside, length-reverse c.args.bytes.now) in
+    let called : goal.F-step g c.loop-count.f
+    (get_or (reverse c.args.bytes.now) c.loop-count.count 0) true c.f.new.self =
+    rw (get_or-reverse c.args.bytes.now c.loop-count.count 0 inside) (search of_calls) in (
+      search (rules, of_calls),
+      omega arith,
+      rw (take_more (reverse c.args.bytes.now) c.loop-count.count 0 below)
+          (FoldsTo-push (λ p b q. goal.F-step g p b true q) _ _ _ _ _ before.2 called),
+    )
 
 pub returns-clause-accepted : goal.returns-clause-accepted
 returns-clause-accepted g c =
@@ -19,23 +26,29 @@ returns-clause-accepted g c =
       prefix = take c.loop-count.count (reverse c.args.bytes.now);
       rest = drop c.loop-count.count (reverse c.args.bytes.now);
       parts = sym (take-append-drop c.loop-count.count (reverse c.args.bytes.now));
-      count = sym (length-take-le c.loop-count.count (reverse c.args.bytes.now) (omega (arith, before.1, length-reverse c.args.bytes.now)));
+      count = sym (length-take-le c.loop-count.count (reverse c.args.bytes.now)
+          (omega (arith, before.1, length-reverse c.args.bytes.now)));
       between = c.loop-count.f;
       accepted = before.2;
-      refused = rw (drop_all c.loop-count.count (reverse c.args.bytes.now) (omega (arith, length-reverse c.args.bytes.now))) tt;
+      refused = rw (drop_all c.loop-count.count (reverse c.args.bytes.now)
+          (omega (arith, length-reverse c.args.bytes.now))) tt;
     }
 
 pub returns-then-not-f-clause-accepted : goal.returns-then-not-f-clause-accepted
 returns-then-not-f-clause-accepted g c =
     let before = c.loop-count.invariant in
     let inside : c.loop-count.count < length c.args.bytes.now = omega arith in
-    let below : c.loop-count.count < length (reverse c.args.bytes.now) = omega (arith, inside, length-reverse c.args.bytes.now) in
-    let called : goal.F-step g c.loop-count.f (get_or (reverse c.args.bytes.now) c.loop-count.count 0) false c.f.new.self = rw (get_or-reverse c.args.bytes.now c.loop-count.count 0 inside) (search of_calls) in
+    let below : c.loop-count.count < length (reverse c.args.bytes.now) =
+    omega (arith, inside, length-reverse c.args.bytes.now) in
+    let called : goal.F-step g c.loop-count.f
+    (get_or (reverse c.args.bytes.now) c.loop-count.count 0) false c.f.new.self =
+    rw (get_or-reverse c.args.bytes.now c.loop-count.count 0 inside) (search of_calls) in
     record {
       prefix = take c.loop-count.count (reverse c.args.bytes.now);
       rest = drop c.loop-count.count (reverse c.args.bytes.now);
       parts = sym (take-append-drop c.loop-count.count (reverse c.args.bytes.now));
-      count = sym (length-take-le c.loop-count.count (reverse c.args.bytes.now) (omega (arith, before.1, length-reverse c.args.bytes.now)));
+      count = sym (length-take-le c.loop-count.count (reverse c.args.bytes.now)
+          (omega (arith, before.1, length-reverse c.args.bytes.now)));
       between = c.loop-count.f;
       accepted = before.2;
       refused = rw (drop-cons (reverse c.args.bytes.now) c.loop-count.count 0) (c.f.new.self, called);

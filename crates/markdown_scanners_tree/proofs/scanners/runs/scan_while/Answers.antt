@@ -8,8 +8,13 @@ pub loop-count-preserved : goal.loop-count-preserved
 loop-count-preserved g c =
     let before = c.loop-count.invariant in
     let below : c.loop-count.count < length c.args.bytes.now = omega arith in
-    let called : goal.F-step g c.loop-count.f (get_or c.args.bytes.now c.loop-count.count 0) true c.f.new.self = search of_calls in
-    (search (rules, of_calls), omega arith, rw (take_more c.args.bytes.now c.loop-count.count 0 below) (FoldsTo-push (λ p b q. goal.F-step g p b true q) _ _ _ _ _ before.2 called))
+    let called : goal.F-step g c.loop-count.f (get_or c.args.bytes.now c.loop-count.count 0) true c.f.new.self =
+    search of_calls in (
+      search (rules, of_calls),
+      omega arith,
+      rw (take_more c.args.bytes.now c.loop-count.count 0 below)
+          (FoldsTo-push (λ p b q. goal.F-step g p b true q) _ _ _ _ _ before.2 called),
+    )
 
 pub returns-clause-accepted : goal.returns-clause-accepted
 returns-clause-accepted g c =
@@ -28,7 +33,8 @@ pub returns-then-not-f-clause-accepted : goal.returns-then-not-f-clause-accepted
 returns-then-not-f-clause-accepted g c =
     let before = c.loop-count.invariant in
     let below : c.loop-count.count < length c.args.bytes.now = omega arith in
-    let called : goal.F-step g c.loop-count.f (get_or c.args.bytes.now c.loop-count.count 0) false c.f.new.self = search of_calls in
+    let called : goal.F-step g c.loop-count.f (get_or c.args.bytes.now c.loop-count.count 0) false c.f.new.self =
+    search of_calls in
     record {
       prefix = take c.loop-count.count c.args.bytes.now;
       rest = drop c.loop-count.count c.args.bytes.now;
