@@ -22,7 +22,7 @@ module _ (p : ℕ → Bool) where
             (prefix_len-first bytes k (omega (arith, inside)) here (λ j lt. before (suc j) (omega (arith, lt)))))
       ]
 
-  pub prefix_len-all : (bytes : List ℕ) → ((j : ℕ) → j < length bytes → ¬ (p (slice_index bytes j) ≡ true))
+  prefix_len-all : (bytes : List ℕ) → ((j : ℕ) → j < length bytes → ¬ (p (slice_index bytes j) ≡ true))
       → prefix_len (λ b. not (p b)) bytes ≡ length bytes
   prefix_len-all [] none = refl
   prefix_len-all (b ∷ bytes) none =
@@ -31,7 +31,7 @@ module _ (p : ℕ → Bool) where
         | inr fails ↦ rw (fails, one-add) (ap suc (prefix_len-all bytes (λ j lt. none (suc j) (omega (arith, lt)))))
       ]
 
-  pub list_any-at : (bytes : List ℕ) (k : ℕ) → k < length bytes → p (slice_index bytes k) ≡ true
+  list_any-at : (bytes : List ℕ) (k : ℕ) → k < length bytes → p (slice_index bytes k) ≡ true
       → list_any p bytes ≡ true
   list_any-at [] k inside here = absurd (omega (arith, inside))
   list_any-at (b ∷ bytes) zero inside here = rw here refl
@@ -40,7 +40,7 @@ module _ (p : ℕ → Bool) where
     | inr fails ↦ rw fails (list_any-at bytes k (omega (arith, inside)) here)
   ]
 
-  pub list_any-none : (bytes : List ℕ) → ((j : ℕ) → j < length bytes → ¬ (p (slice_index bytes j) ≡ true))
+  list_any-none : (bytes : List ℕ) → ((j : ℕ) → j < length bytes → ¬ (p (slice_index bytes j) ≡ true))
       → list_any p bytes ≡ false
   list_any-none [] none = refl
   list_any-none (b ∷ bytes) none =

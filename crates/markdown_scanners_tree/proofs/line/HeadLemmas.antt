@@ -183,7 +183,7 @@ item-within : (indent : ℕ) (r : List ℕ) → (item_step indent r).taken ≤ h
 item-within indent r = item-within-by indent r (list_marker r) refl
 
 -- a call takes nothing past the head of a rest
-pub plain_step-within : (call : LineCall) (r : List ℕ) → (plain_step call r).taken ≤ head_len r
+plain_step-within : (call : LineCall) (r : List ℕ) → (plain_step call r).taken ≤ head_len r
 plain_step-within (Space n) r = omega (arith, leading-head r)
 plain_step-within (Upto n) r = omega (arith, leading-head r)
 plain_step-within Eol r = omega arith

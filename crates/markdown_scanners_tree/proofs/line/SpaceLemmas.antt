@@ -14,17 +14,17 @@ use Rattle.markdown_scanners_tree.proofs.line.ColumnLemmas.{after-more, bool_cas
 abbrev pub spaces : ℕ → List ℕ
 spaces n = replicate n 32
 
-pub leading-spaces : (m : ℕ) (w : List ℕ) → leading_spaces (spaces m ++ w) ≡ m + leading_spaces w
+leading-spaces : (m : ℕ) (w : List ℕ) → leading_spaces (spaces m ++ w) ≡ m + leading_spaces w
 leading-spaces zero w = omega arith
 leading-spaces (suc m) w = omega (arith, leading-spaces m w)
 
-pub drop-spaces : (t p : ℕ) (w : List ℕ) → drop t (spaces (t + p) ++ w) ≡ spaces p ++ w
+drop-spaces : (t p : ℕ) (w : List ℕ) → drop t (spaces (t + p) ++ w) ≡ spaces p ++ w
 drop-spaces t p w =
     let fits : t ≤ length (spaces (t + p)) = rw (length-replicate {A = ℕ} (t + p) 32) (omega arith) in
     let e : t + p - t ≡ p = omega arith in
     drop-append-le t (spaces (t + p)) w fits ∙ rw (drop-replicate {X = ℕ} t (t + p) 32, e) refl
 
-pub spaces-join : (m n : ℕ) (w : List ℕ) → spaces m ++ (spaces n ++ w) ≡ spaces (m + n) ++ w
+spaces-join : (m n : ℕ) (w : List ℕ) → spaces m ++ (spaces n ++ w) ≡ spaces (m + n) ++ w
 spaces-join m n w = sym (append_assoc (spaces m) (spaces n) w) ∙ rw (replicate-append-replicate {A = ℕ} m n 32) refl
 
 -- the column of a state's place counts modulo four alone
@@ -33,7 +33,7 @@ written_out-phase bs c =
     let e : c % 4 + 4 * (c / 4) ≡ c = omega arith in
     sym (written_out-shift bs (c % 4) (c / 4)) ∙ rw e refl
 
-pub below-phase : (bs : List ℕ) (c n p : ℕ) → bytes_below (c % 4) bs (c % 4 + n - p) ≡ bytes_below c bs (c + n - p)
+below-phase : (bs : List ℕ) (c n p : ℕ) → bytes_below (c % 4) bs (c % 4 + n - p) ≡ bytes_below c bs (c + n - p)
 below-phase bs c n p =
     elim (cases_lt p n) [
       | inr few ↦ none_below bs (c % 4) (c % 4 + n - p) (omega arith)
@@ -45,13 +45,13 @@ below-phase bs c n p =
           )
     ]
 
-pub past-phase : (bs : List ℕ) (c : ℕ) → column_past (c % 4) bs + 4 * (c / 4) ≡ column_past c bs
+past-phase : (bs : List ℕ) (c : ℕ) → column_past (c % 4) bs + 4 * (c / 4) ≡ column_past c bs
 past-phase bs c =
     let e : c % 4 + 4 * (c / 4) ≡ c = omega arith in
     sym (column_past-shift bs (c % 4) (c / 4)) ∙ rw e refl
 
 -- a space or a tab more
-pub reach_space : {c₀ : ℕ} {bs₀ : List ℕ} {passed c b : ℕ} {back : List ℕ} (pending : ℕ)
+reach_space : {c₀ : ℕ} {bs₀ : List ℕ} {passed c b : ℕ} {back : List ℕ} (pending : ℕ)
     → Reach c₀ bs₀ (spaces (c - c₀)) passed c 0 (b ∷ back) → c₀ ≤ c → (b ≡ 32) ⊎ (b ≡ 9)
     → c + pending < column_after c b
     → Reach c₀ bs₀ (spaces (column_after c b - c₀)) (passed + 1) (column_after c b) pending back

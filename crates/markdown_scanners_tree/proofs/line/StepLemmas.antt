@@ -21,7 +21,7 @@ use Rattle.markdown_scanners_tree.proofs.line.WrittenLemmas.{line_end-written, b
 use Rattle.markdown_scanners_tree.proofs.line.SpaceLemmas.{state_of, further-column, written_out-phase}
 
 -- a state is made of its parts
-pub state_is : (s : LineState) → s.phase < 4 → state_of s.bytes s.place s.pending s.phase ≡ s
+state_is : (s : LineState) → s.phase < 4 → state_of s.bytes s.place s.pending s.phase ≡ s
 state_is s small =
     let phase : s.phase % 4 ≡ s.phase = omega arith in
     rw phase refl
@@ -31,7 +31,7 @@ pub rest-none : (s : LineState) → s.pending ≡ 0 → rest_of s ≡ written_ou
 rest-none s none = rw none refl
 
 -- nothing taken
-pub none_further : (s : LineState) → s.phase < 4 → columns_further 0 s ≡ s
+none_further : (s : LineState) → s.phase < 4 → columns_further 0 s ≡ s
 none_further s small =
     let count : bytes_below s.phase (unscanned s) (s.phase + 0 - s.pending) ≡ 0 =
     none_below (unscanned s) s.phase (s.phase + 0 - s.pending) (omega arith) in
@@ -169,7 +169,7 @@ further-add s a b small fits =
     ∙ ap (λ x. columns_further b (columns_further a x)) here
 
 -- what is left before a byte that is no tab, with nothing pending
-pub byte_left : (s : LineState) (b : ℕ) → s.phase < 4 → s.pending ≡ 0 → (b == 9) ≡ false → is_line_ending b ≡ false
+byte_left : (s : LineState) (b : ℕ) → s.phase < 4 → s.pending ≡ 0 → (b == 9) ≡ false → is_line_ending b ≡ false
     → unscanned s ≡ b ∷ drop (s.place + 1) s.bytes
     → rest_of s ≡ b ∷ rest_of (bytes_further 1 s)
 byte_left s b small none plain goes split =

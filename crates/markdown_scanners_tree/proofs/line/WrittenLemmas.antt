@@ -138,7 +138,7 @@ break-written b c bs =
     (λ other. rw other refl)
 
 -- a thematic break begins where one begins in the line
-pub thematic_break-written : (bs : List ℕ) (c : ℕ) → is_thematic_break (written_out c bs) ≡ is_thematic_break bs
+thematic_break-written : (bs : List ℕ) (c : ℕ) → is_thematic_break (written_out c bs) ≡ is_thematic_break bs
 thematic_break-written [] c = refl
 thematic_break-written (b ∷ bs) c =
     bool_cases (is_line_ending b)
@@ -217,7 +217,7 @@ ordered-written digits (d ∷ back) c =
 pub digit_plain : (b : ℕ) → is_digit b ≡ true → is_plain b ≡ true
 digit_plain b digit = grind (arith, nat_tests)
 
-pub front-written : (front back : List ℕ) (c : ℕ) → list_all is_plain front ≡ true
+front-written : (front back : List ℕ) (c : ℕ) → list_all is_plain front ≡ true
     → written_out c (front ++ back) ≡ front ++ written_out (c + length front) back
 front-written [] back c all = let e : c + 0 ≡ c = omega arith in rw e refl
 front-written (b ∷ front) back c all =

@@ -25,7 +25,7 @@ pub record Tied (line : List ℕ) (k c : ℕ) (s : LineState) : Type 0 where
 module _ (line : List ℕ) (k c place p t : ℕ) (tied : Tied line k c (state_of line place p c))
     (fits : c + t ≤ p + head_end c (drop place line))
     (rest : rest_of (columns_further t (state_of line place p c)) ≡ drop t (rest_of (state_of line place p c))) where
-  pub tied_next : let m = bytes_below c (drop place line) (c + t - p) in
+  tied_next : let m = bytes_below c (drop place line) (c + t - p) in
       Tied line (k + t) (column_past c (take m (drop place line))) (columns_further t (state_of line place p c))
   tied_next =
       let back = drop place line in
@@ -52,7 +52,7 @@ module _ (line : List ℕ) (k c place p t : ℕ) (tied : Tied line k c (state_of
       rw move after
 
 -- what the tie says of a column that is reached
-pub tied_on : (line : List ℕ) (k c : ℕ) (s : LineState) → Tied line k c s → is_on_byte 0 line k ≡ (s.pending == 0)
+tied_on : (line : List ℕ) (k c : ℕ) (s : LineState) → Tied line k c s → is_on_byte 0 line k ≡ (s.pending == 0)
 tied_on line k c s tied =
     let at = tied.at in
     tied.on k (omega arith) ∙ bool_cases (s.pending == 0)
@@ -64,14 +64,14 @@ tied_on line k c s tied =
     let some : k < c = grind (arith, nat_tests) in
     rw (no) (off_before (drop s.place line) c k some))
 
-pub tied_scanned : (line : List ℕ) (k c : ℕ) (s : LineState) → Tied line k c s → bytes_below 0 line k ≡ s.place
+tied_scanned : (line : List ℕ) (k c : ℕ) (s : LineState) → Tied line k c s → bytes_below 0 line k ≡ s.place
 tied_scanned line k c s tied =
     let at = tied.at in
     let none = none_below (drop s.place line) c k (omega arith) in
     tied.below k (omega arith) ∙ rw none (omega arith)
 
 -- answers before a run
-abbrev pub after_answers : List LineAnswer → Run → Run
+abbrev after_answers : List LineAnswer → Run → Run
 after_answers answers run = record run { answers = answers ++ run.answers }
 
 -- the run up to a call: the answers so far, and what is still to come from the column reached
@@ -84,7 +84,7 @@ pub record SoFar (line : List ℕ) (calls left : List LineCall) (answers : List 
 abbrev pub next_column : LineState → ℕ → ℕ → ℕ
 next_column s c t = column_past c (take (bytes_below c (unscanned s) (c + t - s.pending)) (unscanned s))
 
-pub tied_next-state : (line : List ℕ) (k c t : ℕ) (s : LineState) → Tied line k c s
+tied_next-state : (line : List ℕ) (k c t : ℕ) (s : LineState) → Tied line k c s
     → c + t ≤ s.pending + head_end c (drop s.place line) → rest_of (columns_further t s) ≡ drop t (rest_of s)
     → Tied line (k + t) (next_column s c t) (columns_further t s)
 tied_next-state line k c t s tied fits rest =
@@ -93,7 +93,7 @@ tied_next-state line k c t s tied fits rest =
     → Tied line (k + t) (next_column x c t) (columns_further t x) in
     subst P (sym tied.shape) (λ a b d. tied_next line k c s.place s.pending t a b d) tied fits rest
 
-pub step-fits-state : (call : LineCall) (line : List ℕ) (k c : ℕ) (s : LineState) → Tied line k c s
+step-fits-state : (call : LineCall) (line : List ℕ) (k c : ℕ) (s : LineState) → Tied line k c s
     → c + (plain_step call (rest_of s)).taken ≤ s.pending + head_end c (drop s.place line)
 step-fits-state call line k c s tied =
     let P : LineState → Type 0 =

@@ -172,7 +172,7 @@ module _ (bytes : List ℕ) (marker run : ℕ) (marked : is_break_marker marker 
       first marker [] marked begins = begins
       first marker (b ∷ bytes) marked begins = let same : (b == marker) ≡ true = begins in rw (same, one-add) same
 
-  pub none_in_prefix : (HasThreeAndEnd marker (take run bytes) (drop run bytes) → ⊥)
+  none_in_prefix : (HasThreeAndEnd marker (take run bytes) (drop run bytes) → ⊥)
       → (k : ℕ) → k < run → ¬ IsThematicBreak (drop k bytes)
   none_in_prefix refused k lt break =
       let inside : k < length (take run bytes) = omega (arith, prefix_length) in
@@ -189,7 +189,7 @@ module _ (bytes : List ℕ) (marker run : ℕ) (marked : is_break_marker marker 
   pub none_at_all : (HasThreeAndEnd marker (take run bytes) (drop run bytes) → ⊥) → ¬ IsThematicBreak bytes
   none_at_all refused break = none_in_prefix refused 0 some_prefix break
 
-  pub none_in_line : (ending : ℕ) → line_ending (drop run bytes) ≡ Some ending
+  none_in_line : (ending : ℕ) → line_ending (drop run bytes) ≡ Some ending
       → (3 ≤ count_by (λ b. b == marker) (take run bytes) → ⊥) → (k : ℕ) → k < run + ending
       → ¬ IsThematicBreak (drop k bytes)
   none_in_line ending ends few k lt break =
@@ -202,7 +202,7 @@ module _ (bytes : List ℕ) (marker run : ℕ) (marked : is_break_marker marker 
             no_break_in_ending (drop run bytes) ending (k - run) ends (omega arith) (rw at at break))
       ]
 
-  pub found_in_line : (ending : ℕ) → line_ending (drop run bytes) ≡ Some ending
+  found_in_line : (ending : ℕ) → line_ending (drop run bytes) ≡ Some ending
       → 3 ≤ count_by (λ b. b == marker) (take run bytes) → IsThematicBreak bytes × (run + ending ≡ line_length bytes)
   found_in_line ending ends three =
       let whole : take run bytes ++ drop run bytes ≡ bytes = take-append-drop run bytes in

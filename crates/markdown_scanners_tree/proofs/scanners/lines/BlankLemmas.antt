@@ -48,7 +48,7 @@ pub head_parts : (prefix rest : List ℕ) (ending : ℕ) → list_all ends_no_li
 head_parts prefix rest ending all ends =
     prefix_len-parts ends_no_line prefix rest all (first-line_ending ends_no_line refl refl rest ending ends)
 
-pub line_head-parts : (prefix rest : List ℕ) (ending : ℕ) → list_all ends_no_line prefix ≡ true
+line_head-parts : (prefix rest : List ℕ) (ending : ℕ) → list_all ends_no_line prefix ≡ true
     → line_ending rest ≡ Some ending → line_head (prefix ++ rest) ≡ prefix
 line_head-parts prefix rest ending all ends =
     rw (head_parts prefix rest ending all ends) (take-append_seam prefix rest)

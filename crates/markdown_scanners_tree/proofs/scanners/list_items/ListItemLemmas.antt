@@ -16,7 +16,7 @@ use Rattle.markdown_scanners_tree.proofs.PrefixLemmas.{both_true, list_all-prefi
 use Rattle.markdown_scanners_tree.proofs.scanners.indent.IndentLemmas.{IsIndent-unique}
 
 -- how many bytes a list marker at the front has, if one stands there
-abbrev pub marker_length : List ℕ → ℕ
+abbrev marker_length : List ℕ → ℕ
 marker_length bytes = cond (begins_with is_bullet bytes) 1 (prefix_len is_digit bytes + 1)
 
 delimiter_no_digit : (b : ℕ) → is_delimiter b ≡ true → is_digit b ≡ false
@@ -41,7 +41,7 @@ ordered-parts (d ∷ digits) delimiter rest one all is =
       ap (drop (length (d ∷ digits))) joined ∙ drop-append_seam (d ∷ digits) (delimiter ∷ rest),
     )
 
-pub marker-length : (marker : List ℕ) (delimiter start : ℕ) (rest : List ℕ) → IsListMarker marker delimiter start
+marker-length : (marker : List ℕ) (delimiter start : ℕ) (rest : List ℕ) → IsListMarker marker delimiter start
     → marker_length (marker ++ rest) ≡ length marker
 marker-length marker delimiter start rest (bullet b is) = rw is refl
 marker-length marker delimiter start rest (ordered digits d one few all is) =
@@ -49,7 +49,7 @@ marker-length marker delimiter start rest (ordered digits d one few all is) =
     rw at.0 (omega (arith, at.1, length-append digits (d ∷ [])))
 
 -- a marker where no bullet stands: one to nine digits and a delimiter
-pub ordered-only : (bytes marker : List ℕ) (delimiter start : ℕ) (rest : List ℕ) → bytes ≡ marker ++ rest
+ordered-only : (bytes marker : List ℕ) (delimiter start : ℕ) (rest : List ℕ) → bytes ≡ marker ++ rest
     → begins_with is_bullet bytes ≡ false → IsListMarker marker delimiter start
     → (1 ≤ prefix_len is_digit bytes) × (prefix_len is_digit bytes ≤ 9)
     × (begins_with is_delimiter (drop (prefix_len is_digit bytes) bytes) ≡ true)

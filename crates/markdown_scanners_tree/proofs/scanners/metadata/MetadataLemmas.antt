@@ -84,7 +84,7 @@ not_closing-dots bytes opening none no_dots n close =
     ]
 
 -- A first line is the run of three, the longest prefix of what may follow it, and its LF.
-pub opening-parts : (byte : ℕ) (bytes body : List ℕ) → IsOpeningLine byte bytes body
+opening-parts : (byte : ℕ) (bytes body : List ℕ) → IsOpeningLine byte bytes body
     → (prefix_len (λ b. b == byte) bytes ≡ 3)
     × (drop (prefix_len is_after_opening (drop 3 bytes)) (drop 3 bytes) ≡ line_feed ∷ body)
 opening-parts byte bytes body line =
@@ -95,7 +95,7 @@ opening-parts byte bytes body line =
     let whole = prefix_len-parts is_after_opening line.after (line_feed ∷ body) line.all_after_opening refl in
     (three, rw (rest, whole) (drop-append_seam line.after (line_feed ∷ body)))
 
-pub opening-unique : (byte : ℕ) (bytes body other : List ℕ) → IsOpeningLine byte bytes body
+opening-unique : (byte : ℕ) (bytes body other : List ℕ) → IsOpeningLine byte bytes body
     → IsOpeningLine byte bytes other → body ≡ other
 opening-unique byte bytes body other line line' =
     let parts = (opening-parts byte bytes body line).1 in
@@ -141,7 +141,7 @@ module _ (bytes : List ℕ) (byte run : ℕ) (is_run : run ≡ prefix_len (λ b.
         cc
 
 -- a closing line after the LF at place k
-pub later-at : (opening n : ℕ) (bytes : List ℕ) (k : ℕ) → k < length bytes → get_or bytes k 0 ≡ line_feed
+later-at : (opening n : ℕ) (bytes : List ℕ) (k : ℕ) → k < length bytes → get_or bytes k 0 ≡ line_feed
     → IsClosingMetadataBlock (drop (k + 1) bytes) opening n → HasLaterClose bytes opening
 later-at opening n bytes k inside here close = record {
   before = take k bytes;
@@ -153,7 +153,7 @@ later-at opening n bytes k inside here close = record {
 }
 
 -- a closing line that does not follow the first LF directly stands after it
-pub later-skip : (opening : ℕ) (bytes : List ℕ) (k : ℕ) → prefix_len is_no_line_feed bytes ≡ k
+later-skip : (opening : ℕ) (bytes : List ℕ) (k : ℕ) → prefix_len is_no_line_feed bytes ≡ k
     → ((n : ℕ) → ¬ IsClosingMetadataBlock (drop (suc k) bytes) opening n)
     → HasLaterClose bytes opening → HasLaterClose (drop (suc k) bytes) opening
 later-skip opening bytes k first none close =
@@ -182,7 +182,7 @@ later-skip opening bytes k first none close =
         skip bytes k next none before after n tail closed
 
 -- without an LF there is no later line
-pub later-none : (opening : ℕ) (bytes : List ℕ) → prefix_len is_no_line_feed bytes ≡ length bytes
+later-none : (opening : ℕ) (bytes : List ℕ) → prefix_len is_no_line_feed bytes ≡ length bytes
     → ¬ HasLaterClose bytes opening
 later-none opening bytes none close = no_feed bytes none close.before close.after close.later
   where
