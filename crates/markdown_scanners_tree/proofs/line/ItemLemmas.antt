@@ -13,7 +13,7 @@ use Rattle.markdown_scanners_tree.specs.line.State.{LineState, unscanned, rest_o
 use Rattle.markdown_scanners_tree.specs.scanners.list_items.ListItem.{IsListMarker, bullet, ordered}
 use Rattle.markdown_scanners_tree.specs.scanners.list_items.ListMarker.{Marker, is_bullet, is_delimiter, bullet_marker, ordered_marker, ordered_marker_of, list_marker, is_space_or_line_end}
 use Rattle.std.specs.Str.Parse.{digits_value}
-use Rattle.markdown_scanners_tree.specs.line.run.PlainRun.{refusal}
+use Rattle.markdown_scanners_tree.specs.line.run.PlainRun.{line_refusal}
 use Rattle.markdown_scanners_tree.specs.line.PlainStep.{Step, item_step, item_step_of, item_step_by, no_item, marker_spaces, spaces_within, IsPlainStep}
 use Rattle.markdown_scanners_tree.specs.scanners.Breaks.{is_thematic_break}
 use Rattle.markdown_scanners_tree.specs.declared.line.run.LineAnswer.TheVariants.{List as ItemAnswer}
@@ -113,7 +113,7 @@ marker-width marker delimiter start (bullet b is) = omega arith
 marker-width marker delimiter start (ordered digits d one few all is) = omega (arith, length-append digits (d ∷ []))
 
 -- a call for a list marker that is not refused has nothing pending
-pub item_allowed : (p indent : ℕ) → refusal (p == 0) (ItemCall indent) ≡ None → p ≡ 0
+pub item_allowed : (p indent : ℕ) → line_refusal (p == 0) (ItemCall indent) ≡ None → p ≡ 0
 item_allowed p indent h =
     bool_cases (p == 0)
     (λ yes. grind (arith, nat_tests))

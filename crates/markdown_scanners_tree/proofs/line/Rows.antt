@@ -3,7 +3,7 @@ use Rattle.std.proofs.Common.{ℕ, ◌≡◌, refl, List, [], ◌∷◌, ◌++�
 use Rattle.markdown_scanners_tree.specs.Bytes.{blank_line}
 use Rattle.markdown_scanners_tree.specs.line.State.{after_space}
 use Rattle.markdown_scanners_tree.specs.line.Outcome.{after_all_space}
-use Rattle.markdown_scanners_tree.specs.line.run.PlainRun.{plain_run, stop_at, rest_after, scanned_after}
+use Rattle.markdown_scanners_tree.specs.line.run.PlainRun.{plain_run, indexed_stop, rest_after, scanned_after}
 use Rattle.markdown_scanners_tree.specs.scanners.Breaks.{is_thematic_break}
 use Rattle.markdown_scanners_tree.specs.declared.line.run.LineAnswer.{LineAnswer}
 use Rattle.markdown_scanners_tree.specs.declared.line.run.LineAnswer.TheVariants.{Flag, Count}
@@ -21,7 +21,7 @@ record Shown : Type 0 where
 
 abbrev shown : List ℕ → List LineCall → Shown
 shown line calls = let run = plain_run line calls in
-    record { answers = run.answers; stop = stop_at run; rest = rest_after line run; scanned = scanned_after line run }
+    record { answers = run.answers; stop = indexed_stop run; rest = rest_after line run; scanned = scanned_after line run }
 
 abbrev shows : List LineAnswer → Option (ℕ × LineStop) → List ℕ → ℕ → Shown
 shows answers stop rest scanned = record { answers = answers; stop = stop; rest = rest; scanned = scanned }

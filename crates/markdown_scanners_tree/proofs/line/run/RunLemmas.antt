@@ -5,7 +5,7 @@ use Rattle.std.proofs.lemmas.List.{drop-drop, append-nil}
 use Rattle.markdown_scanners_tree.specs.Columns.{column_past, head_end, is_on_byte, bytes_below, expanded}
 use Rattle.markdown_scanners_tree.specs.line.State.{LineState, unscanned, rest_of, columns_further}
 use Rattle.markdown_scanners_tree.specs.line.PlainStep.{plain_step}
-use Rattle.markdown_scanners_tree.specs.line.run.PlainRun.{plain_run, run_from, after_answer, refusal, Run, stop_at, rest_after, scanned_after}
+use Rattle.markdown_scanners_tree.specs.line.run.PlainRun.{plain_run, run_from, after_answer, line_refusal, PlainRun, indexed_stop, rest_after, scanned_after}
 use Rattle.markdown_scanners_tree.specs.declared.line.run.LineAnswer.{LineAnswer}
 use Rattle.markdown_scanners_tree.specs.declared.line.run.LineCall.{LineCall}
 use Rattle.markdown_scanners_tree.specs.declared.line.run.LineStop.{LineStop}
@@ -71,7 +71,7 @@ tied_scanned line k c s tied =
     tied.below k (omega arith) ∙ rw none (omega arith)
 
 -- answers before a run
-abbrev after_answers : List LineAnswer → Run → Run
+abbrev after_answers : List LineAnswer → PlainRun → PlainRun
 after_answers answers run = record run { answers = answers ++ run.answers }
 
 -- the run up to a call: the answers so far, and what is still to come from the column reached
@@ -102,22 +102,22 @@ step-fits-state call line k c s tied =
 
 -- a run whose first call is not refused, and one whose first call is
 run_from-goes : (line : List ℕ) (k : ℕ) (call : LineCall) (left : List LineCall)
-    → refusal (is_on_byte 0 line k) call ≡ None →
+    → line_refusal (is_on_byte 0 line k) call ≡ None →
     let step = plain_step call (drop k (expanded line)) in
     run_from line k (call ∷ left) ≡ after_answer step.answer (run_from line (k + step.taken) left)
 run_from-goes line k call left h =
     let step = plain_step call (drop k (expanded line)) in
-    ap (λ (r : Option LineStop). elim r as (λ _. Run) [
+    ap (λ (r : Option LineStop). elim r as (λ _. PlainRun) [
       | Some stop ↦ record { answers = []; column = k; stop = Some stop }
       | None ↦ after_answer step.answer (run_from line (k + step.taken) left)
     ]) h
 
 run_from-stops : (line : List ℕ) (k : ℕ) (call : LineCall) (left : List LineCall) (reason : LineStop) →
-    refusal (is_on_byte 0 line k) call ≡ Some reason →
+    line_refusal (is_on_byte 0 line k) call ≡ Some reason →
     run_from line k (call ∷ left) ≡ record { answers = []; column = k; stop = Some reason }
 run_from-stops line k call left reason h =
     let step = plain_step call (drop k (expanded line)) in
-    ap (λ (r : Option LineStop). elim r as (λ _. Run) [
+    ap (λ (r : Option LineStop). elim r as (λ _. PlainRun) [
       | Some stop ↦ record { answers = []; column = k; stop = Some stop }
       | None ↦ after_answer step.answer (run_from line (k + step.taken) left)
     ]) h
@@ -125,7 +125,7 @@ run_from-stops line k call left reason h =
 pub so_far_next : (line : List ℕ) (calls left : List LineCall) (answers : List LineAnswer) (s s' : LineState)
     (k c : ℕ) (call : LineCall) →
     let step = plain_step call (rest_of s) in
-    SoFar line calls (call ∷ left) answers s k c → refusal (s.pending == 0) call ≡ None
+    SoFar line calls (call ∷ left) answers s k c → line_refusal (s.pending == 0) call ≡ None
     → s' ≡ columns_further step.taken s → rest_of s' ≡ drop step.taken (rest_of s)
     → SoFar line calls left (answers ++ (step.answer ∷ [])) s' (k + step.taken) (next_column s c step.taken)
 so_far_next line calls left answers s s' k c call so allowed state rest =
@@ -133,7 +133,7 @@ so_far_next line calls left answers s s' k c call so allowed state rest =
     let t = (plain_step call (rest_of s)).taken in
     let rest' : rest_of (columns_further t s) ≡ drop t (rest_of s) = ap rest_of (sym state) ∙ rest in
     let next = tied_next-state line k c t s tied (step-fits-state call line k c s tied) rest' in
-    let goes = run_from-goes line k call left (ap (λ b. refusal b call) (tied_on line k c s tied) ∙ allowed) in
+    let goes = run_from-goes line k call left (ap (λ b. line_refusal b call) (tied_on line k c s tied) ∙ allowed) in
     let step = plain_step call (rest_of s) in
     let one : run_from line k (call ∷ left) ≡ after_answer step.answer (run_from line (k + step.taken) left) =
     goes ∙ ap (λ r. after_answer (plain_step call r).answer
@@ -147,17 +147,17 @@ so_far_next line calls left answers s s' k c call so allowed state rest =
 -- where the calls end, or a call is refused, what is so far is the run
 pub so_far_done : (line : List ℕ) (calls : List LineCall) (answers : List LineAnswer) (s : LineState) (k c : ℕ) →
     SoFar line calls [] answers s k c →
-    (answers ≡ (plain_run line calls).answers) × (None ≡ stop_at (plain_run line calls))
+    (answers ≡ (plain_run line calls).answers) × (None ≡ indexed_stop (plain_run line calls))
     × (rest_of s ≡ rest_after line (plain_run line calls)) × (s.place ≡ scanned_after line (plain_run line calls))
 so_far_done line calls answers s k c so =
     rw (so.run) (sym (append-nil answers), refl, sym so.tied.rest, sym (tied_scanned line k c s so.tied))
 
 pub so_far_stopped : (line : List ℕ) (calls left : List LineCall) (call : LineCall) (reason : LineStop)
     (answers : List LineAnswer) (s : LineState) (k c : ℕ) →
-    SoFar line calls (call ∷ left) answers s k c → refusal (s.pending == 0) call ≡ Some reason →
-    (answers ≡ (plain_run line calls).answers) × (Some (length answers, reason) ≡ stop_at (plain_run line calls))
+    SoFar line calls (call ∷ left) answers s k c → line_refusal (s.pending == 0) call ≡ Some reason →
+    (answers ≡ (plain_run line calls).answers) × (Some (length answers, reason) ≡ indexed_stop (plain_run line calls))
     × (rest_of s ≡ rest_after line (plain_run line calls)) × (s.place ≡ scanned_after line (plain_run line calls))
 so_far_stopped line calls left call reason answers s k c so refused =
     let stops =
-    run_from-stops line k call left reason (ap (λ b. refusal b call) (tied_on line k c s so.tied) ∙ refused) in
+    run_from-stops line k call left reason (ap (λ b. line_refusal b call) (tied_on line k c s so.tied) ∙ refused) in
     rw (so.run, stops, append-nil answers) (refl, refl, sym so.tied.rest, sym (tied_scanned line k c s so.tied))

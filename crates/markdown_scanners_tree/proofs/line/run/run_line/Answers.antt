@@ -3,7 +3,7 @@ use Rattle.std.proofs.lemmas.List.{drop_more}
 use Rattle.std.proofs.Math.ListN.{drop_of_length-le}
 use Rattle.markdown_scanners_tree.specs.declared.line.run.LineCall.TheVariants.{Space}
 use Rattle.markdown_scanners_tree.specs.line.PlainStep.{plain_step}
-use Rattle.markdown_scanners_tree.specs.line.run.PlainRun.{plain_run, stop_at, rest_after, scanned_after}
+use Rattle.markdown_scanners_tree.specs.line.run.PlainRun.{plain_run, indexed_stop, rest_after, scanned_after}
 use Rattle.markdown_scanners_tree.specs.declared.line.run.LineAnswer.{LineAnswer}
 use Rattle.markdown_scanners_tree.specs.declared.line.run.LineStop.{LineStop}
 use Rattle.markdown_scanners_tree.specs.line.State.{rest_of}
@@ -35,7 +35,7 @@ loop-index-preserved c =
 -- the run where a call is refused
 pub stopped : (c : goal.After-finished) → let plain = plain_run c.args.bytes.now c.args.calls.now in
     (c.loop-index.answers.items ≡ plain.answers)
-    × (Some (length c.loop-index.answers.items, c.in-Some.reason) ≡ stop_at plain)
+    × (Some (length c.loop-index.answers.items, c.in-Some.reason) ≡ indexed_stop plain)
     × (rest_of c.loop-index.start ≡ rest_after c.args.bytes.now plain)
     × (c.loop-index.start.place ≡ scanned_after c.args.bytes.now plain)
 stopped c =
@@ -51,7 +51,7 @@ stopped c =
 
 -- the run where the calls end
 pub ended : (c : goal.After-finished-2) → let plain = plain_run c.args.bytes.now c.args.calls.now in
-    (c.loop-index.answers.items ≡ plain.answers) × (None ≡ stop_at plain)
+    (c.loop-index.answers.items ≡ plain.answers) × (None ≡ indexed_stop plain)
     × (rest_of c.loop-index.start ≡ rest_after c.args.bytes.now plain)
     × (c.loop-index.start.place ≡ scanned_after c.args.bytes.now plain)
 ended c =
