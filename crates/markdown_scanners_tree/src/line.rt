@@ -224,6 +224,8 @@ impl<'a> LineStart<'a> {
             (begins_with (λ b. b == greater_than_sign) (unscanned self.old) ≡ true) }
         ensures state { self.new ≡ after_quote self.old }
         ensures bytes { self.new.bytes ≡ self.old.bytes }
+
+        // With nothing pending the call is one on the line with its tabs written out.
         ensures step { self.old.pending ≡ 0 →
             IsPlainStep LineCall.Quote (LineAnswer.Flag result) self.old self.new }
     {
@@ -236,8 +238,8 @@ impl<'a> LineStart<'a> {
     }
 
     /// Passes a list item's marker and the space that belongs to it, at an indent in columns.
-    /// Answers the bullet or the delimiter, the start number (0 for a bullet), and the indent of the
-    /// item's content.
+    /// Answers the bullet or the delimiter, the start number (0 for a bullet), and the indent of
+    /// the item's content.
     ///
     /// One column of space, or a line ending, has to follow the marker. Of further space fewer
     /// than four columns are taken, unless the rest of the line is blank.
@@ -246,11 +248,16 @@ impl<'a> LineStart<'a> {
     /// `indent` is at most `usize::MAX - 16`, so that the columns of the marker can be added.
     pub fn scan_list_marker_with_indent(&mut self, indent: usize) -> Option<(u8, u64, usize)>
         requires { indent ≤ usize.MAX - 16 }
+
         ensures answer { result ≡ (item_outcome indent self.old).answer }
-        ensures state { self.new ≡ (item_outcome indent self.old).state }
         ensures width { IfSome result (λ r. r.2 ≤ indent + 14) }
+
+        // The place after the call; it stays where no item's marker stands.
+        ensures state { self.new ≡ (item_outcome indent self.old).state }
         ensures bytes { self.new.bytes ≡ self.old.bytes }
         ensures unchanged { IfNone result (self.new ≡ self.old) }
+
+        // With nothing pending the call is one on the line with its tabs written out.
         ensures step { self.old.pending ≡ 0 →
             IsPlainStep (LineCall.List indent) (LineAnswer.List result) self.old self.new }
     {
@@ -275,11 +282,16 @@ impl<'a> LineStart<'a> {
         indent: usize,
     ) -> Option<usize>
         requires { indent ≤ usize.MAX - 16 }
+
         ensures answer { result ≡ (definition_outcome indent self.old).answer }
-        ensures state { self.new ≡ (definition_outcome indent self.old).state }
         ensures width { IfSome result (λ width. width ≤ indent + 5) }
+
+        // The place after the call; it stays where no definition's marker stands.
+        ensures state { self.new ≡ (definition_outcome indent self.old).state }
         ensures bytes { self.new.bytes ≡ self.old.bytes }
         ensures unchanged { IfNone result (self.new ≡ self.old) }
+
+        // With nothing pending the call is one on the line with its tabs written out.
         ensures step { self.old.pending ≡ 0 →
             IsPlainStep (LineCall.Definition indent) (LineAnswer.Definition result)
             self.old self.new }
@@ -301,6 +313,8 @@ impl<'a> LineStart<'a> {
         ensures inside { IfSome result (λ r. self.old.place + r.0 ≤ length self.old.bytes) }
         ensures width { IfSome result (λ r. r.0 ≤ 10) }
         ensures none { IfNone result (list_marker (unscanned self.old) ≡ None) }
+
+        // Nothing that is seen of the place changes.
         ensures state { self.new ≡ self.old }
         ensures phase { self.old.phase < 4 }
     {
