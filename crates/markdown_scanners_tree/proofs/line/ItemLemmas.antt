@@ -14,7 +14,7 @@ use Rattle.markdown_scanners_tree.specs.scanners.list_items.ListItem.{IsListMark
 use Rattle.markdown_scanners_tree.specs.scanners.list_items.ListMarker.{Marker, is_bullet, is_delimiter, bullet_marker, ordered_marker, ordered_marker_of, list_marker, is_space_or_line_end}
 use Rattle.std.specs.Str.Parse.{digits_value}
 use Rattle.markdown_scanners_tree.specs.line.run.PlainRun.{line_refusal}
-use Rattle.markdown_scanners_tree.specs.line.PlainStep.{Step, item_step, item_step_of, item_step_by, no_item, marker_spaces, spaces_within, IsPlainStep}
+use Rattle.markdown_scanners_tree.specs.line.PlainStep.{PlainStep, item_step, item_step_of, item_step_by, no_item, marker_spaces, spaces_within, IsPlainStep}
 use Rattle.markdown_scanners_tree.specs.scanners.Breaks.{is_thematic_break}
 use Rattle.markdown_scanners_tree.specs.declared.line.run.LineAnswer.TheVariants.{List as ItemAnswer}
 use Rattle.markdown_scanners_tree.specs.declared.line.run.LineCall.TheVariants.{List as ItemCall}
@@ -23,17 +23,17 @@ use Rattle.markdown_scanners_tree.proofs.PrefixLemmas.{both_true, list_all-impli
 use Rattle.markdown_scanners_tree.proofs.line.HeadLemmas.{head_len, leading-head, head_len-end, marker_spaces-within}
 use Rattle.markdown_scanners_tree.proofs.scanners.list_items.ListItemLemmas.{ordered-parts, ordered-scanned, bullet-scanned, begins-at}
 use Rattle.markdown_scanners_tree.proofs.line.StepLemmas.{nothing_taken, rest-none, rest-bytes, bytes_then, further-add}
-use Rattle.markdown_scanners_tree.proofs.line.WrittenLemmas.{is_plain, digit_plain, marker_of, marker_of-parts, written-first, blank-written, list_marker-written}
+use Rattle.markdown_scanners_tree.proofs.line.WrittenLemmas.{is_one_column, digit_one_column, marker_of, marker_of-parts, written-first, blank-written, list_marker-written}
 
 -- the bytes of a list marker are no tabs and end no line
 marker-plain : (marker : List ℕ) (delimiter start : ℕ) → IsListMarker marker delimiter start
-    → list_all is_plain marker ≡ true
+    → list_all is_one_column marker ≡ true
 marker-plain marker delimiter start (bullet b is) =
-    let plain : is_plain b ≡ true = grind (arith, nat_tests) in rw plain refl
+    let plain : is_one_column b ≡ true = grind (arith, nat_tests) in rw plain refl
 marker-plain marker delimiter start (ordered digits d one few all is) =
-    let plain : is_plain d ≡ true = grind (arith, nat_tests) in
-    list_all-append is_plain digits (d ∷ [])
-    ∙ rw (list_all-implies is_digit is_plain digit_plain digits all, plain) refl
+    let plain : is_one_column d ≡ true = grind (arith, nat_tests) in
+    list_all-append is_one_column digits (d ∷ [])
+    ∙ rw (list_all-implies is_digit is_one_column digit_one_column digits all, plain) refl
 
 -- a bullet before an ordered marker
 abbrev pick : Option Marker → Option Marker → Option Marker
@@ -183,7 +183,7 @@ item_step_of-is : (indent one further : ℕ) (r left : List ℕ) (m : Marker) �
       taken = m.width + one + further;
     }
 item_step_of-is indent one further r left m first rest counted =
-    let step : ℕ → ℕ → Step = λ o f. record {
+    let step : ℕ → ℕ → PlainStep = λ o f. record {
       answer = ItemAnswer (Some (m.delimiter, m.start, indent + m.width + 1 + f));
       taken = m.width + o + f;
     } in
@@ -211,7 +211,7 @@ module _ (s : LineState) (m : Marker) (small : s.phase < 4) (none : s.pending �
     (found : list_marker (unscanned s) ≡ Some m)
     (is : IsListMarker (take m.width (unscanned s)) m.delimiter m.start)
     (inside : m.width ≤ length (unscanned s)) where
-  item_plain : list_all is_plain (take m.width (unscanned s)) ≡ true
+  item_plain : list_all is_one_column (take m.width (unscanned s)) ≡ true
   item_plain = marker-plain (take m.width (unscanned s)) m.delimiter m.start is
 
   item_left : rest_of (bytes_further m.width s) ≡ drop m.width (rest_of s)
@@ -281,9 +281,9 @@ module _ (s : LineState) (m : Marker) (small : s.phase < 4) (none : s.pending �
         let r = rest_of s in
         let one = space_within 1 (bytes_further m.width s) in
         let taken : m.width + one + further ≡ (item_step indent r).taken =
-        ap (λ (x : Step). x.taken) (sym item_step-found) in
+        ap (λ (x : PlainStep). x.taken) (sym item_step-found) in
         record {
-          answered = ap (λ (x : Step). x.answer) (sym item_step-found);
+          answered = ap (λ (x : PlainStep). x.answer) (sym item_step-found);
           rest = left ∙ ap (drop further) item_after ∙ drop-drop further (m.width + one) r ∙ ap (λ t. drop t r) taken;
           moved = item_moved ∙ ap (λ t. columns_further t s) taken;
         }

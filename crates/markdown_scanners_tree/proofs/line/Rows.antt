@@ -21,7 +21,12 @@ record Shown : Type 0 where
 
 abbrev shown : List ℕ → List LineCall → Shown
 shown line calls = let run = plain_run line calls in
-    record { answers = run.answers; stop = indexed_stop run; rest = rest_after line run; scanned = scanned_after line run }
+    record {
+      answers = run.answers;
+      stop = indexed_stop run;
+      rest = rest_after line run;
+      scanned = scanned_after line run;
+    }
 
 abbrev shows : List LineAnswer → Option (ℕ × LineStop) → List ℕ → ℕ → Shown
 shows answers stop rest scanned = record { answers = answers; stop = stop; rest = rest; scanned = scanned }

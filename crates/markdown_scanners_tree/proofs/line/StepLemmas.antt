@@ -9,7 +9,7 @@ use Rattle.std.proofs.lemmas.Bool.Decides.{nat_tests}
 use Rattle.markdown_scanners_tree.specs.Bytes.{begins_with, is_line_ending, is_at_line_end}
 use Rattle.markdown_scanners_tree.specs.Columns.{column_after, column_past, head_end, bytes_below, written_byte, written_out}
 use Rattle.markdown_scanners_tree.specs.line.State.{LineState, unscanned, rest_of, leading_spaces, columns_further, space_within, after_space, bytes_further}
-use Rattle.markdown_scanners_tree.specs.line.PlainStep.{plain_step, quote_step, definition_step, definition_spaces, Step, IsPlainStep}
+use Rattle.markdown_scanners_tree.specs.line.PlainStep.{plain_step, quote_step, definition_step, definition_spaces, PlainStep, IsPlainStep}
 use Rattle.markdown_scanners_tree.specs.declared.line.run.LineAnswer.{LineAnswer}
 use Rattle.markdown_scanners_tree.specs.declared.line.run.LineAnswer.TheVariants.{Flag, Count, Definition as DefinitionAnswer}
 use Rattle.markdown_scanners_tree.specs.declared.line.run.LineCall.{LineCall}
@@ -17,7 +17,7 @@ use Rattle.markdown_scanners_tree.specs.declared.line.run.LineCall.TheVariants.{
 use Rattle.markdown_scanners_tree.proofs.line.ColumnLemmas.{bool_cases, none_below, written-cons, below-split, past-fits, Reach, reach_byte, reach_none}
 use Rattle.markdown_scanners_tree.proofs.PrefixLemmas.{both_true}
 use Rattle.markdown_scanners_tree.proofs.line.HeadLemmas.{definition_spaces-within}
-use Rattle.markdown_scanners_tree.proofs.line.WrittenLemmas.{line_end-written, begins-written, is_plain}
+use Rattle.markdown_scanners_tree.proofs.line.WrittenLemmas.{line_end-written, begins-written, is_one_column}
 use Rattle.markdown_scanners_tree.proofs.line.SpaceLemmas.{state_of, further-column, written_out-phase}
 
 -- a state is made of its parts
@@ -73,7 +73,7 @@ plain_then bytes front place c w t r =
     ∙ rw (count, past, place', sum') (sym (further-column bytes (place + w) 0 (c + w) t))
 
 -- plain bytes are passed one column each
-reach_plain : (front back : List ℕ) {c₀ : ℕ} {bs₀ out : List ℕ} {passed c : ℕ} → list_all is_plain front ≡ true
+reach_plain : (front back : List ℕ) {c₀ : ℕ} {bs₀ out : List ℕ} {passed c : ℕ} → list_all is_one_column front ≡ true
     → Reach c₀ bs₀ out passed c 0 (front ++ back)
     → (out' : List ℕ) × Reach c₀ bs₀ out' (passed + length front) (c + length front) 0 back
 reach_plain [] back {c₀} {bs₀} {out} {passed} {c} all r =
@@ -81,7 +81,7 @@ reach_plain [] back {c₀} {bs₀} {out} {passed} {c} all r =
     let e : c + 0 ≡ c = omega arith in
     (out, rw (p, e) r)
 reach_plain (b ∷ front) back {c₀} {bs₀} {out} {passed} {c} all r =
-    let both = both_true (is_plain b) (list_all is_plain front) all in
+    let both = both_true (is_one_column b) (list_all is_one_column front) all in
     let plain : (b == 9) ≡ false = (let h = both.0 in grind (arith, nat_tests)) in
     let goes : is_line_ending b ≡ false = (let h = both.0 in grind (arith, nat_tests)) in
     let next : column_after c b ≡ c + 1 = rw plain refl in
@@ -95,7 +95,7 @@ reach_plain (b ∷ front) back {c₀} {bs₀} {out} {passed} {c} all r =
 
 -- w plain bytes at the place of a state
 module _ (s : LineState) (w : ℕ) (small : s.phase < 4) (none : s.pending ≡ 0) (inside : w ≤ length (unscanned s))
-    (plain : list_all is_plain (take w (unscanned s)) ≡ true) where
+    (plain : list_all is_one_column (take w (unscanned s)) ≡ true) where
   reach_bytes : (out : List ℕ) × Reach s.phase (unscanned s) out w (s.phase + w) 0 (drop (s.place + w) s.bytes)
   reach_bytes =
       let u = unscanned s in
@@ -188,7 +188,7 @@ quote_taken s new small none split state rest =
     let mid = bytes_further 1 s in
     let t = space_within 1 mid in
     let inside : 1 ≤ length (unscanned s) = rw split (omega arith) in
-    let plain : list_all is_plain (take 1 (unscanned s)) ≡ true = rw split refl in
+    let plain : list_all is_one_column (take 1 (unscanned s)) ≡ true = rw split refl in
     let before : rest_of s ≡ 62 ∷ rest_of mid = byte_left s 62 small none refl refl split in
     let e : 1 + t ≡ suc t = omega arith in
     record {
@@ -202,9 +202,9 @@ pub nothing_taken : (call : LineCall) (answer : LineAnswer) (s : LineState) → 
     → plain_step call (rest_of s) ≡ record { answer = answer; taken = 0 }
     → IsPlainStep call answer s s
 nothing_taken call answer s small step =
-    let taken : 0 ≡ (plain_step call (rest_of s)).taken = ap (λ (x : Step). x.taken) (sym step) in
+    let taken : 0 ≡ (plain_step call (rest_of s)).taken = ap (λ (x : PlainStep). x.taken) (sym step) in
     record {
-      answered = ap (λ (x : Step). x.answer) (sym step);
+      answered = ap (λ (x : PlainStep). x.answer) (sym step);
       rest = ap (λ t. drop t (rest_of s)) taken;
       moved = sym (none_further s small) ∙ ap (λ t. columns_further t s) taken;
     }
@@ -252,7 +252,7 @@ pub definition_taken : (indent t : ℕ) (s new : LineState) → s.phase < 4 → 
 definition_taken indent t s new small none split counted state rest =
     let mid = bytes_further 1 s in
     let inside : 1 ≤ length (unscanned s) = rw split (omega arith) in
-    let plain : list_all is_plain (take 1 (unscanned s)) ≡ true = rw split refl in
+    let plain : list_all is_one_column (take 1 (unscanned s)) ≡ true = rw split refl in
     let some = definition_spaces-within (leading_spaces (rest_of mid)) in
     let within : space_within t mid ≡ t = omega (arith, counted, some) in
     let before : rest_of s ≡ 58 ∷ rest_of mid = byte_left s 58 small none refl refl split in
@@ -260,10 +260,10 @@ definition_taken indent t s new small none split counted state rest =
     ≡ record { answer = DefinitionAnswer (Some (indent + 1 + t)); taken = 1 + t } =
     ap (definition_step indent) before
     ∙ ap (λ n. record { answer = DefinitionAnswer (Some (indent + 1 + n)); taken = 1 + n }) (sym counted) in
-    let taken : 1 + t ≡ (definition_step indent (rest_of s)).taken = ap (λ (x : Step). x.taken) (sym step) in
+    let taken : 1 + t ≡ (definition_step indent (rest_of s)).taken = ap (λ (x : PlainStep). x.taken) (sym step) in
     let e : 1 + t ≡ suc t = omega arith in
     record {
-      answered = ap (λ (x : Step). x.answer) (sym step);
+      answered = ap (λ (x : PlainStep). x.answer) (sym step);
       rest = rest ∙ sym (ap (drop (1 + t)) before ∙ rw e refl) ∙ ap (λ n. drop n (rest_of s)) taken;
       moved = state ∙ ap (λ n. columns_further n mid) within ∙ sym (bytes_then s 1 small none inside plain t)
           ∙ ap (λ n. columns_further n s) taken;

@@ -174,9 +174,9 @@ digits-written (b ∷ bs) c =
     bool_cases (b == 9) (λ tab. rw tab refl) (λ plain. rw plain other) in
     ap (prefix_len is_digit) e.1 ∙ rw (none, other) refl)
 
--- bytes that are no tab and end no line are themselves where they are written out
-abbrev pub is_plain : ℕ → Bool
-is_plain b = not (b == 9) && not (is_line_ending b)
+-- a byte that is no tab and ends no line takes one column, and is itself where it is written out
+abbrev pub is_one_column : ℕ → Bool
+is_one_column b = not (b == 9) && not (is_line_ending b)
 
 -- the list marker of what is written out is that of the line
 bullet-written : (bs : List ℕ) (c : ℕ) → bullet_marker (written_out c bs) ≡ bullet_marker bs
@@ -214,14 +214,14 @@ ordered-written digits (d ∷ back) c =
     let first : written_out c (d ∷ back) ≡ d ∷ e.0 = e.1 ∙ rw plain refl in
     ap (ordered_marker_of digits) first)
 
-pub digit_plain : (b : ℕ) → is_digit b ≡ true → is_plain b ≡ true
-digit_plain b digit = grind (arith, nat_tests)
+pub digit_one_column : (b : ℕ) → is_digit b ≡ true → is_one_column b ≡ true
+digit_one_column b digit = grind (arith, nat_tests)
 
-front-written : (front back : List ℕ) (c : ℕ) → list_all is_plain front ≡ true
+front-written : (front back : List ℕ) (c : ℕ) → list_all is_one_column front ≡ true
     → written_out c (front ++ back) ≡ front ++ written_out (c + length front) back
 front-written [] back c all = let e : c + 0 ≡ c = omega arith in rw e refl
 front-written (b ∷ front) back c all =
-    let both = both_true (is_plain b) (list_all is_plain front) all in
+    let both = both_true (is_one_column b) (list_all is_one_column front) all in
     let plain : (b == 9) ≡ false = (let h = both.0 in grind (arith, nat_tests)) in
     let goes : is_line_ending b ≡ false = (let h = both.0 in grind (arith, nat_tests)) in
     let first : written_out c (b ∷ (front ++ back)) ≡ b ∷ written_out (c + 1) (front ++ back) =
@@ -248,8 +248,8 @@ ordered_marker-written bs c =
     let back = drop n bs in
     let count : length digits ≡ n = length-prefix_len is_digit bs in
     let whole : digits ++ back ≡ bs = take-append-drop n bs in
-    let plain : list_all is_plain digits ≡ true =
-    list_all-implies is_digit is_plain digit_plain digits (list_all-prefix is_digit bs) in
+    let plain : list_all is_one_column digits ≡ true =
+    list_all-implies is_digit is_one_column digit_one_column digits (list_all-prefix is_digit bs) in
     let written : written_out c bs ≡ digits ++ written_out (c + length digits) back =
     ap (written_out c) (sym whole) ∙ front-written digits back c plain in
     ap (λ k. marker_of k (written_out c bs)) (digits-written bs c) ∙ ap (marker_of n) written

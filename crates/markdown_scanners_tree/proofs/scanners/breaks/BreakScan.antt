@@ -111,12 +111,14 @@ count_by-drop-le p k bytes = omega (arith, sum_by-take-drop (λ x. cond (p x) 1 
 
 no_break_in_prefix : (marker : ℕ) (prefix rest : List ℕ) → list_all (is_break_byte marker) prefix ≡ true
     → begins_with (is_break_byte marker) rest ≡ false
-    → (HasThreeAndEnd marker prefix rest → ⊥) → (k : ℕ) → k < length prefix → ¬ IsThematicBreak (drop k (prefix ++ rest))
+    → (HasThreeAndEnd marker prefix rest → ⊥) → (k : ℕ) → k < length prefix
+    → ¬ IsThematicBreak (drop k (prefix ++ rest))
 no_break_in_prefix marker prefix rest all stop refused k lt (other, break) =
     let le : k ≤ length prefix = omega arith in
     let some : 1 ≤ length (drop k prefix) = omega (arith, length-drop k prefix) in
     no_break_at marker other (drop k prefix) rest some (list_all-drop (is_break_byte marker) k prefix all) stop
-    (λ (found : HasThreeAndEnd marker (drop k prefix) rest). refused (found.0, omega (arith, found.1, count_by-drop-le (λ b. b == marker) k prefix)))
+    (λ (found : HasThreeAndEnd marker (drop k prefix) rest).
+    refused (found.0, omega (arith, found.1, count_by-drop-le (λ b. b == marker) k prefix)))
     (rw (drop-append-le k prefix rest le) at break)
 
 -- A line ending holds no marker.
@@ -195,7 +197,8 @@ module _ (bytes : List ℕ) (marker run : ℕ) (marked : is_break_marker marker 
   none_in_line ending ends few k lt break =
       elim (cases_lt k run) [
         | inl before ↦
-            none_in_prefix (λ (found : HasThreeAndEnd marker (take run bytes) (drop run bytes)). few found.1) k before break
+            none_in_prefix (λ (found : HasThreeAndEnd marker (take run bytes) (drop run bytes)). few found.1)
+            k before break
         | inr after ↦ (
             let at : drop k bytes ≡ drop (k - run) (drop run bytes) = (let n : run + (k - run) ≡ k = omega arith in
             sym (drop-drop (k - run) run bytes ∙ ap (λ n. drop n bytes) n)) in

@@ -59,14 +59,14 @@ line_length-parts prefix rest ending all ends =
     let at = head_parts prefix rest ending all ends in
     rw (at, take-append_seam prefix rest, drop-append_seam prefix rest, ends) refl
 
-abbrev after_space : List ℕ → List ℕ
-after_space bytes = drop (prefix_len is_white_space_in_line bytes) bytes
+abbrev rest_after_space : List ℕ → List ℕ
+rest_after_space bytes = drop (prefix_len is_white_space_in_line bytes) bytes
 
-pub IsBlankLine-found : (bytes : List ℕ) (ending : ℕ) → line_ending (after_space bytes) ≡ Some ending
+pub IsBlankLine-found : (bytes : List ℕ) (ending : ℕ) → line_ending (rest_after_space bytes) ≡ Some ending
     → IsBlankLine bytes (prefix_len is_white_space_in_line bytes + ending)
 IsBlankLine-found bytes ending h = record {
   space = take (prefix_len is_white_space_in_line bytes) bytes;
-  rest = after_space bytes;
+  rest = rest_after_space bytes;
   ending = ending;
   parts = sym (take-append-drop (prefix_len is_white_space_in_line bytes) bytes);
   spaces = list_all-prefix is_white_space_in_line bytes;
@@ -76,7 +76,7 @@ IsBlankLine-found bytes ending h = record {
 
 -- the parts of a blank line are the run of white space and what follows it
 pub IsBlankLine-only : (bytes : List ℕ) (n : ℕ) → IsBlankLine bytes n → (ending : ℕ)
-    × (line_ending (after_space bytes) ≡ Some ending) × (n ≡ prefix_len is_white_space_in_line bytes + ending)
+    × (line_ending (rest_after_space bytes) ≡ Some ending) × (n ≡ prefix_len is_white_space_in_line bytes + ending)
 IsBlankLine-only bytes n line =
     let run : prefix_len is_white_space_in_line (line.space ++ line.rest) ≡ length line.space =
     prefix_len-parts is_white_space_in_line line.space line.rest line.spaces

@@ -1,5 +1,5 @@
 -- What a closure accepts of bytes that a scan hands it one after another, from either end.
-use Rattle.std.proofs.Common.{◌≡◌, ℕ, ◌+◌, ◌<◌, ◌≤◌, Bool, true, false, List, length, take, drop, get_or, sym, arith}
+use Rattle.std.proofs.Common.{ℕ, ◌+◌, ◌<◌, ◌≤◌, Bool, true, false, List, length, take, drop, get_or, sym, arith}
 use Rattle.std.specs.List.{FoldsTo}
 use Rattle.std.proofs.lemmas.List.{take_more, take-append-drop, drop_all, length-take-le}
 use Rattle.std.proofs.lemmas.Fn.{FoldsTo-push}

@@ -7,7 +7,7 @@ use Rattle.markdown_scanners_tree.specs.line.run.PlainRun.{plain_run, indexed_st
 use Rattle.markdown_scanners_tree.specs.declared.line.run.LineAnswer.{LineAnswer}
 use Rattle.markdown_scanners_tree.specs.declared.line.run.LineStop.{LineStop}
 use Rattle.markdown_scanners_tree.specs.line.State.{rest_of}
-use Rattle.markdown_scanners_tree.proofs.line.run.RunLemmas.{so_far_next, so_far_stopped, so_far_done, next_column}
+use Rattle.markdown_scanners_tree.proofs.line.run.PlainRunLemmas.{so_far_next, so_far_stopped, so_far_done, next_column}
 use Rattle.markdown_scanners_tree.proofs.line.run.run_line.Goals as goal
 
 pub loop-index-preserved : goal.loop-index-preserved

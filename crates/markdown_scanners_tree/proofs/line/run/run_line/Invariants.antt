@@ -1,5 +1,5 @@
 use Rattle.std.proofs.Common.{ℕ, ◌≡◌, drop, length}
-use Rattle.markdown_scanners_tree.proofs.line.run.RunLemmas.{SoFar}
+use Rattle.markdown_scanners_tree.proofs.line.run.PlainRunLemmas.{SoFar}
 use Rattle.markdown_scanners_tree.proofs.line.run.run_line.Given as goal
 
 abbrev pub invariant-loop-index : goal.invariant-loop-index
