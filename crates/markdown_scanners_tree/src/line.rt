@@ -9,10 +9,12 @@ ghost use Rattle.markdown_scanners_tree.specs.scanners.list_items.ListItem.{IsLi
 ghost use Rattle.markdown_scanners_tree.specs.scanners.list_items.ListMarker.{list_marker};
 ghost use Rattle.markdown_scanners_tree.specs.scanners.Breaks.{is_thematic_break};
 ghost use Rattle.markdown_scanners_tree.specs.line.PlainStep.{IsPlainStep, definition_spaces};
-ghost use Rattle.markdown_scanners_tree.specs.line.Outcome.{after_all_space, after_quote, further_spaces, item_outcome, definition_outcome, space_or_end_follows, task_box, task_outcome, is_alert_name, alert_name, alert_line, alert_outcome};
+ghost use Rattle.markdown_scanners_tree.specs.line.Outcome.{after_all_space, after_quote, further_spaces, item_outcome, definition_outcome, space_or_end_follows, task_box, task_outcome, alert_outcome};
 
+mod alerts;
 mod run;
 
+use crate::line::alerts::scan_alert;
 use crate::scanners::{
     is_ascii_whitespace, is_ascii_whitespace_no_nl, scan_blank_line, scan_hrule, scan_marker,
     scan_spaces_and_tabs,
@@ -21,15 +23,6 @@ use markdown_values::values::BlockQuoteKind;
 pub use run::{LineAnswer, LineCall, LineRun, LineStop, run_line};
 use std::alloc::{AllocError, Global};
 use std::marker::Model;
-
-// The alerts by their names in lower case.
-const ALERTS: [(&str, BlockQuoteKind); 5] = [
-    ("note", BlockQuoteKind::Note),
-    ("tip", BlockQuoteKind::Tip),
-    ("important", BlockQuoteKind::Important),
-    ("warning", BlockQuoteKind::Warning),
-    ("caution", BlockQuoteKind::Caution),
-];
 
 /// A place in a line, and the columns of a tab before it that are not taken yet.
 ///
@@ -461,41 +454,6 @@ fn task_box(bytes: &[u8]) -> Option<bool>
         },
         _ => None,
     }
-}
-
-// The kind of the alert whose line stands at the front, and the length of that line.
-fn scan_alert(bytes: &[u8]) -> Option<(BlockQuoteKind, usize)>
-    ensures alert { result ≡ alert_line bytes.now }
-    ensures within { IfSome result (λ alert. alert.1 ≤ length bytes.now) }
-{
-    let name = bytes.strip_prefix(b"[!")?;
-    let (kind, length) = scan_alert_name(name)?;
-    let rest = scan_blank_line(&name[length..])?;
-    Some((kind, 2 + length + rest))
-}
-
-// The kind of the alert whose name and `]` stand at the front, and the length of both.
-fn scan_alert_name(bytes: &[u8]) -> Option<(BlockQuoteKind, usize)>
-    ensures name { result ≡ alert_name bytes.now }
-    ensures within { IfSome result (λ alert. alert.1 ≤ length bytes.now) }
-{
-    for (name, kind) in ALERTS {
-        if begins_with_name(bytes, name.as_bytes()) {
-            return Some((kind, name.len() + 1));
-        }
-    }
-    None
-}
-
-// Whether the name stands at the front, in any ASCII case, and `]` after it.
-fn begins_with_name(bytes: &[u8], name: &[u8]) -> bool
-    ensures name { result ≡ is_alert_name name.now bytes.now }
-    ensures within { IsTrue result → length name.now < length bytes.now }
-{
-    if bytes.len() <= name.len() {
-        return false;
-    }
-    bytes[..name.len()].eq_ignore_ascii_case(name) && bytes[name.len()] == b']'
 }
 
 // Whether the byte is one that ends a line: LF or CR.

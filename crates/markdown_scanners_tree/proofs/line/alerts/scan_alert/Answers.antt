@@ -1,8 +1,8 @@
 use Rattle.std.proofs.Common.{◌∙◌, ap}
 use Rattle.markdown_scanners_tree.specs.Bytes.{blank_line}
 use Rattle.markdown_scanners_tree.proofs.PrefixLemmas.{from_place}
-use Rattle.markdown_scanners_tree.proofs.line.AlertLemmas.{alert_line-found}
-use Rattle.markdown_scanners_tree.proofs.line.scan_alert.Goals as goal
+use Rattle.markdown_scanners_tree.proofs.line.alerts.AlertLemmas.{alert_line-found}
+use Rattle.markdown_scanners_tree.proofs.line.alerts.scan_alert.Goals as goal
 
 pub returns-clause-alert : goal.returns-clause-alert
 returns-clause-alert c =

@@ -1,7 +1,7 @@
 use Rattle.std.proofs.Common.{◌∙◌, sym, ap}
 use Rattle.markdown_scanners_tree.specs.line.Outcome.{is_alert_name}
-use Rattle.markdown_scanners_tree.proofs.line.AlertLemmas.{alert_next}
-use Rattle.markdown_scanners_tree.proofs.line.scan_alert_name.Goals as goal
+use Rattle.markdown_scanners_tree.proofs.line.alerts.AlertLemmas.{alert_next}
+use Rattle.markdown_scanners_tree.proofs.line.alerts.scan_alert_name.Goals as goal
 
 pub loop-name-preserved : goal.loop-name-preserved
 loop-name-preserved c =

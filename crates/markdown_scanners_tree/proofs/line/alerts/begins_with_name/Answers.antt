@@ -1,7 +1,7 @@
 use Rattle.std.proofs.Common.{◌≡◌, true, false, sym, ap, ◌∙◌, take, length, ◌&&◌, ◌==◌, get_or}
 use Rattle.std.specs.Str.{str_eq_ignore_ascii_case}
-use Rattle.markdown_scanners_tree.proofs.line.AlertLemmas.{name_then, name_too_long, case_test}
-use Rattle.markdown_scanners_tree.proofs.line.begins_with_name.Goals as goal
+use Rattle.markdown_scanners_tree.proofs.line.alerts.AlertLemmas.{name_then, name_too_long, case_test}
+use Rattle.markdown_scanners_tree.proofs.line.alerts.begins_with_name.Goals as goal
 
 pub returns-then-bytes-name-clause-name : goal.returns-then-bytes-name-clause-name
 returns-then-bytes-name-clause-name c = sym (name_too_long c.args.name.now c.args.bytes.now c.if-bytes-name.true)
