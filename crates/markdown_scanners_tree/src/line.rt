@@ -1,6 +1,6 @@
 //! A place in a line that is read column by column, with tab stops of four.
 //! (CommonMark 0.31.2, section 2.2, tabs)
-ghost use Rattle.std.specs.Prelude.{◌≡◌, ◌+◌, ◌-◌, ◌%◌, ◌<◌, ◌≤◌, ◌↔◌, ◌==◌, true, [], ◌∷◌, ◌++◌, length, take, drop, replicate, IsTrue, IfOk, IfSome, IfNone, ⊤};
+ghost use Rattle.std.specs.Prelude.{ℕ, ◌≡◌, ◌+◌, ◌-◌, ◌%◌, ◌<◌, ◌≤◌, ◌↔◌, ◌==◌, true, false, [], ◌∷◌, ◌++◌, length, take, drop, replicate, IsTrue, IfOk, IfSome, IfNone, ⊤};
 ghost use Rattle.markdown_scanners_tree.specs.Ascii.{space, greater_than_sign};
 ghost use Rattle.markdown_scanners_tree.specs.Bytes.{begins_with, is_line_ending, is_at_line_end};
 ghost use Rattle.markdown_scanners_tree.specs.Columns.{column_after, written_byte};
@@ -42,10 +42,6 @@ pub struct LineStart<'a> {
 }
 
 impl<'a> Model for LineStart<'a> {
-    ghost use Rattle.std.specs.Prelude.{ℕ, ◌%◌, ◌≤◌, ◌*◌, ◌<◌, ◌≡◌, length, drop, true, false, IfSome};
-    ghost use Rattle.markdown_scanners_tree.specs.line.State.{LineState};
-    ghost use Rattle.markdown_scanners_tree.specs.scanners.Breaks.{is_thematic_break};
-
     ghost Value = { LineState };
 
     ghost view = { λ s.
