@@ -7,7 +7,7 @@ use Rattle.markdown_scanners_tree.specs.declared.line.run.LineCall.{LineCall}
 use Rattle.markdown_scanners_tree.specs.declared.line.run.LineCall.TheVariants.{Space, Upto, Eol, Quote, List as ItemCall, Definition as DefinitionCall}
 use Rattle.markdown_scanners_tree.specs.declared.line.run.LineStop.{LineStop}
 use Rattle.markdown_scanners_tree.specs.declared.line.run.LineStop.TheVariants.{SpacePending, IndentTooLarge}
-use Rattle.markdown_scanners_tree.specs.line.run.PlainRun.{Run, plain_run, rest_after, scanned_after, stop_at}
+use Rattle.markdown_scanners_tree.specs.line.run.PlainRun.{PlainRun, plain_run, rest_after, scanned_after, indexed_stop}
 use Rattle.markdown_scanners_c.specs.Status.{ok, too_large, too_short, no_memory, space_pending, bad_kind}
 use Rattle.markdown_scanners_c.specs.declared.line_runs.Call.{Call}
 use Rattle.markdown_scanners_c.specs.declared.line_runs.Answer.{Answer}
@@ -58,13 +58,13 @@ IsNoRun status ends =
     (ends.status ≡ status) × (ends.count ≡ 0) × (ends.scanned ≡ 0) × (ends.rest ≡ 0)
 
 -- Memory was refused; or what a run made and left is told and written.
-unfoldable pub IsMadeRun : List ℕ → Run → List Answer → List Answer → List ℕ → List ℕ → LineEnds → Type 0
+unfoldable pub IsMadeRun : List ℕ → PlainRun → List Answer → List Answer → List ℕ → List ℕ → LineEnds → Type 0
 IsMadeRun bytes run old_answers new_answers old_rest new_rest ends =
     (IsNoRun no_memory ends × (new_answers ≡ old_answers) × (new_rest ≡ old_rest))
     ⊎ ((ends.count ≡ length (map answer_of run.answers)) × (ends.scanned ≡ scanned_after bytes run)
     × (ends.rest ≡ length (rest_after bytes run))
     × AreWritten (map answer_of run.answers) (rest_after bytes run)
-    old_answers new_answers old_rest new_rest (run_status (stop_at run)) ends.status)
+    old_answers new_answers old_rest new_rest (run_status (indexed_stop run)) ends.status)
 
 -- A call is of no known kind; or the run is made.
 abbrev pub IsLineRun : List ℕ → List Call → List Answer → List Answer → List ℕ → List ℕ → LineEnds → Type 0

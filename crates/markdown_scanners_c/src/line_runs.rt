@@ -1,7 +1,7 @@
 //! Runs of calls on the start of a line.
 ghost use Rattle.std.specs.Prelude.{◌≡◌, length, map, IfOk};
 ghost use Rattle.std.specs.List.{list_all};
-ghost use Rattle.markdown_scanners_tree.specs.line.run.PlainRun.{plain_run, stop_at, rest_after, scanned_after};
+ghost use Rattle.markdown_scanners_tree.specs.line.run.PlainRun.{plain_run, indexed_stop, rest_after, scanned_after};
 ghost use Rattle.markdown_scanners_c.specs.LineRuns.{IsNoRun, is_known, line_call, answer_of, run_status, AreWritten, IsMadeRun, IsLineRun};
 
 use crate::status::{BAD_KIND, NO_MEMORY, OK, SPACE_PENDING, TOO_LARGE, TOO_SHORT};
@@ -93,7 +93,7 @@ fn run_of(alloc: Global, bytes: &[u8], calls: &[Call]) -> Result<(LineRun, Vec<A
     ensures made { IfOk result (λ r. r.1.items
         ≡ map answer_of (plain_run bytes.now (map line_call calls.now)).answers) }
     ensures stop { IfOk result (λ r. r.0.stop
-        ≡ stop_at (plain_run bytes.now (map line_call calls.now))) }
+        ≡ indexed_stop (plain_run bytes.now (map line_call calls.now))) }
     ensures rest { IfOk result (λ r. r.0.rest.items
         ≡ rest_after bytes.now (plain_run bytes.now (map line_call calls.now))) }
     ensures scanned { IfOk result (λ r. r.0.scanned

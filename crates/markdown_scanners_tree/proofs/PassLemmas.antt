@@ -10,7 +10,8 @@ module _ (test : ℕ → Bool) where
   AllPass-nil k d low = absurd (omega arith)
 
   pub AllPass-cons : (b : ℕ) (bs : List ℕ) → test b ≡ true → AllPass test bs → AllPass test (b ∷ bs)
-  AllPass-cons b bs first others = AllPass-from_list_all test (b ∷ bs) (and_from _ _ first (list_all-from_AllPass test bs others))
+  AllPass-cons b bs first others =
+      AllPass-from_list_all test (b ∷ bs) (and_from _ _ first (list_all-from_AllPass test bs others))
 
   pub AllPass-one : (b : ℕ) → test b ≡ true → AllPass test (b ∷ [])
   AllPass-one b passes = AllPass-cons b [] passes AllPass-nil
@@ -24,4 +25,5 @@ module _ (test : ℕ → Bool) where
   -- one more byte at the end
   pub AllPass-snoc : (bs : List ℕ) (b : ℕ) → AllPass test bs → test b ≡ true → AllPass test (bs ++ b ∷ [])
   AllPass-snoc bs b all passes =
-      AllPass-from_list_all test (bs ++ b ∷ []) (list_all-append test bs (b ∷ []) ∙ and_from _ _ (list_all-from_AllPass test bs all) (and_from _ _ passes refl))
+      AllPass-from_list_all test (bs ++ b ∷ []) (list_all-append test bs (b ∷ [])
+      ∙ and_from _ _ (list_all-from_AllPass test bs all) (and_from _ _ passes refl))

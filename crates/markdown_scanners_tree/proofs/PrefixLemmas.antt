@@ -12,14 +12,21 @@ both_true false b h = cc
 
 pub list_all-prefix : (p : ℕ → Bool) (xs : List ℕ) → list_all p (take (prefix_len p xs) xs) ≡ true
 list_all-prefix p [] = refl
-list_all-prefix p (x ∷ xs) = elim (cases_Bool (p x)) [ inl passes ↦ rw (passes, one-add, passes) (list_all-prefix p xs) | inr fails ↦ rw fails ]
+list_all-prefix p (x ∷ xs) = elim (cases_Bool (p x)) [
+  | inl passes ↦ rw (passes, one-add, passes) (list_all-prefix p xs)
+  | inr fails ↦ rw fails
+]
 
 pub begins_with-after_prefix : (p : ℕ → Bool) (xs : List ℕ) → begins_with p (drop (prefix_len p xs) xs) ≡ false
 begins_with-after_prefix p [] = refl
-begins_with-after_prefix p (x ∷ xs) = elim (cases_Bool (p x)) [ inl passes ↦ rw (passes, one-add) (begins_with-after_prefix p xs) | inr fails ↦ rw (fails, fails) ]
+begins_with-after_prefix p (x ∷ xs) = elim (cases_Bool (p x)) [
+  | inl passes ↦ rw (passes, one-add) (begins_with-after_prefix p xs)
+  | inr fails ↦ rw (fails, fails)
+]
 
 -- a prefix that passes, before a rest that does not begin with what passes, is the longest
-pub prefix_len-parts : (p : ℕ → Bool) (prefix rest : List ℕ) → list_all p prefix ≡ true → begins_with p rest ≡ false → prefix_len p (prefix ++ rest) ≡ length prefix
+pub prefix_len-parts : (p : ℕ → Bool) (prefix rest : List ℕ) → list_all p prefix ≡ true → begins_with p rest ≡ false
+    → prefix_len p (prefix ++ rest) ≡ length prefix
 prefix_len-parts p [] [] all stop = refl
 prefix_len-parts p [] (x ∷ rest) all stop = rw stop
 prefix_len-parts p (x ∷ prefix) rest all stop =
@@ -41,17 +48,23 @@ module _ (p q : ℕ → Bool) (implies : (b : ℕ) → p b ≡ true → q b ≡ 
 
   pub begins_with-implies : (bytes : List ℕ) → begins_with q bytes ≡ false → begins_with p bytes ≡ false
   begins_with-implies [] stop = refl
-  begins_with-implies (b ∷ bytes) stop = elim (cases_Bool (p b)) [ inl passes ↦ absurd (let q_passes = implies b passes in cc) | inr fails ↦ fails ]
+  begins_with-implies (b ∷ bytes) stop = elim (cases_Bool (p b)) [
+    | inl passes ↦ absurd (let q_passes = implies b passes in cc)
+    | inr fails ↦ fails
+  ]
 
-pub list_all-drop : (p : ℕ → Bool) (k : ℕ) (bytes : List ℕ) → list_all p bytes ≡ true → list_all p (drop k bytes) ≡ true
+pub list_all-drop : (p : ℕ → Bool) (k : ℕ) (bytes : List ℕ) → list_all p bytes ≡ true
+    → list_all p (drop k bytes) ≡ true
 list_all-drop p zero bytes all = all
 list_all-drop p (suc k) [] all = refl
 list_all-drop p (suc k) (b ∷ bytes) all = list_all-drop p k bytes (both_true (p b) (list_all p bytes) all).1
 
 -- the bytes before a place, the byte there, and those after it
-pub split_at : (bytes : List ℕ) (n byte : ℕ) → n < length bytes → get_or bytes n 0 ≡ byte → bytes ≡ take n bytes ++ byte ∷ drop (suc n) bytes
+pub split_at : (bytes : List ℕ) (n byte : ℕ) → n < length bytes → get_or bytes n 0 ≡ byte
+    → bytes ≡ take n bytes ++ byte ∷ drop (suc n) bytes
 split_at bytes n byte inside here =
-    sym (ap (λ r. take n bytes ++ r) (sym (drop-cons bytes n 0 inside ∙ ap (λ b. b ∷ drop (suc n) bytes) here)) ∙ take-append-drop n bytes)
+    sym (ap (λ r. take n bytes ++ r) (sym (drop-cons bytes n 0 inside ∙ ap (λ b. b ∷ drop (suc n) bytes) here))
+    ∙ take-append-drop n bytes)
 
 -- the longest prefix of the first bytes alone
 prefix_len-first : (p : ℕ → Bool) (n : ℕ) (bytes : List ℕ) → prefix_len p (take n bytes) ≡ min n (prefix_len p bytes)
@@ -62,7 +75,8 @@ prefix_len-first p (suc n) (b ∷ bytes) =
     elim (cases_Bool (p b)) [ inl passes ↦ rw passes (omega (arith, rest)) | inr fails ↦ rw fails (omega arith) ]
 
 -- Of a prefix that may have at most `limit` bytes, the first `limit + 1` bytes tell whether it is the longest one.
-module _ (p : ℕ → Bool) (bytes front : List ℕ) (n limit : ℕ) (first : front ≡ take (limit + 1) bytes) (run : n ≡ prefix_len p front) where
+module _ (p : ℕ → Bool) (bytes front : List ℕ) (n limit : ℕ) (first : front ≡ take (limit + 1) bytes)
+    (run : n ≡ prefix_len p front) where
   pub counted_up_to : n ≡ min (limit + 1) (prefix_len p bytes)
   counted_up_to = run ∙ ap (prefix_len p) first ∙ prefix_len-first p (limit + 1) bytes
 

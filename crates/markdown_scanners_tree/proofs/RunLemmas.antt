@@ -22,7 +22,8 @@ pub list_all-replicate : (p : ℕ → Bool) (n b : ℕ) → p b ≡ true → lis
 list_all-replicate p zero b passes = refl
 list_all-replicate p (suc n) b passes = rw passes (list_all-replicate p n b passes)
 
-pub replicate-all : (byte : ℕ) (bytes : List ℕ) → list_all (λ b. b == byte) bytes ≡ true → bytes ≡ replicate (length bytes) byte
+pub replicate-all : (byte : ℕ) (bytes : List ℕ) → list_all (λ b. b == byte) bytes ≡ true
+    → bytes ≡ replicate (length bytes) byte
 replicate-all byte [] all = refl
 replicate-all byte (b ∷ bytes) all =
     let both = both_true (b == byte) (list_all (λ x. x == byte) bytes) all in
@@ -32,7 +33,8 @@ replicate-all byte (b ∷ bytes) all =
 
 -- A run is the longest prefix of its byte.
 module _ (byte : ℕ) (bytes : List ℕ) where
-  pub run-scanned : (n : ℕ) → n ≡ prefix_len (λ b. b == byte) bytes → IsRunOf byte bytes (take n bytes) (drop n bytes) × (length (take n bytes) ≡ n)
+  pub run-scanned : (n : ℕ) → n ≡ prefix_len (λ b. b == byte) bytes
+      → IsRunOf byte bytes (take n bytes) (drop n bytes) × (length (take n bytes) ≡ n)
   run-scanned n is_run = (
     record {
       parts = sym (take-append-drop n bytes);
@@ -42,30 +44,45 @@ module _ (byte : ℕ) (bytes : List ℕ) where
     rw is_run (length-prefix_len (λ b. b == byte) bytes),
   )
 
-  pub run-only : (run rest : List ℕ) → IsRunOf byte bytes run rest → (length run ≡ prefix_len (λ b. b == byte) bytes) × (rest ≡ drop (prefix_len (λ b. b == byte) bytes) bytes)
+  pub run-only : (run rest : List ℕ) → IsRunOf byte bytes run rest
+      → (length run ≡ prefix_len (λ b. b == byte) bytes) × (rest ≡ drop (prefix_len (λ b. b == byte) bytes) bytes)
   run-only run rest is =
-      let whole : prefix_len (λ b. b == byte) bytes ≡ length run = ap (prefix_len (λ b. b == byte)) is.parts ∙ prefix_len-parts (λ b. b == byte) run rest is.all (not_true _ is.longest) in
+      let whole : prefix_len (λ b. b == byte) bytes ≡ length run = ap (prefix_len (λ b. b == byte)) is.parts
+      ∙ prefix_len-parts (λ b. b == byte) run rest is.all (not_true _ is.longest) in
       (sym whole, sym (ap (λ n. drop n bytes) whole ∙ ap (drop (length run)) is.parts ∙ drop-append_seam run rest))
 
 -- A prefix that passes, before a line ending, is the longest one.
 module _ (p : ℕ → Bool) (lf : p 10 ≡ false) (cr : p 13 ≡ false) where
-  pub prefix-only : (bytes prefix after : List ℕ) (ending : ℕ) → bytes ≡ prefix ++ after → list_all p prefix ≡ true → line_ending after ≡ Some ending
+  pub prefix-only : (bytes prefix after : List ℕ) (ending : ℕ) → bytes ≡ prefix ++ after → list_all p prefix ≡ true
+      → line_ending after ≡ Some ending
       → (length prefix ≡ prefix_len p bytes) × (after ≡ drop (prefix_len p bytes) bytes)
   prefix-only bytes prefix after ending parts all ends =
-      let whole : prefix_len p bytes ≡ length prefix = ap (prefix_len p) parts ∙ prefix_len-parts p prefix after all (first-line_ending p lf cr after ending ends) in
-      (sym whole, sym (ap (λ n. drop n bytes) whole ∙ ap (drop (length prefix)) parts ∙ drop-append_seam prefix after))
+      let whole : prefix_len p bytes ≡ length prefix = ap (prefix_len p) parts
+      ∙ prefix_len-parts p prefix after all (first-line_ending p lf cr after ending ends) in (
+        sym whole,
+        sym (ap (λ n. drop n bytes) whole ∙ ap (drop (length prefix)) parts
+            ∙ drop-append_seam prefix after),
+      )
 
 pub not_empty : (p : ℕ → Bool) (bytes : List ℕ) → 1 ≤ prefix_len p bytes → begins_with p bytes ≡ true
 not_empty p [] some = absurd (omega (arith, some))
-not_empty p (b ∷ bytes) some = elim (cases_Bool (p b)) [ inl passes ↦ passes | inr fails ↦ absurd (let none = rw fails at some in omega (arith, none)) ]
+not_empty p (b ∷ bytes) some = elim (cases_Bool (p b)) [
+  | inl passes ↦ passes
+  | inr fails ↦ absurd (let none = rw fails at some in omega (arith, none))
+]
 
-pub begun_by : (bytes : List ℕ) (x y : ℕ) → begins_with (λ b. b == x) bytes ≡ true → begins_with (λ b. b == y) bytes ≡ true → x ≡ y
+pub begun_by : (bytes : List ℕ) (x y : ℕ) → begins_with (λ b. b == x) bytes ≡ true
+    → begins_with (λ b. b == y) bytes ≡ true → x ≡ y
 begun_by [] x y first second = cc
 begun_by (b ∷ bytes) x y first second = sym (eqb-true b x first) ∙ eqb-true b y second
 
 -- What a scan of `&bytes[i..]` or of `&bytes[i + j..]` tells of the bytes from there.
-pub prefix_len-from : (p : ℕ → Bool) (bytes : List ℕ) (i n : ℕ) → n ≡ prefix_len p (take (length bytes - i) (drop i bytes)) → n ≡ prefix_len p (drop i bytes)
+pub prefix_len-from : (p : ℕ → Bool) (bytes : List ℕ) (i n : ℕ)
+    → n ≡ prefix_len p (take (length bytes - i) (drop i bytes)) → n ≡ prefix_len p (drop i bytes)
 prefix_len-from p bytes i n is = is ∙ ap (prefix_len p) (from_place bytes i)
 
-pub line_ending-from : (bytes : List ℕ) (i j : ℕ) (ending : Option ℕ) → ending ≡ line_ending (take (length bytes - (i + j)) (drop (i + j) bytes)) → line_ending (drop j (drop i bytes)) ≡ ending
-line_ending-from bytes i j ending is = sym (is ∙ ap line_ending (from_place bytes (i + j) ∙ sym (drop-drop j i bytes)))
+pub line_ending-from : (bytes : List ℕ) (i j : ℕ) (ending : Option ℕ)
+    → ending ≡ line_ending (take (length bytes - (i + j)) (drop (i + j) bytes))
+    → line_ending (drop j (drop i bytes)) ≡ ending
+line_ending-from bytes i j ending is =
+    sym (is ∙ ap line_ending (from_place bytes (i + j) ∙ sym (drop-drop j i bytes)))

@@ -4,7 +4,8 @@ use Rattle.std.specs.Option.{is_some}
 use Rattle.markdown_scanners_tree.specs.SomeExactly.{SomeExactly}
 
 -- where nothing has the property None is such an answer
-pub SomeExactly-from_none : {A : Type 0} (P : A → Type 0) {answer : Option A} → answer ≡ None → ((a : A) → ¬ P a) → SomeExactly P answer
+pub SomeExactly-from_none : {A : Type 0} (P : A → Type 0) {answer : Option A} → answer ≡ None
+    → ((a : A) → ¬ P a) → SomeExactly P answer
 SomeExactly-from_none P none nothing = subst (SomeExactly P) (sym none) nothing
 
 -- what `is_some` tells of an answer that is Some exactly where there is something to find
@@ -18,6 +19,7 @@ module _ {T : Type 0} (P : T → Type 0) where
   SomeExactly-none (Some x) none holds = cc
 
   -- the same answer to another question
-  pub SomeExactly-map : (Q : T → Type 0) (answer : Option T) → ((x : T) → P x → Q x) → (((x : T) → ¬ P x) → (x : T) → ¬ Q x) → SomeExactly P answer → SomeExactly Q answer
+  pub SomeExactly-map : (Q : T → Type 0) (answer : Option T) → ((x : T) → P x → Q x)
+      → (((x : T) → ¬ P x) → (x : T) → ¬ Q x) → SomeExactly P answer → SomeExactly Q answer
   SomeExactly-map Q None found none holds = none holds
   SomeExactly-map Q (Some x) found none holds = found x holds

@@ -1,4 +1,3 @@
-pub mod AlertLemmas
 pub mod ColumnLemmas
 pub mod HeadLemmas
 pub mod ItemLemmas

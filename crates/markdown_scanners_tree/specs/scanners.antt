@@ -1,5 +1,4 @@
 pub mod Breaks
-pub mod Classes
 pub mod Escapes
 pub mod Fences
 pub mod Headings
@@ -9,6 +8,7 @@ pub mod Lines
 pub mod Metadata
 pub mod Runs
 pub mod Tables
+pub mod classes
 pub mod entities
 pub mod html_tag
 pub mod links

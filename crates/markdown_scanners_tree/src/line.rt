@@ -1,6 +1,6 @@
 //! A place in a line that is read column by column, with tab stops of four.
 //! (CommonMark 0.31.2, section 2.2, tabs)
-ghost use Rattle.std.specs.Prelude.{◌≡◌, ◌+◌, ◌-◌, ◌%◌, ◌<◌, ◌≤◌, ◌↔◌, ◌==◌, true, [], ◌∷◌, ◌++◌, length, take, drop, replicate, IsTrue, IfOk, IfSome, IfNone, ⊤};
+ghost use Rattle.std.specs.Prelude.{ℕ, ◌≡◌, ◌+◌, ◌-◌, ◌%◌, ◌<◌, ◌≤◌, ◌↔◌, ◌==◌, true, false, [], ◌∷◌, ◌++◌, length, take, drop, replicate, IsTrue, IfOk, IfSome, IfNone, ⊤};
 ghost use Rattle.markdown_scanners_tree.specs.Ascii.{space, greater_than_sign};
 ghost use Rattle.markdown_scanners_tree.specs.Bytes.{begins_with, is_line_ending, is_at_line_end};
 ghost use Rattle.markdown_scanners_tree.specs.Columns.{column_after, written_byte};
@@ -9,10 +9,12 @@ ghost use Rattle.markdown_scanners_tree.specs.scanners.list_items.ListItem.{IsLi
 ghost use Rattle.markdown_scanners_tree.specs.scanners.list_items.ListMarker.{list_marker};
 ghost use Rattle.markdown_scanners_tree.specs.scanners.Breaks.{is_thematic_break};
 ghost use Rattle.markdown_scanners_tree.specs.line.PlainStep.{IsPlainStep, definition_spaces};
-ghost use Rattle.markdown_scanners_tree.specs.line.Outcome.{after_all_space, after_quote, further_spaces, item_outcome, definition_outcome, space_or_end_follows, task_box, task_outcome, is_alert_name, alert_name, alert_line, alert_outcome};
+ghost use Rattle.markdown_scanners_tree.specs.line.Outcome.{after_all_space, after_quote, further_spaces, item_outcome, definition_outcome, space_or_end_follows, task_box, task_outcome, alert_outcome};
 
+mod alerts;
 mod run;
 
+use crate::line::alerts::scan_alert;
 use crate::scanners::{
     is_ascii_whitespace, is_ascii_whitespace_no_nl, scan_blank_line, scan_hrule, scan_marker,
     scan_spaces_and_tabs,
@@ -21,15 +23,6 @@ use markdown_values::values::BlockQuoteKind;
 pub use run::{LineAnswer, LineCall, LineRun, LineStop, run_line};
 use std::alloc::{AllocError, Global};
 use std::marker::Model;
-
-// The alerts by their names in lower case.
-const ALERTS: [(&str, BlockQuoteKind); 5] = [
-    ("note", BlockQuoteKind::Note),
-    ("tip", BlockQuoteKind::Tip),
-    ("important", BlockQuoteKind::Important),
-    ("warning", BlockQuoteKind::Warning),
-    ("caution", BlockQuoteKind::Caution),
-];
 
 /// A place in a line, and the columns of a tab before it that are not taken yet.
 ///
@@ -49,10 +42,6 @@ pub struct LineStart<'a> {
 }
 
 impl<'a> Model for LineStart<'a> {
-    ghost use Rattle.std.specs.Prelude.{ℕ, ◌%◌, ◌≤◌, ◌*◌, ◌<◌, ◌≡◌, length, drop, true, false, IfSome};
-    ghost use Rattle.markdown_scanners_tree.specs.line.State.{LineState};
-    ghost use Rattle.markdown_scanners_tree.specs.scanners.Breaks.{is_thematic_break};
-
     ghost Value = { LineState };
 
     ghost view = { λ s.
@@ -224,6 +213,8 @@ impl<'a> LineStart<'a> {
             (begins_with (λ b. b == greater_than_sign) (unscanned self.old) ≡ true) }
         ensures state { self.new ≡ after_quote self.old }
         ensures bytes { self.new.bytes ≡ self.old.bytes }
+
+        // With nothing pending the call is one on the line with its tabs written out.
         ensures step { self.old.pending ≡ 0 →
             IsPlainStep LineCall.Quote (LineAnswer.Flag result) self.old self.new }
     {
@@ -236,8 +227,8 @@ impl<'a> LineStart<'a> {
     }
 
     /// Passes a list item's marker and the space that belongs to it, at an indent in columns.
-    /// Answers the bullet or the delimiter, the start number (0 for a bullet), and the indent of the
-    /// item's content.
+    /// Answers the bullet or the delimiter, the start number (0 for a bullet), and the indent of
+    /// the item's content.
     ///
     /// One column of space, or a line ending, has to follow the marker. Of further space fewer
     /// than four columns are taken, unless the rest of the line is blank.
@@ -246,11 +237,16 @@ impl<'a> LineStart<'a> {
     /// `indent` is at most `usize::MAX - 16`, so that the columns of the marker can be added.
     pub fn scan_list_marker_with_indent(&mut self, indent: usize) -> Option<(u8, u64, usize)>
         requires { indent ≤ usize.MAX - 16 }
+
         ensures answer { result ≡ (item_outcome indent self.old).answer }
-        ensures state { self.new ≡ (item_outcome indent self.old).state }
         ensures width { IfSome result (λ r. r.2 ≤ indent + 14) }
+
+        // The place after the call; it stays where no item's marker stands.
+        ensures state { self.new ≡ (item_outcome indent self.old).state }
         ensures bytes { self.new.bytes ≡ self.old.bytes }
         ensures unchanged { IfNone result (self.new ≡ self.old) }
+
+        // With nothing pending the call is one on the line with its tabs written out.
         ensures step { self.old.pending ≡ 0 →
             IsPlainStep (LineCall.List indent) (LineAnswer.List result) self.old self.new }
     {
@@ -275,11 +271,16 @@ impl<'a> LineStart<'a> {
         indent: usize,
     ) -> Option<usize>
         requires { indent ≤ usize.MAX - 16 }
+
         ensures answer { result ≡ (definition_outcome indent self.old).answer }
-        ensures state { self.new ≡ (definition_outcome indent self.old).state }
         ensures width { IfSome result (λ width. width ≤ indent + 5) }
+
+        // The place after the call; it stays where no definition's marker stands.
+        ensures state { self.new ≡ (definition_outcome indent self.old).state }
         ensures bytes { self.new.bytes ≡ self.old.bytes }
         ensures unchanged { IfNone result (self.new ≡ self.old) }
+
+        // With nothing pending the call is one on the line with its tabs written out.
         ensures step { self.old.pending ≡ 0 →
             IsPlainStep (LineCall.Definition indent) (LineAnswer.Definition result)
             self.old self.new }
@@ -301,6 +302,8 @@ impl<'a> LineStart<'a> {
         ensures inside { IfSome result (λ r. self.old.place + r.0 ≤ length self.old.bytes) }
         ensures width { IfSome result (λ r. r.0 ≤ 10) }
         ensures none { IfNone result (list_marker (unscanned self.old) ≡ None) }
+
+        // Nothing that is seen of the place changes.
         ensures state { self.new ≡ self.old }
         ensures phase { self.old.phase < 4 }
     {
@@ -447,41 +450,6 @@ fn task_box(bytes: &[u8]) -> Option<bool>
         },
         _ => None,
     }
-}
-
-// The kind of the alert whose line stands at the front, and the length of that line.
-fn scan_alert(bytes: &[u8]) -> Option<(BlockQuoteKind, usize)>
-    ensures alert { result ≡ alert_line bytes.now }
-    ensures within { IfSome result (λ alert. alert.1 ≤ length bytes.now) }
-{
-    let name = bytes.strip_prefix(b"[!")?;
-    let (kind, length) = scan_alert_name(name)?;
-    let rest = scan_blank_line(&name[length..])?;
-    Some((kind, 2 + length + rest))
-}
-
-// The kind of the alert whose name and `]` stand at the front, and the length of both.
-fn scan_alert_name(bytes: &[u8]) -> Option<(BlockQuoteKind, usize)>
-    ensures name { result ≡ alert_name bytes.now }
-    ensures within { IfSome result (λ alert. alert.1 ≤ length bytes.now) }
-{
-    for (name, kind) in ALERTS {
-        if begins_with_name(bytes, name.as_bytes()) {
-            return Some((kind, name.len() + 1));
-        }
-    }
-    None
-}
-
-// Whether the name stands at the front, in any ASCII case, and `]` after it.
-fn begins_with_name(bytes: &[u8], name: &[u8]) -> bool
-    ensures name { result ≡ is_alert_name name.now bytes.now }
-    ensures within { IsTrue result → length name.now < length bytes.now }
-{
-    if bytes.len() <= name.len() {
-        return false;
-    }
-    bytes[..name.len()].eq_ignore_ascii_case(name) && bytes[name.len()] == b']'
 }
 
 // Whether the byte is one that ends a line: LF or CR.

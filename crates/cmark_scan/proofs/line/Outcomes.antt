@@ -3,7 +3,7 @@ use Rattle.std.proofs.Common.{◌≡◌, ℕ, List, ap, ◌∙◌}
 use denote.Ref.{Bor}
 use Rattle.std.specs.List.{filter_map}
 use Rattle.markdown_scanners_tree.specs.declared.line.run.LineCall.{LineCall}
-use Rattle.markdown_scanners_tree.specs.line.run.PlainRun.{plain_run, stop_at, rest_after, scanned_after}
+use Rattle.markdown_scanners_tree.specs.line.run.PlainRun.{plain_run, indexed_stop, rest_after, scanned_after}
 use Rattle.markdown_scanners_tree.specs.declared.line.run.LineRun.{LineRun}
 use Rattle.cmark_scan.specs.printing.Run.{Run, run_of, run_view}
 use Rattle.cmark_scan.specs.words.Words.{call_of, calls_of}
@@ -25,7 +25,7 @@ line_outcome words calls run input text n said ran printed ended =
 
 -- what the library says of a run, field by field
 pub run_is : (run : LineRun) (calls : List LineCall) (line : List ℕ)
-    → run.answers.items ≡ (plain_run line calls).answers → run.stop ≡ stop_at (plain_run line calls)
+    → run.answers.items ≡ (plain_run line calls).answers → run.stop ≡ indexed_stop (plain_run line calls)
     → run.rest.items ≡ rest_after line (plain_run line calls) → run.scanned ≡ scanned_after line (plain_run line calls)
     → run_view run ≡ run_of calls line
 unfolding run_of

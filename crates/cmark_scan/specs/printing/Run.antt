@@ -1,6 +1,6 @@
 -- A run of calls on a line as it is printed. (CommonMark 0.31.2, section 2.2, tabs)
 use Rattle.std.specs.Prelude.{ℕ, List, Option}
-use Rattle.markdown_scanners_tree.specs.line.run.PlainRun.{plain_run, stop_at, rest_after, scanned_after}
+use Rattle.markdown_scanners_tree.specs.line.run.PlainRun.{plain_run, indexed_stop, rest_after, scanned_after}
 use Rattle.markdown_scanners_tree.specs.declared.line.run.LineAnswer.{LineAnswer}
 use Rattle.markdown_scanners_tree.specs.declared.line.run.LineCall.{LineCall}
 use Rattle.markdown_scanners_tree.specs.declared.line.run.LineRun.{LineRun}
@@ -19,7 +19,7 @@ run_of calls line = record {
   answers = (plain_run line calls).answers;
   rest = rest_after line (plain_run line calls);
   scanned = scanned_after line (plain_run line calls);
-  stop = stop_at (plain_run line calls);
+  stop = indexed_stop (plain_run line calls);
 }
 
 -- the run as the library gives it

@@ -1,5 +1,6 @@
 -- The head of what is left of a line, and what a call takes of it.
-use Rattle.std.proofs.Common.{ℕ, zero, suc, not, ◌≡◌, refl, ap, ◌∙◌, ◌==◌, List, [], ◌∷◌, ◌++◌, ◌+◌, ◌-◌, ◌%◌, ◌≤◌, drop, arith, add-zero, if◌then◌else◌, nat_le, ◌&&◌, Option, Some, None, true, false, sym, min, length, take_while, zero-add}
+use Rattle.std.specs.Prelude.{ℕ, zero, suc, not, ◌≡◌, refl, ◌==◌, List, [], ◌∷◌, ◌++◌, ◌+◌, ◌-◌, ◌%◌, ◌≤◌, drop, if◌then◌else◌, nat_le, ◌&&◌, Option, Some, None, true, false, min, length, take_while}
+use Rattle.std.proofs.Common.{ap, ◌∙◌, arith, add-zero, sym, zero-add}
 use Rattle.std.specs.List.{prefix_len}
 use Rattle.std.proofs.lemmas.Bool.Decides.{nat_tests}
 use Rattle.std.proofs.lemmas.List.{drop-drop}
@@ -37,7 +38,12 @@ head_len-end (b ∷ bs) c =
     (λ tab.
     let w = column_after c b - c in
     let e : written_byte c b ≡ spaces w = rw tab refl in
-    rw (written-cons c b bs goes, head_end-cons c b bs goes, e, head_len-spaces w (written_out (column_after c b) bs)) (omega arith))
+    rw (
+      written-cons c b bs goes,
+      head_end-cons c b bs goes,
+      e,
+      head_len-spaces w (written_out (column_after c b) bs),
+    ) (omega arith))
     (λ plain.
     let e : written_byte c b ≡ b ∷ [] = rw plain refl in
     let next : column_after c b ≡ c + 1 = rw plain refl in
@@ -64,11 +70,13 @@ definition-within : (indent : ℕ) (r : List ℕ) → (definition_step indent r)
 definition-within indent [] = omega arith
 definition-within indent (b ∷ r) =
     bool_cases (b == 58)
-    (λ yes. let e : b ≡ 58 = grind (arith, nat_tests) in rw e (omega (arith, leading-head r, definition_spaces-within (leading_spaces r))))
+    (λ yes. let e : b ≡ 58 = grind (arith, nat_tests) in
+    rw e (omega (arith, leading-head r, definition_spaces-within (leading_spaces r))))
     (λ no. rw no (omega arith))
 
 -- digits end no line
-digits-head : (r : List ℕ) (d : ℕ) (back : List ℕ) → drop (prefix_len is_digit r) r ≡ d ∷ back → is_delimiter d ≡ true →
+digits-head : (r : List ℕ) (d : ℕ) (back : List ℕ) → drop (prefix_len is_digit r) r ≡ d ∷ back
+    → is_delimiter d ≡ true →
     head_len r ≡ prefix_len is_digit r + 1 + head_len back
 digits-head [] d back e h = cc
 digits-head (b ∷ r) d back e h =
@@ -100,7 +108,8 @@ bullet-head (b ∷ bs) m h =
     rw (← width, goes) refl)
     (λ no. let e = rw no at h in cc)
 
-ordered-head-by : (r rest : List ℕ) (m : Marker) → drop (prefix_len is_digit r) r ≡ rest → length (take_while is_digit r) ≡ prefix_len is_digit r →
+ordered-head-by : (r rest : List ℕ) (m : Marker) → drop (prefix_len is_digit r) r ≡ rest
+    → length (take_while is_digit r) ≡ prefix_len is_digit r →
     ordered_marker_of (take_while is_digit r) rest ≡ Some m → head_len r ≡ m.width + head_len (drop m.width r)
 ordered-head-by r [] m e n h = cc
 ordered-head-by r (d ∷ back) m e n h =
@@ -108,9 +117,11 @@ ordered-head-by r (d ∷ back) m e n h =
     bool_cases (nat_le 1 (length digits) && nat_le (length digits) 9 && is_delimiter d)
     (λ yes.
     let ends : is_delimiter d ≡ true = grind (arith, nat_tests) in
-    let width : length digits + 1 ≡ m.width = same_width (record { width = length digits + 1; delimiter = d; start = digits_value 10 digits }) m (rw yes at h) in
+    let width : length digits + 1 ≡ m.width = same_width
+    (record { width = length digits + 1; delimiter = d; start = digits_value 10 digits }) m (rw yes at h) in
     let w : m.width ≡ prefix_len is_digit r + 1 = omega arith in
-    let tail : drop (prefix_len is_digit r + 1) r ≡ back = sym (drop-drop 1 (prefix_len is_digit r) r) ∙ ap (drop 1) e in
+    let tail : drop (prefix_len is_digit r + 1) r ≡ back =
+    sym (drop-drop 1 (prefix_len is_digit r) r) ∙ ap (drop 1) e in
     rw (w, tail) (digits-head r d back e ends))
     (λ no. let f = rw no at h in cc)
 
@@ -118,9 +129,15 @@ ordered-head-by r (d ∷ back) m e n h =
 marker-head : (r : List ℕ) (m : Marker) → list_marker r ≡ Some m → head_len r ≡ m.width + head_len (drop m.width r)
 marker-head r m h =
     let n : length (take_while is_digit r) ≡ prefix_len is_digit r = length-prefix_len is_digit r in
-    let by : (o : Option Marker) → bullet_marker r ≡ o → (elim o as (λ _. Option Marker) [ Some x ↦ Some x | None ↦ ordered_marker r ]) ≡ Some m
+    let by : (o : Option Marker) → bullet_marker r ≡ o → (elim o as (λ _. Option Marker) [
+      | Some x ↦ Some x
+      | None ↦ ordered_marker r
+    ]) ≡ Some m
     → head_len r ≡ m.width + head_len (drop m.width r) =
-    λ o. elim o as (λ o. bullet_marker r ≡ o → (elim o as (λ _. Option Marker) [ Some x ↦ Some x | None ↦ ordered_marker r ]) ≡ Some m
+    λ o. elim o as (λ o. bullet_marker r ≡ o → (elim o as (λ _. Option Marker) [
+      | Some x ↦ Some x
+      | None ↦ ordered_marker r
+    ]) ≡ Some m
     → head_len r ≡ m.width + head_len (drop m.width r)) [
       | Some x ↦ (λ e h. bullet-head r m (e ∙ h))
       | None ↦ (λ e h. ordered-head-by r (drop (prefix_len is_digit r) r) m refl n (rw n at h))
@@ -151,7 +168,8 @@ item-within-by indent r (Some m) e =
     let left = drop (m.width + one) r in
     let further = (if is_blank left then 0 else marker_spaces (leading_spaces left)) in
     let fits : further ≤ leading_spaces left =
-    bool_cases (is_blank left) (λ yes. rw yes (omega arith)) (λ no. rw no (marker_spaces-within (leading_spaces left))) in
+    bool_cases (is_blank left) (λ yes. rw yes (omega arith))
+    (λ no. rw no (marker_spaces-within (leading_spaces left))) in
     let a = marker-head r m e in
     let b : head_len tail ≡ one + head_len (drop one tail) = leading-drop one tail (omega arith) in
     let c : drop one tail ≡ left = drop-drop one m.width r in
@@ -165,7 +183,7 @@ item-within : (indent : ℕ) (r : List ℕ) → (item_step indent r).taken ≤ h
 item-within indent r = item-within-by indent r (list_marker r) refl
 
 -- a call takes nothing past the head of a rest
-pub plain_step-within : (call : LineCall) (r : List ℕ) → (plain_step call r).taken ≤ head_len r
+plain_step-within : (call : LineCall) (r : List ℕ) → (plain_step call r).taken ≤ head_len r
 plain_step-within (Space n) r = omega (arith, leading-head r)
 plain_step-within (Upto n) r = omega (arith, leading-head r)
 plain_step-within Eol r = omega arith

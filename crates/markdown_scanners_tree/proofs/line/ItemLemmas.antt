@@ -1,5 +1,6 @@
 -- A list item's marker that a line start passes.
-use Rattle.std.proofs.Common.{ℕ, ◌≢◌, not, if◌then◌else◌, cond, Bool, true, false, ◌≡◌, refl, sym, ◌∙◌, ap, ◌==◌, ◌||◌, ◌&&◌, List, [], ◌∷◌, ◌++◌, ◌+◌, ◌-◌, ◌<◌, ◌≤◌, min, length, take, drop, get_or, nat_le, nat_lt, Option, Some, None, arith, length-append, append_assoc}
+use Rattle.std.specs.Prelude.{ℕ, ◌≢◌, not, if◌then◌else◌, Bool, true, false, ◌≡◌, refl, ◌==◌, ◌||◌, ◌&&◌, List, [], ◌∷◌, ◌++◌, ◌+◌, ◌-◌, ◌<◌, ◌≤◌, Option, Some, None}
+use Rattle.std.proofs.Common.{cond, sym, ◌∙◌, ap, arith, length-append, append_assoc, min, length, take, drop, get_or, nat_le, nat_lt}
 use Rattle.std.specs.List.{list_all, prefix_len}
 use Rattle.std.proofs.lemmas.Bool.{le-leb, leb-true, lt-ltb}
 use Rattle.std.proofs.lemmas.Bool.Decides.{nat_tests}
@@ -12,8 +13,8 @@ use Rattle.markdown_scanners_tree.specs.line.State.{LineState, unscanned, rest_o
 use Rattle.markdown_scanners_tree.specs.scanners.list_items.ListItem.{IsListMarker, bullet, ordered}
 use Rattle.markdown_scanners_tree.specs.scanners.list_items.ListMarker.{Marker, is_bullet, is_delimiter, bullet_marker, ordered_marker, ordered_marker_of, list_marker, is_space_or_line_end}
 use Rattle.std.specs.Str.Parse.{digits_value}
-use Rattle.markdown_scanners_tree.specs.line.run.PlainRun.{refusal}
-use Rattle.markdown_scanners_tree.specs.line.PlainStep.{Step, item_step, item_step_of, item_step_by, no_item, marker_spaces, spaces_within, IsPlainStep}
+use Rattle.markdown_scanners_tree.specs.line.run.PlainRun.{line_refusal}
+use Rattle.markdown_scanners_tree.specs.line.PlainStep.{PlainStep, item_step, item_step_of, item_step_by, no_item, marker_spaces, spaces_within, IsPlainStep}
 use Rattle.markdown_scanners_tree.specs.scanners.Breaks.{is_thematic_break}
 use Rattle.markdown_scanners_tree.specs.declared.line.run.LineAnswer.TheVariants.{List as ItemAnswer}
 use Rattle.markdown_scanners_tree.specs.declared.line.run.LineCall.TheVariants.{List as ItemCall}
@@ -22,14 +23,17 @@ use Rattle.markdown_scanners_tree.proofs.PrefixLemmas.{both_true, list_all-impli
 use Rattle.markdown_scanners_tree.proofs.line.HeadLemmas.{head_len, leading-head, head_len-end, marker_spaces-within}
 use Rattle.markdown_scanners_tree.proofs.scanners.list_items.ListItemLemmas.{ordered-parts, ordered-scanned, bullet-scanned, begins-at}
 use Rattle.markdown_scanners_tree.proofs.line.StepLemmas.{nothing_taken, rest-none, rest-bytes, bytes_then, further-add}
-use Rattle.markdown_scanners_tree.proofs.line.WrittenLemmas.{is_plain, digit_plain, marker_of, marker_of-parts, written-first, blank-written, list_marker-written}
+use Rattle.markdown_scanners_tree.proofs.line.WrittenLemmas.{is_one_column, digit_one_column, marker_of, marker_of-parts, written-first, blank-written, list_marker-written}
 
 -- the bytes of a list marker are no tabs and end no line
-marker-plain : (marker : List ℕ) (delimiter start : ℕ) → IsListMarker marker delimiter start → list_all is_plain marker ≡ true
-marker-plain marker delimiter start (bullet b is) = let plain : is_plain b ≡ true = grind (arith, nat_tests) in rw plain refl
+marker-plain : (marker : List ℕ) (delimiter start : ℕ) → IsListMarker marker delimiter start
+    → list_all is_one_column marker ≡ true
+marker-plain marker delimiter start (bullet b is) =
+    let plain : is_one_column b ≡ true = grind (arith, nat_tests) in rw plain refl
 marker-plain marker delimiter start (ordered digits d one few all is) =
-    let plain : is_plain d ≡ true = grind (arith, nat_tests) in
-    list_all-append is_plain digits (d ∷ []) ∙ rw (list_all-implies is_digit is_plain digit_plain digits all, plain) refl
+    let plain : is_one_column d ≡ true = grind (arith, nat_tests) in
+    list_all-append is_one_column digits (d ∷ [])
+    ∙ rw (list_all-implies is_digit is_one_column digit_one_column digits all, plain) refl
 
 -- a bullet before an ordered marker
 abbrev pick : Option Marker → Option Marker → Option Marker
@@ -40,12 +44,15 @@ bullet-none [] other = refl
 bullet-none (b ∷ r) other = rw other refl
 
 -- the marker that a list marker at the front of some bytes is
-marker-is : (marker rest : List ℕ) (delimiter start : ℕ) → IsListMarker marker delimiter start → (length marker ≡ 1 → is_thematic_break (marker ++ rest) ≡ false)
+marker-is : (marker rest : List ℕ) (delimiter start : ℕ) → IsListMarker marker delimiter start
+    → (length marker ≡ 1 → is_thematic_break (marker ++ rest) ≡ false)
     → list_marker (marker ++ rest) ≡ Some (record { width = length marker; delimiter = delimiter; start = start })
 marker-is marker rest delimiter start (bullet b is) no_break =
     let e : is_thematic_break (b ∷ rest) ≡ false = no_break refl in
-    let test : (is_bullet b && not (is_thematic_break (b ∷ rest))) ≡ true = ap (λ t. is_bullet b && not t) e ∙ rw is refl in
-    ap (λ o. pick o (ordered_marker (b ∷ rest))) (ap (λ t. cond t (Some (record { width = 1; delimiter = b; start = 0 })) None) test)
+    let test : (is_bullet b && not (is_thematic_break (b ∷ rest))) ≡ true =
+    ap (λ t. is_bullet b && not t) e ∙ rw is refl in
+    ap (λ o. pick o (ordered_marker (b ∷ rest)))
+    (ap (λ t. cond t (Some (record { width = 1; delimiter = b; start = 0 })) None) test)
 marker-is marker rest delimiter start (ordered digits d one few all is) no_break =
     let r = (digits ++ d ∷ []) ++ rest in
     let front = ordered-parts digits d rest one all is in
@@ -54,39 +61,50 @@ marker-is marker rest delimiter start (ordered digits d one few all is) no_break
     let high : nat_le (length digits) 9 ≡ true = le-leb (length digits) 9 few in
     let width : length digits + 1 ≡ length (digits ++ d ∷ []) = sym (length-append digits (d ∷ [])) in
     ap (λ o. pick o (ordered_marker r)) (bullet-none r front.0)
-    ∙ ap (λ k. marker_of k r) front.1 ∙ ap (marker_of (length digits)) joined ∙ marker_of-parts (length digits) digits (d ∷ rest) refl
+    ∙ ap (λ k. marker_of k r) front.1 ∙ ap (marker_of (length digits)) joined
+    ∙ marker_of-parts (length digits) digits (d ∷ rest) refl
     ∙ rw (low, high, is, width) refl
 
-pub marker-found : (bytes : List ℕ) (width delimiter start : ℕ) → IsListMarker (take width bytes) delimiter start → width ≤ length bytes
-    → (width ≡ 1 → is_thematic_break bytes ≡ false) → list_marker bytes ≡ Some (record { width = width; delimiter = delimiter; start = start })
+pub marker-found : (bytes : List ℕ) (width delimiter start : ℕ)
+    → IsListMarker (take width bytes) delimiter start → width ≤ length bytes
+    → (width ≡ 1 → is_thematic_break bytes ≡ false)
+    → list_marker bytes ≡ Some (record { width = width; delimiter = delimiter; start = start })
 marker-found bytes width delimiter start is inside no_break =
     let whole : take width bytes ++ drop width bytes ≡ bytes = take-append-drop width bytes in
     let count : length (take width bytes) ≡ width = length-take-le width bytes inside in
-    let found = marker-is (take width bytes) (drop width bytes) delimiter start is (λ one. ap is_thematic_break whole ∙ no_break (sym count ∙ one)) in
-    ap list_marker (sym whole) ∙ found ∙ ap (λ n. Some (record { width = n; delimiter = delimiter; start = start })) count
+    let found = marker-is (take width bytes) (drop width bytes) delimiter start is (λ one. ap is_thematic_break whole
+    ∙ no_break (sym count ∙ one)) in
+    ap list_marker (sym whole) ∙ found
+    ∙ ap (λ n. Some (record { width = n; delimiter = delimiter; start = start })) count
 
 -- no list marker at the front of some bytes
-pub marker-none : (bytes : List ℕ) → ((n delimiter start : ℕ) → ¬ IsListMarker (take n bytes) delimiter start) → list_marker bytes ≡ None
+pub marker-none : (bytes : List ℕ) → ((n delimiter start : ℕ) → ¬ IsListMarker (take n bytes) delimiter start)
+    → list_marker bytes ≡ None
 marker-none bytes absent =
     let n = prefix_len is_digit bytes in
     let count : length (take n bytes) ≡ n = length-prefix_len is_digit bytes in
     let bullets : begins_with is_bullet bytes ≡ false =
-    bool_cases (begins_with is_bullet bytes) (λ begins. absurd (absent 1 (get_or bytes 0 0) 0 (bullet-scanned bytes begins))) (λ other. other) in
+    bool_cases (begins_with is_bullet bytes)
+    (λ begins. absurd (absent 1 (get_or bytes 0 0) 0 (bullet-scanned bytes begins))) (λ other. other) in
     let delimited : (nat_le 1 n && nat_le n 9 && begins_with is_delimiter (drop n bytes)) ≡ false =
     bool_cases (nat_le 1 n && nat_le n 9 && begins_with is_delimiter (drop n bytes))
     (λ yes.
     let few = both_true (nat_le 1 n && nat_le n 9) (begins_with is_delimiter (drop n bytes)) yes in
     let ends = both_true (nat_le 1 n) (nat_le n 9) few.0 in
     let at = begins-at is_delimiter bytes n few.1 in
-    absurd (absent (n + 1) (get_or bytes n 0) (digits_value 10 (take n bytes)) (ordered-scanned bytes n refl (leb-true 1 n ends.0) (leb-true n 9 ends.1) at.0 at.1)))
+    absurd (absent (n + 1) (get_or bytes n 0) (digits_value 10 (take n bytes))
+    (ordered-scanned bytes n refl (leb-true 1 n ends.0) (leb-true n 9 ends.1) at.0 at.1)))
     (λ other. other) in
     ap (λ o. pick o (ordered_marker bytes)) (bullet-none bytes bullets)
-    ∙ ap (λ k. ordered_marker_of (take n bytes) (drop k bytes)) count ∙ no_ordered (take n bytes) (drop n bytes) n count delimited
+    ∙ ap (λ k. ordered_marker_of (take n bytes) (drop k bytes)) count
+    ∙ no_ordered (take n bytes) (drop n bytes) n count delimited
   where
-    no_ordered : (digits back : List ℕ) (n : ℕ) → length digits ≡ n → (nat_le 1 n && nat_le n 9 && begins_with is_delimiter back) ≡ false → ordered_marker_of digits back ≡ None
+    no_ordered : (digits back : List ℕ) (n : ℕ) → length digits ≡ n
+        → (nat_le 1 n && nat_le n 9 && begins_with is_delimiter back) ≡ false → ordered_marker_of digits back ≡ None
     no_ordered digits [] n count other = refl
     no_ordered digits (d ∷ back) n count other =
-        let fails : (nat_le 1 (length digits) && nat_le (length digits) 9 && is_delimiter d) ≡ false = rw count other in
+        let fails : (nat_le 1 (length digits) && nat_le (length digits) 9 && is_delimiter d) ≡ false =
+        rw count other in
         rw fails refl
 
 -- a marker has at most ten bytes
@@ -95,7 +113,7 @@ marker-width marker delimiter start (bullet b is) = omega arith
 marker-width marker delimiter start (ordered digits d one few all is) = omega (arith, length-append digits (d ∷ []))
 
 -- a call for a list marker that is not refused has nothing pending
-pub item_allowed : (p indent : ℕ) → refusal (p == 0) (ItemCall indent) ≡ None → p ≡ 0
+pub item_allowed : (p indent : ℕ) → line_refusal (p == 0) (ItemCall indent) ≡ None → p ≡ 0
 item_allowed p indent h =
     bool_cases (p == 0)
     (λ yes. grind (arith, nat_tests))
@@ -105,11 +123,13 @@ item_allowed p indent h =
 none_after : (s : LineState) → leading_spaces (rest_of s) ≡ 0 → unscanned (after_space 1 s) ≡ unscanned s
 none_after s none =
     let no_column : space_within 1 s ≡ 0 = omega arith in
-    let no_byte : bytes_below s.phase (unscanned s) (s.phase + 0 - s.pending) ≡ 0 = none_below (unscanned s) s.phase (s.phase + 0 - s.pending) (omega arith) in
+    let no_byte : bytes_below s.phase (unscanned s) (s.phase + 0 - s.pending) ≡ 0 =
+    none_below (unscanned s) s.phase (s.phase + 0 - s.pending) (omega arith) in
     let place : s.place + 0 ≡ s.place = omega arith in
     ap (λ t. unscanned (columns_further t s)) no_column ∙ rw (no_byte, place) refl
 
-pub follows-end : (s : LineState) (r : Bool) → (space_within 1 s ≡ 1 → ⊥) → r ≡ is_at_line_end (unscanned (after_space 1 s)) → r ≡ space_or_end_follows s
+pub follows-end : (s : LineState) (r : Bool) → (space_within 1 s ≡ 1 → ⊥)
+    → r ≡ is_at_line_end (unscanned (after_space 1 s)) → r ≡ space_or_end_follows s
 follows-end s r few answer =
     let none : leading_spaces (rest_of s) ≡ 0 = (let h : space_within 1 s ≢ 1 = few in omega arith) in
     answer ∙ ap is_at_line_end (none_after s none) ∙ rw none refl
@@ -117,59 +137,81 @@ follows-end s r few answer =
 -- a list item's marker, in every state
 pub item-found : (indent further : ℕ) (s : LineState) (m : Marker) → list_marker (unscanned s) ≡ Some m
     → space_or_end_follows (bytes_further m.width s) ≡ true
-    → further ≡ (if is_blank (unscanned (after_space 1 (bytes_further m.width s))) then 0 else marker_spaces (leading_spaces (rest_of (after_space 1 (bytes_further m.width s)))))
-    → item_outcome indent s ≡ record { answer = Some (m.delimiter, m.start, indent + m.width + 1 + further); state = after_space further (after_space 1 (bytes_further m.width s)) }
+    → further ≡ (if is_blank (unscanned (after_space 1 (bytes_further m.width s))) then 0 else marker_spaces
+    (leading_spaces (rest_of (after_space 1 (bytes_further m.width s)))))
+    → item_outcome indent s ≡ record {
+      answer = Some (m.delimiter, m.start, indent + m.width + 1 + further);
+      state = after_space further (after_space 1 (bytes_further m.width s));
+    }
 item-found indent further s m found ends counted =
     let marked = bytes_further m.width s in
     let after = after_space 1 marked in
     ap (item_outcome_by indent s) found ∙ ap (λ t. cond t (item_outcome_after indent m after) (not_found s)) ends
-    ∙ ap (λ f. record { answer = Some (m.delimiter, m.start, indent + m.width + 1 + f); state = after_space f after }) (sym counted)
+    ∙ ap (λ f. record { answer = Some (m.delimiter, m.start, indent + m.width + 1 + f); state = after_space f after })
+    (sym counted)
 
 -- in what is left, with nothing pending, the same follows
-follows-written : (bs : List ℕ) (c : ℕ) → is_space_or_line_end (written_out c bs) ≡ (nat_lt 0 (leading_spaces (written_out c bs)) || is_at_line_end bs)
+follows-written : (bs : List ℕ) (c : ℕ)
+    → is_space_or_line_end (written_out c bs) ≡ (nat_lt 0 (leading_spaces (written_out c bs)) || is_at_line_end bs)
 follows-written [] c = refl
 follows-written (b ∷ bs) c =
     let e = written-first c b bs in
     let first = if b == 9 then 32 else b in
     let begins : is_space_or_line_end (first ∷ e.0) ≡ (nat_lt 0 (leading_spaces (first ∷ e.0)) || is_line_ending b) =
     bool_cases (b == 9)
-    (λ tab. let some : nat_lt 0 (1 + leading_spaces e.0) ≡ true = lt-ltb 0 (1 + leading_spaces e.0) (omega arith) in rw (tab, some) refl)
+    (λ tab. let some : nat_lt 0 (1 + leading_spaces e.0) ≡ true =
+    lt-ltb 0 (1 + leading_spaces e.0) (omega arith) in rw (tab, some) refl)
     (λ plain.
     bool_cases (b == 32)
-    (λ space. let some : nat_lt 0 (1 + leading_spaces e.0) ≡ true = lt-ltb 0 (1 + leading_spaces e.0) (omega arith) in rw (plain, space, some) refl)
+    (λ space. let some : nat_lt 0 (1 + leading_spaces e.0) ≡ true = lt-ltb 0 (1 + leading_spaces e.0) (omega arith) in
+    rw (plain, space, some) refl)
     (λ other. rw (plain, other) refl)) in
     ap is_space_or_line_end e.1 ∙ begins ∙ ap (λ w. nat_lt 0 (leading_spaces w) || is_line_ending b) (sym e.1)
 
-follows-plain : (marked : LineState) → marked.pending ≡ 0 → is_space_or_line_end (rest_of marked) ≡ space_or_end_follows marked
+follows-plain : (marked : LineState) → marked.pending ≡ 0
+    → is_space_or_line_end (rest_of marked) ≡ space_or_end_follows marked
 follows-plain marked none =
     let left = rest-none marked none in
     ap is_space_or_line_end left ∙ follows-written (unscanned marked) marked.phase
     ∙ ap (λ w. nat_lt 0 (leading_spaces w) || is_at_line_end (unscanned marked)) (sym left)
 
-item_step_of-is : (indent one further : ℕ) (r left : List ℕ) (m : Marker) → spaces_within 1 (drop m.width r) ≡ one → drop (m.width + one) r ≡ left
+item_step_of-is : (indent one further : ℕ) (r left : List ℕ) (m : Marker) → spaces_within 1 (drop m.width r) ≡ one
+    → drop (m.width + one) r ≡ left
     → (if is_blank left then 0 else marker_spaces (leading_spaces left)) ≡ further
-    → item_step_of indent r m ≡ record { answer = ItemAnswer (Some (m.delimiter, m.start, indent + m.width + 1 + further)); taken = m.width + one + further }
+    → item_step_of indent r m ≡ record {
+      answer = ItemAnswer (Some (m.delimiter, m.start, indent + m.width + 1 + further));
+      taken = m.width + one + further;
+    }
 item_step_of-is indent one further r left m first rest counted =
-    let step : ℕ → ℕ → Step = λ o f. record { answer = ItemAnswer (Some (m.delimiter, m.start, indent + m.width + 1 + f)); taken = m.width + o + f } in
+    let step : ℕ → ℕ → PlainStep = λ o f. record {
+      answer = ItemAnswer (Some (m.delimiter, m.start, indent + m.width + 1 + f));
+      taken = m.width + o + f;
+    } in
     let spaces : List ℕ → ℕ = λ x. if is_blank x then 0 else marker_spaces (leading_spaces x) in
-    ap (λ o. step o (spaces (drop (m.width + o) r))) first ∙ ap (λ x. step one (spaces x)) rest ∙ ap (step one) counted
+    ap (λ o. step o (spaces (drop (m.width + o) r))) first
+    ∙ ap (λ x. step one (spaces x)) rest ∙ ap (step one) counted
 
 further-within : (blank : Bool) (n : ℕ) → (if blank then 0 else marker_spaces n) ≤ n
 further-within true n = omega arith
 further-within false n = marker_spaces-within n
 
 -- nothing is taken where there is no marker
-pub item_refused : (indent : ℕ) (s : LineState) → s.phase < 4 → item_step indent (rest_of s) ≡ no_item → IsPlainStep (ItemCall indent) (ItemAnswer None) s s
+pub item_refused : (indent : ℕ) (s : LineState) → s.phase < 4 → item_step indent (rest_of s) ≡ no_item
+    → IsPlainStep (ItemCall indent) (ItemAnswer None) s s
 item_refused indent s small step = nothing_taken (ItemCall indent) (ItemAnswer None) s small step
 
-pub item_step-none : (indent : ℕ) (s : LineState) → s.pending ≡ 0 → list_marker (unscanned s) ≡ None → item_step indent (rest_of s) ≡ no_item
+pub item_step-none : (indent : ℕ) (s : LineState) → s.pending ≡ 0 → list_marker (unscanned s) ≡ None
+    → item_step indent (rest_of s) ≡ no_item
 item_step-none indent s none absent =
-    ap (item_step_by indent (rest_of s)) (ap list_marker (rest-none s none) ∙ list_marker-written (unscanned s) s.phase ∙ absent)
+    ap (item_step_by indent (rest_of s)) (ap list_marker (rest-none s none)
+    ∙ list_marker-written (unscanned s) s.phase ∙ absent)
 
 -- the same as a plain step: the marker's bytes are those of what is left
-module _ (s : LineState) (m : Marker) (small : s.phase < 4) (none : s.pending ≡ 0) (found : list_marker (unscanned s) ≡ Some m)
-    (is : IsListMarker (take m.width (unscanned s)) m.delimiter m.start) (inside : m.width ≤ length (unscanned s)) where
-  item_plain : list_all is_plain (take m.width (unscanned s)) ≡ true
+module _ (s : LineState) (m : Marker) (small : s.phase < 4) (none : s.pending ≡ 0)
+    (found : list_marker (unscanned s) ≡ Some m)
+    (is : IsListMarker (take m.width (unscanned s)) m.delimiter m.start)
+    (inside : m.width ≤ length (unscanned s)) where
+  item_plain : list_all is_one_column (take m.width (unscanned s)) ≡ true
   item_plain = marker-plain (take m.width (unscanned s)) m.delimiter m.start is
 
   item_left : rest_of (bytes_further m.width s) ≡ drop m.width (rest_of s)
@@ -182,18 +224,22 @@ module _ (s : LineState) (m : Marker) (small : s.phase < 4) (none : s.pending �
   item_follows = ap is_space_or_line_end (sym item_left) ∙ follows-plain (bytes_further m.width s) none
 
   -- no step where no space and no end of the line follows
-  pub item_step-bare : (indent : ℕ) → space_or_end_follows (bytes_further m.width s) ≡ false → item_step indent (rest_of s) ≡ no_item
+  pub item_step-bare : (indent : ℕ) → space_or_end_follows (bytes_further m.width s) ≡ false
+      → item_step indent (rest_of s) ≡ no_item
   item_step-bare indent bare =
       ap (item_step_by indent (rest_of s)) item_marker
       ∙ ap (λ t. cond t (item_step_of indent (rest_of s) m) no_item) (item_follows ∙ bare)
 
   -- the step where it does: its answer, what is left, and the state
   module _ (indent further : ℕ) (new : LineState) (follows : space_or_end_follows (bytes_further m.width s) ≡ true)
-      (rest : rest_of (after_space 1 (bytes_further m.width s)) ≡ drop (space_within 1 (bytes_further m.width s)) (rest_of (bytes_further m.width s)))
-      (counted : further ≡ (if is_blank (unscanned (after_space 1 (bytes_further m.width s))) then 0 else marker_spaces (leading_spaces (rest_of (after_space 1 (bytes_further m.width s))))))
+      (rest : rest_of (after_space 1 (bytes_further m.width s))
+      ≡ drop (space_within 1 (bytes_further m.width s)) (rest_of (bytes_further m.width s)))
+      (counted : further ≡ (if is_blank (unscanned (after_space 1 (bytes_further m.width s))) then 0 else
+      marker_spaces (leading_spaces (rest_of (after_space 1 (bytes_further m.width s))))))
       (moved : new ≡ after_space further (after_space 1 (bytes_further m.width s)))
       (left : rest_of new ≡ drop further (rest_of (after_space 1 (bytes_further m.width s)))) where
-    item_after : rest_of (after_space 1 (bytes_further m.width s)) ≡ drop (m.width + space_within 1 (bytes_further m.width s)) (rest_of s)
+    item_after : rest_of (after_space 1 (bytes_further m.width s))
+        ≡ drop (m.width + space_within 1 (bytes_further m.width s)) (rest_of s)
     item_after =
         let one = space_within 1 (bytes_further m.width s) in
         rest ∙ ap (drop one) item_left ∙ drop-drop one m.width (rest_of s)
@@ -207,9 +253,11 @@ module _ (s : LineState) (m : Marker) (small : s.phase < 4) (none : s.pending �
         let after = after_space 1 (bytes_further m.width s) in
         let one = space_within 1 (bytes_further m.width s) in
         let first : spaces_within 1 (drop m.width r) ≡ one = ap (spaces_within 1) (sym item_left) in
-        let blank : is_blank (rest_of after) ≡ is_blank (unscanned after) = blank-written after.pending (unscanned after) after.phase in
+        let blank : is_blank (rest_of after) ≡ is_blank (unscanned after) =
+        blank-written after.pending (unscanned after) after.phase in
         let columns = ap (λ t. cond t 0 (marker_spaces (leading_spaces (rest_of after)))) blank ∙ sym counted in
-        ap (item_step_by indent r) item_marker ∙ ap (λ t. cond t (item_step_of indent r m) no_item) (item_follows ∙ follows)
+        ap (item_step_by indent r) item_marker
+        ∙ ap (λ t. cond t (item_step_of indent r m) no_item) (item_follows ∙ follows)
         ∙ item_step_of-is indent one further r (rest_of after) m first (sym item_after) columns
 
     item_moved : new ≡ columns_further (m.width + space_within 1 (bytes_further m.width s) + further) s
@@ -219,20 +267,23 @@ module _ (s : LineState) (m : Marker) (small : s.phase < 4) (none : s.pending �
         let after = after_space 1 marked in
         let some = further-within (is_blank (unscanned after)) (leading_spaces (rest_of after)) in
         let within : min further (leading_spaces (rest_of after)) ≡ further = omega (arith, counted, some) in
-        let left : head_len (rest_of marked) ≡ head_len (written_out marked.phase (unscanned marked)) = ap head_len (rest-none marked none) in
+        let left : head_len (rest_of marked) ≡ head_len (written_out marked.phase (unscanned marked)) =
+        ap head_len (rest-none marked none) in
         let fits : marked.phase + one ≤ marked.pending + head_end marked.phase (unscanned marked) =
         omega (arith, leading-head (rest_of marked), left, head_len-end (unscanned marked) marked.phase) in
         let sum : m.width + (one + further) ≡ m.width + one + further = omega arith in
         moved ∙ ap (λ t. columns_further t after) within ∙ sym (further-add marked one further (omega arith) fits)
         ∙ sym (bytes_then s m.width small none inside item_plain (one + further)) ∙ ap (λ t. columns_further t s) sum
 
-    pub item_is_step : IsPlainStep (ItemCall indent) (ItemAnswer (Some (m.delimiter, m.start, indent + m.width + 1 + further))) s new
+    pub item_is_step : IsPlainStep (ItemCall indent)
+        (ItemAnswer (Some (m.delimiter, m.start, indent + m.width + 1 + further))) s new
     item_is_step =
         let r = rest_of s in
         let one = space_within 1 (bytes_further m.width s) in
-        let taken : m.width + one + further ≡ (item_step indent r).taken = ap (λ (x : Step). x.taken) (sym item_step-found) in
+        let taken : m.width + one + further ≡ (item_step indent r).taken =
+        ap (λ (x : PlainStep). x.taken) (sym item_step-found) in
         record {
-          answered = ap (λ (x : Step). x.answer) (sym item_step-found);
+          answered = ap (λ (x : PlainStep). x.answer) (sym item_step-found);
           rest = left ∙ ap (drop further) item_after ∙ drop-drop further (m.width + one) r ∙ ap (λ t. drop t r) taken;
           moved = item_moved ∙ ap (λ t. columns_further t s) taken;
         }

@@ -3,7 +3,7 @@ use Rattle.std.proofs.Common.{ℕ, ◌≡◌, refl, List, [], ◌∷◌, ◌++�
 use Rattle.markdown_scanners_tree.specs.Bytes.{blank_line}
 use Rattle.markdown_scanners_tree.specs.line.State.{after_space}
 use Rattle.markdown_scanners_tree.specs.line.Outcome.{after_all_space}
-use Rattle.markdown_scanners_tree.specs.line.run.PlainRun.{plain_run, stop_at, rest_after, scanned_after}
+use Rattle.markdown_scanners_tree.specs.line.run.PlainRun.{plain_run, indexed_stop, rest_after, scanned_after}
 use Rattle.markdown_scanners_tree.specs.scanners.Breaks.{is_thematic_break}
 use Rattle.markdown_scanners_tree.specs.declared.line.run.LineAnswer.{LineAnswer}
 use Rattle.markdown_scanners_tree.specs.declared.line.run.LineAnswer.TheVariants.{Flag, Count}
@@ -21,7 +21,12 @@ record Shown : Type 0 where
 
 abbrev shown : List ℕ → List LineCall → Shown
 shown line calls = let run = plain_run line calls in
-    record { answers = run.answers; stop = stop_at run; rest = rest_after line run; scanned = scanned_after line run }
+    record {
+      answers = run.answers;
+      stop = indexed_stop run;
+      rest = rest_after line run;
+      scanned = scanned_after line run;
+    }
 
 abbrev shows : List LineAnswer → Option (ℕ × LineStop) → List ℕ → ℕ → Shown
 shows answers stop rest scanned = record { answers = answers; stop = stop; rest = rest; scanned = scanned }
@@ -29,22 +34,26 @@ shows answers stop rest scanned = record { answers = answers; stop = stop; rest 
 upto_over_a_tab : shown (9 ∷ 120 ∷ []) (Upto 3 ∷ Upto 5 ∷ []) ≡ shows (Count 3 ∷ Count 1 ∷ []) None (codes "x") 1
 upto_over_a_tab = refl
 
-line_end_inside_a_tab : shown (9 ∷ 120 ∷ []) (Upto 3 ∷ Eol ∷ []) ≡ shows (Count 3 ∷ []) (Some (1, SpacePending)) (codes " x") 1
+line_end_inside_a_tab : shown (9 ∷ 120 ∷ []) (Upto 3 ∷ Eol ∷ [])
+    ≡ shows (Count 3 ∷ []) (Some (1, SpacePending)) (codes " x") 1
 line_end_inside_a_tab = refl
 
-quote_and_two_tabs : shown (62 ∷ 9 ∷ 9 ∷ 120 ∷ []) (Quote ∷ Upto 9 ∷ []) ≡ shows (Flag true ∷ Count 6 ∷ []) None (codes "x") 3
+quote_and_two_tabs : shown (62 ∷ 9 ∷ 9 ∷ 120 ∷ []) (Quote ∷ Upto 9 ∷ [])
+    ≡ shows (Flag true ∷ Count 6 ∷ []) None (codes "x") 3
 quote_and_two_tabs = refl
 
 quote_takes_one_column : shown (62 ∷ 9 ∷ 45 ∷ []) (Quote ∷ []) ≡ shows (Flag true ∷ []) None (codes "  -") 2
 quote_takes_one_column = refl
 
-three_spaces : shown (codes "   x") (Upto 2 ∷ Space 1 ∷ Eol ∷ []) ≡ shows (Count 2 ∷ Flag true ∷ Flag false ∷ []) None (codes "x") 3
+three_spaces : shown (codes "   x") (Upto 2 ∷ Space 1 ∷ Eol ∷ [])
+    ≡ shows (Count 2 ∷ Flag true ∷ Flag false ∷ []) None (codes "x") 3
 three_spaces = refl
 
 no_space : shown (codes "x") (Space 1 ∷ []) ≡ shows (Flag false ∷ []) None (codes "x") 0
 no_space = refl
 
-line_end_after_spaces : shown (32 ∷ 32 ∷ 10 ∷ 120 ∷ []) (Upto 9 ∷ Eol ∷ []) ≡ shows (Count 2 ∷ Flag true ∷ []) None (10 ∷ 120 ∷ []) 2
+line_end_after_spaces : shown (32 ∷ 32 ∷ 10 ∷ 120 ∷ []) (Upto 9 ∷ Eol ∷ [])
+    ≡ shows (Count 2 ∷ Flag true ∷ []) None (10 ∷ 120 ∷ []) 2
 line_end_after_spaces = refl
 
 end_after_spaces : shown (codes "   ") (Space 4 ∷ Eol ∷ []) ≡ shows (Flag false ∷ Flag true ∷ []) None [] 3

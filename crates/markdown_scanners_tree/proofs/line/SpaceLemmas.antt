@@ -1,5 +1,6 @@
 -- Columns of space taken from a state.
-use Rattle.std.proofs.Common.{ℕ, zero, suc, false, ◌≡◌, refl, sym, ◌∙◌, ap, ◌⊎◌, inl, inr, eqb, List, ◌∷◌, ◌++◌, ◌+◌, ◌-◌, ◌*◌, ◌/◌, ◌%◌, ◌<◌, ◌≤◌, replicate, length, min, get_or, take, drop, arith, append_assoc, add-zero}
+use Rattle.std.specs.Prelude.{ℕ, zero, suc, false, ◌≡◌, refl, ◌⊎◌, List, ◌∷◌, ◌++◌, ◌+◌, ◌-◌, ◌*◌, ◌/◌, ◌%◌, ◌<◌, ◌≤◌, replicate, length, min, get_or, take, drop}
+use Rattle.std.proofs.Common.{sym, ◌∙◌, ap, inl, inr, eqb, arith, append_assoc, add-zero}
 use Rattle.std.proofs.lemmas.List.{length-replicate, replicate-append-replicate, drop-append-le, drop-replicate, drop_more}
 use Rattle.std.proofs.lemmas.Bool.{cases_lt}
 use Rattle.std.proofs.lemmas.Bool.Decides.{nat_tests}
@@ -13,17 +14,17 @@ use Rattle.markdown_scanners_tree.proofs.line.ColumnLemmas.{after-more, bool_cas
 abbrev pub spaces : ℕ → List ℕ
 spaces n = replicate n 32
 
-pub leading-spaces : (m : ℕ) (w : List ℕ) → leading_spaces (spaces m ++ w) ≡ m + leading_spaces w
+leading-spaces : (m : ℕ) (w : List ℕ) → leading_spaces (spaces m ++ w) ≡ m + leading_spaces w
 leading-spaces zero w = omega arith
 leading-spaces (suc m) w = omega (arith, leading-spaces m w)
 
-pub drop-spaces : (t p : ℕ) (w : List ℕ) → drop t (spaces (t + p) ++ w) ≡ spaces p ++ w
+drop-spaces : (t p : ℕ) (w : List ℕ) → drop t (spaces (t + p) ++ w) ≡ spaces p ++ w
 drop-spaces t p w =
     let fits : t ≤ length (spaces (t + p)) = rw (length-replicate {A = ℕ} (t + p) 32) (omega arith) in
     let e : t + p - t ≡ p = omega arith in
     drop-append-le t (spaces (t + p)) w fits ∙ rw (drop-replicate {X = ℕ} t (t + p) 32, e) refl
 
-pub spaces-join : (m n : ℕ) (w : List ℕ) → spaces m ++ (spaces n ++ w) ≡ spaces (m + n) ++ w
+spaces-join : (m n : ℕ) (w : List ℕ) → spaces m ++ (spaces n ++ w) ≡ spaces (m + n) ++ w
 spaces-join m n w = sym (append_assoc (spaces m) (spaces n) w) ∙ rw (replicate-append-replicate {A = ℕ} m n 32) refl
 
 -- the column of a state's place counts modulo four alone
@@ -32,10 +33,11 @@ written_out-phase bs c =
     let e : c % 4 + 4 * (c / 4) ≡ c = omega arith in
     sym (written_out-shift bs (c % 4) (c / 4)) ∙ rw e refl
 
-pub below-phase : (bs : List ℕ) (c n p : ℕ) → bytes_below (c % 4) bs (c % 4 + n - p) ≡ bytes_below c bs (c + n - p)
+below-phase : (bs : List ℕ) (c n p : ℕ) → bytes_below (c % 4) bs (c % 4 + n - p) ≡ bytes_below c bs (c + n - p)
 below-phase bs c n p =
     elim (cases_lt p n) [
-      | inr few ↦ none_below bs (c % 4) (c % 4 + n - p) (omega arith) ∙ sym (none_below bs c (c + n - p) (omega arith))
+      | inr few ↦ none_below bs (c % 4) (c % 4 + n - p) (omega arith)
+          ∙ sym (none_below bs c (c + n - p) (omega arith))
       | inl more ↦ (
           let e : c % 4 + 4 * (c / 4) ≡ c = omega arith in
           let f : c % 4 + n - p + 4 * (c / 4) ≡ c + n - p = omega arith in
@@ -43,17 +45,21 @@ below-phase bs c n p =
           )
     ]
 
-pub past-phase : (bs : List ℕ) (c : ℕ) → column_past (c % 4) bs + 4 * (c / 4) ≡ column_past c bs
+past-phase : (bs : List ℕ) (c : ℕ) → column_past (c % 4) bs + 4 * (c / 4) ≡ column_past c bs
 past-phase bs c =
     let e : c % 4 + 4 * (c / 4) ≡ c = omega arith in
     sym (column_past-shift bs (c % 4) (c / 4)) ∙ rw e refl
 
 -- a space or a tab more
-pub reach_space : {c₀ : ℕ} {bs₀ : List ℕ} {passed c b : ℕ} {back : List ℕ} (pending : ℕ)
-    → Reach c₀ bs₀ (spaces (c - c₀)) passed c 0 (b ∷ back) → c₀ ≤ c → (b ≡ 32) ⊎ (b ≡ 9) → c + pending < column_after c b
+reach_space : {c₀ : ℕ} {bs₀ : List ℕ} {passed c b : ℕ} {back : List ℕ} (pending : ℕ)
+    → Reach c₀ bs₀ (spaces (c - c₀)) passed c 0 (b ∷ back) → c₀ ≤ c → (b ≡ 32) ⊎ (b ≡ 9)
+    → c + pending < column_after c b
     → Reach c₀ bs₀ (spaces (column_after c b - c₀)) (passed + 1) (column_after c b) pending back
 reach_space {c₀} {bs₀} {passed} {c} {b} {back} pending r grows kind narrow =
-    let goes : is_line_ending b ≡ false = elim kind as (λ _. is_line_ending b ≡ false) [ inl e ↦ rw e refl | inr e ↦ rw e refl ] in
+    let goes : is_line_ending b ≡ false = elim kind as (λ _. is_line_ending b ≡ false) [
+      | inl e ↦ rw e refl
+      | inr e ↦ rw e refl
+    ] in
     let more : c < column_after c b = after-more c b in
     let written : written_byte c b ≡ spaces (column_after c b - c) =
     elim kind as (λ _. written_byte c b ≡ spaces (column_after c b - c)) [
@@ -79,8 +85,10 @@ further-column line place p c n =
     let back = drop place line in
     let m = bytes_below c back (c + n - p) in
     let count : bytes_below (c % 4) back (c % 4 + n - p) ≡ m = below-phase back c n p in
-    let shifted : column_past (c % 4) (take m back) + 4 * (c / 4) ≡ column_past c (take m back) = past-phase (take m back) c in
-    let pending : p + column_past (c % 4) (take m back) - (c % 4 + n) ≡ p + column_past c (take m back) - (c + n) = omega arith in
+    let shifted : column_past (c % 4) (take m back) + 4 * (c / 4) ≡ column_past c (take m back) =
+    past-phase (take m back) c in
+    let pending : p + column_past (c % 4) (take m back) - (c % 4 + n) ≡ p + column_past c (take m back) - (c + n) =
+    omega arith in
     let phase : column_past (c % 4) (take m back) % 4 ≡ column_past c (take m back) % 4 = omega arith in
     rw (count, pending, phase) refl
 
@@ -95,9 +103,11 @@ module _ (bytes : List ℕ) (place c₀ p n place' c p' left : ℕ)
       reach.below (c₀ + t - p) (omega arith) in
       let none : bytes_below c (drop place' bytes) (c₀ + t - p) ≡ 0 =
       none_below (drop place' bytes) c (c₀ + t - p) (omega arith) in
-      let count : bytes_below (c₀ % 4) bs (c₀ % 4 + t - p) ≡ place' - place = below-phase bs c₀ t p ∙ below ∙ rw none (omega arith) in
+      let count : bytes_below (c₀ % 4) bs (c₀ % 4 + t - p) ≡ place' - place =
+      below-phase bs c₀ t p ∙ below ∙ rw none (omega arith) in
       let past : column_past c₀ (take (place' - place) bs) ≡ c = rw add-zero at (reach.past 0) in
-      let shifted : column_past (c₀ % 4) (take (place' - place) bs) + 4 * (c₀ / 4) ≡ c = past-phase (take (place' - place) bs) c₀ ∙ past in
+      let shifted : column_past (c₀ % 4) (take (place' - place) bs) + 4 * (c₀ / 4) ≡ c =
+      past-phase (take (place' - place) bs) c₀ ∙ past in
       let pending : p + column_past (c₀ % 4) (take (place' - place) bs) - (c₀ % 4 + t) ≡ p' = omega arith in
       let phase : column_past (c₀ % 4) (take (place' - place) bs) % 4 ≡ c % 4 = omega arith in
       let sum : place + (place' - place) ≡ place' = omega arith in
@@ -127,7 +137,8 @@ module _ (bytes : List ℕ) (place c₀ p n place' c p' left : ℕ)
     state_after = further ∙ ap (λ t. columns_further t (state_of bytes place p c₀)) taken_all
 
 -- no space stands at the front of what is written out where no byte, or another one than a space or a tab, stands
-pub none_at_end : (bytes : List ℕ) (place c : ℕ) → length bytes ≤ place → leading_spaces (written_out c (drop place bytes)) ≡ 0
+pub none_at_end : (bytes : List ℕ) (place c : ℕ) → length bytes ≤ place
+    → leading_spaces (written_out c (drop place bytes)) ≡ 0
 none_at_end bytes place c h = let e = drop_of_length-le bytes h in rw e refl
 
 none_at : (c b : ℕ) (bs : List ℕ) → (b ≡ 32 → ⊥) → (b ≡ 9 → ⊥) → leading_spaces (written_out c (b ∷ bs)) ≡ 0
@@ -138,7 +149,8 @@ none_at c b bs space tab =
     (λ ends. rw (written-end c b bs ends, f) refl)
     (λ goes. rw (written-cons c b bs goes, g, f) refl)
 
-pub none_at_byte : (bytes : List ℕ) (place c : ℕ) → place < length bytes → (get_or bytes place 0 ≡ 32 → ⊥) → (get_or bytes place 0 ≡ 9 → ⊥)
+pub none_at_byte : (bytes : List ℕ) (place c : ℕ) → place < length bytes → (get_or bytes place 0 ≡ 32 → ⊥)
+    → (get_or bytes place 0 ≡ 9 → ⊥)
     → leading_spaces (written_out c (drop place bytes)) ≡ 0
 none_at_byte bytes place c inside space tab =
     rw (drop_more bytes place 0 inside) (none_at c (get_or bytes place 0) (drop (place + 1) bytes) space tab)
@@ -155,7 +167,8 @@ reach_next bytes place₀ c₀ place c pending b c' pending' r none on inside gr
     let count : place + 1 - place₀ ≡ place - place₀ + 1 = omega arith in
     rw (count, next) (reach_space pending' r₀ grows kind (omega arith))
 
--- Of n columns of space asked for at a place, with its column and p₀ columns pending, `left` are not yet taken where the next place is reached, with its column and p columns pending.
+-- Of n columns of space asked for at a place, with its column and p₀ columns pending, `left` are
+-- not yet taken where the next place is reached, with its column and p columns pending.
 pub record IsTaking (bytes : List ℕ) (place₀ c₀ p₀ n place c p left : ℕ) : Type 0 where
   pub reach : Reach c₀ (drop place₀ bytes) (spaces (c - c₀)) (place - place₀) c p (drop place bytes)
   pub kept : c + left + p₀ ≡ c₀ + n + p
@@ -167,10 +180,13 @@ pub record IsTaking (bytes : List ℕ) (place₀ c₀ p₀ n place c p left : �
   pub whole : min p left ≡ 0
 
 -- one space or tab more, with as many of its columns as are left to take
-pub taking_next : {bytes : List ℕ} {place₀ c₀ p₀ n place c p left : ℕ} (b : ℕ) {c' p' left' : ℕ} → IsTaking bytes place₀ c₀ p₀ n place c p left
+pub taking_next : {bytes : List ℕ} {place₀ c₀ p₀ n place c p left : ℕ} (b : ℕ) {c' p' left' : ℕ}
+    → IsTaking bytes place₀ c₀ p₀ n place c p left
     → 0 < left → place < length bytes → get_or bytes place 0 ≡ b → (b ≡ 32) ⊎ (b ≡ 9) → c' ≡ column_after c b
-    → p' ≡ c' - c - min left (c' - c) → left' ≡ left - min left (c' - c) → IsTaking bytes place₀ c₀ p₀ n (place + 1) c' p' left'
-taking_next {bytes} {place₀} {c₀} {p₀} {n} {place} {c} {p} {left} b {c'} {p'} {left'} t some inside read kind next pending left_over =
+    → p' ≡ c' - c - min left (c' - c) → left' ≡ left - min left (c' - c)
+    → IsTaking bytes place₀ c₀ p₀ n (place + 1) c' p' left'
+taking_next {bytes} {place₀} {c₀} {p₀} {n} {place} {c} {p} {left} b {c'} {p'} {left'} t some inside read kind
+    next pending left_over =
     let none : p ≡ 0 = omega (arith, t.whole) in
     let width : (c < c') × (c' ≤ c + 4) = elim kind as (λ _. (c < c') × (c' ≤ c + 4)) [
       | inl e ↦ (let one : c' ≡ c + 1 = next ∙ ap (column_after c) e in (omega arith, omega arith))
@@ -179,7 +195,8 @@ taking_next {bytes} {place₀} {c₀} {p₀} {n} {place} {c} {p} {left} b {c'} {
     let more : c < c' = width.0 in
     let few : c' ≤ c + 4 = width.1 in
     record {
-      reach = reach_next bytes place₀ c₀ place c p b c' p' t.reach none t.on inside t.further read kind next (omega arith);
+      reach = reach_next bytes place₀ c₀ place c p b c' p' t.reach none t.on inside t.further read kind next
+          (omega arith);
       kept = omega (arith, t.kept);
       on = omega (arith, t.on);
       further = omega (arith, t.further);
@@ -192,9 +209,11 @@ taking_next {bytes} {place₀} {c₀} {p₀} {n} {place} {c} {p} {left} b {c'} {
 -- one byte more is written out, and its phase counts alone
 pub written_step : (bytes : List ℕ) (i phase : ℕ) → i < length bytes → is_line_ending (get_or bytes i 0) ≡ false →
     written_out phase (drop i bytes)
-    ≡ written_byte phase (get_or bytes i 0) ++ written_out (column_after phase (get_or bytes i 0) % 4) (drop (i + 1) bytes)
+    ≡ written_byte phase (get_or bytes i 0) ++ written_out
+    (column_after phase (get_or bytes i 0) % 4) (drop (i + 1) bytes)
 written_step bytes i phase inside goes =
     let b = get_or bytes i 0 in
     let back = drop (i + 1) bytes in
     let split : drop i bytes ≡ b ∷ back = drop_more bytes i 0 inside in
-    ap (written_out phase) split ∙ written-cons phase b back goes ∙ ap (λ w. written_byte phase b ++ w) (sym (written_out-phase back (column_after phase b)))
+    ap (written_out phase) split ∙ written-cons phase b back goes
+    ∙ ap (λ w. written_byte phase b ++ w) (sym (written_out-phase back (column_after phase b)))

@@ -1,5 +1,6 @@
 -- Each call is one plain step.
-use Rattle.std.proofs.Common.{ℕ, suc, not, subst, Option, Some, None, IfSome, IfNone, nat_eq, Bool, true, false, ◌≡◌, refl, sym, ◌∙◌, ap, ◌==◌, List, [], ◌∷◌, ◌++◌, ◌+◌, ◌-◌, ◌%◌, ◌<◌, take, drop, arith, ◌≤◌, length, zero-add, take-add}
+use Rattle.std.specs.Prelude.{ℕ, suc, not, Option, Some, None, IfSome, IfNone, nat_eq, Bool, true, false, ◌≡◌, refl, ◌==◌, List, [], ◌∷◌, ◌++◌, ◌+◌, ◌-◌, ◌%◌, ◌<◌, take, drop, ◌≤◌, length}
+use Rattle.std.proofs.Common.{subst, sym, ◌∙◌, ap, arith, zero-add, take-add}
 use Rattle.std.specs.List.{list_all}
 use Rattle.std.specs.Option.{option_eq}
 use Rattle.std.proofs.lemmas.List.{take-append-drop, length-take-le, drop-drop}
@@ -8,7 +9,7 @@ use Rattle.std.proofs.lemmas.Bool.Decides.{nat_tests}
 use Rattle.markdown_scanners_tree.specs.Bytes.{begins_with, is_line_ending, is_at_line_end}
 use Rattle.markdown_scanners_tree.specs.Columns.{column_after, column_past, head_end, bytes_below, written_byte, written_out}
 use Rattle.markdown_scanners_tree.specs.line.State.{LineState, unscanned, rest_of, leading_spaces, columns_further, space_within, after_space, bytes_further}
-use Rattle.markdown_scanners_tree.specs.line.PlainStep.{plain_step, quote_step, definition_step, definition_spaces, Step, IsPlainStep}
+use Rattle.markdown_scanners_tree.specs.line.PlainStep.{plain_step, quote_step, definition_step, definition_spaces, PlainStep, IsPlainStep}
 use Rattle.markdown_scanners_tree.specs.declared.line.run.LineAnswer.{LineAnswer}
 use Rattle.markdown_scanners_tree.specs.declared.line.run.LineAnswer.TheVariants.{Flag, Count, Definition as DefinitionAnswer}
 use Rattle.markdown_scanners_tree.specs.declared.line.run.LineCall.{LineCall}
@@ -16,11 +17,11 @@ use Rattle.markdown_scanners_tree.specs.declared.line.run.LineCall.TheVariants.{
 use Rattle.markdown_scanners_tree.proofs.line.ColumnLemmas.{bool_cases, none_below, written-cons, below-split, past-fits, Reach, reach_byte, reach_none}
 use Rattle.markdown_scanners_tree.proofs.PrefixLemmas.{both_true}
 use Rattle.markdown_scanners_tree.proofs.line.HeadLemmas.{definition_spaces-within}
-use Rattle.markdown_scanners_tree.proofs.line.WrittenLemmas.{line_end-written, begins-written, is_plain}
+use Rattle.markdown_scanners_tree.proofs.line.WrittenLemmas.{line_end-written, begins-written, is_one_column}
 use Rattle.markdown_scanners_tree.proofs.line.SpaceLemmas.{state_of, further-column, written_out-phase}
 
 -- a state is made of its parts
-pub state_is : (s : LineState) → s.phase < 4 → state_of s.bytes s.place s.pending s.phase ≡ s
+state_is : (s : LineState) → s.phase < 4 → state_of s.bytes s.place s.pending s.phase ≡ s
 state_is s small =
     let phase : s.phase % 4 ≡ s.phase = omega arith in
     rw phase refl
@@ -30,7 +31,7 @@ pub rest-none : (s : LineState) → s.pending ≡ 0 → rest_of s ≡ written_ou
 rest-none s none = rw none refl
 
 -- nothing taken
-pub none_further : (s : LineState) → s.phase < 4 → columns_further 0 s ≡ s
+none_further : (s : LineState) → s.phase < 4 → columns_further 0 s ≡ s
 none_further s small =
     let count : bytes_below s.phase (unscanned s) (s.phase + 0 - s.pending) ≡ 0 =
     none_below (unscanned s) s.phase (s.phase + 0 - s.pending) (omega arith) in
@@ -39,7 +40,8 @@ none_further s small =
     let phase : s.phase % 4 ≡ s.phase = omega arith in
     rw (count, place, pending, phase) refl
 
-pub eol_step : (s : LineState) (r : Bool) → s.phase < 4 → s.pending ≡ 0 → r ≡ is_at_line_end (unscanned s) → IsPlainStep Eol (Flag r) s s
+pub eol_step : (s : LineState) (r : Bool) → s.phase < 4 → s.pending ≡ 0 → r ≡ is_at_line_end (unscanned s)
+    → IsPlainStep Eol (Flag r) s s
 eol_step s r small none e = record {
   answered = ap Flag (e ∙ sym (line_end-written (unscanned s) s.phase) ∙ ap is_at_line_end (sym (rest-none s none)));
   rest = refl;
@@ -55,37 +57,45 @@ upto_step n r old new answer state rest = record {
 }
 
 -- w bytes of one column each, and t columns after them
-plain_then : (bytes front : List ℕ) (place c w t : ℕ) → Reach c (drop place bytes) front w (c + w) 0 (drop (place + w) bytes) →
+plain_then : (bytes front : List ℕ) (place c w t : ℕ)
+    → Reach c (drop place bytes) front w (c + w) 0 (drop (place + w) bytes) →
     columns_further (w + t) (state_of bytes place 0 c) ≡ columns_further t (state_of bytes (place + w) 0 (c + w))
 plain_then bytes front place c w t r =
     let m' = bytes_below (c + w) (drop (place + w) bytes) (c + w + t - 0) in
     let sum : c + (w + t) - 0 ≡ c + w + t - 0 = omega arith in
-    let count : bytes_below c (drop place bytes) (c + (w + t) - 0) ≡ w + m' = rw sum (r.below (c + w + t - 0) (omega arith)) in
-    let past : column_past c (take (w + m') (drop place bytes)) ≡ column_past (c + w) (take m' (drop (place + w) bytes)) = r.past m' in
+    let count : bytes_below c (drop place bytes) (c + (w + t) - 0) ≡ w + m' =
+    rw sum (r.below (c + w + t - 0) (omega arith)) in
+    let past : column_past c (take (w + m') (drop place bytes))
+    ≡ column_past (c + w) (take m' (drop (place + w) bytes)) = r.past m' in
     let place' : place + (w + m') ≡ place + w + m' = omega arith in
     let sum' : c + (w + t) ≡ c + w + t = omega arith in
-    further-column bytes place 0 c (w + t) ∙ rw (count, past, place', sum') (sym (further-column bytes (place + w) 0 (c + w) t))
+    further-column bytes place 0 c (w + t)
+    ∙ rw (count, past, place', sum') (sym (further-column bytes (place + w) 0 (c + w) t))
 
 -- plain bytes are passed one column each
-reach_plain : (front back : List ℕ) {c₀ : ℕ} {bs₀ out : List ℕ} {passed c : ℕ} → list_all is_plain front ≡ true → Reach c₀ bs₀ out passed c 0 (front ++ back)
+reach_plain : (front back : List ℕ) {c₀ : ℕ} {bs₀ out : List ℕ} {passed c : ℕ} → list_all is_one_column front ≡ true
+    → Reach c₀ bs₀ out passed c 0 (front ++ back)
     → (out' : List ℕ) × Reach c₀ bs₀ out' (passed + length front) (c + length front) 0 back
 reach_plain [] back {c₀} {bs₀} {out} {passed} {c} all r =
     let p : passed + 0 ≡ passed = omega arith in
     let e : c + 0 ≡ c = omega arith in
     (out, rw (p, e) r)
 reach_plain (b ∷ front) back {c₀} {bs₀} {out} {passed} {c} all r =
-    let both = both_true (is_plain b) (list_all is_plain front) all in
+    let both = both_true (is_one_column b) (list_all is_one_column front) all in
     let plain : (b == 9) ≡ false = (let h = both.0 in grind (arith, nat_tests)) in
     let goes : is_line_ending b ≡ false = (let h = both.0 in grind (arith, nat_tests)) in
     let next : column_after c b ≡ c + 1 = rw plain refl in
-    let one : Reach c₀ bs₀ (out ++ written_byte c b) (passed + 1) (column_after c b) 0 (front ++ back) = reach_byte 0 r goes (omega arith) in
-    let more = reach_plain front back both.1 (subst (λ x. Reach c₀ bs₀ (out ++ written_byte c b) (passed + 1) x 0 (front ++ back)) next one) in
+    let one : Reach c₀ bs₀ (out ++ written_byte c b) (passed + 1) (column_after c b) 0 (front ++ back) =
+    reach_byte 0 r goes (omega arith) in
+    let more = reach_plain front back both.1
+    (subst (λ x. Reach c₀ bs₀ (out ++ written_byte c b) (passed + 1) x 0 (front ++ back)) next one) in
     let p : passed + 1 + length front ≡ passed + length (b ∷ front) = omega arith in
     let e : c + 1 + length front ≡ c + length (b ∷ front) = omega arith in
     (more.0, rw (← p, ← e) more.1)
 
 -- w plain bytes at the place of a state
-module _ (s : LineState) (w : ℕ) (small : s.phase < 4) (none : s.pending ≡ 0) (inside : w ≤ length (unscanned s)) (plain : list_all is_plain (take w (unscanned s)) ≡ true) where
+module _ (s : LineState) (w : ℕ) (small : s.phase < 4) (none : s.pending ≡ 0) (inside : w ≤ length (unscanned s))
+    (plain : list_all is_one_column (take w (unscanned s)) ≡ true) where
   reach_bytes : (out : List ℕ) × Reach s.phase (unscanned s) out w (s.phase + w) 0 (drop (s.place + w) s.bytes)
   reach_bytes =
       let u = unscanned s in
@@ -105,23 +115,28 @@ module _ (s : LineState) (w : ℕ) (small : s.phase < 4) (none : s.pending ≡ 0
       let r = reach_bytes.1 in
       let back = written_out (s.phase + w) (drop (s.place + w) s.bytes) in
       let wide : length out ≡ w = omega (arith, r.wide) in
-      let left : drop w (out ++ back) ≡ back = ap (λ n. drop n (out ++ back)) (sym wide) ∙ drop-append_seam out back in
+      let left : drop w (out ++ back) ≡ back =
+      ap (λ n. drop n (out ++ back)) (sym wide) ∙ drop-append_seam out back in
       rest-none (bytes_further w s) none ∙ written_out-phase (drop (s.place + w) s.bytes) (s.phase + w)
       ∙ sym (ap (drop w) (rest-none s none ∙ r.written) ∙ left)
 
   -- t columns after them
   pub bytes_then : (t : ℕ) → columns_further (w + t) s ≡ columns_further t (bytes_further w s)
   bytes_then t =
-      let here : state_of s.bytes s.place 0 s.phase ≡ s = ap (λ p. state_of s.bytes s.place p s.phase) (sym none) ∙ state_is s small in
+      let here : state_of s.bytes s.place 0 s.phase ≡ s =
+      ap (λ p. state_of s.bytes s.place p s.phase) (sym none) ∙ state_is s small in
       let there : state_of s.bytes (s.place + w) 0 (s.phase + w) ≡ bytes_further w s = rw none refl in
-      ap (columns_further (w + t)) (sym here) ∙ plain_then s.bytes reach_bytes.0 s.place s.phase w t reach_bytes.1 ∙ ap (columns_further t) there
+      ap (columns_further (w + t)) (sym here) ∙ plain_then s.bytes reach_bytes.0 s.place s.phase w t reach_bytes.1
+      ∙ ap (columns_further t) there
 
-column_past-append : (front back : List ℕ) (c : ℕ) → column_past c (front ++ back) ≡ column_past (column_past c front) back
+column_past-append : (front back : List ℕ) (c : ℕ)
+    → column_past c (front ++ back) ≡ column_past (column_past c front) back
 column_past-append [] back c = refl
 column_past-append (b ∷ front) back c = column_past-append front back (column_after c b)
 
 further-add_column : (bytes : List ℕ) (place p c a b : ℕ) → c + a ≤ p + head_end c (drop place bytes)
-    → columns_further (a + b) (state_of bytes place p c) ≡ columns_further b (columns_further a (state_of bytes place p c))
+    → columns_further (a + b) (state_of bytes place p c)
+    ≡ columns_further b (columns_further a (state_of bytes place p c))
 further-add_column bytes place p c a b fits =
     let back = drop place bytes in
     let near = c + a - p in
@@ -138,7 +153,8 @@ further-add_column bytes place p c a b fits =
     let split = below-split back c near far m (omega arith) refl in
     let count : bytes_below c back far ≡ m + m₁ = split ∙ rw (dropped, same) refl in
     let past : column_past c (take (m + m₁) back) ≡ c₂ =
-    ap (column_past c) (take-add m m₁ back) ∙ column_past-append (take m back) (take m₁ (drop m back)) c ∙ ap (λ r. column_past c₁ (take m₁ r)) dropped in
+    ap (column_past c) (take-add m m₁ back) ∙ column_past-append (take m back) (take m₁ (drop m back)) c
+    ∙ ap (λ r. column_past c₁ (take m₁ r)) dropped in
     let place' : place + (m + m₁) ≡ place + m + m₁ = omega arith in
     let pending : p + c₂ - (c + (a + b)) ≡ p₁ + c₂ - (c₁ + b) = omega arith in
     further-column bytes place p c (a + b) ∙ rw (count, past, place', pending) refl
@@ -149,14 +165,17 @@ pub further-add : (s : LineState) (a b : ℕ) → s.phase < 4 → s.phase + a �
     → columns_further (a + b) s ≡ columns_further b (columns_further a s)
 further-add s a b small fits =
     let here = state_is s small in
-    ap (columns_further (a + b)) (sym here) ∙ further-add_column s.bytes s.place s.pending s.phase a b fits ∙ ap (λ x. columns_further b (columns_further a x)) here
+    ap (columns_further (a + b)) (sym here) ∙ further-add_column s.bytes s.place s.pending s.phase a b fits
+    ∙ ap (λ x. columns_further b (columns_further a x)) here
 
 -- what is left before a byte that is no tab, with nothing pending
-pub byte_left : (s : LineState) (b : ℕ) → s.phase < 4 → s.pending ≡ 0 → (b == 9) ≡ false → is_line_ending b ≡ false → unscanned s ≡ b ∷ drop (s.place + 1) s.bytes
+byte_left : (s : LineState) (b : ℕ) → s.phase < 4 → s.pending ≡ 0 → (b == 9) ≡ false → is_line_ending b ≡ false
+    → unscanned s ≡ b ∷ drop (s.place + 1) s.bytes
     → rest_of s ≡ b ∷ rest_of (bytes_further 1 s)
 byte_left s b small none plain goes split =
     let back = drop (s.place + 1) s.bytes in
-    let first : written_out s.phase (b ∷ back) ≡ b ∷ written_out (s.phase + 1) back = written-cons s.phase b back goes ∙ rw plain refl in
+    let first : written_out s.phase (b ∷ back) ≡ b ∷ written_out (s.phase + 1) back =
+    written-cons s.phase b back goes ∙ rw plain refl in
     rest-none s none ∙ ap (written_out s.phase) split ∙ first
     ∙ ap (λ w. b ∷ w) (sym (written_out-phase back (s.phase + 1)) ∙ sym (rest-none (bytes_further 1 s) none))
 
@@ -169,7 +188,7 @@ quote_taken s new small none split state rest =
     let mid = bytes_further 1 s in
     let t = space_within 1 mid in
     let inside : 1 ≤ length (unscanned s) = rw split (omega arith) in
-    let plain : list_all is_plain (take 1 (unscanned s)) ≡ true = rw split refl in
+    let plain : list_all is_one_column (take 1 (unscanned s)) ≡ true = rw split refl in
     let before : rest_of s ≡ 62 ∷ rest_of mid = byte_left s 62 small none refl refl split in
     let e : 1 + t ≡ suc t = omega arith in
     record {
@@ -179,24 +198,28 @@ quote_taken s new small none split state rest =
     }
 
 -- a step that takes nothing
-pub nothing_taken : (call : LineCall) (answer : LineAnswer) (s : LineState) → s.phase < 4 → plain_step call (rest_of s) ≡ record { answer = answer; taken = 0 }
+pub nothing_taken : (call : LineCall) (answer : LineAnswer) (s : LineState) → s.phase < 4
+    → plain_step call (rest_of s) ≡ record { answer = answer; taken = 0 }
     → IsPlainStep call answer s s
 nothing_taken call answer s small step =
-    let taken : 0 ≡ (plain_step call (rest_of s)).taken = ap (λ (x : Step). x.taken) (sym step) in
+    let taken : 0 ≡ (plain_step call (rest_of s)).taken = ap (λ (x : PlainStep). x.taken) (sym step) in
     record {
-      answered = ap (λ (x : Step). x.answer) (sym step);
+      answered = ap (λ (x : PlainStep). x.answer) (sym step);
       rest = ap (λ t. drop t (rest_of s)) taken;
       moved = sym (none_further s small) ∙ ap (λ t. columns_further t s) taken;
     }
 
-no_quote : (r : List ℕ) → begins_with (λ b. b == 62) r ≡ false → quote_step r ≡ record { answer = Flag false; taken = 0 }
+no_quote : (r : List ℕ) → begins_with (λ b. b == 62) r ≡ false
+    → quote_step r ≡ record { answer = Flag false; taken = 0 }
 no_quote [] h = refl
 no_quote (b ∷ r) h = rw h refl
 
-pub quote_refused : (s : LineState) → s.phase < 4 → s.pending ≡ 0 → begins_with (λ b. b == 62) (unscanned s) ≡ false → IsPlainStep Quote (Flag false) s s
+pub quote_refused : (s : LineState) → s.phase < 4 → s.pending ≡ 0 → begins_with (λ b. b == 62) (unscanned s) ≡ false
+    → IsPlainStep Quote (Flag false) s s
 quote_refused s small none h =
     let step : quote_step (rest_of s) ≡ record { answer = Flag false; taken = 0 } =
-    no_quote (rest_of s) (ap (begins_with (λ b. b == 62)) (rest-none s none) ∙ begins-written 62 refl refl (unscanned s) s.phase ∙ h) in
+    no_quote (rest_of s) (ap (begins_with (λ b. b == 62)) (rest-none s none)
+    ∙ begins-written 62 refl refl (unscanned s) s.phase ∙ h) in
     nothing_taken Quote (Flag false) s small step
 
 -- what the byte at the place says of the bytes from there on
@@ -221,34 +244,41 @@ no_space_taken s small =
     sym (none_further s small) ∙ ap (λ t. columns_further t s) (sym none)
 
 -- a definition's marker with nothing pending is one plain step
-pub definition_taken : (indent t : ℕ) (s new : LineState) → s.phase < 4 → s.pending ≡ 0 → unscanned s ≡ 58 ∷ drop (s.place + 1) s.bytes
+pub definition_taken : (indent t : ℕ) (s new : LineState) → s.phase < 4 → s.pending ≡ 0
+    → unscanned s ≡ 58 ∷ drop (s.place + 1) s.bytes
     → t ≡ definition_spaces (leading_spaces (rest_of (bytes_further 1 s)))
     → new ≡ after_space t (bytes_further 1 s) → rest_of new ≡ drop t (rest_of (bytes_further 1 s))
     → IsPlainStep (DefinitionCall indent) (DefinitionAnswer (Some (indent + 1 + t))) s new
 definition_taken indent t s new small none split counted state rest =
     let mid = bytes_further 1 s in
     let inside : 1 ≤ length (unscanned s) = rw split (omega arith) in
-    let plain : list_all is_plain (take 1 (unscanned s)) ≡ true = rw split refl in
+    let plain : list_all is_one_column (take 1 (unscanned s)) ≡ true = rw split refl in
     let some = definition_spaces-within (leading_spaces (rest_of mid)) in
     let within : space_within t mid ≡ t = omega (arith, counted, some) in
     let before : rest_of s ≡ 58 ∷ rest_of mid = byte_left s 58 small none refl refl split in
-    let step : definition_step indent (rest_of s) ≡ record { answer = DefinitionAnswer (Some (indent + 1 + t)); taken = 1 + t } =
-    ap (definition_step indent) before ∙ ap (λ n. record { answer = DefinitionAnswer (Some (indent + 1 + n)); taken = 1 + n }) (sym counted) in
-    let taken : 1 + t ≡ (definition_step indent (rest_of s)).taken = ap (λ (x : Step). x.taken) (sym step) in
+    let step : definition_step indent (rest_of s)
+    ≡ record { answer = DefinitionAnswer (Some (indent + 1 + t)); taken = 1 + t } =
+    ap (definition_step indent) before
+    ∙ ap (λ n. record { answer = DefinitionAnswer (Some (indent + 1 + n)); taken = 1 + n }) (sym counted) in
+    let taken : 1 + t ≡ (definition_step indent (rest_of s)).taken = ap (λ (x : PlainStep). x.taken) (sym step) in
     let e : 1 + t ≡ suc t = omega arith in
     record {
-      answered = ap (λ (x : Step). x.answer) (sym step);
+      answered = ap (λ (x : PlainStep). x.answer) (sym step);
       rest = rest ∙ sym (ap (drop (1 + t)) before ∙ rw e refl) ∙ ap (λ n. drop n (rest_of s)) taken;
-      moved = state ∙ ap (λ n. columns_further n mid) within ∙ sym (bytes_then s 1 small none inside plain t) ∙ ap (λ n. columns_further n s) taken;
+      moved = state ∙ ap (λ n. columns_further n mid) within ∙ sym (bytes_then s 1 small none inside plain t)
+          ∙ ap (λ n. columns_further n s) taken;
     }
 
-no_definition : (indent : ℕ) (r : List ℕ) → begins_with (λ b. b == 58) r ≡ false → definition_step indent r ≡ record { answer = DefinitionAnswer None; taken = 0 }
+no_definition : (indent : ℕ) (r : List ℕ) → begins_with (λ b. b == 58) r ≡ false
+    → definition_step indent r ≡ record { answer = DefinitionAnswer None; taken = 0 }
 no_definition indent [] h = refl
 no_definition indent (b ∷ r) h = rw h refl
 
-pub definition_refused : (indent : ℕ) (s : LineState) → s.phase < 4 → s.pending ≡ 0 → begins_with (λ b. b == 58) (unscanned s) ≡ false
+pub definition_refused : (indent : ℕ) (s : LineState) → s.phase < 4 → s.pending ≡ 0
+    → begins_with (λ b. b == 58) (unscanned s) ≡ false
     → IsPlainStep (DefinitionCall indent) (DefinitionAnswer None) s s
 definition_refused indent s small none h =
     let step : definition_step indent (rest_of s) ≡ record { answer = DefinitionAnswer None; taken = 0 } =
-    no_definition indent (rest_of s) (ap (begins_with (λ b. b == 58)) (rest-none s none) ∙ begins-written 58 refl refl (unscanned s) s.phase ∙ h) in
+    no_definition indent (rest_of s) (ap (begins_with (λ b. b == 58)) (rest-none s none)
+    ∙ begins-written 58 refl refl (unscanned s) s.phase ∙ h) in
     nothing_taken (DefinitionCall indent) (DefinitionAnswer None) s small step

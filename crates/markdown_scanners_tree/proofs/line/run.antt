@@ -1,1 +1,1 @@
-pub mod RunLemmas
+pub mod PlainRunLemmas

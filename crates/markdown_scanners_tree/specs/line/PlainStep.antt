@@ -11,7 +11,7 @@ use Rattle.markdown_scanners_tree.specs.declared.line.run.LineCall.{LineCall}
 use Rattle.markdown_scanners_tree.specs.declared.line.run.LineCall.TheVariants.{Space, Upto, Eol, Quote, List as ItemCall, Definition as DefinitionCall}
 
 -- the answer of a call, and how many bytes of the rest it takes
-pub record Step : Type 0 where
+pub record PlainStep : Type 0 where
   pub answer : LineAnswer
   pub taken : ℕ
 
@@ -20,7 +20,7 @@ abbrev pub spaces_within : ℕ → List ℕ → ℕ
 spaces_within n r = min n (leading_spaces r)
 
 -- a block quote marker: `>`, and a space after it where there is one (5.1)
-abbrev pub quote_step : List ℕ → Step
+abbrev pub quote_step : List ℕ → PlainStep
 quote_step [] = record { answer = Flag false; taken = 0 }
 quote_step (b ∷ r) =
     if b == greater_than_sign
@@ -34,7 +34,7 @@ marker_spaces m = if nat_lt m 4 then m else 0
 
 -- a list item's marker at an indent: its one space, and where the rest is not blank the further
 -- spaces that belong to it (5.2)
-abbrev pub item_step_of : ℕ → List ℕ → Marker → Step
+abbrev pub item_step_of : ℕ → List ℕ → Marker → PlainStep
 item_step_of indent r m =
     let one = spaces_within 1 (drop m.width r) in
     let left = drop (m.width + one) r in
@@ -44,16 +44,16 @@ item_step_of indent r m =
       taken = m.width + one + further;
     }
 
-abbrev pub no_item : Step
+abbrev pub no_item : PlainStep
 no_item = record { answer = ItemAnswer None; taken = 0 }
 
 -- the same where a space or the line's end follows the marker, and where there is no marker
-abbrev pub item_step_by : ℕ → List ℕ → Option Marker → Step
+abbrev pub item_step_by : ℕ → List ℕ → Option Marker → PlainStep
 item_step_by indent r None = no_item
 item_step_by indent r (Some m) =
     if is_space_or_line_end (drop m.width r) then item_step_of indent r m else no_item
 
-abbrev pub item_step : ℕ → List ℕ → Step
+abbrev pub item_step : ℕ → List ℕ → PlainStep
 item_step indent r = item_step_by indent r (list_marker r)
 
 -- how many of m spaces belong to a definition's marker: one where five or more stand, else all
@@ -61,7 +61,7 @@ abbrev pub definition_spaces : ℕ → ℕ
 definition_spaces m = if nat_le 5 m then 1 else m
 
 -- a definition's marker at an indent: `:`, and the spaces that belong to it
-abbrev pub definition_step : ℕ → List ℕ → Step
+abbrev pub definition_step : ℕ → List ℕ → PlainStep
 definition_step indent [] = record { answer = DefinitionAnswer None; taken = 0 }
 definition_step indent (b ∷ r) =
     if b == colon
@@ -72,7 +72,7 @@ definition_step indent (b ∷ r) =
     else record { answer = DefinitionAnswer None; taken = 0 }
 
 -- one call on a rest of a line
-abbrev pub plain_step : LineCall → List ℕ → Step
+abbrev pub plain_step : LineCall → List ℕ → PlainStep
 plain_step (Space n) r =
     record { answer = Flag (spaces_within n r == n); taken = spaces_within n r }
 plain_step (Upto n) r = record { answer = Count (spaces_within n r); taken = spaces_within n r }

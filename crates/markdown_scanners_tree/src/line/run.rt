@@ -2,7 +2,7 @@
 ghost use Rattle.std.specs.Prelude.{◌≡◌, ◌==◌, IfOk};
 ghost use Rattle.markdown_scanners_tree.specs.line.PlainStep.{IsPlainStep};
 ghost use Rattle.markdown_scanners_tree.specs.line.State.{rest_of};
-ghost use Rattle.markdown_scanners_tree.specs.line.run.PlainRun.{plain_run, stop_at, rest_after, scanned_after, refusal};
+ghost use Rattle.markdown_scanners_tree.specs.line.run.PlainRun.{plain_run, indexed_stop, rest_after, scanned_after, line_refusal};
 
 use crate::line::LineStart;
 use std::alloc::{AllocError, Global};
@@ -74,7 +74,7 @@ pub struct LineRun {
 pub fn run_line(alloc: Global, bytes: &[u8], calls: &[LineCall]) -> Result<LineRun, AllocError>
     ensures answers { IfOk result (λ run.
         run.answers.items ≡ (plain_run bytes.now calls.now).answers) }
-    ensures stop { IfOk result (λ run. run.stop ≡ stop_at (plain_run bytes.now calls.now)) }
+    ensures stop { IfOk result (λ run. run.stop ≡ indexed_stop (plain_run bytes.now calls.now)) }
     ensures rest { IfOk result (λ run.
         run.rest.items ≡ rest_after bytes.now (plain_run bytes.now calls.now)) }
     ensures scanned { IfOk result (λ run.
@@ -94,7 +94,7 @@ pub fn run_line(alloc: Global, bytes: &[u8], calls: &[LineCall]) -> Result<LineR
 
 // Why the call is refused, if it is.
 fn refused(start: &LineStart, call: &LineCall) -> Option<LineStop>
-    ensures { result ≡ refusal (start.now.pending == 0) call.now }
+    ensures { result ≡ line_refusal (start.now.pending == 0) call.now }
 {
     let takes_space = matches!(call, LineCall::Space(_) | LineCall::Upto(_));
     if !takes_space && start.remaining_space() > 0 {
@@ -110,7 +110,7 @@ fn refused(start: &LineStart, call: &LineCall) -> Option<LineStop>
 
 // Makes one call that is not refused.
 fn make_call(start: &mut LineStart, call: &LineCall) -> LineAnswer
-    requires { refusal (start.old.pending == 0) call.now ≡ None }
+    requires { line_refusal (start.old.pending == 0) call.now ≡ None }
     ensures { IsPlainStep call.now result start.old start.new }
 {
     match call {

@@ -13,10 +13,15 @@ use crate::scanners::lines::scan_eol;
 #[tactic(auto, using(crate::proofs::scanners::breaks::BreakLemmas::thematic_breaks))]
 pub fn scan_hrule(bytes: &[u8]) -> Result<usize, usize>
     ensures found { IfOk result (IsThematicBreakLine bytes.now) }
+
+    // An error: no thematic break begins at the front, by the test and by the definition.
     ensures none { IfErr result (λ n. is_thematic_break bytes.now ≡ false) }
     ensures no_break { IfErr result (λ n. ¬ IsThematicBreak bytes.now) }
+
+    // The place of the error: where the scan stopped, and none begins before it.
     ensures stopped { IfErr result (λ n. n ≡ break_length bytes.now) }
     ensures none_before { IfErr result (NoBreakBefore bytes.now) }
+
     ensures within { MatchResult result (λ n. n ≤ length bytes.now) (λ n. n ≤ length bytes.now) }
 {
     if bytes.len() < 3 {
@@ -39,6 +44,7 @@ fn scan_break_bytes(bytes: &[u8], marker: u8) -> usize
         .count()
 }
 
+// How many of the bytes are this one.
 fn count_of(bytes: &[u8], byte: u8) -> usize
     ensures { result ≡ count_by (λ b. b == byte) bytes.now }
 {
@@ -50,6 +56,7 @@ fn scan_break_of(bytes: &[u8], marker: u8) -> Result<usize, usize>
     requires is_marker { IsTrue (is_break_marker marker) }
     requires begins { IsTrue (begins_with (λ b. b == marker) bytes.now) }
     requires at_least_three { 3 ≤ length bytes.now }
+
     ensures found { IfOk result (IsThematicBreakLine bytes.now) }
     ensures none { IfErr result (λ n. is_thematic_break bytes.now ≡ false) }
     ensures stopped { IfErr result (λ n. n ≡ break_length bytes.now) }

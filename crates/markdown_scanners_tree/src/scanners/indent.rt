@@ -1,7 +1,7 @@
 //! The indent of a line.
-ghost use Rattle.std.specs.Prelude.{◌≡◌, ◌+◌, ◌-◌, ◌/◌, ◌<◌, ◌≤◌, IfNone, IfSome, false, length, true};
-ghost use Rattle.markdown_scanners_tree.specs.Columns.{column_after, next_tab_stop};
-ghost use Rattle.markdown_scanners_tree.specs.scanners.Indent.{IsIndent, goes_on};
+ghost use Rattle.std.specs.Prelude.{◌≡◌, ◌+◌, ◌-◌, ◌/◌, ◌<◌, ◌≤◌, length};
+ghost use Rattle.markdown_scanners_tree.specs.Columns.{next_tab_stop};
+ghost use Rattle.markdown_scanners_tree.specs.scanners.Indent.{IsIndent};
 
 /// The place of the last byte that was looked at, and the columns of the spaces and tabs before
 /// it, with tab stops of four. (CommonMark 0.31.2, section 2.2.)

@@ -95,8 +95,8 @@ pub(in crate::scanners) fn scan_alphanumerics(bytes: &[u8]) -> usize
         .count()
 }
 
-// The first bytes, so many or all. A run that may have no more than `count - 1` bytes is told from a
-// longer one by these.
+// The first bytes, so many or all. A run that may have no more than `count - 1` bytes is told from
+// a longer one by these.
 pub(in crate::scanners) fn first_bytes(bytes: &[u8], count: usize) -> &[u8]
     ensures first { result.now ≡ take count bytes.now }
     ensures within { length result.now ≤ length bytes.now }

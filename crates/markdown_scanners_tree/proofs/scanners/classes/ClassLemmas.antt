@@ -14,7 +14,10 @@ unfolding agree_below
 agree_at f g zero h b lt = absurd (omega arith)
 agree_at f g (suc n) h b lt =
     let both = both_true (nat_eq (f n) (g n)) (agree_below f g n) h in
-    elim (cases_eq b n) [ inl same ↦ rw same (eqb-true (f n) (g n) both.0) | inr other ↦ agree_at f g n both.1 b (omega arith) ]
+    elim (cases_eq b n) [
+      | inl same ↦ rw same (eqb-true (f n) (g n) both.0)
+      | inr other ↦ agree_at f g n both.1 b (omega arith)
+    ]
 
 -- the same for tests
 unfoldable pub tests_agree_below : (ℕ → Bool) → (ℕ → Bool) → ℕ → Bool
@@ -32,4 +35,7 @@ unfolding tests_agree_below
 tests_agree_at f g zero h b lt = absurd (omega arith)
 tests_agree_at f g (suc n) h b lt =
     let both = both_true (beq (f n) (g n)) (tests_agree_below f g n) h in
-    elim (cases_eq b n) [ inl same ↦ rw same (same_bools (f n) (g n) both.0) | inr other ↦ tests_agree_at f g n both.1 b (omega arith) ]
+    elim (cases_eq b n) [
+      | inl same ↦ rw same (same_bools (f n) (g n) both.0)
+      | inr other ↦ tests_agree_at f g n both.1 b (omega arith)
+    ]

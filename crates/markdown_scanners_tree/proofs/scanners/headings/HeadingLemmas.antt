@@ -13,21 +13,32 @@ use Rattle.markdown_scanners_tree.proofs.PrefixLemmas.{from_place, prefix_len-pa
 use Rattle.markdown_scanners_tree.proofs.RunLemmas.{list_all-replicate, run-scanned, run-only, not_empty, begun_by}
 
 -- the run of `#` of a heading has the level's number
-no_hash : (rest : List ℕ) → ends_or_begins_with is_white_space rest ≡ true → begins_with (λ b. b == number_sign) rest ≡ false
+no_hash : (rest : List ℕ) → ends_or_begins_with is_white_space rest ≡ true
+    → begins_with (λ b. b == number_sign) rest ≡ false
 no_hash [] ends = refl
-no_hash (b ∷ rest) ends = elim (cases_Bool (b == number_sign)) [ inl hash ↦ absurd (let space = rw (eqb-true b number_sign hash) at ends in cc) | inr other ↦ other ]
+no_hash (b ∷ rest) ends = elim (cases_Bool (b == number_sign)) [
+  | inl hash ↦ absurd (let space = rw (eqb-true b number_sign hash) at ends in cc)
+  | inr other ↦ other
+]
 
 pub atx-only : (bytes : List ℕ) (level : HeadingLevel) → IsAtxHeading bytes level
-    → (prefix_len (λ b. b == number_sign) bytes ≡ heading_number level) × (ends_or_begins_with is_white_space (drop (prefix_len (λ b. b == number_sign) bytes) bytes) ≡ true)
+    → (prefix_len (λ b. b == number_sign) bytes ≡ heading_number level)
+    × (ends_or_begins_with is_white_space (drop (prefix_len (λ b. b == number_sign) bytes) bytes) ≡ true)
 atx-only bytes level heading =
     let hashes = replicate (heading_number level) number_sign in
     let counted : length hashes ≡ heading_number level = length-replicate (heading_number level) number_sign in
-    let run : prefix_len (λ b. b == number_sign) bytes ≡ length hashes = ap (prefix_len (λ b. b == number_sign)) heading.parts ∙ prefix_len-parts (λ b. b == number_sign) hashes heading.rest (list_all-replicate (λ b. b == number_sign) (heading_number level) number_sign refl) (no_hash heading.rest heading.ends) in
-    let rest : drop (prefix_len (λ b. b == number_sign) bytes) bytes ≡ heading.rest = ap (λ n. drop n bytes) run ∙ ap (drop (length hashes)) heading.parts ∙ drop-append_seam hashes heading.rest in
+    let run : prefix_len (λ b. b == number_sign) bytes ≡ length hashes =
+    ap (prefix_len (λ b. b == number_sign)) heading.parts
+    ∙ prefix_len-parts (λ b. b == number_sign) hashes heading.rest (list_all-replicate (λ b. b == number_sign)
+    (heading_number level) number_sign refl) (no_hash heading.rest heading.ends) in
+    let rest : drop (prefix_len (λ b. b == number_sign) bytes) bytes ≡ heading.rest =
+    ap (λ n. drop n bytes) run ∙ ap (drop (length hashes)) heading.parts ∙ drop-append_seam hashes heading.rest in
     (run ∙ counted, ap (ends_or_begins_with is_white_space) rest ∙ heading.ends)
 
-pub underline-scanned : (bytes : List ℕ) (byte run blank : ℕ) (level : HeadingLevel) → underline_byte level ≡ Some byte → begins_with (λ b. b == byte) bytes ≡ true
-    → run ≡ prefix_len (λ b. b == byte) bytes → IsBlankLine (take (length bytes - run) (drop run bytes)) blank → IsSetextUnderline bytes (run + blank) level
+pub underline-scanned : (bytes : List ℕ) (byte run blank : ℕ) (level : HeadingLevel)
+    → underline_byte level ≡ Some byte → begins_with (λ b. b == byte) bytes ≡ true
+    → run ≡ prefix_len (λ b. b == byte) bytes → IsBlankLine (take (length bytes - run) (drop run bytes)) blank
+    → IsSetextUnderline bytes (run + blank) level
 underline-scanned bytes byte run blank level of_level begins is_run line =
     let scanned = run-scanned byte bytes run is_run in
     record {
@@ -46,11 +57,16 @@ underline-scanned bytes byte run blank level of_level begins is_run line =
     run_some [] begins = cc
     run_some (b ∷ bytes) begins = let first : (b == byte) ≡ true = begins in rw first (omega arith)
 
-pub underline-open : (bytes : List ℕ) (byte run : ℕ) → begins_with (λ b. b == byte) bytes ≡ true → run ≡ prefix_len (λ b. b == byte) bytes
-    → ((n : ℕ) → ¬ IsBlankLine (take (length bytes - run) (drop run bytes)) n) → (n : ℕ) (level : HeadingLevel) → ¬ IsSetextUnderline bytes n level
+pub underline-open : (bytes : List ℕ) (byte run : ℕ) → begins_with (λ b. b == byte) bytes ≡ true
+    → run ≡ prefix_len (λ b. b == byte) bytes
+    → ((n : ℕ) → ¬ IsBlankLine (take (length bytes - run) (drop run bytes)) n) → (n : ℕ) (level : HeadingLevel)
+    → ¬ IsSetextUnderline bytes n level
 underline-open bytes byte run begins is_run none n level line =
     let only = run-only line.byte bytes line.run line.rest line.is_run in
-    let some : 1 ≤ prefix_len (λ b. b == line.byte) bytes = (let some = line.at_least_one in omega (arith, only.0, some)) in
+    let some : 1 ≤ prefix_len (λ b. b == line.byte) bytes =
+    (let some = line.at_least_one in omega (arith, only.0, some)) in
     let same : line.byte ≡ byte = begun_by bytes line.byte byte (not_empty (λ b. b == line.byte) bytes some) begins in
-    let rest : line.rest ≡ drop run bytes = only.1 ∙ ap (λ k. drop (prefix_len (λ b. b == k) bytes) bytes) same ∙ ap (λ n. drop n bytes) (sym is_run) in
-    none line.blank (subst (λ (rest : List ℕ). IsBlankLine rest line.blank) (rest ∙ sym (from_place bytes run)) line.blank_rest)
+    let rest : line.rest ≡ drop run bytes =
+    only.1 ∙ ap (λ k. drop (prefix_len (λ b. b == k) bytes) bytes) same ∙ ap (λ n. drop n bytes) (sym is_run) in
+    none line.blank
+    (subst (λ (rest : List ℕ). IsBlankLine rest line.blank) (rest ∙ sym (from_place bytes run)) line.blank_rest)

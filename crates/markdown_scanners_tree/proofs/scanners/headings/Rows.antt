@@ -11,7 +11,8 @@ atx-row : IsAtxHeading (35 ∷ 35 ∷ 35 ∷ []) H3
 atx-row = record { rest = []; parts = refl; ends = refl }
 
 seven_hashes-row : (level : HeadingLevel) → ¬ IsAtxHeading (35 ∷ 35 ∷ 35 ∷ 35 ∷ 35 ∷ 35 ∷ 35 ∷ []) level
-seven_hashes-row level heading = let number = (atx-only (35 ∷ 35 ∷ 35 ∷ 35 ∷ 35 ∷ 35 ∷ 35 ∷ []) level heading).0 in at_most_six level number
+seven_hashes-row level heading = let number = (atx-only (35 ∷ 35 ∷ 35 ∷ 35 ∷ 35 ∷ 35 ∷ 35 ∷ []) level heading).0 in
+    at_most_six level number
   where
     at_most_six : (level : HeadingLevel) → 7 ≡ heading_number level → ⊥
     at_most_six H1 seven = omega (arith, seven)
@@ -31,6 +32,14 @@ setext-row = record {
   of_level = refl;
   is_run = record { parts = refl; all = refl; longest = refl };
   at_least_one = omega arith;
-  blank_rest = record { space = 32 ∷ 32 ∷ []; rest = 10 ∷ 120 ∷ []; ending = 1; parts = refl; spaces = refl; ends = refl; counted = refl };
+  blank_rest = record {
+    space = 32 ∷ 32 ∷ [];
+    rest = 10 ∷ 120 ∷ [];
+    ending = 1;
+    parts = refl;
+    spaces = refl;
+    ends = refl;
+    counted = refl;
+  };
   counted = refl;
 }

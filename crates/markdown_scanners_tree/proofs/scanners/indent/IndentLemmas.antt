@@ -10,15 +10,18 @@ use Rattle.markdown_scanners_tree.proofs.PrefixLemmas.{both_true}
 use Rattle.markdown_scanners_tree.proofs.RunLemmas.{not_true, not_false}
 
 -- a prefix that is longer by one byte
-past-suc : (c : ℕ) (bytes : List ℕ) (i : ℕ) → i < length bytes → column_past c (take (suc i) bytes) ≡ column_after (column_past c (take i bytes)) (get_or bytes i 0)
+past-suc : (c : ℕ) (bytes : List ℕ) (i : ℕ) → i < length bytes
+    → column_past c (take (suc i) bytes) ≡ column_after (column_past c (take i bytes)) (get_or bytes i 0)
 past-suc c [] i lt = absurd (omega (arith, lt))
 past-suc c (b ∷ bytes) zero lt = refl
 past-suc c (b ∷ bytes) (suc i) lt = past-suc (column_after c b) bytes i (omega (arith, lt))
 
-pub column_past-more : (bytes : List ℕ) (i : ℕ) → i < length bytes → column_past 0 (take (i + 1) bytes) ≡ column_after (column_past 0 (take i bytes)) (get_or bytes i 0)
+pub column_past-more : (bytes : List ℕ) (i : ℕ) → i < length bytes
+    → column_past 0 (take (i + 1) bytes) ≡ column_after (column_past 0 (take i bytes)) (get_or bytes i 0)
 column_past-more bytes i lt = ap (λ n. column_past 0 (take n bytes)) (add-one i) ∙ past-suc 0 bytes i lt
 
-all-suc : (limit c : ℕ) (bytes : List ℕ) (i : ℕ) → i < length bytes → all_go_on limit c (take i bytes) ≡ true → goes_on limit (column_past c (take i bytes)) (get_or bytes i 0) ≡ true
+all-suc : (limit c : ℕ) (bytes : List ℕ) (i : ℕ) → i < length bytes → all_go_on limit c (take i bytes) ≡ true
+    → goes_on limit (column_past c (take i bytes)) (get_or bytes i 0) ≡ true
     → all_go_on limit c (take (suc i) bytes) ≡ true
 all-suc limit c [] i lt all here = absurd (omega (arith, lt))
 all-suc limit c (b ∷ bytes) zero lt all here = rw here refl
@@ -26,26 +29,32 @@ all-suc limit c (b ∷ bytes) (suc i) lt all here =
     let both = both_true (goes_on limit c b) (all_go_on limit (column_after c b) (take i bytes)) all in
     rw both.0 (all-suc limit (column_after c b) bytes i (omega (arith, lt)) both.1 here)
 
-pub all_go_on-more : (limit : ℕ) (bytes : List ℕ) (i : ℕ) → i < length bytes → all_go_on limit 0 (take i bytes) ≡ true → goes_on limit (column_past 0 (take i bytes)) (get_or bytes i 0) ≡ true
+pub all_go_on-more : (limit : ℕ) (bytes : List ℕ) (i : ℕ) → i < length bytes → all_go_on limit 0 (take i bytes) ≡ true
+    → goes_on limit (column_past 0 (take i bytes)) (get_or bytes i 0) ≡ true
     → all_go_on limit 0 (take (i + 1) bytes) ≡ true
-all_go_on-more limit bytes i lt all here = ap (λ n. all_go_on limit 0 (take n bytes)) (add-one i) ∙ all-suc limit 0 bytes i lt all here
+all_go_on-more limit bytes i lt all here =
+    ap (λ n. all_go_on limit 0 (take n bytes)) (add-one i) ∙ all-suc limit 0 bytes i lt all here
 
 -- the prefix that goes on, up to what stops it, is the only one
 prefix-unique : (limit c : ℕ) (prefix rest prefix' rest' : List ℕ) → prefix ++ rest ≡ prefix' ++ rest'
-    → all_go_on limit c prefix ≡ true → ends_or_begins_with (λ b. not (goes_on limit (column_past c prefix) b)) rest ≡ true
-    → all_go_on limit c prefix' ≡ true → ends_or_begins_with (λ b. not (goes_on limit (column_past c prefix') b)) rest' ≡ true
+    → all_go_on limit c prefix ≡ true
+    → ends_or_begins_with (λ b. not (goes_on limit (column_past c prefix) b)) rest ≡ true
+    → all_go_on limit c prefix' ≡ true
+    → ends_or_begins_with (λ b. not (goes_on limit (column_past c prefix') b)) rest' ≡ true
     → (prefix ≡ prefix') × (rest ≡ rest')
 prefix-unique limit c [] rest [] rest' same all stop all' stop' = (refl, same)
 prefix-unique limit c [] [] (b ∷ prefix') rest' same all stop all' stop' = cc
 prefix-unique limit c [] (x ∷ rest) (b ∷ prefix') rest' same all stop all' stop' =
-    let goes : goes_on limit c b ≡ true = (both_true (goes_on limit c b) (all_go_on limit (column_after c b) prefix') all').0 in
+    let goes : goes_on limit c b ≡ true =
+    (both_true (goes_on limit c b) (all_go_on limit (column_after c b) prefix') all').0 in
     let stops : goes_on limit c x ≡ false = not_true _ stop in
     let first : x ≡ b = cc in
     let moved : goes_on limit c x ≡ true = ap (goes_on limit c) first ∙ goes in
     cc
 prefix-unique limit c (b ∷ prefix) rest [] [] same all stop all' stop' = cc
 prefix-unique limit c (b ∷ prefix) rest [] (x ∷ rest') same all stop all' stop' =
-    let goes : goes_on limit c b ≡ true = (both_true (goes_on limit c b) (all_go_on limit (column_after c b) prefix) all).0 in
+    let goes : goes_on limit c b ≡ true =
+    (both_true (goes_on limit c b) (all_go_on limit (column_after c b) prefix) all).0 in
     let stops : goes_on limit c x ≡ false = not_true _ stop' in
     let first : x ≡ b = cc in
     let moved : goes_on limit c x ≡ true = ap (goes_on limit c) first ∙ goes in
@@ -56,14 +65,20 @@ prefix-unique limit c (b ∷ prefix) rest (b' ∷ prefix') rest' same all stop a
     let both = both_true (goes_on limit c b) (all_go_on limit (column_after c b) prefix) all in
     let both' = both_true (goes_on limit c b') (all_go_on limit (column_after c b') prefix') all' in
     let next : column_after c b' ≡ column_after c b = ap (column_after c) (sym first) in
-    let tails = prefix-unique limit (column_after c b) prefix rest prefix' rest' later both.1 stop (rw next at both'.1) (rw next at stop') in
+    let tails = prefix-unique limit (column_after c b) prefix rest prefix' rest' later both.1 stop
+    (rw next at both'.1) (rw next at stop') in
     let prefixes : prefix ≡ prefix' = tails.0 in
     (cc, tails.1)
 
-pub IsIndent-unique : (text : List ℕ) (limit place total place' total' : ℕ) → IsIndent text limit place total → IsIndent text limit place' total' → (place ≡ place') × (total ≡ total')
+pub IsIndent-unique : (text : List ℕ) (limit place total place' total' : ℕ) → IsIndent text limit place total
+    → IsIndent text limit place' total' → (place ≡ place') × (total ≡ total')
 IsIndent-unique text limit place total place' total' one other =
-    let same = prefix-unique limit 0 one.prefix one.rest other.prefix other.rest (sym one.parts ∙ other.parts) one.passed one.stopped other.passed other.stopped in
-    (one.last_place ∙ rw (same.0, same.1) (sym other.last_place), one.counted ∙ rw (same.0, same.1) (sym other.counted))
+    let same = prefix-unique limit 0 one.prefix one.rest other.prefix other.rest (sym one.parts
+    ∙ other.parts) one.passed one.stopped other.passed other.stopped in (
+      one.last_place ∙ rw (same.0, same.1) (sym other.last_place),
+      one.counted
+          ∙ rw (same.0, same.1) (sym other.counted),
+    )
 
 -- which bytes go on
 pub space_goes : (limit column : ℕ) → ¬ (column + 1 ≡ limit) → goes_on limit column 32 ≡ true
@@ -82,7 +97,8 @@ pub other_stops : (limit column b : ℕ) → ¬ (b ≡ 32) → ¬ (b ≡ 9) → 
 other_stops limit column b no_space no_tab = rw (ne_eqb b 32 no_space, ne_eqb b 9 no_tab) refl
 
 -- a byte that does not go on ends the indent
-module _ (text : List ℕ) (limit i column : ℕ) (inside : i < length text) (is_column : column ≡ column_past 0 (take i text)) (all : all_go_on limit 0 (take i text) ≡ true)
+module _ (text : List ℕ) (limit i column : ℕ) (inside : i < length text)
+    (is_column : column ≡ column_past 0 (take i text)) (all : all_go_on limit 0 (take i text) ≡ true)
     (stops : goes_on limit column (get_or text i 0) ≡ false) where
   stopped_at : (total : ℕ) → total ≡ column + (if get_or text i 0 == 32 then 1 else 0) → IsIndent text limit i total
   stopped_at total counted =
@@ -102,4 +118,5 @@ module _ (text : List ℕ) (limit i column : ℕ) (inside : i < length text) (is
   stopped-space is_space = stopped_at (column + 1) (rw is_space refl)
 
   pub stopped-other : ¬ (get_or text i 0 ≡ 32) → IsIndent text limit i column
-  stopped-other no_space = stopped_at column (let other : (get_or text i 0 == 32) ≡ false = ne_eqb (get_or text i 0) 32 no_space in rw other (omega arith))
+  stopped-other no_space = stopped_at column
+      (let other : (get_or text i 0 == 32) ≡ false = ne_eqb (get_or text i 0) 32 no_space in rw other (omega arith))

@@ -10,12 +10,16 @@ use Rattle.markdown_scanners_tree.specs.Bytes.{begins_with, is_white_space_in_li
 use Rattle.markdown_scanners_tree.proofs.PrefixLemmas.{list_all-prefix, list_all-implies, begins_with-after_prefix, prefix_len-parts}
 
 -- a line ending does not begin with white space in the line, nor with any byte but LF and CR
-pub first-line_ending : (p : ℕ → Bool) → p 10 ≡ false → p 13 ≡ false → (rest : List ℕ) (ending : ℕ) → line_ending rest ≡ Some ending → begins_with p rest ≡ false
+pub first-line_ending : (p : ℕ → Bool) → p 10 ≡ false → p 13 ≡ false → (rest : List ℕ) (ending : ℕ)
+    → line_ending rest ≡ Some ending → begins_with p rest ≡ false
 first-line_ending p lf cr [] ending h = refl
 first-line_ending p lf cr (b ∷ bs) ending h =
     elim (cases_Bool (nat_eq b 10)) [
       | inl lf_is ↦ rw (eqb-true b 10 lf_is) lf
-      | inr no_lf ↦ elim (cases_Bool (nat_eq b 13)) [ inl cr_is ↦ rw (eqb-true b 13 cr_is) cr | inr no_cr ↦ absurd (let refused = rw (no_lf, no_cr) at h in cc) ]
+      | inr no_lf ↦ elim (cases_Bool (nat_eq b 13)) [
+        | inl cr_is ↦ rw (eqb-true b 13 cr_is) cr
+        | inr no_cr ↦ absurd (let refused = rw (no_lf, no_cr) at h in cc)
+      ]
     ]
 
 -- a byte that ends no line
@@ -23,36 +27,46 @@ abbrev pub ends_no_line : ℕ → Bool
 ends_no_line b = not (is_line_ending b)
 
 -- what ends the head of a line is a line ending
-pub line_ending-exists : (rest : List ℕ) → begins_with ends_no_line rest ≡ false → (ending : ℕ) × (line_ending rest ≡ Some ending)
+pub line_ending-exists : (rest : List ℕ) → begins_with ends_no_line rest ≡ false
+    → (ending : ℕ) × (line_ending rest ≡ Some ending)
 line_ending-exists [] stop = (0, refl)
 line_ending-exists (b ∷ bytes) stop =
     elim (cases_Bool (nat_eq b 10)) [
       | inl lf ↦ (1, rw lf refl)
       | inr no_lf ↦ elim (cases_Bool (nat_eq b 13)) [
-        | inl cr ↦ elim (cases_Bool (begins_with (λ c. nat_eq c 10) bytes)) [ inl then_lf ↦ (2, rw (no_lf, cr, then_lf) refl) | inr alone ↦ (1, rw (no_lf, cr, alone) refl) ]
+        | inl cr ↦ elim (cases_Bool (begins_with (λ c. nat_eq c 10) bytes)) [
+          | inl then_lf ↦ (2, rw (no_lf, cr, then_lf) refl)
+          | inr alone ↦ (1, rw (no_lf, cr, alone) refl)
+        ]
         | inr no_cr ↦ absurd (let goes_on = rw (no_lf, no_cr) at stop in cc)
       ]
     ]
 
 -- bytes that end no line, before a line ending, are the head
-pub head_parts : (prefix rest : List ℕ) (ending : ℕ) → list_all ends_no_line prefix ≡ true → line_ending rest ≡ Some ending → prefix_len ends_no_line (prefix ++ rest) ≡ length prefix
-head_parts prefix rest ending all ends = prefix_len-parts ends_no_line prefix rest all (first-line_ending ends_no_line refl refl rest ending ends)
+pub head_parts : (prefix rest : List ℕ) (ending : ℕ) → list_all ends_no_line prefix ≡ true
+    → line_ending rest ≡ Some ending → prefix_len ends_no_line (prefix ++ rest) ≡ length prefix
+head_parts prefix rest ending all ends =
+    prefix_len-parts ends_no_line prefix rest all (first-line_ending ends_no_line refl refl rest ending ends)
 
-pub line_head-parts : (prefix rest : List ℕ) (ending : ℕ) → list_all ends_no_line prefix ≡ true → line_ending rest ≡ Some ending → line_head (prefix ++ rest) ≡ prefix
-line_head-parts prefix rest ending all ends = rw (head_parts prefix rest ending all ends) (take-append_seam prefix rest)
+line_head-parts : (prefix rest : List ℕ) (ending : ℕ) → list_all ends_no_line prefix ≡ true
+    → line_ending rest ≡ Some ending → line_head (prefix ++ rest) ≡ prefix
+line_head-parts prefix rest ending all ends =
+    rw (head_parts prefix rest ending all ends) (take-append_seam prefix rest)
 
-pub line_length-parts : (prefix rest : List ℕ) (ending : ℕ) → list_all ends_no_line prefix ≡ true → line_ending rest ≡ Some ending → line_length (prefix ++ rest) ≡ length prefix + ending
+pub line_length-parts : (prefix rest : List ℕ) (ending : ℕ) → list_all ends_no_line prefix ≡ true
+    → line_ending rest ≡ Some ending → line_length (prefix ++ rest) ≡ length prefix + ending
 line_length-parts prefix rest ending all ends =
     let at = head_parts prefix rest ending all ends in
     rw (at, take-append_seam prefix rest, drop-append_seam prefix rest, ends) refl
 
-abbrev after_space : List ℕ → List ℕ
-after_space bytes = drop (prefix_len is_white_space_in_line bytes) bytes
+abbrev rest_after_space : List ℕ → List ℕ
+rest_after_space bytes = drop (prefix_len is_white_space_in_line bytes) bytes
 
-pub IsBlankLine-found : (bytes : List ℕ) (ending : ℕ) → line_ending (after_space bytes) ≡ Some ending → IsBlankLine bytes (prefix_len is_white_space_in_line bytes + ending)
+pub IsBlankLine-found : (bytes : List ℕ) (ending : ℕ) → line_ending (rest_after_space bytes) ≡ Some ending
+    → IsBlankLine bytes (prefix_len is_white_space_in_line bytes + ending)
 IsBlankLine-found bytes ending h = record {
   space = take (prefix_len is_white_space_in_line bytes) bytes;
-  rest = after_space bytes;
+  rest = rest_after_space bytes;
   ending = ending;
   parts = sym (take-append-drop (prefix_len is_white_space_in_line bytes) bytes);
   spaces = list_all-prefix is_white_space_in_line bytes;
@@ -61,10 +75,12 @@ IsBlankLine-found bytes ending h = record {
 }
 
 -- the parts of a blank line are the run of white space and what follows it
-pub IsBlankLine-only : (bytes : List ℕ) (n : ℕ) → IsBlankLine bytes n → (ending : ℕ) × (line_ending (after_space bytes) ≡ Some ending) × (n ≡ prefix_len is_white_space_in_line bytes + ending)
+pub IsBlankLine-only : (bytes : List ℕ) (n : ℕ) → IsBlankLine bytes n → (ending : ℕ)
+    × (line_ending (rest_after_space bytes) ≡ Some ending) × (n ≡ prefix_len is_white_space_in_line bytes + ending)
 IsBlankLine-only bytes n line =
     let run : prefix_len is_white_space_in_line (line.space ++ line.rest) ≡ length line.space =
-    prefix_len-parts is_white_space_in_line line.space line.rest line.spaces (first-line_ending is_white_space_in_line refl refl line.rest line.ending line.ends) in
+    prefix_len-parts is_white_space_in_line line.space line.rest line.spaces
+    (first-line_ending is_white_space_in_line refl refl line.rest line.ending line.ends) in
     rw line.parts (rw run (line.ending, rw (drop-append_seam line.space line.rest) line.ends, line.counted))
 
 space_in_line : (b : ℕ) → is_white_space_in_line b ≡ true → ends_no_line b ≡ true
@@ -74,16 +90,19 @@ space_in_line b h = grind (arith, nat_tests)
 pub blank_line-is : (bytes : List ℕ) (n : ℕ) → IsBlankLine bytes n → blank_line bytes ≡ Some n
 blank_line-is bytes n line =
     let all = list_all-implies is_white_space_in_line ends_no_line space_in_line line.space line.spaces in
-    let head : line_head (line.space ++ line.rest) ≡ line.space = line_head-parts line.space line.rest line.ending all line.ends in
+    let head : line_head (line.space ++ line.rest) ≡ line.space =
+    line_head-parts line.space line.rest line.ending all line.ends in
     let blank : is_blank bytes ≡ true = rw line.parts (ap (list_all is_white_space_in_line) head ∙ line.spaces) in
-    let counted : line_length bytes ≡ n = rw line.parts (line_length-parts line.space line.rest line.ending all line.ends) ∙ sym line.counted in
+    let counted : line_length bytes ≡ n =
+    rw line.parts (line_length-parts line.space line.rest line.ending all line.ends) ∙ sym line.counted in
     ap (λ t. cond t (Some (line_length bytes)) None) blank ∙ ap (λ k. Some k) counted
 
 -- the test answers the question
 pub is_blank-found : (bytes : List ℕ) → (n : ℕ) × IsBlankLine bytes n → is_blank bytes ≡ true
 is_blank-found bytes (n, line) = elim (cases_Bool (is_blank bytes)) [
   | inl blank ↦ blank
-  | inr other ↦ absurd (let none : blank_line bytes ≡ None = rw other refl in let some : Some n ≡ None = sym (blank_line-is bytes n line) ∙ none in cc)
+  | inr other ↦ absurd (let none : blank_line bytes ≡ None = rw other refl in
+      let some : Some n ≡ None = sym (blank_line-is bytes n line) ∙ none in cc)
 ]
 
 pub is_blank-only : (bytes : List ℕ) → is_blank bytes ≡ true → IsBlankLine bytes (line_length bytes)
@@ -99,13 +118,18 @@ is_blank-only bytes blank =
       ends = ends.1;
       counted = refl;
     } in
-    let some : Some (line_length bytes) ≡ Some (length (take h bytes) + ends.0) = sym (ap (λ t. cond t (Some (line_length bytes)) None) blank) ∙ blank_line-is bytes (length (take h bytes) + ends.0) line in
+    let some : Some (line_length bytes) ≡ Some (length (take h bytes) + ends.0) =
+    sym (ap (λ t. cond t (Some (line_length bytes)) None) blank)
+    ∙ blank_line-is bytes (length (take h bytes) + ends.0) line in
     let same : line_length bytes ≡ length (take h bytes) + ends.0 = cc in
     subst (IsBlankLine bytes) (sym same) line
 
 -- and where there is none
 pub blank_line-none : (bytes : List ℕ) → ((n : ℕ) → ¬ IsBlankLine bytes n) → blank_line bytes ≡ None
-blank_line-none bytes none = elim (cases_Bool (is_blank bytes)) [ inl blank ↦ absurd (none (line_length bytes) (is_blank-only bytes blank)) | inr other ↦ ap (λ t. cond t (Some (line_length bytes)) None) other ]
+blank_line-none bytes none = elim (cases_Bool (is_blank bytes)) [
+  | inl blank ↦ absurd (none (line_length bytes) (is_blank-only bytes blank))
+  | inr other ↦ ap (λ t. cond t (Some (line_length bytes)) None) other
+]
 
 -- a blank line stands at the front exactly where the test says so
 pub ruleset blank_lines = (is_blank-found, is_blank-only)

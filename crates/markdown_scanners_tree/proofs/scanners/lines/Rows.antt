@@ -8,7 +8,8 @@ next_line-row : next_line (97 ∷ 13 ∷ 98 ∷ 10 ∷ 99 ∷ []) ≡ 4
 next_line-row = refl
 
 -- "\r\r\n", a vertical tab and LF, "a"
-blank_line-rows : (blank_line (13 ∷ 13 ∷ 10 ∷ []) ≡ Some 1) × (blank_line (11 ∷ 10 ∷ []) ≡ Some 2) × (blank_line (97 ∷ []) ≡ None)
+blank_line-rows : (blank_line (13 ∷ 13 ∷ 10 ∷ []) ≡ Some 1) × (blank_line (11 ∷ 10 ∷ []) ≡ Some 2)
+    × (blank_line (97 ∷ []) ≡ None)
 blank_line-rows = (refl, refl, refl)
 
 -- "> " and ">\t"

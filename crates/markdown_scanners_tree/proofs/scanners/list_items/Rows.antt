@@ -17,8 +17,17 @@ item-row = record {
   space = 3;
   parts = refl;
   is_marker = bullet 45 refl;
-  is_space = text 3 3 (λ n line. (let only = IsBlankLine-only (32 ∷ 32 ∷ 32 ∷ 120 ∷ []) n line in let none = only.1 in cc))
-      (record { prefix = 32 ∷ 32 ∷ 32 ∷ []; rest = 120 ∷ []; parts = refl; passed = refl; stopped = refl; last_place = refl; counted = refl }) (omega arith) (omega arith);
+  is_space =
+      text 3 3 (λ n line. (let only = IsBlankLine-only (32 ∷ 32 ∷ 32 ∷ 120 ∷ []) n line in let none = only.1 in cc))
+      (record {
+        prefix = 32 ∷ 32 ∷ 32 ∷ [];
+        rest = 120 ∷ [];
+        parts = refl;
+        passed = refl;
+        stopped = refl;
+        last_place = refl;
+        counted = refl;
+      }) (omega arith) (omega arith);
   counted = refl;
   columns_are = refl;
 }
@@ -32,8 +41,17 @@ item_code-row = record {
   space = 1;
   parts = refl;
   is_marker = ordered (49 ∷ []) 46 (omega arith) (omega arith) refl refl;
-  is_space = indented_code 4 5 (λ n line. (let only = IsBlankLine-only (32 ∷ 32 ∷ 32 ∷ 32 ∷ 32 ∷ 32 ∷ 120 ∷ []) n line in let none = only.1 in cc))
-      (record { prefix = 32 ∷ 32 ∷ 32 ∷ 32 ∷ []; rest = 32 ∷ 32 ∷ 120 ∷ []; parts = refl; passed = refl; stopped = refl; last_place = refl; counted = refl }) (omega arith);
+  is_space = indented_code 4 5 (λ n line. (let only =
+      IsBlankLine-only (32 ∷ 32 ∷ 32 ∷ 32 ∷ 32 ∷ 32 ∷ 120 ∷ []) n line in let none = only.1 in cc))
+      (record {
+        prefix = 32 ∷ 32 ∷ 32 ∷ 32 ∷ [];
+        rest = 32 ∷ 32 ∷ 120 ∷ [];
+        parts = refl;
+        passed = refl;
+        stopped = refl;
+        last_place = refl;
+        counted = refl;
+      }) (omega arith);
   counted = refl;
   columns_are = refl;
 }
@@ -47,7 +65,8 @@ item_blank-row = record {
   space = 1;
   parts = refl;
   is_marker = bullet 45 refl;
-  is_space = blank 2 (record { space = 11 ∷ []; rest = 10 ∷ []; ending = 1; parts = refl; spaces = refl; ends = refl; counted = refl });
+  is_space = blank 2 (record
+      { space = 11 ∷ []; rest = 10 ∷ []; ending = 1; parts = refl; spaces = refl; ends = refl; counted = refl });
   counted = refl;
   columns_are = refl;
 }

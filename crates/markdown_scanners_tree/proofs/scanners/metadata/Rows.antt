@@ -41,8 +41,10 @@ metadata-row = record {
       parts = refl;
       all_after_opening = refl;
     };
-    not_blank = λ n line. (let only = IsBlankLine-only (97 ∷ 10 ∷ 46 ∷ 46 ∷ 46 ∷ []) n line in let none = only.1 in cc);
-    not_closed = λ n close. no_three close.byte (run-only close.byte (97 ∷ 10 ∷ 46 ∷ 46 ∷ 46 ∷ []) close.line.run close.line.rest close.line.is_run).0 close.line.exactly_three;
+    not_blank =
+        λ n line. (let only = IsBlankLine-only (97 ∷ 10 ∷ 46 ∷ 46 ∷ 46 ∷ []) n line in let none = only.1 in cc);
+    not_closed = λ n close. no_three close.byte (run-only close.byte
+        (97 ∷ 10 ∷ 46 ∷ 46 ∷ 46 ∷ []) close.line.run close.line.rest close.line.is_run).0 close.line.exactly_three;
     closed = record {
       before = 97 ∷ [];
       after = 46 ∷ 46 ∷ 46 ∷ [];
@@ -72,6 +74,7 @@ metadata-row = record {
     no_three : (byte : ℕ) {n : ℕ} → n ≡ prefix_len (λ b. b == byte) (97 ∷ 10 ∷ 46 ∷ 46 ∷ 46 ∷ []) → n ≡ 3 → ⊥
     no_three byte counted three =
         elim (cases_Bool (97 == byte)) [
-          | inl first ↦ (let is : 97 ≡ byte = eqb-true 97 byte first in let one = rw (← is) at counted in omega (arith, one, three))
+          | inl first ↦ (let is : 97 ≡ byte = eqb-true 97 byte first in let one = rw (← is) at counted in
+              omega (arith, one, three))
           | inr other ↦ (let none = rw other at counted in omega (arith, none, three))
         ]

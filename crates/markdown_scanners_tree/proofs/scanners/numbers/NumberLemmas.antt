@@ -7,7 +7,8 @@ use Rattle.std.proofs.lemmas.List.{length-take-le}
 use Rattle.std.proofs.Math.Nat.{pow-le-pow_right}
 
 -- a digit at each place
-pub digit_at : (radix : ℕ) (ds : List ℕ) (i : ℕ) → AllDigits radix ds → i < length ds → digit_value (get_or ds i 0) < radix
+pub digit_at : (radix : ℕ) (ds : List ℕ) (i : ℕ) → AllDigits radix ds → i < length ds
+    → digit_value (get_or ds i 0) < radix
 digit_at radix [] i a l = absurd (omega (arith, l))
 digit_at radix (d ∷ ds) zero a l = a.0
 digit_at radix (d ∷ ds) (suc i) a l = digit_at radix ds i a.1 (omega (arith, l))
@@ -21,7 +22,9 @@ AllDigits-take radix (d ∷ ds) (suc i) a = (a.0, AllDigits-take radix ds i a.1)
 pub below_power : (radix : ℕ) (ds : List ℕ) (i : ℕ) → 1 ≤ radix → AllDigits radix ds → i < length ds
     → digits_value radix (take i ds) * radix + digit_value (get_or ds i 0) < radix ^ length ds
 below_power radix ds i one all inside =
-    let below : digits_value radix (take (i + 1) ds) < radix ^ length (take (i + 1) ds) = digits_value-lt radix (take (i + 1) ds) (AllDigits-take radix ds (i + 1) all) in
+    let below : digits_value radix (take (i + 1) ds) < radix ^ length (take (i + 1) ds) =
+    digits_value-lt radix (take (i + 1) ds) (AllDigits-take radix ds (i + 1) all) in
     let counted : length (take (i + 1) ds) ≡ i + 1 = length-take-le (i + 1) ds (omega (arith, inside)) in
-    let up : radix ^ length (take (i + 1) ds) ≤ radix ^ length ds = pow-le-pow_right one (omega (arith, counted, inside)) in
+    let up : radix ^ length (take (i + 1) ds) ≤ radix ^ length ds =
+    pow-le-pow_right one (omega (arith, counted, inside)) in
     omega (arith, below, up, digits_value_more radix ds i inside)

@@ -23,29 +23,29 @@ is_indent_small _ = true
 
 -- why a call is refused, if it is, where a byte or the end of the head stands at the column that is
 -- reached, or where none does
-abbrev pub refusal : Bool → LineCall → Option LineStop
-refusal on_byte call =
+abbrev pub line_refusal : Bool → LineCall → Option LineStop
+line_refusal on_byte call =
     if not (takes_space call) && not on_byte then Some SpacePending
     else if not (is_indent_small call) then Some IndentTooLarge
     else None
 
 -- the answers, the column of the written out line that is reached, and why the next call is
 -- refused, if one is
-pub record Run : Type 0 where
+pub record PlainRun : Type 0 where
   pub answers : List LineAnswer
   pub column : ℕ
   pub stop : Option LineStop
 
 -- a run with an answer before it
-abbrev pub after_answer : LineAnswer → Run → Run
+abbrev pub after_answer : LineAnswer → PlainRun → PlainRun
 after_answer a run = record run { answers = a ∷ run.answers }
 
 -- the calls in order from a column: each takes bytes of the written out line, so as many columns
 -- (2.2)
-abbrev pub run_from : List ℕ → ℕ → List LineCall → Run
+abbrev pub run_from : List ℕ → ℕ → List LineCall → PlainRun
 run_from line column [] = record { answers = []; column = column; stop = None }
 run_from line column (call ∷ calls) =
-    elim (refusal (is_on_byte 0 line column) call) [
+    elim (line_refusal (is_on_byte 0 line column) call) [
       | Some stop ↦ record { answers = []; column = column; stop = Some stop }
       | None ↦ (
           let step = plain_step call (drop column (expanded line)) in
@@ -53,17 +53,17 @@ run_from line column (call ∷ calls) =
           )
     ]
 
-abbrev pub plain_run : List ℕ → List LineCall → Run
+abbrev pub plain_run : List ℕ → List LineCall → PlainRun
 plain_run line calls = run_from line 0 calls
 
 -- the stop with the index of the refused call, which is the number of the answers before it
-abbrev pub stop_at : Run → Option (ℕ × LineStop)
-stop_at run = elim run.stop [ Some stop ↦ Some (length run.answers, stop) | None ↦ None ]
+abbrev pub indexed_stop : PlainRun → Option (ℕ × LineStop)
+indexed_stop run = elim run.stop [ Some stop ↦ Some (length run.answers, stop) | None ↦ None ]
 
 -- what a run leaves of the written out line
-abbrev pub rest_after : List ℕ → Run → List ℕ
+abbrev pub rest_after : List ℕ → PlainRun → List ℕ
 rest_after line run = drop run.column (expanded line)
 
 -- how many bytes of the line a run has passed
-abbrev pub scanned_after : List ℕ → Run → ℕ
+abbrev pub scanned_after : List ℕ → PlainRun → ℕ
 scanned_after line run = bytes_below 0 line run.column

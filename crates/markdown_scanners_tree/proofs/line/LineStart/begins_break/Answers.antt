@@ -19,7 +19,9 @@ invariant_of-self-in-Err c =
       λ k from before.
           let rest = from_place s.bytes.now s.place in
           let at : drop (k - s.place) (drop s.place s.bytes.now) ≡ drop k s.bytes.now =
-          (let sum : s.place + (k - s.place) ≡ k = omega arith in drop-drop (k - s.place) s.place s.bytes.now ∙ ap (λ n. drop n s.bytes.now) sum) in
-          ap is_thematic_break (sym (ap (drop (k - s.place)) rest ∙ at)) ∙ c.in-Err.ensures.none_before (k - s.place) (omega arith),
+          (let sum : s.place + (k - s.place) ≡ k = omega arith in
+          drop-drop (k - s.place) s.place s.bytes.now ∙ ap (λ n. drop n s.bytes.now) sum) in
+          ap is_thematic_break (sym (ap (drop (k - s.place)) rest ∙ at))
+          ∙ c.in-Err.ensures.none_before (k - s.place) (omega arith),
       i.3,
     )

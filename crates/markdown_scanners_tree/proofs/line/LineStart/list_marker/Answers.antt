@@ -14,29 +14,38 @@ returns-clause-found c =
     let same : bytes ≡ unscanned c.args.self.now = from_place s.bytes.now s.place ∙ ap unscanned c.self.view_is in
     let width = c.in_ok-width.width in
     let no_break : width ≡ 1 → is_thematic_break bytes ≡ false = elim c.else-width-eq1.branch [
-      | else-width-eq1-via-then-width-eq1+else-begins_break w ↦ (λ one. ap is_thematic_break same ∙ sym w.begins_break.ensures.answer ∙ w.if-begins_break.false)
+      | else-width-eq1-via-then-width-eq1+else-begins_break w ↦
+          (λ one. ap is_thematic_break same ∙ sym w.begins_break.ensures.answer ∙ w.if-begins_break.false)
       | else-width-eq1-via-else-width-eq1 w ↦ (λ one. absurd (w.if-width-eq1.false one))
     ] in
-    rw same at (marker-found bytes width c.in_ok-width.delimiter c.in_ok-width.start c.in_ok-width.ensures.found c.in_ok-width.ensures.within no_break)
+    rw same at (marker-found bytes width c.in_ok-width.delimiter c.in_ok-width.start c.in_ok-width.ensures.found
+    c.in_ok-width.ensures.within no_break)
 
 pub returns-in_err-width-clause-none : goal.returns-in_err-width-clause-none
 returns-in_err-width-clause-none c =
     let s = c.self.inside in
     let bytes = take (length s.bytes.now - s.place) (drop s.place s.bytes.now) in
     let same : bytes ≡ unscanned c.args.self.now = from_place s.bytes.now s.place ∙ ap unscanned c.self.view_is in
-    rw c.from_residual.ensures (rw same at (marker-none bytes (λ n delimiter start. c.in_err-width.ensures.found (n, delimiter, start))))
+    rw c.from_residual.ensures
+    (rw same at (marker-none bytes (λ n delimiter start. c.in_err-width.ensures.found (n, delimiter, start))))
 
 pub returns-clause-inside : goal.returns-clause-inside
 returns-clause-inside c =
     let s = c.self.inside in
     let inside : c.in_ok-width.width ≤ length s.bytes.now - s.place =
-    omega (arith, ap length (from_place s.bytes.now s.place), length-drop s.place s.bytes.now, c.in_ok-width.ensures.within) in
+    omega (
+      arith,
+      ap length (from_place s.bytes.now s.place),
+      length-drop s.place s.bytes.now,
+      c.in_ok-width.ensures.within,
+    ) in
     rw (← c.self.view_is) (omega arith)
 
 pub returns-clause-width : goal.returns-clause-width
 returns-clause-width c =
     let s = c.self.inside in
     let bytes = take (length s.bytes.now - s.place) (drop s.place s.bytes.now) in
-    let short = marker-width (take c.in_ok-width.width bytes) c.in_ok-width.delimiter c.in_ok-width.start c.in_ok-width.ensures.found in
+    let short = marker-width
+    (take c.in_ok-width.width bytes) c.in_ok-width.delimiter c.in_ok-width.start c.in_ok-width.ensures.found in
     let count = length-take-le c.in_ok-width.width bytes c.in_ok-width.ensures.within in
     omega arith

@@ -10,18 +10,24 @@ pub returns-in_err-width-clause-step : goal.returns-in_err-width-clause-step
 returns-in_err-width-clause-step c none =
     let s = c.args.self.now in
     rw (c.from_residual.ensures, c.list_marker.ensures.state)
-    (item_refused c.args.indent s c.list_marker.ensures.phase (item_step-none c.args.indent s none c.in_err-width.ensures.none))
+    (item_refused c.args.indent s c.list_marker.ensures.phase
+    (item_step-none c.args.indent s none c.in_err-width.ensures.none))
 
 pub returns-then-not-scan_space_or_end-clause-step : goal.returns-then-not-scan_space_or_end-clause-step
 returns-then-not-scan_space_or_end-clause-step c none =
     let s = c.args.self.now in
     let small = c.list_marker.ensures.phase in
-    let m : Marker = record { width = c.in_ok-width.width; delimiter = c.in_ok-width.delimiter; start = c.in_ok-width.start } in
-    let inside : m.width ≤ length (unscanned s) = omega (arith, length-drop s.place s.bytes, c.in_ok-width.ensures.inside) in
-    let marked : c.pass_bytes.new.self ≡ bytes_further m.width s = c.pass_bytes.ensures ∙ ap (bytes_further m.width) c.list_marker.ensures.state in
-    let bare : space_or_end_follows (bytes_further m.width s) ≡ false = ap space_or_end_follows (sym marked) ∙ sym c.scan_space_or_end.ensures.answer ∙ c.if-not-scan_space_or_end.true in
+    let m : Marker =
+    record { width = c.in_ok-width.width; delimiter = c.in_ok-width.delimiter; start = c.in_ok-width.start } in
+    let inside : m.width ≤ length (unscanned s) =
+    omega (arith, length-drop s.place s.bytes, c.in_ok-width.ensures.inside) in
+    let marked : c.pass_bytes.new.self ≡ bytes_further m.width s =
+    c.pass_bytes.ensures ∙ ap (bytes_further m.width) c.list_marker.ensures.state in
+    let bare : space_or_end_follows (bytes_further m.width s) ≡ false = ap space_or_end_follows (sym marked)
+    ∙ sym c.scan_space_or_end.ensures.answer ∙ c.if-not-scan_space_or_end.true in
     rw (c.copy-before.ensures, c.list_marker.ensures.state)
-    (item_refused c.args.indent s small (item_step-bare s m small none c.in_ok-width.ensures.found c.in_ok-width.ensures.marker inside c.args.indent bare))
+    (item_refused c.args.indent s small (item_step-bare s m small none c.in_ok-width.ensures.found
+    c.in_ok-width.ensures.marker inside c.args.indent bare))
 
 -- the marker at the place, and the state after its bytes
 abbrev marker : (c : goal.After-scan_marker_space-further) → Marker
@@ -35,7 +41,8 @@ module _ (c : goal.After-scan_marker_space-further) where
   marked = c.pass_bytes.ensures ∙ ap (bytes_further c.in_ok-width.width) c.list_marker.ensures.state
 
   follows : space_or_end_follows at ≡ true
-  follows = ap space_or_end_follows (sym marked) ∙ sym c.scan_space_or_end.ensures.answer ∙ c.if-not-scan_space_or_end.false
+  follows = ap space_or_end_follows (sym marked) ∙ sym c.scan_space_or_end.ensures.answer
+      ∙ c.if-not-scan_space_or_end.false
 
   after : c.scan_space_or_end.new.self ≡ after_space 1 at
   after = c.scan_space_or_end.ensures.state ∙ ap (after_space 1) marked
@@ -45,10 +52,15 @@ module _ (c : goal.After-scan_marker_space-further) where
 
 outcome : (c : goal.After-scan_marker_space-further) → item_outcome c.args.indent c.args.self.now
     ≡ record {
-      answer = Some (c.in_ok-width.delimiter, c.in_ok-width.start, c.args.indent + c.in_ok-width.width + 1 + c.scan_marker_space-further.result);
+      answer = Some (
+        c.in_ok-width.delimiter,
+        c.in_ok-width.start,
+        c.args.indent + c.in_ok-width.width + 1 + c.scan_marker_space-further.result,
+      );
       state = after_space c.scan_marker_space-further.result (after_space 1 (at c));
     }
-outcome c = item-found c.args.indent c.scan_marker_space-further.result c.args.self.now (marker c) c.in_ok-width.ensures.found (follows c) (counted c)
+outcome c = item-found c.args.indent c.scan_marker_space-further.result c.args.self.now
+    (marker c) c.in_ok-width.ensures.found (follows c) (counted c)
 
 pub returns-clause-answer : goal.returns-clause-answer
 returns-clause-answer c = ap (λ (o : Outcome (ℕ × ℕ × ℕ)). o.answer) (sym (outcome c))
@@ -62,10 +74,13 @@ pub returns-clause-step : goal.returns-clause-step
 returns-clause-step c none =
     let s = c.args.self.now in
     let further = c.scan_marker_space-further.result in
-    let inside : c.in_ok-width.width ≤ length (unscanned s) = omega (arith, length-drop s.place s.bytes, c.in_ok-width.ensures.inside) in
+    let inside : c.in_ok-width.width ≤ length (unscanned s) =
+    omega (arith, length-drop s.place s.bytes, c.in_ok-width.ensures.inside) in
     let rest : rest_of (after_space 1 (at c)) ≡ drop (space_within 1 (at c)) (rest_of (at c)) =
-    ap rest_of (sym (after c)) ∙ c.scan_space_or_end.ensures.rest ∙ ap (λ x. drop (space_within 1 x) (rest_of x)) (marked c) in
-    item_is_step s (marker c) c.list_marker.ensures.phase none c.in_ok-width.ensures.found c.in_ok-width.ensures.marker inside
+    ap rest_of (sym (after c)) ∙ c.scan_space_or_end.ensures.rest
+    ∙ ap (λ x. drop (space_within 1 x) (rest_of x)) (marked c) in
+    item_is_step s
+    (marker c) c.list_marker.ensures.phase none c.in_ok-width.ensures.found c.in_ok-width.ensures.marker inside
     c.args.indent further c.scan_marker_space-further.new.self (follows c) rest (counted c)
     (c.scan_marker_space-further.ensures.state ∙ ap (after_space further) (after c))
     (c.scan_marker_space-further.ensures.rest ∙ ap (λ x. drop further (rest_of x)) (after c))

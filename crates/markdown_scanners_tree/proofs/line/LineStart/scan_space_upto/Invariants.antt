@@ -12,7 +12,8 @@ invariant-loop-left l =
       known : now.known_break ≡ old.known_break;
       column : ℕ;
       same_phase : column % 4 ≡ now.column % 4;
-      taking : IsTaking old.bytes.now old.place old.column old.pending l.initial.left now.place column now.pending l.left;
+      taking : IsTaking old.bytes.now old.place old.column old.pending l.initial.left now.place
+          column now.pending l.left;
     }
 
 -- proposed from the loop's first test

@@ -3,16 +3,21 @@ use Rattle.markdown_scanners_tree.proofs.scanners.breaks.BreakScan.{scanned_none
 use Rattle.markdown_scanners_tree.proofs.scanners.breaks.scan_break_of.Goals as goal
 
 pub returns-in_default-clause-none : goal.returns-in_default-clause-none
-returns-in_default-clause-none c = (scanned_none _ _ _ c.requires.is_marker c.requires.begins c.scan_break_bytes-run.ensures.run _ refl c.in_default.ensures.ending).0
+returns-in_default-clause-none c = (scanned_none _ _ _ c.requires.is_marker c.requires.begins
+    c.scan_break_bytes-run.ensures.run _ refl c.in_default.ensures.ending).0
 
 pub returns-in_default-clause-none_before : goal.returns-in_default-clause-none_before
-returns-in_default-clause-none_before c = (scanned_none _ _ _ c.requires.is_marker c.requires.begins c.scan_break_bytes-run.ensures.run _ refl c.in_default.ensures.ending).1
+returns-in_default-clause-none_before c = (scanned_none _ _ _ c.requires.is_marker c.requires.begins
+    c.scan_break_bytes-run.ensures.run _ refl c.in_default.ensures.ending).1
 
 pub returns-then-count_of-ge3-clause-found : goal.returns-then-count_of-ge3-clause-found
-returns-then-count_of-ge3-clause-found c = scanned_break _ _ _ c.requires.is_marker c.requires.begins c.scan_break_bytes-run.ensures.run _ c.count_of.ensures _ c.in-Some.ensures.ending c.if-count_of-ge3.true
+returns-then-count_of-ge3-clause-found c = scanned_break _ _ _ c.requires.is_marker c.requires.begins
+    c.scan_break_bytes-run.ensures.run _ c.count_of.ensures _ c.in-Some.ensures.ending c.if-count_of-ge3.true
 
 pub returns-else-count_of-ge3-clause-none : goal.returns-else-count_of-ge3-clause-none
-returns-else-count_of-ge3-clause-none c = (scanned_few _ _ _ c.requires.is_marker c.requires.begins c.scan_break_bytes-run.ensures.run _ c.count_of.ensures _ c.in-Some.ensures.ending c.if-count_of-ge3.false).0
+returns-else-count_of-ge3-clause-none c = (scanned_few _ _ _ c.requires.is_marker c.requires.begins
+    c.scan_break_bytes-run.ensures.run _ c.count_of.ensures _ c.in-Some.ensures.ending c.if-count_of-ge3.false).0
 
 pub returns-else-count_of-ge3-clause-none_before : goal.returns-else-count_of-ge3-clause-none_before
-returns-else-count_of-ge3-clause-none_before c = (scanned_few _ _ _ c.requires.is_marker c.requires.begins c.scan_break_bytes-run.ensures.run _ c.count_of.ensures _ c.in-Some.ensures.ending c.if-count_of-ge3.false).1
+returns-else-count_of-ge3-clause-none_before c = (scanned_few _ _ _ c.requires.is_marker c.requires.begins
+    c.scan_break_bytes-run.ensures.run _ c.count_of.ensures _ c.in-Some.ensures.ending c.if-count_of-ge3.false).1

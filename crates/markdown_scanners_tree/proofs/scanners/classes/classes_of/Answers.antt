@@ -1,6 +1,6 @@
 use Rattle.std.proofs.Common.{refl, arith, get_or}
 use Rattle.markdown_scanners_tree.specs.declared.scanners.classes.TheConstants.{CLASSES}
-use Rattle.markdown_scanners_tree.specs.scanners.Classes.{class_bits}
+use Rattle.markdown_scanners_tree.specs.scanners.classes.private.ClassBits.{class_bits}
 use Rattle.markdown_scanners_tree.proofs.scanners.classes.ClassLemmas.{agree_below, agree_at}
 use Rattle.markdown_scanners_tree.proofs.scanners.classes.classes_of.Goals as goal
 

@@ -1,9 +1,10 @@
 use Rattle.std.proofs.Common.{refl, arith, not, nat_eq, bit_and}
 use Rattle.markdown_scanners_tree.specs.Bytes.{is_digit}
-use Rattle.markdown_scanners_tree.specs.scanners.Classes.{class_bits}
+use Rattle.markdown_scanners_tree.specs.scanners.classes.private.ClassBits.{class_bits}
 use Rattle.markdown_scanners_tree.proofs.scanners.classes.ClassLemmas.{tests_agree_below, tests_agree_at}
 use Rattle.markdown_scanners_tree.proofs.scanners.classes.is_ascii_digit.Goals as goal
 
 pub returns : goal.returns
 unfolding tests_agree_below
-returns c = rw c.classes_of.ensures (tests_agree_at (λ b. not (nat_eq (bit_and (class_bits b) 16) 0)) is_digit 256 refl c.args.c (omega arith))
+returns c = rw c.classes_of.ensures
+    (tests_agree_at (λ b. not (nat_eq (bit_and (class_bits b) 16) 0)) is_digit 256 refl c.args.c (omega arith))

@@ -8,33 +8,50 @@ use Rattle.markdown_scanners_tree.proofs.scanners.indent.calc_indent.Goals as go
 pub returns-in-32-clause-indent : goal.returns-in-32-clause-indent
 returns-in-32-clause-indent c =
     let before = c.loop-i.invariant in
-    let stops : goes_on c.args.max c.loop-i.column (get_or c.args.text.now c.loop-i.i 0) ≡ false = rw c.in-32.is (space_stops c.args.max c.loop-i.column c.if-column-max.true) in
-    subst (IsIndent c.args.text.now c.args.max c.loop-i.i) c.if-column-max.true (stopped-space c.args.text.now c.args.max c.loop-i.i c.loop-i.column c.loop-i-test.true before.1 before.2 stops c.in-32.is)
+    let stops : goes_on c.args.max c.loop-i.column (get_or c.args.text.now c.loop-i.i 0) ≡ false =
+    rw c.in-32.is (space_stops c.args.max c.loop-i.column c.if-column-max.true) in
+    subst (IsIndent c.args.text.now c.args.max c.loop-i.i) c.if-column-max.true (stopped-space c.args.text.now
+    c.args.max c.loop-i.i c.loop-i.column c.loop-i-test.true before.1 before.2 stops c.in-32.is)
 
 pub returns-in_default-clause-indent : goal.returns-in_default-clause-indent
 returns-in_default-clause-indent c =
     let before = c.loop-i.invariant in
-    let stops : goes_on c.args.max c.loop-i.column (get_or c.args.text.now c.loop-i.i 0) ≡ false = rw c.in-9.is (tab_stops c.args.max c.loop-i.column (rw (← c.tab_stop.ensures) c.if-tab_stop-max.false)) in
-    stopped-other c.args.text.now c.args.max c.loop-i.i c.loop-i.column c.loop-i-test.true before.1 before.2 stops (λ space. cc)
+    let stops : goes_on c.args.max c.loop-i.column (get_or c.args.text.now c.loop-i.i 0) ≡ false =
+    rw c.in-9.is (tab_stops c.args.max c.loop-i.column (rw (← c.tab_stop.ensures) c.if-tab_stop-max.false)) in
+    stopped-other c.args.text.now c.args.max c.loop-i.i c.loop-i.column c.loop-i-test.true before.1 before.2 stops
+    (λ space. cc)
 
 pub returns-in_default-2-clause-indent : goal.returns-in_default-2-clause-indent
 returns-in_default-2-clause-indent c =
     let before = c.loop-i.invariant in
     let no_space : ¬ (get_or c.args.text.now c.loop-i.i 0 ≡ 32) = omega arith in
     let no_tab : ¬ (get_or c.args.text.now c.loop-i.i 0 ≡ 9) = omega arith in
-    stopped-other c.args.text.now c.args.max c.loop-i.i c.loop-i.column c.loop-i-test.true before.1 before.2 (other_stops c.args.max c.loop-i.column _ no_space no_tab) no_space
+    stopped-other c.args.text.now c.args.max c.loop-i.i c.loop-i.column c.loop-i-test.true before.1 before.2
+    (other_stops c.args.max c.loop-i.column _ no_space no_tab) no_space
 
 pub loop-i-preserved : goal.loop-i-preserved
 loop-i-preserved c =
     let before = c.loop-i.invariant in
     let byte = get_or c.args.text.now c.loop-i.i 0 in
-    let moved : (goes_on c.args.max c.loop-i.column byte ≡ true) × (c.match-text-i.column ≡ column_after c.loop-i.column byte) × (c.match-text-i.column ≤ c.args.max + (c.loop-i.i + 1)) = elim c.match-text-i.branch [
-      | in-32-2 w ↦ (rw w.in-32.is (space_goes c.args.max c.loop-i.column w.if-column-max.false), rw (w.in-32.is, w.column-is) (omega arith), omega (arith, before.0, w.column-is))
-      | in-9 w ↦ (rw w.in-9.is (tab_goes c.args.max c.loop-i.column (rw (← w.tab_stop.ensures) w.if-tab_stop-max.true)), rw w.in-9.is (w.column-is ∙ w.tab_stop-column.ensures), omega (arith, w.column-is))
+    let moved : (goes_on c.args.max c.loop-i.column byte ≡ true)
+    × (c.match-text-i.column ≡ column_after c.loop-i.column byte)
+    × (c.match-text-i.column ≤ c.args.max + (c.loop-i.i + 1)) = elim c.match-text-i.branch [
+      | in-32-2 w ↦ (
+        rw w.in-32.is (space_goes c.args.max c.loop-i.column w.if-column-max.false),
+        rw (w.in-32.is, w.column-is) (omega arith),
+        omega (arith, before.0, w.column-is),
+      )
+      | in-9 w ↦ (
+        rw w.in-9.is (tab_goes c.args.max c.loop-i.column (rw (← w.tab_stop.ensures) w.if-tab_stop-max.true)),
+        rw w.in-9.is (w.column-is ∙ w.tab_stop-column.ensures),
+        omega (arith, w.column-is),
+      )
     ] in
-    let here : goes_on c.args.max (column_past 0 (take c.loop-i.i c.args.text.now)) byte ≡ true = ap (λ k. goes_on c.args.max k byte) (sym before.1) ∙ moved.0 in (
+    let here : goes_on c.args.max (column_past 0 (take c.loop-i.i c.args.text.now)) byte ≡ true =
+    ap (λ k. goes_on c.args.max k byte) (sym before.1) ∙ moved.0 in (
       moved.2,
-      moved.1 ∙ ap (λ k. column_after k byte) before.1 ∙ sym (column_past-more c.args.text.now c.loop-i.i c.loop-i-test.true),
+      moved.1 ∙ ap (λ k. column_after k byte) before.1
+          ∙ sym (column_past-more c.args.text.now c.loop-i.i c.loop-i-test.true),
       all_go_on-more c.args.max c.args.text.now c.loop-i.i c.loop-i-test.true before.2 here,
       omega arith,
     )

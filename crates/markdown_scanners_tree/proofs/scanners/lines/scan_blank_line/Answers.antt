@@ -7,10 +7,13 @@ pub returns-clause-found : goal.returns-clause-found
 returns-clause-found c = IsBlankLine-scanned _ _ _ c.scan_whitespace_no_nl-i.ensures.run c.in_ok-n.ensures.ending
 
 pub returns-in_err-n-clause-found : goal.returns-in_err-n-clause-found
-returns-in_err-n-clause-found c = rw c.from_residual.ensures (IsBlankLine-not_scanned _ _ c.scan_whitespace_no_nl-i.ensures.run c.in_err-n.ensures.ending)
+returns-in_err-n-clause-found c = rw c.from_residual.ensures
+    (IsBlankLine-not_scanned _ _ c.scan_whitespace_no_nl-i.ensures.run c.in_err-n.ensures.ending)
 
 pub returns-clause-line : goal.returns-clause-line
-returns-clause-line c = sym (blank_line-is _ _ (IsBlankLine-scanned _ _ _ c.scan_whitespace_no_nl-i.ensures.run c.in_ok-n.ensures.ending))
+returns-clause-line c =
+    sym (blank_line-is _ _ (IsBlankLine-scanned _ _ _ c.scan_whitespace_no_nl-i.ensures.run c.in_ok-n.ensures.ending))
 
 pub returns-in_err-n-clause-line : goal.returns-in_err-n-clause-line
-returns-in_err-n-clause-line c = rw c.from_residual.ensures (sym (blank_line-none _ (IsBlankLine-not_scanned _ _ c.scan_whitespace_no_nl-i.ensures.run c.in_err-n.ensures.ending)))
+returns-in_err-n-clause-line c = rw c.from_residual.ensures (sym (blank_line-none _
+    (IsBlankLine-not_scanned _ _ c.scan_whitespace_no_nl-i.ensures.run c.in_err-n.ensures.ending)))

@@ -5,8 +5,11 @@ use Rattle.markdown_scanners_tree.proofs.scanners.metadata.scan_closing_metadata
 
 pub returns-in-None-clause-found : goal.returns-in-None-clause-found
 returns-in-None-clause-found c =
-    SomeExactly-map (IsLineOfThree 46 c.args.bytes.now) (IsClosingMetadataBlock c.args.bytes.now c.args.fence_char) c.scan_line_of_three-in-None.result
-    (closing-dots c.args.bytes.now c.args.fence_char c.if-fence_char-eq45.true) (not_closing-dots c.args.bytes.now c.args.fence_char c.in-None.ensures.found) c.scan_line_of_three-in-None.ensures.found
+    SomeExactly-map (IsLineOfThree 46 c.args.bytes.now)
+    (IsClosingMetadataBlock c.args.bytes.now c.args.fence_char) c.scan_line_of_three-in-None.result
+    (closing-dots c.args.bytes.now c.args.fence_char c.if-fence_char-eq45.true) (not_closing-dots c.args.bytes.now
+    c.args.fence_char c.in-None.ensures.found) c.scan_line_of_three-in-None.ensures.found
 
 pub returns-in-None-2-clause-found : goal.returns-in-None-2-clause-found
-returns-in-None-2-clause-found c = not_closing c.args.bytes.now c.args.fence_char c.if-fence_char-eq45.false c.in-None.ensures.found
+returns-in-None-2-clause-found c =
+    not_closing c.args.bytes.now c.args.fence_char c.if-fence_char-eq45.false c.in-None.ensures.found

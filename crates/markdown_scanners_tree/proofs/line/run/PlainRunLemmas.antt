@@ -5,7 +5,7 @@ use Rattle.std.proofs.lemmas.List.{drop-drop, append-nil}
 use Rattle.markdown_scanners_tree.specs.Columns.{column_past, head_end, is_on_byte, bytes_below, expanded}
 use Rattle.markdown_scanners_tree.specs.line.State.{LineState, unscanned, rest_of, columns_further}
 use Rattle.markdown_scanners_tree.specs.line.PlainStep.{plain_step}
-use Rattle.markdown_scanners_tree.specs.line.run.PlainRun.{plain_run, run_from, after_answer, refusal, Run, stop_at, rest_after, scanned_after}
+use Rattle.markdown_scanners_tree.specs.line.run.PlainRun.{plain_run, run_from, after_answer, line_refusal, PlainRun, indexed_stop, rest_after, scanned_after}
 use Rattle.markdown_scanners_tree.specs.declared.line.run.LineAnswer.{LineAnswer}
 use Rattle.markdown_scanners_tree.specs.declared.line.run.LineCall.{LineCall}
 use Rattle.markdown_scanners_tree.specs.declared.line.run.LineStop.{LineStop}
@@ -13,7 +13,8 @@ use Rattle.markdown_scanners_tree.proofs.line.ColumnLemmas.{bool_cases, below-sp
 use Rattle.markdown_scanners_tree.proofs.line.SpaceLemmas.{state_of, further-column}
 use Rattle.markdown_scanners_tree.proofs.line.HeadLemmas.{step-fits}
 
--- the state that a run on the line has when it has taken k columns of the written out line; c is the column of its place
+-- the state that a run on the line has when it has taken k columns of the written out line; c is
+-- the column of its place
 pub record Tied (line : List ℕ) (k c : ℕ) (s : LineState) : Type 0 where
   pub shape : s ≡ state_of line s.place s.pending c
   pub at : k + s.pending ≡ c
@@ -24,7 +25,7 @@ pub record Tied (line : List ℕ) (k c : ℕ) (s : LineState) : Type 0 where
 module _ (line : List ℕ) (k c place p t : ℕ) (tied : Tied line k c (state_of line place p c))
     (fits : c + t ≤ p + head_end c (drop place line))
     (rest : rest_of (columns_further t (state_of line place p c)) ≡ drop t (rest_of (state_of line place p c))) where
-  pub tied_next : let m = bytes_below c (drop place line) (c + t - p) in
+  tied_next : let m = bytes_below c (drop place line) (c + t - p) in
       Tied line (k + t) (column_past c (take m (drop place line))) (columns_further t (state_of line place p c))
   tied_next =
       let back = drop place line in
@@ -51,7 +52,7 @@ module _ (line : List ℕ) (k c place p t : ℕ) (tied : Tied line k c (state_of
       rw move after
 
 -- what the tie says of a column that is reached
-pub tied_on : (line : List ℕ) (k c : ℕ) (s : LineState) → Tied line k c s → is_on_byte 0 line k ≡ (s.pending == 0)
+tied_on : (line : List ℕ) (k c : ℕ) (s : LineState) → Tied line k c s → is_on_byte 0 line k ≡ (s.pending == 0)
 tied_on line k c s tied =
     let at = tied.at in
     tied.on k (omega arith) ∙ bool_cases (s.pending == 0)
@@ -63,18 +64,19 @@ tied_on line k c s tied =
     let some : k < c = grind (arith, nat_tests) in
     rw (no) (off_before (drop s.place line) c k some))
 
-pub tied_scanned : (line : List ℕ) (k c : ℕ) (s : LineState) → Tied line k c s → bytes_below 0 line k ≡ s.place
+tied_scanned : (line : List ℕ) (k c : ℕ) (s : LineState) → Tied line k c s → bytes_below 0 line k ≡ s.place
 tied_scanned line k c s tied =
     let at = tied.at in
     let none = none_below (drop s.place line) c k (omega arith) in
     tied.below k (omega arith) ∙ rw none (omega arith)
 
 -- answers before a run
-abbrev pub after_answers : List LineAnswer → Run → Run
+abbrev after_answers : List LineAnswer → PlainRun → PlainRun
 after_answers answers run = record run { answers = answers ++ run.answers }
 
 -- the run up to a call: the answers so far, and what is still to come from the column reached
-pub record SoFar (line : List ℕ) (calls left : List LineCall) (answers : List LineAnswer) (s : LineState) (k c : ℕ) : Type 0 where
+pub record SoFar (line : List ℕ) (calls left : List LineCall) (answers : List LineAnswer) (s : LineState)
+    (k c : ℕ) : Type 0 where
   pub tied : Tied line k c s
   pub run : plain_run line calls ≡ after_answers answers (run_from line k left)
 
@@ -82,44 +84,48 @@ pub record SoFar (line : List ℕ) (calls left : List LineCall) (answers : List 
 abbrev pub next_column : LineState → ℕ → ℕ → ℕ
 next_column s c t = column_past c (take (bytes_below c (unscanned s) (c + t - s.pending)) (unscanned s))
 
-pub tied_next-state : (line : List ℕ) (k c t : ℕ) (s : LineState) → Tied line k c s
+tied_next-state : (line : List ℕ) (k c t : ℕ) (s : LineState) → Tied line k c s
     → c + t ≤ s.pending + head_end c (drop s.place line) → rest_of (columns_further t s) ≡ drop t (rest_of s)
     → Tied line (k + t) (next_column s c t) (columns_further t s)
 tied_next-state line k c t s tied fits rest =
     let P : LineState → Type 0 = λ x. Tied line k c x → c + t ≤ x.pending + head_end c (drop x.place line)
-    → rest_of (columns_further t x) ≡ drop t (rest_of x) → Tied line (k + t) (next_column x c t) (columns_further t x) in
+    → rest_of (columns_further t x) ≡ drop t (rest_of x)
+    → Tied line (k + t) (next_column x c t) (columns_further t x) in
     subst P (sym tied.shape) (λ a b d. tied_next line k c s.place s.pending t a b d) tied fits rest
 
-pub step-fits-state : (call : LineCall) (line : List ℕ) (k c : ℕ) (s : LineState) → Tied line k c s
+step-fits-state : (call : LineCall) (line : List ℕ) (k c : ℕ) (s : LineState) → Tied line k c s
     → c + (plain_step call (rest_of s)).taken ≤ s.pending + head_end c (drop s.place line)
 step-fits-state call line k c s tied =
-    let P : LineState → Type 0 = λ x. c + (plain_step call (rest_of x)).taken ≤ x.pending + head_end c (drop x.place line) in
+    let P : LineState → Type 0 =
+    λ x. c + (plain_step call (rest_of x)).taken ≤ x.pending + head_end c (drop x.place line) in
     subst P (sym tied.shape) (step-fits call line s.place s.pending c)
 
 -- a run whose first call is not refused, and one whose first call is
-run_from-goes : (line : List ℕ) (k : ℕ) (call : LineCall) (left : List LineCall) → refusal (is_on_byte 0 line k) call ≡ None →
+run_from-goes : (line : List ℕ) (k : ℕ) (call : LineCall) (left : List LineCall)
+    → line_refusal (is_on_byte 0 line k) call ≡ None →
     let step = plain_step call (drop k (expanded line)) in
     run_from line k (call ∷ left) ≡ after_answer step.answer (run_from line (k + step.taken) left)
 run_from-goes line k call left h =
     let step = plain_step call (drop k (expanded line)) in
-    ap (λ (r : Option LineStop). elim r as (λ _. Run) [
+    ap (λ (r : Option LineStop). elim r as (λ _. PlainRun) [
       | Some stop ↦ record { answers = []; column = k; stop = Some stop }
       | None ↦ after_answer step.answer (run_from line (k + step.taken) left)
     ]) h
 
 run_from-stops : (line : List ℕ) (k : ℕ) (call : LineCall) (left : List LineCall) (reason : LineStop) →
-    refusal (is_on_byte 0 line k) call ≡ Some reason →
+    line_refusal (is_on_byte 0 line k) call ≡ Some reason →
     run_from line k (call ∷ left) ≡ record { answers = []; column = k; stop = Some reason }
 run_from-stops line k call left reason h =
     let step = plain_step call (drop k (expanded line)) in
-    ap (λ (r : Option LineStop). elim r as (λ _. Run) [
+    ap (λ (r : Option LineStop). elim r as (λ _. PlainRun) [
       | Some stop ↦ record { answers = []; column = k; stop = Some stop }
       | None ↦ after_answer step.answer (run_from line (k + step.taken) left)
     ]) h
 
-pub so_far_next : (line : List ℕ) (calls left : List LineCall) (answers : List LineAnswer) (s s' : LineState) (k c : ℕ) (call : LineCall) →
+pub so_far_next : (line : List ℕ) (calls left : List LineCall) (answers : List LineAnswer) (s s' : LineState)
+    (k c : ℕ) (call : LineCall) →
     let step = plain_step call (rest_of s) in
-    SoFar line calls (call ∷ left) answers s k c → refusal (s.pending == 0) call ≡ None
+    SoFar line calls (call ∷ left) answers s k c → line_refusal (s.pending == 0) call ≡ None
     → s' ≡ columns_further step.taken s → rest_of s' ≡ drop step.taken (rest_of s)
     → SoFar line calls left (answers ++ (step.answer ∷ [])) s' (k + step.taken) (next_column s c step.taken)
 so_far_next line calls left answers s s' k c call so allowed state rest =
@@ -127,27 +133,31 @@ so_far_next line calls left answers s s' k c call so allowed state rest =
     let t = (plain_step call (rest_of s)).taken in
     let rest' : rest_of (columns_further t s) ≡ drop t (rest_of s) = ap rest_of (sym state) ∙ rest in
     let next = tied_next-state line k c t s tied (step-fits-state call line k c s tied) rest' in
-    let goes = run_from-goes line k call left (ap (λ b. refusal b call) (tied_on line k c s tied) ∙ allowed) in
+    let goes = run_from-goes line k call left (ap (λ b. line_refusal b call) (tied_on line k c s tied) ∙ allowed) in
     let step = plain_step call (rest_of s) in
     let one : run_from line k (call ∷ left) ≡ after_answer step.answer (run_from line (k + step.taken) left) =
-    goes ∙ ap (λ r. after_answer (plain_step call r).answer (run_from line (k + (plain_step call r).taken) left)) tied.rest in
+    goes ∙ ap (λ r. after_answer (plain_step call r).answer
+    (run_from line (k + (plain_step call r).taken) left)) tied.rest in
     record {
       tied = rw state next;
-      run = so.run ∙ ap (after_answers answers) one ∙ rw (append_assoc answers (step.answer ∷ []) (run_from line (k + step.taken) left).answers) refl;
+      run = so.run ∙ ap (after_answers answers) one
+          ∙ rw (append_assoc answers (step.answer ∷ []) (run_from line (k + step.taken) left).answers) refl;
     }
 
 -- where the calls end, or a call is refused, what is so far is the run
 pub so_far_done : (line : List ℕ) (calls : List LineCall) (answers : List LineAnswer) (s : LineState) (k c : ℕ) →
     SoFar line calls [] answers s k c →
-    (answers ≡ (plain_run line calls).answers) × (None ≡ stop_at (plain_run line calls))
+    (answers ≡ (plain_run line calls).answers) × (None ≡ indexed_stop (plain_run line calls))
     × (rest_of s ≡ rest_after line (plain_run line calls)) × (s.place ≡ scanned_after line (plain_run line calls))
 so_far_done line calls answers s k c so =
     rw (so.run) (sym (append-nil answers), refl, sym so.tied.rest, sym (tied_scanned line k c s so.tied))
 
-pub so_far_stopped : (line : List ℕ) (calls left : List LineCall) (call : LineCall) (reason : LineStop) (answers : List LineAnswer) (s : LineState) (k c : ℕ) →
-    SoFar line calls (call ∷ left) answers s k c → refusal (s.pending == 0) call ≡ Some reason →
-    (answers ≡ (plain_run line calls).answers) × (Some (length answers, reason) ≡ stop_at (plain_run line calls))
+pub so_far_stopped : (line : List ℕ) (calls left : List LineCall) (call : LineCall) (reason : LineStop)
+    (answers : List LineAnswer) (s : LineState) (k c : ℕ) →
+    SoFar line calls (call ∷ left) answers s k c → line_refusal (s.pending == 0) call ≡ Some reason →
+    (answers ≡ (plain_run line calls).answers) × (Some (length answers, reason) ≡ indexed_stop (plain_run line calls))
     × (rest_of s ≡ rest_after line (plain_run line calls)) × (s.place ≡ scanned_after line (plain_run line calls))
 so_far_stopped line calls left call reason answers s k c so refused =
-    let stops = run_from-stops line k call left reason (ap (λ b. refusal b call) (tied_on line k c s so.tied) ∙ refused) in
+    let stops =
+    run_from-stops line k call left reason (ap (λ b. line_refusal b call) (tied_on line k c s so.tied) ∙ refused) in
     rw (so.run, stops, append-nil answers) (refl, refl, sym so.tied.rest, sym (tied_scanned line k c s so.tied))

@@ -17,9 +17,11 @@ abbrev pub alert_row : Bor (List ℕ) × BlockQuoteKind → List ℕ × BlockQuo
 alert_row row = (row.0.now, row.1)
 
 -- a row that does not stand at the front is passed over
-pub alert_next : (rows : List (Bor (List ℕ) × BlockQuoteKind)) (row : Bor (List ℕ) × BlockQuoteKind) (bytes : List ℕ) (i : ℕ) {answer : Option (BlockQuoteKind × ℕ)}
+pub alert_next : (rows : List (Bor (List ℕ) × BlockQuoteKind)) (row : Bor (List ℕ) × BlockQuoteKind) (bytes : List ℕ)
+    (i : ℕ) {answer : Option (BlockQuoteKind × ℕ)}
     → i < length rows → is_alert_name (get_or rows i row).0.now bytes ≡ false
-    → alert_among (map alert_row (drop i rows)) bytes ≡ answer → alert_among (map alert_row (drop (i + 1) rows)) bytes ≡ answer
+    → alert_among (map alert_row (drop i rows)) bytes ≡ answer
+    → alert_among (map alert_row (drop (i + 1) rows)) bytes ≡ answer
 alert_next rows row bytes i inside other so_far =
     let others = alert_among (map alert_row (drop (i + 1) rows)) bytes in
     let here = get_or rows i row in
@@ -32,20 +34,28 @@ and_false false = refl
 
 pub name_too_long : (name bytes : List ℕ) → length bytes ≤ length name → is_alert_name name bytes ≡ false
 name_too_long name bytes short =
-    let none : begins_with (λ b. b == 93) (drop (length name) bytes) ≡ false = ap (begins_with (λ b. b == 93)) (drop_of_length-le bytes short) in
+    let none : begins_with (λ b. b == 93) (drop (length name) bytes) ≡ false =
+    ap (begins_with (λ b. b == 93)) (drop_of_length-le bytes short) in
     ap (λ t. str_eq_ignore_ascii_case (take (length name) bytes) name && t) none ∙ and_false _
 
 pub name_then : (name bytes : List ℕ) → length name < length bytes
-    → is_alert_name name bytes ≡ (str_eq_ignore_ascii_case (take (length name) bytes) name && (get_or bytes (length name) 0 == 93))
+    → is_alert_name name bytes
+    ≡ (str_eq_ignore_ascii_case (take (length name) bytes) name && (get_or bytes (length name) 0 == 93))
 name_then name bytes inside =
-    ap (λ r. str_eq_ignore_ascii_case (take (length name) bytes) name && begins_with (λ b. b == 93) r) (drop_more bytes (length name) 0 inside)
+    ap (λ r. str_eq_ignore_ascii_case (take (length name) bytes) name && begins_with (λ b. b == 93) r)
+    (drop_more bytes (length name) 0 inside)
 
-pub case_test : (r : Bool) (a b : List ℕ) → (IsTrue r ↔ (map to_ascii_lowercase a ≡ map to_ascii_lowercase b)) → r ≡ str_eq_ignore_ascii_case a b
-case_test r a b test = one_answer r (str_eq_ignore_ascii_case a b) test (bytes_eq-Decides (map to_ascii_lowercase a) (map to_ascii_lowercase b))
+pub case_test : (r : Bool) (a b : List ℕ) → (IsTrue r ↔ (map to_ascii_lowercase a ≡ map to_ascii_lowercase b))
+    → r ≡ str_eq_ignore_ascii_case a b
+case_test r a b test = one_answer r (str_eq_ignore_ascii_case a b) test
+    (bytes_eq-Decides (map to_ascii_lowercase a) (map to_ascii_lowercase b))
 
 -- an alert's line, from what stands after `[!`
-pub alert_line-found : (bytes name : List ℕ) (kind : BlockQuoteKind) (n rest : ℕ) → bytes_eq (take 2 bytes) (91 ∷ 33 ∷ []) ≡ true → name ≡ drop 2 bytes
-    → Some (kind, n) ≡ alert_name name → Some rest ≡ blank_line (drop n name) → Some (kind, 2 + n + rest) ≡ alert_line bytes
+pub alert_line-found : (bytes name : List ℕ) (kind : BlockQuoteKind) (n rest : ℕ)
+    → bytes_eq (take 2 bytes) (91 ∷ 33 ∷ []) ≡ true → name ≡ drop 2 bytes
+    → Some (kind, n) ≡ alert_name name → Some rest ≡ blank_line (drop n name)
+    → Some (kind, 2 + n + rest) ≡ alert_line bytes
 alert_line-found bytes name kind n rest begins after named blank =
-    ap (option_map (λ (r : ℕ). (kind, 2 + n + r))) blank ∙ ap (alert_before_blank name) named ∙ ap (λ x. alert_before_blank x (alert_name x)) after
+    ap (option_map (λ (r : ℕ). (kind, 2 + n + r))) blank ∙ ap (alert_before_blank name) named
+    ∙ ap (λ x. alert_before_blank x (alert_name x)) after
     ∙ sym (ap (λ t. cond t (alert_before_blank (drop 2 bytes) (alert_name (drop 2 bytes))) None) begins)
