@@ -1,6 +1,5 @@
 pub mod AsciiKeys
 pub mod Cells
-pub mod Keys
 pub mod MeasureLemmas
 pub mod ReadsBack
 pub mod Room
