@@ -19,6 +19,7 @@ mod key;
 mod word;
 
 use crate::scanners::is_ascii_punctuation;
+use crate::texts::push_part;
 use caseless::default_caseless_match_str;
 use key::{eq_ascii, hash_ascii, hash_folded};
 use markdown_values::strings::CowStr;
@@ -456,21 +457,4 @@ fn write_label<F: Fn(&[u8]) -> Option<usize>>(
             }
         }
     }
-}
-
-// Appends a part of a text. Nothing is done for an empty one, as it stands between two spaces, which saves 6 % of the
-// instructions of a label where each run of white space is two bytes.
-fn push_part(out: &mut String, part: &str) -> Result<(), AllocError>
-    ensures bytes { string_bytes out.new
-        ≡ (if is_ok result then string_bytes out.old ++ part.now else string_bytes out.old) }
-    ensures len { string_len out.new
-        ≡ (if is_ok result then string_len out.old + length part.now else string_len out.old) }
-    ensures capacity { string_capacity out.old ≤ string_capacity out.new }
-    ensures succeeds { string_len out.old + length part.now ≤ string_capacity out.old → IsOk result }
-    ensures full { OnErr result (string_capacity out.old < string_len out.old + length part.now) }
-{
-    if part.is_empty() {
-        return Ok(());
-    }
-    out.push_str(part)
 }

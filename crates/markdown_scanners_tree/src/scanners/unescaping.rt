@@ -11,6 +11,7 @@ ghost use Rattle.markdown_scanners_tree.specs.scanners.unescaping.private.FirstP
 
 use crate::scanners::entities::{Entities, scan_entity};
 use crate::scanners::escapes::starts_escape;
+use crate::texts::push_part;
 use markdown_values::strings::CowStr;
 use memchr::memchr3;
 use std::alloc::{AllocError, Global};
@@ -151,25 +152,11 @@ fn push_both(out: &mut String, first: &str, second: &str) -> Result<(), AllocErr
     ensures len { OnOk result (string_len out.new
         ≡ string_len out.old + (length first.now + length second.now)) }
     ensures capacity { string_capacity out.old ≤ string_capacity out.new }
-    ensures room { string_len out.old + (length first.now + length second.now)
+    ensures succeeds { string_len out.old + (length first.now + length second.now)
         ≤ string_capacity out.old → IsOk result }
 {
     push_part(out, first)?;
     out.push_str(second)
-}
-
-// Appends a text. It is empty between changed pieces that touch, which halves the time for runs of
-// CR. With room for it no growth is refused.
-fn push_part(out: &mut String, part: &str) -> Result<(), AllocError>
-    ensures bytes { OnOk result (string_bytes out.new ≡ string_bytes out.old ++ part.now) }
-    ensures len { OnOk result (string_len out.new ≡ string_len out.old + length part.now) }
-    ensures capacity { string_capacity out.old ≤ string_capacity out.new }
-    ensures room { string_len out.old + length part.now ≤ string_capacity out.old → IsOk result }
-{
-    if part.is_empty() {
-        return Ok(());
-    }
-    out.push_str(part)
 }
 
 // The length of the first piece of a text, or of a run of pieces that mean themselves, how many

@@ -43,7 +43,7 @@ pub returns-in_err-push_part-in-13-clause-room : goal.returns-in_err-push_part-i
 returns-in_err-push_part-in-13-clause-room g c room =
     let known = g.E.Entities.known c.args.entities.now in
     let is = return_at c.args.text.now c.as_bytes.result.now c.args.place c.as_bytes.ensures.value c.args.is_in_table known (omega (arith, c.requires.within, c.as_bytes.ensures.len)) c.in-13.is in
-    absurd (false≢true (c.in_err-push_part-in-13.ensures.room (omega (arith, room 1 1 [] is, c.range.ensures.len))))
+    absurd (false≢true (c.in_err-push_part-in-13.ensures.succeeds (omega (arith, room 1 1 [] is, c.range.ensures.len))))
 
 pub returns-in_ok-push_part-in-92-clause-pushed : goal.returns-in_ok-push_part-in-92-clause-pushed
 returns-in_ok-push_part-in-92-clause-pushed g c =
@@ -59,7 +59,7 @@ returns-in_err-push_part-in-92-clause-room g c room =
     let known = g.E.Entities.known c.args.entities.now in
     let dropped = c.escape_len-dropped.result in
     let is = escape_at c.args.text.now c.as_bytes.result.now c.args.place c.as_bytes.ensures.value c.args.is_in_table known (dropped + 1) dropped (c.escape_len-dropped.ensures.piece known) (omega (arith, c.if-dropped-eq0.false)) in
-    absurd (false≢true (c.in_err-push_part-in-92.ensures.room (omega (arith, room (dropped + 1) dropped [] is, c.range-in-92.ensures.len))))
+    absurd (false≢true (c.in_err-push_part-in-92.ensures.succeeds (omega (arith, room (dropped + 1) dropped [] is, c.range-in-92.ensures.len))))
 
 pub returns-then-dropped-eq0-clause-pushed : goal.returns-then-dropped-eq0-clause-pushed
 returns-then-dropped-eq0-clause-pushed g c =
@@ -85,7 +85,7 @@ returns-in_err-push_both-in-Some-clause-room g c room =
     let n = c.in-Some.length in
     let meaning = cow_text c.in-Some.meaning in
     let is = reference_at c.args.text.now c.as_bytes.result.now c.args.place c.as_bytes.ensures.value c.args.is_in_table known n meaning c.in-Some.ensures.reference in
-    absurd (false≢true (c.in_err-push_both-in-Some.ensures.room (omega (arith, room n n meaning is, c.range-in-Some.ensures.len, ap length c.as_str.ensures))))
+    absurd (false≢true (c.in_err-push_both-in-Some.ensures.succeeds (omega (arith, room n n meaning is, c.range-in-Some.ensures.len, ap length c.as_str.ensures))))
 
 pub returns-in-None-clause-pushed : goal.returns-in-None-clause-pushed
 returns-in-None-clause-pushed g c =
