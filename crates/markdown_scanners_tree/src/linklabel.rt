@@ -1,5 +1,5 @@
 //! Link labels: the bracketed names by which references and footnotes are matched.
-ghost use Rattle.std.specs.Prelude.{length, drop, ◌≡◌, ◌⊎◌, ◌≤◌, ◌+◌, ◌++◌, ◌&&◌, not, ℕ, true, false, IfOk, OnOk, OnErr, IsOk, is_ok, ◌<◌, if◌then◌else◌, IfSome, IfNone, option_map, string_bytes, encode_utf8, map, nat_eq, IsCharBoundary};
+ghost use Rattle.std.specs.Prelude.{length, drop, ◌≡◌, ◌⊎◌, ◌≤◌, ◌+◌, ◌-◌, ◌++◌, ◌&&◌, not, ℕ, true, false, IfOk, OnOk, OnErr, IsOk, is_ok, ◌<◌, if◌then◌else◌, IfSome, IfNone, option_map, string_bytes, encode_utf8, map, nat_eq, IsCharBoundary};
 ghost use Rattle.std.specs.Cmp.{on_equiv, on_per, partial_equiv_from_equiv};
 ghost use Rattle.std.specs.Cmp.Lexicographic.{pointwise, nat_list_eq_equiv};
 ghost use Rattle.std.specs.Cmp.Rules.{hashing};
@@ -13,7 +13,7 @@ ghost use Rattle.markdown_scanners_tree.specs.linklabel.Label.{Label, IsLabel, H
 ghost use Rattle.markdown_scanners_tree.specs.linklabel.Answer.{answered_label, is_borrowed, slice_before, without_first_space, without_last_space};
 ghost use Rattle.markdown_scanners_tree.specs.linklabel.private.NextPart.{IsNextPart};
 ghost use Rattle.markdown_scanners_tree.specs.linklabel.Key.{label_key};
-ghost use Rattle.markdown_scanners_tree.specs.linklabel.private.Pass.{begun, space_len, starts_dropped, new_tally, tally_past_ending, tally_past_space, tally_past_word, tally_past_run, IsMeasure};
+ghost use Rattle.markdown_scanners_tree.specs.linklabel.private.Pass.{begun, space_len, starts_dropped, due_len, IsWordWritten, new_tally, tally_past_ending, tally_past_space, tally_past_word, tally_past_run, IsMeasure};
 
 mod key;
 mod word;
@@ -443,13 +443,7 @@ fn write_label<F: Fn(&[u8]) -> Option<usize>>(
                 in_run = true;
             }
             NextPart::Word(_, escapes) => {
-                if has_word && in_run {
-                    out.push_str(" ")?;
-                }
-                if is_dropped(&bytes[ix..], is_in_table) {
-                    out.push_str(&text[mark..ix])?;
-                    mark = ix + 1;
-                }
+                mark = write_word(out, text, mark, ix, has_word && in_run, is_in_table)?;
                 has_word = true;
                 in_run = false;
                 escaped = escapes;
@@ -457,4 +451,35 @@ fn write_label<F: Fn(&[u8]) -> Option<usize>>(
             }
         }
     }
+}
+
+// At a byte of a word: appends the space that is due before the word, and where the byte is a
+// backslash that a cell of a table drops, the text from `mark` up to it. Answers from where on the
+// text is still to be appended.
+fn write_word(
+    out: &mut String,
+    text: &str,
+    mark: usize,
+    place: usize,
+    is_space_due: bool,
+    is_in_table: bool,
+) -> Result<usize, AllocError>
+    requires ordered { mark ≤ place }
+    requires within { place < length text.now }
+    requires start { IsCharBoundary text.now mark }
+    requires none_before { is_space_due ≡ true → mark ≡ place }
+    ensures written { IfOk result (λ next. IsWordWritten is_in_table is_space_due text.now
+        mark place out.old out.new next) }
+    ensures capacity { string_capacity out.old ≤ string_capacity out.new }
+    ensures succeeds { string_len out.old + due_len is_space_due + (place - mark)
+        ≤ string_capacity out.old → IsOk result }
+{
+    if is_space_due {
+        out.push_str(" ")?;
+    }
+    if !is_dropped(&text.as_bytes()[place..], is_in_table) {
+        return Ok(mark);
+    }
+    out.push_str(&text[mark..place])?;
+    Ok(place + 1)
 }

@@ -1,9 +1,8 @@
 -- What was written of a label is no longer than the label.
-use Rattle.std.proofs.Common.{ℕ, Bool, true, false, ◌&&◌, ◌==◌, List, [], ◌∷◌, ◌++◌, ◌≡◌, ◌≤◌, ◌<◌, ◌+◌, Option, Some, None, refl, sym, ◌∙◌, ap, cond, arith, drop, length, length-append, true≢false, eqb-true, add-zero, ◌-◌}
+use Rattle.std.proofs.Common.{ℕ, Bool, true, false, ◌&&◌, ◌==◌, List, [], ◌∷◌, ◌++◌, ◌≡◌, ◌≤◌, ◌<◌, ◌+◌, Option, Some, None, refl, sym, ◌∙◌, ap, cond, arith, drop, length, length-append, true≢false, eqb-true}
 use Rattle.markdown_scanners_tree.specs.Bytes.{is_line_ending, is_punctuation}
 use Rattle.markdown_scanners_tree.specs.Kept.{KeptByte, in_line, kept_head, line_len, kept_from, AreSkips}
 use Rattle.markdown_scanners_tree.specs.linklabel.Label.{Label, IsLabel, escaped, single, pieces, Bracketed, preceded, bracketed, label_between, pipe_at, in_cell}
-use Rattle.markdown_scanners_tree.specs.linklabel.private.Pass.{space_len}
 use Rattle.markdown_scanners_tree.proofs.KeptStep.{kept_from-in_line}
 use Rattle.markdown_scanners_tree.proofs.linklabel.Cells.{Follows, follows_byte, gap_of_line}
 use Rattle.markdown_scanners_tree.proofs.linklabel.Scan.{IsAt}
@@ -70,20 +69,3 @@ pushed_fits a source t e seen ix rest w r pushed here s label l = (let g = here.
 -- room for the label is room for each part of it
 pub no_room : (len0 cap0 len cap pushed text part : ℕ) → len0 + text ≤ cap0 → cap0 ≤ cap → pushed ≤ text → len + part ≤ len0 + pushed → cap < len + part → ⊥
 no_room len0 cap0 len cap pushed text part a b c d e = omega arith
-
--- a space takes one byte exactly where one is due
-pub spaced_len : (new out : ℕ) (w r : Bool) → w ≡ true → r ≡ true → new ≡ out + 1 → new ≡ out + space_len w r
-spaced_len new out w r e f g = g ∙ (λ i. out + space_len (sym e i) (sym f i))
-
-pub not_spaced_len : (new out : ℕ) (w r : Bool) → (w && r) ≡ false → new ≡ out → new ≡ out + space_len w r
-not_spaced_len new out w r e g = g ∙ sym (add-zero out) ∙ ap (λ v. out + cond v 1 0) (sym e)
-
--- the bytes written and those to be flushed, after a byte of a word
-pub counts_word : (len0 pushed all space more len len1 len2 part part2 : ℕ) → len0 + pushed ≡ len + part → all ≡ pushed + (space + more) → len1 ≡ len + space → len2 + part2 ≡ len1 + part + more → len0 + all ≡ len2 + part2
-counts_word len0 pushed all space more len len1 len2 part part2 a b c d = omega arith
-
-pub counts_dropped : (len1 len2 ix mark mark2 range more : ℕ) → range + mark ≡ ix → len2 ≡ len1 + range → mark2 ≡ ix + 1 → more ≡ 0 → len2 + (ix + 1 - mark2) ≡ len1 + (ix - mark) + more
-counts_dropped len1 len2 ix mark mark2 range more a b c d = omega arith
-
-pub counts_kept : (len1 len2 ix mark mark2 more : ℕ) → mark ≤ ix → len2 ≡ len1 → mark2 ≡ mark → more ≡ 1 → len2 + (ix + 1 - mark2) ≡ len1 + (ix - mark) + more
-counts_kept len1 len2 ix mark mark2 more a b c d = omega arith

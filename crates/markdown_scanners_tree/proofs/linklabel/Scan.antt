@@ -172,18 +172,18 @@ line_len-le (b ∷ bs) =
       | false ↦ elim (b == 13) as (λ v. cond v (return_len bs) (suc (line_len bs)) ≤ length (b ∷ bs)) [ true ↦ omega arith | false ↦ omega arith ]
     ]
 
--- where the text may be cut
-ascii_at : (source : List ℕ) (ix b : ℕ) (bs : List ℕ) → drop ix source ≡ b ∷ bs → (ix < length source) × (get_or source ix 0 ≡ b)
-ascii_at source ix b bs e = (
+-- the byte at a place, and where the text may be cut
+pub byte_at : (source : List ℕ) (ix b : ℕ) (bs : List ℕ) → drop ix source ≡ b ∷ bs → (ix < length source) × (get_or source ix 0 ≡ b)
+byte_at source ix b bs e = (
   omega (arith, length-drop ix source, ap length e),
   ap (λ n. get_or source n 0) (omega arith) ∙ sym (get_or-drop ix source 0 0) ∙ ap (λ l. get_or l 0 0) e,
 )
 
 pub cut_before : (source : List ℕ) (ix b : ℕ) (bs : List ℕ) → drop ix source ≡ b ∷ bs → b < 128 → IsCharBoundary source ix
-cut_before source ix b bs e small = (let at = ascii_at source ix b bs e in IsCharBoundary-before_ascii source ix at.0 (rw at.1 small))
+cut_before source ix b bs e small = (let at = byte_at source ix b bs e in IsCharBoundary-before_ascii source ix at.0 (rw at.1 small))
 
 pub cut_after : (source : List ℕ) (ix b : ℕ) (bs : List ℕ) → IsUtf8 source → drop ix source ≡ b ∷ bs → b < 128 → IsCharBoundary source (ix + 1)
-cut_after source ix b bs u e small = (let at = ascii_at source ix b bs e in IsCharBoundary-after_ascii source ix u at.0 (rw at.1 small))
+cut_after source ix b bs u e small = (let at = byte_at source ix b bs e in IsCharBoundary-after_ascii source ix u at.0 (rw at.1 small))
 
 pub white_small : (b : ℕ) → is_white_space b ≡ true → b < 128
 white_small b w = grind (arith, nat_tests, w)

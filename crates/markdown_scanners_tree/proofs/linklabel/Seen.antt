@@ -12,7 +12,7 @@ use Rattle.markdown_scanners_tree.specs.Ascii.{right_bracket}
 use Rattle.markdown_scanners_tree.specs.Kept.{KeptByte, in_line, at_line_end, kept_line, kept_return, return_len, line_len, line_endings, bytes_of}
 use Rattle.markdown_scanners_tree.specs.linklabel.Answer.{without_first_space, without_last_space}
 use Rattle.markdown_scanners_tree.specs.linklabel.Label.{is_white, white_runs, characters, is_label_content, has_pipe_backslash, in_cell, joined_words, is_plain}
-use Rattle.markdown_scanners_tree.specs.linklabel.private.Pass.{begun, space_len, starts_dropped, new_tally, tally_past_ending, tally_past_space, tally_past_word}
+use Rattle.markdown_scanners_tree.specs.linklabel.private.Pass.{begun, due_len, starts_dropped, word_text, new_tally, tally_past_ending, tally_past_space, tally_past_word}
 use Rattle.markdown_scanners_tree.specs.declared.linklabel.Tally.{Tally}
 use Rattle.markdown_scanners_tree.proofs.linklabel.Runs.{few, few-white_runs, few_at_ending, lone, lone_runs}
 use Rattle.markdown_scanners_tree.proofs.linklabel.Words.{text_from, joined_words-from, lone_outer}
@@ -102,14 +102,11 @@ copied_more source bs seen b ix h = h ∙ sym (append_assoc (bytes_of seen) (b �
 pub white_begins : (b : ℕ) → is_white_space b ≡ true → begun b ≡ 1
 white_begins b w = grind (arith, nat_tests, w)
 
-pub word_len : (w r d : Bool) (b : ℕ) → length (space_of w r ++ cond d [] (b ∷ [])) ≡ space_len w r + cond d 0 1
-word_len w r d b = by (w && r) d
-  where
-    by : (x y : Bool) → length (cond x (32 ∷ []) [] ++ cond y [] (b ∷ [])) ≡ cond x 1 0 + cond y 0 1
-    by true true = refl
-    by true false = refl
-    by false true = refl
-    by false false = refl
+pub word_text-length : (due drops : Bool) (b : ℕ) → length (word_text due drops b) ≡ due_len due + cond drops 0 1
+word_text-length true true b = refl
+word_text-length true false b = refl
+word_text-length false true b = refl
+word_text-length false false b = refl
 
 -- past a byte of a word
 pub Seen-word : (t : Bool) (source : List ℕ) (seen : List KeptByte) (ix b : ℕ) (bs : List ℕ) (y : Tally) → is_white_space b ≡ false → Seen t source seen ix (b ∷ bs) y
@@ -126,7 +123,7 @@ Seen-word t source seen ix b bs y d s =
       copied = λ h. copied_more source bs seen b ix (s.copied h);
       pushed = s.pushed ++ more;
       written = Written-word t seen ix b bs y.has_word y.in_run s.pushed d s.written;
-      length_is = length-append s.pushed more ∙ ap (λ n. n + length more) s.length_is ∙ ap (λ n. y.length + n) (word_len y.has_word y.in_run (starts_dropped t (b ∷ bs)) b) ∙ omega arith;
+      length_is = length-append s.pushed more ∙ ap (λ n. n + length more) s.length_is ∙ ap (λ n. y.length + n) (word_text-length (y.has_word && y.in_run) (starts_dropped t (b ∷ bs)) b) ∙ omega arith;
     }
 
 -- past white space in a line

@@ -1,9 +1,10 @@
 -- What the second pass over a label has written.
-use Rattle.std.proofs.Common.{ℕ, suc, Bool, true, false, ◌&&◌, ◌==◌, List, [], ◌∷◌, ◌++◌, ◌≡◌, ◌≤◌, ◌<◌, ◌+◌, ◌-◌, Some, None, Result, Ok, Err, is_ok, OnOk, refl, sym, ◌∙◌, ap, subst, cond, arith, append_assoc, append-nil, drop, take, get_or, length, length-drop, eqb-true}
+use Rattle.std.proofs.Common.{ℕ, suc, Bool, true, false, ◌==◌, List, [], ◌∷◌, ◌++◌, ◌≡◌, ◌≤◌, ◌<◌, ◌+◌, ◌-◌, Some, None, Result, Ok, Err, is_ok, OnOk, refl, sym, ◌∙◌, ap, subst, cond, arith, append_assoc, append-nil, drop, take, get_or, length, length-drop, eqb-true}
 use Rattle.std.proofs.Math.Seq.{take-suc}
 use Rattle.std.proofs.lemmas.Bool.{and_parts}
 use Rattle.std.proofs.lemmas.List.{get_or-drop}
 use Rattle.std.specs.Str.{IsUtf8, IsCharBoundary}
+use Rattle.markdown_scanners_tree.specs.Ascii.{space}
 use Rattle.markdown_scanners_tree.specs.Kept.{KeptByte, in_line, kept_line}
 use Rattle.markdown_scanners_tree.specs.linklabel.Label.{Label, IsLabel, Bracketed, label_between, is_label_content, in_cell, joined_words, is_plain}
 use Rattle.markdown_scanners_tree.specs.linklabel.private.NextPart.{IsBracket, IsEnding, IsSpace, IsWord}
@@ -39,18 +40,20 @@ pub no_slice : (text : List ℕ) (mark ix : ℕ) → mark ≡ ix → take (ix - 
 no_slice text mark ix e = same_take (drop mark text) (ix - mark) 0 (omega (arith, e))
 
 -- a byte of a word, and the space before it
-pub word_written : (old pushed out out1 out2 slice slice2 space more : List ℕ) → old ++ pushed ≡ out ++ slice → out1 ++ slice ≡ (out ++ slice) ++ space → out2 ++ slice2 ≡ (out1 ++ slice) ++ more → old ++ (pushed ++ (space ++ more)) ≡ out2 ++ slice2
-word_written old pushed out out1 out2 slice slice2 space more e f g =
-    sym (append_assoc old pushed (space ++ more)) ∙ ap (λ z. z ++ (space ++ more)) e ∙ sym (append_assoc (out ++ slice) space more) ∙ ap (λ z. z ++ more) (sym f) ∙ sym g
+pub word_written : (old pushed out new slice slice' more : List ℕ) → old ++ pushed ≡ out ++ slice
+    → new ++ slice' ≡ (out ++ slice) ++ more → old ++ (pushed ++ more) ≡ new ++ slice'
+word_written old pushed out new slice slice' more e f =
+    sym (append_assoc old pushed more) ∙ ap (λ z. z ++ more) e ∙ sym f
 
 -- the text is flushed where white space was read, so a space may follow
-pub space_after : (out out1 slice : List ℕ) (w r : Bool) → out1 ≡ out ++ space_of w r → (r ≡ true → slice ≡ []) → out1 ++ slice ≡ (out ++ slice) ++ space_of w r
-space_after out out1 slice w r e f = ap (λ z. z ++ slice) e ∙ by w r f
+pub space_after : (out new slice : List ℕ) (due : Bool) → new ≡ out ++ cond due (space ∷ []) []
+    → (due ≡ true → slice ≡ []) → new ++ slice ≡ (out ++ slice) ++ cond due (space ∷ []) []
+space_after out new slice due e f = ap (λ z. z ++ slice) e ∙ by due f
   where
-    by : (w r : Bool) → (r ≡ true → slice ≡ []) → (out ++ space_of w r) ++ slice ≡ (out ++ slice) ++ space_of w r
-    by true true f = rw (f refl) (append-nil (out ++ 32 ∷ []) ∙ sym (ap (λ z. z ++ 32 ∷ []) (append-nil out)))
-    by true false f = ap (λ z. z ++ slice) (append-nil out) ∙ sym (append-nil (out ++ slice))
-    by false r f = ap (λ z. z ++ slice) (append-nil out) ∙ sym (append-nil (out ++ slice))
+    by : (v : Bool) → (v ≡ true → slice ≡ [])
+        → (out ++ cond v (32 ∷ []) []) ++ slice ≡ (out ++ slice) ++ cond v (32 ∷ []) []
+    by true f = rw (f refl) (append-nil (out ++ 32 ∷ []) ∙ sym (ap (λ z. z ++ 32 ∷ []) (append-nil out)))
+    by false f = ap (λ z. z ++ slice) (append-nil out) ∙ sym (append-nil (out ++ slice))
 
 pub appended : {E : Type 0} (old out slice new pushed text : List ℕ) (r : Result (Unit {0}) E) → old ++ pushed ≡ out ++ slice → new ≡ cond (is_ok r) (out ++ slice) out → text ≡ pushed → OnOk r (new ≡ old ++ text)
 appended old out slice new pushed text (Ok x) e n f = n ∙ sym e ∙ ap (λ z. old ++ z) (sym f)
@@ -79,32 +82,3 @@ module _ (t : Bool) (seen : List KeptByte) (ix : ℕ) (rest rest' : List ℕ) (w
 -- all is flushed
 pub flushed_out : (text out slice new : List ℕ) (jx : ℕ) → new ≡ out ++ slice → out ++ slice ≡ new ++ take (jx - jx) (drop jx text)
 flushed_out text out slice new jx e = sym e ∙ sym (append-nil new) ∙ ap (λ z. new ++ z) (sym (no_slice text jx jx refl))
-
--- where the text is to be flushed from after a byte of a word
-pub record MarkIs (text : List ℕ) (ix b mark : ℕ) (before out : List ℕ) (drops : Bool) : Type 0 where
-  pub behind : mark ≤ ix + 1
-  pub cut : IsCharBoundary text mark
-  pub same : out ++ take (ix + 1 - mark) (drop mark text) ≡ before ++ cond drops [] (b ∷ [])
-
-module _ (t : Bool) (text : List ℕ) (ix b : ℕ) (bs : List ℕ) (e : drop ix text ≡ b ∷ bs) (mark : ℕ) (out : List ℕ) where
-  pub mark_dropped : (before : List ℕ) → IsUtf8 text → starts_dropped t (drop ix text) ≡ true → mark ≡ ix + 1 → out ≡ before → MarkIs text ix b mark before out (starts_dropped t (drop ix text))
-  mark_dropped before u h m o = record {
-    behind = omega (arith, m);
-    cut = subst (IsCharBoundary text) (sym m) (cut_after_dropped t text ix b bs u e h);
-    same = ap (λ z. out ++ z) (no_slice text mark (ix + 1) m) ∙ append-nil out ∙ o ∙ sym (append-nil before) ∙ ap (λ v. before ++ cond v [] (b ∷ [])) (sym h);
-  }
-
-  pub mark_kept : (old : ℕ) (before : List ℕ) → old ≤ ix → IsCharBoundary text old → starts_dropped t (drop ix text) ≡ false → mark ≡ old → out ≡ before → MarkIs text ix b mark (before ++ take (ix - old) (drop old text)) out (starts_dropped t (drop ix text))
-  mark_kept old before l c h m o = record {
-    behind = omega (arith, m, l);
-    cut = subst (IsCharBoundary text) (sym m) c;
-    same = (λ i. o i ++ take (ix + 1 - m i) (drop (m i) text)) ∙ ap (λ z. before ++ z) (slice_more text old ix b bs l e) ∙ sym (append_assoc before (take (ix - old) (drop old text)) (b ∷ []))
-        ∙ ap (λ v. (before ++ take (ix - old) (drop old text)) ++ cond v [] (b ∷ [])) (sym h);
-  }
-
--- a space is written exactly where one is due
-pub spaced_out : (new out : List ℕ) (w r : Bool) → w ≡ true → r ≡ true → new ≡ out ++ 32 ∷ [] → new ≡ out ++ space_of w r
-spaced_out new out w r e f g = g ∙ (λ i. out ++ space_of (sym e i) (sym f i))
-
-pub not_spaced_out : (new out : List ℕ) (w r : Bool) → (w && r) ≡ false → new ≡ out → new ≡ out ++ space_of w r
-not_spaced_out new out w r e g = g ∙ sym (append-nil out) ∙ ap (λ v. out ++ cond v (32 ∷ []) []) (sym e)
