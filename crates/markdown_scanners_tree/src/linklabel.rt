@@ -10,7 +10,7 @@ ghost use Rattle.markdown_values.specs.strings.Text.{cow_text, IsBorrowed, IsBox
 ghost use Rattle.markdown_scanners_tree.specs.SomeExactly.{SomeExactly};
 ghost use Rattle.markdown_scanners_tree.specs.Handler.{Skips, IsSteadyAtChars};
 ghost use Rattle.markdown_scanners_tree.specs.linklabel.Label.{Label, IsLabel, HasNoLabel, ends_in_backslash, ReadsBack};
-ghost use Rattle.markdown_scanners_tree.specs.linklabel.Answer.{answered_label, is_borrowed, slice_before, without_first_space, without_last_space};
+ghost use Rattle.markdown_scanners_tree.specs.linklabel.Answer.{answered_label, slice_before, without_first_space, without_last_space};
 ghost use Rattle.markdown_scanners_tree.specs.linklabel.private.NextPart.{IsNextPart};
 ghost use Rattle.markdown_scanners_tree.specs.linklabel.Key.{label_key};
 ghost use Rattle.markdown_scanners_tree.specs.linklabel.private.Pass.{begun, space_len, starts_dropped, due_len, IsWordWritten, new_tally, tally_past_ending, tally_past_space, tally_past_word, tally_past_run, IsMeasure};

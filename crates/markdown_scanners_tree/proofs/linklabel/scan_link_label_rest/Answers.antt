@@ -2,9 +2,9 @@
 use Rattle.std.proofs.Common.{◌≡◌, ◌++◌, ◌+◌, ◌-◌, true, false, arith, refl, sym, ◌∙◌, ap, subst, true≢false}
 use Rattle.markdown_values.specs.declared.strings.CowStr.{CowStr}
 use Rattle.markdown_values.specs.declared.strings.CowStr.TheVariants.{Boxed, Borrowed, Inlined}
-use Rattle.markdown_values.specs.strings.Text.{IsBorrowed, IsBoxed}
+use Rattle.markdown_values.specs.strings.Text.{IsBoxed, is_borrowed}
 use Rattle.markdown_scanners_tree.specs.Handler.{Skips}
-use Rattle.markdown_scanners_tree.specs.linklabel.Answer.{is_borrowed, without_first_space, without_last_space}
+use Rattle.markdown_scanners_tree.specs.linklabel.Answer.{without_first_space, without_last_space}
 use Rattle.markdown_scanners_tree.specs.linklabel.Label.{Label, IsLabel}
 use Rattle.markdown_scanners_tree.proofs.linklabel.ReadsBack.{label_reads_back}
 use Rattle.markdown_scanners_tree.proofs.linklabel.Scan.{same_take}
@@ -22,12 +22,7 @@ returns-in_err-write_label-clause-borrowed g c = λ label l plain. (let m = c.in
 pub returns-in_err-write_label-clause-no_label : goal.returns-in_err-write_label-clause-no_label
 returns-in_err-write_label-clause-no_label g c = λ none. (let m = c.in-Some.ensures.found in absurd (none m.label m.is_label))
 
--- a borrowed text and an owned one
-is_borrowed-borrowed : (text : CowStr) → IsBorrowed text → is_borrowed text ≡ true
-is_borrowed-borrowed (Boxed t) b = absurd b
-is_borrowed-borrowed (Borrowed t) b = refl
-is_borrowed-borrowed (Inlined t) b = absurd b
-
+-- an owned text is not borrowed
 is_borrowed-boxed : (text : CowStr) → IsBoxed text → is_borrowed text ≡ false
 is_borrowed-boxed (Boxed t) b = refl
 is_borrowed-boxed (Borrowed t) b = absurd b
@@ -46,7 +41,7 @@ returns-then-measure-clause-found g c =
     let inner = c.range.ensures.value ∙ same_take c.args.text.now (c.in-Some.measure.close - 0) c.in-Some.measure.close (omega arith) in
     let label = c.from.ensures.0 ∙ c.up_to_last_space-label.ensures ∙ ap without_last_space (c.past_first_space.ensures ∙ ap without_first_space inner) in
     let text = label ∙ sym (m.stands (sym m.plain_is ∙ c.if-measure.true)) in
-    let plain = is_borrowed-borrowed _ c.from.ensures.1 ∙ sym c.if-measure.true ∙ m.plain_is in
+    let plain = c.from.ensures.1 ∙ sym c.if-measure.true ∙ m.plain_is in
     subst (λ x. x) (λ i. IsLabel (Skips g.F.Fn c.args.handler.now) c.args.text.now c.args.is_in_table (record { len = sym m.len_is i; text = sym text i; plain = sym plain i })) m.is_label
 
 pub returns-clause-reads_back : goal.returns-clause-reads_back
@@ -73,7 +68,7 @@ returns-then-measure-clause-only g c = λ label l.
     (let m = c.in-Some.ensures.found in
     let inner = c.range.ensures.value ∙ same_take c.args.text.now (c.in-Some.measure.close - 0) c.in-Some.measure.close (omega arith) in
     let text = c.from.ensures.0 ∙ c.up_to_last_space-label.ensures ∙ ap without_last_space (c.past_first_space.ensures ∙ ap without_first_space inner) ∙ sym (m.stands (sym m.plain_is ∙ c.if-measure.true)) in
-    let plain = is_borrowed-borrowed _ c.from.ensures.1 ∙ sym c.if-measure.true ∙ m.plain_is in
+    let plain = c.from.ensures.1 ∙ sym c.if-measure.true ∙ m.plain_is in
     m.only label l ∙ (λ i. record { len = sym m.len_is i; text = sym text i; plain = sym plain i }))
 
 pub returns-clause-within : goal.returns-clause-within
@@ -88,13 +83,8 @@ returns-clause-boundary g c = c.in-Some.ensures.found.behind
 pub returns-then-measure-clause-boundary : goal.returns-then-measure-clause-boundary
 returns-then-measure-clause-boundary g c = c.in-Some.ensures.found.behind
 
-owned_or_borrowed : (text : CowStr) → IsBoxed text → IsBorrowed text → ⊥
-owned_or_borrowed (Boxed t) o b = b
-owned_or_borrowed (Borrowed t) o b = o
-owned_or_borrowed (Inlined t) o b = b
-
 pub returns-clause-slice : goal.returns-clause-slice
-returns-clause-slice g c = λ b. absurd (owned_or_borrowed _ c.in_ok-from_string.ensures.boxed b)
+returns-clause-slice g c = λ b. absurd (true≢false (sym b ∙ is_borrowed-boxed _ c.in_ok-from_string.ensures.boxed))
 
 pub returns-then-measure-clause-slice : goal.returns-then-measure-clause-slice
 returns-then-measure-clause-slice g c = λ _.
