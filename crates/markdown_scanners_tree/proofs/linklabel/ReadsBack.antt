@@ -7,7 +7,7 @@ use Rattle.std.proofs.lemmas.List.Sums.{sum_by-cons}
 use Rattle.std.specs.List.{list_all}
 use Rattle.markdown_scanners_tree.specs.Bytes.{is_line_ending, is_white_space, is_punctuation}
 use Rattle.markdown_scanners_tree.specs.Kept.{KeptByte, in_line, bytes_of, kept_head, kept_text}
-use Rattle.markdown_scanners_tree.specs.linklabel.Label.{Label, IsLabel, Piece, escaped, single, pieces, Bracketed, preceded, bracketed, is_white, white_runs, characters, is_one_space, is_label_content, joined_words, label_between, label_of, ends_in_backslash, ReadsBack}
+use Rattle.markdown_scanners_tree.specs.linklabel.Label.{Label, IsLabel, kept_units, Bracketed, preceded, bracketed, is_white, white_runs, characters, is_one_space, is_label_content, joined_words, label_between, label_of, ends_in_backslash, ReadsBack}
 use Rattle.markdown_scanners_tree.specs.linklabel.private.Pass.{begun, space_len}
 use Rattle.markdown_scanners_tree.proofs.linklabel.Runs.{few, few-white_runs, lone, lone_runs}
 use Rattle.markdown_scanners_tree.proofs.linklabel.Scan.{dark_no_ending}
@@ -58,27 +58,27 @@ clean_escaped : (k l : KeptByte) (b : Option Bracketed) → k.byte ≡ 92 → is
 clean_escaped k l None e p h = refl
 clean_escaped k l (Some b) e p h = rw (e, p) h
 
-clean_pieces : (ks : List KeptByte) → (clean_of false (bracketed (pieces ks)) ≡ true) × (punctuation_next ks ≡ false → clean_of true (bracketed (pieces ks)) ≡ true)
-clean_pieces [] = (refl, λ h. refl)
-clean_pieces (k ∷ []) = one (k.byte == 93) (k.byte == 91) refl refl
+clean_units : (ks : List KeptByte) → (clean_of false (bracketed (kept_units ks)) ≡ true) × (punctuation_next ks ≡ false → clean_of true (bracketed (kept_units ks)) ≡ true)
+clean_units [] = (refl, λ h. refl)
+clean_units (k ∷ []) = one (k.byte == 93) (k.byte == 91) refl refl
   where
     one : (x y : Bool) → (k.byte == 93) ≡ x → (k.byte == 91) ≡ y → (clean_of false (cond x (Some (record { content = []; close = k.place })) (cond y None (preceded (k ∷ []) None))) ≡ true) × (is_punctuation k.byte ≡ false → clean_of true (cond x (Some (record { content = []; close = k.place })) (cond y None (preceded (k ∷ []) None))) ≡ true)
     one true y e f = (refl, λ h. refl)
     one false true e f = (refl, λ h. refl)
     one false false e f = (refl, λ h. refl)
-clean_pieces (k ∷ l ∷ ks) = by (k.byte == 92 && is_punctuation l.byte) refl (clean_pieces ks).0 (clean_pieces (l ∷ ks))
+clean_units (k ∷ l ∷ ks) = by (k.byte == 92 && is_punctuation l.byte) refl (clean_units ks).0 (clean_units (l ∷ ks))
   where
     one : (b : Option Bracketed) → clean_of false b ≡ true → ((k.byte == 92) ≡ true → clean_of true b ≡ true) → (x y : Bool) → (k.byte == 93) ≡ x → (k.byte == 91) ≡ y → (clean_of false (cond x (Some (record { content = []; close = k.place })) (cond y None (preceded (k ∷ []) b))) ≡ true) × (is_punctuation k.byte ≡ false → clean_of true (cond x (Some (record { content = []; close = k.place })) (cond y None (preceded (k ∷ []) b))) ≡ true)
     one b h f true y c o = (refl, λ h. refl)
     one b h f false true c o = (refl, λ h. refl)
     one b h f false false c o = (clean_single false k b c o h f refl, λ p. clean_single true k b c o h f p)
 
-    by : (v : Bool) → (k.byte == 92 && is_punctuation l.byte) ≡ v → clean_of false (bracketed (pieces ks)) ≡ true → (clean_of false (bracketed (pieces (l ∷ ks))) ≡ true) × (is_punctuation l.byte ≡ false → clean_of true (bracketed (pieces (l ∷ ks))) ≡ true)
-        → (clean_of false (bracketed (cond v (escaped k l ∷ pieces ks) (single k ∷ pieces (l ∷ ks)))) ≡ true) × (is_punctuation k.byte ≡ false → clean_of true (bracketed (cond v (escaped k l ∷ pieces ks) (single k ∷ pieces (l ∷ ks)))) ≡ true)
+    by : (v : Bool) → (k.byte == 92 && is_punctuation l.byte) ≡ v → clean_of false (bracketed (kept_units ks)) ≡ true → (clean_of false (bracketed (kept_units (l ∷ ks))) ≡ true) × (is_punctuation l.byte ≡ false → clean_of true (bracketed (kept_units (l ∷ ks))) ≡ true)
+        → (clean_of false (bracketed (cond v ((k ∷ l ∷ []) ∷ kept_units ks) ((k ∷ []) ∷ kept_units (l ∷ ks)))) ≡ true) × (is_punctuation k.byte ≡ false → clean_of true (bracketed (cond v ((k ∷ l ∷ []) ∷ kept_units ks) ((k ∷ []) ∷ kept_units (l ∷ ks)))) ≡ true)
     by true e h g =
         let backslash : k.byte ≡ 92 = eqb-true k.byte 92 (and_parts (k.byte == 92) _ e).0 in
-        (clean_escaped k l (bracketed (pieces ks)) backslash (and_parts (k.byte == 92) _ e).1 h, λ p. absurd (true≢false (sym (ap is_punctuation backslash) ∙ p)))
-    by false e h g = one (bracketed (pieces (l ∷ ks))) g.0 (λ s. g.1 (ap (λ v. v && is_punctuation l.byte) (sym s) ∙ e)) (k.byte == 93) (k.byte == 91) refl refl
+        (clean_escaped k l (bracketed (kept_units ks)) backslash (and_parts (k.byte == 92) _ e).1 h, λ p. absurd (true≢false (sym (ap is_punctuation backslash) ∙ p)))
+    by false e h g = one (bracketed (kept_units (l ∷ ks))) g.0 (λ s. g.1 (ap (λ v. v && is_punctuation l.byte) (sym s) ∙ e)) (k.byte == 93) (k.byte == 91) refl refl
 
 -- and so is the text that it makes: before a word, in one, and after one
 abbrev CleanText : List KeptByte → Type 0
@@ -114,10 +114,10 @@ ends_later c (b ∷ bs) h = h
 
 -- a clean text that ends in no backslash stands whole before the bracket
 module _ (end : KeptByte) (bracket : end.byte ≡ 93) where
-  at_end : bracketed (pieces (end ∷ [])) ≡ Some (record { content = []; close = end.place })
+  at_end : bracketed (kept_units (end ∷ [])) ≡ Some (record { content = []; close = end.place })
   at_end = rw bracket refl
 
-  whole_single : (k : KeptByte) (ps : List Piece) (content : List KeptByte) → (k.byte == 93) ≡ false → (k.byte == 91) ≡ false → bracketed ps ≡ Some (record { content = content; close = end.place }) → bracketed (single k ∷ ps) ≡ Some (record { content = k ∷ content; close = end.place })
+  whole_single : (k : KeptByte) (ps : List (List KeptByte)) (content : List KeptByte) → (k.byte == 93) ≡ false → (k.byte == 91) ≡ false → bracketed ps ≡ Some (record { content = content; close = end.place }) → bracketed ((k ∷ []) ∷ ps) ≡ Some (record { content = k ∷ content; close = end.place })
   whole_single k ps content c o h = rw (c, o) (ap (preceded (k ∷ [])) h)
 
   no_brackets : (b : ℕ) (bs : List ℕ) → clean false (b ∷ bs) ≡ true → ((b == 93) ≡ false) × ((b == 91) ≡ false)
@@ -135,19 +135,19 @@ module _ (end : KeptByte) (bracket : end.byte ≡ 93) where
       by true e h = sym (clean_dark c bs e true) ∙ h
       by false e h = (and_parts (not (b == 93 || b == 91)) _ h).1
 
-  whole : (p : ℕ) (text : List ℕ) → clean false text ≡ true → ends_in_backslash text ≡ false → bracketed (pieces (placed p text ++ end ∷ [])) ≡ Some (record { content = placed p text; close = end.place })
+  whole : (p : ℕ) (text : List ℕ) → clean false text ≡ true → ends_in_backslash text ≡ false → bracketed (kept_units (placed p text ++ end ∷ [])) ≡ Some (record { content = placed p text; close = end.place })
   whole p [] h e = at_end
-  whole p (b ∷ []) h e = (let n = no_brackets b [] h in rw e (whole_single (in_line b p) (pieces (end ∷ [])) [] n.0 n.1 at_end))
+  whole p (b ∷ []) h e = (let n = no_brackets b [] h in rw e (whole_single (in_line b p) (kept_units (end ∷ [])) [] n.0 n.1 at_end))
   whole p (b ∷ c ∷ bs) h e = by (b == 92 && is_punctuation c) refl (λ x. whole (p + 1 + 1) bs x (ends_later c bs e)) (λ x. whole (p + 1) (c ∷ bs) x e)
     where
       by : (v : Bool) → (b == 92 && is_punctuation c) ≡ v
-          → (clean false bs ≡ true → bracketed (pieces (placed (p + 1 + 1) bs ++ end ∷ [])) ≡ Some (record { content = placed (p + 1 + 1) bs; close = end.place }))
-          → (clean false (c ∷ bs) ≡ true → bracketed (pieces (placed (p + 1) (c ∷ bs) ++ end ∷ [])) ≡ Some (record { content = placed (p + 1) (c ∷ bs); close = end.place }))
-          → bracketed (cond v (escaped (in_line b p) (in_line c (p + 1)) ∷ pieces (placed (p + 1 + 1) bs ++ end ∷ [])) (single (in_line b p) ∷ pieces (placed (p + 1) (c ∷ bs) ++ end ∷ []))) ≡ Some (record { content = placed p (b ∷ c ∷ bs); close = end.place })
+          → (clean false bs ≡ true → bracketed (kept_units (placed (p + 1 + 1) bs ++ end ∷ [])) ≡ Some (record { content = placed (p + 1 + 1) bs; close = end.place }))
+          → (clean false (c ∷ bs) ≡ true → bracketed (kept_units (placed (p + 1) (c ∷ bs) ++ end ∷ [])) ≡ Some (record { content = placed (p + 1) (c ∷ bs); close = end.place }))
+          → bracketed (cond v ((in_line b p ∷ in_line c (p + 1) ∷ []) ∷ kept_units (placed (p + 1 + 1) bs ++ end ∷ [])) ((in_line b p ∷ []) ∷ kept_units (placed (p + 1) (c ∷ bs) ++ end ∷ []))) ≡ Some (record { content = placed p (b ∷ c ∷ bs); close = end.place })
       by true x f g =
           let parts = and_parts (b == 92) (is_punctuation c) x in
           ap (preceded (in_line b p ∷ in_line c (p + 1) ∷ [])) (f (sym (λ i. cond (parts.0 i) (cond (parts.1 i) (clean false bs) (cond (c == 92) (clean true bs) (not (c == 93 || c == 91) && clean false bs))) (not (b == 93 || b == 91) && clean false (c ∷ bs))) ∙ h))
-      by false x f g = (let n = no_brackets b (c ∷ bs) h in whole_single (in_line b p) (pieces (placed (p + 1) (c ∷ bs) ++ end ∷ [])) (placed (p + 1) (c ∷ bs)) n.0 n.1 (g (past_single b c bs x h)))
+      by false x f g = (let n = no_brackets b (c ∷ bs) h in whole_single (in_line b p) (kept_units (placed (p + 1) (c ∷ bs) ++ end ∷ [])) (placed (p + 1) (c ∷ bs)) n.0 n.1 (g (past_single b c bs x h)))
 
 -- the text read again, from each state in which it was written
 pub record IsAgain (w r : Bool) (ks : List KeptByte) (p : ℕ) : Type 0 where
@@ -249,14 +249,14 @@ module _ (ks : List KeptByte) (content : is_label_content ks ≡ true) where
       let n : 0 + length text + 1 ≡ length text + 1 = omega arith in record {
         skips = [];
         answered = tt;
-        label_is = ap (λ z. label_between false (bracketed (pieces z))) again_kept
+        label_is = ap (λ z. label_between false (bracketed (kept_units z))) again_kept
             ∙ ap (label_between false) (whole (in_line 93 (0 + length text)) refl 0 text cleaned e)
             ∙ rw again_content (λ i. Some (record { len = n i; text = again_text i; plain = again_plain i && true }));
       }
 
 -- the label of a kept text reads back
 reads_back : (kept : List KeptByte) (label : Label) → label_of false kept ≡ Some label → ends_in_backslash label.text ≡ false → ReadsBack label.text
-reads_back kept label h e = of (bracketed (pieces kept)) (clean_pieces kept).0 h
+reads_back kept label h e = of (bracketed (kept_units kept)) (clean_units kept).0 h
   where
     made : (b : Bracketed) (v : Bool) → is_label_content b.content ≡ v → clean false (bytes_of b.content) ≡ true → cond v (Some (record { len = b.close + 1; text = joined_words b.content; plain = list_all is_one_space (white_runs b.content) && true })) None ≡ Some label → ReadsBack label.text
     made b true c k g = (let t : joined_words b.content ≡ label.text = cc in subst ReadsBack t (content_reads_back b.content c k (ap ends_in_backslash t ∙ e)))

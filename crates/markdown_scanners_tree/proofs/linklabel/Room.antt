@@ -2,7 +2,7 @@
 use Rattle.std.proofs.Common.{ℕ, Bool, true, false, ◌&&◌, ◌==◌, List, [], ◌∷◌, ◌++◌, ◌≡◌, ◌≤◌, ◌<◌, ◌+◌, Option, Some, None, refl, sym, ◌∙◌, ap, cond, arith, drop, length, length-append, true≢false, eqb-true}
 use Rattle.markdown_scanners_tree.specs.Bytes.{is_line_ending, is_punctuation}
 use Rattle.markdown_scanners_tree.specs.Kept.{KeptByte, in_line, kept_head, line_len, kept_from, AreSkips}
-use Rattle.markdown_scanners_tree.specs.linklabel.Label.{Label, IsLabel, escaped, single, pieces, Bracketed, preceded, bracketed, label_between, pipe_at, in_cell}
+use Rattle.markdown_scanners_tree.specs.linklabel.Label.{Label, IsLabel, kept_units, Bracketed, preceded, bracketed, label_between, pipe_at, in_cell}
 use Rattle.markdown_scanners_tree.proofs.KeptStep.{kept_from-in_line}
 use Rattle.markdown_scanners_tree.proofs.linklabel.Cells.{Follows, follows_byte, gap_of_line}
 use Rattle.markdown_scanners_tree.proofs.linklabel.Scan.{IsAt}
@@ -28,7 +28,7 @@ closing_no_pipe k ix e = ap (λ b. b == 124 && k.place == ix) (eqb-true k.byte 9
 -- and so does what stands before the bracket
 content_first : (e : Bool) (ix : ℕ) (kept : List KeptByte) (b : Bracketed) → bracketed_after e kept ≡ Some b → pipe_at ix b.content ≡ pipe_at ix kept
 content_first true ix [] b h = cc
-content_first true ix (k ∷ ks) b h = by (bracketed (pieces ks)) h
+content_first true ix (k ∷ ks) b h = by (bracketed (kept_units ks)) h
   where
     by : (o : Option Bracketed) → preceded (k ∷ []) o ≡ Some b → pipe_at ix b.content ≡ (k.byte == 124 && k.place == ix)
     by None g = cc
@@ -51,9 +51,9 @@ content_first false ix (k ∷ l ∷ ks) b h = by (k.byte == 92 && is_punctuation
     one o false e true g = cc
     one o false e false g = more o [] g
 
-    by : (v : Bool) → bracketed (cond v (escaped k l ∷ pieces ks) (single k ∷ pieces (l ∷ ks))) ≡ Some b → pipe_at ix b.content ≡ (k.byte == 124 && k.place == ix)
-    by true g = more (bracketed (pieces ks)) (l ∷ []) g
-    by false g = one (bracketed (pieces (l ∷ ks))) (k.byte == 93) refl (k.byte == 91) g
+    by : (v : Bool) → bracketed (cond v ((k ∷ l ∷ []) ∷ kept_units ks) ((k ∷ []) ∷ kept_units (l ∷ ks))) ≡ Some b → pipe_at ix b.content ≡ (k.byte == 124 && k.place == ix)
+    by true g = more (bracketed (kept_units ks)) (l ∷ []) g
+    by false g = one (bracketed (kept_units (l ∷ ks))) (k.byte == 93) refl (k.byte == 91) g
 
 -- what was written is a prefix of the label's text
 pub pushed_fits : (a : List ℕ → ℕ → Type 0) (source : List ℕ) (t e : Bool) (seen : List KeptByte) (ix : ℕ) (rest : List ℕ) (w r : Bool) (pushed : List ℕ)

@@ -10,7 +10,7 @@ use Rattle.std.specs.Str.{IsUtf8, IsCharBoundary}
 use Rattle.markdown_scanners_tree.specs.Bytes.{begins_with, is_line_ending, is_white_space, is_punctuation}
 use Rattle.markdown_scanners_tree.specs.Ascii.{left_bracket, right_bracket}
 use Rattle.markdown_scanners_tree.specs.Kept.{KeptByte, in_line, kept_line, line_len, return_len, kept_from, kept_text, AreSkips}
-use Rattle.markdown_scanners_tree.specs.linklabel.Label.{Label, IsLabel, label_between, preceded, Bracketed, bracketed, pieces, is_label_content}
+use Rattle.markdown_scanners_tree.specs.linklabel.Label.{Label, IsLabel, label_between, preceded, Bracketed, bracketed, kept_units, is_label_content}
 use Rattle.markdown_scanners_tree.specs.linklabel.private.NextPart.{IsBracket, IsEnding, IsSpace, IsWord, IsNextPart}
 use Rattle.markdown_scanners_tree.specs.linklabel.private.Pass.{starts_dropped, tally_past_ending, tally_past_space, tally_past_word}
 use Rattle.markdown_scanners_tree.specs.declared.linklabel.NextPart.{NextPart}
@@ -49,8 +49,8 @@ dark_no_ending b h = grind (arith, nat_tests, h)
 module _ (a : List ℕ → ℕ → Type 0) (source : List ℕ) where
   pub at_start : IsAt a source false [] 0 source
   at_start = record {
-    ahead = λ t label h. record { skips = h.skips; answered = h.answered; label_is = ap (label_between t) (preceded-nil (bracketed (pieces (kept_text source h.skips)))) ∙ h.label_is };
-    back = λ t label h. record { skips = h.skips; answered = h.answered; label_is = sym (ap (label_between t) (preceded-nil (bracketed (pieces (kept_text source h.skips))))) ∙ h.label_is };
+    ahead = λ t label h. record { skips = h.skips; answered = h.answered; label_is = ap (label_between t) (preceded-nil (bracketed (kept_units (kept_text source h.skips)))) ∙ h.label_is };
+    back = λ t label h. record { skips = h.skips; answered = h.answered; label_is = sym (ap (label_between t) (preceded-nil (bracketed (kept_units (kept_text source h.skips))))) ∙ h.label_is };
     escapes = λ h. absurd (true≢false (sym h));
   }
 
@@ -130,7 +130,7 @@ module _ (a : List ℕ → ℕ → Type 0) (source : List ℕ) where
 
           by : (skips : List ℕ) → AreSkips a (h.byte ∷ h.others) skips → label_from false t seen ix (h.byte ∷ h.others) skips ≡ Some label → ⊥
           by [] k e = cc (rw h.ends at e)
-          by (m ∷ ms) k e = after (bracketed (pieces (kept_from (ix + (line_len (h.byte ∷ h.others) + m)) (drop (line_len (h.byte ∷ h.others) + m) (h.byte ∷ h.others)) ms)))
+          by (m ∷ ms) k e = after (bracketed (kept_units (kept_from (ix + (line_len (h.byte ∷ h.others) + m)) (drop (line_len (h.byte ∷ h.others) + m) (h.byte ∷ h.others)) ms)))
               (sym (ending_seen a t seen ix h.byte h.others label h.ends (kept_from (ix + (line_len (h.byte ∷ h.others) + m)) (drop (line_len (h.byte ∷ h.others) + m) (h.byte ∷ h.others)) ms)) ∙ e)
 
       pub none_at_second_ending : (t : Bool) (y : Tally) → y.has_ending ≡ true → Seen t source seen ix rest y → (label : Label) → IsLabel a source t label → ⊥

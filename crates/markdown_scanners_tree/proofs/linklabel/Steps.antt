@@ -4,7 +4,7 @@ use Rattle.markdown_scanners_tree.specs.Bytes.{begins_with, is_line_ending, is_p
 use Rattle.markdown_scanners_tree.specs.Kept.{KeptByte, in_line, at_line_end, kept_head, kept_line, kept_return, line_len, kept_from, AreSkips}
 use Rattle.markdown_scanners_tree.proofs.KeptStep.{kept_from-in_line, AreSkips-in_line}
 use Rattle.std.proofs.lemmas.Bool.{and_parts}
-use Rattle.markdown_scanners_tree.specs.linklabel.Label.{Piece, escaped, single, pieces, Bracketed, preceded, bracketed, Label, label_between}
+use Rattle.markdown_scanners_tree.specs.linklabel.Label.{kept_units, Bracketed, preceded, bracketed, Label, label_between}
 
 -- whether the first kept byte is punctuation
 abbrev pub punctuation_next : List KeptByte → Bool
@@ -29,15 +29,15 @@ next_from_first a p [] (k ∷ ks) s h = absurd (true≢false (sym s.0))
 next_from_first a p (b ∷ bs) [] s h = elim (is_line_ending b) as (λ v. punctuation_next (cond v [] (in_line b p ∷ kept_head (p + 1) bs)) ≡ false) [ true ↦ refl | false ↦ h ]
 next_from_first a p (b ∷ bs) (k ∷ ks) s h = line_not_punctuation p b bs _ h
 
--- a byte that is no backslash before punctuation is a piece
-pub pieces-single : (k : KeptByte) (ks : List KeptByte) → (k.byte == 92 && punctuation_next ks) ≡ false → pieces (k ∷ ks) ≡ single k ∷ pieces ks
-pieces-single k [] h = refl
-pieces-single k (l ∷ ks) h = rw h refl
+-- a byte that is no backslash before punctuation is a unit
+pub kept_units-single : (k : KeptByte) (ks : List KeptByte) → (k.byte == 92 && punctuation_next ks) ≡ false → kept_units (k ∷ ks) ≡ (k ∷ []) ∷ kept_units ks
+kept_units-single k [] h = refl
+kept_units-single k (l ∷ ks) h = rw h refl
 
-pub pieces-escaped : (k l : KeptByte) (ks : List KeptByte) → k.byte ≡ 92 → is_punctuation l.byte ≡ true → pieces (k ∷ l ∷ ks) ≡ escaped k l ∷ pieces ks
-pieces-escaped k l ks e h = rw (e, h) refl
+pub kept_units-escaped : (k l : KeptByte) (ks : List KeptByte) → k.byte ≡ 92 → is_punctuation l.byte ≡ true → kept_units (k ∷ l ∷ ks) ≡ (k ∷ l ∷ []) ∷ kept_units ks
+kept_units-escaped k l ks e h = rw (e, h) refl
 
-pub bracketed-single : (k : KeptByte) (ps : List Piece) → (k.byte == 93) ≡ false → (k.byte == 91) ≡ false → bracketed (single k ∷ ps) ≡ preceded (k ∷ []) (bracketed ps)
+pub bracketed-single : (k : KeptByte) (ps : List (List KeptByte)) → (k.byte == 93) ≡ false → (k.byte == 91) ≡ false → bracketed ((k ∷ []) ∷ ps) ≡ preceded (k ∷ []) (bracketed ps)
 bracketed-single k ps a b = rw (a, b) refl
 
 pub preceded-preceded : (xs ys : List KeptByte) (b : Option Bracketed) → preceded xs (preceded ys b) ≡ preceded (xs ++ ys) b
@@ -46,9 +46,9 @@ preceded-preceded xs ys (Some b) = rw append_assoc refl
 
 -- what stands before the bracket, where the first byte may be escaped
 abbrev pub bracketed_after : Bool → List KeptByte → Option Bracketed
-bracketed_after false ks = bracketed (pieces ks)
+bracketed_after false ks = bracketed (kept_units ks)
 bracketed_after true [] = None
-bracketed_after true (k ∷ ks) = preceded (k ∷ []) (bracketed (pieces ks))
+bracketed_after true (k ∷ ks) = preceded (k ∷ []) (bracketed (kept_units ks))
 
 -- what a label's rest makes of it, after what was seen
 abbrev pub label_from : Bool → Bool → List KeptByte → ℕ → List ℕ → List ℕ → Option Label
@@ -61,10 +61,10 @@ pub record Goes (a : List ℕ → ℕ → Type 0) (e t : Bool) (seen : List Kept
   pub label_is : label_from e t seen p bs skips ≡ Some label
 
 seen_more : (t : Bool) (seen : List KeptByte) (k : KeptByte) (ks : List KeptByte) → (k.byte == 92 && punctuation_next ks) ≡ false → (k.byte == 93) ≡ false → (k.byte == 91) ≡ false
-    → label_between t (preceded seen (bracketed (pieces (k ∷ ks)))) ≡ label_between t (preceded (seen ++ k ∷ []) (bracketed (pieces ks)))
-seen_more t seen k ks e c o = ap (λ ps. label_between t (preceded seen (bracketed ps))) (pieces-single k ks e)
-    ∙ ap (λ b. label_between t (preceded seen b)) (bracketed-single k (pieces ks) c o)
-    ∙ ap (label_between t) (preceded-preceded seen (k ∷ []) (bracketed (pieces ks)))
+    → label_between t (preceded seen (bracketed (kept_units (k ∷ ks)))) ≡ label_between t (preceded (seen ++ k ∷ []) (bracketed (kept_units ks)))
+seen_more t seen k ks e c o = ap (λ ps. label_between t (preceded seen (bracketed ps))) (kept_units-single k ks e)
+    ∙ ap (λ b. label_between t (preceded seen b)) (bracketed-single k (kept_units ks) c o)
+    ∙ ap (label_between t) (preceded-preceded seen (k ∷ []) (bracketed (kept_units ks)))
 
 no_escape : (a : List ℕ → ℕ → Type 0) (p b : ℕ) (bs skips : List ℕ) → AreSkips a bs skips → (b == 92 && begins_with is_punctuation bs) ≡ false → (b == 92 && punctuation_next (kept_from p bs skips)) ≡ false
 no_escape a p b bs skips s h = elim (b == 92) as (λ v. (v && begins_with is_punctuation bs) ≡ false → (v && punctuation_next (kept_from p bs skips)) ≡ false) [ true ↦ λ g. next_from_first a p bs skips s g | false ↦ λ g. refl ] h
@@ -91,10 +91,10 @@ escaping t seen p (c ∷ cs) skips h =
     let l = in_line c (p + 1) in
     let ks = kept_from (p + 1 + 1) cs skips in
     let next : kept_from (p + 1) (c ∷ cs) skips ≡ l ∷ ks = kept_from-in_line (p + 1) c cs skips (not_ending-punctuation c h) in
-    ap (λ zs. label_between t (preceded seen (bracketed (pieces zs)))) (kept_from-in_line p 92 (c ∷ cs) skips refl ∙ ap (λ zs. k ∷ zs) next)
-    ∙ ap (λ ps. label_between t (preceded seen (bracketed ps))) (pieces-escaped k l ks refl h)
-    ∙ ap (λ b. label_between t (preceded seen b)) (sym (preceded-preceded (k ∷ []) (l ∷ []) (bracketed (pieces ks))))
-    ∙ ap (label_between t) (preceded-preceded seen (k ∷ []) (preceded (l ∷ []) (bracketed (pieces ks))))
+    ap (λ zs. label_between t (preceded seen (bracketed (kept_units zs)))) (kept_from-in_line p 92 (c ∷ cs) skips refl ∙ ap (λ zs. k ∷ zs) next)
+    ∙ ap (λ ps. label_between t (preceded seen (bracketed ps))) (kept_units-escaped k l ks refl h)
+    ∙ ap (λ b. label_between t (preceded seen b)) (sym (preceded-preceded (k ∷ []) (l ∷ []) (bracketed (kept_units ks))))
+    ∙ ap (label_between t) (preceded-preceded seen (k ∷ []) (preceded (l ∷ []) (bracketed (kept_units ks))))
     ∙ ap (λ zs. label_between t (preceded (seen ++ k ∷ []) (bracketed_after true zs))) (sym next)
 
 -- past a byte of a line that is no single bracket
@@ -108,12 +108,12 @@ module _ (a : List ℕ → ℕ → Type 0) (e t : Bool) (seen : List KeptByte) (
     where
       single : (c : (b == 93) ≡ false) (o : (b == 91) ≡ false) (v : Bool) → (b == 92 && begins_with is_punctuation bs) ≡ v → label_from false t seen p (b ∷ bs) skips ≡ label_from v t (seen ++ in_line b p ∷ []) (p + 1) bs skips
       single c o true h = subst (λ n. label_from false t seen p (n ∷ bs) skips ≡ label_from true t (seen ++ in_line n p ∷ []) (p + 1) bs skips) (sym (eqb-true b 92 (and_parts (b == 92) _ h).0)) (escaping t seen p bs skips (and_parts (b == 92) _ h).1)
-      single c o false h = ap (λ ks. label_between t (preceded seen (bracketed (pieces ks)))) (kept_from-in_line p b bs skips plain)
+      single c o false h = ap (λ ks. label_between t (preceded seen (bracketed (kept_units ks)))) (kept_from-in_line p b bs skips plain)
           ∙ seen_more t seen (in_line b p) (kept_from (p + 1) bs skips) (no_escape a (p + 1) b bs skips s h) c o
 
       by : (e : Bool) → (e ≡ false → (b == 93) ≡ false) → (e ≡ false → (b == 91) ≡ false) → label_from e t seen p (b ∷ bs) skips ≡ label_from (not e && (b == 92 && begins_with is_punctuation bs)) t (seen ++ in_line b p ∷ []) (p + 1) bs skips
       by true c o = ap (λ ks. label_between t (preceded seen (bracketed_after true ks))) (kept_from-in_line p b bs skips plain)
-          ∙ ap (label_between t) (preceded-preceded seen (in_line b p ∷ []) (bracketed (pieces (kept_from (p + 1) bs skips))))
+          ∙ ap (label_between t) (preceded-preceded seen (in_line b p ∷ []) (bracketed (kept_units (kept_from (p + 1) bs skips))))
       by false c o = single (c refl) (o refl) (b == 92 && begins_with is_punctuation bs) refl
 
   pub past_byte : Goes a e t seen p (b ∷ bs) label → Goes a after_byte t (seen ++ in_line b p ∷ []) (p + 1) bs label
@@ -135,10 +135,10 @@ module _ (a : List ℕ → ℕ → Type 0) (t : Bool) (seen : List KeptByte) (p 
       by e (k ∷ ks) s h = true≢false (sym s.0)
 
   pub no_label_at_opening : (bs : List ℕ) → Goes a false t seen p (91 ∷ bs) label → ⊥
-  no_label_at_opening bs g = nothing (sym (ap (λ ks. label_between t (preceded seen (bracketed (pieces ks)))) (kept_from-in_line p 91 bs g.skips refl) ∙ ap (λ ps. label_between t (preceded seen (bracketed ps))) (pieces-single (in_line 91 p) _ refl)) ∙ g.label_is)
+  no_label_at_opening bs g = nothing (sym (ap (λ ks. label_between t (preceded seen (bracketed (kept_units ks)))) (kept_from-in_line p 91 bs g.skips refl) ∙ ap (λ ps. label_between t (preceded seen (bracketed ps))) (kept_units-single (in_line 91 p) _ refl)) ∙ g.label_is)
 
   closing : (bs skips : List ℕ) → label_from false t seen p (93 ∷ bs) skips ≡ label_between t (Some (record { content = seen; close = p }))
-  closing bs skips = ap (λ ks. label_between t (preceded seen (bracketed (pieces ks)))) (kept_from-in_line p 93 bs skips refl) ∙ ap (λ ps. label_between t (preceded seen (bracketed ps))) (pieces-single (in_line 93 p) _ refl)
+  closing bs skips = ap (λ ks. label_between t (preceded seen (bracketed (kept_units ks)))) (kept_from-in_line p 93 bs skips refl) ∙ ap (λ ps. label_between t (preceded seen (bracketed ps))) (kept_units-single (in_line 93 p) _ refl)
       ∙ ap (λ c. label_between t (Some (record { content = c; close = p }))) (append-nil seen)
 
   -- at the closing bracket the label is that of what was seen
@@ -148,24 +148,24 @@ module _ (a : List ℕ → ℕ → Type 0) (t : Bool) (seen : List KeptByte) (p 
   pub closing_label : (bs : List ℕ) → label_between t (Some (record { content = seen; close = p })) ≡ Some label → Goes a false t seen p (93 ∷ bs) label
   closing_label bs e = record { skips = []; answered = tt; label_is = closing bs [] ∙ e }
 
-return_seen : (t : Bool) (seen : List KeptByte) (p : ℕ) (bs : List ℕ) (ks : List KeptByte) → label_between t (preceded seen (bracketed (pieces (kept_return p bs ++ ks)))) ≡ label_between t (preceded (seen ++ kept_return p bs) (bracketed (pieces ks)))
+return_seen : (t : Bool) (seen : List KeptByte) (p : ℕ) (bs : List ℕ) (ks : List KeptByte) → label_between t (preceded seen (bracketed (kept_units (kept_return p bs ++ ks)))) ≡ label_between t (preceded (seen ++ kept_return p bs) (bracketed (kept_units ks)))
 return_seen t seen p [] ks = seen_more t seen (at_line_end 13 p) ks refl refl refl
 return_seen t seen p (b ∷ bs) ks =
-    elim (b == 10) as (λ v. label_between t (preceded seen (bracketed (pieces (cond v (in_line 13 p ∷ at_line_end 10 (p + 1) ∷ []) (at_line_end 13 p ∷ []) ++ ks)))) ≡ label_between t (preceded (seen ++ cond v (in_line 13 p ∷ at_line_end 10 (p + 1) ∷ []) (at_line_end 13 p ∷ [])) (bracketed (pieces ks)))) [
+    elim (b == 10) as (λ v. label_between t (preceded seen (bracketed (kept_units (cond v (in_line 13 p ∷ at_line_end 10 (p + 1) ∷ []) (at_line_end 13 p ∷ []) ++ ks)))) ≡ label_between t (preceded (seen ++ cond v (in_line 13 p ∷ at_line_end 10 (p + 1) ∷ []) (at_line_end 13 p ∷ [])) (bracketed (kept_units ks)))) [
       | true ↦ seen_more t seen (in_line 13 p) (at_line_end 10 (p + 1) ∷ ks) refl refl refl
           ∙ seen_more t (seen ++ in_line 13 p ∷ []) (at_line_end 10 (p + 1)) ks refl refl refl
-          ∙ ap (λ c. label_between t (preceded c (bracketed (pieces ks)))) (append_assoc seen (in_line 13 p ∷ []) (at_line_end 10 (p + 1) ∷ []))
+          ∙ ap (λ c. label_between t (preceded c (bracketed (kept_units ks)))) (append_assoc seen (in_line 13 p ∷ []) (at_line_end 10 (p + 1) ∷ []))
       | false ↦ seen_more t seen (at_line_end 13 p) ks refl refl refl
     ]
 
 -- past a line ending
 module _ (a : List ℕ → ℕ → Type 0) (t : Bool) (seen : List KeptByte) (p b : ℕ) (bs : List ℕ) (label : Label) (ends : is_line_ending b ≡ true) where
-  pub ending_seen : (ks : List KeptByte) → label_between t (preceded seen (bracketed (pieces (kept_line p (b ∷ bs) ++ ks)))) ≡ label_between t (preceded (seen ++ kept_line p (b ∷ bs)) (bracketed (pieces ks)))
+  pub ending_seen : (ks : List KeptByte) → label_between t (preceded seen (bracketed (kept_units (kept_line p (b ∷ bs) ++ ks)))) ≡ label_between t (preceded (seen ++ kept_line p (b ∷ bs)) (bracketed (kept_units ks)))
   ending_seen ks = by (b == 10) (b == 13) (eqb-true b 10) (eqb-true b 13) ends
     where
       by : (x y : Bool) → (x ≡ true → b ≡ 10) → (y ≡ true → b ≡ 13) → (x || y) ≡ true
-          → label_between t (preceded seen (bracketed (pieces (cond x (at_line_end b p ∷ []) (cond y (kept_return p bs) (in_line b p ∷ kept_line (p + 1) bs)) ++ ks))))
-          ≡ label_between t (preceded (seen ++ cond x (at_line_end b p ∷ []) (cond y (kept_return p bs) (in_line b p ∷ kept_line (p + 1) bs))) (bracketed (pieces ks)))
+          → label_between t (preceded seen (bracketed (kept_units (cond x (at_line_end b p ∷ []) (cond y (kept_return p bs) (in_line b p ∷ kept_line (p + 1) bs)) ++ ks))))
+          ≡ label_between t (preceded (seen ++ cond x (at_line_end b p ∷ []) (cond y (kept_return p bs) (in_line b p ∷ kept_line (p + 1) bs))) (bracketed (kept_units ks)))
       by true y f g h = let e = f refl in seen_more t seen (at_line_end b p) ks (rw e refl) (rw e refl) (rw e refl)
       by false true f g h = return_seen t seen p bs ks
       by false false f g h = absurd (true≢false (sym h))
