@@ -10,8 +10,8 @@ use Rattle.markdown_scanners_tree.specs.linklabel.Label.{Label, IsLabel, label_b
 use Rattle.markdown_scanners_tree.specs.linklabel.private.NextPart.{IsBracket}
 use Rattle.markdown_scanners_tree.specs.linklabel.private.Pass.{IsMeasure}
 use Rattle.markdown_scanners_tree.specs.declared.linklabel.Tally.{Tally}
-use Rattle.markdown_scanners_tree.proofs.linklabel.Scan.{IsAt, at_closing, from_closing, none_at_closing, cut_before, cut_after}
-use Rattle.markdown_scanners_tree.proofs.linklabel.Seen.{Seen, content_of_seen, plain_of_seen, length_of_seen, stands_in_source}
+use Rattle.markdown_scanners_tree.proofs.linklabel.SourceSteps.{IsAt, at_closing, from_closing, none_at_closing, cut_before, cut_after}
+use Rattle.markdown_scanners_tree.proofs.linklabel.SeenBytes.{Seen, content_of_seen, plain_of_seen, length_of_seen, stands_in_source}
 
 same_some : (x y : Label) → Some x ≡ Some y → x ≡ y
 same_some x y e = cc

@@ -9,11 +9,11 @@ use Rattle.markdown_scanners_tree.specs.Bytes.{is_line_ending, is_white_space, i
 use Rattle.markdown_scanners_tree.specs.Kept.{KeptByte, in_line, bytes_of, kept_head, kept_text}
 use Rattle.markdown_scanners_tree.specs.linklabel.Label.{Label, IsLabel, kept_units, Bracketed, preceded, bracketed, is_white, white_runs, characters, is_one_space, is_label_content, joined_words, label_between, label_of, ends_in_backslash, ReadsBack}
 use Rattle.markdown_scanners_tree.specs.linklabel.private.Pass.{begun, space_len}
-use Rattle.markdown_scanners_tree.proofs.linklabel.Runs.{few, few-white_runs, lone, lone_runs}
-use Rattle.markdown_scanners_tree.proofs.linklabel.Scan.{dark_no_ending}
-use Rattle.markdown_scanners_tree.proofs.linklabel.Seen.{white_begins}
-use Rattle.markdown_scanners_tree.proofs.linklabel.Steps.{punctuation_next}
-use Rattle.markdown_scanners_tree.proofs.linklabel.Words.{text_from, joined_words-from}
+use Rattle.markdown_scanners_tree.proofs.linklabel.WhiteRuns.{few, few-white_runs, lone, lone_runs}
+use Rattle.markdown_scanners_tree.proofs.linklabel.SourceSteps.{dark_no_ending}
+use Rattle.markdown_scanners_tree.proofs.linklabel.SeenBytes.{white_begins}
+use Rattle.markdown_scanners_tree.proofs.linklabel.KeptTextSteps.{punctuation_next}
+use Rattle.markdown_scanners_tree.proofs.linklabel.JoinedWords.{text_from, joined_words-from}
 
 -- no bracket stands single, where the first byte is or is not escaped
 abbrev clean : Bool → List ℕ → Bool
@@ -150,7 +150,7 @@ module _ (end : KeptByte) (bracket : end.byte ≡ 93) where
       by false x f g = (let n = no_brackets b (c ∷ bs) h in whole_single (in_line b p) (kept_units (placed (p + 1) (c ∷ bs) ++ end ∷ [])) (placed (p + 1) (c ∷ bs)) n.0 n.1 (g (past_single b c bs x h)))
 
 -- the text read again, from each state in which it was written
-pub record IsAgain (w r : Bool) (ks : List KeptByte) (p : ℕ) : Type 0 where
+record IsAgain (w r : Bool) (ks : List KeptByte) (p : ℕ) : Type 0 where
   pub text : text_from w false (placed p (text_from w r ks)) ≡ text_from w r ks
   pub lone_again : lone false (placed p (text_from w r ks)) ≡ true
   pub few_again : few false (placed p (text_from w r ks)) ≡ true
@@ -242,7 +242,7 @@ module _ (ks : List KeptByte) (content : is_label_content ks ≡ true) where
   again_kept : kept_head 0 (joined_words ks ++ 93 ∷ []) ≡ placed 0 (joined_words ks) ++ in_line 93 (0 + length (joined_words ks)) ∷ []
   again_kept = kept_whole 0 (joined_words ks) (subst (λ z. list_all (λ b. not (is_line_ending b)) z ≡ true) (sym (joined_words-from ks)) (again ks false false 0).in_line_again)
 
-  pub content_reads_back : clean false (bytes_of ks) ≡ true → ends_in_backslash (joined_words ks) ≡ false → ReadsBack (joined_words ks)
+  content_reads_back : clean false (bytes_of ks) ≡ true → ends_in_backslash (joined_words ks) ≡ false → ReadsBack (joined_words ks)
   content_reads_back h e =
       let text = joined_words ks in
       let cleaned : clean false text ≡ true = subst (λ z. clean false z ≡ true) (sym (joined_words-from ks)) ((clean_text ks).0 false h) in

@@ -7,7 +7,7 @@ abbrev read : Bool → List ℕ → List ℕ → Option Label
 read t s skips = label_of t (kept_text s skips)
 
 -- "«\t\tBlurry Eyes\t\t»]" is 20
-pub row_a : read false (194 ∷ 171 ∷ 9 ∷ 9 ∷ codes "Blurry Eyes" ++ 9 ∷ 9 ∷ 194 ∷ 187 ∷ 93 ∷ []) [] ≡ Some (record { len = 20; text = 194 ∷ 171 ∷ codes " Blurry Eyes " ++ 194 ∷ 187 ∷ []; plain = false })
+row_a : read false (194 ∷ 171 ∷ 9 ∷ 9 ∷ codes "Blurry Eyes" ++ 9 ∷ 9 ∷ 194 ∷ 187 ∷ 93 ∷ []) [] ≡ Some (record { len = 20; text = 194 ∷ 171 ∷ codes " Blurry Eyes " ++ 194 ∷ 187 ∷ []; plain = false })
 row_a = refl
 
 -- a\ ]

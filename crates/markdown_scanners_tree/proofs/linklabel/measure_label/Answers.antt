@@ -10,9 +10,9 @@ use Rattle.markdown_scanners_tree.specs.linklabel.private.Pass.{IsMeasure, space
 use Rattle.markdown_scanners_tree.specs.linklabel.private.Run.{IsRun}
 use Rattle.markdown_scanners_tree.specs.declared.linklabel.NextPart.TheVariants.{End, Open, Close, Ending, Space, Word}
 use Rattle.markdown_scanners_tree.proofs.linklabel.MeasureLemmas.{measured, not_measured}
-use Rattle.markdown_scanners_tree.proofs.linklabel.RunSteps.{past_run}
-use Rattle.markdown_scanners_tree.proofs.linklabel.Scan.{IsAt, IsOnlySkip, at_start, none_at_end, none_at_opening, none_at_ending, none_at_second_ending, none_at_late_ending, none_so_late, after_word, after_space, after_ending, next_part_at, rest_is, ending_fits, byte_fits, byte_rest, cut_after_ending, told_word, told_space, told_ending}
-use Rattle.markdown_scanners_tree.proofs.linklabel.Seen.{Seen, Seen-none}
+use Rattle.markdown_scanners_tree.proofs.linklabel.WordRunSteps.{past_run}
+use Rattle.markdown_scanners_tree.proofs.linklabel.SourceSteps.{IsAt, IsOnlySkip, at_start, none_at_end, none_at_opening, none_at_ending, none_at_second_ending, none_at_late_ending, none_so_late, after_word, after_space, after_ending, next_part_at, rest_is, ending_fits, byte_fits, byte_rest, cut_after_ending, told_word, told_space, told_ending}
+use Rattle.markdown_scanners_tree.proofs.linklabel.SeenBytes.{Seen, Seen-none}
 use Rattle.markdown_scanners_tree.proofs.linklabel.measure_label.Goals as goal
 use Rattle.markdown_scanners_tree.proofs.linklabel.measure_label.Goals.{then-tally-2-via-then-tally-2, then-tally-2-via-else-tally-2+then-tally-len-gt-MOST_CHARACTERS}
 

@@ -2,8 +2,8 @@ use Rattle.std.proofs.Common.{length, ◌-◌, ◌≤◌, ◌+◌, List, drop}
 use Rattle.markdown_scanners_tree.specs.Kept.{KeptByte}
 use Rattle.markdown_scanners_tree.specs.Handler.{Skips}
 use Rattle.markdown_scanners_tree.specs.linklabel.private.Pass.{space_len}
-use Rattle.markdown_scanners_tree.proofs.linklabel.Scan.{IsAt}
-use Rattle.markdown_scanners_tree.proofs.linklabel.Seen.{Seen}
+use Rattle.markdown_scanners_tree.proofs.linklabel.SourceSteps.{IsAt}
+use Rattle.markdown_scanners_tree.proofs.linklabel.SeenBytes.{Seen}
 use Rattle.markdown_scanners_tree.proofs.linklabel.measure_label.Given as goal
 
 abbrev pub invariant-loop-tally : goal.invariant-loop-tally

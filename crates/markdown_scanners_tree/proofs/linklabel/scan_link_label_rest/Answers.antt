@@ -1,5 +1,5 @@
 -- The two passes together.
-use Rattle.std.proofs.Common.{◌≡◌, ◌++◌, ◌+◌, ◌-◌, true, false, arith, refl, sym, ◌∙◌, ap, subst, true≢false}
+use Rattle.std.proofs.Common.{◌≡◌, ◌++◌, ◌+◌, ◌-◌, false, arith, refl, sym, ◌∙◌, ap, subst, true≢false}
 use Rattle.markdown_values.specs.declared.strings.CowStr.{CowStr}
 use Rattle.markdown_values.specs.declared.strings.CowStr.TheVariants.{Boxed, Borrowed, Inlined}
 use Rattle.markdown_values.specs.strings.Text.{IsBoxed, is_borrowed}
@@ -7,7 +7,7 @@ use Rattle.markdown_scanners_tree.specs.Handler.{Skips}
 use Rattle.markdown_scanners_tree.specs.linklabel.Answer.{without_first_space, without_last_space}
 use Rattle.markdown_scanners_tree.specs.linklabel.Label.{Label, IsLabel}
 use Rattle.markdown_scanners_tree.proofs.linklabel.ReadsBack.{label_reads_back}
-use Rattle.markdown_scanners_tree.proofs.linklabel.Scan.{same_take}
+use Rattle.markdown_scanners_tree.proofs.linklabel.SourceSteps.{same_take}
 use Rattle.markdown_scanners_tree.proofs.linklabel.scan_link_label_rest.Goals as goal
 
 pub returns-in_err-label-clause-borrowed : goal.returns-in_err-label-clause-borrowed

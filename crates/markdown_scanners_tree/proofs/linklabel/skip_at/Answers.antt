@@ -5,7 +5,7 @@ use Rattle.std.specs.Fn.{FnReturnsAt}
 use Rattle.std.specs.Str.{IsUtf8, IsCharBoundary}
 use Rattle.markdown_scanners_tree.specs.SomeExactly.{SomeExactly}
 use Rattle.markdown_scanners_tree.specs.Handler.{Skips}
-use Rattle.markdown_scanners_tree.proofs.linklabel.Scan.{rest_is}
+use Rattle.markdown_scanners_tree.proofs.linklabel.SourceSteps.{rest_is}
 use Rattle.markdown_scanners_tree.proofs.linklabel.skip_at.Goals as goal
 
 some-same : (m n : ℕ) → Some m ≡ Some n → m ≡ n

@@ -11,10 +11,10 @@ use Rattle.markdown_scanners_tree.specs.Kept.{in_line, kept_line}
 use Rattle.markdown_scanners_tree.specs.linklabel.private.NextPart.{IsNextPart}
 use Rattle.markdown_scanners_tree.specs.linklabel.private.Pass.{due_len, starts_dropped, word_text, IsWordWritten}
 use Rattle.markdown_scanners_tree.specs.declared.linklabel.NextPart.TheVariants.{End, Open, Close, Ending, Space, Word}
-use Rattle.markdown_scanners_tree.proofs.linklabel.Room.{pushed_fits, no_room}
-use Rattle.markdown_scanners_tree.proofs.linklabel.Scan.{IsAt, IsOnlySkip, at_start, none_at_end, none_at_opening, none_at_ending, after_word, after_space, after_ending, next_part_at, byte_fits, byte_rest, cut_after, cut_after_ending, white_small, byte_at}
-use Rattle.markdown_scanners_tree.proofs.linklabel.Seen.{Written-none, word_text-length}
-use Rattle.markdown_scanners_tree.proofs.linklabel.Writing.{label_written, word_written, appended, ending_written, space_written, word_follows, flushed_out}
+use Rattle.markdown_scanners_tree.proofs.linklabel.WrittenFits.{pushed_fits, no_room}
+use Rattle.markdown_scanners_tree.proofs.linklabel.SourceSteps.{IsAt, IsOnlySkip, at_start, none_at_end, none_at_opening, none_at_ending, after_word, after_space, after_ending, next_part_at, byte_fits, byte_rest, cut_after, cut_after_ending, white_small, byte_at}
+use Rattle.markdown_scanners_tree.proofs.linklabel.SeenBytes.{Written-none, word_text-length}
+use Rattle.markdown_scanners_tree.proofs.linklabel.WriteLemmas.{label_written, word_written, appended, ending_written, space_written, word_follows, flushed_out}
 use Rattle.markdown_scanners_tree.proofs.linklabel.write_label.Goals as goal
 use Rattle.markdown_scanners_tree.proofs.linklabel.write_label.Goals.{then-has_word, else-has_word}
 

@@ -6,9 +6,9 @@ use Rattle.std.specs.Str.{IsUtf8, IsCharBoundary}
 use Rattle.std.specs.String.{string_bytes, string_len}
 use Rattle.markdown_scanners_tree.specs.Ascii.{space}
 use Rattle.markdown_scanners_tree.specs.linklabel.private.Pass.{due_len, starts_dropped, word_text, IsWordWritten}
-use Rattle.markdown_scanners_tree.proofs.linklabel.Scan.{rest_is}
-use Rattle.markdown_scanners_tree.proofs.linklabel.Seen.{word_text-length}
-use Rattle.markdown_scanners_tree.proofs.linklabel.Writing.{cut_after_dropped, no_slice, slice_more, space_after}
+use Rattle.markdown_scanners_tree.proofs.linklabel.SourceSteps.{rest_is}
+use Rattle.markdown_scanners_tree.proofs.linklabel.SeenBytes.{word_text-length}
+use Rattle.markdown_scanners_tree.proofs.linklabel.WriteLemmas.{cut_after_dropped, no_slice, slice_more, space_after}
 use Rattle.markdown_scanners_tree.proofs.linklabel.write_word.Goals as goal
 use Rattle.markdown_scanners_tree.proofs.linklabel.write_word.Goals.{then-is_space_due+in_ok-push_str, else-is_space_due}
 

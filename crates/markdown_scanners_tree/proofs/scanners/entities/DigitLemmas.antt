@@ -20,7 +20,7 @@ prefix_digits radix (b ∷ bs) =
     ]
 
 -- a semicolon ends the digits at the front
-pub digits_end : (radix : ℕ) (ds rest : List ℕ) → radix ≤ 36 → AllDigits radix ds → prefix_len (λ b. is_digit b radix) (ds ++ semicolon ∷ rest) ≡ length ds
+digits_end : (radix : ℕ) (ds rest : List ℕ) → radix ≤ 36 → AllDigits radix ds → prefix_len (λ b. is_digit b radix) (ds ++ semicolon ∷ rest) ≡ length ds
 digits_end radix [] rest low a = rw (le-ltb 36 radix low) refl
 digits_end radix (d ∷ ds) rest low a = rw (lt-ltb (digit_value d) radix a.0, digits_end radix ds rest low a.1) (omega arith)
 

@@ -13,7 +13,7 @@ use Rattle.markdown_scanners_tree.specs.scanners.entities.private.Digits.{Starts
 use Rattle.markdown_scanners_tree.specs.scanners.entities.CharacterReference.{Lookup, referenced_char, marks_hexadecimal, StartsWithReference, IsDecimalReference, IsHexadecimalReference, IsEntityReference}
 
 -- a number at the front begins with a digit
-pub number_first : (radix limit : ℕ) (bytes : List ℕ) (n number : ℕ) → StartsWithNumber radix limit bytes n number → digit_value (get_or bytes 0 0) < radix
+number_first : (radix limit : ℕ) (bytes : List ℕ) (n number : ℕ) → StartsWithNumber radix limit bytes n number → digit_value (get_or bytes 0 0) < radix
 number_first radix limit bytes n number is = first radix is.digits is.rest bytes is.splits is.digits_only is.at_least_one where
   first : (radix : ℕ) (digits rest bytes : List ℕ) → bytes ≡ digits ++ semicolon ∷ rest → AllDigits radix digits → 1 ≤ length digits → digit_value (get_or bytes 0 0) < radix
   first radix [] rest bytes e a one = absurd (omega (arith, one))
@@ -156,7 +156,7 @@ entity_ended known (a ∷ bs) n meaning some same is =
     }
 
 -- a reference at the front is of one of the three kinds at its places
-pub kinds_at : (known : Lookup) (bytes : List ℕ) (n : ℕ) (meaning : List ℕ) → StartsWithReference known bytes n meaning
+kinds_at : (known : Lookup) (bytes : List ℕ) (n : ℕ) (meaning : List ℕ) → StartsWithReference known bytes n meaning
     → IsDecimalAt bytes meaning ⊎ (IsHexadecimalAt bytes meaning ⊎ IsEntityAt known bytes meaning)
 kinds_at known bytes n meaning is = elim is.is_reference [
   | inl decimal ↦ inl (decimal_at bytes is.source is.rest meaning is.splits decimal)

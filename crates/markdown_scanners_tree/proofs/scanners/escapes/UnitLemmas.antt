@@ -6,15 +6,15 @@ use Rattle.std.proofs.lemmas.Bool.{ne_eqb}
 use Rattle.markdown_scanners_tree.specs.Ascii.{backslash}
 use Rattle.markdown_scanners_tree.specs.scanners.Escapes.{units, starts_escape}
 
-pub units_single : (b : ℕ) (bs : List ℕ) → starts_escape (b ∷ bs) ≡ false → units (b ∷ bs) ≡ (b ∷ []) ∷ units bs
+units_single : (b : ℕ) (bs : List ℕ) → starts_escape (b ∷ bs) ≡ false → units (b ∷ bs) ≡ (b ∷ []) ∷ units bs
 units_single b [] no' = refl
 units_single b (c ∷ bs) no' = rw no' refl
 
-pub units_escape : (b c : ℕ) (bs : List ℕ) → starts_escape (b ∷ c ∷ bs) ≡ true → units (b ∷ c ∷ bs) ≡ (b ∷ c ∷ []) ∷ units bs
+units_escape : (b c : ℕ) (bs : List ℕ) → starts_escape (b ∷ c ∷ bs) ≡ true → units (b ∷ c ∷ bs) ≡ (b ∷ c ∷ []) ∷ units bs
 units_escape b c bs yes' = rw yes' refl
 
 -- the same at a place
-pub drop_at_place : (bs : List ℕ) (i : ℕ) → i < length bs → drop i bs ≡ get_or bs i 0 ∷ drop (i + 1) bs
+drop_at_place : (bs : List ℕ) (i : ℕ) → i < length bs → drop i bs ≡ get_or bs i 0 ∷ drop (i + 1) bs
 drop_at_place bs i l = drop-cons bs i 0 l ∙ ap (λ k. get_or bs i 0 ∷ drop k bs) (sym (add-one i))
 
 pub units_single_at : (bs : List ℕ) (i : ℕ) → i < length bs → starts_escape (drop i bs) ≡ false → units (drop i bs) ≡ (get_or bs i 0 ∷ []) ∷ units (drop (i + 1) bs)

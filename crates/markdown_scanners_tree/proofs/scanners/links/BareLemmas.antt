@@ -16,20 +16,20 @@ use Rattle.markdown_scanners_tree.specs.scanners.links.LinkDestination.{is_singl
 abbrev pub Turns : List ℕ → ℕ → ℕ → Type 0
 Turns u d d' = d' + closing_count (u ∷ []) ≡ d + opening_count (u ∷ [])
 
-pub opening-cons : (u : List ℕ) (us : List (List ℕ)) → opening_count (u ∷ us) ≡ opening_count (u ∷ []) + opening_count us
+opening-cons : (u : List ℕ) (us : List (List ℕ)) → opening_count (u ∷ us) ≡ opening_count (u ∷ []) + opening_count us
 opening-cons u us =
     let e : opening_count (u ∷ us) ≡ cond (is_single left_parenthesis u) 1 0 + opening_count us = sum_by-cons (λ x. cond (is_single left_parenthesis x) 1 0) u us in
     let one : opening_count (u ∷ []) ≡ 0 + cond (is_single left_parenthesis u) 1 0 = refl in
     omega (arith, e, one)
 
-pub closing-cons : (u : List ℕ) (us : List (List ℕ)) → closing_count (u ∷ us) ≡ closing_count (u ∷ []) + closing_count us
+closing-cons : (u : List ℕ) (us : List (List ℕ)) → closing_count (u ∷ us) ≡ closing_count (u ∷ []) + closing_count us
 closing-cons u us =
     let e : closing_count (u ∷ us) ≡ cond (is_single right_parenthesis u) 1 0 + closing_count us = sum_by-cons (λ x. cond (is_single right_parenthesis x) 1 0) u us in
     let one : closing_count (u ∷ []) ≡ 0 + cond (is_single right_parenthesis u) 1 0 = refl in
     omega (arith, e, one)
 
 -- a balanced list with one more unit at its front
-pub balanced_on : (most d d' : ℕ) (u : List ℕ) (us : List (List ℕ)) → Turns u d d' → d ≤ most → IsBalanced most d' us → IsBalanced most d (u ∷ us)
+balanced_on : (most d d' : ℕ) (u : List ℕ) (us : List (List ℕ)) → Turns u d d' → d ≤ most → IsBalanced most d' us → IsBalanced most d (u ∷ us)
 balanced_on most d d' u us turns low is = record {
   never_below = below;
   never_above = above;
@@ -134,7 +134,7 @@ bare_here most t ends = record {
   above (suc k) = omega arith
 
 -- the text ends, or with a byte that is neither in a destination nor `)`, while a parenthesis is open: no destination
-pub left_open : (most d n : ℕ) (t : List ℕ) → 0 < d → stands_bare (head_of (units t)) ≡ false → IsBareFrom most d t n → ⊥
+left_open : (most d n : ℕ) (t : List ℕ) → 0 < d → stands_bare (head_of (units t)) ≡ false → IsBareFrom most d t n → ⊥
 left_open most d n t open' stop is = go is.inner is.splits is.each_stands is.balanced where
   go : (inner : List (List ℕ)) → units t ≡ inner ++ is.more → list_all stands_bare inner ≡ true → IsBalanced most d inner → ⊥
   go [] splits made balanced = absurd (omega (arith, balanced.closed, open'))
@@ -149,7 +149,7 @@ pub record IsBareSoFar (most depth i : ℕ) (bytes : List ℕ) : Type 0 where
   pub back : (n : ℕ) → IsBareFrom most 0 bytes n → (m : ℕ) × (n ≡ i + m) × IsBareFrom most depth (drop i bytes) m
 
 -- one more unit
-pub so_far_more : (most d d' i j : ℕ) (bytes u : List ℕ) → IsBareSoFar most d i bytes → units (drop i bytes) ≡ u ∷ units (drop j bytes) → j ≡ i + length u
+so_far_more : (most d d' i j : ℕ) (bytes u : List ℕ) → IsBareSoFar most d i bytes → units (drop i bytes) ≡ u ∷ units (drop j bytes) → j ≡ i + length u
     → j ≤ length bytes → stands_bare u ≡ true → Turns u d d' → d' ≤ most → IsBareSoFar most d' j bytes
 so_far_more most d d' i j bytes u is first long in' stands turns low = record {
   within = in';
@@ -162,7 +162,7 @@ so_far_more most d d' i j bytes u is first long in' stands turns low = record {
 }
 
 -- whether the byte ends a destination behind d open parentheses
-abbrev pub ends_at : ℕ → ℕ → Bool
+abbrev ends_at : ℕ → ℕ → Bool
 ends_at b d = leb b space || (eqb b right_parenthesis && eqb d 0)
 
 -- such a byte, and one that is above space and closes an open parenthesis or is none
@@ -178,7 +178,7 @@ no_end b d high opened = false_from_ne_true (ends_at b d) (λ ends. elim (or_cas
   | inr close ↦ let both = and_parts (eqb b right_parenthesis) (eqb d 0) close in opened (eqb-true b right_parenthesis both.0) (eqb-true d 0 both.1)
 ])
 
-pub goes_on : (b d : ℕ) → ends_at b d ≡ false → (stands_bare (b ∷ []) ≡ true) × (b ≡ right_parenthesis → d ≡ 0 → ⊥)
+goes_on : (b d : ℕ) → ends_at b d ≡ false → (stands_bare (b ∷ []) ≡ true) × (b ≡ right_parenthesis → d ≡ 0 → ⊥)
 goes_on b d e =
     let parts = or_parts (leb b space) (eqb b right_parenthesis && eqb d 0) e in
     (lt-ltb space b (omega (arith, leb-false b space parts.0)), λ close none. false≢true (sym parts.1 ∙ and_from (eqb b right_parenthesis) (eqb d 0) (eq-eqb b right_parenthesis close) (eq-eqb d 0 none)))
@@ -206,11 +206,11 @@ so_far_single most d d' i bytes is in' plain on turns low =
 abbrev pub IsStop : List ℕ → ℕ → ℕ → Type 0
 IsStop bytes i d = (length bytes ≤ i) ⊎ ((i < length bytes) × (ends_at (get_or bytes i 0) d ≡ true))
 
-pub stop_plain : (bytes : List ℕ) (i d : ℕ) → i < length bytes → ends_at (get_or bytes i 0) d ≡ true → starts_escape (drop i bytes) ≡ false
+stop_plain : (bytes : List ℕ) (i d : ℕ) → i < length bytes → ends_at (get_or bytes i 0) d ≡ true → starts_escape (drop i bytes) ≡ false
 stop_plain bytes i d in' ends = plain_byte bytes i in' (λ is.
     false≢true (ap (λ b. ends_at b d) (sym is) ∙ ends))
 
-pub stop_ends : (bytes : List ℕ) (i d : ℕ) → IsStop bytes i d → ends_bare (units (drop i bytes)) ≡ true
+stop_ends : (bytes : List ℕ) (i d : ℕ) → IsStop bytes i d → ends_bare (units (drop i bytes)) ≡ true
 stop_ends bytes i d is = elim is [
   | inl past ↦ ap (λ t. ends_bare (units t)) (drop_all i bytes past)
   | inr at ↦ ap ends_bare (units_single_at bytes i at.0 (stop_plain bytes i d at.0 at.1)) ∙ weaker (get_or bytes i 0) d at.1

@@ -55,7 +55,7 @@ pointed_escape i bytes is in' escape =
     pointed_more i (i + 2) bytes (get_or bytes i 0 ∷ get_or bytes (i + 1) 0 ∷ []) is (units_escape_at bytes i in' escape) refl in' refl (λ e. absurd (omega (arith, ap length e)))
 
 -- the bytes that can't stand there
-abbrev pub refuses : ℕ → Bool
+abbrev refuses : ℕ → Bool
 refuses b = is_line_ending b || b == less_than_sign
 
 stands : (b : ℕ) → refuses b ≡ false → b ≢ greater_than_sign → stands_pointed (b ∷ []) ≡ true

@@ -12,26 +12,26 @@ use Rattle.markdown_scanners_tree.specs.scanners.unescaping.private.FirstPiece.{
 use Rattle.markdown_scanners_tree.proofs.scanners.escapes.UnitLemmas.{plain_byte}
 use Rattle.markdown_scanners_tree.proofs.scanners.entities.ReferenceUnique.{same_source, same_meaning}
 
-pub no_pipe : (t : Bool) (text : List ℕ) → (t && starts_pipe text) ≡ false → ¬ Fits (IsTablePipe t) text
+no_pipe : (t : Bool) (text : List ℕ) → (t && starts_pipe text) ≡ false → ¬ Fits (IsTablePipe t) text
 no_pipe t text none fits =
     let whole : text ≡ backslash ∷ backslash ∷ vertical_line ∷ fits.1 = fits.3 ∙ ap (λ s. s ++ fits.1) fits.4.1 in
     false≢true (sym none ∙ and_from t (starts_pipe text) fits.4.0 (ap starts_pipe whole))
 
-pub no_escape : (text : List ℕ) → starts_escape text ≡ false → ¬ Fits IsBackslashEscape text
+no_escape : (text : List ℕ) → starts_escape text ≡ false → ¬ Fits IsBackslashEscape text
 no_escape text none fits =
     let whole : text ≡ backslash ∷ fits.4.0 ∷ fits.1 = fits.3 ∙ ap (λ s. s ++ fits.1) fits.4.2 in
     false≢true (sym none ∙ (ap starts_escape whole ∙ fits.4.1))
 
-pub no_reference : (known : Lookup) (text : List ℕ) → ((n : ℕ) (meaning : List ℕ) → ¬ StartsWithAmpersandReference known text n meaning) → ¬ Fits (IsAmpersandReference known) text
+no_reference : (known : Lookup) (text : List ℕ) → ((n : ℕ) (meaning : List ℕ) → ¬ StartsWithAmpersandReference known text n meaning) → ¬ Fits (IsAmpersandReference known) text
 no_reference known text none fits =
     let at : get_or text 0 0 ≡ ampersand = ap (λ x. get_or x 0 0) (fits.3 ∙ ap (λ s. s ++ fits.1) fits.4.1) in
     none (length fits.0) fits.2 (at, record { source = fits.0; rest = fits.1; splits = fits.3; n_is_length = refl; is_reference = fits.4.2 })
 
-pub no_return : (text : List ℕ) → get_or text 0 0 ≢ carriage_return → ¬ Fits IsDroppedReturn text
+no_return : (text : List ℕ) → get_or text 0 0 ≢ carriage_return → ¬ Fits IsDroppedReturn text
 no_return text none fits = none (ap (λ x. get_or x 0 0) (fits.3 ∙ ap (λ s. s ++ fits.1) fits.4.0))
 
 -- two bytes or more are no byte that means itself
-pub not_itself : (source meaning : List ℕ) → 2 ≤ length source → ¬ IsItself source meaning
+not_itself : (source meaning : List ℕ) → 2 ≤ length source → ¬ IsItself source meaning
 not_itself source meaning long is = absurd (omega (arith, long, ap length is.1))
 
 pub pipe_piece : (t : Bool) (known : Lookup) (text : List ℕ) → t ≡ true → starts_pipe text ≡ true → IsFirstPiece t known text 3 2 []
@@ -78,7 +78,7 @@ escape_piece t known (a ∷ p ∷ rest) none starts =
       to_ascii = λ _. omega (arith, a92);
     }
 
-pub return_piece : (t : Bool) (known : Lookup) (text : List ℕ) → 0 < length text → (t && starts_pipe text) ≡ false → starts_escape text ≡ false
+return_piece : (t : Bool) (known : Lookup) (text : List ℕ) → 0 < length text → (t && starts_pipe text) ≡ false → starts_escape text ≡ false
     → ((n : ℕ) (meaning : List ℕ) → ¬ StartsWithAmpersandReference known text n meaning) → get_or text 0 0 ≡ carriage_return → IsFirstPiece t known text 1 1 []
 return_piece t known [] some none1 none2 none3 at = absurd (omega (arith, some))
 return_piece t known (b ∷ rest) some none1 none2 none3 at = record {
@@ -133,7 +133,7 @@ pub lone_piece : (t : Bool) (known : Lookup) (text : List ℕ) → 0 < length te
 lone_piece t known text some no' no_cr none =
     itself_piece t known text some (and_right t (starts_pipe text) (no_pipe_byte text no')) (no_escape_byte text no') none no_cr
 
-pub plain_piece : (t : Bool) (known : Lookup) (text : List ℕ) → 0 < length text → begins_change (get_or text 0 0) ≡ false → IsFirstPiece t known text 1 0 []
+plain_piece : (t : Bool) (known : Lookup) (text : List ℕ) → 0 < length text → begins_change (get_or text 0 0) ≡ false → IsFirstPiece t known text 1 0 []
 plain_piece t known text some plain =
     let b = get_or text 0 0 in
     let front = or_parts (eqb b backslash || eqb b ampersand) (eqb b carriage_return) plain in
@@ -142,7 +142,7 @@ plain_piece t known text some plain =
     (λ n meaning starts. false≢true (sym two.1 ∙ eq-eqb b ampersand starts.0))
 
 -- a reference is a byte, some bytes and a semicolon
-pub reference_shape : (known : Lookup) (source meaning : List ℕ) → IsReference known source meaning → (opener : ℕ) × (body : List ℕ) × (source ≡ opener ∷ (body ++ semicolon ∷ []))
+reference_shape : (known : Lookup) (source meaning : List ℕ) → IsReference known source meaning → (opener : ℕ) × (body : List ℕ) × (source ≡ opener ∷ (body ++ semicolon ∷ []))
 reference_shape known source meaning is = elim is [
   | inl decimal ↦ (decimal.opener, number_sign ∷ decimal.digits, decimal.spelled)
   | inr other ↦ elim other [
@@ -151,7 +151,7 @@ reference_shape known source meaning is = elim is [
   ]
 ]
 
-pub reference_piece : (t : Bool) (known : Lookup) (text : List ℕ) (n : ℕ) (meaning : List ℕ) → (t && starts_pipe text) ≡ false → starts_escape text ≡ false
+reference_piece : (t : Bool) (known : Lookup) (text : List ℕ) (n : ℕ) (meaning : List ℕ) → (t && starts_pipe text) ≡ false → starts_escape text ≡ false
     → StartsWithAmpersandReference known text n meaning → IsFirstPiece t known text n n meaning
 reference_piece t known text n meaning none1 none2 starts =
     let is = starts.1 in
@@ -212,7 +212,7 @@ escape_size t known text zero is = inl (refl, refl, lone_plain t known text is)
 escape_size t known text (suc d) is = inr ([], record { first = is; some = omega arith }, refl)
 
 -- the same source with the same meaning
-abbrev pub IsSame : List ℕ → List ℕ → List ℕ → List ℕ → Type 0
+abbrev IsSame : List ℕ → List ℕ → List ℕ → List ℕ → Type 0
 IsSame source meaning source' meaning' = (source ≡ source') × (meaning ≡ meaning')
 
 -- a relation of sources and meanings fits in one way at most

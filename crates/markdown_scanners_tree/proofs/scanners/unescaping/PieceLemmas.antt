@@ -25,10 +25,10 @@ module _ (in_table : Bool) (known : Lookup) (text : List ℕ) (i n dropped : ℕ
   source_is = sym (ap (take n) is.splits ∙ take_at is.piece.source is.rest n (sym is.n_is_length))
 
   -- the pieces after it, with it
-  pub one_more : (qs : List Piece) → ArePieces in_table known (drop (i + n) text) qs → ArePieces in_table known (drop i text) (is.piece ∷ qs)
+  one_more : (qs : List Piece) → ArePieces in_table known (drop (i + n) text) qs → ArePieces in_table known (drop i text) (is.piece ∷ qs)
   one_more qs are = (is.rest, is.splits, is.first, subst (λ r. ArePieces in_table known r qs) after_first are)
 
-  pub first_within : i ≤ length text → i + n ≤ length text
+  first_within : i ≤ length text → i + n ≤ length text
   first_within in' = omega (arith, is.n_is_length, ap length is.splits, length-append is.piece.source is.rest, length-drop i text, in')
 
   -- where it is changed, the text may be cut after what is dropped of it
@@ -82,7 +82,7 @@ counted_more : (i dropped inserted total n d l m inserted' : ℕ) → dropped �
     → min ((i + n - (dropped + d)) + inserted') (2 ^ 64 - 1) ≡ min (total + m) (2 ^ 64 - 1)
 counted_more i dropped inserted total n d l m inserted' in' in'' long so_far more = omega (arith, in', in'', long, so_far, more)
 
-pub measured_more : (in_table : Bool) (known : Lookup) (text : List ℕ) (i n d : ℕ) (instead : List ℕ) (dropped inserted inserted' : ℕ) → IsMeasured in_table known text i dropped inserted
+measured_more : (in_table : Bool) (known : Lookup) (text : List ℕ) (i n d : ℕ) (instead : List ℕ) (dropped inserted inserted' : ℕ) → IsMeasured in_table known text i dropped inserted
     → IsFirstPiece in_table known (drop i text) n d instead → inserted' ≡ min (inserted + length instead) (2 ^ 64 - 1) → IsMeasured in_table known text (i + n) (dropped + d) inserted'
 measured_more in_table known text i n d instead dropped inserted inserted' so_far is more =
     let long = meaning_len in_table known text i n d instead is in

@@ -3,7 +3,7 @@ use Rattle.std.proofs.Common.{◌≤◌, ◌+◌, ◌<◌, ◌∷◌, ◌∙◌,
 use Rattle.std.proofs.lemmas.List.{drop_more}
 use Rattle.markdown_scanners_tree.specs.Bytes.{is_between}
 use Rattle.markdown_scanners_tree.specs.linklabel.private.Run.{IsKeptByte, IsRun, none, more}
-use Rattle.markdown_scanners_tree.proofs.linklabel.Scan.{rest_is}
+use Rattle.markdown_scanners_tree.proofs.linklabel.SourceSteps.{rest_is}
 use Rattle.markdown_scanners_tree.proofs.linklabel.word.word_run.Goals as goal
 
 at_most_one : (b : Bool) → cond b 1 0 ≤ 1

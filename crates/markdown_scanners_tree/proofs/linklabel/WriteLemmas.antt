@@ -1,4 +1,4 @@
--- What the second pass over a label has written.
+-- What the second pass over a label has written after each step, and all of it at the closing bracket.
 use Rattle.std.proofs.Common.{ℕ, suc, Bool, true, false, ◌==◌, List, [], ◌∷◌, ◌++◌, ◌≡◌, ◌≤◌, ◌<◌, ◌+◌, ◌-◌, Some, None, Result, Ok, Err, is_ok, OnOk, refl, sym, ◌∙◌, ap, subst, cond, arith, append_assoc, append-nil, drop, take, get_or, length, length-drop, eqb-true}
 use Rattle.std.proofs.Math.Seq.{take-suc}
 use Rattle.std.proofs.lemmas.Bool.{and_parts}
@@ -9,9 +9,9 @@ use Rattle.markdown_scanners_tree.specs.Kept.{KeptByte, in_line, kept_line}
 use Rattle.markdown_scanners_tree.specs.linklabel.Label.{Label, IsLabel, Bracketed, label_between, is_label_content, in_cell, joined_words, is_plain}
 use Rattle.markdown_scanners_tree.specs.linklabel.private.NextPart.{IsBracket, IsEnding, IsSpace, IsWord}
 use Rattle.markdown_scanners_tree.specs.linklabel.private.Pass.{starts_dropped}
-use Rattle.markdown_scanners_tree.proofs.linklabel.Cells.{space_of}
-use Rattle.markdown_scanners_tree.proofs.linklabel.Scan.{IsAt, from_closing, cut_after, same_take}
-use Rattle.markdown_scanners_tree.proofs.linklabel.Seen.{Written, Written-word, Written-space, Written-ending, all_written}
+use Rattle.markdown_scanners_tree.proofs.linklabel.CellText.{space_of}
+use Rattle.markdown_scanners_tree.proofs.linklabel.SourceSteps.{IsAt, from_closing, cut_after, same_take}
+use Rattle.markdown_scanners_tree.proofs.linklabel.SeenBytes.{Written, Written-word, Written-space, Written-ending, all_written}
 
 pub text_of_label : (t : Bool) (b : Bracketed) (label : Label) → label_between t (Some b) ≡ Some label → label.text ≡ joined_words (in_cell t b.content)
 text_of_label t b label e = by (is_label_content b.content) e

@@ -1,4 +1,5 @@
--- The words joined by one space, written from the left.
+-- The words of a content joined by one space are what is written of it from the left (`text_from`). Where each run of
+-- white space is one space, that is the content without a space at its ends.
 use Rattle.std.proofs.Common.{ℕ, Bool, true, false, ◌&&◌, ◌==◌, not, List, [], ◌∷◌, ◌++◌, ◌≡◌, refl, sym, ◌∙◌, ap, cond, map, append-nil, true≢false, eqb-true, if◌then◌else◌}
 use Rattle.std.proofs.lemmas.Bool.{and_parts}
 use Rattle.std.specs.List.{join_with_byte}
@@ -7,7 +8,7 @@ use Rattle.markdown_scanners_tree.specs.Ascii.{space}
 use Rattle.markdown_scanners_tree.specs.Kept.{KeptByte, bytes_of}
 use Rattle.markdown_scanners_tree.specs.linklabel.Answer.{without_first_space, without_last_space}
 use Rattle.markdown_scanners_tree.specs.linklabel.Label.{is_white, onto_runs, words, joined_words}
-use Rattle.markdown_scanners_tree.proofs.linklabel.Runs.{lone}
+use Rattle.markdown_scanners_tree.proofs.linklabel.WhiteRuns.{lone}
 
 -- what is still written: whether there was a word, and whether white space was read after it
 abbrev pub text_from : Bool → Bool → List KeptByte → List ℕ
@@ -67,7 +68,7 @@ written (k ∷ ks) =
       | false ↦ (front, front ∙ onto_open B k (words ks), ap (λ t. 32 ∷ t) front ∙ onto_after B k (words ks))
     ]
 
-pub text_from-start : (ks : List KeptByte) → text_from false false ks ≡ text_from false true ks
+text_from-start : (ks : List KeptByte) → text_from false false ks ≡ text_from false true ks
 text_from-start [] = refl
 text_from-start (k ∷ ks) = refl
 

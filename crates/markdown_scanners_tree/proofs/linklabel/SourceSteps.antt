@@ -1,4 +1,5 @@
--- The steps of a scan over the source, by what stands at the front of what is left.
+-- One step over the source, by what stands next in it: where the scan is then (`IsAt`), what its tally tells, where no
+-- label can come, and where the source may be cut.
 use Rattle.std.proofs.Common.{ℕ, suc, Bool, true, false, ◌||◌, ◌&&◌, ◌==◌, not, List, [], ◌∷◌, ◌++◌, ◌≡◌, ◌+◌, ◌≤◌, ◌<◌, ◌-◌, Option, Some, None, refl, sym, ◌∙◌, ap, subst, cond, arith, drop, take, get_or, length, true≢false, eqb-true}
 use Rattle.std.proofs.Math.Bool.{and-false}
 use Rattle.std.proofs.Math.Seq.{take-length}
@@ -15,9 +16,9 @@ use Rattle.markdown_scanners_tree.specs.linklabel.private.NextPart.{IsBracket, I
 use Rattle.markdown_scanners_tree.specs.linklabel.private.Pass.{starts_dropped, tally_past_ending, tally_past_space, tally_past_word}
 use Rattle.markdown_scanners_tree.specs.declared.linklabel.NextPart.{NextPart}
 use Rattle.markdown_scanners_tree.specs.declared.linklabel.Tally.{Tally}
-use Rattle.markdown_scanners_tree.proofs.linklabel.Cells.{white_no_backslash}
-use Rattle.markdown_scanners_tree.proofs.linklabel.Steps.{Goes, past_byte, at_byte, no_label_at_end, no_label_at_opening, label_at_closing, closing_label, past_ending, at_ending, no_label_at_ending, ending_seen, bracketed_after, label_from}
-use Rattle.markdown_scanners_tree.proofs.linklabel.Seen.{Seen, Seen-word, Seen-space, Seen-ending, two_endings, many_with_ending, many_seen}
+use Rattle.markdown_scanners_tree.proofs.linklabel.CellText.{white_no_backslash}
+use Rattle.markdown_scanners_tree.proofs.linklabel.KeptTextSteps.{Goes, past_byte, at_byte, no_label_at_end, no_label_at_opening, label_at_closing, closing_label, past_ending, at_ending, no_label_at_ending, ending_seen, bracketed_after, label_from}
+use Rattle.markdown_scanners_tree.proofs.linklabel.SeenBytes.{Seen, Seen-word, Seen-space, Seen-ending, two_endings, many_with_ending, many_seen}
 
 preceded-nil : (b : Option Bracketed) → preceded [] b ≡ b
 preceded-nil None = refl

@@ -1,4 +1,5 @@
--- What a kept text begins with, byte by byte.
+-- One step over a kept text: past a byte or a line ending the label that comes is the one that comes of the rest
+-- (`Goes`); at the end and at an opening bracket none comes, at a closing one that of the bytes that were seen.
 use Rattle.std.proofs.Common.{ℕ, Bool, true, false, ◌||◌, ◌&&◌, ◌==◌, not, List, [], ◌∷◌, ◌++◌, ◌≡◌, ◌+◌, Option, Some, None, refl, sym, ◌∙◌, ap, subst, drop, cond, append_assoc, append-nil, true≢false, eqb-true}
 use Rattle.markdown_scanners_tree.specs.Bytes.{begins_with, is_line_ending, is_punctuation}
 use Rattle.markdown_scanners_tree.specs.Kept.{KeptByte, in_line, at_line_end, kept_head, kept_line, kept_return, line_len, kept_from, AreSkips}
@@ -23,24 +24,24 @@ line_not_punctuation p b bs ks h =
     ]
 
 -- only punctuation of the source is kept as punctuation
-pub next_from_first : (a : List ℕ → ℕ → Type 0) (p : ℕ) (bs skips : List ℕ) → AreSkips a bs skips → begins_with is_punctuation bs ≡ false → punctuation_next (kept_from p bs skips) ≡ false
+next_from_first : (a : List ℕ → ℕ → Type 0) (p : ℕ) (bs skips : List ℕ) → AreSkips a bs skips → begins_with is_punctuation bs ≡ false → punctuation_next (kept_from p bs skips) ≡ false
 next_from_first a p [] [] s h = refl
 next_from_first a p [] (k ∷ ks) s h = absurd (true≢false (sym s.0))
 next_from_first a p (b ∷ bs) [] s h = elim (is_line_ending b) as (λ v. punctuation_next (cond v [] (in_line b p ∷ kept_head (p + 1) bs)) ≡ false) [ true ↦ refl | false ↦ h ]
 next_from_first a p (b ∷ bs) (k ∷ ks) s h = line_not_punctuation p b bs _ h
 
 -- a byte that is no backslash before punctuation is a unit
-pub kept_units-single : (k : KeptByte) (ks : List KeptByte) → (k.byte == 92 && punctuation_next ks) ≡ false → kept_units (k ∷ ks) ≡ (k ∷ []) ∷ kept_units ks
+kept_units-single : (k : KeptByte) (ks : List KeptByte) → (k.byte == 92 && punctuation_next ks) ≡ false → kept_units (k ∷ ks) ≡ (k ∷ []) ∷ kept_units ks
 kept_units-single k [] h = refl
 kept_units-single k (l ∷ ks) h = rw h refl
 
-pub kept_units-escaped : (k l : KeptByte) (ks : List KeptByte) → k.byte ≡ 92 → is_punctuation l.byte ≡ true → kept_units (k ∷ l ∷ ks) ≡ (k ∷ l ∷ []) ∷ kept_units ks
+kept_units-escaped : (k l : KeptByte) (ks : List KeptByte) → k.byte ≡ 92 → is_punctuation l.byte ≡ true → kept_units (k ∷ l ∷ ks) ≡ (k ∷ l ∷ []) ∷ kept_units ks
 kept_units-escaped k l ks e h = rw (e, h) refl
 
-pub bracketed-single : (k : KeptByte) (ps : List (List KeptByte)) → (k.byte == 93) ≡ false → (k.byte == 91) ≡ false → bracketed ((k ∷ []) ∷ ps) ≡ preceded (k ∷ []) (bracketed ps)
+bracketed-single : (k : KeptByte) (ps : List (List KeptByte)) → (k.byte == 93) ≡ false → (k.byte == 91) ≡ false → bracketed ((k ∷ []) ∷ ps) ≡ preceded (k ∷ []) (bracketed ps)
 bracketed-single k ps a b = rw (a, b) refl
 
-pub preceded-preceded : (xs ys : List KeptByte) (b : Option Bracketed) → preceded xs (preceded ys b) ≡ preceded (xs ++ ys) b
+preceded-preceded : (xs ys : List KeptByte) (b : Option Bracketed) → preceded xs (preceded ys b) ≡ preceded (xs ++ ys) b
 preceded-preceded xs ys None = refl
 preceded-preceded xs ys (Some b) = rw append_assoc refl
 
@@ -72,7 +73,7 @@ no_escape a p b bs skips s h = elim (b == 92) as (λ v. (v && begins_with is_pun
 nothing : {A : Type 0} {x : A} → None ≡ Some x → ⊥
 nothing e = cc
 
-pub not_ending-punctuation : (c : ℕ) → is_punctuation c ≡ true → is_line_ending c ≡ false
+not_ending-punctuation : (c : ℕ) → is_punctuation c ≡ true → is_line_ending c ≡ false
 not_ending-punctuation c h =
     let ten : (c == 10) ≡ true → ⊥ = λ e. true≢false (sym h ∙ ap is_punctuation (eqb-true c 10 e)) in
     let thirteen : (c == 13) ≡ true → ⊥ = λ e. true≢false (sym h ∙ ap is_punctuation (eqb-true c 13 e)) in
@@ -100,7 +101,7 @@ escaping t seen p (c ∷ cs) skips h =
 -- past a byte of a line that is no single bracket
 module _ (a : List ℕ → ℕ → Type 0) (e t : Bool) (seen : List KeptByte) (p b : ℕ) (bs : List ℕ) (label : Label)
     (plain : is_line_ending b ≡ false) (close : e ≡ false → (b == 93) ≡ false) (opening : e ≡ false → (b == 91) ≡ false) where
-  abbrev pub after_byte : Bool
+  abbrev after_byte : Bool
   after_byte = not e && (b == 92 && begins_with is_punctuation bs)
 
   step : (skips : List ℕ) → AreSkips a bs skips → label_from e t seen p (b ∷ bs) skips ≡ label_from after_byte t (seen ++ in_line b p ∷ []) (p + 1) bs skips

@@ -1,12 +1,12 @@
--- Past a run of bytes of a word that has begun.
+-- Past the bytes of a word that are read at once: where the scan is then, and what its tally tells.
 use Rattle.std.proofs.Common.{ℕ, Bool, true, false, ◌||◌, List, [], ◌∷◌, ◌++◌, ◌≡◌, ◌+◌, sym, ◌∙◌, ap, subst, cond, arith, drop, add-zero}
 use Rattle.std.proofs.Math.Bool.{or-false}
 use Rattle.markdown_scanners_tree.specs.Kept.{KeptByte, in_line}
 use Rattle.markdown_scanners_tree.specs.linklabel.private.Pass.{begun, space_len, starts_dropped, tally_past_word, tally_past_run}
 use Rattle.markdown_scanners_tree.specs.linklabel.private.Run.{IsRun, none, more}
 use Rattle.markdown_scanners_tree.specs.declared.linklabel.Tally.{Tally}
-use Rattle.markdown_scanners_tree.proofs.linklabel.Scan.{IsAt, after_word, told_word, byte_rest}
-use Rattle.markdown_scanners_tree.proofs.linklabel.Seen.{Seen}
+use Rattle.markdown_scanners_tree.proofs.linklabel.SourceSteps.{IsAt, after_word, told_word, byte_rest}
+use Rattle.markdown_scanners_tree.proofs.linklabel.SeenBytes.{Seen}
 
 no_more : (y : Tally) → y ≡ tally_past_run y 0 0
 no_more y = λ i. record y { characters = sym (add-zero y.characters) i; length = sym (add-zero y.length) i }

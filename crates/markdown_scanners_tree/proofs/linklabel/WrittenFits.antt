@@ -1,15 +1,15 @@
--- What was written of a label is no longer than the label.
+-- What was written of a label is no longer than the label, so room for the label is room for each part.
 use Rattle.std.proofs.Common.{ℕ, Bool, true, false, ◌&&◌, ◌==◌, List, [], ◌∷◌, ◌++◌, ◌≡◌, ◌≤◌, ◌<◌, ◌+◌, Option, Some, None, refl, sym, ◌∙◌, ap, cond, arith, drop, length, length-append, true≢false, eqb-true}
 use Rattle.markdown_scanners_tree.specs.Bytes.{is_line_ending, is_punctuation}
 use Rattle.markdown_scanners_tree.specs.Kept.{KeptByte, in_line, kept_head, line_len, kept_from, AreSkips}
 use Rattle.markdown_scanners_tree.specs.linklabel.Label.{Label, IsLabel, kept_units, Bracketed, preceded, bracketed, label_between, pipe_at, in_cell}
 use Rattle.markdown_scanners_tree.proofs.KeptStep.{kept_from-in_line}
-use Rattle.markdown_scanners_tree.proofs.linklabel.Cells.{Follows, follows_byte, gap_of_line}
-use Rattle.markdown_scanners_tree.proofs.linklabel.Scan.{IsAt}
-use Rattle.markdown_scanners_tree.proofs.linklabel.Seen.{Written, ending_no_pipe}
-use Rattle.markdown_scanners_tree.proofs.linklabel.Steps.{bracketed_after}
-use Rattle.markdown_scanners_tree.proofs.linklabel.Words.{text_from, joined_words-from}
-use Rattle.markdown_scanners_tree.proofs.linklabel.Writing.{text_of_label}
+use Rattle.markdown_scanners_tree.proofs.linklabel.CellText.{Follows, follows_byte, gap_of_line}
+use Rattle.markdown_scanners_tree.proofs.linklabel.SourceSteps.{IsAt}
+use Rattle.markdown_scanners_tree.proofs.linklabel.SeenBytes.{Written, ending_no_pipe}
+use Rattle.markdown_scanners_tree.proofs.linklabel.KeptTextSteps.{bracketed_after}
+use Rattle.markdown_scanners_tree.proofs.linklabel.JoinedWords.{text_from, joined_words-from}
+use Rattle.markdown_scanners_tree.proofs.linklabel.WriteLemmas.{text_of_label}
 
 -- a kept text begins with a pipe where its source does
 kept_follows : (a : List ℕ → ℕ → Type 0) (ix : ℕ) (rest skips : List ℕ) → AreSkips a rest skips → Follows ix rest (kept_from ix rest skips)

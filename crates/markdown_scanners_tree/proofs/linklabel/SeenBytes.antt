@@ -1,4 +1,5 @@
--- What a scan keeps of the bytes that it has seen, and how it tells the facts of a label.
+-- What is known of the bytes that a scan has seen, after each byte and each line ending: what was written of the label's
+-- text (`Written`), and the facts of a label as a tally has them (`Seen`).
 use Rattle.std.proofs.Common.{ℕ, suc, Bool, true, false, ◌||◌, ◌&&◌, ◌==◌, not, nat_le, List, [], ◌∷◌, ◌++◌, ◌≡◌, ◌+◌, ◌<◌, refl, sym, ◌∙◌, ap, subst, cond, arith, append_assoc, append-nil, true≢false, eqb-true, length, length-append}
 use Rattle.std.proofs.Math.Bool.{and-true, and-false, and_assoc, or_assoc, or-false, not-not}
 use Rattle.std.proofs.lemmas.Bool.{and_parts}
@@ -14,9 +15,9 @@ use Rattle.markdown_scanners_tree.specs.linklabel.Answer.{without_first_space, w
 use Rattle.markdown_scanners_tree.specs.linklabel.Label.{is_white, white_runs, characters, is_label_content, has_pipe_backslash, in_cell, joined_words, is_plain}
 use Rattle.markdown_scanners_tree.specs.linklabel.private.Pass.{begun, due_len, starts_dropped, word_text, new_tally, tally_past_ending, tally_past_space, tally_past_word}
 use Rattle.markdown_scanners_tree.specs.declared.linklabel.Tally.{Tally}
-use Rattle.markdown_scanners_tree.proofs.linklabel.Runs.{few, few-white_runs, few_at_ending, lone, lone_runs}
-use Rattle.markdown_scanners_tree.proofs.linklabel.Words.{text_from, joined_words-from, lone_outer}
-use Rattle.markdown_scanners_tree.proofs.linklabel.Cells.{is_pipe, Follows, follows_byte, space_of, text_from-white, text_from-word, has_dropped-byte, not_dropped-white, gap_of_line, in_cell-same}
+use Rattle.markdown_scanners_tree.proofs.linklabel.WhiteRuns.{few, few-white_runs, few_at_ending, lone, lone_runs}
+use Rattle.markdown_scanners_tree.proofs.linklabel.JoinedWords.{text_from, joined_words-from, lone_outer}
+use Rattle.markdown_scanners_tree.proofs.linklabel.CellText.{is_pipe, Follows, follows_byte, space_of, text_from-white, text_from-word, has_dropped-byte, not_dropped-white, gap_of_line, in_cell-same}
 
 -- what was written of the text, and what is still to be written of it, whatever comes
 pub record Written (t : Bool) (seen : List KeptByte) (ix : ℕ) (rest : List ℕ) (has_word in_run : Bool) (pushed : List ℕ) : Type 0 where
@@ -144,7 +145,7 @@ Seen-space t source seen ix b bs y w s =
     }
 
 -- what a line ending leaves: it is white space that is marked once, and no space
-pub record IsLine (front : List KeptByte) (len : ℕ) : Type 0 where
+record IsLine (front : List KeptByte) (len : ℕ) : Type 0 where
   pub few_after : (ks : List KeptByte) → few false (front ++ ks) ≡ few true ks
   pub not_lone : (r : Bool) (ks : List KeptByte) → lone r (front ++ ks) ≡ false
   pub counts : characters front ≡ len

@@ -1,4 +1,5 @@
--- The text that is still to be written of a label, in a table or out of one.
+-- What a kept byte adds to the text that is still to be written of a label: white space adds nothing, a byte of a word
+-- adds itself, and a backslash that a cell of a table drops adds nothing.
 use Rattle.std.proofs.Common.{ℕ, Bool, true, false, ◌||◌, ◌&&◌, ◌==◌, List, [], ◌∷◌, ◌++◌, ◌≡◌, ◌+◌, refl, sym, ◌∙◌, ap, subst, cond, append_assoc, true≢false, eqb-true, eq-eqb}
 use Rattle.std.proofs.Math.Bool.{and-true, and-false, and-or_distrib_left}
 use Rattle.std.proofs.lemmas.Bool.{and_parts}
@@ -7,7 +8,7 @@ use Rattle.markdown_scanners_tree.specs.Ascii.{space, backslash, vertical_line}
 use Rattle.markdown_scanners_tree.specs.Kept.{KeptByte, in_line, at_line_end, kept_line, kept_return}
 use Rattle.markdown_scanners_tree.specs.linklabel.Label.{is_white, pipe_at, without_pipe_backslashes, has_pipe_backslash, in_cell}
 use Rattle.markdown_scanners_tree.specs.linklabel.private.Pass.{starts_dropped}
-use Rattle.markdown_scanners_tree.proofs.linklabel.Words.{text_from}
+use Rattle.markdown_scanners_tree.proofs.linklabel.JoinedWords.{text_from}
 
 abbrev pub is_pipe : ℕ → Bool
 is_pipe b = b == vertical_line
