@@ -8,10 +8,19 @@ use Rattle.markdown_scanners_tree.specs.Kept.{KeptByte, bytes_of}
 use Rattle.markdown_scanners_tree.specs.linklabel.Answer.{without_first_space, without_last_space}
 use Rattle.markdown_scanners_tree.specs.linklabel.Label.{Label, IsLabel, label_between, is_label_content, in_cell, joined_words, is_plain}
 use Rattle.markdown_scanners_tree.specs.linklabel.private.NextPart.{IsBracket}
-use Rattle.markdown_scanners_tree.specs.linklabel.private.Pass.{IsMeasure}
+use Rattle.markdown_scanners_tree.specs.linklabel.private.Pass.{IsMeasure, space_len}
 use Rattle.markdown_scanners_tree.specs.declared.linklabel.Tally.{Tally}
 use Rattle.markdown_scanners_tree.proofs.linklabel.SourceSteps.{IsAt, at_closing, from_closing, none_at_closing, cut_before, cut_after}
 use Rattle.markdown_scanners_tree.proofs.linklabel.SeenBytes.{Seen, content_of_seen, plain_of_seen, length_of_seen, stands_in_source}
+
+-- what holds at a place of the source, where this tally was kept of the bytes before it
+pub record IsTallied (a : List ℕ → ℕ → Type 0) (t : Bool) (source : List ℕ) (size : ℕ) (escaped : Bool) (ix : ℕ) (y : Tally) : Type 0 where
+  pub within : ix ≤ size
+  pub characters_fit : y.characters ≤ ix
+  pub length_fits : y.length + space_len y.has_word y.in_run ≤ ix
+  pub seen : List KeptByte
+  pub at : IsAt a source escaped seen ix (drop ix source)
+  pub told : Seen t source seen ix (drop ix source) y
 
 same_some : (x y : Label) → Some x ≡ Some y → x ≡ y
 same_some x y e = cc

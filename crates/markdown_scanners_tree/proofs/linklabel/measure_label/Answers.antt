@@ -1,15 +1,15 @@
 -- The first pass over a label.
-use Rattle.std.proofs.Common.{ℕ, ◌≡◌, ◌≤◌, ◌+◌, ◌∷◌, ◌++◌, Some, None, true, false, [], List, Bool, refl, sym, ◌∙◌, ap, subst, cond, drop, length, arith, nat_le, ◌&&◌, not, inl, inr, IfNone, Option}
+use Rattle.std.proofs.Common.{ℕ, ◌≡◌, ◌≤◌, ◌+◌, ◌∷◌, ◌++◌, Some, None, true, false, [], Bool, refl, sym, ◌∙◌, ap, subst, cond, drop, length, arith, nat_le, ◌&&◌, not, inl, inr, IfNone, Option}
 use Rattle.std.proofs.lemmas.Bool.Decides.{nat_tests}
 use Rattle.std.proofs.lemmas.List.{drop-drop, length-drop}
 use Rattle.markdown_scanners_tree.specs.Bytes.{is_between}
 use Rattle.markdown_scanners_tree.specs.Handler.{Skips}
-use Rattle.markdown_scanners_tree.specs.Kept.{KeptByte, in_line, kept_line}
+use Rattle.markdown_scanners_tree.specs.Kept.{in_line, kept_line}
 use Rattle.markdown_scanners_tree.specs.linklabel.private.NextPart.{IsNextPart}
-use Rattle.markdown_scanners_tree.specs.linklabel.private.Pass.{IsMeasure, space_len, starts_dropped, tally_past_word, tally_past_run}
+use Rattle.markdown_scanners_tree.specs.linklabel.private.Pass.{IsMeasure, starts_dropped, tally_past_word, tally_past_run}
 use Rattle.markdown_scanners_tree.specs.linklabel.private.Run.{IsRun}
 use Rattle.markdown_scanners_tree.specs.declared.linklabel.NextPart.TheVariants.{End, Open, Close, Ending, Space, Word}
-use Rattle.markdown_scanners_tree.proofs.linklabel.MeasureLemmas.{measured, not_measured}
+use Rattle.markdown_scanners_tree.proofs.linklabel.MeasureLemmas.{IsTallied, measured, not_measured}
 use Rattle.markdown_scanners_tree.proofs.linklabel.WordRunSteps.{past_run}
 use Rattle.markdown_scanners_tree.proofs.linklabel.SourceSteps.{IsAt, IsOnlySkip, at_start, none_at_end, none_at_opening, none_at_ending, none_at_second_ending, none_at_late_ending, none_so_late, after_word, after_space, after_ending, next_part_at, rest_is, ending_fits, byte_fits, byte_rest, cut_after_ending, told_word, told_space, told_ending}
 use Rattle.markdown_scanners_tree.proofs.linklabel.SeenBytes.{Seen, Seen-none}
@@ -29,7 +29,7 @@ one_or_none true = omega arith
 one_or_none false = omega arith
 
 pub loop-tally-init : goal.loop-tally-init
-loop-tally-init g c = subst (λ y. record { within : 0 ≤ length c.as_bytes-bytes.result.now; characters_fit : y.characters ≤ 0; length_fits : y.length + space_len y.has_word y.in_run ≤ 0; seen : List KeptByte; at : IsAt (Skips g.F.Fn c.args.handler.now) c.args.text.now false seen 0 c.args.text.now; told : Seen c.args.is_in_table c.args.text.now seen 0 c.args.text.now y }) (sym c.new-tally.ensures)
+loop-tally-init g c = subst (IsTallied (Skips g.F.Fn c.args.handler.now) c.args.is_in_table c.args.text.now (length c.as_bytes-bytes.result.now) false 0) (sym c.new-tally.ensures)
     (record { within = omega arith; characters_fit = omega arith; length_fits = omega arith; seen = []; at = at_start _ _; told = Seen-none _ _ })
 
 pub returns-in-End-clause-none : goal.returns-in-End-clause-none
@@ -78,7 +78,7 @@ loop-tally-preserved-in-Ending g c =
     let short = at_most_one (c.loop-tally.tally.has_word && c.loop-tally.tally.in_run) in
     let word = at_most_one (c.loop-tally.tally.has_word && true) in
     let bounds = ending_fits c.args.text.now c.loop-tally.ix c.in-Ending.len o in
-    subst (λ y. record { within : jx ≤ length c.as_bytes-bytes.result.now; characters_fit : y.characters ≤ jx; length_fits : y.length + space_len y.has_word y.in_run ≤ jx; seen : List KeptByte; at : IsAt (Skips g.F.Fn c.args.handler.now) c.args.text.now c.loop-tally.escaped seen jx (drop jx c.args.text.now); told : Seen c.args.is_in_table c.args.text.now seen jx (drop jx c.args.text.now) y }) (sym c.past_ending-tally.ensures)
+    subst (IsTallied (Skips g.F.Fn c.args.handler.now) c.args.is_in_table c.args.text.now (length c.as_bytes-bytes.result.now) c.loop-tally.escaped jx) (sym c.past_ending-tally.ensures)
     (record {
       within = omega (arith, ap length c.as_bytes-bytes.ensures.value, c.in_ok-skip-in-Ending.ensures.cut.0);
       characters_fit = omega (arith, c.loop-tally.invariant.characters_fit);
@@ -95,7 +95,7 @@ loop-tally-preserved-in-Space g c =
     let next = byte_rest c.args.text.now c.loop-tally.ix c.in-Space.byte o.others o.parts in
     let fits = byte_fits c.args.text.now c.loop-tally.ix c.in-Space.byte o.others o.parts in
     let word = at_most_one (c.loop-tally.tally.has_word && true) in
-    subst (λ y. record { within : jx ≤ length c.as_bytes-bytes.result.now; characters_fit : y.characters ≤ jx; length_fits : y.length + space_len y.has_word y.in_run ≤ jx; seen : List KeptByte; at : IsAt (Skips g.F.Fn c.args.handler.now) c.args.text.now c.loop-tally.escaped seen jx (drop jx c.args.text.now); told : Seen c.args.is_in_table c.args.text.now seen jx (drop jx c.args.text.now) y }) (sym c.past_space-tally.ensures)
+    subst (IsTallied (Skips g.F.Fn c.args.handler.now) c.args.is_in_table c.args.text.now (length c.as_bytes-bytes.result.now) c.loop-tally.escaped jx) (sym c.past_space-tally.ensures)
     (record {
       within = omega (arith, ap length c.as_bytes-bytes.ensures.value, fits);
       characters_fit = omega (arith, c.loop-tally.invariant.characters_fit);
@@ -122,7 +122,7 @@ loop-tally-preserved g c =
     let p = past_run (Skips g.F.Fn c.args.handler.now) c.args.text.now c.args.is_in_table _ _ kx _ first refl refl refl (after_word _ _ _ _ _ _ c.loop-tally.invariant.at _ _ _ o next) (told_word _ _ _ _ _ _ _ c.loop-tally.invariant.told _ _ _ o next) _ _ _ run in
     let place : c.loop-tally.ix + 1 + c.word_run-run.result.len ≡ c.loop-tally.ix + (1 + c.word_run-run.result.len) = omega arith in
     let rest : drop c.word_run-run.result.len (drop (c.loop-tally.ix + 1) c.args.text.now) ≡ drop (c.loop-tally.ix + (1 + c.word_run-run.result.len)) c.args.text.now = drop-drop c.word_run-run.result.len (c.loop-tally.ix + 1) c.args.text.now ∙ ap (λ n. drop n c.args.text.now) place in
-    subst (λ y. record { within : jx ≤ length c.as_bytes-bytes.result.now; characters_fit : y.characters ≤ jx; length_fits : y.length + space_len y.has_word y.in_run ≤ jx; seen : List KeptByte; at : IsAt (Skips g.F.Fn c.args.handler.now) c.args.text.now c.word_run-run.result.escapes seen jx (drop jx c.args.text.now); told : Seen c.args.is_in_table c.args.text.now seen jx (drop jx c.args.text.now) y })
+    subst (IsTallied (Skips g.F.Fn c.args.handler.now) c.args.is_in_table c.args.text.now (length c.as_bytes-bytes.result.now) c.word_run-run.result.escapes jx)
     (sym (c.past_run-tally.ensures ∙ ap (λ y. tally_past_run y c.word_run-run.result.len c.word_run-run.result.characters) (c.past_word.ensures ∙ ap (tally_past_word c.loop-tally.tally c.in-Word.byte) drops)))
     (record {
       within = omega (arith, ap length c.as_bytes-bytes.ensures.value, fits, c.word_run-run.ensures.within, ap length behind, length-drop (c.loop-tally.ix + 1) c.args.text.now);
