@@ -60,7 +60,8 @@ abbrev pub pipe_at : ℕ → List KeptByte → Bool
 pipe_at place [] = false
 pipe_at place (k ∷ ks) = k.byte == vertical_line && k.place == place
 
--- without the one backslash that stands in the source directly before a pipe (GitHub Flavored Markdown 0.29, section 4.10, tables)
+-- without the one backslash that stands in the source directly before a pipe (GitHub Flavored Markdown 0.29, section
+-- 4.10, tables)
 abbrev pub without_pipe_backslashes : List KeptByte → List KeptByte
 without_pipe_backslashes [] = []
 without_pipe_backslashes (k ∷ ks) =
@@ -97,7 +98,8 @@ abbrev pub is_plain : Bool → List KeptByte → Bool
 is_plain is_in_table content =
     list_all is_one_space (white_runs content) && not (is_in_table && has_pipe_backslash content)
 
--- a label: how many bytes it takes with its closing bracket, its text, and whether that text stands in the source as it is
+-- a label: how many bytes it takes with its closing bracket, its text, and whether that text stands in the source as it
+-- is
 pub record Label : Type 0 where
   pub len : ℕ
   pub text : List ℕ

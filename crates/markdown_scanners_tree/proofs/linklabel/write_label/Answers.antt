@@ -12,75 +12,133 @@ use Rattle.markdown_scanners_tree.specs.linklabel.private.NextPart.{IsNextPart}
 use Rattle.markdown_scanners_tree.specs.linklabel.private.Pass.{due_len, starts_dropped, word_text, IsWordWritten}
 use Rattle.markdown_scanners_tree.specs.declared.linklabel.NextPart.TheVariants.{End, Open, Close, Ending, Space, Word}
 use Rattle.markdown_scanners_tree.proofs.linklabel.WrittenFits.{pushed_fits, no_room}
-use Rattle.markdown_scanners_tree.proofs.linklabel.SourceSteps.{IsAt, IsOnlySkip, at_start, none_at_end, none_at_opening, none_at_ending, after_word, after_space, after_ending, next_part_at, byte_fits, byte_rest, cut_after, cut_after_ending, white_small, byte_at}
+use Rattle.markdown_scanners_tree.proofs.linklabel.SourceSteps.{IsAt, IsOnlySkip, at_start, none_at_end, none_at_opening, none_at_ending, after_word, after_space, after_ending}
+use Rattle.markdown_scanners_tree.proofs.linklabel.SourceSteps.{next_part_at, byte_fits, byte_rest, cut_after, cut_after_ending, white_small, byte_at}
 use Rattle.markdown_scanners_tree.proofs.linklabel.SeenBytes.{Written-none, word_text-length}
 use Rattle.markdown_scanners_tree.proofs.linklabel.WriteLemmas.{label_written, word_written, appended, ending_written, space_written, word_follows, flushed_out}
 use Rattle.markdown_scanners_tree.proofs.linklabel.write_label.Goals as goal
 use Rattle.markdown_scanners_tree.proofs.linklabel.write_label.Goals.{then-has_word, else-has_word}
 
 pub loop-out-init : goal.loop-out-init
-loop-out-init g c = record { within = omega arith; behind = omega arith; cut = IsCharBoundary-start c.args.text.now c.utf8.text; flushed = λ h. refl; seen = []; at = at_start _ _; pushed = []; written = Written-none _ _; same = refl; counts = omega arith; room = omega arith }
+loop-out-init g c = record {
+  within = omega arith;
+  behind = omega arith;
+  cut = IsCharBoundary-start c.args.text.now c.utf8.text;
+  flushed = λ h. refl;
+  seen = [];
+  at = at_start _ _;
+  pushed = [];
+  written = Written-none _ _;
+  same = refl;
+  counts = omega arith;
+  room = omega arith;
+}
 
 pub skip_at-requires-clause-cut : goal.skip_at-requires-clause-cut
 skip_at-requires-clause-cut g c =
-    let o : IsNextPart c.loop-out.escaped (drop c.loop-out.ix c.args.text.now) (Ending c.in-Ending.len) = next_part_at _ _ _ _ _ _ c.as_bytes-bytes.ensures.value c.next_part.ensures c.in-Ending.is in
+    let o : IsNextPart c.loop-out.escaped (drop c.loop-out.ix c.args.text.now) (Ending c.in-Ending.len) =
+    next_part_at _ _ _ _ _ _ c.as_bytes-bytes.ensures.value c.next_part.ensures c.in-Ending.is in
     cut_after_ending c.args.text.now c.loop-out.ix c.in-Ending.len c.utf8.text o
 
 pub returns-in-End : goal.returns-in-End
 returns-in-End g c = record {
   written = λ label l. (let pushed : label.text ≡ c.loop-out.invariant.pushed = elim c.in-End.is [
-    | inl e ↦ (let f : IsNextPart c.loop-out.escaped (drop c.loop-out.ix c.args.text.now) End = next_part_at _ _ _ _ _ _ c.as_bytes-bytes.ensures.value c.next_part.ensures e in absurd (none_at_end _ _ _ _ _ _ c.loop-out.invariant.at f _ label l))
+    | inl e ↦
+        (let f : IsNextPart c.loop-out.escaped (drop c.loop-out.ix c.args.text.now) End =
+        next_part_at _ _ _ _ _ _ c.as_bytes-bytes.ensures.value c.next_part.ensures e in
+        absurd (none_at_end _ _ _ _ _ _ c.loop-out.invariant.at f _ label l))
     | inr d ↦ elim d [
-      | inl e ↦ (let f : IsNextPart c.loop-out.escaped (drop c.loop-out.ix c.args.text.now) Open = next_part_at _ _ _ _ _ _ c.as_bytes-bytes.ensures.value c.next_part.ensures e in absurd (none_at_opening _ _ _ _ _ _ c.loop-out.invariant.at f _ label l))
-      | inr e ↦ (let f : IsNextPart c.loop-out.escaped (drop c.loop-out.ix c.args.text.now) Close = next_part_at _ _ _ _ _ _ c.as_bytes-bytes.ensures.value c.next_part.ensures e in label_written _ _ _ _ _ _ _ _ _ _ c.loop-out.invariant.at f c.loop-out.invariant.written label l)
+      | inl e ↦
+          (let f : IsNextPart c.loop-out.escaped (drop c.loop-out.ix c.args.text.now) Open =
+          next_part_at _ _ _ _ _ _ c.as_bytes-bytes.ensures.value c.next_part.ensures e in
+          absurd (none_at_opening _ _ _ _ _ _ c.loop-out.invariant.at f _ label l))
+      | inr e ↦
+          (let f : IsNextPart c.loop-out.escaped (drop c.loop-out.ix c.args.text.now) Close =
+          next_part_at _ _ _ _ _ _ c.as_bytes-bytes.ensures.value c.next_part.ensures e in
+          label_written _ _ _ _ _ _ _ _ _ _ c.loop-out.invariant.at f c.loop-out.invariant.written label l)
     ]
   ] in
-      appended (string_bytes c.args.out.now) (string_bytes c.loop-out.out) (take (c.loop-out.ix - c.loop-out.mark) (drop c.loop-out.mark c.args.text.now)) (string_bytes c.push_str.new.self) c.loop-out.invariant.pushed label.text c.push_str.result
-      c.loop-out.invariant.same (c.push_str.ensures.bytes ∙ ap (λ z. cond (is_ok c.push_str.result) (string_bytes c.loop-out.out ++ z) (string_bytes c.loop-out.out)) c.range.ensures.value) pushed);
-  fits = λ label l enough. (let bound = pushed_fits _ _ _ _ _ _ _ _ _ _ c.loop-out.invariant.at c.loop-out.invariant.written label l in c.push_str.ensures.succeeds (omega (arith, enough, bound, c.loop-out.invariant.counts, c.loop-out.invariant.room, c.range.ensures.len, c.loop-out.invariant.behind)));
+      appended (string_bytes c.args.out.now) (string_bytes c.loop-out.out)
+      (take (c.loop-out.ix - c.loop-out.mark) (drop c.loop-out.mark c.args.text.now))
+      (string_bytes c.push_str.new.self) c.loop-out.invariant.pushed label.text c.push_str.result
+      c.loop-out.invariant.same
+      (c.push_str.ensures.bytes
+      ∙ ap (λ z. cond (is_ok c.push_str.result) (string_bytes c.loop-out.out ++ z) (string_bytes c.loop-out.out))
+      c.range.ensures.value) pushed);
+  fits = λ label l enough.
+      (let bound = pushed_fits _ _ _ _ _ _ _ _ _ _ c.loop-out.invariant.at c.loop-out.invariant.written label l in
+      c.push_str.ensures.succeeds
+      (omega (arith, enough, bound, c.loop-out.invariant.counts, c.loop-out.invariant.room, c.range.ensures.len, c.loop-out.invariant.behind)));
 }
 
 pub returns-in_default : goal.returns-in_default
 returns-in_default g c =
-    let o : IsNextPart c.loop-out.escaped (drop c.loop-out.ix c.args.text.now) (Ending c.in-Ending.len) = next_part_at _ _ _ _ _ _ c.as_bytes-bytes.ensures.value c.next_part.ensures c.in-Ending.is in
-    let lacks : (m : ℕ) → Skips g.F.Fn c.args.handler.now (drop c.in-Ending.len (drop c.loop-out.ix c.args.text.now)) m → ⊥ = λ m k. c.in_default.ensures.found m (subst (λ r. Skips g.F.Fn c.args.handler.now r m) (drop-drop c.in-Ending.len c.loop-out.ix c.args.text.now) k) in
-    record { written = λ label l. absurd (none_at_ending _ _ _ _ _ _ c.loop-out.invariant.at _ o lacks _ label l); fits = λ label l enough. absurd (none_at_ending _ _ _ _ _ _ c.loop-out.invariant.at _ o lacks _ label l) }
+    let o : IsNextPart c.loop-out.escaped (drop c.loop-out.ix c.args.text.now) (Ending c.in-Ending.len) =
+    next_part_at _ _ _ _ _ _ c.as_bytes-bytes.ensures.value c.next_part.ensures c.in-Ending.is in
+    let lacks : (m : ℕ) → Skips g.F.Fn c.args.handler.now (drop c.in-Ending.len (drop c.loop-out.ix c.args.text.now)) m
+    → ⊥ = λ m k. c.in_default.ensures.found m
+    (subst (λ r. Skips g.F.Fn c.args.handler.now r m) (drop-drop c.in-Ending.len c.loop-out.ix c.args.text.now)
+    k) in
+    record {
+      written = λ label l. absurd (none_at_ending _ _ _ _ _ _ c.loop-out.invariant.at _ o lacks _ label l);
+      fits = λ label l enough. absurd (none_at_ending _ _ _ _ _ _ c.loop-out.invariant.at _ o lacks _ label l);
+    }
 
 pub loop-out-preserved-in-Ending : goal.loop-out-preserved-in-Ending
 loop-out-preserved-in-Ending g c =
-    let o : IsNextPart c.loop-out.escaped (drop c.loop-out.ix c.args.text.now) (Ending c.in-Ending.len) = next_part_at _ _ _ _ _ _ c.as_bytes-bytes.ensures.value c.next_part.ensures c.in-Ending.is in
+    let o : IsNextPart c.loop-out.escaped (drop c.loop-out.ix c.args.text.now) (Ending c.in-Ending.len) =
+    next_part_at _ _ _ _ _ _ c.as_bytes-bytes.ensures.value c.next_part.ensures c.in-Ending.is in
     let jx = c.loop-out.ix + (c.in-Ending.len + c.in-Some.skip) in
-    let only : IsOnlySkip (Skips g.F.Fn c.args.handler.now) (drop c.in-Ending.len (drop c.loop-out.ix c.args.text.now)) c.in-Some.skip = subst (λ r. IsOnlySkip (Skips g.F.Fn c.args.handler.now) r c.in-Some.skip) (sym (drop-drop c.in-Ending.len c.loop-out.ix c.args.text.now)) (record { answer = c.in-Some.ensures.found; only = c.in-Some.ensures.only }) in
+    let only : IsOnlySkip (Skips g.F.Fn c.args.handler.now) (drop c.in-Ending.len (drop c.loop-out.ix c.args.text.now))
+    c.in-Some.skip =
+    subst (λ r. IsOnlySkip (Skips g.F.Fn c.args.handler.now) r c.in-Some.skip)
+    (sym (drop-drop c.in-Ending.len c.loop-out.ix c.args.text.now))
+    (record { answer = c.in-Some.ensures.found; only = c.in-Some.ensures.only }) in
     record {
       within = omega (arith, ap length c.as_bytes-bytes.ensures.value, c.in-Some.ensures.cut.0);
       behind = omega arith;
       cut = subst (IsCharBoundary c.args.text.now) (omega arith) c.in-Some.ensures.cut;
       flushed = λ h. refl;
       seen = c.loop-out.invariant.seen ++ kept_line c.loop-out.ix (drop c.loop-out.ix c.args.text.now);
-      at = subst (IsAt _ _ _ _ jx) (drop-drop (c.in-Ending.len + c.in-Some.skip) c.loop-out.ix c.args.text.now) (after_ending _ _ _ _ _ _ c.loop-out.invariant.at _ o _ only);
+      at = subst (IsAt _ _ _ _ jx) (drop-drop (c.in-Ending.len + c.in-Some.skip) c.loop-out.ix c.args.text.now)
+          (after_ending _ _ _ _ _ _ c.loop-out.invariant.at _ o _ only);
       pushed = c.loop-out.invariant.pushed;
       written = ending_written _ _ _ jx _ _ _ _ _ _ o c.loop-out.invariant.written;
-      same = c.loop-out.invariant.same ∙ flushed_out c.args.text.now (string_bytes c.loop-out.out) (take (c.loop-out.ix - c.loop-out.mark) (drop c.loop-out.mark c.args.text.now)) (string_bytes c.push_str-in-Ending.new.self) jx (c.in_ok-push_str-in-Ending.ensures.bytes ∙ ap (λ z. string_bytes c.loop-out.out ++ z) c.range-in-Ending.ensures.value);
-      counts = omega (arith, c.loop-out.invariant.counts, c.in_ok-push_str-in-Ending.ensures.len, c.range-in-Ending.ensures.len, c.loop-out.invariant.behind);
+      same = c.loop-out.invariant.same
+          ∙ flushed_out c.args.text.now (string_bytes c.loop-out.out)
+          (take (c.loop-out.ix - c.loop-out.mark) (drop c.loop-out.mark c.args.text.now))
+          (string_bytes c.push_str-in-Ending.new.self) jx
+          (c.in_ok-push_str-in-Ending.ensures.bytes
+          ∙ ap (λ z. string_bytes c.loop-out.out ++ z) c.range-in-Ending.ensures.value);
+      counts =
+          omega (arith, c.loop-out.invariant.counts, c.in_ok-push_str-in-Ending.ensures.len, c.range-in-Ending.ensures.len, c.loop-out.invariant.behind);
       room = omega (arith, c.loop-out.invariant.room, c.in_ok-push_str-in-Ending.ensures.capacity);
     }
 
 pub loop-out-preserved-in-Space : goal.loop-out-preserved-in-Space
 loop-out-preserved-in-Space g c =
-    let o : IsNextPart c.loop-out.escaped (drop c.loop-out.ix c.args.text.now) (Space c.in-Space.field-0) = next_part_at _ _ _ _ _ _ c.as_bytes-bytes.ensures.value c.next_part.ensures c.in-Space.is in
+    let o : IsNextPart c.loop-out.escaped (drop c.loop-out.ix c.args.text.now) (Space c.in-Space.field-0) =
+    next_part_at _ _ _ _ _ _ c.as_bytes-bytes.ensures.value c.next_part.ensures c.in-Space.is in
     let next = byte_rest c.args.text.now c.loop-out.ix c.in-Space.field-0 o.others o.parts in
     let fits = byte_fits c.args.text.now c.loop-out.ix c.in-Space.field-0 o.others o.parts in
     record {
       within = omega (arith, ap length c.as_bytes-bytes.ensures.value, fits);
       behind = omega arith;
-      cut = cut_after c.args.text.now c.loop-out.ix c.in-Space.field-0 o.others c.utf8.text o.parts (white_small c.in-Space.field-0 o.white);
+      cut = cut_after c.args.text.now c.loop-out.ix c.in-Space.field-0 o.others c.utf8.text o.parts
+          (white_small c.in-Space.field-0 o.white);
       flushed = λ h. refl;
       seen = c.loop-out.invariant.seen ++ in_line c.in-Space.field-0 c.loop-out.ix ∷ [];
       at = after_space _ _ _ _ _ _ c.loop-out.invariant.at _ _ o next;
       pushed = c.loop-out.invariant.pushed;
       written = space_written _ _ _ _ _ _ _ _ _ o next c.loop-out.invariant.written;
-      same = c.loop-out.invariant.same ∙ flushed_out c.args.text.now (string_bytes c.loop-out.out) (take (c.loop-out.ix - c.loop-out.mark) (drop c.loop-out.mark c.args.text.now)) (string_bytes c.push_part.new.out) (c.loop-out.ix + 1) (c.in_ok-push_part-in-Space.ensures.bytes ∙ ap (λ z. string_bytes c.loop-out.out ++ z) c.range-in-Space.ensures.value);
-      counts = omega (arith, c.loop-out.invariant.counts, c.in_ok-push_part-in-Space.ensures.len, c.range-in-Space.ensures.len, c.loop-out.invariant.behind);
+      same = c.loop-out.invariant.same
+          ∙ flushed_out c.args.text.now (string_bytes c.loop-out.out)
+          (take (c.loop-out.ix - c.loop-out.mark) (drop c.loop-out.mark c.args.text.now))
+          (string_bytes c.push_part.new.out) (c.loop-out.ix + 1)
+          (c.in_ok-push_part-in-Space.ensures.bytes
+          ∙ ap (λ z. string_bytes c.loop-out.out ++ z) c.range-in-Space.ensures.value);
+      counts =
+          omega (arith, c.loop-out.invariant.counts, c.in_ok-push_part-in-Space.ensures.len, c.range-in-Space.ensures.len, c.loop-out.invariant.behind);
       room = omega (arith, c.loop-out.invariant.room, c.in_ok-push_part-in-Space.ensures.capacity);
     }
 
@@ -91,16 +149,19 @@ loop-out-preserved g c =
     let ix = c.loop-out.ix in
     let b = c.in-Word.field-0 in
     let inv = c.loop-out.invariant in
-    let o : IsNextPart c.loop-out.escaped (drop c.loop-out.ix c.args.text.now) (Word c.in-Word.field-0 c.in-Word.escapes) =
+    let o : IsNextPart c.loop-out.escaped (drop c.loop-out.ix c.args.text.now)
+    (Word c.in-Word.field-0 c.in-Word.escapes) =
     next_part_at _ _ _ _ _ _ c.as_bytes-bytes.ensures.value c.next_part.ensures c.in-Word.is in
     let next = byte_rest text ix b o.others o.parts in
     let due : c.if-has_word.write_word ≡ (c.loop-out.has_word && c.loop-out.in_run) = elim c.if-has_word.branch [
       | then-has_word w ↦ w.write_word-is ∙ ap (λ v. v && c.loop-out.in_run) (sym w.if-has_word.true)
-      | else-has_word w ↦ w.write_word-is ∙ w.if-has_word.false ∙ ap (λ v. v && c.loop-out.in_run) (sym w.if-has_word.false)
+      | else-has_word w ↦ w.write_word-is ∙ w.if-has_word.false
+          ∙ ap (λ v. v && c.loop-out.in_run) (sym w.if-has_word.false)
     ] in
     let word : IsWordWritten t (c.loop-out.has_word && c.loop-out.in_run) text c.loop-out.mark ix c.loop-out.out
     c.write_word.new.out c.in_ok-mark-in-Word.mark =
-    subst (λ v. IsWordWritten t v text c.loop-out.mark ix c.loop-out.out c.write_word.new.out c.in_ok-mark-in-Word.mark) due
+    subst (λ v. IsWordWritten t v text c.loop-out.mark ix c.loop-out.out c.write_word.new.out c.in_ok-mark-in-Word.mark)
+    due
     c.in_ok-mark-in-Word.ensures.written in
     let more = word_text (c.loop-out.has_word && c.loop-out.in_run) (starts_dropped t (drop ix text)) in
     let byte : get_or text ix 0 ≡ b = (byte_at text ix b o.others o.parts).1 in
@@ -116,18 +177,34 @@ loop-out-preserved g c =
       same = word_written (string_bytes c.args.out.now) inv.pushed (string_bytes c.loop-out.out)
           (string_bytes c.write_word.new.out) (slice_range text c.loop-out.mark ix)
           (slice_range text c.in_ok-mark-in-Word.mark (ix + 1)) (more b) inv.same
-          (word.text_is ∙ ap (λ n. (string_bytes c.loop-out.out ++ slice_range text c.loop-out.mark ix) ++ more n) byte);
-      counts = omega (arith, inv.counts, length-append inv.pushed (more b), word.len_is, ap (λ n. length (more n)) byte);
+          (word.text_is ∙ ap (λ n. (string_bytes c.loop-out.out ++ slice_range text c.loop-out.mark ix) ++ more n)
+          byte);
+      counts =
+          omega (arith, inv.counts, length-append inv.pushed (more b), word.len_is, ap (λ n. length (more n)) byte);
       room = omega (arith, inv.room, c.in_ok-mark-in-Word.ensures.capacity);
     }
 
 pub returns-in_err-push_str-in-Ending-clause-fits : goal.returns-in_err-push_str-in-Ending-clause-fits
-returns-in_err-push_str-in-Ending-clause-fits g c = λ label l enough. absurd (no_room (string_len c.args.out.now) (string_capacity c.args.out.now) (string_len c.loop-out.out) (string_capacity c.loop-out.out) (length c.loop-out.invariant.pushed) (length label.text) (length c.range-in-Ending.result.now)
-    enough c.loop-out.invariant.room (pushed_fits _ _ _ _ _ _ _ _ _ _ c.loop-out.invariant.at c.loop-out.invariant.written label l) (omega (arith, c.loop-out.invariant.counts, c.range-in-Ending.ensures.len, c.loop-out.invariant.behind)) c.in_err-push_str-in-Ending.ensures.full)
+returns-in_err-push_str-in-Ending-clause-fits g c =
+    λ label l enough. absurd
+    (no_room (string_len c.args.out.now) (string_capacity c.args.out.now) (string_len c.loop-out.out)
+    (string_capacity c.loop-out.out) (length c.loop-out.invariant.pushed) (length label.text)
+    (length c.range-in-Ending.result.now)
+    enough c.loop-out.invariant.room
+    (pushed_fits _ _ _ _ _ _ _ _ _ _ c.loop-out.invariant.at c.loop-out.invariant.written label l)
+    (omega (arith, c.loop-out.invariant.counts, c.range-in-Ending.ensures.len, c.loop-out.invariant.behind))
+    c.in_err-push_str-in-Ending.ensures.full)
 
 pub returns-in_err-push_part-in-Space-clause-fits : goal.returns-in_err-push_part-in-Space-clause-fits
-returns-in_err-push_part-in-Space-clause-fits g c = λ label l enough. absurd (no_room (string_len c.args.out.now) (string_capacity c.args.out.now) (string_len c.loop-out.out) (string_capacity c.loop-out.out) (length c.loop-out.invariant.pushed) (length label.text) (length c.range-in-Space.result.now)
-    enough c.loop-out.invariant.room (pushed_fits _ _ _ _ _ _ _ _ _ _ c.loop-out.invariant.at c.loop-out.invariant.written label l) (omega (arith, c.loop-out.invariant.counts, c.range-in-Space.ensures.len, c.loop-out.invariant.behind)) c.in_err-push_part-in-Space.ensures.full)
+returns-in_err-push_part-in-Space-clause-fits g c =
+    λ label l enough. absurd
+    (no_room (string_len c.args.out.now) (string_capacity c.args.out.now) (string_len c.loop-out.out)
+    (string_capacity c.loop-out.out) (length c.loop-out.invariant.pushed) (length label.text)
+    (length c.range-in-Space.result.now)
+    enough c.loop-out.invariant.room
+    (pushed_fits _ _ _ _ _ _ _ _ _ _ c.loop-out.invariant.at c.loop-out.invariant.written label l)
+    (omega (arith, c.loop-out.invariant.counts, c.range-in-Space.ensures.len, c.loop-out.invariant.behind))
+    c.in_err-push_part-in-Space.ensures.full)
 
 pub returns-in_err-mark-in-Word-clause-fits : goal.returns-in_err-mark-in-Word-clause-fits
 returns-in_err-mark-in-Word-clause-fits g c = λ label l enough.
@@ -136,16 +213,28 @@ returns-in_err-mark-in-Word-clause-fits g c = λ label l enough.
     let ix = c.loop-out.ix in
     let b = c.in-Word.field-0 in
     let inv = c.loop-out.invariant in
-    let o : IsNextPart c.loop-out.escaped (drop c.loop-out.ix c.args.text.now) (Word c.in-Word.field-0 c.in-Word.escapes) =
+    let o : IsNextPart c.loop-out.escaped (drop c.loop-out.ix c.args.text.now)
+    (Word c.in-Word.field-0 c.in-Word.escapes) =
     next_part_at _ _ _ _ _ _ c.as_bytes-bytes.ensures.value c.next_part.ensures c.in-Word.is in
     let next = byte_rest text ix b o.others o.parts in
     let due : c.if-has_word.write_word ≡ (c.loop-out.has_word && c.loop-out.in_run) = elim c.if-has_word.branch [
       | then-has_word w ↦ w.write_word-is ∙ ap (λ v. v && c.loop-out.in_run) (sym w.if-has_word.true)
-      | else-has_word w ↦ w.write_word-is ∙ w.if-has_word.false ∙ ap (λ v. v && c.loop-out.in_run) (sym w.if-has_word.false)
+      | else-has_word w ↦ w.write_word-is ∙ w.if-has_word.false
+          ∙ ap (λ v. v && c.loop-out.in_run) (sym w.if-has_word.false)
     ] in
     let more = word_text (c.loop-out.has_word && c.loop-out.in_run) (starts_dropped t (drop ix text)) b in
     let bound : length (inv.pushed ++ more) ≤ length label.text = pushed_fits _ _ _ _ _ _ _ _ _ _
     (after_word _ _ _ _ _ _ inv.at _ _ _ o next) (word_follows _ _ _ _ _ _ _ _ _ _ _ o next inv.written) label l in
     let size = word_text-length (c.loop-out.has_word && c.loop-out.in_run) (starts_dropped t (drop ix text)) b in
     absurd (false≢true (c.in_err-mark-in-Word.ensures.succeeds
-    (omega (arith, enough, inv.room, inv.counts, inv.behind, bound, length-append inv.pushed more, size, ap due_len due))))
+    (omega (
+      arith,
+      enough,
+      inv.room,
+      inv.counts,
+      inv.behind,
+      bound,
+      length-append inv.pushed more,
+      size,
+      ap due_len due,
+    ))))

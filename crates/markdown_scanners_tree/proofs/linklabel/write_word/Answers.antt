@@ -46,7 +46,8 @@ module _ {Z : Type 0} (due : Bool) (old mid : String Z) where
     parts = drop_more text place 0 within
 
     first : string_bytes mid ++ kept ≡ (string_bytes old ++ kept) ++ cond due (space ∷ []) []
-    first = space_after (string_bytes old) (string_bytes mid) kept due is.bytes_are (λ d. no_slice text mark place (none_before d))
+    first = space_after (string_bytes old) (string_bytes mid) kept due is.bytes_are
+        (λ d. no_slice text mark place (none_before d))
 
     size : length (word_text due drops byte) ≡ due_len due + cond drops 0 1
     size = word_text-length due drops byte
@@ -56,7 +57,8 @@ module _ {Z : Type 0} (due : Bool) (old mid : String Z) where
     dropped new utf8 d bytes len = record {
       within = omega arith;
       start = cut_after_dropped t text place byte (drop (place + 1) text) utf8 parts d;
-      text_is = ap (λ z. string_bytes new ++ z) (no_slice text (place + 1) (place + 1) refl) ∙ append-nil (string_bytes new)
+      text_is = ap (λ z. string_bytes new ++ z) (no_slice text (place + 1) (place + 1) refl)
+          ∙ append-nil (string_bytes new)
           ∙ bytes ∙ first ∙ ap (λ z. (string_bytes old ++ kept) ++ z) (sym (append-nil (cond due (space ∷ []) [])))
           ∙ (λ i. (string_bytes old ++ kept) ++ (cond due (space ∷ []) [] ++ cond (sym d i) [] (byte ∷ [])));
       len_is = omega (arith, len, is.len_is, size, ap {B = ℕ} (λ v. cond v 0 1) d);
@@ -84,7 +86,8 @@ pub returns-then-not-is_dropped-clause-written : goal.returns-then-not-is_droppe
 returns-then-not-is_dropped-clause-written c =
     let is : IsSpaced c.args.is_space_due c.args.out.now c.if-is_space_due.out = elim c.if-is_space_due.branch [
       | then-is_space_due+in_ok-push_str w ↦ spaced _ _ _ w.if-is_space_due.true
-          (ap string_bytes w.out-is ∙ w.in_ok-push_str.ensures.bytes) (ap string_len w.out-is ∙ w.in_ok-push_str.ensures.len)
+          (ap string_bytes w.out-is ∙ w.in_ok-push_str.ensures.bytes)
+          (ap string_len w.out-is ∙ w.in_ok-push_str.ensures.len)
       | else-is_space_due w ↦ not_spaced _ _ _ w.if-is_space_due.false w.out-is
     ] in
     stays _ _ _ c.args.is_in_table c.args.text.now c.args.mark c.args.place c.requires.ordered c.requires.within
@@ -95,7 +98,8 @@ pub returns-clause-written : goal.returns-clause-written
 returns-clause-written c =
     let is : IsSpaced c.args.is_space_due c.args.out.now c.if-is_space_due.out = elim c.if-is_space_due.branch [
       | then-is_space_due+in_ok-push_str w ↦ spaced _ _ _ w.if-is_space_due.true
-          (ap string_bytes w.out-is ∙ w.in_ok-push_str.ensures.bytes) (ap string_len w.out-is ∙ w.in_ok-push_str.ensures.len)
+          (ap string_bytes w.out-is ∙ w.in_ok-push_str.ensures.bytes)
+          (ap string_len w.out-is ∙ w.in_ok-push_str.ensures.len)
       | else-is_space_due w ↦ not_spaced _ _ _ w.if-is_space_due.false w.out-is
     ] in
     dropped _ _ _ c.args.is_in_table c.args.text.now c.args.mark c.args.place c.requires.ordered c.requires.within
