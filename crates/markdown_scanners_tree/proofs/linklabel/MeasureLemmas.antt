@@ -9,7 +9,7 @@ use Rattle.markdown_scanners_tree.specs.linklabel.Answer.{without_first_space, w
 use Rattle.markdown_scanners_tree.specs.linklabel.Label.{Label, IsLabel, label_between, is_label_content, in_cell, joined_words, is_plain}
 use Rattle.markdown_scanners_tree.specs.linklabel.private.NextPart.{IsBracket}
 use Rattle.markdown_scanners_tree.specs.linklabel.private.Pass.{IsMeasure, space_len}
-use Rattle.markdown_scanners_tree.specs.declared.linklabel.Tally.{Tally}
+use Rattle.markdown_scanners_tree.specs.declared.linklabel.tally.Tally.{Tally}
 use Rattle.markdown_scanners_tree.proofs.linklabel.SourceSteps.{IsAt, at_closing, from_closing, none_at_closing, cut_before, cut_after}
 use Rattle.markdown_scanners_tree.proofs.linklabel.SeenBytes.{Seen, content_of_seen, plain_of_seen, length_of_seen, stands_in_source}
 

@@ -16,7 +16,7 @@ use Rattle.markdown_scanners_tree.specs.linklabel.Label.{Label, IsLabel, label_b
 use Rattle.markdown_scanners_tree.specs.linklabel.private.NextPart.{IsBracket, IsEnding, IsSpace, IsWord, IsNextPart}
 use Rattle.markdown_scanners_tree.specs.linklabel.private.Pass.{starts_dropped, tally_past_ending, tally_past_space, tally_past_word}
 use Rattle.markdown_scanners_tree.specs.declared.linklabel.NextPart.{NextPart}
-use Rattle.markdown_scanners_tree.specs.declared.linklabel.Tally.{Tally}
+use Rattle.markdown_scanners_tree.specs.declared.linklabel.tally.Tally.{Tally}
 use Rattle.markdown_scanners_tree.proofs.linklabel.CellText.{white_no_backslash}
 use Rattle.markdown_scanners_tree.proofs.linklabel.KeptTextSteps.{Goes, past_byte, at_byte, no_label_at_end, no_label_at_opening, label_at_closing, closing_label}
 use Rattle.markdown_scanners_tree.proofs.linklabel.KeptTextSteps.{past_ending, at_ending, no_label_at_ending, ending_seen, bracketed_after, label_from}

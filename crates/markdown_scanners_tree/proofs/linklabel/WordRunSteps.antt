@@ -4,7 +4,7 @@ use Rattle.std.proofs.Math.Bool.{or-false}
 use Rattle.markdown_scanners_tree.specs.Kept.{KeptByte, in_line}
 use Rattle.markdown_scanners_tree.specs.linklabel.private.Pass.{begun, space_len, starts_dropped, tally_past_word, tally_past_run}
 use Rattle.markdown_scanners_tree.specs.linklabel.private.Run.{IsRun, none, more}
-use Rattle.markdown_scanners_tree.specs.declared.linklabel.Tally.{Tally}
+use Rattle.markdown_scanners_tree.specs.declared.linklabel.tally.Tally.{Tally}
 use Rattle.markdown_scanners_tree.proofs.linklabel.SourceSteps.{IsAt, after_word, told_word, byte_rest}
 use Rattle.markdown_scanners_tree.proofs.linklabel.SeenBytes.{Seen}
 

@@ -35,8 +35,12 @@ pub fn unescape<'a, E: Entities>(
 ) -> Result<CowStr<'a>, AllocError>
     // The pieces of the input are one list, and all clauses speak of it.
     ensures pieces { HasPieces is_in_table (E.known entities.now) (cow_text input.entry) }
+
+    // The text is what the pieces mean.
     ensures text { ForPieces is_in_table (E.known entities.now) (cow_text input.entry) (λ pieces.
         IfOk result (λ text. cow_text text ≡ joined_meanings pieces)) }
+
+    // The input is handed back where each piece means itself; else the text has its own memory.
     ensures same { ForPieces is_in_table (E.known entities.now) (cow_text input.entry) (λ pieces.
         AreThemselves pieces → result ≡ Ok input.entry) }
     ensures boxed { ForPieces is_in_table (E.known entities.now) (cow_text input.entry) (λ pieces.
@@ -203,7 +207,8 @@ fn piece_size(source: usize, dropped: usize, inserted: usize) -> PieceSize
 }
 
 // How many bytes at the front come before a byte with which a changed piece may begin. A byte alone
-// is told from a longer run before the search: for `&a&a&a` that saves a quarter of the time.
+// is told from a longer run before the search, which costs more than one byte is worth, as in
+// `&a&a&a`.
 fn plain_len(bytes: &[u8]) -> usize
     requires some { 0 < length bytes.now }
     requires plain { begins_change (slice_index bytes.now 0) ≡ false }

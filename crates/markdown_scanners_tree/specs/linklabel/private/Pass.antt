@@ -5,7 +5,7 @@ use Rattle.markdown_scanners_tree.specs.Bytes.{begins_with, is_between}
 use Rattle.markdown_scanners_tree.specs.Ascii.{space, backslash, vertical_line}
 use Rattle.markdown_scanners_tree.specs.linklabel.Answer.{without_first_space, without_last_space}
 use Rattle.markdown_scanners_tree.specs.linklabel.Label.{Label, IsLabel}
-use Rattle.markdown_scanners_tree.specs.declared.linklabel.Tally.{Tally}
+use Rattle.markdown_scanners_tree.specs.declared.linklabel.tally.Tally.{Tally}
 use Rattle.markdown_scanners_tree.specs.declared.linklabel.Measure.{Measure}
 
 -- how many characters begin at this byte
