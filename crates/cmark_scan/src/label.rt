@@ -1,7 +1,6 @@
 // The label at the front of a text, and its printed lines.
 ghost use Rattle.std.specs.Prelude.{◌≡◌, IfOk, Some, string_bytes};
-ghost use Rattle.markdown_values.specs.strings.Text.{cow_text};
-ghost use Rattle.markdown_scanners_tree.specs.linklabel.Answer.{is_borrowed};
+ghost use Rattle.markdown_values.specs.strings.Text.{cow_text, is_borrowed};
 ghost use Rattle.cmark_scan.specs.label.LabelRun.{IsLabelOutcome, label_lines};
 ghost use Rattle.cmark_scan.specs.report.Report.{outcome_view};
 

@@ -1,5 +1,5 @@
 //! Link labels: the bracketed names by which references and footnotes are matched.
-ghost use Rattle.std.specs.Prelude.{length, drop, ◌≡◌, ◌⊎◌, ◌≤◌, ◌+◌, ◌++◌, ◌&&◌, not, ℕ, true, false, IfOk, OnOk, OnErr, IsOk, is_ok, ◌<◌, if◌then◌else◌, IfSome, IfNone, option_map, string_bytes, encode_utf8, map, nat_eq, IsCharBoundary};
+ghost use Rattle.std.specs.Prelude.{length, drop, ◌≡◌, ◌⊎◌, ◌≤◌, ◌+◌, ◌-◌, ◌++◌, ◌&&◌, not, ℕ, true, false, IfOk, OnOk, OnErr, IsOk, is_ok, ◌<◌, if◌then◌else◌, IfSome, IfNone, option_map, string_bytes, encode_utf8, map, nat_eq, IsCharBoundary};
 ghost use Rattle.std.specs.Cmp.{on_equiv, on_per, partial_equiv_from_equiv};
 ghost use Rattle.std.specs.Cmp.Lexicographic.{pointwise, nat_list_eq_equiv};
 ghost use Rattle.std.specs.Cmp.Rules.{hashing};
@@ -10,22 +10,25 @@ ghost use Rattle.markdown_values.specs.strings.Text.{cow_text, IsBorrowed, IsBox
 ghost use Rattle.markdown_scanners_tree.specs.SomeExactly.{SomeExactly};
 ghost use Rattle.markdown_scanners_tree.specs.Handler.{Skips, IsSteadyAtChars};
 ghost use Rattle.markdown_scanners_tree.specs.linklabel.Label.{Label, IsLabel, HasNoLabel, ends_in_backslash, ReadsBack};
-ghost use Rattle.markdown_scanners_tree.specs.linklabel.Answer.{answered_label, is_borrowed, slice_before, without_first_space, without_last_space};
+ghost use Rattle.markdown_scanners_tree.specs.linklabel.Answer.{answered_label, slice_before, without_first_space, without_last_space};
 ghost use Rattle.markdown_scanners_tree.specs.linklabel.private.NextPart.{IsNextPart};
 ghost use Rattle.markdown_scanners_tree.specs.linklabel.Key.{label_key};
-ghost use Rattle.markdown_scanners_tree.specs.linklabel.private.Pass.{begun, space_len, starts_dropped, new_tally, tally_past_ending, tally_past_space, tally_past_word, tally_past_run, IsMeasure};
+ghost use Rattle.markdown_scanners_tree.specs.linklabel.private.Pass.{starts_dropped, due_len, IsWordWritten, IsMeasure};
 
 mod key;
+mod tally;
 mod word;
 
 use crate::scanners::is_ascii_punctuation;
+use crate::texts::push_part;
 use caseless::default_caseless_match_str;
 use key::{eq_ascii, hash_ascii, hash_folded};
 use markdown_values::strings::CowStr;
 use std::alloc::{AllocError, Global};
 use std::hash::{Hash, Hasher};
 use std::marker::Model;
-use word::{Run, is_ordinary, word_run};
+use tally::Tally;
+use word::{is_ordinary, word_run};
 
 // How many characters the content of a label may have.
 const MOST_CHARACTERS: usize = 999;
@@ -39,9 +42,10 @@ pub enum ReferenceLabel<'a> {
     Footnote(CowStr<'a>),
 }
 
-/// A label by which references find their definitions. Two are equal where their texts have the same full case
-/// folding (CommonMark 0.31.2, section 6.3, link labels). The text is folded on the way where labels are compared
-/// or hashed, so that neither takes memory; that of an ASCII text byte by byte.
+/// A label by which references find their definitions. Two are equal where their texts have the
+/// same full case folding (CommonMark 0.31.2, section 6.3, link labels). The text is folded on the
+/// way where labels are compared or hashed, so that neither takes memory; that of an ASCII text
+/// byte by byte.
 #[derive(Drop)]
 pub struct LinkLabel<'a> {
     text: CowStr<'a>,
@@ -116,19 +120,22 @@ impl<'a> Hash for LinkLabel<'a> {
 /// The label of a footnote, which is matched as a link's is.
 pub type FootnoteLabel<'a> = LinkLabel<'a>;
 
-/// Reads a label whose opening bracket has been read: up to the first closing bracket that no backslash escapes
-/// (CommonMark 0.31.2, section 6.3, link labels). Answers how many bytes were taken, the closing bracket counted, and
-/// the label with each run of white space as one space and none at its ends.
+/// Reads a label whose opening bracket has been read: up to the first closing bracket that no
+/// backslash escapes (CommonMark 0.31.2, section 6.3, link labels). Answers how many bytes were
+/// taken, the closing bracket counted, and the label with each run of white space as one space and
+/// none at its ends.
 ///
-/// There is no label where no such bracket comes, where an opening bracket comes first that no backslash escapes, for
-/// two line endings in one run of white space, for white space alone, and for more than 999 characters.
+/// There is no label where no such bracket comes, where an opening bracket comes first that no
+/// backslash escapes, for two line endings in one run of white space, for white space alone, and
+/// for more than 999 characters.
 ///
-/// After each line ending `handler` is given the bytes that follow, and answers how many of them belong to the
-/// containers of the text and are no part of the label, or None where the text ends there. In a table a pipe drops the
-/// one backslash before it, as cells are read (GitHub Flavored Markdown 0.29, section 4.10).
+/// After each line ending `handler` is given the bytes that follow, and answers how many of them
+/// belong to the containers of the text and are no part of the label, or None where the text ends
+/// there. In a table a pipe drops the one backslash before it, as cells are read (GitHub Flavored
+/// Markdown 0.29, section 4.10).
 ///
-/// `handler` has one answer for one rest, and what it skips ends in the rest, between two of its characters. It may
-/// be asked twice for one rest.
+/// `handler` has one answer for one rest, and what it skips ends in the rest, between two of its
+/// characters. It may be asked twice for one rest.
 ///
 /// # Errors
 ///
@@ -141,19 +148,30 @@ pub fn scan_link_label_rest<'t, F: Fn(&[u8]) -> Option<usize>>(
 ) -> Result<Option<(usize, CowStr<'t>)>, AllocError>
     requires callable { F.IsAlwaysCallable handler.now }
     requires steady { IsSteadyAtChars F.Fn handler.now }
+
+    // The one label of the text is answered, or none where it has none.
     ensures found { IfOk result (λ found.
         SomeExactly (IsLabel (Skips F.Fn handler.now) text.entry.now is_in_table)
         (option_map answered_label found)) }
     ensures only { IfOk result (λ found. IfSome found (λ r. (label : Label)
         → IsLabel (Skips F.Fn handler.now) text.entry.now is_in_table label
         → label ≡ answered_label r)) }
+
+    // The bytes that are taken can be cut off the text.
     ensures within { IfOk result (λ found. IfSome found (λ r. r.0 ≤ length text.entry.now)) }
-    ensures boundary { IfOk result (λ found. IfSome found (λ r. IsCharBoundary text.entry.now r.0)) }
+    ensures boundary { IfOk result (λ found. IfSome found (λ r.
+        IsCharBoundary text.entry.now r.0)) }
+
+    // The label is lent where it stands in the text as it is, and else has memory of its own.
     ensures storage { IfOk result (λ found. IfSome found (λ r. IsBorrowed r.1 ⊎ IsBoxed r.1)) }
     ensures slice { IfOk result (λ found. IfSome found (λ r. IsBorrowed r.1
         → cow_text r.1 ≡ slice_before text.entry.now r.0)) }
+
+    // A label reads as itself again.
     ensures reads_back { IfOk result (λ found. IfSome found (λ r. is_in_table ≡ false
         → ends_in_backslash (cow_text r.1) ≡ false → ReadsBack (cow_text r.1))) }
+
+    // Memory is wanted only for a label that doesn't stand in the text as it is.
     ensures borrowed { (label : Label)
         → IsLabel (Skips F.Fn handler.now) text.entry.now is_in_table label
         → label.plain ≡ true → IsOk result }
@@ -184,8 +202,9 @@ enum NextPart {
     Word(u8, bool),
 }
 
-// What stands next, where the byte before it was or was not a backslash that escapes. Brackets and backslashes come
-// before the rest, which is white space: so no table is read, a sixth of the instructions of a label.
+// What stands next, where the byte before it was or was not a backslash that escapes. Brackets and
+// backslashes are asked for first: what is left then is white space, and no table has to be read to
+// tell so.
 fn next_part(rest: &[u8], escaped: bool) -> NextPart
     ensures { IsNextPart escaped rest.now result }
 {
@@ -224,110 +243,8 @@ fn skip_at<F: Fn(&[u8]) -> Option<usize>>(text: &str, place: usize, handler: &F)
     handler(&text.as_bytes()[place..])
 }
 
-// What is known of the bytes of a label that were read: how many characters they are, how long a text their words
-// make, whether there is a word, whether a run of white space ends them and whether a line ending is in it, whether
-// each run is one space, and whether a backslash was dropped.
-#[derive(Clone, Copy, Drop)]
-struct Tally {
-    characters: usize,
-    length: usize,
-    has_word: bool,
-    in_run: bool,
-    has_ending: bool,
-    is_spaced: bool,
-    is_rewritten: bool,
-}
-
-impl Tally {
-    fn new() -> Tally
-        ensures { result ≡ new_tally }
-    {
-        Tally {
-            characters: 0,
-            length: 0,
-            has_word: false,
-            in_run: false,
-            has_ending: false,
-            is_spaced: true,
-            is_rewritten: false,
-        }
-    }
-
-    // After a line ending of this many bytes.
-    fn past_ending(self, len: usize) -> Tally
-        requires { self.characters + len ≤ usize.MAX }
-        ensures { result ≡ tally_past_ending self len }
-    {
-        Tally {
-            characters: self.characters + len,
-            in_run: true,
-            has_ending: true,
-            is_spaced: false,
-            ..self
-        }
-    }
-
-    // After a byte of white space that ends no line.
-    fn past_space(self, byte: u8) -> Tally
-        requires { self.characters + 1 ≤ usize.MAX }
-        ensures { result ≡ tally_past_space self byte }
-    {
-        Tally {
-            characters: self.characters + 1,
-            in_run: true,
-            is_spaced: self.is_spaced && byte == b' ' && !self.in_run,
-            ..self
-        }
-    }
-
-    // After a byte of a word, which is or is not dropped.
-    fn past_word(self, byte: u8, dropped: bool) -> Tally
-        requires characters_fit { self.characters + 1 ≤ usize.MAX }
-        requires length_fits { self.length + space_len self.has_word self.in_run + 1 ≤ usize.MAX }
-        ensures { result ≡ tally_past_word self byte dropped }
-    {
-        let space = if self.has_word && self.in_run { 1 } else { 0 };
-        Tally {
-            characters: self.characters + begun_at(byte),
-            length: self.length + space + if dropped { 0 } else { 1 },
-            has_word: true,
-            in_run: false,
-            has_ending: false,
-            is_rewritten: self.is_rewritten || dropped,
-            ..self
-        }
-    }
-
-    // After more bytes of a word that has begun.
-    fn past_run(self, run: Run) -> Tally
-        requires characters_fit { self.characters + run.characters ≤ usize.MAX }
-        requires length_fits { self.length + run.len ≤ usize.MAX }
-        ensures { result ≡ tally_past_run self run.len run.characters }
-    {
-        Tally {
-            characters: self.characters + run.characters,
-            length: self.length + run.len,
-            ..self
-        }
-    }
-
-    // Whether what was read stands in a label as it is.
-    fn is_plain(self) -> bool
-        ensures { result ≡ (self.is_spaced && not self.is_rewritten) }
-    {
-        self.is_spaced && !self.is_rewritten
-    }
-}
-
-// How many characters begin at this byte.
-fn begun_at(byte: u8) -> usize
-    ensures { result ≡ begun byte }
-{
-    if byte < 128 || byte > 191 { 1 } else { 0 }
-}
-
-// What the first pass over a label finds: the place of the closing bracket, how long the label is, and whether it
-// stands in the text as it is.
+// What the first pass over a label finds: the place of the closing bracket, how long the label is,
+// and whether it stands in the text as it is.
 #[derive(Clone, Copy, Drop)]
 struct Measure {
     close: usize,
@@ -335,8 +252,8 @@ struct Measure {
     is_plain: bool,
 }
 
-// The first pass over a label, which takes no memory. It ends with the character that is one too many, and asks the
-// handler no more.
+// The first pass over a label, which takes no memory. It ends with the character that is one too
+// many, and asks the handler no more.
 fn measure_label<F: Fn(&[u8]) -> Option<usize>>(
     text: &str,
     handler: &F,
@@ -442,13 +359,7 @@ fn write_label<F: Fn(&[u8]) -> Option<usize>>(
                 in_run = true;
             }
             NextPart::Word(_, escapes) => {
-                if has_word && in_run {
-                    out.push_str(" ")?;
-                }
-                if is_dropped(&bytes[ix..], is_in_table) {
-                    out.push_str(&text[mark..ix])?;
-                    mark = ix + 1;
-                }
+                mark = write_word(out, text, mark, ix, has_word && in_run, is_in_table)?;
                 has_word = true;
                 in_run = false;
                 escaped = escapes;
@@ -458,19 +369,33 @@ fn write_label<F: Fn(&[u8]) -> Option<usize>>(
     }
 }
 
-// Appends a part of a text. Nothing is done for an empty one, as it stands between two spaces, which saves 6 % of the
-// instructions of a label where each run of white space is two bytes.
-fn push_part(out: &mut String, part: &str) -> Result<(), AllocError>
-    ensures bytes { string_bytes out.new
-        ≡ (if is_ok result then string_bytes out.old ++ part.now else string_bytes out.old) }
-    ensures len { string_len out.new
-        ≡ (if is_ok result then string_len out.old + length part.now else string_len out.old) }
+// At a byte of a word: appends the space that is due before it, and where the byte is a backslash
+// that a cell of a table drops, the text from `mark` up to it. Answers from where on the text is
+// still to be appended.
+fn write_word(
+    out: &mut String,
+    text: &str,
+    mark: usize,
+    place: usize,
+    is_space_due: bool,
+    is_in_table: bool,
+) -> Result<usize, AllocError>
+    requires ordered { mark ≤ place }
+    requires within { place < length text.now }
+    requires start { IsCharBoundary text.now mark }
+    requires none_before { is_space_due ≡ true → mark ≡ place }
+    ensures written { IfOk result (λ next. IsWordWritten is_in_table is_space_due text.now
+        mark place out.old out.new next) }
     ensures capacity { string_capacity out.old ≤ string_capacity out.new }
-    ensures succeeds { string_len out.old + length part.now ≤ string_capacity out.old → IsOk result }
-    ensures full { OnErr result (string_capacity out.old < string_len out.old + length part.now) }
+    ensures succeeds { string_len out.old + due_len is_space_due + (place - mark)
+        ≤ string_capacity out.old → IsOk result }
 {
-    if part.is_empty() {
-        return Ok(());
+    if is_space_due {
+        out.push_str(" ")?;
     }
-    out.push_str(part)
+    if !is_dropped(&text.as_bytes()[place..], is_in_table) {
+        return Ok(mark);
+    }
+    out.push_str(&text[mark..place])?;
+    Ok(place + 1)
 }

@@ -9,15 +9,19 @@ use Rattle.caseless.proofs.CaselessLemmas.{All-chars, default_case_fold-ascii}
 use Rattle.markdown_scanners_tree.specs.linklabel.Key.{label_key}
 
 pub label_key-ascii : (text : List ℕ) → IsAscii text → label_key text ≡ map to_ascii_lowercase text
-label_key-ascii text ascii = default_case_fold-ascii (chars text) (All-chars text ascii) ∙ ap (map to_ascii_lowercase) (chars-IsAscii text ascii)
+label_key-ascii text ascii = default_case_fold-ascii (chars text) (All-chars text ascii)
+    ∙ ap (map to_ascii_lowercase) (chars-IsAscii text ascii)
 
 lower_ascii : (c : ℕ) → c < 128 → to_ascii_lowercase c < 128
 lower_ascii c below = grind (arith, nat_tests)
 
-encoded : (text : List ℕ) → IsAscii text → map encode_utf8 (map to_ascii_lowercase text) ≡ flat_map fed.u8 (map to_ascii_lowercase text)
+encoded : (text : List ℕ) → IsAscii text
+    → map encode_utf8 (map to_ascii_lowercase text) ≡ flat_map fed.u8 (map to_ascii_lowercase text)
 encoded [] ascii = refl
 encoded (b ∷ bs) ascii =
-    rw (encode_ascii (to_ascii_lowercase b) (lower_ascii b (ascii 0))) (ap (λ rest. (to_ascii_lowercase b ∷ []) ∷ rest) (encoded bs (λ i. ascii (suc i))))
+    rw (encode_ascii (to_ascii_lowercase b) (lower_ascii b (ascii 0)))
+    (ap (λ rest. (to_ascii_lowercase b ∷ []) ∷ rest) (encoded bs (λ i. ascii (suc i))))
 
-pub encoded_key : (text : List ℕ) → IsAscii text → map encode_utf8 (label_key text) ≡ flat_map fed.u8 (map to_ascii_lowercase text)
+pub encoded_key : (text : List ℕ) → IsAscii text
+    → map encode_utf8 (label_key text) ≡ flat_map fed.u8 (map to_ascii_lowercase text)
 encoded_key text ascii = ap (map encode_utf8) (label_key-ascii text ascii) ∙ encoded text ascii

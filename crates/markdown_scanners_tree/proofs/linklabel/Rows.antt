@@ -7,21 +7,24 @@ abbrev read : Bool → List ℕ → List ℕ → Option Label
 read t s skips = label_of t (kept_text s skips)
 
 -- "«\t\tBlurry Eyes\t\t»]" is 20
-pub row_a : read false (194 ∷ 171 ∷ 9 ∷ 9 ∷ codes "Blurry Eyes" ++ 9 ∷ 9 ∷ 194 ∷ 187 ∷ 93 ∷ []) [] ≡ Some (record { len = 20; text = 194 ∷ 171 ∷ codes " Blurry Eyes " ++ 194 ∷ 187 ∷ []; plain = false })
+row_a : read false (194 ∷ 171 ∷ 9 ∷ 9 ∷ codes "Blurry Eyes" ++ 9 ∷ 9 ∷ 194 ∷ 187 ∷ 93 ∷ []) []
+    ≡ Some (record { len = 20; text = 194 ∷ 171 ∷ codes " Blurry Eyes " ++ 194 ∷ 187 ∷ []; plain = false })
 row_a = refl
 
 -- a\ ]
 row_b : read false (97 ∷ 92 ∷ 32 ∷ 93 ∷ []) [] ≡ Some (record { len = 4; text = 97 ∷ 92 ∷ []; plain = true })
 row_b = refl
 
-row_c : read false (replicate 999 97 ++ 93 ∷ []) [] ≡ Some (record { len = 1000; text = replicate 999 97; plain = true })
+row_c : read false (replicate 999 97 ++ 93 ∷ []) []
+    ≡ Some (record { len = 1000; text = replicate 999 97; plain = true })
 row_c = refl
 
 row_d : read false (replicate 1000 97 ++ 93 ∷ []) [] ≡ None
 row_d = refl
 
 -- "hello\r\nworld\r\n]"
-row_e : read false (codes "hello" ++ 13 ∷ 10 ∷ codes "world" ++ 13 ∷ 10 ∷ 93 ∷ []) (0 ∷ 0 ∷ []) ≡ Some (record { len = 15; text = codes "hello world"; plain = false })
+row_e : read false (codes "hello" ++ 13 ∷ 10 ∷ codes "world" ++ 13 ∷ 10 ∷ 93 ∷ []) (0 ∷ 0 ∷ [])
+    ≡ Some (record { len = 15; text = codes "hello world"; plain = false })
 row_e = refl
 
 row_f : read false (codes " ]") [] ≡ None
@@ -32,7 +35,8 @@ row_g : read true (97 ∷ 92 ∷ 124 ∷ 98 ∷ 93 ∷ []) [] ≡ Some (record {
 row_g = refl
 
 -- a\\|b]
-row_h : read true (97 ∷ 92 ∷ 92 ∷ 124 ∷ 98 ∷ 93 ∷ []) [] ≡ Some (record { len = 6; text = 97 ∷ 92 ∷ 124 ∷ 98 ∷ []; plain = false })
+row_h : read true (97 ∷ 92 ∷ 92 ∷ 124 ∷ 98 ∷ 93 ∷ []) []
+    ≡ Some (record { len = 6; text = 97 ∷ 92 ∷ 124 ∷ 98 ∷ []; plain = false })
 row_h = refl
 
 row_i : read false (codes "a[b]") [] ≡ None
@@ -65,16 +69,19 @@ row_q : read false (97 ∷ 10 ∷ codes "> b]") (2 ∷ []) ≡ Some (record { le
 row_q = refl
 
 -- a LF \ | b ], skips the backslash, in a table
-row_r : read true (97 ∷ 10 ∷ 92 ∷ 124 ∷ 98 ∷ 93 ∷ []) (1 ∷ []) ≡ Some (record { len = 6; text = codes "a |b"; plain = false })
+row_r : read true (97 ∷ 10 ∷ 92 ∷ 124 ∷ 98 ∷ 93 ∷ []) (1 ∷ [])
+    ≡ Some (record { len = 6; text = codes "a |b"; plain = false })
 row_r = refl
 
-row_s : read false (replicate 998 97 ++ 195 ∷ 169 ∷ 93 ∷ []) [] ≡ Some (record { len = 1001; text = replicate 998 97 ++ 195 ∷ 169 ∷ []; plain = true })
+row_s : read false (replicate 998 97 ++ 195 ∷ 169 ∷ 93 ∷ []) []
+    ≡ Some (record { len = 1001; text = replicate 998 97 ++ 195 ∷ 169 ∷ []; plain = true })
 row_s = refl
 
 row_t : read false (replicate 999 97 ++ 32 ∷ 93 ∷ []) [] ≡ None
 row_t = refl
 
-row_u : read false (replicate 499 97 ++ 10 ∷ codes "> " ++ replicate 499 97 ++ 93 ∷ []) (2 ∷ []) ≡ Some (record { len = 1002; text = replicate 499 97 ++ 32 ∷ replicate 499 97; plain = false })
+row_u : read false (replicate 499 97 ++ 10 ∷ codes "> " ++ replicate 499 97 ++ 93 ∷ []) (2 ∷ [])
+    ≡ Some (record { len = 1002; text = replicate 499 97 ++ 32 ∷ replicate 499 97; plain = false })
 row_u = refl
 
 -- "a\r\nb]"

@@ -1,16 +1,9 @@
 -- How a label is answered. (CommonMark 0.31.2, section 6.3, link labels)
-use Rattle.std.specs.Prelude.{ℕ, Bool, true, false, ◌==◌, ◌-◌, List, [], ◌∷◌, take, if◌then◌else◌}
+use Rattle.std.specs.Prelude.{ℕ, ◌==◌, ◌-◌, List, [], ◌∷◌, take, if◌then◌else◌}
 use Rattle.markdown_values.specs.declared.strings.CowStr.{CowStr}
-use Rattle.markdown_values.specs.declared.strings.CowStr.TheVariants.{Boxed, Borrowed, Inlined}
-use Rattle.markdown_values.specs.strings.Text.{cow_text}
+use Rattle.markdown_values.specs.strings.Text.{cow_text, is_borrowed}
 use Rattle.markdown_scanners_tree.specs.Ascii.{space}
 use Rattle.markdown_scanners_tree.specs.linklabel.Label.{Label}
-
--- the text is borrowed
-abbrev pub is_borrowed : CowStr → Bool
-is_borrowed (Boxed text) = false
-is_borrowed (Borrowed text) = true
-is_borrowed (Inlined text) = false
 
 -- the label that is answered by the bytes taken and a text, which is borrowed where it stands in the source as it is
 abbrev pub answered_label : ℕ × CowStr → Label

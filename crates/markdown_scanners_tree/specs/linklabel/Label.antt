@@ -1,22 +1,15 @@
 -- Link labels. (CommonMark 0.31.2, section 6.3, link labels)
 use Rattle.std.specs.Prelude.{ℕ, Bool, true, false, ◌||◌, ◌&&◌, ◌==◌, not, nat_le, List, [], ◌∷◌, ◌++◌, ◌≡◌, ◌+◌, length, map, count_by, Option, Some, None, if◌then◌else◌}
 use Rattle.std.specs.List.{list_all, join_with_byte}
-use Rattle.markdown_scanners_tree.specs.Bytes.{begins_with, is_white_space, is_punctuation, is_between}
+use Rattle.markdown_scanners_tree.specs.Bytes.{begins_with, is_white_space, is_between}
 use Rattle.markdown_scanners_tree.specs.Ascii.{space, left_bracket, backslash, right_bracket, vertical_line}
 use Rattle.markdown_scanners_tree.specs.Kept.{KeptByte, bytes_of, line_endings, kept_text, AreSkips}
+use Rattle.markdown_scanners_tree.specs.scanners.Escapes.{units_by}
 
--- what is read as one: a backslash with the punctuation that it escapes, or a single byte (section 2.4, backslash escapes)
-pub data Piece : Type 0 where
-  escaped : KeptByte → KeptByte → Piece
-  single : KeptByte → Piece
-
--- the text, read in pieces
-abbrev pub pieces : List KeptByte → List Piece
-pieces [] = []
-pieces (k ∷ []) = single k ∷ []
-pieces (k ∷ l ∷ ks) =
-    if k.byte == backslash && is_punctuation l.byte then escaped k l ∷ pieces ks
-    else single k ∷ pieces (l ∷ ks)
+-- the kept bytes in units: a backslash with the punctuation that it escapes, or a single byte (section 2.4, backslash
+-- escapes)
+abbrev pub kept_units : List KeptByte → List (List KeptByte)
+kept_units ks = units_by (λ k. k.byte) ks
 
 -- what is between the brackets, and the place of the closing one
 pub record Bracketed : Type 0 where
@@ -28,14 +21,14 @@ abbrev pub preceded : List KeptByte → Option Bracketed → Option Bracketed
 preceded ks None = None
 preceded ks (Some b) = Some (record { content = ks ++ b.content; close = b.close })
 
--- what stands before the first single `]`, where there is one and no single `[` stands before it
-abbrev pub bracketed : List Piece → Option Bracketed
+-- what stands before the first unit that is `]` alone, where there is one and no `[` alone stands before it
+abbrev pub bracketed : List (List KeptByte) → Option Bracketed
 bracketed [] = None
-bracketed (escaped k l ∷ ps) = preceded (k ∷ l ∷ []) (bracketed ps)
-bracketed (single k ∷ ps) =
+bracketed ((k ∷ []) ∷ units) =
     if k.byte == right_bracket then Some (record { content = []; close = k.place })
     else if k.byte == left_bracket then None
-    else preceded (k ∷ []) (bracketed ps)
+    else preceded (k ∷ []) (bracketed units)
+bracketed (unit ∷ units) = preceded unit (bracketed units)
 
 abbrev pub is_white : KeptByte → Bool
 is_white k = is_white_space k.byte
@@ -67,7 +60,8 @@ abbrev pub pipe_at : ℕ → List KeptByte → Bool
 pipe_at place [] = false
 pipe_at place (k ∷ ks) = k.byte == vertical_line && k.place == place
 
--- without the one backslash that stands in the source directly before a pipe (GitHub Flavored Markdown 0.29, section 4.10, tables)
+-- without the one backslash that stands in the source directly before a pipe (GitHub Flavored Markdown 0.29, section
+-- 4.10, tables)
 abbrev pub without_pipe_backslashes : List KeptByte → List KeptByte
 without_pipe_backslashes [] = []
 without_pipe_backslashes (k ∷ ks) =
@@ -104,7 +98,8 @@ abbrev pub is_plain : Bool → List KeptByte → Bool
 is_plain is_in_table content =
     list_all is_one_space (white_runs content) && not (is_in_table && has_pipe_backslash content)
 
--- a label: how many bytes it takes with its closing bracket, its text, and whether that text stands in the source as it is
+-- a label: how many bytes it takes with its closing bracket, its text, and whether that text stands in the source as it
+-- is
 pub record Label : Type 0 where
   pub len : ℕ
   pub text : List ℕ
@@ -123,7 +118,7 @@ label_between is_in_table (Some b) =
 
 -- the label at the front of a kept text, where one stands there
 abbrev pub label_of : Bool → List KeptByte → Option Label
-label_of is_in_table kept = label_between is_in_table (bracketed (pieces kept))
+label_of is_in_table kept = label_between is_in_table (bracketed (kept_units kept))
 
 -- A label stands at the front of a source whose lines a handler answers for.
 pub record IsLabel (answers : List ℕ → ℕ → Type 0) (source : List ℕ) (is_in_table : Bool) (label : Label) : Type 0 where

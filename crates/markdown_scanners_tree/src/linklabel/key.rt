@@ -1,4 +1,5 @@
-//! The case folding of labels, as it is compared and hashed: nothing is stored, and no memory is taken.
+//! The case folding of labels, as it is compared and hashed: nothing is stored, and no memory is
+//! taken.
 ghost use Rattle.std.specs.Prelude.{◌≡◌, ◌↔◌, IsTrue, IsAscii, encode_utf8, fold, map, true};
 ghost use Rattle.markdown_scanners_tree.specs.linklabel.Key.{label_key};
 

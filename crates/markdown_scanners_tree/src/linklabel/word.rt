@@ -2,10 +2,12 @@
 ghost use Rattle.std.specs.Prelude.{length, ◌∷◌, ◌≡◌, ◌≤◌, IfSome};
 ghost use Rattle.markdown_scanners_tree.specs.linklabel.private.Run.{is_ordinary, IsKeptByte, IsRun};
 
-use crate::linklabel::{MOST_CHARACTERS, begun_at};
+use crate::linklabel::MOST_CHARACTERS;
+use crate::linklabel::tally::begun_at;
 use crate::scanners::{is_ascii_punctuation, is_ascii_whitespace};
 
-// Bytes of a word: how many, how many characters begin in them, and whether the last one escapes the next byte.
+// Bytes of a word: how many, how many characters begin in them, and whether the last one escapes
+// the next byte.
 #[derive(Clone, Copy, Drop)]
 pub(crate) struct Run {
     pub(crate) len: usize,
@@ -13,8 +15,9 @@ pub(crate) struct Run {
     pub(crate) escapes: bool,
 }
 
-// The bytes of a word at the front, up to one that a cell of a table drops. The tally is changed once for all of them,
-// which halves the instructions. No more are read than a label has characters, and one.
+// The bytes of a word at the front, up to one that a cell of a table drops. They are read at once,
+// so that the tally is changed once for all of them. No more are read than a label has characters,
+// and one.
 pub(crate) fn word_run(rest: &[u8], escaped: bool, is_in_table: bool) -> Run
     ensures run { IsRun is_in_table escaped rest.now result.len result.characters result.escapes }
     ensures within { result.len ≤ length rest.now }
@@ -38,8 +41,8 @@ pub(crate) fn word_run(rest: &[u8], escaped: bool, is_in_table: bool) -> Run
     run
 }
 
-// Whether a byte of a word escapes what stands behind it. None for a backslash that a cell of a table drops or that
-// ends the text, and for what is no byte of a word.
+// Whether a byte of a word escapes what stands behind it. None for a backslash that a cell of a
+// table drops or that ends the text, and for what is no byte of a word.
 fn kept_byte(byte: u8, behind: &[u8], escaped: bool, is_in_table: bool) -> Option<bool>
     ensures { IfSome result (IsKeptByte is_in_table escaped (byte ∷ behind.now) byte) }
 {
@@ -52,8 +55,8 @@ fn kept_byte(byte: u8, behind: &[u8], escaped: bool, is_in_table: bool) -> Optio
     }
 }
 
-// Whether the byte is no white space, bracket or backslash. These three are neighbors, `[`, `\` and `]`, and most bytes
-// stand behind them: that saves a quarter of the instructions of a word.
+// Whether the byte is no white space, bracket or backslash. These three are neighbors, `[`, `\` and
+// `]`, and most bytes stand behind them: so one comparison tells most bytes.
 pub(crate) fn is_ordinary(byte: u8) -> bool
     ensures { result ≡ is_ordinary byte }
 {

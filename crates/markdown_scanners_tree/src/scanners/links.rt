@@ -116,10 +116,14 @@ fn bare_len(bytes: &[u8], max_next: usize) -> Option<usize>
 /// (CommonMark 0.31.2, section 6.5.)
 pub fn scan_autolink<'a>(text: &'a str, start: usize) -> Option<(usize, CowStr<'a>, LinkType)>
     requires { 0 < start → IsCharBoundary text.now start }
+
+    // The one URI that stands there is answered.
     ensures found { SomeExactly (IsUriAutolink (drop start text.now))
         (option_map (λ r. cow_text r.1) result) }
     ensures only { IfSome result (λ r. (uri : List ℕ)
         → IsUriAutolink (drop start text.now) uri → uri ≡ cow_text r.1) }
+
+    // It is lent from the text, and the answered place is behind its `>`.
     ensures place { IfSome result (λ r. r.0 ≡ start + length (cow_text r.1) + 1) }
     ensures slice { IfSome result (λ r. cow_text r.1 ≡ slice_range text.now start (r.0 - 1)) }
     ensures boundary { IfSome result (λ r. IsCharBoundary text.now r.0) }

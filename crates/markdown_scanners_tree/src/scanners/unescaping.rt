@@ -11,6 +11,7 @@ ghost use Rattle.markdown_scanners_tree.specs.scanners.unescaping.private.FirstP
 
 use crate::scanners::entities::{Entities, scan_entity};
 use crate::scanners::escapes::starts_escape;
+use crate::texts::push_part;
 use markdown_values::strings::CowStr;
 use memchr::memchr3;
 use std::alloc::{AllocError, Global};
@@ -34,8 +35,12 @@ pub fn unescape<'a, E: Entities>(
 ) -> Result<CowStr<'a>, AllocError>
     // The pieces of the input are one list, and all clauses speak of it.
     ensures pieces { HasPieces is_in_table (E.known entities.now) (cow_text input.entry) }
+
+    // The text is what the pieces mean.
     ensures text { ForPieces is_in_table (E.known entities.now) (cow_text input.entry) (λ pieces.
         IfOk result (λ text. cow_text text ≡ joined_meanings pieces)) }
+
+    // The input is handed back where each piece means itself; else the text has its own memory.
     ensures same { ForPieces is_in_table (E.known entities.now) (cow_text input.entry) (λ pieces.
         AreThemselves pieces → result ≡ Ok input.entry) }
     ensures boxed { ForPieces is_in_table (E.known entities.now) (cow_text input.entry) (λ pieces.
@@ -151,25 +156,11 @@ fn push_both(out: &mut String, first: &str, second: &str) -> Result<(), AllocErr
     ensures len { OnOk result (string_len out.new
         ≡ string_len out.old + (length first.now + length second.now)) }
     ensures capacity { string_capacity out.old ≤ string_capacity out.new }
-    ensures room { string_len out.old + (length first.now + length second.now)
+    ensures succeeds { string_len out.old + (length first.now + length second.now)
         ≤ string_capacity out.old → IsOk result }
 {
     push_part(out, first)?;
     out.push_str(second)
-}
-
-// Appends a text. It is empty between changed pieces that touch, which halves the time for runs of
-// CR. With room for it no growth is refused.
-fn push_part(out: &mut String, part: &str) -> Result<(), AllocError>
-    ensures bytes { OnOk result (string_bytes out.new ≡ string_bytes out.old ++ part.now) }
-    ensures len { OnOk result (string_len out.new ≡ string_len out.old + length part.now) }
-    ensures capacity { string_capacity out.old ≤ string_capacity out.new }
-    ensures room { string_len out.old + length part.now ≤ string_capacity out.old → IsOk result }
-{
-    if part.is_empty() {
-        return Ok(());
-    }
-    out.push_str(part)
 }
 
 // The length of the first piece of a text, or of a run of pieces that mean themselves, how many
@@ -216,7 +207,8 @@ fn piece_size(source: usize, dropped: usize, inserted: usize) -> PieceSize
 }
 
 // How many bytes at the front come before a byte with which a changed piece may begin. A byte alone
-// is told from a longer run before the search: for `&a&a&a` that saves a quarter of the time.
+// is told from a longer run before the search, which costs more than one byte is worth, as in
+// `&a&a&a`.
 fn plain_len(bytes: &[u8]) -> usize
     requires some { 0 < length bytes.now }
     requires plain { begins_change (slice_index bytes.now 0) ≡ false }

@@ -14,7 +14,8 @@ no_first (b ∷ bs) none = elim (cases_Bool (b == 32)) [
   | inr other ↦ rw other refl
 ]
 
-stripped : (text : Bor (List ℕ)) (rest : Option (Bor (List ℕ))) → MatchOption rest ((after : List ℕ) → text.now ≢ 32 ∷ after) (λ x. text.now ≡ 32 ∷ x.now)
+stripped : (text : Bor (List ℕ)) (rest : Option (Bor (List ℕ)))
+    → MatchOption rest ((after : List ℕ) → text.now ≢ 32 ∷ after) (λ x. text.now ≡ 32 ∷ x.now)
     → (unwrap_or rest text).now ≡ without_first_space text.now
 stripped text None none = no_first text.now none
 stripped text (Some rest) space = sym (ap without_first_space space)
@@ -22,4 +23,5 @@ stripped text (Some rest) space = sym (ap without_first_space space)
 pub returns : goal.returns
 returns c =
     ap (λ t. t.now) c.unwrap_or.ensures
-    ∙ stripped c.args.text c.strip_prefix.result (strip_prefix_char 32 c.args.text.now c.strip_prefix.result c.strip_prefix.ensures.cases (omega arith))
+    ∙ stripped c.args.text c.strip_prefix.result
+    (strip_prefix_char 32 c.args.text.now c.strip_prefix.result c.strip_prefix.ensures.cases (omega arith))

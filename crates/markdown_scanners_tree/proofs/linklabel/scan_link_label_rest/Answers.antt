@@ -1,33 +1,35 @@
 -- The two passes together.
-use Rattle.std.proofs.Common.{◌≡◌, ◌++◌, ◌+◌, ◌-◌, true, false, arith, refl, sym, ◌∙◌, ap, subst, true≢false}
+use Rattle.std.proofs.Common.{◌≡◌, ◌++◌, ◌+◌, ◌-◌, false, arith, refl, sym, ◌∙◌, ap, subst, true≢false}
 use Rattle.markdown_values.specs.declared.strings.CowStr.{CowStr}
 use Rattle.markdown_values.specs.declared.strings.CowStr.TheVariants.{Boxed, Borrowed, Inlined}
-use Rattle.markdown_values.specs.strings.Text.{IsBorrowed, IsBoxed}
+use Rattle.markdown_values.specs.strings.Text.{IsBoxed, is_borrowed}
 use Rattle.markdown_scanners_tree.specs.Handler.{Skips}
-use Rattle.markdown_scanners_tree.specs.linklabel.Answer.{is_borrowed, without_first_space, without_last_space}
+use Rattle.markdown_scanners_tree.specs.linklabel.Answer.{without_first_space, without_last_space}
 use Rattle.markdown_scanners_tree.specs.linklabel.Label.{Label, IsLabel}
 use Rattle.markdown_scanners_tree.proofs.linklabel.ReadsBack.{label_reads_back}
-use Rattle.markdown_scanners_tree.proofs.linklabel.Scan.{same_take}
+use Rattle.markdown_scanners_tree.proofs.linklabel.SourceSteps.{same_take}
 use Rattle.markdown_scanners_tree.proofs.linklabel.scan_link_label_rest.Goals as goal
 
 pub returns-in_err-label-clause-borrowed : goal.returns-in_err-label-clause-borrowed
-returns-in_err-label-clause-borrowed g c = λ label l plain. (let m = c.in-Some.ensures.found in absurd (true≢false (sym plain ∙ ap (λ (x : Label). x.plain) (m.only label l) ∙ sym m.plain_is ∙ c.if-measure.false)))
+returns-in_err-label-clause-borrowed g c =
+    λ label l plain. (let m = c.in-Some.ensures.found in
+    absurd (true≢false (sym plain ∙ ap (λ (x : Label). x.plain) (m.only label l) ∙ sym m.plain_is
+    ∙ c.if-measure.false)))
 
 pub returns-in_err-label-clause-no_label : goal.returns-in_err-label-clause-no_label
 returns-in_err-label-clause-no_label g c = λ none. (let m = c.in-Some.ensures.found in absurd (none m.label m.is_label))
 
 pub returns-in_err-write_label-clause-borrowed : goal.returns-in_err-write_label-clause-borrowed
-returns-in_err-write_label-clause-borrowed g c = λ label l plain. (let m = c.in-Some.ensures.found in absurd (true≢false (sym plain ∙ ap (λ (x : Label). x.plain) (m.only label l) ∙ sym m.plain_is ∙ c.if-measure.false)))
+returns-in_err-write_label-clause-borrowed g c =
+    λ label l plain. (let m = c.in-Some.ensures.found in
+    absurd (true≢false (sym plain ∙ ap (λ (x : Label). x.plain) (m.only label l) ∙ sym m.plain_is
+    ∙ c.if-measure.false)))
 
 pub returns-in_err-write_label-clause-no_label : goal.returns-in_err-write_label-clause-no_label
-returns-in_err-write_label-clause-no_label g c = λ none. (let m = c.in-Some.ensures.found in absurd (none m.label m.is_label))
+returns-in_err-write_label-clause-no_label g c =
+    λ none. (let m = c.in-Some.ensures.found in absurd (none m.label m.is_label))
 
--- a borrowed text and an owned one
-is_borrowed-borrowed : (text : CowStr) → IsBorrowed text → is_borrowed text ≡ true
-is_borrowed-borrowed (Boxed t) b = absurd b
-is_borrowed-borrowed (Borrowed t) b = refl
-is_borrowed-borrowed (Inlined t) b = absurd b
-
+-- an owned text is not borrowed
 is_borrowed-boxed : (text : CowStr) → IsBoxed text → is_borrowed text ≡ false
 is_borrowed-boxed (Boxed t) b = refl
 is_borrowed-boxed (Borrowed t) b = absurd b
@@ -36,44 +38,57 @@ is_borrowed-boxed (Inlined t) b = absurd b
 pub returns-clause-found : goal.returns-clause-found
 returns-clause-found g c =
     let m = c.in-Some.ensures.found in
-    let text = c.in_ok-from_string.ensures.text ∙ c.in_ok-write_label.ensures.written m.label m.is_label ∙ ap (λ z. z ++ m.label.text) c.in_ok-label.ensures.bytes in
+    let text = c.in_ok-from_string.ensures.text ∙ c.in_ok-write_label.ensures.written m.label m.is_label
+    ∙ ap (λ z. z ++ m.label.text) c.in_ok-label.ensures.bytes in
     let plain = is_borrowed-boxed _ c.in_ok-from_string.ensures.boxed ∙ sym c.if-measure.false ∙ m.plain_is in
-    subst (λ x. x) (λ i. IsLabel (Skips g.F.Fn c.args.handler.now) c.args.text.now c.args.is_in_table (record { len = sym m.len_is i; text = sym text i; plain = sym plain i })) m.is_label
+    subst (λ x. x) (λ i. IsLabel (Skips g.F.Fn c.args.handler.now) c.args.text.now c.args.is_in_table
+    (record { len = sym m.len_is i; text = sym text i; plain = sym plain i })) m.is_label
 
 pub returns-then-measure-clause-found : goal.returns-then-measure-clause-found
 returns-then-measure-clause-found g c =
     let m = c.in-Some.ensures.found in
-    let inner = c.range.ensures.value ∙ same_take c.args.text.now (c.in-Some.measure.close - 0) c.in-Some.measure.close (omega arith) in
-    let label = c.from.ensures.0 ∙ c.up_to_last_space-label.ensures ∙ ap without_last_space (c.past_first_space.ensures ∙ ap without_first_space inner) in
+    let inner = c.range.ensures.value
+    ∙ same_take c.args.text.now (c.in-Some.measure.close - 0) c.in-Some.measure.close (omega arith) in
+    let label = c.from.ensures.0 ∙ c.up_to_last_space-label.ensures
+    ∙ ap without_last_space (c.past_first_space.ensures ∙ ap without_first_space inner) in
     let text = label ∙ sym (m.stands (sym m.plain_is ∙ c.if-measure.true)) in
-    let plain = is_borrowed-borrowed _ c.from.ensures.1 ∙ sym c.if-measure.true ∙ m.plain_is in
-    subst (λ x. x) (λ i. IsLabel (Skips g.F.Fn c.args.handler.now) c.args.text.now c.args.is_in_table (record { len = sym m.len_is i; text = sym text i; plain = sym plain i })) m.is_label
+    let plain = c.from.ensures.1 ∙ sym c.if-measure.true ∙ m.plain_is in
+    subst (λ x. x) (λ i. IsLabel (Skips g.F.Fn c.args.handler.now) c.args.text.now c.args.is_in_table
+    (record { len = sym m.len_is i; text = sym text i; plain = sym plain i })) m.is_label
 
 pub returns-clause-reads_back : goal.returns-clause-reads_back
 returns-clause-reads_back g c =
     let m = c.in-Some.ensures.found in
-    label_reads_back _ _ _ m.label _ m.is_label (c.in_ok-from_string.ensures.text ∙ c.in_ok-write_label.ensures.written m.label m.is_label ∙ ap (λ z. z ++ m.label.text) c.in_ok-label.ensures.bytes)
+    label_reads_back _ _ _ m.label _ m.is_label
+    (c.in_ok-from_string.ensures.text ∙ c.in_ok-write_label.ensures.written m.label m.is_label
+    ∙ ap (λ z. z ++ m.label.text) c.in_ok-label.ensures.bytes)
 
 pub returns-then-measure-clause-reads_back : goal.returns-then-measure-clause-reads_back
 returns-then-measure-clause-reads_back g c =
     let m = c.in-Some.ensures.found in
-    let inner = c.range.ensures.value ∙ same_take c.args.text.now (c.in-Some.measure.close - 0) c.in-Some.measure.close (omega arith) in
-    let text = c.from.ensures.0 ∙ c.up_to_last_space-label.ensures ∙ ap without_last_space (c.past_first_space.ensures ∙ ap without_first_space inner) in
+    let inner = c.range.ensures.value
+    ∙ same_take c.args.text.now (c.in-Some.measure.close - 0) c.in-Some.measure.close (omega arith) in
+    let text = c.from.ensures.0 ∙ c.up_to_last_space-label.ensures
+    ∙ ap without_last_space (c.past_first_space.ensures ∙ ap without_first_space inner) in
     label_reads_back _ _ _ m.label _ m.is_label (text ∙ sym (m.stands (sym m.plain_is ∙ c.if-measure.true)))
 
 pub returns-clause-only : goal.returns-clause-only
 returns-clause-only g c = λ label l.
     (let m = c.in-Some.ensures.found in
-    let text = c.in_ok-from_string.ensures.text ∙ c.in_ok-write_label.ensures.written m.label m.is_label ∙ ap (λ z. z ++ m.label.text) c.in_ok-label.ensures.bytes in
+    let text = c.in_ok-from_string.ensures.text ∙ c.in_ok-write_label.ensures.written m.label m.is_label
+    ∙ ap (λ z. z ++ m.label.text) c.in_ok-label.ensures.bytes in
     let plain = is_borrowed-boxed _ c.in_ok-from_string.ensures.boxed ∙ sym c.if-measure.false ∙ m.plain_is in
     m.only label l ∙ (λ i. record { len = sym m.len_is i; text = sym text i; plain = sym plain i }))
 
 pub returns-then-measure-clause-only : goal.returns-then-measure-clause-only
 returns-then-measure-clause-only g c = λ label l.
     (let m = c.in-Some.ensures.found in
-    let inner = c.range.ensures.value ∙ same_take c.args.text.now (c.in-Some.measure.close - 0) c.in-Some.measure.close (omega arith) in
-    let text = c.from.ensures.0 ∙ c.up_to_last_space-label.ensures ∙ ap without_last_space (c.past_first_space.ensures ∙ ap without_first_space inner) ∙ sym (m.stands (sym m.plain_is ∙ c.if-measure.true)) in
-    let plain = is_borrowed-borrowed _ c.from.ensures.1 ∙ sym c.if-measure.true ∙ m.plain_is in
+    let inner = c.range.ensures.value
+    ∙ same_take c.args.text.now (c.in-Some.measure.close - 0) c.in-Some.measure.close (omega arith) in
+    let text = c.from.ensures.0 ∙ c.up_to_last_space-label.ensures
+    ∙ ap without_last_space (c.past_first_space.ensures ∙ ap without_first_space inner)
+    ∙ sym (m.stands (sym m.plain_is ∙ c.if-measure.true)) in
+    let plain = c.from.ensures.1 ∙ sym c.if-measure.true ∙ m.plain_is in
     m.only label l ∙ (λ i. record { len = sym m.len_is i; text = sym text i; plain = sym plain i }))
 
 pub returns-clause-within : goal.returns-clause-within
@@ -88,16 +103,12 @@ returns-clause-boundary g c = c.in-Some.ensures.found.behind
 pub returns-then-measure-clause-boundary : goal.returns-then-measure-clause-boundary
 returns-then-measure-clause-boundary g c = c.in-Some.ensures.found.behind
 
-owned_or_borrowed : (text : CowStr) → IsBoxed text → IsBorrowed text → ⊥
-owned_or_borrowed (Boxed t) o b = b
-owned_or_borrowed (Borrowed t) o b = o
-owned_or_borrowed (Inlined t) o b = b
-
 pub returns-clause-slice : goal.returns-clause-slice
-returns-clause-slice g c = λ b. absurd (owned_or_borrowed _ c.in_ok-from_string.ensures.boxed b)
+returns-clause-slice g c = λ b. absurd (true≢false (sym b ∙ is_borrowed-boxed _ c.in_ok-from_string.ensures.boxed))
 
 pub returns-then-measure-clause-slice : goal.returns-then-measure-clause-slice
 returns-then-measure-clause-slice g c = λ _.
     (let close = c.in-Some.measure.close in
     let inner = c.range.ensures.value ∙ same_take c.args.text.now (close - 0) (close + 1 - 1) (omega arith) in
-    c.from.ensures.0 ∙ c.up_to_last_space-label.ensures ∙ ap without_last_space (c.past_first_space.ensures ∙ ap without_first_space inner))
+    c.from.ensures.0 ∙ c.up_to_last_space-label.ensures
+    ∙ ap without_last_space (c.past_first_space.ensures ∙ ap without_first_space inner))

@@ -20,7 +20,8 @@ last_dropped [] = refl
 last_dropped (b ∷ []) = refl
 last_dropped (b ∷ c ∷ bs) = ap (λ z. b ∷ z) (last_dropped (c ∷ bs))
 
-stripped : (text : Bor (List ℕ)) (front : Option (Bor (List ℕ))) → MatchOption front ((before : List ℕ) → text.now ≢ before ++ (32 ∷ [])) (λ x. text.now ≡ x.now ++ (32 ∷ []))
+stripped : (text : Bor (List ℕ)) (front : Option (Bor (List ℕ)))
+    → MatchOption front ((before : List ℕ) → text.now ≢ before ++ (32 ∷ [])) (λ x. text.now ≡ x.now ++ (32 ∷ []))
     → (unwrap_or front text).now ≡ without_last_space text.now
 stripped text None none = no_last text.now none
 stripped text (Some front) space = last_dropped front.now ∙ sym (ap without_last_space space)
@@ -28,4 +29,5 @@ stripped text (Some front) space = last_dropped front.now ∙ sym (ap without_la
 pub returns : goal.returns
 returns c =
     ap (λ t. t.now) c.unwrap_or.ensures
-    ∙ stripped c.args.text c.strip_suffix.result (strip_suffix_char 32 c.args.text.now c.strip_suffix.result c.strip_suffix.ensures.cases (omega arith))
+    ∙ stripped c.args.text c.strip_suffix.result
+    (strip_suffix_char 32 c.args.text.now c.strip_suffix.result c.strip_suffix.ensures.cases (omega arith))

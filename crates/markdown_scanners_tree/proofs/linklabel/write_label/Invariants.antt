@@ -3,8 +3,8 @@ use Rattle.std.specs.Str.{IsCharBoundary}
 use Rattle.std.specs.String.{string_bytes, string_len, string_capacity}
 use Rattle.markdown_scanners_tree.specs.Kept.{KeptByte}
 use Rattle.markdown_scanners_tree.specs.Handler.{Skips}
-use Rattle.markdown_scanners_tree.proofs.linklabel.Scan.{IsAt}
-use Rattle.markdown_scanners_tree.proofs.linklabel.Seen.{Written}
+use Rattle.markdown_scanners_tree.proofs.linklabel.SourceSteps.{IsAt}
+use Rattle.markdown_scanners_tree.proofs.linklabel.SeenBytes.{Written}
 use Rattle.markdown_scanners_tree.proofs.linklabel.write_label.Given as goal
 
 abbrev pub invariant-loop-out : goal.invariant-loop-out

@@ -15,17 +15,26 @@ pub prefix_digits : (radix : ℕ) (bs : List ℕ) → AllDigits radix (take (pre
 prefix_digits radix [] = tt
 prefix_digits radix (b ∷ bs) =
     elim (cases_lt (digit_value b) radix) [
-      | inl below ↦ rw (lt-ltb (digit_value b) radix below, add_comm 1 (prefix_len (λ b. is_digit b radix) bs), add-one (prefix_len (λ b. is_digit b radix) bs)) (below, prefix_digits radix bs)
+      | inl below ↦
+          rw (
+            lt-ltb (digit_value b) radix below,
+            add_comm 1 (prefix_len (λ b. is_digit b radix) bs),
+            add-one (prefix_len (λ b. is_digit b radix) bs),
+          ) (below, prefix_digits radix bs)
       | inr above ↦ rw (le-ltb (digit_value b) radix above) tt
     ]
 
 -- a semicolon ends the digits at the front
-pub digits_end : (radix : ℕ) (ds rest : List ℕ) → radix ≤ 36 → AllDigits radix ds → prefix_len (λ b. is_digit b radix) (ds ++ semicolon ∷ rest) ≡ length ds
+digits_end : (radix : ℕ) (ds rest : List ℕ) → radix ≤ 36 → AllDigits radix ds
+    → prefix_len (λ b. is_digit b radix) (ds ++ semicolon ∷ rest) ≡ length ds
 digits_end radix [] rest low a = rw (le-ltb 36 radix low) refl
-digits_end radix (d ∷ ds) rest low a = rw (lt-ltb (digit_value d) radix a.0, digits_end radix ds rest low a.1) (omega arith)
+digits_end radix (d ∷ ds) rest low a =
+    rw (lt-ltb (digit_value d) radix a.0, digits_end radix ds rest low a.1) (omega arith)
 
-pub number_found : (radix limit : ℕ) (bytes : List ℕ) (n number : ℕ) → n ≡ prefix_len (λ b. is_digit b radix) bytes → 1 ≤ n → n ≤ limit → n < length bytes
-    → get_or bytes n 0 ≡ semicolon → number ≡ digits_value radix (take n bytes) → StartsWithNumber radix limit bytes n number
+pub number_found : (radix limit : ℕ) (bytes : List ℕ) (n number : ℕ) → n ≡ prefix_len (λ b. is_digit b radix) bytes
+    → 1 ≤ n → n ≤ limit → n < length bytes
+    → get_or bytes n 0 ≡ semicolon → number ≡ digits_value radix (take n bytes)
+    → StartsWithNumber radix limit bytes n number
 number_found radix limit bytes n number is one few inside ends means =
     let made : AllDigits radix (take n bytes) = rw is (prefix_digits radix bytes) in
     let long : length (take n bytes) ≡ n = length-take-le n bytes (omega (arith, inside)) in
@@ -47,13 +56,17 @@ pub record IsEnded (limit : ℕ) (bytes : List ℕ) (n : ℕ) : Type 0 where
   pub inside : n < length bytes
   pub ends : get_or bytes n 0 ≡ semicolon
 
-pub number_ended : (radix limit : ℕ) (bytes : List ℕ) (n k number : ℕ) → n ≡ prefix_len (λ b. is_digit b radix) bytes → radix ≤ 36
+pub number_ended : (radix limit : ℕ) (bytes : List ℕ) (n k number : ℕ) → n ≡ prefix_len (λ b. is_digit b radix) bytes
+    → radix ≤ 36
     → StartsWithNumber radix limit bytes k number → IsEnded limit bytes n
 number_ended radix limit bytes n k number same low is =
-    let count : n ≡ length is.digits = same ∙ (ap (prefix_len (λ b. is_digit b radix)) is.splits ∙ digits_end radix is.digits is.rest low is.digits_only) in
+    let count : n ≡ length is.digits = same
+    ∙ (ap (prefix_len (λ b. is_digit b radix)) is.splits ∙ digits_end radix is.digits is.rest low is.digits_only) in
     record {
       at_least_one = omega (arith, count, is.at_least_one);
       at_most_limit = omega (arith, count, is.at_most_limit);
       inside = omega (arith, count, ap length is.splits, length-append is.digits (semicolon ∷ is.rest));
-      ends = ap (λ k. get_or bytes k 0) count ∙ (ap (λ bs. get_or bs (length is.digits) 0) is.splits ∙ get_or_at is.digits semicolon is.rest 0 (length is.digits) refl);
+      ends = ap (λ k. get_or bytes k 0) count
+          ∙ (ap (λ bs. get_or bs (length is.digits) 0) is.splits
+          ∙ get_or_at is.digits semicolon is.rest 0 (length is.digits) refl);
     }

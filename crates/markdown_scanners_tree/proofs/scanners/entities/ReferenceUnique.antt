@@ -37,68 +37,101 @@ record IsEnclosed (source : List ℕ) : Type 0 where
 
 enclosed : (known : Lookup) (source meaning : List ℕ) → IsReference known source meaning → IsEnclosed source
 enclosed known source meaning is = elim is [
-  | inl decimal ↦ record { opener = decimal.opener; body = number_sign ∷ decimal.digits; spelled = decimal.spelled; clear = clear_digits 10 decimal.digits (omega arith) decimal.digits_only }
+  | inl decimal ↦
+      record { opener = decimal.opener; body = number_sign ∷ decimal.digits; spelled = decimal.spelled; clear = clear_digits 10 decimal.digits (omega arith) decimal.digits_only }
   | inr other ↦ elim other [
     | inl hexadecimal ↦ record {
       opener = hexadecimal.opener;
       body = number_sign ∷ hexadecimal.mark ∷ hexadecimal.digits;
       spelled = hexadecimal.spelled;
       clear =
-          let other : hexadecimal.mark ≡ semicolon → ⊥ = λ is. false≢true (ap marks_hexadecimal (sym is) ∙ hexadecimal.marked) in
-          rw (ne_eqb hexadecimal.mark semicolon other) (clear_digits 16 hexadecimal.digits (omega arith) hexadecimal.digits_only);
+          let other : hexadecimal.mark ≡ semicolon → ⊥ =
+          λ is. false≢true (ap marks_hexadecimal (sym is) ∙ hexadecimal.marked) in
+          rw (ne_eqb hexadecimal.mark semicolon other)
+          (clear_digits 16 hexadecimal.digits (omega arith) hexadecimal.digits_only);
     }
-    | inr entity ↦ record { opener = entity.opener; body = entity.name; spelled = entity.spelled; clear = clear_name entity.name entity.alphanumerics_only }
+    | inr entity ↦
+        record { opener = entity.opener; body = entity.name; spelled = entity.spelled; clear = clear_name entity.name entity.alphanumerics_only }
   ]
 ]
 
 -- its semicolon is the first after the first byte
-enclosed_len : (source rest : List ℕ) (is : IsEnclosed source) → length is.body ≡ prefix_len is_clear (drop 1 (source ++ rest))
+enclosed_len : (source rest : List ℕ) (is : IsEnclosed source)
+    → length is.body ≡ prefix_len is_clear (drop 1 (source ++ rest))
 enclosed_len source rest is =
-    let after : drop 1 (source ++ rest) ≡ is.body ++ semicolon ∷ rest = ap (λ s. drop 1 (s ++ rest)) is.spelled ∙ append_assoc is.body (semicolon ∷ []) rest in
+    let after : drop 1 (source ++ rest) ≡ is.body ++ semicolon ∷ rest = ap (λ s. drop 1 (s ++ rest)) is.spelled
+    ∙ append_assoc is.body (semicolon ∷ []) rest in
     sym (ap (prefix_len is_clear) after ∙ prefix_len-parts is_clear is.body (semicolon ∷ rest) is.clear refl)
 
-pub same_source : (known : Lookup) (source rest meaning source' rest' meaning' : List ℕ) → source ++ rest ≡ source' ++ rest'
+pub same_source : (known : Lookup) (source rest meaning source' rest' meaning' : List ℕ)
+    → source ++ rest ≡ source' ++ rest'
     → IsReference known source meaning → IsReference known source' meaning' → source ≡ source'
 same_source known source rest meaning source' rest' meaning' same is is' =
     let one = enclosed known source meaning is in
     let other = enclosed known source' meaning' is' in
     let body : length one.body ≡ length other.body =
-    enclosed_len source rest one ∙ (ap (λ t. prefix_len is_clear (drop 1 t)) same ∙ sym (enclosed_len source' rest' other)) in
+    enclosed_len source rest one
+    ∙ (ap (λ t. prefix_len is_clear (drop 1 t)) same ∙ sym (enclosed_len source' rest' other)) in
     let long : length source ≡ length source' =
-    omega (arith, body, ap length one.spelled, ap length other.spelled, length-append one.body (semicolon ∷ []), length-append other.body (semicolon ∷ [])) in
-    sym (take_at source rest (length source) refl) ∙ (ap (take (length source)) same ∙ take_at source' rest' (length source) (sym long))
+    omega (
+      arith,
+      body,
+      ap length one.spelled,
+      ap length other.spelled,
+      length-append one.body (semicolon ∷ []),
+      length-append other.body (semicolon ∷ []),
+    ) in
+    sym (take_at source rest (length source) refl)
+    ∙ (ap (take (length source)) same ∙ take_at source' rest' (length source) (sym long))
 
 -- the same digits stand for the same number
-same_digits : (radix : ℕ) (digits digits' meaning meaning' : List ℕ) → digits ++ semicolon ∷ [] ≡ digits' ++ semicolon ∷ []
-    → meaning ≡ encode_utf8 (referenced_char (digits_value radix digits)) → meaning' ≡ encode_utf8 (referenced_char (digits_value radix digits')) → meaning ≡ meaning'
+same_digits : (radix : ℕ) (digits digits' meaning meaning' : List ℕ)
+    → digits ++ semicolon ∷ [] ≡ digits' ++ semicolon ∷ []
+    → meaning ≡ encode_utf8 (referenced_char (digits_value radix digits))
+    → meaning' ≡ encode_utf8 (referenced_char (digits_value radix digits')) → meaning ≡ meaning'
 same_digits radix digits digits' meaning meaning' same means means' =
-    means ∙ (ap (λ ds. encode_utf8 (referenced_char (digits_value radix ds))) (append_cancel_right digits digits' (semicolon ∷ []) same) ∙ sym means')
+    means ∙ (ap (λ ds. encode_utf8 (referenced_char (digits_value radix ds)))
+    (append_cancel_right digits digits' (semicolon ∷ []) same) ∙ sym means')
 
 -- decimal digits are no entity's name, and no hexadecimal mark
-no_other : (known : Lookup) (source meaning meaning' : List ℕ) → IsDecimalReference source meaning → IsHexadecimalReference source meaning' ⊎ IsEntityReference known source meaning' → ⊥
+no_other : (known : Lookup) (source meaning meaning' : List ℕ) → IsDecimalReference source meaning
+    → IsHexadecimalReference source meaning' ⊎ IsEntityReference known source meaning' → ⊥
 no_other known source meaning meaning' decimal other =
     let whole : source ≡ source ++ [] = sym (append-nil source) in
     let at = decimal_at source source [] meaning whole decimal in
     elim other [
-      | inl hexadecimal ↦ decimal_no_letter source meaning at (hexadecimal_at source source [] meaning' whole hexadecimal).letter
-      | inr entity ↦ entity_no_mark known source meaning' (entity_at known source source [] meaning' whole entity) at.mark
+      | inl hexadecimal ↦
+          decimal_no_letter source meaning at (hexadecimal_at source source [] meaning' whole hexadecimal).letter
+      | inr entity ↦
+          entity_no_mark known source meaning' (entity_at known source source [] meaning' whole entity) at.mark
     ]
 
-no_entity : (known : Lookup) (source meaning meaning' : List ℕ) → IsHexadecimalReference source meaning → IsEntityReference known source meaning' → ⊥
+no_entity : (known : Lookup) (source meaning meaning' : List ℕ) → IsHexadecimalReference source meaning
+    → IsEntityReference known source meaning' → ⊥
 no_entity known source meaning meaning' hexadecimal entity =
     let whole : source ≡ source ++ [] = sym (append-nil source) in
-    entity_no_mark known source meaning' (entity_at known source source [] meaning' whole entity) (hexadecimal_at source source [] meaning whole hexadecimal).mark
+    entity_no_mark known source meaning' (entity_at known source source [] meaning' whole entity)
+    (hexadecimal_at source source [] meaning whole hexadecimal).mark
 
-pub same_meaning : (known : Lookup) (source meaning meaning' : List ℕ) → IsReference known source meaning → IsReference known source meaning' → meaning ≡ meaning'
+pub same_meaning : (known : Lookup) (source meaning meaning' : List ℕ) → IsReference known source meaning
+    → IsReference known source meaning' → meaning ≡ meaning'
 same_meaning known source meaning meaning' (inl decimal) (inl decimal') =
-    same_digits 10 decimal.digits decimal'.digits meaning meaning' (ap (drop 2) (sym decimal.spelled ∙ decimal'.spelled)) decimal.means decimal'.means
-same_meaning known source meaning meaning' (inl decimal) (inr other) = absurd (no_other known source meaning meaning' decimal other)
-same_meaning known source meaning meaning' (inr other) (inl decimal) = absurd (no_other known source meaning' meaning decimal other)
+    same_digits 10 decimal.digits decimal'.digits meaning meaning'
+    (ap (drop 2) (sym decimal.spelled ∙ decimal'.spelled)) decimal.means decimal'.means
+same_meaning known source meaning meaning' (inl decimal) (inr other) =
+    absurd (no_other known source meaning meaning' decimal other)
+same_meaning known source meaning meaning' (inr other) (inl decimal) =
+    absurd (no_other known source meaning' meaning decimal other)
 same_meaning known source meaning meaning' (inr (inl hexadecimal)) (inr (inl hexadecimal')) =
-    same_digits 16 hexadecimal.digits hexadecimal'.digits meaning meaning' (ap (drop 3) (sym hexadecimal.spelled ∙ hexadecimal'.spelled)) hexadecimal.means hexadecimal'.means
-same_meaning known source meaning meaning' (inr (inl hexadecimal)) (inr (inr entity)) = absurd (no_entity known source meaning meaning' hexadecimal entity)
-same_meaning known source meaning meaning' (inr (inr entity)) (inr (inl hexadecimal)) = absurd (no_entity known source meaning' meaning hexadecimal entity)
+    same_digits 16 hexadecimal.digits hexadecimal'.digits meaning meaning'
+    (ap (drop 3) (sym hexadecimal.spelled ∙ hexadecimal'.spelled)) hexadecimal.means hexadecimal'.means
+same_meaning known source meaning meaning' (inr (inl hexadecimal)) (inr (inr entity)) =
+    absurd (no_entity known source meaning meaning' hexadecimal entity)
+same_meaning known source meaning meaning' (inr (inr entity)) (inr (inl hexadecimal)) =
+    absurd (no_entity known source meaning' meaning hexadecimal entity)
 same_meaning known source meaning meaning' (inr (inr entity)) (inr (inr entity')) =
-    let name : entity.name ≡ entity'.name = append_cancel_right entity.name entity'.name (semicolon ∷ []) (ap (drop 1) (sym entity.spelled ∙ entity'.spelled)) in
+    let name : entity.name ≡ entity'.name =
+    append_cancel_right entity.name entity'.name (semicolon ∷ [])
+    (ap (drop 1) (sym entity.spelled ∙ entity'.spelled)) in
     let both : Some meaning ≡ Some meaning' = sym entity.means ∙ (ap known name ∙ entity'.means) in
     cc

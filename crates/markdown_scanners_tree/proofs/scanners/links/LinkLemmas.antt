@@ -1,5 +1,6 @@
 -- Pipes of wikilinks, and absolute URIs in angle brackets.
-use Rattle.std.proofs.Common.{◌≡◌, ℕ, suc, ◌+◌, ◌-◌, ◌<◌, ◌≤◌, true, ◌==◌, min, List, [], ◌∷◌, ◌++◌, length, take, drop, get_or, refl, sym, ap, ◌∙◌, subst, arith, inl, inr, Option, Some, None, append_assoc, one-add}
+use Rattle.std.proofs.Common.{◌≡◌, ℕ, suc, ◌+◌, ◌-◌, ◌<◌, ◌≤◌, true, ◌==◌, min, List, [], ◌∷◌, ◌++◌, length, take, drop, get_or}
+use Rattle.std.proofs.Common.{refl, sym, ap, ◌∙◌, subst, arith, inl, inr, Option, Some, None, append_assoc, one-add}
 use Rattle.std.specs.Prelude.{position}
 use Rattle.std.specs.List.{prefix_len}
 use Rattle.std.proofs.lemmas.Bool.{lt-ltb, le-ltb, cases_lt, eqb-true}
@@ -16,16 +17,21 @@ use Rattle.markdown_scanners_tree.proofs.PrefixLemmas.{list_all-prefix, prefix_l
 use Rattle.markdown_scanners_tree.proofs.ScanLemmas.{prefix_len-found, prefix_len-not_found}
 
 -- a search by `memchr` answers the first position
-pub position-searched : (byte : ℕ) (bytes : List ℕ) (found : Option ℕ) → IsFirstByte (is_byte byte) bytes found → position (λ b. b == byte) bytes ≡ found
-position-searched byte bytes None none = rw (prefix_len-not_found byte bytes none, le-ltb (length bytes) (length bytes) (omega arith)) refl
-position-searched byte bytes (Some k) first = rw (prefix_len-found byte bytes k first, lt-ltb k (length bytes) first.0.high) refl
+pub position-searched : (byte : ℕ) (bytes : List ℕ) (found : Option ℕ) → IsFirstByte (is_byte byte) bytes found
+    → position (λ b. b == byte) bytes ≡ found
+position-searched byte bytes None none =
+    rw (prefix_len-not_found byte bytes none, le-ltb (length bytes) (length bytes) (omega arith)) refl
+position-searched byte bytes (Some k) first =
+    rw (prefix_len-found byte bytes k first, lt-ltb k (length bytes) first.0.high) refl
 
 -- the text from a place on, as a slice of its bytes
-pub text_from : (bytes text : List ℕ) (start : ℕ) → bytes ≡ text → take (length bytes - start) (drop start bytes) ≡ drop start text
+pub text_from : (bytes text : List ℕ) (start : ℕ) → bytes ≡ text
+    → take (length bytes - start) (drop start bytes) ≡ drop start text
 text_from bytes text start same = take_rest bytes start ∙ ap (drop start) same
 
 -- the first n bytes from a place, cut at the end of the text, as two slices of its bytes
-pub window_is : (bytes text : List ℕ) (start n m : ℕ) → bytes ≡ text → m ≡ min n (length (take (length bytes - start) (drop start bytes)))
+pub window_is : (bytes text : List ℕ) (start n m : ℕ) → bytes ≡ text
+    → m ≡ min n (length (take (length bytes - start) (drop start bytes)))
     → take m (take (length bytes - start) (drop start bytes)) ≡ take n (drop start text)
 window_is bytes text start n m same least =
     let rest = take (length bytes - start) (drop start bytes) in
@@ -38,7 +44,8 @@ window_is bytes text start n m same least =
     ]
 
 -- a letter, then the longest run of scheme bytes, and a colon
-pub scheme_found : (bytes : List ℕ) (n : ℕ) → 0 < length bytes → is_letter (get_or bytes 0 0) ≡ true → n ≡ 1 + prefix_len is_scheme_byte (drop 1 bytes) → 2 ≤ n → n ≤ 32
+pub scheme_found : (bytes : List ℕ) (n : ℕ) → 0 < length bytes → is_letter (get_or bytes 0 0) ≡ true
+    → n ≡ 1 + prefix_len is_scheme_byte (drop 1 bytes) → 2 ≤ n → n ≤ 32
     → n < length bytes → get_or bytes n 0 ≡ colon → StartsWithScheme bytes n
 scheme_found [] n some letter count low high inside ends = absurd (omega (arith, some))
 scheme_found (b ∷ bs) n some letter count low high inside ends =
@@ -74,8 +81,11 @@ pub record IsSchemeAt (bytes : List ℕ) (n : ℕ) : Type 0 where
 pub scheme_at : (bytes : List ℕ) (n : ℕ) → StartsWithScheme bytes n → IsSchemeAt bytes n
 scheme_at bytes n front =
     let scheme = front.is_scheme in
-    let parts : bytes ≡ scheme.first ∷ (scheme.others ++ colon ∷ front.rest) = front.parts ∙ ap (λ s. s ++ colon ∷ front.rest) scheme.spelled in
-    let run : prefix_len is_scheme_byte (drop 1 bytes) ≡ length scheme.others = ap (λ t. prefix_len is_scheme_byte (drop 1 t)) parts ∙ prefix_len-parts is_scheme_byte scheme.others (colon ∷ front.rest) scheme.scheme_bytes refl in
+    let parts : bytes ≡ scheme.first ∷ (scheme.others ++ colon ∷ front.rest) = front.parts
+    ∙ ap (λ s. s ++ colon ∷ front.rest) scheme.spelled in
+    let run : prefix_len is_scheme_byte (drop 1 bytes) ≡ length scheme.others =
+    ap (λ t. prefix_len is_scheme_byte (drop 1 t)) parts
+    ∙ prefix_len-parts is_scheme_byte scheme.others (colon ∷ front.rest) scheme.scheme_bytes refl in
     let long : n ≡ 1 + length scheme.others = omega (arith, front.n_is_length, ap length scheme.spelled) in
     record {
       not_empty = omega (arith, ap length parts);
@@ -88,21 +98,37 @@ scheme_at bytes n front =
     }
 
 -- the address goes on to the first byte that it can't hold
-pub uri_found : (bytes : List ℕ) (n end : ℕ) → StartsWithScheme bytes n → end ≡ n + 1 + prefix_len is_uri_byte (drop (n + 1) bytes) → end < length bytes → get_or bytes end 0 ≡ greater_than_sign
+pub uri_found : (bytes : List ℕ) (n end : ℕ) → StartsWithScheme bytes n
+    → end ≡ n + 1 + prefix_len is_uri_byte (drop (n + 1) bytes) → end < length bytes
+    → get_or bytes end 0 ≡ greater_than_sign
     → IsUriAutolink bytes (take end bytes)
 uri_found bytes n end front count inside close =
-    let rest : drop (n + 1) bytes ≡ front.rest = ap (drop (n + 1)) (front.parts ∙ sym (append_assoc front.scheme (colon ∷ []) front.rest))
-    ∙ drop_at (front.scheme ++ colon ∷ []) front.rest (n + 1) (omega (arith, front.n_is_length, length-append front.scheme (colon ∷ []))) in
+    let rest : drop (n + 1) bytes ≡ front.rest =
+    ap (drop (n + 1)) (front.parts ∙ sym (append_assoc front.scheme (colon ∷ []) front.rest))
+    ∙ drop_at (front.scheme ++ colon ∷ []) front.rest (n + 1)
+    (omega (arith, front.n_is_length, length-append front.scheme (colon ∷ []))) in
     let a = prefix_len is_uri_byte front.rest in
     let run : length (take a front.rest) ≡ a = length-prefix_len is_uri_byte front.rest in
     let end_is : end ≡ n + 1 + a = count ∙ ap (λ t. n + 1 + prefix_len is_uri_byte t) rest in
-    let here : get_or front.rest a 0 ≡ greater_than_sign = sym (ap (λ t. get_or t a 0) rest) ∙ (get_or-drop (n + 1) bytes a 0 ∙ (ap (λ k. get_or bytes k 0) (sym end_is) ∙ close)) in
+    let here : get_or front.rest a 0 ≡ greater_than_sign = sym (ap (λ t. get_or t a 0) rest)
+    ∙ (get_or-drop (n + 1) bytes a 0 ∙ (ap (λ k. get_or bytes k 0) (sym end_is) ∙ close)) in
     let tail : front.rest ≡ take a front.rest ++ greater_than_sign ∷ drop (suc a) front.rest =
-    split_at front.rest a greater_than_sign (omega (arith, inside, end_is, front.n_is_length, ap length front.parts, length-append front.scheme (colon ∷ front.rest))) here in
+    split_at front.rest a greater_than_sign
+    (omega (
+      arith,
+      inside,
+      end_is,
+      front.n_is_length,
+      ap length front.parts,
+      length-append front.scheme (colon ∷ front.rest),
+    )) here in
     let uri = front.scheme ++ colon ∷ take a front.rest in
     let whole : bytes ≡ uri ++ greater_than_sign ∷ drop (suc a) front.rest =
-    front.parts ∙ (ap (λ t. front.scheme ++ colon ∷ t) tail ∙ sym (append_assoc front.scheme (colon ∷ take a front.rest) (greater_than_sign ∷ drop (suc a) front.rest))) in
-    let taken : take end bytes ≡ uri = ap (take end) whole ∙ take_at uri (greater_than_sign ∷ drop (suc a) front.rest) end (omega (arith, end_is, front.n_is_length, run, length-append front.scheme (colon ∷ take a front.rest))) in
+    front.parts ∙ (ap (λ t. front.scheme ++ colon ∷ t) tail
+    ∙ sym (append_assoc front.scheme (colon ∷ take a front.rest) (greater_than_sign ∷ drop (suc a) front.rest))) in
+    let taken : take end bytes ≡ uri = ap (take end) whole
+    ∙ take_at uri (greater_than_sign ∷ drop (suc a) front.rest) end
+    (omega (arith, end_is, front.n_is_length, run, length-append front.scheme (colon ∷ take a front.rest))) in
     record {
       scheme = front.scheme;
       address = take a front.rest;
@@ -122,28 +148,38 @@ pub uri_scheme : (bytes uri : List ℕ) → (is : IsUriAutolink bytes uri) → S
 uri_scheme bytes uri is = record {
   scheme = is.scheme;
   rest = is.address ++ greater_than_sign ∷ is.rest;
-  parts = is.parts ∙ (ap (λ u. u ++ greater_than_sign ∷ is.rest) is.spelled ∙ append_assoc is.scheme (colon ∷ is.address) (greater_than_sign ∷ is.rest));
+  parts = is.parts ∙ (ap (λ u. u ++ greater_than_sign ∷ is.rest) is.spelled
+      ∙ append_assoc is.scheme (colon ∷ is.address) (greater_than_sign ∷ is.rest));
   is_scheme = is.is_scheme;
   n_is_length = refl;
 }
 
 -- its address goes on to the first byte that it can't hold
-uri_length : (bytes uri : List ℕ) (n end : ℕ) → IsUriAutolink bytes uri → StartsWithScheme bytes n → end ≡ n + 1 + prefix_len is_uri_byte (drop (n + 1) bytes) → end ≡ length uri
+uri_length : (bytes uri : List ℕ) (n end : ℕ) → IsUriAutolink bytes uri → StartsWithScheme bytes n
+    → end ≡ n + 1 + prefix_len is_uri_byte (drop (n + 1) bytes) → end ≡ length uri
 unfolding uri_scheme
 uri_length bytes uri n end is front count =
     let first = uri_scheme bytes uri is in
-    let same : n ≡ length is.scheme = (scheme_at bytes n front).count ∙ sym (scheme_at bytes (length is.scheme) first).count in
-    let rest : drop (n + 1) bytes ≡ is.address ++ greater_than_sign ∷ is.rest = ap (drop (n + 1)) (first.parts ∙ sym (append_assoc is.scheme (colon ∷ []) (is.address ++ greater_than_sign ∷ is.rest)))
-    ∙ drop_at (is.scheme ++ colon ∷ []) (is.address ++ greater_than_sign ∷ is.rest) (n + 1) (omega (arith, same, length-append is.scheme (colon ∷ []))) in
-    let run : prefix_len is_uri_byte (drop (n + 1) bytes) ≡ length is.address = ap (prefix_len is_uri_byte) rest ∙ prefix_len-parts is_uri_byte is.address (greater_than_sign ∷ is.rest) is.uri_bytes refl in
+    let same : n ≡ length is.scheme = (scheme_at bytes n front).count
+    ∙ sym (scheme_at bytes (length is.scheme) first).count in
+    let rest : drop (n + 1) bytes ≡ is.address ++ greater_than_sign ∷ is.rest =
+    ap (drop (n + 1))
+    (first.parts ∙ sym (append_assoc is.scheme (colon ∷ []) (is.address ++ greater_than_sign ∷ is.rest)))
+    ∙ drop_at (is.scheme ++ colon ∷ []) (is.address ++ greater_than_sign ∷ is.rest) (n + 1)
+    (omega (arith, same, length-append is.scheme (colon ∷ []))) in
+    let run : prefix_len is_uri_byte (drop (n + 1) bytes) ≡ length is.address = ap (prefix_len is_uri_byte) rest
+    ∙ prefix_len-parts is_uri_byte is.address (greater_than_sign ∷ is.rest) is.uri_bytes refl in
     omega (arith, count, run, same, ap length is.spelled, length-append is.scheme (colon ∷ is.address))
 
 -- and its `>` stands there
-pub uri_close : (bytes uri : List ℕ) (n end : ℕ) → IsUriAutolink bytes uri → StartsWithScheme bytes n → end ≡ n + 1 + prefix_len is_uri_byte (drop (n + 1) bytes)
+pub uri_close : (bytes uri : List ℕ) (n end : ℕ) → IsUriAutolink bytes uri → StartsWithScheme bytes n
+    → end ≡ n + 1 + prefix_len is_uri_byte (drop (n + 1) bytes)
     → (end < length bytes) × (get_or bytes end 0 ≡ greater_than_sign)
 uri_close bytes uri n end is front count =
-    let long = uri_length bytes uri n end is front count in
-    (omega (arith, long, ap length is.parts, length-append uri (greater_than_sign ∷ is.rest)), ap (λ t. get_or t end 0) is.parts ∙ get_or_at uri greater_than_sign is.rest 0 end (sym long))
+    let long = uri_length bytes uri n end is front count in (
+      omega (arith, long, ap length is.parts, length-append uri (greater_than_sign ∷ is.rest)),
+      ap (λ t. get_or t end 0) is.parts ∙ get_or_at uri greater_than_sign is.rest 0 end (sym long),
+    )
 
 -- a text begins with one URI at most
 pub one_uri : (bytes uri uri' : List ℕ) → IsUriAutolink bytes uri → IsUriAutolink bytes uri' → uri ≡ uri'
@@ -154,12 +190,16 @@ one_uri bytes uri uri' is is' =
     sym (uri_taken bytes uri is) ∙ (ap (λ k. take k bytes) (sym long ∙ long') ∙ uri_taken bytes uri' is')
 
 -- a destination is pointed where the text begins with `<`, else bare
-pub no_pointed : (most : ℕ) (text : List ℕ) → text ≡ less_than_sign ∷ drop 1 text → ((n : ℕ) → ¬ IsPointedFrom (drop 1 text) n)
+pub no_pointed : (most : ℕ) (text : List ℕ) → text ≡ less_than_sign ∷ drop 1 text
+    → ((n : ℕ) → ¬ IsPointedFrom (drop 1 text) n)
     → (taken : ℕ) (destination : List ℕ) → ¬ IsLinkDestination most text taken destination
-no_pointed most text opens none taken destination (inl pointed) = none pointed.n (subst (λ t. IsPointedFrom t pointed.n) (sym (ap (drop 1) pointed.opens)) pointed.pointed)
+no_pointed most text opens none taken destination (inl pointed) =
+    none pointed.n (subst (λ t. IsPointedFrom t pointed.n) (sym (ap (drop 1) pointed.opens)) pointed.pointed)
 no_pointed most text opens none taken destination (inr bare) = bare.unpointed (drop 1 text) opens
 
-pub no_bare : (most : ℕ) (text : List ℕ) → ((after : List ℕ) → text ≡ less_than_sign ∷ after → ⊥) → ((n : ℕ) → ¬ IsBareFrom most 0 text n) → (taken : ℕ) (destination : List ℕ) → ¬ IsLinkDestination most text taken destination
+pub no_bare : (most : ℕ) (text : List ℕ) → ((after : List ℕ) → text ≡ less_than_sign ∷ after → ⊥)
+    → ((n : ℕ) → ¬ IsBareFrom most 0 text n) → (taken : ℕ) (destination : List ℕ)
+    → ¬ IsLinkDestination most text taken destination
 no_bare most text unpointed none taken destination (inl pointed) = unpointed pointed.after pointed.opens
 no_bare most text unpointed none taken destination (inr bare) = none taken bare.bare
 
@@ -168,14 +208,19 @@ opened_by [] first = absurd (omega (arith, first))
 opened_by (b ∷ text) first = ap (λ x. x ∷ text) first
 
 -- the text may be cut behind an ASCII byte of what stands from a place on
-pub cut_behind : (bytes text : List ℕ) (start n : ℕ) → bytes ≡ drop start text → IsUtf8 text → n < length bytes → get_or bytes n 0 < 128 → IsCharBoundary text (start + n + 1)
+pub cut_behind : (bytes text : List ℕ) (start n : ℕ) → bytes ≡ drop start text → IsUtf8 text → n < length bytes
+    → get_or bytes n 0 < 128 → IsCharBoundary text (start + n + 1)
 cut_behind bytes text start n same utf8 inside ascii =
-    IsCharBoundary-after_ascii text (start + n) utf8 (omega (arith, inside, ap length same, length-drop start text)) (subst (λ b. b < 128) (ap (λ t. get_or t n 0) same ∙ get_or-drop start text n 0) ascii)
+    IsCharBoundary-after_ascii text (start + n) utf8 (omega (arith, inside, ap length same, length-drop start text))
+    (subst (λ b. b < 128) (ap (λ t. get_or t n 0) same ∙ get_or-drop start text n 0) ascii)
 
 -- and behind a byte that was found among the first k of them
-pub cut_behind_first : (bytes text : List ℕ) (start k n byte : ℕ) → bytes ≡ take k (drop start text) → IsUtf8 text → n < length bytes → is_byte byte (get_or bytes n 0) ≡ true → byte < 128
+pub cut_behind_first : (bytes text : List ℕ) (start k n byte : ℕ) → bytes ≡ take k (drop start text) → IsUtf8 text
+    → n < length bytes → is_byte byte (get_or bytes n 0) ≡ true → byte < 128
     → IsCharBoundary text (start + n + 1)
 cut_behind_first bytes text start k n byte same utf8 inside here ascii =
     let few : n < k = omega (arith, inside, ap length same, length-take k (drop start text)) in
-    let at : get_or (drop start text) n 0 ≡ byte = sym (get_or-take k (drop start text) n 0 few) ∙ (ap (λ t. get_or t n 0) (sym same) ∙ eqb-true (get_or bytes n 0) byte here) in
-    cut_behind (drop start text) text start n refl utf8 (omega (arith, inside, ap length same, length-take k (drop start text))) (omega (arith, at, ascii))
+    let at : get_or (drop start text) n 0 ≡ byte = sym (get_or-take k (drop start text) n 0 few)
+    ∙ (ap (λ t. get_or t n 0) (sym same) ∙ eqb-true (get_or bytes n 0) byte here) in
+    cut_behind (drop start text) text start n refl utf8
+    (omega (arith, inside, ap length same, length-take k (drop start text))) (omega (arith, at, ascii))

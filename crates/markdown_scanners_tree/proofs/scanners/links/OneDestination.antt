@@ -9,33 +9,44 @@ use Rattle.markdown_scanners_tree.proofs.PrefixLemmas.{both_true}
 use Rattle.markdown_scanners_tree.proofs.scanners.links.BareLemmas.{Turns, head_of, balanced_off, ends_unit}
 
 -- between `<` and `>`: the units before the first `>`
-one_inner_pointed : (inner inner' more more' : List (List ℕ)) → inner ++ (greater_than_sign ∷ []) ∷ more ≡ inner' ++ (greater_than_sign ∷ []) ∷ more'
+one_inner_pointed : (inner inner' more more' : List (List ℕ))
+    → inner ++ (greater_than_sign ∷ []) ∷ more ≡ inner' ++ (greater_than_sign ∷ []) ∷ more'
     → list_all stands_pointed inner ≡ true → list_all stands_pointed inner' ≡ true → inner ≡ inner'
 one_inner_pointed [] [] more more' same made made' = refl
 one_inner_pointed [] (v ∷ inner') more more' same made made' =
-    absurd (false≢true (ap stands_pointed (ap head_of same) ∙ (both_true (stands_pointed v) (list_all stands_pointed inner') made').0))
+    absurd (false≢true (ap stands_pointed (ap head_of same)
+    ∙ (both_true (stands_pointed v) (list_all stands_pointed inner') made').0))
 one_inner_pointed (u ∷ inner) [] more more' same made made' =
-    absurd (false≢true (ap stands_pointed (ap head_of (sym same)) ∙ (both_true (stands_pointed u) (list_all stands_pointed inner) made).0))
+    absurd (false≢true (ap stands_pointed (ap head_of (sym same))
+    ∙ (both_true (stands_pointed u) (list_all stands_pointed inner) made).0))
 one_inner_pointed (u ∷ inner) (v ∷ inner') more more' same made made' =
-    let rest = one_inner_pointed inner inner' more more' (ap (drop 1) same) (both_true (stands_pointed u) (list_all stands_pointed inner) made).1 (both_true (stands_pointed v) (list_all stands_pointed inner') made').1 in
+    let rest =
+    one_inner_pointed inner inner' more more' (ap (drop 1) same)
+    (both_true (stands_pointed u) (list_all stands_pointed inner) made).1
+    (both_true (stands_pointed v) (list_all stands_pointed inner') made').1 in
     ap (λ x. x ∷ inner) (ap head_of same) ∙ ap (λ us. v ∷ us) rest
 
 -- a balanced list is not balanced up to a unit of it that ends a destination
-ended : (most d : ℕ) (v : List ℕ) (inner us : List (List ℕ)) → IsBalanced most d [] → IsBalanced most d (v ∷ inner) → stands_bare v ≡ true → ends_bare (v ∷ us) ≡ true → ⊥
+ended : (most d : ℕ) (v : List ℕ) (inner us : List (List ℕ)) → IsBalanced most d [] → IsBalanced most d (v ∷ inner)
+    → stands_bare v ≡ true → ends_bare (v ∷ us) ≡ true → ⊥
 ended most d v inner us here there stands ends =
     let close : v ≡ right_parenthesis ∷ [] = ends_unit v us stands ends in
     let below : closing_count (v ∷ []) ≤ d + opening_count (v ∷ []) = there.never_below 1 (omega arith) in
-    let below' : closing_count ((right_parenthesis ∷ []) ∷ []) ≤ d + opening_count ((right_parenthesis ∷ []) ∷ []) = rw close at below in
+    let below' : closing_count ((right_parenthesis ∷ []) ∷ []) ≤ d + opening_count ((right_parenthesis ∷ []) ∷ []) =
+    rw close at below in
     absurd (omega (arith, here.closed, below'))
 
 one_inner_bare : (most d : ℕ) (inner inner' more more' : List (List ℕ)) → inner ++ more ≡ inner' ++ more'
-    → list_all stands_bare inner ≡ true → list_all stands_bare inner' ≡ true → IsBalanced most d inner → IsBalanced most d inner'
+    → list_all stands_bare inner ≡ true → list_all stands_bare inner' ≡ true → IsBalanced most d inner
+    → IsBalanced most d inner'
     → ends_bare more ≡ true → ends_bare more' ≡ true → inner ≡ inner'
 one_inner_bare most d [] [] more more' same made made' is is' ends ends' = refl
 one_inner_bare most d [] (v ∷ inner') more more' same made made' is is' ends ends' =
-    absurd (ended most d v inner' (inner' ++ more') is is' (both_true (stands_bare v) (list_all stands_bare inner') made').0 (ap ends_bare (sym same) ∙ ends))
+    absurd (ended most d v inner' (inner' ++ more') is is'
+    (both_true (stands_bare v) (list_all stands_bare inner') made').0 (ap ends_bare (sym same) ∙ ends))
 one_inner_bare most d (u ∷ inner) [] more more' same made made' is is' ends ends' =
-    absurd (ended most d u inner (inner ++ more) is' is (both_true (stands_bare u) (list_all stands_bare inner) made).0 (ap ends_bare same ∙ ends'))
+    absurd (ended most d u inner (inner ++ more) is' is (both_true (stands_bare u) (list_all stands_bare inner) made).0
+    (ap ends_bare same ∙ ends'))
 one_inner_bare most d (u ∷ inner) (v ∷ inner') more more' same made made' is is' ends ends' =
     let head : u ≡ v = ap head_of same in
     let below : closing_count (u ∷ []) ≤ d + opening_count (u ∷ []) = is.never_below 1 (omega arith) in
@@ -43,18 +54,23 @@ one_inner_bare most d (u ∷ inner) (v ∷ inner') more more' same made made' is
     let turns : Turns u d after = omega (arith, below) in
     let turns' : Turns v d after = subst (λ x. Turns x d after) head turns in
     let rest = one_inner_bare most after inner inner' more more' (ap (drop 1) same)
-    (both_true (stands_bare u) (list_all stands_bare inner) made).1 (both_true (stands_bare v) (list_all stands_bare inner') made').1
+    (both_true (stands_bare u) (list_all stands_bare inner) made).1
+    (both_true (stands_bare v) (list_all stands_bare inner') made').1
     (balanced_off most d after u inner turns is) (balanced_off most d after v inner' turns' is') ends ends' in
     ap (λ x. x ∷ inner) head ∙ ap (λ us. v ∷ us) rest
 
 one_pointed : (after : List ℕ) (n n' : ℕ) → IsPointedFrom after n → IsPointedFrom after n' → n ≡ n'
 one_pointed after n n' is is' =
-    let same = one_inner_pointed is.inner is'.inner is.more is'.more (sym is.splits ∙ is'.splits) is.each_stands is'.each_stands in
+    let same =
+    one_inner_pointed is.inner is'.inner is.more is'.more (sym is.splits ∙ is'.splits) is.each_stands
+    is'.each_stands in
     is.n_is_length ∙ (ap (λ us. length (concat us)) same ∙ sym is'.n_is_length)
 
 one_bare : (most d : ℕ) (text : List ℕ) (n n' : ℕ) → IsBareFrom most d text n → IsBareFrom most d text n' → n ≡ n'
 one_bare most d text n n' is is' =
-    let same = one_inner_bare most d is.inner is'.inner is.more is'.more (sym is.splits ∙ is'.splits) is.each_stands is'.each_stands is.balanced is'.balanced is.ends is'.ends in
+    let same =
+    one_inner_bare most d is.inner is'.inner is.more is'.more (sym is.splits ∙ is'.splits) is.each_stands
+    is'.each_stands is.balanced is'.balanced is.ends is'.ends in
     is.n_is_length ∙ (ap (λ us. length (concat us)) same ∙ sym is'.n_is_length)
 
 pair_same : (m n : ℕ) (xs ys : List ℕ) → m ≡ n → xs ≡ ys → ◌≡◌ {A = ℕ × List ℕ} (m, xs) (n, ys)
@@ -62,14 +78,18 @@ pair_same m n xs ys first second = λ i. (first i, second i)
 
 -- how many bytes it takes, and its raw text
 pub one_destination : (most : ℕ) (text : List ℕ) (taken : ℕ) (destination : List ℕ) (taken' : ℕ) (destination' : List ℕ)
-    → IsLinkDestination most text taken destination → IsLinkDestination most text taken' destination' → ◌≡◌ {A = ℕ × List ℕ} (taken, destination) (taken', destination')
+    → IsLinkDestination most text taken destination → IsLinkDestination most text taken' destination'
+    → ◌≡◌ {A = ℕ × List ℕ} (taken, destination) (taken', destination')
 one_destination most text taken destination taken' destination' (inl is) (inl is') =
     let after : is.after ≡ is'.after = ap (drop 1) (sym is.opens ∙ is'.opens) in
     let long = one_pointed is'.after is.n is'.n (rw after at is.pointed) is'.pointed in
     let same : taken ≡ taken' = omega (arith, is.with_brackets, is'.with_brackets, long) in
-    pair_same taken taken' destination destination' same (is.slice ∙ (ap (λ k. slice_range text 1 (k - 1)) same ∙ sym is'.slice))
-one_destination most text taken destination taken' destination' (inl is) (inr is') = absurd (is'.unpointed is.after is.opens)
-one_destination most text taken destination taken' destination' (inr is) (inl is') = absurd (is.unpointed is'.after is'.opens)
+    pair_same taken taken' destination destination' same
+    (is.slice ∙ (ap (λ k. slice_range text 1 (k - 1)) same ∙ sym is'.slice))
+one_destination most text taken destination taken' destination' (inl is) (inr is') =
+    absurd (is'.unpointed is.after is.opens)
+one_destination most text taken destination taken' destination' (inr is) (inl is') =
+    absurd (is.unpointed is'.after is'.opens)
 one_destination most text taken destination taken' destination' (inr is) (inr is') =
     let same = one_bare most 0 text taken taken' is.bare is'.bare in
     pair_same taken taken' destination destination' same (is.slice ∙ (ap (λ k. take k text) same ∙ sym is'.slice))

@@ -35,7 +35,8 @@ bare_row =
 deep_row : (n : ℕ) → ¬ IsBareFrom 2 0 (codes "(((a)))") n
 deep_row n is =
     let after_one = step_back 2 0 1 n (codes "(((a)))") (codes "((a)))") (codes "(") refl refl refl is in
-    let after_two = step_back 2 1 2 after_one.0 (codes "((a)))") (codes "(a)))") (codes "(") refl refl refl after_one.2 in
+    let after_two = step_back 2 1 2 after_one.0 (codes "((a)))") (codes "(a)))")
+    (codes "(") refl refl refl after_one.2 in
     too_deep 2 after_two.0 (codes "(a)))") (units (codes "a)))")) refl after_two.2
 
 -- the empty text
@@ -50,6 +51,14 @@ autolink_row = record {
   rest = [];
   parts = refl;
   spelled = refl;
-  is_scheme = record { first = 97; others = codes "b"; spelled = refl; letter = refl; scheme_bytes = refl; at_least_one = omega arith; at_most_thirty_one = omega arith };
+  is_scheme = record {
+    first = 97;
+    others = codes "b";
+    spelled = refl;
+    letter = refl;
+    scheme_bytes = refl;
+    at_least_one = omega arith;
+    at_most_thirty_one = omega arith;
+  };
   uri_bytes = refl;
 }

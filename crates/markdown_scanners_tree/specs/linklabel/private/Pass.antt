@@ -1,19 +1,24 @@
 -- What the two passes over a label tell each other.
-use Rattle.std.specs.Prelude.{ℕ, Bool, true, false, ◌||◌, ◌&&◌, ◌==◌, not, List, [], ◌∷◌, ◌≡◌, ◌+◌, length, take, IsCharBoundary, if◌then◌else◌}
+use Rattle.std.specs.Prelude.{ℕ, Bool, true, false, ◌||◌, ◌&&◌, ◌==◌, not, List, [], ◌∷◌, ◌≡◌, ◌++◌, ◌+◌, ◌-◌, ◌≤◌, length, drop, take, slice_index, slice_range, IsCharBoundary, String, if◌then◌else◌}
+use Rattle.std.specs.String.{string_bytes, string_len}
 use Rattle.markdown_scanners_tree.specs.Bytes.{begins_with, is_between}
 use Rattle.markdown_scanners_tree.specs.Ascii.{space, backslash, vertical_line}
 use Rattle.markdown_scanners_tree.specs.linklabel.Answer.{without_first_space, without_last_space}
 use Rattle.markdown_scanners_tree.specs.linklabel.Label.{Label, IsLabel}
-use Rattle.markdown_scanners_tree.specs.declared.linklabel.Tally.{Tally}
+use Rattle.markdown_scanners_tree.specs.declared.linklabel.tally.Tally.{Tally}
 use Rattle.markdown_scanners_tree.specs.declared.linklabel.Measure.{Measure}
 
 -- how many characters begin at this byte
 abbrev pub begun : ℕ → ℕ
 begun byte = if not (is_between 128 191 byte) then 1 else 0
 
+-- how many bytes a space takes where one is due
+abbrev pub due_len : Bool → ℕ
+due_len is_due = if is_due then 1 else 0
+
 -- the space between a word that was read and the next one
 abbrev pub space_len : Bool → Bool → ℕ
-space_len has_word in_run = if has_word && in_run then 1 else 0
+space_len has_word in_run = due_len (has_word && in_run)
 
 -- a backslash directly before a pipe stands at the front, and a cell of a table drops it
 abbrev pub starts_dropped : Bool → List ℕ → Bool
@@ -79,3 +84,20 @@ pub record IsMeasure (answers : List ℕ → ℕ → Type 0) (source : List ℕ)
   pub stands : label.plain ≡ true → label.text ≡ without_last_space (without_first_space (take m.close source))
   pub cut : IsCharBoundary source m.close
   pub behind : IsCharBoundary source (m.close + 1)
+
+-- what a byte of a word adds to a text: the space that is due before it, and itself, or nothing for a backslash that
+-- a cell drops
+abbrev pub word_text : Bool → Bool → ℕ → List ℕ
+word_text is_due drops byte = (if is_due then space ∷ [] else []) ++ (if drops then [] else byte ∷ [])
+
+-- The byte of a word at the place was written: what was appended, and what stands from `next` on up to behind the
+-- byte, are what stood there before, from `mark` on up to the place, and what the byte adds.
+pub record IsWordWritten {Z : Type 0} (is_in_table is_due : Bool) (text : List ℕ) (mark place : ℕ) (old new : String Z)
+    (next : ℕ) : Type 0 where
+  pub within : next ≤ place + 1
+  pub start : IsCharBoundary text next
+  pub text_is : string_bytes new ++ slice_range text next (place + 1)
+      ≡ (string_bytes old ++ slice_range text mark place)
+      ++ word_text is_due (starts_dropped is_in_table (drop place text)) (slice_index text place)
+  pub len_is : string_len new + (place + 1 - next) ≡ string_len old + (place - mark)
+      + length (word_text is_due (starts_dropped is_in_table (drop place text)) (slice_index text place))

@@ -7,7 +7,8 @@ use Rattle.markdown_scanners_tree.specs.linklabel.private.Pass.{begun, starts_dr
 
 -- the byte is no white space, bracket or backslash
 abbrev pub is_ordinary : ℕ → Bool
-is_ordinary b = not (is_white_space b) && (not (b == left_bracket) && (not (b == backslash) && not (b == right_bracket)))
+is_ordinary b =
+    not (is_white_space b) && (not (b == left_bracket) && (not (b == backslash) && not (b == right_bracket)))
 
 -- a byte of a word stands at the front, and no cell of a table drops it
 pub record IsKeptByte (is_in_table escaped : Bool) (rest : List ℕ) (byte : ℕ) (escapes : Bool) : Type 0 where
@@ -18,4 +19,5 @@ pub record IsKeptByte (is_in_table escaped : Bool) (rest : List ℕ) (byte : ℕ
 pub data IsRun (is_in_table escaped : Bool) (rest : List ℕ) : ℕ → ℕ → Bool → Type 0 where
   none : IsRun is_in_table escaped rest 0 0 escaped
   more : (len characters byte : ℕ) (before escapes : Bool) → IsRun is_in_table escaped rest len characters before
-      → IsKeptByte is_in_table before (drop len rest) byte escapes → IsRun is_in_table escaped rest (len + 1) (characters + begun byte) escapes
+      → IsKeptByte is_in_table before (drop len rest) byte escapes
+      → IsRun is_in_table escaped rest (len + 1) (characters + begun byte) escapes

@@ -5,4 +5,5 @@ use Rattle.markdown_scanners_tree.proofs.linklabel.key.hash_ascii.Given as goal
 
 abbrev pub invariant-loop-byte : goal.invariant-loop-byte
 invariant-loop-byte g l =
-    l.state ≡ fold g.H.Hasher.write l.initial.state (flat_map fed.u8 (map to_ascii_lowercase (take l.byte-index l.text)))
+    l.state ≡ fold g.H.Hasher.write l.initial.state
+    (flat_map fed.u8 (map to_ascii_lowercase (take l.byte-index l.text)))

@@ -8,5 +8,6 @@ abbrev pub invariant-loop-c : goal.invariant-loop-c
 invariant-loop-c g l = record {
   left : List ℕ;
   folds : FoldsCaseTo chars_steps l.c-iterator left;
-  same : fold g.H.Hasher.write l.state (map encode_utf8 left) ≡ fold g.H.Hasher.write l.fn.state (map encode_utf8 (label_key l.fn.text));
+  same : fold g.H.Hasher.write l.state (map encode_utf8 left)
+      ≡ fold g.H.Hasher.write l.fn.state (map encode_utf8 (label_key l.fn.text));
 }

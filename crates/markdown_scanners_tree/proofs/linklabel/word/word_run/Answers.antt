@@ -3,7 +3,7 @@ use Rattle.std.proofs.Common.{◌≤◌, ◌+◌, ◌<◌, ◌∷◌, ◌∙◌,
 use Rattle.std.proofs.lemmas.List.{drop_more}
 use Rattle.markdown_scanners_tree.specs.Bytes.{is_between}
 use Rattle.markdown_scanners_tree.specs.linklabel.private.Run.{IsKeptByte, IsRun, none, more}
-use Rattle.markdown_scanners_tree.proofs.linklabel.Scan.{rest_is}
+use Rattle.markdown_scanners_tree.proofs.linklabel.SourceSteps.{rest_is}
 use Rattle.markdown_scanners_tree.proofs.linklabel.word.word_run.Goals as goal
 
 at_most_one : (b : Bool) → cond b 1 0 ≤ 1
@@ -17,10 +17,13 @@ loop-run-preserved c =
     let byte = get_or bytes at 0 in
     let within : at < length bytes = omega (arith, c.if-run-rest.true) in
     let parts = ap (λ behind. byte ∷ behind) (rest_is bytes (at + 1)) ∙ sym (drop_more bytes at 0 within) in
-    let next : IsKeptByte c.args.is_in_table c.loop-run.run.escapes (drop at bytes) byte c.in-Some.escapes = subst (λ z. IsKeptByte c.args.is_in_table c.loop-run.run.escapes z byte c.in-Some.escapes) parts c.in-Some.ensures in
+    let next : IsKeptByte c.args.is_in_table c.loop-run.run.escapes (drop at bytes) byte c.in-Some.escapes =
+    subst (λ z. IsKeptByte c.args.is_in_table c.loop-run.run.escapes z byte c.in-Some.escapes) parts
+    c.in-Some.ensures in
     let one = at_most_one (not (is_between 128 191 byte)) in
     record {
-      read = subst (λ n. IsRun c.args.is_in_table c.args.escaped bytes (at + 1) (c.loop-run.run.characters + n) c.in-Some.escapes) (sym c.begun_at.ensures) (more _ _ _ _ _ c.loop-run.invariant.read next);
+      read = subst (λ n. IsRun c.args.is_in_table c.args.escaped bytes (at + 1) (c.loop-run.run.characters + n)
+          c.in-Some.escapes) (sym c.begun_at.ensures) (more _ _ _ _ _ c.loop-run.invariant.read next);
       within = omega (arith, within);
       fits = omega (arith, c.loop-run.invariant.fits, c.begun_at.ensures, one);
     }

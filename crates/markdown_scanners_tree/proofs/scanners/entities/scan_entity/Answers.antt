@@ -12,7 +12,8 @@ returns-in_default-clause-found g c =
     λ n meaning is.
     no_hexadecimal (g.E.Entities.known c.args.entities.now) c.args.bytes.now n meaning c.if-bytes-ne35.false
     (sym c.is_hexadecimal_mark.ensures ∙ c.if-is_hexadecimal_mark.true)
-    (λ k number there. c.in_default.ensures (k, number) (subst (λ bs. StartsWithNumber 16 6 bs k number) (sym (take_rest c.args.bytes.now 3)) there))
+    (λ k number there. c.in_default.ensures (k, number)
+    (subst (λ bs. StartsWithNumber 16 6 bs k number) (sym (take_rest c.args.bytes.now 3)) there))
     is
 
 pub returns-in_default-scan_number-clause-found : goal.returns-in_default-scan_number-clause-found
@@ -20,22 +21,29 @@ returns-in_default-scan_number-clause-found g c =
     λ n meaning is.
     no_decimal (g.E.Entities.known c.args.entities.now) c.args.bytes.now n meaning c.if-bytes-ne35.false
     (λ long letter. elim c.else-bytes-gt2.branch [
-      | else-bytes-gt2-via-then-bytes-gt2+else-is_hexadecimal_mark w ↦ false≢true (sym w.if-is_hexadecimal_mark.false ∙ (w.is_hexadecimal_mark.ensures ∙ letter))
+      | else-bytes-gt2-via-then-bytes-gt2+else-is_hexadecimal_mark w ↦
+          false≢true (sym w.if-is_hexadecimal_mark.false ∙ (w.is_hexadecimal_mark.ensures ∙ letter))
       | else-bytes-gt2-via-else-bytes-gt2 w ↦ absurd (omega (arith, long, w.if-bytes-gt2.false))
     ])
-    (λ k number there. c.in_default-scan_number.ensures (k, number) (subst (λ bs. StartsWithNumber 10 7 bs k number) (sym (take_rest c.args.bytes.now 2)) there))
+    (λ k number there. c.in_default-scan_number.ensures (k, number)
+    (subst (λ bs. StartsWithNumber 10 7 bs k number) (sym (take_rest c.args.bytes.now 2)) there))
     is
 
 pub returns-then-is_hexadecimal_mark-clause-found : goal.returns-then-is_hexadecimal_mark-clause-found
 returns-then-is_hexadecimal_mark-clause-found g c =
-    subst (StartsWithReference (g.E.Entities.known c.args.entities.now) c.args.bytes.now (c.in-Some.n + 4)) (sym (c.from.ensures.0 ∙ ap encode_utf8 c.referenced.ensures))
-    (hexadecimal_found (g.E.Entities.known c.args.entities.now) c.args.bytes.now c.in-Some.n c.in-Some.number c.if-bytes-gt2.true c.if-bytes-ne35.false
+    subst (StartsWithReference (g.E.Entities.known c.args.entities.now) c.args.bytes.now (c.in-Some.n + 4))
+    (sym (c.from.ensures.0 ∙ ap encode_utf8 c.referenced.ensures))
+    (hexadecimal_found (g.E.Entities.known c.args.entities.now) c.args.bytes.now c.in-Some.n c.in-Some.number
+    c.if-bytes-gt2.true c.if-bytes-ne35.false
     (sym c.is_hexadecimal_mark.ensures ∙ c.if-is_hexadecimal_mark.true)
-    (subst (λ bs. StartsWithNumber 16 6 bs c.in-Some.n c.in-Some.number) (take_rest c.args.bytes.now 3) c.in-Some.ensures))
+    (subst (λ bs. StartsWithNumber 16 6 bs c.in-Some.n c.in-Some.number) (take_rest c.args.bytes.now 3)
+    c.in-Some.ensures))
 
 pub returns-clause-found : goal.returns-clause-found
 returns-clause-found g c =
     let r = c.in-Some-scan_number in
-    subst (StartsWithReference (g.E.Entities.known c.args.entities.now) c.args.bytes.now (r.n + 3)) (sym (c.from-2.ensures.0 ∙ ap encode_utf8 c.referenced-2.ensures))
-    (decimal_found (g.E.Entities.known c.args.entities.now) c.args.bytes.now r.n r.number c.if-bytes-lt2.false c.if-bytes-ne35.false
+    subst (StartsWithReference (g.E.Entities.known c.args.entities.now) c.args.bytes.now (r.n + 3))
+    (sym (c.from-2.ensures.0 ∙ ap encode_utf8 c.referenced-2.ensures))
+    (decimal_found (g.E.Entities.known c.args.entities.now) c.args.bytes.now r.n r.number c.if-bytes-lt2.false
+    c.if-bytes-ne35.false
     (subst (λ bs. StartsWithNumber 10 7 bs r.n r.number) (take_rest c.args.bytes.now 2) r.ensures))

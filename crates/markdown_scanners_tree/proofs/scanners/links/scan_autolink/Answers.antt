@@ -15,10 +15,14 @@ returns-in_err-n-clause-found c =
 
 pub returns-clause-boundary : goal.returns-clause-boundary
 returns-clause-boundary c =
-    cut_behind _ c.args.text.now c.args.start c.in_ok-n.n (text_from c.as_bytes.result.now c.args.text.now c.args.start c.as_bytes.ensures.value) c.utf8.text c.in_ok-n.ensures.within (omega (arith, c.in_ok-n.ensures.cut))
+    cut_behind _ c.args.text.now c.args.start c.in_ok-n.n
+    (text_from c.as_bytes.result.now c.args.text.now c.args.start c.as_bytes.ensures.value) c.utf8.text
+    c.in_ok-n.ensures.within (omega (arith, c.in_ok-n.ensures.cut))
 
 pub returns-clause-only : goal.returns-clause-only
 returns-clause-only c = λ uri is.
     let read = text_from c.as_bytes.result.now c.args.text.now c.args.start c.as_bytes.ensures.value in
     let here = subst (λ t. IsUriAutolink t (take c.in_ok-n.n t)) read c.in_ok-n.ensures.found in
-    one_uri _ uri _ is here ∙ sym (c.from.ensures.0 ∙ (c.range.ensures.value ∙ ap (λ k. take k (drop c.args.start c.args.text.now)) (omega arith)))
+    one_uri _ uri _ is here
+    ∙ sym (c.from.ensures.0
+    ∙ (c.range.ensures.value ∙ ap (λ k. take k (drop c.args.start c.args.text.now)) (omega arith)))

@@ -6,18 +6,25 @@ use Rattle.markdown_scanners_tree.proofs.scanners.unescaping.first_size.Goals as
 
 pub returns-in-13-clause-size : goal.returns-in-13-clause-size
 returns-in-13-clause-size g c =
-    rw c.piece_size.ensures (inr ([], return_changed c.args.is_in_table (g.E.Entities.known c.args.entities.now) c.args.bytes.now c.requires c.in-13.is, refl))
+    rw c.piece_size.ensures
+    (inr (
+      [],
+      return_changed c.args.is_in_table (g.E.Entities.known c.args.entities.now) c.args.bytes.now c.requires c.in-13.is,
+      refl,
+    ))
 
 pub returns-in-92-clause-size : goal.returns-in-92-clause-size
 returns-in-92-clause-size g c =
     rw c.piece_size-in-92.ensures
-    (escape_size c.args.is_in_table (g.E.Entities.known c.args.entities.now) c.args.bytes.now c.escape_len-dropped.result (c.escape_len-dropped.ensures.piece (g.E.Entities.known c.args.entities.now)))
+    (escape_size c.args.is_in_table (g.E.Entities.known c.args.entities.now) c.args.bytes.now
+    c.escape_len-dropped.result (c.escape_len-dropped.ensures.piece (g.E.Entities.known c.args.entities.now)))
 
 pub returns-in-Some-clause-size : goal.returns-in-Some-clause-size
 returns-in-Some-clause-size g c =
     rw c.piece_size-in-Some.ensures (inr (
       cow_text c.in-Some.text,
-      reference_changed c.args.is_in_table (g.E.Entities.known c.args.entities.now) c.args.bytes.now c.in-Some.source (cow_text c.in-Some.text) c.in-Some.ensures.reference,
+      reference_changed c.args.is_in_table (g.E.Entities.known c.args.entities.now) c.args.bytes.now c.in-Some.source
+          (cow_text c.in-Some.text) c.in-Some.ensures.reference,
       ap length c.as_str.ensures,
     ))
 
@@ -28,10 +35,18 @@ returns-in-None-clause-size g c =
       refl,
       refl,
       lone_plain c.args.is_in_table known c.args.bytes.now
-          (lone_piece c.args.is_in_table known c.args.bytes.now c.requires (λ b. absurd (omega (arith, b, c.in-38.is))) (λ b. absurd (omega (arith, b, c.in-38.is))) (λ n meaning. c.in-None.ensures.reference (n, Boxed meaning))),
+          (lone_piece c.args.is_in_table known c.args.bytes.now c.requires (λ b. absurd (omega (arith, b, c.in-38.is)))
+          (λ b. absurd (omega (arith, b, c.in-38.is)))
+          (λ n meaning. c.in-None.ensures.reference (n, Boxed meaning))),
     ))
 
 pub returns-in_default-clause-size : goal.returns-in_default-clause-size
 returns-in_default-clause-size g c =
     let known = g.E.Entities.known c.args.entities.now in
-    rw c.piece_size-in_default.ensures (inl (refl, refl, are_plain c.args.is_in_table known c.args.bytes.now c.plain_len.result c.plain_len.ensures.within c.plain_len.ensures.plain))
+    rw c.piece_size-in_default.ensures
+    (inl (
+      refl,
+      refl,
+      are_plain c.args.is_in_table known c.args.bytes.now c.plain_len.result
+          c.plain_len.ensures.within c.plain_len.ensures.plain,
+    ))

@@ -19,14 +19,19 @@ module _ (text bytes : List ℕ) (place : ℕ) (same : bytes ≡ text) where
   at : rest ≡ drop place text
   at = take_rest bytes place ∙ ap (drop place) same
 
-  return_at : (t : Bool) (known : Lookup) → 0 < length rest → get_or rest 0 0 ≡ carriage_return → IsChanged t known (drop place text) 1 1 []
+  return_at : (t : Bool) (known : Lookup) → 0 < length rest → get_or rest 0 0 ≡ carriage_return
+      → IsChanged t known (drop place text) 1 1 []
   return_at t known some is = subst (λ bs. IsChanged t known bs 1 1 []) at (return_changed t known rest some is)
 
-  escape_at : (t : Bool) (known : Lookup) (n dropped : ℕ) → IsFirstPiece t known rest n dropped [] → 0 < dropped → IsChanged t known (drop place text) n dropped []
-  escape_at t known n dropped is some = subst (λ bs. IsChanged t known bs n dropped []) at record { first = is; some = some }
+  escape_at : (t : Bool) (known : Lookup) (n dropped : ℕ) → IsFirstPiece t known rest n dropped [] → 0 < dropped
+      → IsChanged t known (drop place text) n dropped []
+  escape_at t known n dropped is some =
+      subst (λ bs. IsChanged t known bs n dropped []) at record { first = is; some = some }
 
-  reference_at : (t : Bool) (known : Lookup) (n : ℕ) (meaning : List ℕ) → StartsWithAmpersandReference known rest n meaning → IsChanged t known (drop place text) n n meaning
-  reference_at t known n meaning is = subst (λ bs. IsChanged t known bs n n meaning) at (reference_changed t known rest n meaning is)
+  reference_at : (t : Bool) (known : Lookup) (n : ℕ) (meaning : List ℕ)
+      → StartsWithAmpersandReference known rest n meaning → IsChanged t known (drop place text) n n meaning
+  reference_at t known n meaning is =
+      subst (λ bs. IsChanged t known bs n n meaning) at (reference_changed t known rest n meaning is)
 
   lone_at : (t : Bool) (known : Lookup) → IsFirstPiece t known rest 1 0 [] → ArePlain t known (drop place text) 1
   lone_at t known is = subst (λ bs. ArePlain t known bs 1) at (lone_plain t known rest is)
@@ -35,38 +40,54 @@ pub returns-in_ok-push_part-in-13-clause-pushed : goal.returns-in_ok-push_part-i
 returns-in_ok-push_part-in-13-clause-pushed g c =
     let known = g.E.Entities.known c.args.entities.now in
     let place = c.args.place in
-    let is = return_at c.args.text.now c.as_bytes.result.now place c.as_bytes.ensures.value c.args.is_in_table known (omega (arith, c.requires.within, c.as_bytes.ensures.len)) c.in-13.is in
-    pushed_drop c.args.is_in_table known c.args.text.now c.args.run place 1 1 (place + 1) c.range.result.now c.args.out.now c.push_part.new.out is refl c.range.ensures.value (omega (arith, c.range.ensures.len))
+    let is =
+    return_at c.args.text.now c.as_bytes.result.now place c.as_bytes.ensures.value c.args.is_in_table known
+    (omega (arith, c.requires.within, c.as_bytes.ensures.len)) c.in-13.is in
+    pushed_drop c.args.is_in_table known c.args.text.now c.args.run place 1 1 (place + 1) c.range.result.now
+    c.args.out.now c.push_part.new.out is refl c.range.ensures.value (omega (arith, c.range.ensures.len))
     c.in_ok-push_part-in-13.ensures.bytes c.in_ok-push_part-in-13.ensures.len
 
 pub returns-in_err-push_part-in-13-clause-room : goal.returns-in_err-push_part-in-13-clause-room
 returns-in_err-push_part-in-13-clause-room g c room =
     let known = g.E.Entities.known c.args.entities.now in
-    let is = return_at c.args.text.now c.as_bytes.result.now c.args.place c.as_bytes.ensures.value c.args.is_in_table known (omega (arith, c.requires.within, c.as_bytes.ensures.len)) c.in-13.is in
-    absurd (false≢true (c.in_err-push_part-in-13.ensures.room (omega (arith, room 1 1 [] is, c.range.ensures.len))))
+    let is =
+    return_at c.args.text.now c.as_bytes.result.now c.args.place c.as_bytes.ensures.value c.args.is_in_table known
+    (omega (arith, c.requires.within, c.as_bytes.ensures.len)) c.in-13.is in
+    absurd (false≢true (c.in_err-push_part-in-13.ensures.succeeds (omega (arith, room 1 1 [] is, c.range.ensures.len))))
 
 pub returns-in_ok-push_part-in-92-clause-pushed : goal.returns-in_ok-push_part-in-92-clause-pushed
 returns-in_ok-push_part-in-92-clause-pushed g c =
     let known = g.E.Entities.known c.args.entities.now in
     let place = c.args.place in
     let dropped = c.escape_len-dropped.result in
-    let is = escape_at c.args.text.now c.as_bytes.result.now place c.as_bytes.ensures.value c.args.is_in_table known (dropped + 1) dropped (c.escape_len-dropped.ensures.piece known) (omega (arith, c.if-dropped-eq0.false)) in
-    pushed_drop c.args.is_in_table known c.args.text.now c.args.run place (dropped + 1) dropped (place + dropped + 1) c.range-in-92.result.now c.args.out.now c.push_part-in-92.new.out is (omega arith) c.range-in-92.ensures.value (omega (arith, c.range-in-92.ensures.len))
+    let is =
+    escape_at c.args.text.now c.as_bytes.result.now place c.as_bytes.ensures.value c.args.is_in_table known
+    (dropped + 1) dropped (c.escape_len-dropped.ensures.piece known) (omega (arith, c.if-dropped-eq0.false)) in
+    pushed_drop c.args.is_in_table known c.args.text.now c.args.run place (dropped + 1) dropped (place + dropped + 1)
+    c.range-in-92.result.now c.args.out.now c.push_part-in-92.new.out is (omega arith) c.range-in-92.ensures.value
+    (omega (arith, c.range-in-92.ensures.len))
     c.in_ok-push_part-in-92.ensures.bytes c.in_ok-push_part-in-92.ensures.len
 
 pub returns-in_err-push_part-in-92-clause-room : goal.returns-in_err-push_part-in-92-clause-room
 returns-in_err-push_part-in-92-clause-room g c room =
     let known = g.E.Entities.known c.args.entities.now in
     let dropped = c.escape_len-dropped.result in
-    let is = escape_at c.args.text.now c.as_bytes.result.now c.args.place c.as_bytes.ensures.value c.args.is_in_table known (dropped + 1) dropped (c.escape_len-dropped.ensures.piece known) (omega (arith, c.if-dropped-eq0.false)) in
-    absurd (false≢true (c.in_err-push_part-in-92.ensures.room (omega (arith, room (dropped + 1) dropped [] is, c.range-in-92.ensures.len))))
+    let is =
+    escape_at c.args.text.now c.as_bytes.result.now c.args.place c.as_bytes.ensures.value c.args.is_in_table known
+    (dropped + 1) dropped (c.escape_len-dropped.ensures.piece known) (omega (arith, c.if-dropped-eq0.false)) in
+    absurd (false≢true (c.in_err-push_part-in-92.ensures.succeeds
+    (omega (arith, room (dropped + 1) dropped [] is, c.range-in-92.ensures.len))))
 
 pub returns-then-dropped-eq0-clause-pushed : goal.returns-then-dropped-eq0-clause-pushed
 returns-then-dropped-eq0-clause-pushed g c =
     let known = g.E.Entities.known c.args.entities.now in
     let bytes = c.as_bytes.result.now in
-    let is = subst (λ d. IsFirstPiece c.args.is_in_table known (rest c.args.text.now bytes c.args.place c.as_bytes.ensures.value) (d + 1) d []) c.if-dropped-eq0.true (c.escape_len-dropped.ensures.piece known) in
-    pushed_nothing c.args.is_in_table known c.args.text.now c.args.run c.args.place 1 c.args.out.now (lone_at c.args.text.now bytes c.args.place c.as_bytes.ensures.value c.args.is_in_table known is)
+    let is =
+    subst (λ d. IsFirstPiece c.args.is_in_table known
+    (rest c.args.text.now bytes c.args.place c.as_bytes.ensures.value) (d + 1) d []) c.if-dropped-eq0.true
+    (c.escape_len-dropped.ensures.piece known) in
+    pushed_nothing c.args.is_in_table known c.args.text.now c.args.run c.args.place 1 c.args.out.now
+    (lone_at c.args.text.now bytes c.args.place c.as_bytes.ensures.value c.args.is_in_table known is)
 
 pub returns-in_ok-push_both-in-Some-clause-pushed : goal.returns-in_ok-push_both-in-Some-clause-pushed
 returns-in_ok-push_both-in-Some-clause-pushed g c =
@@ -74,26 +95,37 @@ returns-in_ok-push_both-in-Some-clause-pushed g c =
     let place = c.args.place in
     let n = c.in-Some.length in
     let meaning = cow_text c.in-Some.meaning in
-    let is = reference_at c.args.text.now c.as_bytes.result.now place c.as_bytes.ensures.value c.args.is_in_table known n meaning c.in-Some.ensures.reference in
+    let is =
+    reference_at c.args.text.now c.as_bytes.result.now place c.as_bytes.ensures.value c.args.is_in_table known n
+    meaning c.in-Some.ensures.reference in
     let kept = c.range-in-Some.result.now in
-    pushed_change c.args.is_in_table known c.args.text.now c.args.run place n n (place + n) meaning kept c.args.out.now c.push_both.new.out is refl c.range-in-Some.ensures.value (omega (arith, c.range-in-Some.ensures.len))
-    (c.in_ok-push_both-in-Some.ensures.bytes ∙ ap (λ m. string_bytes c.args.out.now ++ (kept ++ m)) c.as_str.ensures) (omega (arith, c.in_ok-push_both-in-Some.ensures.len, ap length c.as_str.ensures))
+    pushed_change c.args.is_in_table known c.args.text.now c.args.run place n n (place + n) meaning kept c.args.out.now
+    c.push_both.new.out is refl c.range-in-Some.ensures.value (omega (arith, c.range-in-Some.ensures.len))
+    (c.in_ok-push_both-in-Some.ensures.bytes ∙ ap (λ m. string_bytes c.args.out.now ++ (kept ++ m)) c.as_str.ensures)
+    (omega (arith, c.in_ok-push_both-in-Some.ensures.len, ap length c.as_str.ensures))
 
 pub returns-in_err-push_both-in-Some-clause-room : goal.returns-in_err-push_both-in-Some-clause-room
 returns-in_err-push_both-in-Some-clause-room g c room =
     let known = g.E.Entities.known c.args.entities.now in
     let n = c.in-Some.length in
     let meaning = cow_text c.in-Some.meaning in
-    let is = reference_at c.args.text.now c.as_bytes.result.now c.args.place c.as_bytes.ensures.value c.args.is_in_table known n meaning c.in-Some.ensures.reference in
-    absurd (false≢true (c.in_err-push_both-in-Some.ensures.room (omega (arith, room n n meaning is, c.range-in-Some.ensures.len, ap length c.as_str.ensures))))
+    let is =
+    reference_at c.args.text.now c.as_bytes.result.now c.args.place c.as_bytes.ensures.value c.args.is_in_table
+    known n meaning c.in-Some.ensures.reference in
+    absurd (false≢true (c.in_err-push_both-in-Some.ensures.succeeds
+    (omega (arith, room n n meaning is, c.range-in-Some.ensures.len, ap length c.as_str.ensures))))
 
 pub returns-in-None-clause-pushed : goal.returns-in-None-clause-pushed
 returns-in-None-clause-pushed g c =
     let known = g.E.Entities.known c.args.entities.now in
     let bytes = c.as_bytes.result.now in
-    let piece = lone_piece c.args.is_in_table known (rest c.args.text.now bytes c.args.place c.as_bytes.ensures.value) (omega (arith, c.requires.within, c.as_bytes.ensures.len))
-    (λ b. absurd (omega (arith, b, c.in-38.is))) (λ b. absurd (omega (arith, b, c.in-38.is))) (λ n meaning. c.in-None.ensures.reference (n, Boxed meaning)) in
-    pushed_nothing c.args.is_in_table known c.args.text.now c.args.run c.args.place 1 c.args.out.now (lone_at c.args.text.now bytes c.args.place c.as_bytes.ensures.value c.args.is_in_table known piece)
+    let piece =
+    lone_piece c.args.is_in_table known (rest c.args.text.now bytes c.args.place c.as_bytes.ensures.value)
+    (omega (arith, c.requires.within, c.as_bytes.ensures.len))
+    (λ b. absurd (omega (arith, b, c.in-38.is))) (λ b. absurd (omega (arith, b, c.in-38.is)))
+    (λ n meaning. c.in-None.ensures.reference (n, Boxed meaning)) in
+    pushed_nothing c.args.is_in_table known c.args.text.now c.args.run c.args.place 1 c.args.out.now
+    (lone_at c.args.text.now bytes c.args.place c.as_bytes.ensures.value c.args.is_in_table known piece)
 
 pub returns-in_default-clause-pushed : goal.returns-in_default-clause-pushed
 returns-in_default-clause-pushed g c =
@@ -101,5 +133,8 @@ returns-in_default-clause-pushed g c =
     let bytes = c.as_bytes.result.now in
     let same = at c.args.text.now bytes c.args.place c.as_bytes.ensures.value in
     let n = c.plain_len.result in
-    let are = are_plain c.args.is_in_table known (rest c.args.text.now bytes c.args.place c.as_bytes.ensures.value) n c.plain_len.ensures.within c.plain_len.ensures.plain in
-    pushed_nothing c.args.is_in_table known c.args.text.now c.args.run c.args.place n c.args.out.now (subst (λ bs. ArePlain c.args.is_in_table known bs n) same are)
+    let are =
+    are_plain c.args.is_in_table known (rest c.args.text.now bytes c.args.place c.as_bytes.ensures.value) n
+    c.plain_len.ensures.within c.plain_len.ensures.plain in
+    pushed_nothing c.args.is_in_table known c.args.text.now c.args.run c.args.place n c.args.out.now
+    (subst (λ bs. ArePlain c.args.is_in_table known bs n) same are)

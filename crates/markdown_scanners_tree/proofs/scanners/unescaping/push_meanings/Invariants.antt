@@ -5,7 +5,8 @@ use Rattle.markdown_scanners_tree.proofs.scanners.unescaping.push_meanings.Given
 
 abbrev pub invariant-loop-i : goal.invariant-loop-i
 invariant-loop-i g l = record {
-  built : IsBuilt l.is_in_table (g.E.Entities.known l.entities) l.text l.i l.run (string_bytes l.initial.out) (string_len l.initial.out) (string_bytes l.out) (string_len l.out);
+  built : IsBuilt l.is_in_table (g.E.Entities.known l.entities) l.text l.i l.run (string_bytes l.initial.out)
+      (string_len l.initial.out) (string_bytes l.out) (string_len l.out);
   capacity : string_capacity l.initial.out ≤ string_capacity l.out;
 }
 
