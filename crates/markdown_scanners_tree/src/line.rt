@@ -16,8 +16,8 @@ mod run;
 
 use crate::line::alerts::scan_alert;
 use crate::scanners::{
-    is_ascii_whitespace, is_ascii_whitespace_no_nl, scan_blank_line, scan_hrule, scan_marker,
-    scan_spaces_and_tabs,
+    is_ascii_whitespace, is_ascii_whitespace_no_nl, is_line_ending, scan_blank_line, scan_hrule,
+    scan_marker, scan_spaces_and_tabs,
 };
 use markdown_values::values::BlockQuoteKind;
 pub use run::{LineAnswer, LineCall, LineRun, LineStop, run_line};
@@ -146,7 +146,7 @@ impl<'a> LineStart<'a> {
         ensures step { self.now.pending ≡ 0 →
             IsPlainStep LineCall.Eol (LineAnswer.Flag result) self.now self.now }
     {
-        self.next_byte().is_none_or(ends_line)
+        self.next_byte().is_none_or(is_line_ending)
     }
 
     /// Takes up to `n` columns of space, the pending ones first and then those of spaces and tabs.
@@ -427,7 +427,7 @@ impl<'a> LineStart<'a> {
         let mut phase = self.column % 4;
         let unscanned = &self.bytes[self.place..];
         for (index, byte) in unscanned.iter().enumerate() {
-            if ends_line(*byte) {
+            if is_line_ending(*byte) {
                 rest.extend_from_slice(&unscanned[index..])?;
                 return Ok(rest);
             }
@@ -450,13 +450,6 @@ fn task_box(bytes: &[u8]) -> Option<bool>
         },
         _ => None,
     }
-}
-
-// Whether the byte is one that ends a line: LF or CR.
-fn ends_line(byte: u8) -> bool
-    ensures { result ≡ is_line_ending byte }
-{
-    byte == b'\n' || byte == b'\r'
 }
 
 // Adds spaces at the end.

@@ -19,6 +19,7 @@ mod tag_state;
 mod unescaping;
 
 pub use breaks::scan_hrule;
+pub(crate) use classes::is_line_ending;
 pub use classes::{is_ascii_punctuation, is_ascii_whitespace, is_ascii_whitespace_no_nl};
 pub use entities::{Entities, scan_entity};
 pub use fences::{scan_closing_code_fence, scan_code_fence};

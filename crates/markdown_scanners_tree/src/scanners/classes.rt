@@ -1,6 +1,6 @@
 //! The classes of bytes, read from one table.
 ghost use Rattle.std.specs.Prelude.{◌≡◌};
-ghost use Rattle.markdown_scanners_tree.specs.Bytes.{is_white_space, is_white_space_in_line, is_punctuation, is_letter, is_digit, is_alphanumeric, is_unquoted};
+ghost use Rattle.markdown_scanners_tree.specs.Bytes.{is_line_ending, is_white_space, is_white_space_in_line, is_punctuation, is_letter, is_digit, is_alphanumeric, is_unquoted};
 ghost use Rattle.markdown_scanners_tree.specs.scanners.classes.private.ClassBits.{class_bits};
 
 const WHITE_SPACE: u8 = 1;
@@ -60,6 +60,13 @@ pub fn is_ascii_punctuation(c: u8) -> bool
     ensures { result ≡ is_punctuation c }
 {
     classes_of(c) & PUNCTUATION != 0
+}
+
+// Whether the byte is LF or CR.
+pub(crate) fn is_line_ending(c: u8) -> bool
+    ensures { result ≡ is_line_ending c }
+{
+    c == b'\n' || c == b'\r'
 }
 
 // Whether the byte is an ASCII digit.

@@ -4,7 +4,7 @@ ghost use Rattle.markdown_scanners_tree.specs.SomeExactly.{SomeExactly};
 ghost use Rattle.markdown_scanners_tree.specs.Handler.{Answers, IsSteady};
 ghost use Rattle.markdown_scanners_tree.specs.Kept.{KeptByte, bytes_of};
 ghost use Rattle.markdown_scanners_tree.specs.scanners.html_tag.HtmlTag.{IsTagAloneInLine};
-ghost use Rattle.markdown_scanners_tree.specs.scanners.html_tag.KeptTag.{AnswersIfAny, IsKeptPrefix, place_after, IsKeptTag, tag_buffer};
+ghost use Rattle.markdown_scanners_tree.specs.scanners.html_tag.KeptTag.{IsKeptPrefix, HasTag, OnEachTag, HasNoTag, AreTextAndLength, AreLengths, tag_buffer};
 ghost use Rattle.markdown_scanners_tree.specs.scanners.tag_state.private.TagMachine.{ends_source_line};
 
 use crate::scanners::lines::scan_blank_line;
@@ -19,7 +19,7 @@ struct TagLength {
 }
 
 // Whether a line ends with the first byte: LF, or a CR that no LF follows.
-fn ends_line(rest: &[u8]) -> bool
+fn ends_source_line(rest: &[u8]) -> bool
     ensures { result ≡ ends_source_line rest.now }
 {
     match rest {
@@ -34,14 +34,13 @@ fn ends_line(rest: &[u8]) -> bool
 fn measure_tag<F: Fn(&[u8]) -> usize>(bytes: &[u8], handler: Option<&F>) -> Option<TagLength>
     requires callable { IfSome handler (λ f. F.IsAlwaysCallable f.now) }
     requires steady { IfSome handler (λ f. IsSteady F.Fn f.now) }
-    ensures found { IfSome result (λ tag. (prefix : List KeptByte)
-        × IsKeptTag (AnswersIfAny F.Fn handler.entry) bytes.now prefix
-        × (tag.kept ≡ length prefix) × (tag.end ≡ place_after 0 prefix)) }
-    ensures only { IfSome result (λ tag. (prefix : List KeptByte)
-        → IsKeptTag (AnswersIfAny F.Fn handler.entry) bytes.now prefix
-        → (tag.kept ≡ length prefix) × (tag.end ≡ place_after 0 prefix)) }
-    ensures none { IfNone result ((prefix : List KeptByte)
-        → ¬ IsKeptTag (AnswersIfAny F.Fn handler.entry) bytes.now prefix) }
+
+    ensures found { IfSome result (λ tag.
+        HasTag F.Fn handler.entry bytes.now (AreLengths tag.kept tag.end)) }
+    ensures only { IfSome result (λ tag.
+        OnEachTag F.Fn handler.entry bytes.now (AreLengths tag.kept tag.end)) }
+    ensures none { IfNone result (HasNoTag F.Fn handler.entry bytes.now) }
+
     ensures whole { IfSome result (λ tag. IfNone handler.entry (tag.kept ≡ tag.end)) }
     ensures within { IfSome result (λ tag. tag.end ≤ length bytes.now) }
 {
@@ -56,7 +55,7 @@ fn measure_tag<F: Fn(&[u8]) -> usize>(bytes: &[u8], handler: Option<&F>) -> Opti
         if place >= bytes.len() || state.is_final() {
             break;
         }
-        let is_last = ends_line(&bytes[place..]);
+        let is_last = ends_source_line(&bytes[place..]);
         state = state.after_line_ending(bytes[place]);
         place += 1;
         kept += 1;
@@ -91,7 +90,7 @@ fn copy_kept<F: Fn(&[u8]) -> usize>(
     let mut buffer = Vec::with_capacity(alloc, kept)?;
     let mut place = 0;
     while buffer.len() < kept {
-        let is_last = ends_line(&bytes[place..]);
+        let is_last = ends_source_line(&bytes[place..]);
         buffer.push_reserved(bytes[place]);
         place += 1;
         if is_last {
@@ -123,20 +122,22 @@ pub fn scan_html_block_inner<F: Fn(&[u8]) -> usize>(
 ) -> Result<Option<(Vec<u8>, usize)>, AllocError>
     requires callable { IfSome handler (λ f. F.IsAlwaysCallable f.now) }
     requires steady { IfSome handler (λ f. IsSteady F.Fn f.now) }
-    ensures found { IfOk result (λ answer. IfSome answer (λ tag. (prefix : List KeptByte)
-        × IsKeptTag (AnswersIfAny F.Fn handler.entry) bytes.now prefix
-        × (tag.0.items ≡ tag_buffer prefix) × (tag.1 ≡ place_after 0 prefix))) }
-    ensures only { IfOk result (λ answer. IfSome answer (λ tag. (prefix : List KeptByte)
-        → IsKeptTag (AnswersIfAny F.Fn handler.entry) bytes.now prefix
-        → (tag.0.items ≡ tag_buffer prefix) × (tag.1 ≡ place_after 0 prefix))) }
-    ensures none { IfOk result (λ answer. IfNone answer ((prefix : List KeptByte)
-        → ¬ IsKeptTag (AnswersIfAny F.Fn handler.entry) bytes.now prefix)) }
-    ensures memory { OnErr result ((prefix : List KeptByte)
-        × IsKeptTag (AnswersIfAny F.Fn handler.entry) bytes.now prefix
-        × (tag_buffer prefix ≢ [])) }
+
+    // A tag is there.
+    ensures found { IfOk result (λ answer. IfSome answer (λ tag.
+        HasTag F.Fn handler.entry bytes.now (AreTextAndLength tag.0.items tag.1))) }
+    ensures only { IfOk result (λ answer. IfSome answer (λ tag.
+        OnEachTag F.Fn handler.entry bytes.now (AreTextAndLength tag.0.items tag.1))) }
+    ensures within { IfOk result (λ answer. IfSome answer (λ tag. tag.1 ≤ length bytes.now)) }
+
+    // None is there.
+    ensures none { IfOk result (λ answer. IfNone answer
+        (HasNoTag F.Fn handler.entry bytes.now)) }
+
+    // Memory is refused.
+    ensures memory { OnErr result
+        (HasTag F.Fn handler.entry bytes.now (λ prefix. tag_buffer prefix ≢ [])) }
     ensures without_handler { IfNone handler.entry (IsOk result) }
-    ensures within { IfOk result (λ answer. IfSome answer (λ tag.
-        tag.1 ≤ length bytes.now)) }
 {
     let Some(tag) = measure_tag(bytes, handler) else {
         return Ok(None);

@@ -10,7 +10,7 @@ ghost use Rattle.markdown_scanners_tree.specs.SomeExactly.{SomeExactly};
 ghost use Rattle.markdown_scanners_tree.specs.scanners.links.LinkDestination.{IsLinkDestination, IsBareFrom, IsPointedFrom};
 ghost use Rattle.markdown_scanners_tree.specs.scanners.links.Autolink.{IsUriAutolink, StartsWithScheme, is_scheme_byte, is_uri_byte};
 
-use crate::scanners::classes::{is_ascii_alphanumeric, is_ascii_letter};
+use crate::scanners::classes::{is_ascii_alphanumeric, is_ascii_letter, is_line_ending};
 use crate::scanners::escapes::starts_escape;
 use crate::scanners::runs::first_bytes;
 use markdown_values::strings::CowStr;
@@ -83,7 +83,7 @@ fn pointed_len(bytes: &[u8]) -> Option<usize>
 fn refuses_pointed(b: u8) -> bool
     ensures { result ≡ (is_line_ending b || b == less_than_sign) }
 {
-    b == b'\n' || b == b'\r' || b == b'<'
+    is_line_ending(b) || b == b'<'
 }
 
 // The length of the bare destination at the front, which ends before an ASCII byte or with the

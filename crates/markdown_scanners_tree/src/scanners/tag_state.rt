@@ -6,7 +6,7 @@ ghost use Rattle.markdown_scanners_tree.specs.scanners.tag_state.private.TagMach
 
 use crate::scanners::classes::{
     is_ascii_alphanumeric, is_ascii_letter, is_ascii_whitespace, is_ascii_whitespace_no_nl,
-    is_unquoted_byte,
+    is_line_ending, is_unquoted_byte,
 };
 
 // What the bytes of a tag end in, as far as they are read.
@@ -55,13 +55,6 @@ fn continues_attribute(byte: u8) -> bool
     ensures { result ≡ is_attribute_byte byte }
 {
     is_ascii_alphanumeric(byte) || matches!(byte, b'_' | b'.' | b':' | b'-')
-}
-
-// Whether the byte is LF or CR.
-fn ends_some_line(byte: u8) -> bool
-    ensures { result ≡ is_line_ending byte }
-{
-    byte == b'\n' || byte == b'\r'
 }
 
 // After a name or a value, where the byte belongs to neither.
@@ -173,7 +166,7 @@ fn end_of_quoted(bytes: &[u8], place: usize, quote: u8) -> usize
     ensures within { (place ≤ result) × (result ≤ length bytes.now) }
 {
     let mut end = place;
-    while end < bytes.len() && bytes[end] != quote && !ends_some_line(bytes[end]) {
+    while end < bytes.len() && bytes[end] != quote && !is_line_ending(bytes[end]) {
         end += 1;
     }
     end
@@ -226,7 +219,7 @@ impl TagState {
     {
         let mut state = self;
         let mut place = 0;
-        while place < bytes.len() && !ends_some_line(bytes[place]) {
+        while place < bytes.len() && !is_line_ending(bytes[place]) {
             state = state.next(bytes[place]);
             place += 1;
             if state.is_final() {

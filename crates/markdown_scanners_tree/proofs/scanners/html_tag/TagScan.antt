@@ -8,7 +8,7 @@ use denote.Ref.{Bor}
 use Rattle.markdown_scanners_tree.specs.Bytes.{is_line_ending}
 use Rattle.markdown_scanners_tree.specs.Kept.{KeptByte, in_line, at_line_end, bytes_of, line_endings}
 use Rattle.markdown_scanners_tree.specs.Handler.{Answers, IsSteady}
-use Rattle.markdown_scanners_tree.specs.scanners.html_tag.KeptTag.{AnswersIfAny, place_after, IsKeptTag}
+use Rattle.markdown_scanners_tree.specs.scanners.html_tag.KeptTag.{AnswersIfAny, AreLengths, place_after, IsKeptTag}
 use Rattle.markdown_scanners_tree.specs.scanners.tag_state.private.TagMachine.{next_state, state_after, is_tag_end, is_final, ends_source_line, LeadsTo, BeginsWith}
 use Rattle.markdown_scanners_tree.specs.declared.scanners.tag_state.TagState.{TagState}
 use Rattle.markdown_scanners_tree.specs.declared.scanners.tag_state.TagState.TheVariants.{Start}
@@ -148,13 +148,17 @@ module _ (answers : List ℕ → ℕ → Type 0) (source : List ℕ) (place kept
       let other : is_tag_end (state_after state (x.byte ∷ bytes_of u)) (line_endings (s.passed ++ x ∷ u)) ≡ false = final_goes_nowhere state x.byte (bytes_of u) (line_endings (s.passed ++ x ∷ u)) final in
       cc
 
-  pub scan_finds : is_tag_end state endings ≡ true → (prefix : List KeptByte) × IsKeptTag answers source prefix × (kept ≡ length prefix) × (place ≡ place_after 0 prefix)
-  scan_finds e = let whole = s.whole e in (s.passed, tag_from answers source s.passed whole.0 (sym ends_passed ∙ e), s.counted, whole.1)
+  pub scan_finds : is_tag_end state endings ≡ true
+      → (prefix : List KeptByte) × IsKeptTag answers source prefix × AreLengths kept place prefix
+  scan_finds e =
+      let whole = s.whole e in
+      (s.passed, tag_from answers source s.passed whole.0 (sym ends_passed ∙ e), (s.counted, whole.1))
 
-  pub scan_only : is_tag_end state endings ≡ true → (prefix : List KeptByte) → IsKeptTag answers source prefix → (kept ≡ length prefix) × (place ≡ place_after 0 prefix)
+  pub scan_only : is_tag_end state endings ≡ true
+      → (prefix : List KeptByte) → IsKeptTag answers source prefix → AreLengths kept place prefix
   scan_only e prefix k = let l = s.left prefix (tag_read answers source prefix k) (tag_ends answers source prefix k) in by l.0 l.1
     where
-      by : (t : List KeptByte) → prefix ≡ s.passed ++ t → (kept ≡ length prefix) × (place ≡ place_after 0 prefix)
+      by : (t : List KeptByte) → prefix ≡ s.passed ++ t → AreLengths kept place prefix
       by [] is = let same : s.passed ≡ prefix = sym (append-nil s.passed) ∙ sym is in (s.counted ∙ ap length same, (s.whole e).1 ∙ ap (place_after 0) same)
       by (x ∷ u) is = absurd (nowhere (end_is_final state endings e) prefix (tag_ends answers source prefix k) x u is)
 

@@ -24,9 +24,10 @@ pub record IsKeptPrefix (answers : List ℕ → ℕ → Type 0) (source : List �
   pub answered : AreSkips answers source skips
   pub begins : kept_text source skips ≡ prefix ++ rest
 
--- A prefix of a kept text of the source is a tag. In a closing tag stands at most one line ending of the
--- source.
-pub record IsKeptTag (answers : List ℕ → ℕ → Type 0) (source : List ℕ) (prefix : List KeptByte) : Type 0 where
+-- A prefix of a kept text of the source is a tag. In a closing tag stands at most one line ending of
+-- the source.
+pub record IsKeptTag (answers : List ℕ → ℕ → Type 0) (source : List ℕ) (prefix : List KeptByte)
+    : Type 0 where
   pub kept : IsKeptPrefix answers source prefix
   pub tag : IsOpenTag (bytes_of prefix) ⊎ (IsClosingTag (bytes_of prefix) × (line_endings prefix ≤ 1))
 
@@ -34,3 +35,28 @@ pub record IsKeptTag (answers : List ℕ → ℕ → Type 0) (source : List ℕ)
 -- has it
 abbrev pub tag_buffer : List KeptByte → List ℕ
 tag_buffer prefix = if place_after 0 prefix == length prefix then [] else bytes_of prefix
+
+-- The tags that a source begins with, where a handler or none is asked at its line endings.
+module _ {F : Type 0} (g : Shared F (Bor (List ℕ) × Unit {0}) ℕ) (handler : Option (Bor F))
+    (source : List ℕ) where
+  -- there is one of which this holds
+  abbrev pub HasTag : (List KeptByte → Type 0) → Type 0
+  HasTag holds =
+      (prefix : List KeptByte) × IsKeptTag (AnswersIfAny g handler) source prefix × holds prefix
+
+  -- this holds of each one
+  abbrev pub OnEachTag : (List KeptByte → Type 0) → Type 0
+  OnEachTag holds =
+      (prefix : List KeptByte) → IsKeptTag (AnswersIfAny g handler) source prefix → holds prefix
+
+  -- there is none
+  abbrev pub HasNoTag : Type 0
+  HasNoTag = (prefix : List KeptByte) → ¬ IsKeptTag (AnswersIfAny g handler) source prefix
+
+-- the text and the length that are answered for a tag of these kept bytes
+abbrev pub AreTextAndLength : List ℕ → ℕ → List KeptByte → Type 0
+AreTextAndLength text n prefix = (text ≡ tag_buffer prefix) × (n ≡ place_after 0 prefix)
+
+-- how many bytes a tag has without the skipped ones, and with them
+abbrev pub AreLengths : ℕ → ℕ → List KeptByte → Type 0
+AreLengths kept n prefix = (kept ≡ length prefix) × (n ≡ place_after 0 prefix)

@@ -32,12 +32,12 @@ loop-is_last-preserved-then-is_last g c =
     let low : length c.loop-is_last.buffer.items < c.args.kept = omega arith in
     let inside : c.loop-is_last.place < length c.args.bytes.now = copy_inside _ _ _ _ _ c.loop-is_last.invariant.0 c.requires.some low in
     let answer : Answers g.F.Fn c.args.handler.now (take (length c.args.bytes.now - (c.loop-is_last.place + 1)) (drop (c.loop-is_last.place + 1) c.args.bytes.now)) c.handler-place.result = search (rules, of_calls) in
-    let turn = turn_with_skip g.F.Fn (Some c.args.handler) c.args.bytes.now c.loop-is_last.place inside 0 c.args.handler c.handler-place.result refl c.requires.steady (sym c.ends_line-is_last.ensures ∙ c.if-is_last.true) answer in
+    let turn = turn_with_skip g.F.Fn (Some c.args.handler) c.args.bytes.now c.loop-is_last.place inside 0 c.args.handler c.handler-place.result refl c.requires.steady (sym c.ends_source_line-is_last.ensures ∙ c.if-is_last.true) answer in
     (rw c.push_reserved.ensures.items (copy_goes_on _ _ _ _ _ c.loop-is_last.invariant.0 0 _ _ low turn), turn.inside, rw c.push_reserved.ensures.capacity c.loop-is_last.invariant.2, rw (c.push_reserved.ensures.items, c.push_reserved.ensures.len) (simp length-append (omega arith)))
 
 pub loop-is_last-preserved : goal.loop-is_last-preserved
 loop-is_last-preserved g c =
     let low : length c.loop-is_last.buffer.items < c.args.kept = omega arith in
     let inside : c.loop-is_last.place < length c.args.bytes.now = copy_inside _ _ _ _ _ c.loop-is_last.invariant.0 c.requires.some low in
-    let turn = turn_without g.F.Fn (Some c.args.handler) c.args.bytes.now c.loop-is_last.place inside 0 (sym c.ends_line-is_last.ensures ∙ c.if-is_last.false) in
+    let turn = turn_without g.F.Fn (Some c.args.handler) c.args.bytes.now c.loop-is_last.place inside 0 (sym c.ends_source_line-is_last.ensures ∙ c.if-is_last.false) in
     (rw c.push_reserved.ensures.items (copy_goes_on _ _ _ _ _ c.loop-is_last.invariant.0 0 _ _ low turn), turn.inside, rw c.push_reserved.ensures.capacity c.loop-is_last.invariant.2, rw (c.push_reserved.ensures.items, c.push_reserved.ensures.len) (simp length-append (omega arith)))

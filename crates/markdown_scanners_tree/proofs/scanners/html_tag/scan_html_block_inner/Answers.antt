@@ -6,7 +6,7 @@ use Rattle.markdown_scanners_tree.proofs.scanners.html_tag.scan_html_block_inner
 pub copy_kept-requires-clause-some : goal.copy_kept-requires-clause-some
 copy_kept-requires-clause-some g c =
     let found = c.in-Some.ensures.found in
-    (found.0, prefix_under g.F.Fn c.args.handler c.in-Some-handler.skips c.args.bytes.now found.0 c.in-Some-handler.is found.1.kept, found.2)
+    (found.0, prefix_under g.F.Fn c.args.handler c.in-Some-handler.skips c.args.bytes.now found.0 c.in-Some-handler.is found.1.kept, found.2.0)
 
 pub returns-clause-only : goal.returns-clause-only
 returns-clause-only g c = λ prefix tag.
@@ -29,4 +29,4 @@ pub returns-clause-found : goal.returns-clause-found
 returns-clause-found g c =
     let found = c.in-Some.ensures.found in
     let text = returns-clause-only g c found.0 found.1 in
-    (found.0, found.1, text.0, text.1)
+    (found.0, found.1, text)
