@@ -3,7 +3,7 @@ ghost use Rattle.std.specs.Prelude.{◌≡◌, ◌↔◌, ◌≤◌, ◌<◌, �
 ghost use Rattle.markdown_scanners_tree.specs.linklabel.Key.{label_key};
 ghost use Rattle.cmark_vectors.specs.Markers.{skipped};
 
-use cmark_vectors_values::bounds::{are_equal, hash_of};
+use crate::bounds::{are_equal, hash_of};
 use markdown_scanners_tree::linklabel::{FootnoteLabel, LinkLabel, scan_link_label_rest};
 use markdown_values::strings::CowStr;
 use std::alloc::{AllocError, Global};

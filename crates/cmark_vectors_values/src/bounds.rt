@@ -3,19 +3,19 @@ use std::alloc::{AllocError, Global};
 use std::fmt::{Debug, Display};
 use std::hash::{BuildHasher, BuildHasherDefault, FoldHasher, Hash};
 
-pub fn are_equal<T: Eq>(a: &T, b: &T) -> bool {
+pub(crate) fn are_equal<T: Eq>(a: &T, b: &T) -> bool {
     a == b
 }
 
-pub fn hash_of<T: Hash>(value: &T) -> u64 {
+pub(crate) fn hash_of<T: Hash>(value: &T) -> u64 {
     let hasher: BuildHasherDefault<FoldHasher> = BuildHasherDefault::default();
     hasher.hash_one(value)
 }
 
-pub fn printed<T: Display>(alloc: Global, value: &T) -> Result<String, AllocError> {
+pub(crate) fn printed<T: Display>(alloc: Global, value: &T) -> Result<String, AllocError> {
     format!(in alloc; "{value}")
 }
 
-pub fn debug_printed<T: Debug>(alloc: Global, value: &T) -> Result<String, AllocError> {
+pub(crate) fn debug_printed<T: Debug>(alloc: Global, value: &T) -> Result<String, AllocError> {
     format!(in alloc; "{value:?}")
 }

@@ -1,8 +1,5 @@
 //! The derives of each type, called through their bounds.
 use crate::bounds::{are_equal, debug_printed, hash_of};
-use markdown_scanners_tree::inline_html::{HtmlStop, run_inline_html};
-use markdown_scanners_tree::line::{LineAnswer, LineCall, LineStop, run_line};
-use markdown_scanners_tree::linklabel::ReferenceLabel;
 use markdown_values::strings::{CowStr, InlineStr, StringTooLongError};
 use markdown_values::tree::{Tree, TreeIndex};
 use markdown_values::values::{
@@ -95,21 +92,7 @@ fn tags_and_events_are_compared(rt: HostRuntime) -> Result<(), Fail> {
 }
 
 #[test]
-fn runs_are_compared(rt: HostRuntime) -> Result<(), Fail> {
-    let alloc = rt.alloc();
-    assert!(rt; is_compared(alloc, &LineCall::Eol, &LineCall::Quote)?);
-    assert!(rt; is_compared(alloc, &LineAnswer::Count(0), &LineAnswer::Count(1))?);
-    assert!(rt; is_compared(alloc, &LineStop::SpacePending, &LineStop::IndentTooLarge)?);
-    let empty = run_line(alloc, b"", &[])?;
-    assert!(rt; is_compared(alloc, &empty, &run_line(alloc, b"", &[LineCall::Eol])?)?);
-    assert!(rt; is_compared(alloc, &HtmlStop::NoOpener, &HtmlStop::NotRising)?);
-    let empty = run_inline_html(alloc, b"<!", &[])?;
-    assert!(rt; is_compared(alloc, &empty, &run_inline_html(alloc, b"<!", &[2])?)?);
-    Ok(())
-}
-
-#[test]
-fn texts_and_references_are_printed_by_debug(rt: HostRuntime) -> Result<(), Fail> {
+fn texts_are_printed_by_debug(rt: HostRuntime) -> Result<(), Fail> {
     let alloc = rt.alloc();
     let owned = CowStr::from_string(alloc, String::from_str(alloc, "a")?)?;
     if let CowStr::Boxed(text) = &owned {
@@ -118,9 +101,6 @@ fn texts_and_references_are_printed_by_debug(rt: HostRuntime) -> Result<(), Fail
     assert!(rt; is_printed(alloc, &owned)?);
     assert!(rt; is_printed(alloc, &InlineStr::from('a'))?);
     assert!(rt; is_printed(alloc, &StringTooLongError)?);
-    let link = debug_printed(alloc, &ReferenceLabel::Link(CowStr::from("a")))?;
-    let note = debug_printed(alloc, &ReferenceLabel::Footnote(CowStr::from("a")))?;
-    assert!(rt; link != note);
     Ok(())
 }
 
