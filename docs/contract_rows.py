@@ -32,12 +32,12 @@ def calls_named(crate, names):
     """The public calls that a head names: a short name is of the type that was named last, or a function."""
     known = {it.name: it for it in public_items(crate) if it.kind != "type"}
     found, missing, of_type = [], [], ""
-    for name in [it for it in names if not is_lemma(it)]:
+    for name in names:
         full = name if name in known else f"{of_type}::{name}"
         if full in known:
             found.append(known[full])
             of_type = known[full].of_type
-        else:
+        elif not is_lemma(name):
             missing.append(name)
     return found, missing
 
@@ -63,7 +63,7 @@ def say_of_row(crate, row):
     names = [it for it in re.findall(r"`([^`]+)`", text) if NAME.match(it)]
     general = [] if heads else [it for it in public_items(crate) if it.kind != "type"]
     allowed = allowed_names(crate, calls or general, names)
-    if heads and all(is_lemma(it) for it in heads):
+    if heads and not calls and not missing:
         allowed |= set(definitions())
     stale = [it for it in names if it not in allowed]
     if stale:

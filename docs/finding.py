@@ -5,12 +5,27 @@ from pathlib import Path
 
 from reading import TOP, crates, files_below, imports_of, items_of, text_of, words_of
 
-DEFINED = re.compile(
-    r"^(?:(?:abbrev|unfoldable)(?: pub)? (?P<a>[^\s:({]+)|(?:pub )?(?:record|data|ruleset) (?P<b>[^\s:({]+)"
-    r"|(?:pub )?(?P<c>[^\s:({]+) :)"
-)
+HEADED = re.compile(r"(?:(?:abbrev|unfoldable) (?:pub )?|(?:pub )?(?:record|data|ruleset) )([^\s:({]+)")
+STATED = re.compile(r"(?:pub )?([^\s:({]+) :")
 OF_FUNCTIONS = ("Answers.antt", "Invariants.antt", "Proof.antt")
 OPERATORS = {"eq": r"[=!]=|assert_(?:eq|ne)!", "fmt": r"format!|write!", "index": r"\w\[", "add": r" \+ ", "sub": r" - "}
+
+
+def defined_in(path):
+    """The words and lemmas that a file defines, with their lines; the fields of records are none."""
+    record, has_blocks = None, re.search(r"(?m)^module ", text_of(path))
+    for number, line in enumerate(text_of(path).splitlines(), 1):
+        bare = line.lstrip(" ")
+        indent = len(line) - len(bare)
+        if record is not None and bare and indent <= record:
+            record = None
+        if record is not None:
+            continue
+        if found := HEADED.match(bare):
+            record = indent if " record " in f" {bare[:11]}" else None
+            yield found[1], number
+        elif indent <= (2 if has_blocks else 0) and (found := STATED.match(bare)):
+            yield found[1], number
 
 
 @cache
@@ -20,11 +35,9 @@ def definitions():
     for crate in crates():
         for part in ("specs", "proofs"):
             for path in files_below(f"crates/{crate}/{part}", ".antt"):
-                if part == "proofs" and path.endswith(OF_FUNCTIONS):
-                    continue
-                for number, line in enumerate(text_of(path).splitlines(), 1):
-                    if it := DEFINED.match(line):
-                        found.setdefault(it["a"] or it["b"] or it["c"], []).append((path, number))
+                if part == "specs" or not path.endswith(OF_FUNCTIONS):
+                    for word, number in defined_in(path):
+                        found.setdefault(word, []).append((path, number))
     return found
 
 
@@ -60,7 +73,7 @@ def pattern_of(item):
 
 def naming(item, crate, below=""):
     """The functions of a crate that name a call, each with the line that does first."""
-    pattern = pattern_of(item) if item.kind == "fn" else re.compile(rf"\b{item.short.split(' for ')[-1]}\b")
+    pattern = pattern_of(item) if item.kind == "fn" else re.compile(rf"\b{item.trait.split('<')[0] or item.short}\b")
     for other in items_of(crate):
         if other.kind != "fn" or not other.path.startswith(f"crates/{crate}/src/{below}"):
             continue
@@ -142,7 +155,7 @@ def naming_word(word, parts):
             for path in files_below(f"crates/{crate}/{part}", suffix):
                 if word not in text_of(path):
                     continue
-                text = re.sub(r"(?m)^\s*(?:ghost )?(?:pub )?use .*$", "", text_of(path))
+                text = re.sub(r"(?m)^[ \t]*(?:ghost )?(?:pub )?use .*$", "", text_of(path))
                 if found := pattern.search(text):
                     yield path, text[: found.start()].count("\n") + 1
 
@@ -151,6 +164,20 @@ def contracts_with(word):
     """The functions and impls whose contract names a word."""
     ours = set(crates())
     return [it for it in all_items() if word in it.contract and not it.test and word in words_of(it, ours)]
+
+
+def with_clause(name):
+    """The functions and traits that have a clause of this name."""
+    return [it for it in all_items() if name in it.clauses and name not in ("requires", "ensures") and not it.test]
+
+
+def implementers(trait):
+    """The places that implement a trait."""
+    for crate in crates():
+        for path in files_below(f"crates/{crate}/src", ".rt"):
+            for number, line in enumerate(text_of(path).splitlines(), 1):
+                if re.match(rf"impl\b.*\b{trait}(?:<.*>)? for ", line):
+                    yield f"{path}:{number}"
 
 
 def definition_of(word, path):
