@@ -8,7 +8,9 @@ from reading import TOP, crates, files_below, imports_of, items_of, text_of, wor
 HEADED = re.compile(r"(?:(?:abbrev|unfoldable) (?:pub )?|(?:pub )?(?:record|data|ruleset) )([^\s:({]+)")
 STATED = re.compile(r"(?:pub )?([^\s:({]+) :")
 OF_FUNCTIONS = ("Answers.antt", "Invariants.antt", "Proof.antt")
-OPERATORS = {"eq": r"[=!]=|assert_(?:eq|ne)!", "fmt": r"format!|write!", "index": r"\w\[", "add": r" \+ ", "sub": r" - "}
+OPERATORS = {
+    "eq": r"[=!]=|assert_(?:eq|ne)!", "fmt": r"format!|write!", "index": r"\w\[", "add": r" \+ ", "sub": r" - ",
+}
 
 
 def defined_in(path):
@@ -57,7 +59,7 @@ def edits():
             if line.startswith("file:"):
                 source = f"crates/{crate}/{line[5:].strip()}"
             elif line.startswith("old:"):
-                pairs.append((source, line[4:].strip()))
+                pairs.append((source, line[5:]))
         found.append((path.relative_to(TOP).as_posix(), pairs, path.read_text()))
     return found
 
@@ -87,25 +89,35 @@ def naming(item, crate, below=""):
             yield other, other.line + at
 
 
+@cache
+def tokens_of(item):
+    return set(re.findall(r"\w+", item.body))
+
+
+def private_items(crate):
+    return [it for it in items_of(crate) if it.kind in ("fn", "const") and not it.public and not it.test]
+
+
 def private_part(item):
-    """The call, and the private functions that only it calls, or one that only it calls."""
-    own = [item]
-    others = [it for it in items_of(item.crate) if it.kind == "fn" and not it.public and not it.test]
-    callers = {id(it): callers_of(it) for it in others}
-    while True:
-        more = [it for it in others if it not in own and callers[id(it)] and all(by in own for by in callers[id(it)])]
-        if not more:
-            return own
+    """The call, and what is private and only it uses; then what is private and others use as well."""
+    own, others = [item], private_items(item.crate)
+    users = {it: callers_of(it) for it in others}
+    while more := [it for it in others if it not in own and users[it] and all(by in own for by in users[it])]:
         own += more
+    shared = []
+    while more := [it for it in others if it not in own + shared and any(by in own + shared for by in users[it])]:
+        shared += more
+    return own, shared
 
 
 def callers_of(item):
+    """The functions of the crate that use a function or a constant."""
     pattern = pattern_of(item)
     return [
         it
         for it in items_of(item.crate)
-        if it.kind == "fn" and it is not item and not it.test and (it.path == item.path or in_crate(item))
-        and pattern.search(it.body)
+        if it.kind == "fn" and item.short in tokens_of(it) and it is not item and not it.test
+        and (it.path.startswith((item.path, item.path[:-3] + "/")) or in_crate(item)) and pattern.search(it.body)
     ]
 
 

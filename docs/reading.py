@@ -7,13 +7,14 @@ from pathlib import Path
 TOP = Path(__file__).resolve().parent.parent
 WORD = re.compile(r"[^\W\d][\w']*")
 TYPE = re.compile(r"pub (struct|enum|union|type|const|static) (\w+)")
+PRIVATE = re.compile(r"\s*(?:pub\(crate\) )?(?:const|static) (\w+):")
 
 
-@dataclass
+@dataclass(eq=False)
 class Item:
-    """A function, a type, a trait or a trait's impl without a function of its own."""
+    """A function, a type, a trait, a trait's impl without a function of its own, or a private constant."""
 
-    kind: str  # fn, type, trait or impl
+    kind: str  # fn, type, trait, impl or const
     name: str  # as the map has it: scan_entity, LineStart::new, CowStr::from(char), Eq for CowStr
     crate: str
     path: str  # from the top of the tree
@@ -149,6 +150,9 @@ def items_of_file(path):
         elif it := re.match(r"(\s*)" + TYPE.pattern, line):
             name = f"{block['head'][1]}::{it[3]}" if it[1] and block else it[3]
             found.append(Item("type", name, *where, at + 1, at + 1, True))
+        elif it := PRIVATE.match(line):
+            end = next((end for end in range(at, len(lines)) if lines[end].endswith(";")), at)
+            found.append(Item("const", it[1], *where, at + 1, end + 1))
     return found
 
 
@@ -188,10 +192,10 @@ def public_items(crate):
 def imports_of(path):
     """The words of specs that a file takes, each with the crate that has it, and its names for whole modules."""
     words, aliases = {}, {}
-    for found in re.finditer(r"(?:ghost )?use Rattle\.(\w+)\.specs\.([\w.]+?)(?:\.\{([^}]*)\}| as (\w+))", text_of(path)):
-        if found[4]:
-            aliases[found[4]] = found[1]
-        for word in (found[3] or "").split(","):
+    for found in re.finditer(r"(?:ghost )?use Rattle\.(\w+)\.specs\.[\w.]+?(?:\.\{([^}]*)\}| as (\w+))", text_of(path)):
+        if found[3]:
+            aliases[found[3]] = found[1]
+        for word in (found[2] or "").split(","):
             words[word.split(" as ")[-1].strip()] = found[1]
     return words, aliases
 
