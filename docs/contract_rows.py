@@ -12,20 +12,21 @@ NAME = re.compile(r"(?:[^\W\d][\w'-]*::)*[^\W\d][\w'-]*(?:\([^)]*\))?$")
 def rows_of(text):
     """The rows of the page: their crate, the names in their heads, what they say, and a name for messages."""
     rows, crate = [], ""
-    for line in text.splitlines():
+    for number, line in enumerate(text.splitlines(), 1):
         if line.startswith("## "):
             crate = (re.findall(r"`(\w+)", line) or [""])[0]
         elif line.startswith("- ") and crate:
-            rows.append([crate, line[2:]])
+            rows.append([crate, line[2:], number])
         elif rows and line.startswith("  ") and line.strip():
             rows[-1][1] += " " + line.strip()
-    return [(crate, *parted(text)) for crate, text in rows]
+    return [(crate, *parted(text, number)) for crate, text, number in rows]
 
 
-def parted(text):
-    """The names of the head of a row, which ends at the first colon, and the rest of the row."""
+def parted(text, number):
+    """The names of the head of a row, which ends at the first colon, the rest of the row, and its name."""
     found = re.match(r"((?:`[^`]*`|[^:`])*): (.*)", text)
-    return (re.findall(r"`([^`]+)`", found[1]), found[2], found[1]) if found else ([], text, text)
+    head, rest = found.groups() if found else (text, "")
+    return re.findall(r"`([^`]+)`", head), rest, f"line {number}, row {head}"
 
 
 def calls_named(crate, names):
@@ -59,7 +60,7 @@ def say_of_row(crate, row):
     """What one row names that is neither in the contracts of its calls nor public."""
     heads, text, title = row
     calls, missing = calls_named(crate, heads)
-    yield from [f"row {title}: there is no call {it}" for it in missing]
+    yield from [f"{title}: there is no call {it}" for it in missing]
     names = [it for it in re.findall(r"`([^`]+)`", text) if NAME.match(it)]
     general = [] if heads else [it for it in public_items(crate) if it.kind != "type"]
     allowed = allowed_names(crate, calls or general, names)
@@ -67,7 +68,7 @@ def say_of_row(crate, row):
         allowed |= set(definitions())
     stale = [it for it in names if it not in allowed]
     if stale:
-        yield f"row {title}: not in the contract: {', '.join(stale)}"
+        yield f"{title}: not in the contract: {', '.join(stale)}"
 
 
 def say_of_rows(text):
@@ -88,4 +89,4 @@ def say_of_rows(text):
             if title is None:
                 yield f"no row names {item.name}"
             elif missing:
-                yield f"row {title}: lacks {', '.join(missing)} of {item.name}"
+                yield f"{title}: lacks {', '.join(missing)} of {item.name}"

@@ -9,7 +9,8 @@ HEADED = re.compile(r"(?:(?:abbrev|unfoldable) (?:pub )?|(?:pub )?(?:record|data
 STATED = re.compile(r"(?:pub )?([^\s:({]+) :")
 OF_FUNCTIONS = ("Answers.antt", "Invariants.antt", "Proof.antt")
 OPERATORS = {
-    "eq": r"[=!]=|assert_(?:eq|ne)!", "fmt": r"format!|write!", "index": r"\w\[", "add": r" \+ ", "sub": r" - ",
+    "eq": r"[=!]=|assert_(?:eq|ne)!", "index": r"\w\[", "add": r" \+ ", "sub": r" - ",
+    "fmt": r"format!|write!|\bprinted", "hash": r"hash",
 }
 
 
@@ -82,7 +83,7 @@ def naming(item, crate, below=""):
         if item.of_type and not re.search(rf"\b{item.of_type}\b", text_of(other.path)):
             continue
         lines = text_of(other.path).splitlines()[other.line - 1 : other.end]
-        is_strict = bool(item.trait) and item.short in OPERATORS
+        is_strict = bool(item.trait) and item.short in ("eq", "index", "add", "sub")
         if is_strict and not re.search(rf"\b{item.of_type}\b", "\n".join(lines)):
             continue
         if at := next((at for at, line in enumerate(lines) if pattern.search(line)), None):
@@ -95,7 +96,8 @@ def tokens_of(item):
 
 
 def private_items(crate):
-    return [it for it in items_of(crate) if it.kind in ("fn", "const") and not it.public and not it.test]
+    found = [it for it in items_of(crate) if it.kind in ("fn", "const")]
+    return [it for it in found if not it.public and not it.test and not it.trait]
 
 
 def private_part(item):
