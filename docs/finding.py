@@ -180,6 +180,15 @@ def contracts_with(word):
     return [it for it in all_items() if word in it.contract and not it.test and word in words_of(it, ours)]
 
 
+def lemmas_of(item):
+    """The lemmas that the attribute of a function cites."""
+    lines, at = text_of(item.path).splitlines(), item.line - 2
+    while at >= 0 and lines[at].strip() and not lines[at].strip().startswith(("///", "//", "}")):
+        at -= 1
+    cited = re.findall(r"proofs::(?:\w+::)*([\w-]+)", "\n".join(lines[at + 1 : item.line - 1]))
+    return [(path, number, it) for it in cited for path, number in definitions().get(it, []) if "/proofs/" in path]
+
+
 def with_clause(name):
     """The functions and traits that have a clause of this name."""
     return [it for it in all_items() if name in it.clauses and name not in ("requires", "ensures") and not it.test]
