@@ -2,7 +2,7 @@
 import re
 
 from finding import definitions
-from reading import crates, items_of, public_items, words_of
+from reading import crates, items_of, public_items, text_of, words_of
 
 # Words of our specs that a row need not name: how an answer is said.
 GENERAL = {"SomeExactly"}
@@ -71,11 +71,20 @@ def say_of_row(crate, row):
         yield f"{title}: not in the contract: {', '.join(stale)}"
 
 
+def say_of_lemmas(text, rows):
+    """Lemmas for callers that no row of their section names."""
+    heads = {name for row in rows for name in row[1]}
+    for crate in re.findall(r"(?m)^## .*`(\w+)::proofs::ForCallers`", text):
+        for line in re.findall(r"\{([^}]*)\}", text_of(f"crates/{crate}/proofs/ForCallers.antt")):
+            yield from [f"no row names the lemma {it.strip()}" for it in line.split(",") if it.strip() not in heads]
+
+
 def say_of_rows(text):
     """What the rows lack, and what they name that is not so."""
     rows, ours = rows_of(text), set(crates())
     if not rows:
         yield "no row was found"
+    yield from say_of_lemmas(text, rows)
     said = {}
     for crate, heads, body, title in rows:
         yield from say_of_row(crate, (heads, body, title))
