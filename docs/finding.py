@@ -1,0 +1,210 @@
+"""What docs/where finds in the tree for a call, a type or a word."""
+import re
+from functools import cache
+from pathlib import Path
+
+from reading import TOP, crates, files_below, imports_of, items_of, text_of, words_of
+
+HEADED = re.compile(r"(?:(?:abbrev|unfoldable) (?:pub )?|(?:pub )?(?:record|data|ruleset) )([^\s:({]+)")
+STATED = re.compile(r"(?:pub )?([^\s:({]+) :")
+OF_FUNCTIONS = ("Answers.antt", "Invariants.antt", "Proof.antt")
+OPERATORS = {
+    "eq": r"[=!]=|assert_(?:eq|ne)!", "index": r"\w\[", "add": r" \+ ", "sub": r" - ",
+    "fmt": r"format!|write!|\bprinted", "hash": r"hash",
+}
+
+
+def defined_in(path):
+    """The words and lemmas that a file defines, with their lines; the fields of records are none."""
+    record, has_blocks = None, re.search(r"(?m)^module ", text_of(path))
+    for number, line in enumerate(text_of(path).splitlines(), 1):
+        bare = line.lstrip(" ")
+        indent = len(line) - len(bare)
+        if record is not None and bare and indent <= record:
+            record = None
+        if record is not None:
+            continue
+        if found := HEADED.match(bare):
+            record = indent if " record " in f" {bare[:11]}" else None
+            yield found[1], number
+        elif indent <= (2 if has_blocks else 0) and (found := STATED.match(bare)):
+            yield found[1], number
+
+
+@cache
+def definitions():
+    """Where each word of specs and each lemma is defined."""
+    found = {}
+    for crate in crates():
+        for part in ("specs", "proofs"):
+            for path in files_below(f"crates/{crate}/{part}", ".antt"):
+                if part == "specs" or not path.endswith(OF_FUNCTIONS):
+                    for word, number in defined_in(path):
+                        found.setdefault(word, []).append((path, number))
+    return found
+
+
+@cache
+def all_items():
+    return [it for crate in crates() for it in items_of(crate)]
+
+
+@cache
+def edits():
+    """Each wrong body: its file, and what it edits as pairs of a source file and the text there."""
+    found = []
+    for path in [*sorted(TOP.glob("crates/*/must-fail/*.edit")), *sorted(TOP.glob("planted/*/*.edit"))]:
+        crate = path.parent.name if path.parent.parent.name == "planted" else path.parent.parent.name
+        source, pairs = "", []
+        for line in path.read_text().splitlines():
+            if line.startswith("file:"):
+                source = f"crates/{crate}/{line[5:].strip()}"
+            elif line.startswith("old:"):
+                pairs.append((source, line[5:]))
+        found.append((path.relative_to(TOP).as_posix(), pairs, path.read_text()))
+    return found
+
+
+def pattern_of(item):
+    """How code names a call: alone, or as a method of its type."""
+    if not item.of_type:
+        return re.compile(rf"\b{item.short}\b")
+    if item.trait and item.short in OPERATORS:
+        return re.compile(OPERATORS[item.short])
+    return re.compile(rf"(?:\.|\b{item.of_type}::|Self::){item.short}\b(?=\s*\(|\))")
+
+
+def naming(item, crate, below=""):
+    """The functions of a crate that name a call, each with the line that does first."""
+    pattern = pattern_of(item) if item.kind == "fn" else re.compile(rf"\b{item.trait.split('<')[0] or item.short}\b")
+    for other in items_of(crate):
+        if other.kind != "fn" or not other.path.startswith(f"crates/{crate}/src/{below}"):
+            continue
+        if item.of_type and not re.search(rf"\b{item.of_type}\b", text_of(other.path)):
+            continue
+        lines = text_of(other.path).splitlines()[other.line - 1 : other.end]
+        is_strict = bool(item.trait) and item.short in ("eq", "index", "add", "sub")
+        if is_strict and not re.search(rf"\b{item.of_type}\b", "\n".join(lines)):
+            continue
+        if at := next((at for at, line in enumerate(lines) if pattern.search(line)), None):
+            yield other, other.line + at
+
+
+@cache
+def tokens_of(item):
+    return set(re.findall(r"\w+", item.body))
+
+
+def private_items(crate):
+    found = [it for it in items_of(crate) if it.kind in ("fn", "const")]
+    return [it for it in found if not it.public and not it.test and not it.trait]
+
+
+def private_part(item):
+    """The call, and what is private and only it uses; then what is private and others use as well."""
+    own, others = [item], private_items(item.crate)
+    users = {it: callers_of(it) for it in others}
+    while more := [it for it in others if it not in own and users[it] and all(by in own for by in users[it])]:
+        own += more
+    shared = []
+    while more := [it for it in others if it not in own + shared and any(by in own + shared for by in users[it])]:
+        shared += more
+    return own, shared
+
+
+def callers_of(item):
+    """The functions of the crate that use a function or a constant."""
+    pattern = pattern_of(item)
+    return [
+        it
+        for it in items_of(item.crate)
+        if it.kind == "fn" and item.short in tokens_of(it) and it is not item and not it.test
+        and (it.path.startswith((item.path, item.path[:-3] + "/")) or in_crate(item)) and pattern.search(it.body)
+    ]
+
+
+def in_crate(item):
+    line = text_of(item.path).splitlines()[item.line - 1]
+    return "pub" in line
+
+
+def edits_in(items):
+    """The wrong bodies whose text stands in one of the items."""
+    for path, pairs, _ in edits():
+        for source, old in pairs:
+            text = text_of(source) if (TOP / source).is_file() else ""
+            line = text[: text.find(old)].count("\n") + 1 if old in text else 0
+            if any(it.path == source and it.line <= line <= it.end for it in items):
+                yield path
+                break
+
+
+def edits_naming(pattern, crate=""):
+    """The wrong bodies, of a crate or of all, whose own words a pattern fits."""
+    return [path for path, _, text in edits() if f"/{crate}" in path and re.search(pattern, text)]
+
+
+def alone(word):
+    """A pattern for a word that stands alone."""
+    return rf"(?<![\w.'-]){re.escape(word)}(?![\w'-])"
+
+
+def proofs_of(item):
+    """The proof files of a call, then those of its module."""
+    top = f"crates/{item.crate}/proofs"
+    folder, own = f"{top}/{item.module}", []
+    for path in files_below(top if item.of_type else folder, ".antt"):
+        above = Path(path).parent
+        if above.name == item.short and (not item.of_type or re.match(item.of_type + r"(?![a-z])", above.parent.name)):
+            own.append(path)
+    shared = [it for it in files_below(folder, ".antt") if Path(it).parent == Path(folder)]
+    return own + [it for it in shared if not (TOP / it).with_suffix("").is_dir()]
+
+
+def naming_word(word, parts):
+    """The first line of each file of these parts that names a word, imports apart."""
+    pattern = re.compile(alone(word))
+    for crate in crates():
+        for part, suffix in parts:
+            for path in files_below(f"crates/{crate}/{part}", suffix):
+                if word not in text_of(path):
+                    continue
+                text = re.sub(r"(?m)^[ \t]*(?:ghost )?(?:pub )?use .*$", "", text_of(path))
+                if found := pattern.search(text):
+                    yield path, text[: found.start()].count("\n") + 1
+
+
+def contracts_with(word):
+    """The functions and impls whose contract names a word."""
+    ours = set(crates())
+    return [it for it in all_items() if word in it.contract and not it.test and word in words_of(it, ours)]
+
+
+def lemmas_of(item):
+    """The lemmas that the attribute of a function cites."""
+    lines, at = text_of(item.path).splitlines(), item.line - 2
+    while at >= 0 and lines[at].strip() and not lines[at].strip().startswith(("///", "//", "}")):
+        at -= 1
+    cited = re.findall(r"proofs::(?:\w+::)*([\w-]+)", "\n".join(lines[at + 1 : item.line - 1]))
+    return [(path, number, it) for it in cited for path, number in definitions().get(it, []) if "/proofs/" in path]
+
+
+def with_clause(name):
+    """The functions and traits that have a clause of this name."""
+    return [it for it in all_items() if name in it.clauses and name not in ("requires", "ensures") and not it.test]
+
+
+def implementers(trait):
+    """The places that implement a trait."""
+    for crate in crates():
+        for path in files_below(f"crates/{crate}/src", ".rt"):
+            for number, line in enumerate(text_of(path).splitlines(), 1):
+                if re.match(rf"impl\b.*\b{trait}(?:<.*>)? for ", line):
+                    yield f"{path}:{number}"
+
+
+def definition_of(word, path):
+    """Where the word that a file of code imports is defined."""
+    crate = imports_of(path)[0].get(word)
+    places = definitions().get(word, [])
+    return [it for it in places if "/specs/" in it[0] and (not crate or it[0].startswith(f"crates/{crate}/"))] or places

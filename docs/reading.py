@@ -1,0 +1,211 @@
+"""What docs/check-map and docs/where read of the tree: the items of its code, and the words of specs and proofs."""
+import re
+from dataclasses import dataclass, field
+from functools import cache
+from pathlib import Path
+
+TOP = Path(__file__).resolve().parent.parent
+WORD = re.compile(r"[^\W\d][\w']*")
+TYPE = re.compile(r"pub (struct|enum|union|type|const|static) (\w+)")
+PRIVATE = re.compile(r"\s*(?:pub\(crate\) )?(?:const|static) (\w+):")
+
+
+@dataclass(eq=False)
+class Item:
+    """A function, a type, a trait, a trait's impl without a function of its own, or a private constant."""
+
+    kind: str  # fn, type, trait, impl or const
+    name: str  # as the map has it: scan_entity, LineStart::new, CowStr::from(char), Eq for CowStr
+    crate: str
+    path: str  # from the top of the tree
+    line: int
+    end: int = 0
+    public: bool = False
+    test: bool = False
+    of_type: str = ""
+    trait: str = ""
+    clauses: list = field(default_factory=list)
+    contract: str = ""
+    body: str = ""
+
+    @property
+    def short(self):
+        """The name of the function or type alone."""
+        return self.name.split("(")[0].split("::")[-1]
+
+    @property
+    def module(self):
+        return self.path.split("/src/")[1].removesuffix(".rt")
+
+
+def crates():
+    """The names of all crates, as crates.txt has them."""
+    lines = (TOP / "crates.txt").read_text().splitlines()
+    return [line.split(":")[0].split()[0] for line in lines if line.strip()]
+
+
+@cache
+def text_of(path):
+    return (TOP / path).read_text()
+
+
+def files_below(folder, suffix):
+    return [it.relative_to(TOP).as_posix() for it in sorted((TOP / folder).rglob("*" + suffix)) if it.is_file()]
+
+
+def without_generics(text):
+    """The text without a list of generics at its front."""
+    if not text.startswith("<"):
+        return text.strip()
+    depth = 0
+    for at, it in enumerate(text):
+        depth += (it == "<") - (it == ">")
+        if depth == 0:
+            return text[at + 1 :].strip()
+    return text
+
+
+def head_of_block(line):
+    """The trait, with its arguments, and the type of the head of an impl or a trait."""
+    if found := re.match(r"pub trait (\w+)", line):
+        return "", found[1]
+    head = without_generics(line.removeprefix("impl").strip()).rstrip("{ ")
+    trait, _, of_type = head.rpartition(" for ")
+    trait = re.sub(r"'\w+ ", "", trait).split("::")[-1]
+    return trait, re.match(r"\w+", of_type)[0]
+
+
+def in_braces(text, start):
+    """What stands between the brace at a place and the one that closes it."""
+    depth = 0
+    for at in range(start, len(text)):
+        depth += (text[at] == "{") - (text[at] == "}")
+        if depth == 0:
+            return text[start + 1 : at]
+    return text[start + 1 :]
+
+
+def clauses_of(text):
+    """The names of the clauses in the head of a function or in a block, and what the clauses say."""
+    names, said = [], []
+    for found in re.finditer(r"(?m)^\s*(requires|ensures)\*?\s+(?:(\w+)\s+)?\{|^\s*ghost (\w+)\s*[:=]\s*\{", text):
+        names.append(found[2] or found[3] or found[1])
+        said.append(in_braces(text, found.end() - 1))
+    return names, "\n".join(said)
+
+
+def function_at(lines, start):
+    """The head of the function at a line, its body, and its last line."""
+    indent = re.match(r"\s*", lines[start])[0]
+    has_clauses = False
+    for at in range(start, len(lines)):
+        line = lines[at].rstrip()
+        has_clauses |= bool(re.match(r"\s*(requires|ensures)\b", line))
+        opens = line == indent + "{" or not has_clauses and line.endswith(("{", "{}"))
+        if opens and not line.endswith("{}"):
+            end = next((it for it in range(at + 1, len(lines)) if lines[it].rstrip() == indent + "}"), at)
+            return "\n".join(lines[start : at + 1]), "\n".join(lines[at + 1 : end]), end
+        following = lines[at + 1].strip() if at + 1 < len(lines) else ""
+        if opens or line.endswith(";") and not following.startswith(("requires", "ensures")):
+            return "\n".join(lines[start : at + 1]), "", at
+    return lines[start], "", start
+
+
+def function_item(lines, at, found, block, where):
+    """The item of a function, in a block or alone."""
+    head, body, end = function_at(lines, at)
+    names, said = clauses_of(head)
+    trait, of_type = block["head"] if block and found[1] else ("", "")
+    if trait:
+        more, ghosts = clauses_of("\n".join(lines[block["at"] : block["end"]]))
+        names, said = [it for it in more if it not in names] + names, ghosts
+    name = f"{of_type}::{found[3]}" if of_type else found[3]
+    visible = bool(found[2]) and "(crate)" not in found[2] or bool(trait)
+    is_test = any("#[test]" in line for line in lines[max(0, at - 3) : at] if line.strip().startswith("#["))
+    return Item("fn", name, *where, at + 1, end + 1, visible, is_test, of_type, trait, names, said, body)
+
+
+def block_item(lines, block, where):
+    """The item of a trait, or of an impl of one."""
+    names, said = clauses_of("\n".join(lines[block["at"] : block["end"]]))
+    trait, of_type = block["head"]
+    kind, name = ("impl", f"{trait.split('<')[0]} for {of_type}") if trait else ("trait", of_type)
+    return Item(kind, name, *where, block["at"] + 1, block["end"] + 1, True, False, of_type, trait, names, said)
+
+
+def items_of_file(path):
+    """All items of a file, private ones too."""
+    lines, where, found = text_of(path).splitlines(), (path.split("/")[1], path), []
+    block = None
+    for at, line in enumerate(lines):
+        if block and at > block["end"]:
+            block = None
+        if re.match(r"impl\b|pub trait ", line):
+            end = next((it for it in range(at, len(lines)) if lines[it] == "}"), len(lines) - 1)
+            block = {"at": at, "end": end, "head": head_of_block(line)}
+            if line.startswith("pub trait") or block["head"][0]:
+                found.append(block_item(lines, block, where))
+        elif it := re.match(r"(\s*)(pub(?:\(\w+\))? )?(?:extern \"C\" )?(?:const )?fn (\w+)", line):
+            found.append(function_item(lines, at, it, block, where))
+        elif it := re.match(r"(\s*)" + TYPE.pattern, line):
+            name = f"{block['head'][1]}::{it[3]}" if it[1] and block else it[3]
+            found.append(Item("type", name, *where, at + 1, at + 1, True))
+        elif it := PRIVATE.match(line):
+            end = next((end for end in range(at, len(lines)) if lines[end].endswith(";")), at)
+            found.append(Item("const", it[1], *where, at + 1, end + 1))
+    return found
+
+
+@cache
+def items_of(crate):
+    """All items of the code of a crate, those of its tests too."""
+    found = [it for path in files_below(f"crates/{crate}/src", ".rt") for it in items_of_file(path)]
+    return named_apart([it for it in found if it.trait != "Model"])
+
+
+def named_apart(found):
+    """The items with names that say which is which."""
+    own = {it.name for it in found if it.kind == "fn" and not it.trait}
+    of_traits = [it for it in found if it.kind == "fn" and it.trait]
+    named = [it.name for it in of_traits]
+    for it in of_traits:
+        if it.name in own:
+            it.public = False
+        elif named.count(it.name) > 1 and "<" in it.trait:
+            it.name += "(" + it.trait.split("<")[1].rstrip(">") + ")"
+    shown = {(it.path, it.trait, it.of_type) for it in of_traits if it.public}
+    return [it for it in found if it.kind != "impl" or (it.path, it.trait, it.of_type) not in shown]
+
+
+def public_items(crate):
+    """What a crate offers: calls, types, traits and impls, without tests and what lies in a trait."""
+    traits = {it.name for it in items_of(crate) if it.kind == "trait"}
+    types = {it.name for it in items_of(crate) if it.kind in ("type", "trait")}
+    return [
+        it
+        for it in items_of(crate)
+        if it.public and it.of_type not in traits - {it.name} and (not it.trait or it.of_type in types)
+        and "/tests" not in it.path
+    ]
+
+
+def imports_of(path):
+    """The words of specs that a file takes, each with the crate that has it, and its names for whole modules."""
+    words, aliases = {}, {}
+    for found in re.finditer(r"(?:ghost )?use Rattle\.(\w+)\.specs\.[\w.]+?(?:\.\{([^}]*)\}| as (\w+))", text_of(path)):
+        if found[3]:
+            aliases[found[3]] = found[1]
+        for word in (found[2] or "").split(","):
+            words[word.split(" as ")[-1].strip()] = found[1]
+    return words, aliases
+
+
+def words_of(item, ours):
+    """The words of our specs that a contract names."""
+    words, aliases = imports_of(item.path)
+    text = re.sub(r"ghost use [^;]*;", "", item.contract)
+    found = [it[0] for it in re.finditer(r"(?<![.\w])[^\W\d][\w'-]*", text) if words.get(it[0]) in ours]
+    for it in re.finditer(r"(?<![.\w])(\w+)\.([\w'-]+)", text):
+        if aliases.get(it[1]) in ours:
+            found.append(it[2])
+    return list(dict.fromkeys(found))
