@@ -205,6 +205,9 @@ def implementers(trait):
 
 def definition_of(word, path):
     """Where the word that a file of code imports is defined."""
-    crate = imports_of(path)[0].get(word)
-    places = definitions().get(word, [])
-    return [it for it in places if "/specs/" in it[0] and (not crate or it[0].startswith(f"crates/{crate}/"))] or places
+    words, aliases = imports_of(path)
+    places = [it for it in definitions().get(word, []) if "/specs/" in it[0]]
+    for crate, module in [words[word]] if word in words else aliases.values():
+        if found := [it for it in places if it[0] == f"crates/{crate}/specs/{module}.antt"]:
+            return found
+    return places or definitions().get(word, [])

@@ -7,7 +7,9 @@ from pathlib import Path
 TOP = Path(__file__).resolve().parent.parent
 WORD = re.compile(r"[^\W\d][\w']*")
 TYPE = re.compile(r"pub (struct|enum|union|type|const|static) (\w+)")
+IMPORT = re.compile(r"use Rattle\.(\w+)\.specs\.([\w.]+?)(?:\.\{([^}]*)\}| as (\w+))")
 PRIVATE = re.compile(r"\s*(?:pub\(crate\) )?(?:const|static) (\w+):")
+PRIVATE_TYPE = re.compile(r"(?:pub\(crate\) )?(?:struct|enum|union|type|trait) (\w+)")
 
 
 @dataclass(eq=False)
@@ -49,6 +51,7 @@ def text_of(path):
     return (TOP / path).read_text()
 
 
+@cache
 def files_below(folder, suffix):
     return [it.relative_to(TOP).as_posix() for it in sorted((TOP / folder).rglob("*" + suffix)) if it.is_file()]
 
@@ -153,6 +156,8 @@ def items_of_file(path):
         elif it := PRIVATE.match(line):
             end = next((end for end in range(at, len(lines)) if lines[end].endswith(";")), at)
             found.append(Item("const", it[1], *where, at + 1, end + 1))
+        elif it := PRIVATE_TYPE.match(line):
+            found.append(Item("type", it[1], *where, at + 1, at + 1))
     return found
 
 
@@ -180,7 +185,7 @@ def named_apart(found):
 def public_items(crate):
     """What a crate offers: calls, types, traits and impls, without tests and what lies in a trait."""
     traits = {it.name for it in items_of(crate) if it.kind == "trait"}
-    types = {it.name for it in items_of(crate) if it.kind in ("type", "trait")}
+    types = {it.name for it in items_of(crate) if it.kind in ("type", "trait") and it.public}
     return [
         it
         for it in items_of(crate)
@@ -189,14 +194,16 @@ def public_items(crate):
     ]
 
 
+@cache
 def imports_of(path):
-    """The words of specs that a file takes, each with the crate that has it, and its names for whole modules."""
+    """The words of specs that a file takes, each with its crate and its module, and its names for whole modules."""
     words, aliases = {}, {}
-    for found in re.finditer(r"(?:ghost )?use Rattle\.(\w+)\.specs\.[\w.]+?(?:\.\{([^}]*)\}| as (\w+))", text_of(path)):
-        if found[3]:
-            aliases[found[3]] = found[1]
-        for word in (found[2] or "").split(","):
-            words[word.split(" as ")[-1].strip()] = found[1]
+    for found in IMPORT.finditer(text_of(path)):
+        place = found[1], found[2].replace(".", "/")
+        if found[4]:
+            aliases[found[4]] = place
+        for word in (found[3] or "").split(","):
+            words[word.split(" as ")[-1].strip()] = place
     return words, aliases
 
 
@@ -204,8 +211,8 @@ def words_of(item, ours):
     """The words of our specs that a contract names."""
     words, aliases = imports_of(item.path)
     text = re.sub(r"ghost use [^;]*;", "", item.contract)
-    found = [it[0] for it in re.finditer(r"(?<![.\w])[^\W\d][\w'-]*", text) if words.get(it[0]) in ours]
+    found = [it[0] for it in re.finditer(r"(?<![.\w])[^\W\d][\w'-]*", text) if words.get(it[0], [""])[0] in ours]
     for it in re.finditer(r"(?<![.\w])(\w+)\.([\w'-]+)", text):
-        if aliases.get(it[1]) in ours:
+        if aliases.get(it[1], [""])[0] in ours:
             found.append(it[2])
     return list(dict.fromkeys(found))
