@@ -1,5 +1,5 @@
--- The words of a content joined by one space are what is written of it from the left (`text_from`). Where each run of
--- white space is one space, that is the content without a space at its ends.
+-- The words of a content joined by one space are what is written of it from the left (`text_from`).
+-- Where each run of white space is one space, that is the content without a space at its ends.
 use Rattle.std.proofs.Common.{ℕ, Bool, true, false, ◌&&◌, ◌==◌, not, List, [], ◌∷◌, ◌++◌, ◌≡◌, refl, sym, ◌∙◌, ap, cond, map, append-nil, true≢false, eqb-true, if◌then◌else◌}
 use Rattle.std.proofs.lemmas.Bool.{and_parts}
 use Rattle.std.specs.List.{join_with_byte}
@@ -85,7 +85,8 @@ text_from-start (k ∷ ks) = refl
 pub joined_words-from : (ks : List KeptByte) → joined_words ks ≡ text_from false false ks
 joined_words-from ks = sym (text_from-start ks ∙ (written ks).0)
 
--- Where each run of white space is one space, the text of a label is its content without a space at the ends.
+-- Where each run of white space is one space, the text of a label is its content without a space at
+-- the ends.
 
 -- a byte that is no space stays
 keeps : (b : ℕ) (bs : List ℕ) → (b == space) ≡ false → b ∷ without_last_space bs ≡ without_last_space (b ∷ bs)

@@ -1,5 +1,6 @@
--- One step over a kept text: past a byte or a line ending the label that comes is the one that comes of the rest
--- (`Goes`); at the end and at an opening bracket none comes, at a closing one that of the bytes that were seen.
+-- One step over a kept text: past a byte or a line ending the label that comes is the one that
+-- comes of the rest (`Goes`); at the end and at an opening bracket none comes, at a closing one
+-- that of the bytes that were seen.
 use Rattle.std.proofs.Common.{ℕ, Bool, true, false, ◌||◌, ◌&&◌, ◌==◌, not, List, [], ◌∷◌, ◌++◌, ◌≡◌, ◌+◌, Option, Some, None}
 use Rattle.std.proofs.Common.{refl, sym, ◌∙◌, ap, subst, drop, cond, append_assoc, append-nil, true≢false, eqb-true}
 use Rattle.markdown_scanners_tree.specs.Bytes.{begins_with, is_line_ending, is_punctuation}

@@ -1,6 +1,5 @@
--- What is known of the bytes that a scan has seen, after each byte and each line ending: what was written of the
--- label's
--- text (`Written`), and the facts of a label as a tally has them (`Seen`).
+-- What is known of the bytes that a scan has seen, after each byte and each line ending: what was
+-- written of the label's text (`Written`), and the facts of a label as a tally has them (`Seen`).
 use Rattle.std.proofs.Common.{ℕ, suc, Bool, true, false, ◌||◌, ◌&&◌, ◌==◌, not, nat_le, List, [], ◌∷◌, ◌++◌, ◌≡◌, ◌+◌, ◌<◌, refl, sym}
 use Rattle.std.proofs.Common.{◌∙◌, ap, subst, cond, arith, append_assoc, append-nil, true≢false, eqb-true, length, length-append}
 use Rattle.std.proofs.Math.Bool.{and-true, and-false, and_assoc, or_assoc, or-false, not-not}

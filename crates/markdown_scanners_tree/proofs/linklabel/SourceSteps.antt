@@ -1,5 +1,5 @@
--- One step over the source, by what stands next in it: where the scan is then (`IsAt`), what its tally tells, where no
--- label can come, and where the source may be cut.
+-- One step over the source, by what stands next in it: where the scan is then (`IsAt`), what its
+-- tally tells, where no label can come, and where the source may be cut.
 use Rattle.std.proofs.Common.{ℕ, suc, Bool, true, false, ◌||◌, ◌&&◌, ◌==◌, not, List, [], ◌∷◌, ◌++◌, ◌≡◌, ◌+◌, ◌≤◌, ◌<◌, ◌-◌, Option}
 use Rattle.std.proofs.Common.{Some, None, refl, sym, ◌∙◌, ap, subst, cond, arith, drop, take, get_or, length, true≢false, eqb-true}
 use Rattle.std.proofs.Math.Bool.{and-false}
@@ -31,7 +31,8 @@ pub record IsOnlySkip (answers : List ℕ → ℕ → Type 0) (rest : List ℕ) 
   pub answer : answers rest skip
   pub only : (other : ℕ) → answers rest other → other ≡ skip
 
--- the label of the source is what the rest goes on to; where the first byte of the rest is escaped, it is punctuation
+-- the label of the source is what the rest goes on to; where the first byte of the rest is escaped,
+-- it is punctuation
 pub record IsAt (a : List ℕ → ℕ → Type 0) (source : List ℕ) (escaped : Bool) (seen : List KeptByte) (ix : ℕ)
     (rest : List ℕ) : Type 0 where
   pub ahead : (t : Bool) (label : Label) → IsLabel a source t label → Goes a escaped t seen ix rest label

@@ -1,4 +1,5 @@
--- What the second pass over a label has written after each step, and all of it at the closing bracket.
+-- What the second pass over a label has written after each step, and all of it at the closing
+-- bracket.
 use Rattle.std.proofs.Common.{ℕ, suc, Bool, true, false, ◌==◌, List, [], ◌∷◌, ◌++◌, ◌≡◌, ◌≤◌, ◌<◌, ◌+◌, ◌-◌, Some, None, Result, Ok, Err, is_ok, OnOk}
 use Rattle.std.proofs.Common.{refl, sym, ◌∙◌, ap, subst, cond, arith, append_assoc, append-nil, drop, take, get_or, length, length-drop, eqb-true}
 use Rattle.std.proofs.Math.Seq.{take-suc}

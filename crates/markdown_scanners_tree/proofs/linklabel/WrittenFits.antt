@@ -1,4 +1,5 @@
--- What was written of a label is no longer than the label, so room for the label is room for each part.
+-- What was written of a label is no longer than the label, so room for the label is room for each
+-- part.
 use Rattle.std.proofs.Common.{ℕ, Bool, true, false, ◌&&◌, ◌==◌, List, [], ◌∷◌, ◌++◌, ◌≡◌, ◌≤◌, ◌<◌, ◌+◌, Option, Some, None}
 use Rattle.std.proofs.Common.{refl, sym, ◌∙◌, ap, cond, arith, drop, length, length-append, true≢false, eqb-true}
 use Rattle.markdown_scanners_tree.specs.Bytes.{is_line_ending, is_punctuation}

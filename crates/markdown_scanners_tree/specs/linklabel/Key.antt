@@ -1,4 +1,5 @@
--- Matching of labels. (CommonMark 0.31.2, section 6.3, link labels: labels match where their case foldings are equal)
+-- Matching of labels. (CommonMark 0.31.2, section 6.3, link labels: labels match where their case
+-- foldings are equal)
 use Rattle.std.specs.Prelude.{ℕ, List, chars}
 use Rattle.caseless.specs.Caseless.{default_case_fold}
 

@@ -6,8 +6,8 @@ use Rattle.markdown_scanners_tree.specs.Ascii.{space, left_bracket, backslash, r
 use Rattle.markdown_scanners_tree.specs.Kept.{KeptByte, bytes_of, line_endings, kept_text, AreSkips}
 use Rattle.markdown_scanners_tree.specs.scanners.Escapes.{units_by}
 
--- the kept bytes in units: a backslash with the punctuation that it escapes, or a single byte (section 2.4, backslash
--- escapes)
+-- the kept bytes in units: a backslash with the punctuation that it escapes, or a single byte
+-- (section 2.4, backslash escapes)
 abbrev pub kept_units : List KeptByte → List (List KeptByte)
 kept_units ks = units_by (λ k. k.byte) ks
 
@@ -21,7 +21,8 @@ abbrev pub preceded : List KeptByte → Option Bracketed → Option Bracketed
 preceded ks None = None
 preceded ks (Some b) = Some (record { content = ks ++ b.content; close = b.close })
 
--- what stands before the first unit that is `]` alone, where there is one and no `[` alone stands before it
+-- what stands before the first unit that is `]` alone, where there is one and no `[` alone stands
+-- before it
 abbrev pub bracketed : List (List KeptByte) → Option Bracketed
 bracketed [] = None
 bracketed ((k ∷ []) ∷ units) =
@@ -60,8 +61,8 @@ abbrev pub pipe_at : ℕ → List KeptByte → Bool
 pipe_at place [] = false
 pipe_at place (k ∷ ks) = k.byte == vertical_line && k.place == place
 
--- without the one backslash that stands in the source directly before a pipe (GitHub Flavored Markdown 0.29, section
--- 4.10, tables)
+-- without the one backslash that stands in the source directly before a pipe (GitHub Flavored
+-- Markdown 0.29, section 4.10, tables)
 abbrev pub without_pipe_backslashes : List KeptByte → List KeptByte
 without_pipe_backslashes [] = []
 without_pipe_backslashes (k ∷ ks) =
@@ -98,8 +99,8 @@ abbrev pub is_plain : Bool → List KeptByte → Bool
 is_plain is_in_table content =
     list_all is_one_space (white_runs content) && not (is_in_table && has_pipe_backslash content)
 
--- a label: how many bytes it takes with its closing bracket, its text, and whether that text stands in the source as it
--- is
+-- a label: how many bytes it takes with its closing bracket, its text, and whether that text stands
+-- in the source as it is
 pub record Label : Type 0 where
   pub len : ℕ
   pub text : List ℕ
@@ -135,7 +136,8 @@ ends_in_backslash [] = false
 ends_in_backslash (b ∷ []) = b == backslash
 ends_in_backslash (b ∷ c ∷ bs) = ends_in_backslash (c ∷ bs)
 
--- The text with a closing bracket behind it is the label of itself, without an answer of any handler, and so for each.
+-- The text with a closing bracket behind it is the label of itself, without an answer of any
+-- handler, and so for each.
 abbrev pub ReadsBack : List ℕ → Type 0
 ReadsBack text = IsLabel (λ rest skip. ⊥) (text ++ right_bracket ∷ []) false (record {
   len = length text + 1;

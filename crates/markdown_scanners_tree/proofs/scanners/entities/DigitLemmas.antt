@@ -1,11 +1,10 @@
 -- Digits at the front of a text, and the numbers that they stand for.
-use Rattle.std.proofs.Common.{◌≡◌, ℕ, suc, ◌<◌, ◌≤◌, List, [], ◌∷◌, ◌++◌, length, get_or, take, refl, ap, ◌∙◌, sym, arith}
+use Rattle.std.proofs.Common.{◌≡◌, ℕ, suc, ◌<◌, ◌≤◌, List, [], ◌∷◌, ◌++◌, length, get_or, take, refl, ap, ◌∙◌, sym, arith, add-one, add_comm, drop, inl, inr}
 use Rattle.std.specs.List.{prefix_len}
 use Rattle.std.specs.Char.{is_digit, digit_value}
 use Rattle.std.specs.Str.Parse.{AllDigits, digits_value}
 use Rattle.std.proofs.lemmas.List.{length-take-le, length-append, get_or_at}
 use Rattle.std.proofs.lemmas.Bool.{cases_lt, lt-ltb, le-ltb}
-use Rattle.std.proofs.Common.{add-one, add_comm, drop, inl, inr}
 use Rattle.markdown_scanners_tree.specs.Ascii.{semicolon}
 use Rattle.markdown_scanners_tree.proofs.PrefixLemmas.{split_at}
 use Rattle.markdown_scanners_tree.specs.scanners.entities.private.Digits.{StartsWithNumber}

@@ -1,4 +1,5 @@
--- What a character reference at the front says of the bytes at their places, and the other way round.
+-- What a character reference at the front says of the bytes at their places, and the other way
+-- round.
 use Rattle.std.proofs.Common.{◌≡◌, ℕ, suc, ◌+◌, ◌<◌, ◌≤◌, ◌⊎◌, true, List, [], ◌∷◌, ◌++◌, length, get_or, take, drop, refl}
 use Rattle.std.proofs.Common.{ap, ◌∙◌, sym, subst, inl, inr, arith, Some, encode_utf8, eqb, append_assoc, add-one}
 use Rattle.std.specs.List.{prefix_len, list_all}

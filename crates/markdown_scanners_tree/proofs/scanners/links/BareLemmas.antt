@@ -2,13 +2,12 @@
 use Rattle.std.proofs.Common.{◌≡◌, ℕ, zero, suc, ◌+◌, ◌<◌, ◌≤◌, Bool, true, false, cond, ltb, leb, eqb, List, [], ◌∷◌, ◌++◌}
 use Rattle.std.proofs.Common.{length, take, drop, get_or, refl, ap, ◌∙◌, sym, subst, arith, ◌≢◌, inl, inr, ◌⊎◌}
 use Rattle.std.specs.List.{concat, list_all}
-use Rattle.std.proofs.lemmas.List.{length-append}
+use Rattle.std.proofs.lemmas.List.{length-append, drop_all}
 use Rattle.markdown_scanners_tree.proofs.PrefixLemmas.{both_true}
 use Rattle.std.proofs.lemmas.List.Sums.{sum_by-cons}
 use Rattle.std.proofs.lemmas.Bool.{false≢true, false_from_ne_true, or_cases, or_parts, or_left, or_right, le-leb, ltb-true}
 use Rattle.std.proofs.lemmas.Bool.{leb-true, leb-false, and_parts, eqb-true, le-ltb, lt-ltb, eq-eqb, ne_eqb, and_from}
 use Rattle.std.specs.Prelude.{◌||◌, ◌&&◌}
-use Rattle.std.proofs.lemmas.List.{drop_all}
 use Rattle.markdown_scanners_tree.proofs.scanners.escapes.UnitLemmas.{units_single_at, units_escape_at, plain_byte}
 use Rattle.markdown_scanners_tree.specs.Ascii.{space, left_parenthesis, right_parenthesis}
 use Rattle.markdown_scanners_tree.specs.scanners.Escapes.{units, starts_escape}
@@ -163,7 +162,8 @@ bare_here most t ends = record {
   above zero = omega arith
   above (suc k) = omega arith
 
--- the text ends, or with a byte that is neither in a destination nor `)`, while a parenthesis is open: no destination
+-- the text ends, or with a byte that is neither in a destination nor `)`, while a parenthesis is
+-- open: no destination
 left_open : (most d n : ℕ) (t : List ℕ) → 0 < d → stands_bare (head_of (units t)) ≡ false → IsBareFrom most d t n → ⊥
 left_open most d n t open' stop is = go is.inner is.splits is.each_stands is.balanced where
   go : (inner : List (List ℕ)) → units t ≡ inner ++ is.more → list_all stands_bare inner ≡ true
@@ -173,7 +173,8 @@ left_open most d n t open' stop is = go is.inner is.splits is.each_stands is.bal
       false≢true (sym stop ∙ (ap stands_bare (ap head_of splits)
       ∙ (both_true (stands_bare v) (list_all stands_bare inner) made).0))
 
--- After i bytes, behind `depth` open parentheses: the whole text's destinations are those of the rest.
+-- After i bytes, behind `depth` open parentheses: the whole text's destinations are those of the
+-- rest.
 pub record IsBareSoFar (most depth i : ℕ) (bytes : List ℕ) : Type 0 where
   pub within : i ≤ length bytes
   pub depth_at_most : depth ≤ most

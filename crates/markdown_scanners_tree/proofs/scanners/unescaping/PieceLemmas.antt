@@ -98,8 +98,8 @@ module _ (in_table : Bool) (known : Lookup) (text : List ℕ) (i n dropped : ℕ
       elim_dropped : (0 < dropped → ⊥) → dropped ≡ 0
       elim_dropped none = grind (arith, none)
 
--- After i bytes, whose pieces mean `total` bytes, and of which one is changed where some are dropped. What stands in
--- for these is counted up to what a `usize` holds.
+-- After i bytes, whose pieces mean `total` bytes, and of which one is changed where some are
+-- dropped. What stands in for these is counted up to what a `usize` holds.
 pub record IsMeasured (in_table : Bool) (known : Lookup) (text : List ℕ) (i dropped inserted : ℕ) : Type 0 where
   pub within : i ≤ length text
   pub dropped_within : dropped ≤ i
@@ -221,8 +221,8 @@ module _ (in_table : Bool) (known : Lookup) (text : List ℕ) (i dropped inserte
       let whole : i ≡ length text = omega (arith, is.within, past) in
       omega (arith, all, is.counted, whole)
 
--- After i bytes: what the pieces of the text mean, behind `base`, is `out`, the bytes from `run` to i, and what the
--- pieces of the rest mean.
+-- After i bytes: what the pieces of the text mean, behind `base`, is `out`, the bytes from `run` to
+-- i, and what the pieces of the rest mean.
 pub record IsBuilt (in_table : Bool) (known : Lookup) (text : List ℕ) (i run : ℕ) (base : List ℕ) (base_len : ℕ)
     (out : List ℕ) (out_len : ℕ) : Type 0 where
   pub within : i ≤ length text
@@ -394,7 +394,8 @@ built_step in_table known text i run base base_len old new run' next so_far utf8
     (built_changed in_table known text i (next - i) run base base_len (string_bytes old) (string_len old) so_far
     changed.0 changed.1 utf8 is.first is.some)
 
--- what a push of the text from `run` up to a changed piece, and of what stands in for its front, comes to
+-- what a push of the text from `run` up to a changed piece, and of what stands in for its front,
+-- comes to
 pub pushed_change : {Z : Type 0} (in_table : Bool) (known : Lookup) (text : List ℕ) (run place n dropped next : ℕ)
     (instead kept : List ℕ) (old new : String Z)
     → IsChanged in_table known (drop place text) n dropped instead → next ≡ place + n

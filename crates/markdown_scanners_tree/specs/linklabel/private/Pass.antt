@@ -16,7 +16,7 @@ begun byte = if not (is_between 128 191 byte) then 1 else 0
 abbrev pub due_len : Bool → ℕ
 due_len is_due = if is_due then 1 else 0
 
--- the space between a word that was read and the next one
+-- how many the space between a word that was read and the next one takes
 abbrev pub space_len : Bool → Bool → ℕ
 space_len has_word in_run = due_len (has_word && in_run)
 
@@ -85,13 +85,13 @@ pub record IsMeasure (answers : List ℕ → ℕ → Type 0) (source : List ℕ)
   pub cut : IsCharBoundary source m.close
   pub behind : IsCharBoundary source (m.close + 1)
 
--- what a byte of a word adds to a text: the space that is due before it, and itself, or nothing for a backslash that
--- a cell drops
+-- what a byte of a word adds to a text: the space that is due before it, and itself, or nothing for
+-- a backslash that a cell drops
 abbrev pub word_text : Bool → Bool → ℕ → List ℕ
 word_text is_due drops byte = (if is_due then space ∷ [] else []) ++ (if drops then [] else byte ∷ [])
 
--- The byte of a word at the place was written: what was appended, and what stands from `next` on up to behind the
--- byte, are what stood there before, from `mark` on up to the place, and what the byte adds.
+-- A byte of a word was written: what is appended then, and the text from `next` up to behind the
+-- byte, are what was appended before, the text from `mark` up to the byte, and what the byte adds.
 pub record IsWordWritten {Z : Type 0} (is_in_table is_due : Bool) (text : List ℕ) (mark place : ℕ) (old new : String Z)
     (next : ℕ) : Type 0 where
   pub within : next ≤ place + 1

@@ -15,7 +15,8 @@ pub record IsKeptByte (is_in_table escaped : Bool) (rest : List ℕ) (byte : ℕ
   pub word : IsWord escaped rest byte escapes
   pub kept : starts_dropped is_in_table rest ≡ false
 
--- so many of them stand there, in which so many characters begin, and the last one escapes the next byte or does not
+-- so many of them stand there, in which so many characters begin, and the last one escapes the next
+-- byte or does not
 pub data IsRun (is_in_table escaped : Bool) (rest : List ℕ) : ℕ → ℕ → Bool → Type 0 where
   none : IsRun is_in_table escaped rest 0 0 escaped
   more : (len characters byte : ℕ) (before escapes : Bool) → IsRun is_in_table escaped rest len characters before
