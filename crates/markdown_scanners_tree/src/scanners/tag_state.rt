@@ -208,8 +208,8 @@ impl TagState {
     }
 
     // What the bytes lead to, up to the end of the tag, of the line or of the bytes, and how many
-    // of them are read. A turn reads one byte and those after it that keep the state: 120
-    // instructions for a tag of Markdown, where one for each byte takes 250.
+    // of them are read. A turn reads one byte and those after it that keep the state, which is
+    // quicker than a turn for each byte.
     pub(crate) fn read_in_line(self, bytes: &[u8]) -> (TagState, usize)
         requires { is_final self ≡ false }
         ensures leads { LeadsTo self (take result.1 bytes.now) result.0 }

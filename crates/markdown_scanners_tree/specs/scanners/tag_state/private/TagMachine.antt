@@ -80,8 +80,8 @@ is_final Closed = true
 is_final Refused = true
 is_final _ = false
 
--- The bytes lead from one state to another, with no line ending among them and no byte after a final
--- state.
+-- The bytes lead from one state to another, with no line ending among them and no byte after a
+-- final state.
 abbrev pub LeadsTo : TagState → List ℕ → TagState → Type 0
 LeadsTo from [] to = from ≡ to
 LeadsTo from (b ∷ bs) to =
