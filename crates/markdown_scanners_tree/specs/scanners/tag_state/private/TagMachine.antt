@@ -91,11 +91,6 @@ LeadsTo from (b ∷ bs) to =
 abbrev pub BeginsWith : List ℕ → TagState → Type 0
 BeginsWith = LeadsTo Start
 
--- Each byte from one place up to another passes.
-abbrev pub AllBetween : (ℕ → Bool) → List ℕ → ℕ → ℕ → Type 0
-AllBetween test bytes from to =
-    (i : ℕ) → from ≤ i → i < to → test (slice_index bytes i) ≡ true
-
 -- Each byte from one place up to another keeps the state, and ends no line.
 abbrev pub AllKeep : TagState → List ℕ → ℕ → ℕ → Type 0
 AllKeep state bytes from to =
