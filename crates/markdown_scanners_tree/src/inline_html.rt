@@ -1,11 +1,11 @@
 //! Scans of inline HTML that begins with `<!` or `<?`: comments, CDATA sections, declarations and
 //! processing instructions (CommonMark 0.31.2, section 6.6). A guard remembers that a search found
 //! nothing, so that many openers cost hardly more than one.
-ghost use Rattle.std.specs.Prelude.{◌≡◌, ◌≤◌, ◌<◌, ◌+◌, ◌^◌, length, IsTrue, Some, slice_get};
+ghost use Rattle.std.specs.Prelude.{◌≡◌, ◌≤◌, ◌<◌, ◌+◌, ◌^◌, length, IsTrue, IfSome, Some, slice_get};
 ghost use Rattle.markdown_scanners_tree.specs.Ascii.{exclamation_mark, hyphen, question_mark, left_bracket};
-ghost use Rattle.markdown_scanners_tree.specs.inline_html.CountedText.{passing};
-ghost use Rattle.markdown_scanners_tree.specs.inline_html.InlineHtml.{Begins, Declaration, ends_opener, declared_at, processing_at};
-ghost use Rattle.markdown_scanners_tree.specs.inline_html.Guard.{answer_of_scan, guard_after_scan, text_after_scan, IsTrueGuard, IsTrueScan};
+ghost use Rattle.markdown_scanners_tree.specs.inline_html.CountedText.{passing, searched_bytes};
+ghost use Rattle.markdown_scanners_tree.specs.inline_html.InlineHtml.{Begins, Declaration, ends_opener, declared_at, processing_at, first_place};
+ghost use Rattle.markdown_scanners_tree.specs.inline_html.Guard.{number_after, answer_of_scan, guard_after_scan, text_after_scan, IsTrueGuard, IsTrueScan};
 
 mod counted_text;
 mod run;
@@ -94,9 +94,8 @@ pub fn scan_inline_html_processing(
     scan_inline_html_processing_counted(&mut text, place, guard)
 }
 
-/// As `scan_inline_html_comment`, over a text that counts the bytes passed over.
-// Where nobody reads the count, it costs nothing once this is inlined: 31 instructions in place of 71 for a scan that its
-// guard stops.
+/// As `scan_inline_html_comment`, over a text that counts the bytes passed over. It is inlined, so
+/// that the count costs nothing where nobody reads it.
 #[inline(always)]
 pub fn scan_inline_html_comment_counted(
     text: &mut CountedText,
@@ -137,16 +136,38 @@ pub fn scan_inline_html_processing_counted(
     if place <= guard.processing {
         return None;
     }
-    match text.find(b"?>", place) {
-        Some(hit) => Some(hit + 2),
-        None => {
-            guard.processing = text.len();
-            None
-        }
-    }
+    let hit = find_or_shut(text, b"?>", place, &mut guard.processing)?;
+    Some(hit + 2)
 }
 
-/// The rest of a scan whose first byte, looked at already, is a hyphen.
+// The first place from `from` on at which the closer stands. Where there is none, its kind's number
+// becomes the text's length, so that later scans search for it no more. Inlined, since the number
+// would be passed by its address.
+#[inline(always)]
+fn find_or_shut(
+    text: &mut CountedText,
+    closer: &[u8],
+    from: usize,
+    number: &mut usize,
+) -> Option<usize>
+    requires some_closer { 0 < length closer.now }
+    requires room { text.old.passed < 2 ^ 120 }
+    ensures answer { result ≡ first_place text.old.text closer.now from }
+    ensures within { IfSome result (λ hit.
+        (from ≤ hit) × (hit + length closer.now ≤ length text.old.text)) }
+    ensures number { number.new ≡ number_after text.old.text number.old result }
+    ensures counts { text.new
+        ≡ passing text.old (searched_bytes text.old.text closer.now from result) }
+    ensures fits_usize { length text.old.text < 2 ^ 64 }
+{
+    let found = text.find(closer, from);
+    if found.is_none() {
+        *number = text.len();
+    }
+    found
+}
+
+// The rest of a scan whose first byte, looked at already, is a hyphen.
 fn scan_comment(text: &mut CountedText, place: usize, guard: &mut HtmlScanGuard) -> Option<usize>
     requires room { text.old.passed < 2 ^ 119 + 1 }
     requires fits_usize { length text.old.text < 2 ^ 64 }
@@ -162,19 +183,12 @@ fn scan_comment(text: &mut CountedText, place: usize, guard: &mut HtmlScanGuard)
     if second != Some(b'-') {
         return None;
     }
-    match text.find(b"-->", place) {
-        Some(hit) => {
-            guard.comment = hit + 1;
-            Some(hit + 3)
-        }
-        None => {
-            guard.comment = text.len();
-            None
-        }
-    }
+    let hit = find_or_shut(text, b"-->", place, &mut guard.comment)?;
+    guard.comment = hit + 1;
+    Some(hit + 3)
 }
 
-/// The rest of a scan whose first byte, looked at already, is an opening bracket.
+// The rest of a scan whose first byte, looked at already, is an opening bracket.
 fn scan_cdata(text: &mut CountedText, place: usize, guard: &mut HtmlScanGuard) -> Option<usize>
     requires room { text.old.passed < 2 ^ 119 + 1 }
     requires fits_usize { length text.old.text < 2 ^ 64 }
@@ -190,16 +204,11 @@ fn scan_cdata(text: &mut CountedText, place: usize, guard: &mut HtmlScanGuard) -
     if place < guard.cdata {
         return None;
     }
-    match text.find(b"]]>", place + 7) {
-        Some(hit) => Some(hit + 3),
-        None => {
-            guard.cdata = text.len();
-            None
-        }
-    }
+    let hit = find_or_shut(text, b"]]>", place + 7, &mut guard.cdata)?;
+    Some(hit + 3)
 }
 
-/// The rest of a scan whose first byte, looked at already, is a letter.
+// The rest of a scan whose first byte, looked at already, is a letter.
 fn scan_declaration(
     text: &mut CountedText,
     place: usize,
@@ -216,11 +225,6 @@ fn scan_declaration(
     if place < guard.declaration {
         return None;
     }
-    match text.find(b">", place + 1) {
-        Some(hit) => Some(hit + 1),
-        None => {
-            guard.declaration = text.len();
-            None
-        }
-    }
+    let hit = find_or_shut(text, b">", place + 1, &mut guard.declaration)?;
+    Some(hit + 1)
 }

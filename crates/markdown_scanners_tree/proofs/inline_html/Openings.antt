@@ -1,6 +1,6 @@
 -- What begins at a place, by the bytes that are looked at.
-use Rattle.std.proofs.Common.{◌≡◌, ℕ, zero, suc, ◌+◌, ◌≤◌, ◌<◌, true, false, List, [], ◌∷◌, length, get_or, sym, ap, subst, ◌∙◌, arith, ⊎_elim, inl, inr, ◌⊎◌, Option, Some, None, add-zero}
-use Rattle.std.specs.Prelude.{slice_get, codes, ◌≢◌, unwrap_or}
+use Rattle.std.proofs.Common.{◌≡◌, ℕ, zero, suc, ◌+◌, ◌≤◌, ◌<◌, true, false, List, [], ◌∷◌, length, get_or, sym, ap, subst, ◌∙◌, arith, ⊎_elim, inl, inr, ◌⊎◌, Option, Some, None, add-zero, refl}
+use Rattle.std.specs.Prelude.{slice_get, codes, ◌≢◌, unwrap_or, if◌then◌else◌}
 use Rattle.std.proofs.lemmas.Bool.{cases_eq, false≢true, false_from_ne_true}
 use Rattle.std.proofs.lemmas.Option.{slice_get_within, get_or_from_slice_get, same_Some, none-some, slice_get-get_or, unwrap_or-slice_get}
 use Rattle.memchr.specs.Find.{OccursAt, occurs_at}
@@ -77,11 +77,11 @@ module _ (text : List ℕ) (p : ℕ) where
       let free = no-hyphens left_bracket first (λ e. omega arith) in
       rw (free.0, free.1, stands-not-tail text left_bracket (codes "CDATA[") p rest, stands-one text left_bracket p first)
 
-  pub declared_at-letter : (c : ℕ) → slice_get text p ≡ Some c → is_letter c ≡ true → declared_at text p ≡ Begins Declaration
+  -- another byte there begins a declaration where it is a letter
+  declared_at-byte : (c : ℕ) → slice_get text p ≡ Some c → c ≢ hyphen → c ≢ left_bracket
+      → declared_at text p ≡ (if is_letter c then Begins Declaration else Nothing)
   unfolding declared_at
-  declared_at-letter c first letter =
-      let not_hyphen : c ≢ hyphen = λ e. false≢true (subst (λ d. is_letter d ≡ true) e letter) in
-      let not_bracket : c ≢ left_bracket = λ e. false≢true (subst (λ d. is_letter d ≡ true) e letter) in
+  declared_at-byte c first not_hyphen not_bracket =
       let free = no-hyphens c first not_hyphen in
       rw (
         free.0,
@@ -89,27 +89,28 @@ module _ (text : List ℕ) (p : ℕ) where
         stands-other text left_bracket c (codes "CDATA[") p first not_bracket,
         stands-other text left_bracket c [] p first not_bracket,
         get_or_from_slice_get text p c 0 first,
-        letter,
-      )
+      ) refl
 
-  pub declared_at-other : (c : ℕ) → slice_get text p ≡ Some c → c ≢ hyphen → c ≢ left_bracket → is_letter c ≡ false → declared_at text p ≡ Nothing
-  unfolding declared_at
-  declared_at-other c first not_hyphen not_bracket letter =
-      let free = no-hyphens c first not_hyphen in
-      rw (
-        free.0,
-        free.1,
-        stands-other text left_bracket c (codes "CDATA[") p first not_bracket,
-        stands-other text left_bracket c [] p first not_bracket,
-        get_or_from_slice_get text p c 0 first,
-        letter,
-      )
+  pub declared_at-letter : (c : ℕ) → slice_get text p ≡ Some c → is_letter c ≡ true → declared_at text p ≡ Begins Declaration
+  declared_at-letter c first letter =
+      let is_no : (b : ℕ) → is_letter b ≡ false → c ≢ b = λ b none e. false≢true (sym none ∙ subst (λ d. is_letter d ≡ true) e letter) in
+      declared_at-byte c first (is_no hyphen refl) (is_no left_bracket refl) ∙ rw letter refl
+
+  pub declared_at-other : (c : ℕ) → slice_get text p ≡ Some c → c ≢ hyphen → c ≢ left_bracket → is_letter c ≡ false
+      → declared_at text p ≡ Nothing
+  declared_at-other c first not_hyphen not_bracket letter = declared_at-byte c first not_hyphen not_bracket ∙ rw letter refl
 
   pub declared_at-end : slice_get text p ≡ None → declared_at text p ≡ Nothing
   unfolding declared_at
   declared_at-end gone =
       let zero_there : get_or text p 0 ≡ 0 = sym (unwrap_or-slice_get text p 0) ∙ ap (λ o. unwrap_or o 0) gone in
-      rw (stands-nowhere text hyphen (hyphen ∷ []) p gone, stands-nowhere text hyphen [] p gone, stands-nowhere text left_bracket (codes "CDATA[") p gone, stands-nowhere text left_bracket [] p gone, zero_there)
+      rw (
+        stands-nowhere text hyphen (hyphen ∷ []) p gone,
+        stands-nowhere text hyphen [] p gone,
+        stands-nowhere text left_bracket (codes "CDATA[") p gone,
+        stands-nowhere text left_bracket [] p gone,
+        zero_there,
+      )
 
 pub stands-length : (text bytes : List ℕ) (p : ℕ) → occurs_at text bytes p ≡ true → p + length bytes ≤ length text
 stands-length text bytes p there = (OccursAt-true text bytes p there).fits

@@ -20,7 +20,13 @@ with_number guard Cdata number = record guard { cdata = number }
 with_number guard Declaration number = record guard { declaration = number }
 with_number guard Processing number = record guard { processing = number }
 
--- after a search: the text's length where no closer was found; of a comment's closer the place of its second hyphen
+-- a kind's number after a search for its closer: the text's length where none was found
+abbrev pub number_after : List ℕ → ℕ → Option ℕ → ℕ
+number_after text number None = length text
+number_after text number (Some hit) = number
+
+-- after a search: the text's length where no closer was found; of a comment's closer the place of
+-- its second hyphen
 abbrev pub searched_guard : List ℕ → HtmlScanGuard → Kind → Option ℕ → HtmlScanGuard
 searched_guard text guard kind None = with_number guard kind (length text)
 searched_guard text guard Comment (Some hit) = record guard { comment = hit + 1 }
@@ -46,8 +52,8 @@ guard_after text guard Hyphen p = guard
 guard_after text guard Bracket p = guard
 guard_after text guard Nothing p = guard
 
--- The same of what begins at p by `declared_at`, just after `<!`, by `processing_at`, just after `<?`, or by
--- `opening_at`, just after either: what a scan at p answers,
+-- The same of what begins at p by `declared_at`, just after `<!`, by `processing_at`, just after
+-- `<?`, or by `opening_at`, just after either: what a scan at p answers,
 abbrev pub answer_of_scan : (List ℕ → ℕ → Opening) → List ℕ → HtmlScanGuard → ℕ → Option ℕ
 answer_of_scan begins text guard p = guarded_answer text guard (begins text p) p
 
@@ -65,8 +71,8 @@ abbrev pub IsTrueGuard : List ℕ → HtmlScanGuard → ℕ → Type 0
 IsTrueGuard text guard p =
     (kind : Kind) → is_stopped guard p kind ≡ true → Nowhere (OccursAt text (closer kind)) p (length text + 1)
 
--- A scan at p, just after an opener, answers the find, and leaves the guard true at each later place that is not
--- below the find.
+-- A scan at p, just after an opener, answers the find, and leaves the guard true at each later
+-- place that is not below the find.
 pub record IsTrueScan (text : List ℕ) (p : ℕ) (answer : Option ℕ) (after : HtmlScanGuard) : Type 0 where
   pub finds : answer ≡ find_at text p
   pub stays_true : (q : ℕ) → p < q → IfSome answer (λ found. found ≤ q) → IsTrueGuard text after q

@@ -108,8 +108,8 @@ impl<'a> CountedText<'a> {
 }
 
 // The first place at which the needle, which isn't empty, stands. The first of its last bytes is
-// tried alone: that is where a closer mostly ends, and a search for a substring takes 250
-// instructions more. Not inlined, since a scan that its guard stops would pay for it too.
+// tried alone: that is where a closer mostly ends, and a search for a substring takes longer. Not
+// inlined, since a scan that its guard stops would pay for it too.
 #[inline(never)]
 fn find_needle(haystack: &[u8], needle: &[u8]) -> Option<usize>
     requires some_needle { 0 < length needle.now }

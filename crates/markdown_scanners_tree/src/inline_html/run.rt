@@ -95,7 +95,7 @@ impl<'a> InlineHtmlRun<'a> {
     }
 }
 
-/// Scans what begins at `place`, just after an opener with this mark.
+// Scans what begins at `place`, just after an opener with this mark.
 fn scan_after(
     mark: u8,
     text: &mut CountedText,

@@ -76,12 +76,12 @@ fn has_hyphens(ended: bool, hyphen: bool) -> bool
 // What a scan of a delimiter row's cells tells of them.
 #[derive(Drop)]
 struct Cells {
-    // the bytes of the cells, with their pipes and the line ending
+    // The bytes of the cells, with their pipes and the line ending.
     length: usize,
     alignments: Vec<Alignment>,
-    // a pipe ended some cell
+    // A pipe ended some cell.
     ended: bool,
-    // the last cell has a hyphen
+    // The last cell has a hyphen.
     hyphen: bool,
 }
 

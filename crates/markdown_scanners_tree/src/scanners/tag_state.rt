@@ -1,8 +1,8 @@
 //! Tags read by runs of bytes that keep a state.
-ghost use Rattle.std.specs.Prelude.{◌≡◌, ◌≤◌, ◌⊎◌, length, take, drop, true, false};
+ghost use Rattle.std.specs.Prelude.{ℕ, ◌≡◌, ◌≤◌, ◌<◌, ◌⊎◌, length, take, drop, slice_index, true, false};
 ghost use Rattle.markdown_scanners_tree.specs.Bytes.{is_line_ending, is_at_line_end, is_unquoted, is_white_space_in_line};
 ghost use Rattle.markdown_scanners_tree.specs.scanners.html_tag.HtmlTag.{is_tag_name_byte, is_attribute_start, is_attribute_byte};
-ghost use Rattle.markdown_scanners_tree.specs.scanners.tag_state.private.TagMachine.{next_state, after_part, after_attribute_name, before_value, after_closing_name, is_tag_end, is_final, LeadsTo, BeginsWith, AllBetween, AllKeep, is_quoted_in_line};
+ghost use Rattle.markdown_scanners_tree.specs.scanners.tag_state.private.TagMachine.{next_state, after_part, after_attribute_name, before_value, after_closing_name, is_tag_end, is_final, LeadsTo, BeginsWith, AllKeep, is_quoted_in_line};
 
 use crate::scanners::classes::{
     is_ascii_alphanumeric, is_ascii_letter, is_ascii_whitespace, is_ascii_whitespace_no_nl,
@@ -107,66 +107,16 @@ fn after_closing(byte: u8) -> TagState
     }
 }
 
-// The end of the bytes of a tag name that stand from the place on.
-fn end_of_name(bytes: &[u8], place: usize) -> usize
-    requires { place ≤ length bytes.now }
-    ensures run { AllBetween is_tag_name_byte bytes.now place result }
+// The end of the bytes from the place on that pass the test.
+fn end_of<F: Fn(u8) -> bool>(bytes: &[u8], place: usize, passes: F) -> usize
+    requires callable { F.IsAlwaysCallable passes }
+    requires inside { place ≤ length bytes.now }
+    ensures run { (i : ℕ) → place ≤ i → i < result
+        → F.post passes (slice_index bytes.now i) true }
     ensures within { (place ≤ result) × (result ≤ length bytes.now) }
 {
     let mut end = place;
-    while end < bytes.len() && continues_tag_name(bytes[end]) {
-        end += 1;
-    }
-    end
-}
-
-// The end of the bytes of an attribute name.
-fn end_of_attribute_name(bytes: &[u8], place: usize) -> usize
-    requires { place ≤ length bytes.now }
-    ensures run { AllBetween is_attribute_byte bytes.now place result }
-    ensures within { (place ≤ result) × (result ≤ length bytes.now) }
-{
-    let mut end = place;
-    while end < bytes.len() && continues_attribute(bytes[end]) {
-        end += 1;
-    }
-    end
-}
-
-// The end of the white space that ends no line.
-fn end_of_space(bytes: &[u8], place: usize) -> usize
-    requires { place ≤ length bytes.now }
-    ensures run { AllBetween is_white_space_in_line bytes.now place result }
-    ensures within { (place ≤ result) × (result ≤ length bytes.now) }
-{
-    let mut end = place;
-    while end < bytes.len() && is_ascii_whitespace_no_nl(bytes[end]) {
-        end += 1;
-    }
-    end
-}
-
-// The end of the bytes of an unquoted value.
-fn end_of_unquoted(bytes: &[u8], place: usize) -> usize
-    requires { place ≤ length bytes.now }
-    ensures run { AllBetween is_unquoted bytes.now place result }
-    ensures within { (place ≤ result) × (result ≤ length bytes.now) }
-{
-    let mut end = place;
-    while end < bytes.len() && is_unquoted_byte(bytes[end]) {
-        end += 1;
-    }
-    end
-}
-
-// The end of the bytes of a quoted value that stand in one line.
-fn end_of_quoted(bytes: &[u8], place: usize, quote: u8) -> usize
-    requires { place ≤ length bytes.now }
-    ensures run { AllBetween (is_quoted_in_line quote) bytes.now place result }
-    ensures within { (place ≤ result) × (result ≤ length bytes.now) }
-{
-    let mut end = place;
-    while end < bytes.len() && bytes[end] != quote && !is_line_ending(bytes[end]) {
+    while end < bytes.len() && passes(bytes[end]) {
         end += 1;
     }
     end
@@ -195,21 +145,30 @@ impl TagState {
         ensures within { (place ≤ result) × (result ≤ length bytes.now) }
     {
         match self {
-            TagState::Name | TagState::ClosingName => end_of_name(bytes, place),
-            TagState::AttributeName => end_of_attribute_name(bytes, place),
+            TagState::Name | TagState::ClosingName => end_of(bytes, place, continues_tag_name),
+            TagState::AttributeName => end_of(bytes, place, continues_attribute),
             TagState::Spaced | TagState::AfterName | TagState::BeforeValue => {
-                end_of_space(bytes, place)
+                end_of(bytes, place, is_ascii_whitespace_no_nl)
             }
-            TagState::ClosingSpaced | TagState::ClosingEnded => end_of_space(bytes, place),
-            TagState::Unquoted => end_of_unquoted(bytes, place),
-            TagState::Quoted(quote) => end_of_quoted(bytes, place, quote),
+            TagState::ClosingSpaced | TagState::ClosingEnded => end_of(
+                bytes,
+                place,
+                is_ascii_whitespace_no_nl,
+            ),
+            TagState::Unquoted => end_of(bytes, place, is_unquoted_byte),
+            TagState::Quoted(quote) => {
+                let stays = |byte: u8| -> bool
+                    ensures { result ≡ is_quoted_in_line quote byte }
+                { byte != quote && !is_line_ending(byte) };
+                end_of(bytes, place, stays)
+            }
             _ => place,
         }
     }
 
     // What the bytes lead to, up to the end of the tag, of the line or of the bytes, and how many
-    // of them are read. A turn reads one byte and those after it that keep the state: 120
-    // instructions for a tag of Markdown, where one for each byte takes 250.
+    // of them are read. A turn reads one byte and those after it that keep the state, which is
+    // quicker than a turn for each byte.
     pub(crate) fn read_in_line(self, bytes: &[u8]) -> (TagState, usize)
         requires { is_final self ≡ false }
         ensures leads { LeadsTo self (take result.1 bytes.now) result.0 }

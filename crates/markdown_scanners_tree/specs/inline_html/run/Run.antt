@@ -24,8 +24,8 @@ shutting shut Cdata = record shut { cdata = true }
 shutting shut Declaration = record shut { declaration = true }
 shutting shut Processing = record shut { processing = true }
 
--- a text, the last place accepted and the end of the last find (each 0 before the first), the shut kinds, the bytes
--- passed over, the steps
+-- a text, the last place accepted and the end of the last find (each 0 before the first), the shut
+-- kinds, the bytes passed over, the steps
 pub record Run : Type 0 where
   pub text : List ℕ
   pub last : ℕ
@@ -44,7 +44,8 @@ new_run text = record {
   steps = 0;
 }
 
--- why a place is refused: no opener ends there; it is not above the last place; it is below the end of the last find
+-- why a place is refused: no opener ends there; it is not above the last place; it is below the end
+-- of the last find
 abbrev pub refusal : Run → ℕ → Option HtmlStop
 refusal run p =
     if is_none (opener_before run.text p) then Some NoOpener
@@ -112,8 +113,9 @@ one_if b = if b then 1 else 0
 abbrev pub count_shut : ShutKinds → ℕ
 count_shut shut = one_if shut.comment + one_if shut.cdata + one_if shut.declaration + one_if shut.processing
 
--- The bytes passed over are at most four for each byte of the text and eight for each step; while a kind is open, once
--- the text for each shut kind, the way to the last find, and eight for each step.
+-- The bytes passed over are at most four for each byte of the text and eight for each step; while a
+-- kind is open, once the text for each shut kind, the way to the last find, and eight for each
+-- step.
 pub record IsWithinBudget (run : Run) : Type 0 where
   pub whole : run.passed ≤ 4 * length run.text + 8 * run.steps
   pub while_open : count_shut run.shut < 4

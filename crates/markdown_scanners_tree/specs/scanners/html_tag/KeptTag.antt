@@ -24,8 +24,8 @@ pub record IsKeptPrefix (answers : List ℕ → ℕ → Type 0) (source : List �
   pub answered : AreSkips answers source skips
   pub begins : kept_text source skips ≡ prefix ++ rest
 
--- A prefix of a kept text of the source is a tag. In a closing tag stands at most one line ending of
--- the source.
+-- A prefix of a kept text of the source is a tag. In a closing tag stands at most one line ending
+-- of the source.
 pub record IsKeptTag (answers : List ℕ → ℕ → Type 0) (source : List ℕ) (prefix : List KeptByte)
     : Type 0 where
   pub kept : IsKeptPrefix answers source prefix

@@ -28,8 +28,8 @@ run_of counted guard last find_end steps = record {
   steps = steps;
 }
 
--- They are those of a run: the guard is true wherever a step may come, and its number of a kind that is not shut stops
--- no such step.
+-- They are those of a run: the guard is true wherever a step may come, and its number of a kind
+-- that is not shut stops no such step.
 pub record AreRunFields (counted : CountedBytes) (guard : HtmlScanGuard) (last find_end steps : ℕ) : Type 0 where
   pub true_guard : (q : ℕ) → last < q → find_end ≤ q → IsTrueGuard counted.text guard q
   pub low_comment : guard.comment ≢ length counted.text → guard.comment ≤ find_end

@@ -80,8 +80,8 @@ is_final Closed = true
 is_final Refused = true
 is_final _ = false
 
--- The bytes lead from one state to another, with no line ending among them and no byte after a final
--- state.
+-- The bytes lead from one state to another, with no line ending among them and no byte after a
+-- final state.
 abbrev pub LeadsTo : TagState → List ℕ → TagState → Type 0
 LeadsTo from [] to = from ≡ to
 LeadsTo from (b ∷ bs) to =
@@ -90,11 +90,6 @@ LeadsTo from (b ∷ bs) to =
 -- the bytes that a tag begins with lead to a state
 abbrev pub BeginsWith : List ℕ → TagState → Type 0
 BeginsWith = LeadsTo Start
-
--- Each byte from one place up to another passes.
-abbrev pub AllBetween : (ℕ → Bool) → List ℕ → ℕ → ℕ → Type 0
-AllBetween test bytes from to =
-    (i : ℕ) → from ≤ i → i < to → test (slice_index bytes i) ≡ true
 
 -- Each byte from one place up to another keeps the state, and ends no line.
 abbrev pub AllKeep : TagState → List ℕ → ℕ → ℕ → Type 0
