@@ -35,7 +35,8 @@ pub extern "C" fn ours_tag_lines(alloc: Global, text: &[u8], at: &[usize], round
     each_rest(text, at, rounds, &call)
 }
 
-// The guarded scans after all openers outside earlier finds. The places are those just after `<!` and `<?`.
+// The guarded scans after all openers outside earlier finds. The places are those just after `<!`
+// and `<?`.
 #[unsafe(no_mangle)]
 pub extern "C" fn ours_inline_html(text: &[u8], at: &[usize], rounds: usize) -> u64 {
     let mut sum: u64 = 0;

@@ -126,7 +126,8 @@ pub extern "C" fn ours_line_all(text: &[u8], at: &[usize], rounds: usize) -> u64
     each_rest(text, at, rounds, &call)
 }
 
-// Containers as a block parser opens them: quotes and list items in turn, then the space before the text.
+// Containers as a block parser opens them: quotes and list items in turn, then the space before the
+// text.
 #[unsafe(no_mangle)]
 pub extern "C" fn ours_line_containers(text: &[u8], at: &[usize], rounds: usize) -> u64 {
     let call = |b: &[u8]| -> u64 {

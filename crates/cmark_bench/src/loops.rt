@@ -42,7 +42,8 @@ pub(crate) fn each_place<F: Fn(&str, usize) -> u64>(
     sum
 }
 
-/// The sum of a call's answers for each stretch of a text between two of the places; 0 for bytes that are no UTF-8.
+/// The sum of a call's answers for each stretch of a text between two of the places; 0 for bytes
+/// that are no UTF-8.
 pub(crate) fn each_stretch<F: Fn(&str) -> u64>(
     text: &[u8],
     at: &[usize],

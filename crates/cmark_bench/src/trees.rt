@@ -30,7 +30,8 @@ fn flat(alloc: Global, nodes: usize) -> Result<u64, AllocError> {
     Ok(sum)
 }
 
-// Nodes eight deep: down at each but one in eight, and then up again. The number is the sum of their indices.
+// Nodes eight deep: down at each but one in eight, and then up again. The number is the sum of
+// their indices.
 fn built(alloc: Global, nodes: usize) -> Result<(Tree<Item>, u64), AllocError> {
     let mut tree: Tree<Item> = Tree::with_capacity(alloc, 128)?;
     let mut sum: u64 = 0;

@@ -7,7 +7,7 @@ use markdown_scanners_tree::inline_html::{
 use std::alloc::{AllocError, Global};
 use std::fmt;
 
-/// A part that is repeated, and how often.
+// A part that is repeated, and how often.
 const TEXTS: [(&str, usize); 6] = [
     ("<!--", 5000),
     ("<![CDATA[", 5000),
@@ -17,7 +17,7 @@ const TEXTS: [(&str, usize); 6] = [
     ("<!-->", 5000),
 ];
 
-/// What the scans of several texts add up to.
+// What the scans of several texts add up to.
 #[derive(Clone, Copy)]
 struct Totals {
     steps: u128,
@@ -80,7 +80,7 @@ fn bound(length: usize, steps: usize) -> u128 {
     4 * length as u128 + 8 * steps as u128
 }
 
-/// The places at which steps were accepted, what each found, and the bytes that they passed over.
+// The places at which steps were accepted, what each found, and the bytes that they passed over.
 #[derive(Drop)]
 struct Steps {
     places: Vec<usize>,

@@ -1,4 +1,5 @@
-//! Many bullets (CommonMark 0.31.2, section 5.2) and many tabs (section 2.2) at the start of a line.
+//! Many bullets (CommonMark 0.31.2, section 5.2) and many tabs (section 2.2) at the start of a
+//! line.
 use crate::parts::{MOST, SIDES, Side};
 use markdown_scanners_tree::line::{LineAnswer, LineCall, run_line};
 use std::alloc::{AllocError, Global};
@@ -8,7 +9,7 @@ const BULLETS: usize = 10_000;
 
 const TABS: usize = 100_000;
 
-/// What the runs over several lines add up to.
+// What the runs over several lines add up to.
 #[derive(Clone, Copy)]
 struct Totals {
     answers: u128,

@@ -5,7 +5,7 @@ use std::alloc::{AllocError, Global};
 
 const DEPTH: usize = 1000;
 
-/// How many destinations were found, and the bytes that they take.
+// How many destinations were found, and the bytes that they take.
 #[derive(Clone, Copy)]
 struct Totals {
     finds: u128,

@@ -25,7 +25,7 @@ enum ScanCase {
     RunInlineHtml,
 }
 
-/// A case, by what its calls are about.
+// A case, by what its calls are about.
 #[derive(Clone, Copy)]
 enum Case {
     Text(TextCase),
@@ -133,8 +133,9 @@ const CASES: [(&str, Case); 52] = [
     ),
 ];
 
-/// Makes the cases of these names in turn, or with no name all of them, and answers the status: 0, or 2 at a name that no
-/// case has, or 3 where memory is refused to what a case is made of or a write fails.
+/// Makes the cases of these names in turn, or with no name all of them, and answers the status: 0,
+/// or 2 at a name that no case has, or 3 where memory is refused to what a case is made of or a
+/// write fails.
 pub(crate) fn run_cases<W: Write>(alloc: Global, names: &[String], output: &mut W) -> u8
     ensures { result ≤ 3 }
 {

@@ -72,7 +72,8 @@ fn two_labels(alloc: Global) -> Result<(LinkLabel<'static>, LinkLabel<'static>),
     Ok((one, other))
 }
 
-// Whether the one has the text that it was made of, whether they match and whether they have one hash.
+// Whether the one has the text that it was made of, whether they match and whether they have one
+// hash.
 fn compared_labels(one: &LinkLabel<'_>, other: &LinkLabel<'_>) -> (bool, bool, bool) {
     let is_same_hash = hash_of(one) == hash_of(other);
     (one.as_str() == STREET, *one == *other, is_same_hash)

@@ -8,7 +8,8 @@ use std::io::Write;
 
 const LINE: &str = "> -\t1.\t:   x\ty";
 
-/// Calls of each kind, more than a few answers, and a rest that is longer than what is left of the line.
+/// Calls of each kind, more than a few answers, and a rest that is longer than what is left of the
+/// line.
 pub(crate) fn run<W: Write>(alloc: Global, output: &mut W) -> Result<(), Stop> {
     let calls = [
         LineCall::Upto(3),

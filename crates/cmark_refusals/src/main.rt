@@ -1,5 +1,5 @@
-//! Makes each call that may want memory, so that memory can be refused to it from outside: tells where it is refused and
-//! what is left then, makes it again, and prints its answer.
+//! Makes each call that may want memory, so that memory can be refused to it from outside: tells
+//! where it is refused and what is left then, makes it again, and prints its answer.
 #![tactic(auto)]
 
 mod cases;

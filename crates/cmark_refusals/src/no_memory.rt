@@ -1,4 +1,5 @@
-//! Each call that takes no memory. What it is called on is made before `ready`, and all requests may be refused from there on.
+//! Each call that takes no memory. What it is called on is made before `ready`, and all requests
+//! may be refused from there on.
 pub(crate) mod inline;
 pub(crate) mod inline_html;
 pub(crate) mod lines;

@@ -1,5 +1,5 @@
-//! What a case tells before its call, where the call is refused, and of its answer. What owns memory is dropped here, in
-//! functions that are proved once for values of all types.
+//! What a case tells before its call, where the call is refused, and of its answer. What owns
+//! memory is dropped here, in functions that are proved once for values of all types.
 use crate::stop::Stop;
 use std::alloc::{AllocError, Global};
 use std::fmt::Debug;
@@ -21,13 +21,13 @@ pub(crate) fn tell_ready<W: Write>(output: &mut W) -> Result<(), Stop> {
     Ok(())
 }
 
-/// What the call may use or change, before the call.
+// What the call may use or change, before the call.
 fn tell_before<W: Write, S: Debug>(output: &mut W, state: &S) -> Result<(), Stop> {
     writeln!(output, "before {state:?}")?;
     tell_ready(output)
 }
 
-/// The same after it was refused.
+// The same after it was refused.
 fn tell_refused<W: Write, S: Debug>(output: &mut W, state: &S) -> Result<(), Stop> {
     writeln!(output, "refused {state:?}")?;
     Ok(())

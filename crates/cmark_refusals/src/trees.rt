@@ -72,7 +72,8 @@ fn tell_link<W: Write>(output: &mut W, link: Option<TreeIndex>) -> Result<(), St
     Ok(())
 }
 
-// The focus, the spine from the root, and the first nodes: each with its item, its child and its next sibling.
+// The focus, the spine from the root, and the first nodes: each with its item, its child and its
+// next sibling.
 fn tell_tree<W: Write>(
     output: &mut W,
     word: &str,

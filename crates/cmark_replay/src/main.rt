@@ -1,4 +1,5 @@
-//! Makes the calls that cases on standard input name, and tells where an answer isn't the one that the case wants.
+//! Makes the calls that cases on standard input name, and tells where an answer isn't the one that
+//! the case wants.
 #![tactic(auto)]
 
 mod arguments;

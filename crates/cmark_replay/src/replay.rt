@@ -8,19 +8,21 @@ use std::alloc::Global;
 use std::io::{BufRead, BufReader, Read, Write};
 use std::str::from_utf8;
 
-/// How many cases have been answered as they want, and how many otherwise.
+// How many cases have been answered as they want, and how many otherwise.
 #[derive(Clone, Copy)]
 struct Tally {
     agree: u64,
     differ: u64,
 }
 
-/// Reads a case a line, makes its call, and writes a line for each answer that isn't the one that the case wants: the
-/// number of its line, the case, the answer wanted and the answer given, with tabs between them. Then `N agree, M differ`.
+/// Reads a case a line, makes its call, and writes a line for each answer that isn't the one that
+/// the case wants: the number of its line, the case, the answer wanted and the answer given, with
+/// tabs between them. Then `N agree, M differ`.
 ///
-/// A case is the call's name, its arguments, `=>` and the answer wanted, with tabs between them. The status is 0 where
-/// no answer differs and 1 where one does; 2 at the first line that can't be read as a case, and 3 after a fault of the
-/// reader, of memory or of the writer, with a line on `faults` that says why.
+/// A case is the call's name, its arguments, `=>` and the answer wanted, with tabs between them.
+/// The status is 0 where no answer differs and 1 where one does; 2 at the first line that can't be
+/// read as a case, and 3 after a fault of the reader, of memory or of the writer, with a line on
+/// `faults` that says why.
 pub fn replay_cases<R: Read, W: Write, V: Write>(
     alloc: Global,
     input: &mut R,

@@ -5,7 +5,8 @@ use std::alloc::Global;
 use std::process::Abort;
 use std::test::Fail;
 
-/// A call, its bytes or text, its other arguments, the answer that its definition gives, and another.
+// A call, its bytes or text, its other arguments, the answer that its definition gives, and
+// another.
 type Row = (
     &'static str,
     &'static str,
@@ -14,7 +15,7 @@ type Row = (
     &'static str,
 );
 
-/// Each call once, and each call of a line.
+// Each call once, and each call of a line.
 const ROWS: [Row; 35] = [
     ("line", "   ", "\tspace:4", "false @3+0", "true @3+0"),
     ("line", "   x", "\tupto:2", "2 @2+0", "3 @3+0"),

@@ -1,4 +1,4 @@
-// What went wrong, and how it is told.
+//! What went wrong, and how it is told.
 ghost use Rattle.std.specs.Prelude.{◌≡◌, codes};
 ghost use Rattle.cmark_scan.specs.faults.Faults.{fault_line, AppendsPrefix};
 

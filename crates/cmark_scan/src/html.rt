@@ -1,4 +1,4 @@
-// The scans of inline HTML in a text, and their printed lines.
+//! The scans of inline HTML in a text, and their printed lines.
 ghost use Rattle.std.specs.Prelude.{◌≡◌, ◌++◌, IfOk, OnOk, string_bytes};
 ghost use Rattle.std.specs.List.{flat_map};
 ghost use Rattle.markdown_scanners_tree.specs.inline_html.run.Run.{refusal, run_after};
@@ -7,17 +7,15 @@ ghost use Rattle.cmark_scan.specs.printing.Printed.{IsOutcome};
 ghost use Rattle.cmark_scan.specs.report.Report.{outcome_view};
 ghost use Rattle.cmark_scan.specs.words.Words.{scan_html};
 
-use crate::report::Report;
+use crate::report::{Ended, Report};
 use markdown_scanners_tree::inline_html::InlineHtmlRun;
-use markdown_values::strings::CowStr;
 use std::alloc::{AllocError, Global};
 
 /// What the scans of inline HTML in the input come to.
 pub(crate) fn html_report(alloc: Global, bytes: &[u8]) -> Result<Report<'static>, AllocError>
     ensures { IfOk result (λ report. IsOutcome scan_html bytes.now (outcome_view report)) }
 {
-    let text = html_text(alloc, bytes)?;
-    Ok(Report::Done(CowStr::from_string(alloc, text)?))
+    Report::from_string(alloc, html_text(alloc, bytes)?, Ended::Done)
 }
 
 // A line for each scan, made at every place that a run accepts, and the bytes that they passed
@@ -35,7 +33,7 @@ fn html_text(alloc: Global, bytes: &[u8]) -> Result<String, AllocError>
     Ok(text)
 }
 
-/// Makes a step at the place, and writes its line unless the place is refused.
+// Makes a step at the place, and writes its line unless the place is refused.
 fn push_step(text: &mut String, run: &mut InlineHtmlRun, place: usize) -> Result<(), AllocError>
     ensures written { OnOk result (string_bytes text.new
         ≡ string_bytes text.old ++ flat_map scan_text (scans_at run.old place)) }

@@ -1,10 +1,10 @@
-// The label at the front of a text, and its printed lines.
+//! The label at the front of a text, and its printed lines.
 ghost use Rattle.std.specs.Prelude.{◌≡◌, IfOk, Some, string_bytes};
 ghost use Rattle.markdown_values.specs.strings.Text.{cow_text, is_borrowed};
 ghost use Rattle.cmark_scan.specs.label.LabelRun.{IsLabelOutcome, label_lines};
 ghost use Rattle.cmark_scan.specs.report.Report.{outcome_view};
 
-use crate::report::Report;
+use crate::report::{Ended, Report};
 use markdown_scanners_tree::linklabel::scan_link_label_rest;
 use markdown_values::strings::CowStr;
 use std::alloc::{AllocError, Global};
@@ -14,17 +14,19 @@ pub(crate) fn label_report(alloc: Global, bytes: &[u8]) -> Result<Report<'static
     ensures { IfOk result (λ report. IsLabelOutcome bytes.now (outcome_view report)) }
 {
     let Ok(text) = str::from_utf8(bytes) else {
-        return Ok(Report::NotText);
+        return Ok(Report::not_text());
     };
     let handler = |_rest: &[u8]| -> Option<usize>
         ensures { result ≡ Some 0 }
     { Some(0) };
     match scan_link_label_rest(alloc, text, &handler, false)? {
         Some((taken, label)) => {
-            let text = label_text(alloc, taken, &label)?;
-            Ok(Report::Done(CowStr::from_string(alloc, text)?))
+            Report::from_string(alloc, label_text(alloc, taken, &label)?, Ended::Done)
         }
-        None => Ok(Report::Stopped(CowStr::from("none\n"))),
+        None => Ok(Report {
+            text: CowStr::from("none\n"),
+            ended: Ended::Stopped,
+        }),
     }
 }
 

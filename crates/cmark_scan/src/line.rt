@@ -1,15 +1,14 @@
-// Runs of calls on a line, and what they print.
-ghost use Rattle.std.specs.Prelude.{IfOk};
-ghost use Rattle.cmark_scan.specs.printing.Printed.{IsOutcome};
-ghost use Rattle.cmark_scan.specs.report.Report.{outcome_view};
+//! Runs of calls on a line, and what they print.
+ghost use Rattle.std.specs.Prelude.{◌≡◌, IfOk};
+ghost use Rattle.cmark_scan.specs.printing.Printed.{IsOutcome, stop_status};
+ghost use Rattle.cmark_scan.specs.report.Report.{outcome_view, status_of};
 ghost use Rattle.cmark_scan.specs.words.Command.{texts};
 ghost use Rattle.cmark_scan.specs.words.Words.{scan_line, calls_of};
 
 use crate::printing::run_text;
-use crate::report::Report;
+use crate::report::{Ended, Report};
 use crate::words::parse_calls;
-use markdown_scanners_tree::line::run_line;
-use markdown_values::strings::CowStr;
+use markdown_scanners_tree::line::{LineRun, run_line};
 use std::alloc::{AllocError, Global};
 
 /// What the calls that the words ask for come to on the line.
@@ -23,9 +22,16 @@ pub(crate) fn line_report(
 {
     let calls = parse_calls(alloc, words)?;
     let run = run_line(alloc, bytes, &calls)?;
-    let text = CowStr::from_string(alloc, run_text(alloc, &calls, &run)?)?;
+    let text = run_text(alloc, &calls, &run)?;
+    Report::from_string(alloc, text, end_of(&run))
+}
+
+// How a run ends: before one of its calls, or behind the last.
+fn end_of(run: &LineRun) -> Ended
+    ensures { status_of result ≡ stop_status run.now.stop }
+{
     match &run.stop {
-        Some(_) => Ok(Report::Stopped(text)),
-        None => Ok(Report::Done(text)),
+        Some(_) => Ended::Stopped,
+        None => Ended::Done,
     }
 }

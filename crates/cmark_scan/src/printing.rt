@@ -1,4 +1,4 @@
-// The printed text of what the library answers.
+//! The printed text of what the library answers.
 ghost use Rattle.std.specs.Prelude.{◌≡◌, ◌++◌, IfOk, OnOk, string_bytes, codes};
 ghost use Rattle.std.specs.List.{flat_map, zip};
 ghost use Rattle.cmark_scan.specs.printing.Run.{run_view};
@@ -25,7 +25,7 @@ pub(crate) fn run_text(
     Ok(text)
 }
 
-/// A line for each call that has an answer.
+// A line for each call that has an answer.
 fn push_answers(
     text: &mut String,
     calls: &[LineCall],
@@ -89,7 +89,7 @@ fn push_stop(text: &mut String, stop: &Option<(usize, LineStop)>) -> Result<(), 
     Ok(())
 }
 
-/// The bytes as two hexadecimal digits each, or a hyphen where there is none.
+// The bytes as two hexadecimal digits each, or a hyphen where there is none.
 fn push_hex(text: &mut String, bytes: &[u8]) -> Result<(), AllocError>
     ensures { OnOk result (string_bytes text.new ≡ string_bytes text.old ++ hex_text bytes.now) }
 {

@@ -1,10 +1,10 @@
 //! What the program does with its words, its input and its output.
 ghost use Rattle.std.specs.Prelude.{◌≡◌, ◌≢◌, IfOk, IfSome, IfErr, IsSome, IsNone};
-ghost use Rattle.std.specs.Io.KnownBytes.{Appends, IsAtEnd};
+ghost use Rattle.std.specs.Io.KnownBytes.{IsAtEnd};
 ghost use Rattle.cmark_scan.specs.words.Words.{request_of};
 ghost use Rattle.cmark_scan.specs.words.Command.{texts, request_view};
 ghost use Rattle.cmark_scan.specs.printing.Printed.{IsOutcome, IsPrinted};
-ghost use Rattle.cmark_scan.specs.report.Report.{outcome_view};
+ghost use Rattle.cmark_scan.specs.report.Report.{outcome_view, status_of};
 ghost use Rattle.cmark_scan.specs.faults.Faults.{IsBeforeWriting, TellsFault};
 
 use crate::faults::{Fault, complain, report_fault};
@@ -12,7 +12,7 @@ use crate::html::html_report;
 use crate::label::label_report;
 use crate::line::line_report;
 use crate::reading::read_all;
-use crate::report::Report;
+use crate::report::{Ended, Report};
 use crate::unescaping::unescape_report;
 use crate::words::{Command, parse_command};
 use std::alloc::{AllocError, Global};
@@ -59,9 +59,9 @@ pub fn run_program<R: Read, W: Write, V: Write>(
         Err(fault) => return report_fault(faults, fault),
     };
     match answer(alloc, command, &bytes, output) {
-        Ok(Report::Done(_)) => 0,
-        Ok(Report::Stopped(_)) => 1,
-        Ok(Report::NotText) => {
+        Ok(Ended::Done) => 0,
+        Ok(Ended::Stopped) => 1,
+        Ok(Ended::NotText) => {
             complain(faults, NOT_TEXT);
             1
         }
@@ -69,30 +69,22 @@ pub fn run_program<R: Read, W: Write, V: Write>(
     }
 }
 
-// Writes what the command prints for the input.
-fn answer<'a, W: Write>(
+// Writes what the command prints for the input, and answers how it ends.
+fn answer<W: Write>(
     alloc: Global,
     command: Command<'_>,
-    bytes: &'a [u8],
+    bytes: &[u8],
     output: &mut W,
-) -> Result<Report<'a>, Fault>
-    ensures outcome { IfOk result (λ report.
-        IsOutcome (request_view command.entry) bytes.now (outcome_view report)) }
-    ensures written { IfOk result (λ report.
-        Appends (W.contents output.old) (W.contents output.new) (outcome_view report).printed) }
+) -> Result<Ended, Fault>
+    ensures printed { IfOk result (λ ended. IsPrinted (request_view command.entry) bytes.now
+        (status_of ended) (W.contents output.old) (W.contents output.new)) }
     ensures unwritten { IfErr result (λ fault. IsBeforeWriting fault → output.new ≡ output.old) }
-    ensures no_text { IfOk result (λ report. report ≡ Report.NotText → output.new ≡ output.old) }
 {
     let report = report_on(alloc, command, bytes)?;
-    match &report {
-        Report::Done(text) | Report::Stopped(text) => {
-            if output.write_all(text.as_str().as_bytes()).is_err() {
-                return Err(Fault::Write);
-            }
-        }
-        Report::NotText => {}
+    if output.write_all(report.text.as_str().as_bytes()).is_err() {
+        return Err(Fault::Write);
     }
-    Ok(report)
+    Ok(report.ended)
 }
 
 // What the command comes to on the input.

@@ -1,4 +1,4 @@
-// Reading all of the input.
+//! Reading all of the input.
 ghost use Rattle.std.specs.Prelude.{◌≡◌, IfOk, IfErr, IfSome, OnOk};
 ghost use Rattle.std.specs.Io.KnownBytes.{Consumes, IsAtEnd};
 ghost use Rattle.cmark_scan.specs.faults.Faults.{IsBeforeWriting};

@@ -1,3 +1,4 @@
+//! Runs of the program over arrays, and over readers and writers that fail.
 mod cuts;
 mod html;
 mod label;
@@ -11,7 +12,7 @@ use std::test::Fail;
 
 const USAGE: &[u8] = b"usage: cmark_scan line CALL.. | html | label | unescape\n";
 
-/// Gives its bytes, one a call, and fails at a read past those that it may answer.
+// Gives its bytes, one a call, and fails at a read past those that it may answer.
 #[derive(Drop)]
 struct FailingReader<'a> {
     bytes: &'a [u8],
@@ -36,7 +37,7 @@ impl Read for FailingReader<'_> {
     }
 }
 
-/// Gives one `x` a call, counts the calls, and sees that each asks for 4,096 bytes.
+// Gives one `x` a call, counts the calls, and sees that each asks for 4,096 bytes.
 #[derive(Drop)]
 struct EndlessReader {
     reads: u64,
@@ -55,7 +56,7 @@ impl Read for EndlessReader {
     }
 }
 
-/// Fails at each write, and counts them.
+// Fails at each write, and counts them.
 #[derive(Drop)]
 struct FailingWriter {
     writes: u64,
@@ -72,7 +73,7 @@ impl Write for FailingWriter {
     }
 }
 
-/// Takes one byte a write.
+// Takes one byte a write.
 #[derive(Drop)]
 struct SlowWriter {
     taken: Vec<u8>,
@@ -92,23 +93,17 @@ impl Write for SlowWriter {
     }
 }
 
-/// A run of the program on words and an input, with its status and what it prints.
-#[derive(Drop)]
-struct Row {
-    words: &'static [&'static str],
-    input: &'static [u8],
-    status: u8,
-    printed: &'static str,
-}
+// The words and the input of a run of the program; its status, and what it prints.
+type Row = ((&'static [&'static str], &'static [u8]), (u8, &'static str));
 
 fn assert_rows(rt: &impl Abort, alloc: Global, rows: &[Row]) -> std::result::Result<(), Fail> {
-    for row in rows {
-        let mut input = row.input;
+    for ((words, input), (status, printed)) in rows {
+        let mut input = *input;
         let mut output = Vec::new(alloc);
         let mut faults = Vec::new(alloc);
-        let status = run_program(alloc, row.words, &mut input, &mut output, &mut faults);
-        assert_eq!(rt; status, row.status, "before {}", row.printed);
-        assert_eq!(rt; output.as_slice(), row.printed.as_bytes());
+        let found = run_program(alloc, words, &mut input, &mut output, &mut faults);
+        assert_eq!(rt; found, *status, "before {printed}");
+        assert_eq!(rt; output.as_slice(), printed.as_bytes());
         assert_eq!(rt; faults.len(), 0);
     }
     Ok(())
@@ -116,196 +111,140 @@ fn assert_rows(rt: &impl Abort, alloc: Global, rows: &[Row]) -> std::result::Res
 
 #[test]
 fn prints_runs_over_spaces(rt: HostRuntime) -> std::result::Result<(), Fail> {
-    let rows = [
-        Row {
-            words: &["line", "upto:2", "space:1", "eol"],
-            input: b"   x",
-            status: 0,
-            printed: "upto 2\nspace true\neol false\nscanned 3\nrest 78\n",
-        },
-        Row {
-            words: &["line", "space:1"],
-            input: b"x",
-            status: 0,
-            printed: "space false\nscanned 0\nrest 78\n",
-        },
-        Row {
-            words: &["line", "upto:9", "eol"],
-            input: b"  \nx",
-            status: 0,
-            printed: "upto 2\neol true\nscanned 2\nrest 0a78\n",
-        },
-        Row {
-            words: &["line", "space:4", "eol"],
-            input: b"   ",
-            status: 0,
-            printed: "space false\neol true\nscanned 3\nrest -\n",
-        },
-        Row {
-            words: &["line"],
-            input: b"a",
-            status: 0,
-            printed: "scanned 0\nrest 61\n",
-        },
-        Row {
-            words: &["line"],
-            input: b"",
-            status: 0,
-            printed: "scanned 0\nrest -\n",
-        },
-        Row {
-            words: &["line", "upto:18446744073709551615"],
-            input: b" x",
-            status: 0,
-            printed: "upto 1\nscanned 1\nrest 78\n",
-        },
-        Row {
-            words: &["line", "upto:00000000000000000000000000000001"],
-            input: b"  x",
-            status: 0,
-            printed: "upto 1\nscanned 1\nrest 2078\n",
-        },
+    let rows: [Row; 8] = [
+        (
+            (&["line", "upto:2", "space:1", "eol"], b"   x"),
+            (0, "upto 2\nspace true\neol false\nscanned 3\nrest 78\n"),
+        ),
+        (
+            (&["line", "space:1"], b"x"),
+            (0, "space false\nscanned 0\nrest 78\n"),
+        ),
+        (
+            (&["line", "upto:9", "eol"], b"  \nx"),
+            (0, "upto 2\neol true\nscanned 2\nrest 0a78\n"),
+        ),
+        (
+            (&["line", "space:4", "eol"], b"   "),
+            (0, "space false\neol true\nscanned 3\nrest -\n"),
+        ),
+        ((&["line"], b"a"), (0, "scanned 0\nrest 61\n")),
+        ((&["line"], b""), (0, "scanned 0\nrest -\n")),
+        (
+            (&["line", "upto:18446744073709551615"], b" x"),
+            (0, "upto 1\nscanned 1\nrest 78\n"),
+        ),
+        (
+            (&["line", "upto:00000000000000000000000000000001"], b"  x"),
+            (0, "upto 1\nscanned 1\nrest 2078\n"),
+        ),
     ];
     assert_rows(&rt, rt.alloc(), &rows)
 }
 
 #[test]
 fn prints_runs_over_tabs(rt: HostRuntime) -> std::result::Result<(), Fail> {
-    let rows = [
-        Row {
-            words: &["line", "upto:3", "upto:5"],
-            input: b"\tx",
-            status: 0,
-            printed: "upto 3\nupto 1\nscanned 1\nrest 78\n",
-        },
-        Row {
-            words: &["line", "upto:3", "eol"],
-            input: b"\tx",
-            status: 1,
-            printed: "upto 3\nscanned 1\nrest 2078\nstop 1 SpacePending\n",
-        },
-        Row {
-            words: &["line", "quote", "upto:9"],
-            input: b">\t\tx",
-            status: 0,
-            printed: "quote true\nupto 6\nscanned 3\nrest 78\n",
-        },
-        Row {
-            words: &["line", "quote", "quote"],
-            input: b">\t>",
-            status: 1,
-            printed: "quote true\nscanned 2\nrest 20203e\nstop 1 SpacePending\n",
-        },
-        Row {
-            words: &["line", "quote"],
-            input: b"x",
-            status: 0,
-            printed: "quote false\nscanned 0\nrest 78\n",
-        },
+    let rows: [Row; 5] = [
+        (
+            (&["line", "upto:3", "upto:5"], b"\tx"),
+            (0, "upto 3\nupto 1\nscanned 1\nrest 78\n"),
+        ),
+        (
+            (&["line", "upto:3", "eol"], b"\tx"),
+            (1, "upto 3\nscanned 1\nrest 2078\nstop 1 SpacePending\n"),
+        ),
+        (
+            (&["line", "quote", "upto:9"], b">\t\tx"),
+            (0, "quote true\nupto 6\nscanned 3\nrest 78\n"),
+        ),
+        (
+            (&["line", "quote", "quote"], b">\t>"),
+            (
+                1,
+                "quote true\nscanned 2\nrest 20203e\nstop 1 SpacePending\n",
+            ),
+        ),
+        (
+            (&["line", "quote"], b"x"),
+            (0, "quote false\nscanned 0\nrest 78\n"),
+        ),
     ];
     assert_rows(&rt, rt.alloc(), &rows)
 }
 
 #[test]
 fn prints_markers(rt: HostRuntime) -> std::result::Result<(), Fail> {
-    let rows = [
-        Row {
-            words: &["line", "list:0"],
-            input: b"-\tx",
-            status: 0,
-            printed: "list - 0 4\nscanned 2\nrest 78\n",
-        },
-        Row {
-            words: &["line", "list:0", "list:0"],
-            input: b"- * * *",
-            status: 0,
-            printed: "list - 0 2\nlist none\nscanned 2\nrest 2a202a202a\n",
-        },
-        Row {
-            words: &["line", "list:0"],
-            input: b"123456789. x",
-            status: 0,
-            printed: "list . 123456789 11\nscanned 11\nrest 78\n",
-        },
-        Row {
-            words: &["line", "list:0"],
-            input: b"1234567890. x",
-            status: 0,
-            printed: "list none\nscanned 0\nrest 313233343536373839302e2078\n",
-        },
-        Row {
-            words: &["line", "list:0"],
-            input: b"-",
-            status: 0,
-            printed: "list - 0 2\nscanned 1\nrest -\n",
-        },
-        Row {
-            words: &["line", "def:0"],
-            input: b":    x",
-            status: 0,
-            printed: "def 5\nscanned 5\nrest 78\n",
-        },
-        Row {
-            words: &["line", "def:0"],
-            input: b":     x",
-            status: 0,
-            printed: "def 2\nscanned 2\nrest 2020202078\n",
-        },
-        Row {
-            words: &["line", "def:0"],
-            input: b"x",
-            status: 0,
-            printed: "def none\nscanned 0\nrest 78\n",
-        },
+    let rows: [Row; 8] = [
+        (
+            (&["line", "list:0"], b"-\tx"),
+            (0, "list - 0 4\nscanned 2\nrest 78\n"),
+        ),
+        (
+            (&["line", "list:0", "list:0"], b"- * * *"),
+            (0, "list - 0 2\nlist none\nscanned 2\nrest 2a202a202a\n"),
+        ),
+        (
+            (&["line", "list:0"], b"123456789. x"),
+            (0, "list . 123456789 11\nscanned 11\nrest 78\n"),
+        ),
+        (
+            (&["line", "list:0"], b"1234567890. x"),
+            (0, "list none\nscanned 0\nrest 313233343536373839302e2078\n"),
+        ),
+        (
+            (&["line", "list:0"], b"-"),
+            (0, "list - 0 2\nscanned 1\nrest -\n"),
+        ),
+        (
+            (&["line", "def:0"], b":    x"),
+            (0, "def 5\nscanned 5\nrest 78\n"),
+        ),
+        (
+            (&["line", "def:0"], b":     x"),
+            (0, "def 2\nscanned 2\nrest 2020202078\n"),
+        ),
+        (
+            (&["line", "def:0"], b"x"),
+            (0, "def none\nscanned 0\nrest 78\n"),
+        ),
     ];
     assert_rows(&rt, rt.alloc(), &rows)
 }
 
 #[test]
 fn prints_markers_after_tabs(rt: HostRuntime) -> std::result::Result<(), Fail> {
-    let rows = [
-        Row {
-            words: &["line", "quote", "list:0"],
-            input: b">\t- x",
-            status: 1,
-            printed: "quote true\nscanned 2\nrest 20202d2078\nstop 1 SpacePending\n",
-        },
-        Row {
-            words: &["line", "quote", "upto:3", "list:2"],
-            input: b">\t- x",
-            status: 0,
-            printed: "quote true\nupto 2\nlist - 0 4\nscanned 4\nrest 78\n",
-        },
-        Row {
-            words: &["line", "list:0"],
-            input: b"-\t\tx",
-            status: 0,
-            printed: "list - 0 2\nscanned 2\nrest 20202020202078\n",
-        },
-        Row {
-            words: &["line", "list:0", "eol"],
-            input: b"-\t",
-            status: 1,
-            printed: "list - 0 2\nscanned 2\nrest 2020\nstop 1 SpacePending\n",
-        },
-        Row {
-            words: &["line", "list:18446744073709551615"],
-            input: b"- x",
-            status: 1,
-            printed: "scanned 0\nrest 2d2078\nstop 0 IndentTooLarge\n",
-        },
-        Row {
-            words: &["line", "list:18446744073709551599"],
-            input: b"- x",
-            status: 0,
-            printed: "list - 0 18446744073709551601\nscanned 2\nrest 78\n",
-        },
-        Row {
-            words: &["line", "upto:1", "list:18446744073709551615"],
-            input: b"\tx",
-            status: 1,
-            printed: "upto 1\nscanned 1\nrest 20202078\nstop 1 SpacePending\n",
-        },
+    let rows: [Row; 7] = [
+        (
+            (&["line", "quote", "list:0"], b">\t- x"),
+            (
+                1,
+                "quote true\nscanned 2\nrest 20202d2078\nstop 1 SpacePending\n",
+            ),
+        ),
+        (
+            (&["line", "quote", "upto:3", "list:2"], b">\t- x"),
+            (0, "quote true\nupto 2\nlist - 0 4\nscanned 4\nrest 78\n"),
+        ),
+        (
+            (&["line", "list:0"], b"-\t\tx"),
+            (0, "list - 0 2\nscanned 2\nrest 20202020202078\n"),
+        ),
+        (
+            (&["line", "list:0", "eol"], b"-\t"),
+            (1, "list - 0 2\nscanned 2\nrest 2020\nstop 1 SpacePending\n"),
+        ),
+        (
+            (&["line", "list:18446744073709551615"], b"- x"),
+            (1, "scanned 0\nrest 2d2078\nstop 0 IndentTooLarge\n"),
+        ),
+        (
+            (&["line", "list:18446744073709551599"], b"- x"),
+            (0, "list - 0 18446744073709551601\nscanned 2\nrest 78\n"),
+        ),
+        (
+            (&["line", "upto:1", "list:18446744073709551615"], b"\tx"),
+            (1, "upto 1\nscanned 1\nrest 20202078\nstop 1 SpacePending\n"),
+        ),
     ];
     assert_rows(&rt, rt.alloc(), &rows)
 }

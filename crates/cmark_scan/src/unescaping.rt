@@ -1,15 +1,14 @@
-// Resolving escapes and references, with the few entities that the program knows.
+//! Resolving escapes and references, with the few entities that the program knows.
 ghost use Rattle.std.specs.Prelude.{IfOk};
 ghost use Rattle.cmark_scan.specs.printing.Printed.{IsOutcome};
 ghost use Rattle.cmark_scan.specs.report.Report.{outcome_view};
 ghost use Rattle.cmark_scan.specs.unescaping.EntityTexts.{entity_text};
 ghost use Rattle.cmark_scan.specs.words.Words.{scan_unescape};
 
-use crate::report::Report;
+use crate::report::{Ended, Report};
 use markdown_scanners_tree::scanners::{Entities, unescape};
 use markdown_values::strings::CowStr;
 use std::alloc::{AllocError, Global};
-use std::str::from_utf8;
 
 /// The entities that the program knows.
 #[derive(Clone, Copy)]
@@ -37,9 +36,12 @@ impl Entities for KnownEntities {
 pub(crate) fn unescape_report(alloc: Global, bytes: &[u8]) -> Result<Report<'_>, AllocError>
     ensures { IfOk result (λ report. IsOutcome scan_unescape bytes.now (outcome_view report)) }
 {
-    let Ok(text) = from_utf8(bytes) else {
-        return Ok(Report::NotText);
+    let Ok(text) = str::from_utf8(bytes) else {
+        return Ok(Report::not_text());
     };
     let unescaped = unescape(alloc, CowStr::from(text), false, &KnownEntities)?;
-    Ok(Report::Done(unescaped))
+    Ok(Report {
+        text: unescaped,
+        ended: Ended::Done,
+    })
 }

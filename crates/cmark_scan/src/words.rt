@@ -1,4 +1,4 @@
-// The words of the command line.
+//! The words of the command line.
 ghost use Rattle.std.specs.Prelude.{◌≡◌, IfOk, is_some};
 ghost use Rattle.std.specs.List.{list_all, filter_map};
 ghost use Rattle.std.specs.Option.{option_map};
@@ -17,7 +17,8 @@ pub(crate) enum Command<'a> {
     Label,
 }
 
-/// What the words ask for. No memory is taken.
+/// What the words ask for. Each word for a call is parsed here, and again by `parse_calls`: other
+/// words are refused before any memory is taken, so that the want of memory hides no refusal.
 #[tactic(auto, using(crate::proofs::words::Texts::are_calls_texts, crate::proofs::words::Texts::calls_of_texts, crate::proofs::words::Texts::length_texts))]
 pub(crate) fn parse_command<'a>(words: &'a [&'a str]) -> Option<Command<'a>>
     ensures { option_map request_view result ≡ request_of (texts words.now) }
@@ -36,7 +37,7 @@ pub(crate) fn parse_command<'a>(words: &'a [&'a str]) -> Option<Command<'a>>
     }
 }
 
-/// Whether each word asks for a call.
+// Whether each word asks for a call.
 fn are_calls(words: &[&str]) -> bool
     ensures { result ≡ list_all (λ word. is_some (call_of word.now)) words.now }
 {
@@ -53,7 +54,7 @@ pub(crate) fn parse_calls(alloc: Global, words: &[&str]) -> Result<Vec<LineCall>
         .collect(alloc)
 }
 
-/// A number in decimal digits.
+// A number in decimal digits.
 fn parse_number(digits: &str) -> Option<usize>
     ensures { result ≡ number_of digits.now }
 {
@@ -63,7 +64,7 @@ fn parse_number(digits: &str) -> Option<usize>
     digits.parse::<usize>().ok()
 }
 
-/// The call that a word asks for.
+// The call that a word asks for.
 fn parse_call(word: &str) -> Option<LineCall>
     ensures { result ≡ call_of word.now }
 {

@@ -8,10 +8,10 @@ use std::alloc::Global;
 use std::process::Abort;
 use std::test::Fail;
 
-/// A place just after an opener, and the find there.
+// A place just after an opener, and the find there.
 type Find = (usize, Option<usize>);
 
-/// The scan that the mark before the place asks for.
+// The scan that the mark before the place asks for.
 fn find_at(text: &[u8], place: usize, guard: &mut HtmlScanGuard) -> Option<usize> {
     match text.get(place.wrapping_sub(1)) {
         Some(b'!') => scan_inline_html_comment(text, place, guard),
@@ -91,7 +91,7 @@ fn each_call_of_a_counted_text_counts(rt: HostRuntime) {
     assert_eq!(rt; text.passed(), 15);
 }
 
-/// A text, the finds at its places, the bytes passed over, and the most that the budget allows.
+// A text, the finds at its places, the bytes passed over, and the most that the budget allows.
 type Row = (&'static [u8], &'static [Find], u128, u128);
 
 const ROWS: [Row; 9] = [
@@ -111,7 +111,7 @@ const ROWS: [Row; 9] = [
     (b"<!-x<!-->", &[(2, None), (6, Some(9))], 7, 52),
 ];
 
-/// Four bytes for each byte of the text, and eight for each step.
+// Four bytes for each byte of the text, and eight for each step.
 fn budget(size: usize, steps: usize) -> u128 {
     4 * size as u128 + 8 * steps as u128
 }
@@ -189,7 +189,7 @@ fn refused_places_change_nothing(rt: HostRuntime) {
     assert_eq!(rt; run.steps(), 1);
 }
 
-/// The places just after `<!` or `<?`, in rising order.
+// The places just after `<!` or `<?`, in rising order.
 fn places_after_openers(alloc: Global, text: &[u8]) -> Result<Vec<usize>, Fail> {
     let mut places = Vec::new(alloc);
     for place in 0..=text.len() {
@@ -200,7 +200,7 @@ fn places_after_openers(alloc: Global, text: &[u8]) -> Result<Vec<usize>, Fail> 
     Ok(places)
 }
 
-/// Steps at all places after openers keep within the budget, each by itself.
+// Steps at all places after openers keep within the budget, each by itself.
 fn assert_within_budget(rt: &impl Abort, text: &[u8], places: &[usize]) {
     let mut run = InlineHtmlRun::new(text);
     for place in places {
@@ -210,7 +210,8 @@ fn assert_within_budget(rt: &impl Abort, text: &[u8], places: &[usize]) {
     }
 }
 
-/// A part that is repeated, how often, how far after each place its find is, the bytes passed over, and the budget.
+// A part that is repeated, how often, how far after each place its find is, the bytes passed over,
+// and the budget.
 type Hostile = (&'static [u8], usize, Option<usize>, u128, u128);
 
 const HOSTILE_TEXTS: [Hostile; 6] = [
@@ -250,7 +251,7 @@ fn passes_over_hostile_texts_once(rt: HostRuntime) -> Result<(), Fail> {
     Ok(())
 }
 
-/// The text's first and last 200 bytes are where it is cut off.
+// The text's first and last 200 bytes are where it is cut off.
 #[test]
 fn passes_over_cut_texts(rt: HostRuntime) -> Result<(), Fail> {
     for (part, count, _, _, _) in HOSTILE_TEXTS.iter() {

@@ -5,7 +5,8 @@ use markdown_scanners_tree::line::LineStart;
 use markdown_values::values::BlockQuoteKind;
 use std::test::Fail;
 
-/// A call for a list item's marker on a fresh line, its answer, and the bytes scanned and the space that remains.
+// A call for a list item's marker on a fresh line, its answer, and the bytes scanned and the space
+// that remains.
 type Marker = (&'static [u8], Option<(u8, u64, usize)>, usize, usize);
 
 #[test]
@@ -42,7 +43,8 @@ fn passes_a_definition_marker_and_a_tab(rt: HostRuntime) {
     assert_eq!(rt; start.remaining_space(), 0);
 }
 
-/// A call for a task box on a fresh line, its answer, and the bytes scanned and the space that remains.
+// A call for a task box on a fresh line, its answer, and the bytes scanned and the space that
+// remains.
 type TaskBox = (&'static [u8], Option<bool>, usize, usize);
 
 #[test]

@@ -47,7 +47,7 @@ fn footnotes_match_as_links_do(rt: HostRuntime) -> Result<(), Fail> {
     Ok(())
 }
 
-/// The bytes taken, whether the text is borrowed, and the text.
+// The bytes taken, whether the text is borrowed, and the text.
 type Answer<'t> = Option<(usize, bool, CowStr<'t>)>;
 
 fn with_variant(found: Option<(usize, CowStr<'_>)>) -> Answer<'_> {
@@ -101,13 +101,13 @@ fn scan_skipping_all(alloc: Global, text: &str) -> Result<Answer<'_>, AllocError
     Ok(with_variant(found))
 }
 
-/// The bytes taken, whether the text is borrowed, and the text, as a row has them.
+// The bytes taken, whether the text is borrowed, and the text, as a row has them.
 type Expected = Option<(usize, bool, &'static str)>;
 
-/// A text, the marker before its lines, whether it is in a table, and the answer.
+// A text, the marker before its lines, whether it is in a table, and the answer.
 type Row = (&'static str, &'static [u8], bool, Expected);
 
-/// A text in a container that ends with its first line, whether it is in a table, and the answer.
+// A text in a container that ends with its first line, whether it is in a table, and the answer.
 type LineRow = (&'static str, bool, Expected);
 
 fn assert_answer(rt: &impl Abort, answer: &Answer<'_>, expected: &Expected, text: &str) {
@@ -205,7 +205,8 @@ fn with_letters(
     Ok(text)
 }
 
-// Letters, what stands between them, letters, the marker, the bytes taken, and whether the label is borrowed.
+// Letters, what stands between them, letters, the marker, the bytes taken, and whether the label is
+// borrowed.
 const LONG_ROWS: [(usize, &str, usize, &[u8], usize, bool); 5] = [
     (999, "", 0, b"", 1000, true),
     (998, "é", 0, b"", 1001, true),
@@ -240,8 +241,9 @@ fn labels_of_more_characters_are_not_read(rt: HostRuntime) -> Result<(), Fail> {
     Ok(())
 }
 
-// A label is looked for behind brackets of a long text, which a backslash escapes. Were the text read to its end
-// from each, this test would read some 10^10 bytes, and ask its handler 5 * 10^9 times.
+// A label is looked for behind brackets of a long text, which a backslash escapes. Were the text
+// read to its end from each, this test would read some 10^10 bytes, and ask its handler 5 * 10^9
+// times.
 #[test]
 fn reads_labels_up_to_their_thousandth_character(rt: HostRuntime) -> Result<(), Fail> {
     let mut text = "\\[\n".repeat(rt.alloc(), 1_000_000)?;

@@ -17,7 +17,8 @@ fn is_printed<T: Debug>(alloc: Global, value: &T) -> Result<bool, AllocError> {
     Ok(!text.is_empty())
 }
 
-// The lesser value and the greater one, by every derive of a value that is copied, ordered and hashed.
+// The lesser value and the greater one, by every derive of a value that is copied, ordered and
+// hashed.
 fn are_ordered<T: Clone + Copy + Debug + Eq + Ord + Hash>(
     alloc: Global,
     less: T,

@@ -159,7 +159,7 @@ fn list_of_one<T: Drop>(alloc: Global, item: T) -> Result<Vec<T>, AllocError> {
     Ok(items)
 }
 
-/// An identifier, a class, and an attribute's name and value.
+// An identifier, a class, and an attribute's name and value.
 type HeadingParts = (
     &'static str,
     &'static str,
@@ -302,7 +302,7 @@ fn headings_differ_in_each_part(rt: HostRuntime) -> Result<(), Fail> {
     Ok(())
 }
 
-/// A destination, a title and an identifier.
+// A destination, a title and an identifier.
 type LinkParts = (&'static str, &'static str, &'static str);
 
 fn are_equal_links(one: LinkParts, other: LinkParts) -> bool {

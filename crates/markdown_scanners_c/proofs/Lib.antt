@@ -1,2 +1,1 @@
 pub mod Destinations
-mod LabelLemmas

@@ -2,16 +2,13 @@
 use Rattle.std.specs.Prelude.{ℕ, Bool, true, List, ◌≡◌, ◌≢◌, ◌⊎◌, nat_eq, if◌then◌else◌}
 use Rattle.std.specs.Cmp.Lexicographic.{pointwise}
 use Rattle.std.specs.Str.{IsUtf8}
+use Rattle.markdown_scanners_tree.specs.NoSkips.{SkipsNothing}
 use Rattle.markdown_scanners_tree.specs.linklabel.Key.{label_key}
 use Rattle.markdown_scanners_tree.specs.linklabel.Label.{Label, IsLabel, HasNoLabel}
 use Rattle.markdown_scanners_c.specs.Buffer.{IsWritten}
 use Rattle.markdown_scanners_c.specs.Status.{ok, nothing, not_utf8, no_memory}
 use Rattle.markdown_scanners_c.specs.Texts.{IsNoText}
 use Rattle.markdown_scanners_c.specs.declared.texts.Text.{Text}
-
--- nothing is skipped at the start of a line
-abbrev pub SkipsNothing : List ℕ → ℕ → Type 0
-SkipsNothing rest skip = skip ≡ 0
 
 -- No label at the front; or one, whose text is written, or for which memory was refused, and then it does not stand there
 -- as it is.

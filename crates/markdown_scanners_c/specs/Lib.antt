@@ -1,6 +1,7 @@
 pub mod Answers
 pub mod Buffer
 pub mod EntityTexts
+pub mod Finds
 pub mod Labels
 pub mod LineRuns
 pub mod Parts

@@ -12,7 +12,8 @@ use markdown_scanners_tree::scanners::{
     scan_hrule, scan_metadata_block, scan_setext_heading,
 };
 
-/// The length of the thematic break's line at the front, or `NONE`. (CommonMark 0.31.2, section 4.1)
+/// The length of the thematic break's line at the front, or `NONE`. (CommonMark 0.31.2, section
+/// 4.1)
 #[unsafe(no_mangle)]
 pub extern "C" fn mds_scan_hrule(bytes: &[u8]) -> usize
     ensures { FoundExactly (IsThematicBreakLine bytes.now) result result }

@@ -1,12 +1,11 @@
 //! HTML blocks, tags and inline HTML.
-ghost use Rattle.std.specs.Prelude.{◌≡◌, ◌≢◌, ◌↔◌, ◌⊎◌, ℕ, List, None, Some, IsTrue};
+ghost use Rattle.std.specs.Prelude.{◌≡◌, ◌↔◌, ℕ, List, IsTrue};
 ghost use Rattle.markdown_scanners_tree.specs.Kept.{KeptByte};
-ghost use Rattle.markdown_scanners_tree.specs.inline_html.InlineHtml.{find_at, opener_before};
 ghost use Rattle.markdown_scanners_tree.specs.scanners.HtmlBlock.{IsBlockStart};
 ghost use Rattle.markdown_scanners_tree.specs.scanners.html_tag.HtmlTag.{IsTagAloneInLine};
 ghost use Rattle.markdown_scanners_tree.specs.scanners.html_tag.KeptTag.{IsKeptTag, place_after};
 ghost use Rattle.markdown_scanners_c.specs.Answers.{FoundExactly};
-ghost use Rattle.markdown_scanners_c.specs.Status.{ok, nothing, no_opener};
+ghost use Rattle.markdown_scanners_c.specs.Finds.{IsFindEnd};
 
 use crate::status::{NO_OPENER, NONE, NOTHING, OK};
 use markdown_scanners_tree::inline_html::InlineHtmlRun;
@@ -15,7 +14,8 @@ use markdown_scanners_tree::scanners::{
 };
 use std::alloc::Global;
 
-/// Whether the bytes behind a `<` begin an HTML block by a name. (CommonMark 0.31.2, section 4.6, start condition 6)
+/// Whether the bytes behind a `<` begin an HTML block by a name. (CommonMark 0.31.2, section 4.6,
+/// start condition 6)
 #[unsafe(no_mangle)]
 pub extern "C" fn mds_starts_html_block_type_6(bytes: &[u8]) -> bool
     ensures { IsTrue result ↔ IsBlockStart bytes.now }
@@ -23,7 +23,8 @@ pub extern "C" fn mds_starts_html_block_type_6(bytes: &[u8]) -> bool
     starts_html_block_type_6(bytes)
 }
 
-/// The length of the tag that stands alone in its line, or `NONE`. (CommonMark 0.31.2, section 4.6, start condition 7)
+/// The length of the tag that stands alone in its line, or `NONE`. (CommonMark 0.31.2, section 4.6,
+/// start condition 7)
 #[unsafe(no_mangle)]
 pub extern "C" fn mds_scan_html_type_7(bytes: &[u8]) -> usize
     ensures { FoundExactly (IsTagAloneInLine bytes.now) result result }
@@ -53,11 +54,7 @@ pub struct End {
 /// The end of what a `<!` or `<?` that ends at the place begins. (CommonMark 0.31.2, section 6.6)
 #[unsafe(no_mangle)]
 pub extern "C" fn mds_scan_inline_html(bytes: &[u8], place: usize) -> End
-    ensures { ((result.status ≡ no_opener) × (result.end ≡ 0)
-        × (opener_before bytes.now place ≡ None))
-        ⊎ ((result.status ≡ nothing) × (result.end ≡ 0)
-        × (opener_before bytes.now place ≢ None) × (find_at bytes.now place ≡ None))
-        ⊎ ((result.status ≡ ok) × (find_at bytes.now place ≡ Some result.end)) }
+    ensures { IsFindEnd bytes.now place result }
 {
     match InlineHtmlRun::new(bytes).step(place) {
         Ok(Some(end)) => End { status: OK, end },

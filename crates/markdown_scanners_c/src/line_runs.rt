@@ -46,7 +46,8 @@ fn no_run(status: u32) -> LineEnds
     }
 }
 
-/// Makes calls on a line in turn, and writes their answers and what is left of it. (CommonMark 0.31.2, section 2.2)
+/// Makes calls on a line in turn, and writes their answers and what is left of it. (CommonMark
+/// 0.31.2, section 2.2)
 #[unsafe(no_mangle)]
 pub extern "C" fn mds_run_line(
     alloc: Global,

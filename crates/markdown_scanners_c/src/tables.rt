@@ -10,7 +10,8 @@ use markdown_scanners_tree::scanners::scan_table_head;
 use markdown_values::values::Alignment;
 use std::alloc::{AllocError, Global};
 
-/// Writes the alignments of the delimiter row at the front. (GitHub Flavored Markdown 0.29, section 4.10)
+/// Writes the alignments of the delimiter row at the front. (GitHub Flavored Markdown 0.29, section
+/// 4.10)
 #[tactic(auto, unfolding(crate::specs::Tables::IsTableHead))]
 #[unsafe(no_mangle)]
 pub extern "C" fn mds_scan_table_head(alloc: Global, bytes: &[u8], alignments: &mut [u8]) -> Text

@@ -8,7 +8,7 @@ use markdown_scanners_tree::scanners::{Entities, scan_entity, unescape};
 use markdown_values::strings::CowStr;
 use std::alloc::Global;
 
-/// The entities that the C functions know.
+// The entities that the C functions know.
 #[derive(Clone, Copy)]
 struct KnownEntities;
 
@@ -88,7 +88,8 @@ pub extern "C" fn mds_scan_entity(bytes: &[u8], buffer: &mut [u8]) -> Text
     }
 }
 
-/// Writes the text with its escapes and references resolved. (CommonMark 0.31.2, sections 2.4 and 2.5)
+/// Writes the text with its escapes and references resolved. (CommonMark 0.31.2, sections 2.4 and
+/// 2.5)
 #[unsafe(no_mangle)]
 pub extern "C" fn mds_unescape(
     alloc: Global,

@@ -3,6 +3,7 @@ pub mod HandlerLemmas
 pub mod PrefixLemmas
 pub mod KeptReading
 pub mod KeptStep
+pub mod LabelHandlers
 pub mod PassLemmas
 pub mod RunLemmas
 pub mod ScanLemmas

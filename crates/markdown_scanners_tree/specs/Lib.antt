@@ -3,6 +3,7 @@ pub mod Bytes
 pub mod Columns
 pub mod Handler
 pub mod Kept
+pub mod NoSkips
 pub mod SomeExactly
 pub mod inline_html
 pub mod line

@@ -79,9 +79,10 @@ pub struct Node<T> {
 
 /// An ordered forest of linked nodes, which is built from a focus.
 ///
-/// The nodes lie in one `Vec`, in the order in which they were made, after a dummy at index 0. A node stays where it
-/// is when it is cut off, and is then reached by its index alone. The spine is the path from a root down to the parent
-/// of the focus. Calls that may want memory use the allocator that `with_capacity` was given.
+/// The nodes lie in one `Vec`, in the order in which they were made, after a dummy at index 0. A
+/// node stays where it is when it is cut off, and is then reached by its index alone. The spine is
+/// the path from a root down to the parent of the focus. Calls that may want memory use the
+/// allocator that `with_capacity` was given.
 #[derive(Drop)]
 pub struct Tree<T> {
     nodes: Vec<Node<T>>,
@@ -107,7 +108,7 @@ impl<T> Model for Tree<T> {
 }
 
 impl<T: Drop> Tree<T> {
-    ghost use Rattle.markdown_values.specs.tree.Tree.{empty_tree, with_node, appended, last, but_last, IsLinkWithin, IsNodeAt, with_next, with_child, with_item, linked_from_focus, pushed, popped, removed, IsLastLinkedFromAlone, reset_of, next_of, truncated_to_parent};
+    ghost use Rattle.markdown_values.specs.tree.Tree.{empty_tree, with_node, after_append, last, but_last, IsLinkWithin, IsNodeAt, with_next, with_child, with_item, linked_from_focus, after_push, after_pop, removed, IsLastLinkedFromAlone, after_reset, next_of, truncated_to_parent};
     ghost use Rattle.markdown_values.specs.tree.Lends.{lends_item, item_of};
     ghost use Rattle.markdown_values.specs.tree.Forest as forest;
     ghost use Rattle.markdown_values.specs.tree.Forest.{Focused, StandsFor};
@@ -146,8 +147,8 @@ impl<T: Drop> Tree<T> {
         self.focus
     }
 
-    /// The node at this index, or None where the index is of no node of the tree: what `Index` answers, without a
-    /// condition on the caller.
+    /// The node at this index, or None where the index is of no node of the tree: what `Index`
+    /// answers, without a condition on the caller.
     pub fn get(&self, ix: TreeIndex) -> Option<&Node<T>>
         ensures node { IfSome result (λ node. IsNodeAt self.now ix node.now) }
         ensures none { IfNone result (length self.now.nodes ≤ ix) }
@@ -163,7 +164,8 @@ impl<T: Drop> Tree<T> {
     ///
     /// # Errors
     ///
-    /// `AllocError` where memory for the node is refused: the item is dropped, and the tree is as it was.
+    /// `AllocError` where memory for the node is refused: the item is dropped, and the tree is as
+    /// it was.
     pub fn create_node(&mut self, item: T) -> Result<TreeIndex, AllocError>
         ensures index { IfOk result (λ ix. ix ≡ length self.old.nodes) }
         ensures within { IfOk result (λ ix. ix < length self.new.nodes) }
@@ -180,18 +182,23 @@ impl<T: Drop> Tree<T> {
         Ok(TreeIndex { value })
     }
 
-    /// Links a new node after the focus, or with no focus as the only child of the parent, and moves the focus to it.
-    /// What followed there is cut off. With neither focus nor parent nothing is linked.
+    /// Links a new node after the focus, or with no focus as the only child of the parent, and
+    /// moves the focus to it. What followed there is cut off. With neither focus nor parent nothing
+    /// is linked.
     ///
     /// # Errors
     ///
-    /// `AllocError` where memory for the node is refused: the item is dropped, and the tree is as it was.
+    /// `AllocError` where memory for the node is refused: the item is dropped, and the tree is as
+    /// it was.
     pub fn append(&mut self, item: T) -> Result<TreeIndex, AllocError>
         ensures index { IfOk result (λ ix. ix ≡ length self.old.nodes) }
         ensures within { IfOk result (λ ix. ix < length self.new.nodes) }
         ensures count { IfOk result (λ _. length self.new.nodes ≡ length self.old.nodes + 1) }
-        ensures ok { IfOk result (λ _. self.new ≡ appended self.old item) }
+
+        ensures ok { IfOk result (λ _. self.new ≡ after_append self.old item) }
         ensures err { OnErr result (self.new ≡ self.old) }
+
+        // The same, by the forest that the tree stands for.
         ensures forest { IfOk result (λ ix. (f : Focused) → StandsFor self.old f
             → StandsFor self.new (forest.appended f ix)) }
     {
@@ -235,8 +242,11 @@ impl<T: Drop> Tree<T> {
         ensures index { IfOk result (λ ix. self.old.focus ≡ Some ix) }
         ensures within { IfOk result (λ ix. ix < length self.new.nodes) }
         ensures count { length self.new.nodes ≡ length self.old.nodes }
-        ensures ok { IfOk result (λ ix. self.new ≡ pushed self.old ix) }
+
+        ensures ok { IfOk result (λ ix. self.new ≡ after_push self.old ix) }
         ensures err { OnErr result (self.new ≡ self.old) }
+
+        // The same, by the forest that the tree stands for.
         ensures forest { IfOk result (λ ix. (f : Focused) → StandsFor self.old f
             → StandsFor self.new (forest.pushed f ix)) }
     {
@@ -246,12 +256,13 @@ impl<T: Drop> Tree<T> {
         Ok(ix)
     }
 
-    /// Takes the parent off the spine, and moves the focus to it. On an empty spine nothing changes.
+    /// Takes the parent off the spine, and moves the focus to it. On an empty spine nothing
+    /// changes.
     pub fn pop(&mut self) -> Option<TreeIndex>
         ensures parent { result ≡ last self.old.spine }
         ensures within { IsLinkWithin (length self.new.nodes) result }
         ensures count { length self.new.nodes ≡ length self.old.nodes }
-        ensures state { self.new ≡ popped self.old }
+        ensures state { self.new ≡ after_pop self.old }
         ensures forest { (f : Focused) → StandsFor self.old f
             → StandsFor self.new (forest.popped f) }
     {
@@ -313,7 +324,7 @@ impl<T: Drop> Tree<T> {
     /// Moves the focus to the first node, if there is one, and empties the spine.
     pub fn reset(&mut self)
         ensures count { length self.new.nodes ≡ length self.old.nodes }
-        ensures state { self.new ≡ reset_of self.old }
+        ensures state { self.new ≡ after_reset self.old }
         ensures forest { (f : Focused) → StandsFor self.old f
             → StandsFor self.new (forest.reset_of f) }
     {
@@ -345,8 +356,8 @@ impl<T: Drop> Tree<T> {
         self.focus
     }
 
-    /// Takes the next link of `ix`, and gives it to the focus, or with no focus to the parent as its child.
-    /// Where it leads to a node, the focus moves to that node.
+    /// Takes the next link of `ix`, and gives it to the focus, or with no focus to the parent as
+    /// its child. Where it leads to a node, the focus moves to that node.
     pub fn truncate_to_parent(&mut self, ix: TreeIndex)
         requires { ix < length self.old.nodes }
         ensures count { length self.new.nodes ≡ length self.old.nodes }

@@ -79,7 +79,8 @@ impl<'a> CodeBlockKind<'a> {
     }
 }
 
-/// The kind of an alert: a block quote that begins with a line as `[!NOTE]`, in any case. Wants `ENABLE_GFM`.
+/// The kind of an alert: a block quote that begins with a line as `[!NOTE]`, in any case. Wants
+/// `ENABLE_GFM`.
 #[derive(Clone, Copy, Debug, PartialEq, Eq, PartialOrd, Ord, Hash)]
 pub enum BlockQuoteKind {
     /// `[!NOTE]`
@@ -203,8 +204,8 @@ pub enum LinkType {
 }
 
 impl LinkType {
-    /// The same kind of reference, to a label that has no definition. Only a `Reference`, `Collapsed` or
-    /// `Shortcut` has one.
+    /// The same kind of reference, to a label that has no definition. Only a `Reference`,
+    /// `Collapsed` or `Shortcut` has one.
     pub fn to_unknown(self) -> LinkType
         requires { IsSome (unknown_kind self) }
         ensures { unknown_kind self ≡ Some result }

@@ -7,7 +7,8 @@ use markdown_scanners_tree::inline_html::{
 };
 use std::alloc::Global;
 
-/// What each place after an opener finds that isn't below the end of the last find, the guard kept throughout.
+/// What each place after an opener finds that isn't below the end of the last find, the guard kept
+/// throughout.
 pub(crate) fn finds(alloc: Global, arguments: &mut Arguments<'_>) -> Result<String, CaseError> {
     let bytes = arguments.bytes(alloc)?;
     let mut text = String::new(alloc);

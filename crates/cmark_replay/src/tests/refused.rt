@@ -83,7 +83,7 @@ fn tells_why_a_line_is_no_case(rt: HostRuntime) -> std::result::Result<(), Fail>
     Ok(())
 }
 
-/// Fails at each read.
+// Fails at each read.
 #[derive(Drop)]
 struct FailingReader;
 

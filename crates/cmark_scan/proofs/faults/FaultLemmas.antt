@@ -19,7 +19,7 @@ same_first xs prefix rest tail bs a b all same =
     cc
 
 -- a prefix of one line is another line only if they begin alike
-told_first : (old new : Option (List ℕ)) (a b : ℕ) (tail bs : List ℕ) → AppendsPrefix old new (a ∷ tail) → Tells old new (b ∷ bs) → a ≡ b
+pub told_first : (old new : Option (List ℕ)) (a b : ℕ) (tail bs : List ℕ) → AppendsPrefix old new (a ∷ tail) → Tells old new (b ∷ bs) → a ≡ b
 told_first None new a b tail bs prefix told = absurd told
 told_first (Some xs) None a b tail bs prefix told = absurd told
 told_first (Some xs) (Some ys) a b tail bs (rest, (prefix, all, grown)) told = same_first xs prefix rest tail bs a b all (sym grown ∙ told)

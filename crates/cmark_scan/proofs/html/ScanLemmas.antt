@@ -42,7 +42,7 @@ module _ (bytes : List ℕ) (run : Run) (p : ℕ) (text : run.text ≡ bytes) (r
       ]
 
   -- a place above the last one is refused, or a scan is made there
-  pub made_or_refused : IsMade ⊎ ((stop : HtmlStop) × IsRefused stop)
+  made_or_refused : IsMade ⊎ ((stop : HtmlStop) × IsRefused stop)
   made_or_refused = by_opener _ refl
 
   module _ (within : p ≤ length bytes) where

@@ -3,12 +3,9 @@
 use Rattle.std.specs.Prelude.{ℕ, Bool, false, List, ◌++◌, ◌≡◌, ◌⊎◌, codes}
 use Rattle.std.specs.Fmt.{decimal}
 use Rattle.std.specs.Str.{IsUtf8}
+use Rattle.markdown_scanners_tree.specs.NoSkips.{SkipsNothing}
 use Rattle.markdown_scanners_tree.specs.linklabel.Label.{Label, IsLabel}
 use Rattle.cmark_scan.specs.printing.Outcome.{Outcome, no_text, line_of, flag_text}
-
--- a handler that skips nothing
-abbrev pub SkipsNothing : List ℕ → ℕ → Type 0
-SkipsNothing rest skip = skip ≡ 0
 
 -- the label at the front of a text, out of a table
 abbrev pub IsLabelOf : List ℕ → Label → Type 0

@@ -4,16 +4,17 @@ use crate::program::run_program;
 use std::alloc::Global;
 use std::test::Fail;
 
-/// Up to this many bytes are cut off.
+// Up to this many bytes are cut off.
 const MOST: usize = 200;
 
-/// The bytes passed over, and the bound, as the last lines of several runs tell them, added up.
+// The bytes passed over, and the bound, as the last lines of several runs tell them, added up.
 type Sums = (u128, u128);
 
-/// A part that is repeated, how often, and the sums where bytes are cut off the front, and off the end.
+// A part that is repeated, how often, and the sums where bytes are cut off the front, and off the
+// end.
 type Cut = (&'static [u8], usize, Sums, Sums);
 
-/// The sums are those of the stored run of `cmark_cuts`.
+// The sums are those of the stored run of `cmark_cuts`.
 const CUTS: [Cut; 6] = [
     (b"<!--", 5000, (4974300, 23878800), (4974700, 23879600)),
     (

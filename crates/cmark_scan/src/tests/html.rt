@@ -31,18 +31,13 @@ fn prints_scans_of_inline_html(rt: HostRuntime) -> Result<(), Fail> {
         ),
     ];
     for (input, printed) in rows {
-        let row = Row {
-            words: HTML,
-            input,
-            status: 0,
-            printed,
-        };
+        let row: Row = ((HTML, input), (0, printed));
         assert_rows(&rt, rt.alloc(), &[row])?;
     }
     Ok(())
 }
 
-/// A part that is repeated, how often, and the last line that is printed.
+// A part that is repeated, how often, and the last line that is printed.
 type Hostile = (&'static [u8], usize, &'static str);
 
 const HOSTILE_TEXTS: [Hostile; 6] = [

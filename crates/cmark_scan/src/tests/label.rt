@@ -7,37 +7,21 @@ const LABEL: &[&str] = &["label"];
 
 #[test]
 fn prints_labels(rt: HostRuntime) -> Result<(), Fail> {
-    let rows = [
-        Row {
-            words: LABEL,
-            input: b"Foo  Bar]",
-            status: 0,
-            printed: "bytes 9\nborrowed false\nlabel Foo Bar\n",
-        },
-        Row {
-            words: LABEL,
-            input: b"a\\ ]",
-            status: 0,
-            printed: "bytes 4\nborrowed true\nlabel a\\\n",
-        },
-        Row {
-            words: LABEL,
-            input: b"hello\r\nworld\r\n]",
-            status: 0,
-            printed: "bytes 15\nborrowed false\nlabel hello world\n",
-        },
-        Row {
-            words: LABEL,
-            input: b"a\n\nb]",
-            status: 1,
-            printed: "none\n",
-        },
-        Row {
-            words: LABEL,
-            input: b"",
-            status: 1,
-            printed: "none\n",
-        },
+    let rows: [Row; 5] = [
+        (
+            (LABEL, b"Foo  Bar]"),
+            (0, "bytes 9\nborrowed false\nlabel Foo Bar\n"),
+        ),
+        (
+            (LABEL, b"a\\ ]"),
+            (0, "bytes 4\nborrowed true\nlabel a\\\n"),
+        ),
+        (
+            (LABEL, b"hello\r\nworld\r\n]"),
+            (0, "bytes 15\nborrowed false\nlabel hello world\n"),
+        ),
+        ((LABEL, b"a\n\nb]"), (1, "none\n")),
+        ((LABEL, b""), (1, "none\n")),
     ];
     assert_rows(&rt, rt.alloc(), &rows)
 }

@@ -16,12 +16,7 @@ fn prints_unescaped_texts(rt: HostRuntime) -> Result<(), Fail> {
         (b"\\\\|", "\\|"),
     ];
     for (input, printed) in rows {
-        let row = Row {
-            words: UNESCAPE,
-            input,
-            status: 0,
-            printed,
-        };
+        let row: Row = ((UNESCAPE, input), (0, printed));
         assert_rows(&rt, rt.alloc(), &[row])?;
     }
     Ok(())

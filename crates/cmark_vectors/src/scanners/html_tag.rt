@@ -6,7 +6,7 @@ use std::alloc::{AllocError, Global};
 use std::process::Abort;
 use std::test::Fail;
 
-/// What a handler skips at the front of the bytes after a line ending.
+// What a handler skips at the front of the bytes after a line ending.
 #[derive(Clone, Copy, Debug)]
 enum Skips {
     // There is no handler.
@@ -41,7 +41,7 @@ fn scan_tag(
     }
 }
 
-/// Data, what its handler skips, and the tag's text and length.
+// Data, what its handler skips, and the tag's text and length.
 type Row = (&'static [u8], Skips, Option<(&'static [u8], usize)>);
 
 fn assert_tag(rt: &impl Abort, alloc: Global, row: &Row) -> Result<(), Fail> {
@@ -87,7 +87,7 @@ fn reads_tags_over_lines(rt: HostRuntime) -> Result<(), Fail> {
     Ok(())
 }
 
-/// In a closing tag stands at most one line ending of the source.
+// In a closing tag stands at most one line ending of the source.
 const CLOSING_TAGS: [Row; 9] = [
     (b"</a\n>", Skips::None, None),
     (b"</a\n>", Skips::Quote, Some((b"", 5))),
@@ -123,7 +123,7 @@ fn ends_where_a_handler_skips_all_that_follows(rt: HostRuntime) -> Result<(), Fa
     Ok(())
 }
 
-/// A function by its name as a handler: its contract says that it has one answer for one rest.
+// A function by its name as a handler: its contract says that it has one answer for one rest.
 fn skip_none(_: &[u8]) -> usize
     ensures { result ≡ 0 }
 {
@@ -147,7 +147,7 @@ fn takes_handlers_of_other_forms(rt: HostRuntime) -> Result<(), Fail> {
     Ok(())
 }
 
-/// `<a`, then lines that are each a marker and a part, then `>`.
+// `<a`, then lines that are each a marker and a part, then `>`.
 fn tag_over_lines(
     alloc: Global,
     lines: usize,

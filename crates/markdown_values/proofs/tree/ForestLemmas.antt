@@ -14,38 +14,43 @@ use Rattle.markdown_values.proofs.tree.TreeLemmas.{first_root-empty, first_root-
 
 -- the tests of the definitions, at equal and at different nodes
 
-pub count_in-here : (a r : ℕ) (cs later : Forest) → a ≡ r → count_in a (tree r cs later) ≡ 1 + (count_in a cs + count_in a later)
+count_in-here : (a r : ℕ) (cs later : Forest) → a ≡ r → count_in a (tree r cs later) ≡ 1 + (count_in a cs + count_in a later)
 count_in-here a r cs later e = rw (eq-eqb a r e)
 
-pub count_in-there : (a r : ℕ) (cs later : Forest) → a ≢ r → count_in a (tree r cs later) ≡ count_in a cs + count_in a later
+count_in-there : (a r : ℕ) (cs later : Forest) → a ≢ r → count_in a (tree r cs later) ≡ count_in a cs + count_in a later
 count_in-there a r cs later ne = rw (ne_eqb a r ne) (omega arith)
 
-pub children_of-here : (a r : ℕ) (cs later : Forest) → a ≡ r → children_of a (tree r cs later) ≡ cs
+children_of-here : (a r : ℕ) (cs later : Forest) → a ≡ r → children_of a (tree r cs later) ≡ cs
 children_of-here a r cs later e = rw (eq-eqb a r e)
 
-pub children_of-there : (a r : ℕ) (cs later : Forest) → a ≢ r → children_of a (tree r cs later) ≡ children_of a later
+children_of-there : (a r : ℕ) (cs later : Forest) → a ≢ r → children_of a (tree r cs later) ≡ children_of a later
 children_of-there a r cs later ne = rw (ne_eqb a r ne)
 
-pub with_children-here : (a r : ℕ) (new cs later : Forest) → a ≡ r → with_children a new (tree r cs later) ≡ tree r new later
+with_children-here : (a r : ℕ) (new cs later : Forest) → a ≡ r → with_children a new (tree r cs later) ≡ tree r new later
 with_children-here a r new cs later e = rw (eq-eqb a r e)
 
-pub with_children-there : (a r : ℕ) (new cs later : Forest) → a ≢ r → with_children a new (tree r cs later) ≡ tree r cs (with_children a new later)
+with_children-there : (a r : ℕ) (new cs later : Forest) → a ≢ r → with_children a new (tree r cs later) ≡ tree r cs (with_children a new later)
 with_children-there a r new cs later ne = rw (ne_eqb a r ne)
 
-pub put_after-here : (f n r : ℕ) (cs later : Forest) → f ≡ r → put_after f n (tree r cs later) ≡ tree r cs (tree n no_tree no_tree)
+put_after-here : (f n r : ℕ) (cs later : Forest) → f ≡ r → put_after f n (tree r cs later) ≡ tree r cs (tree n no_tree no_tree)
 put_after-here f n r cs later e = rw (eq-eqb f r e)
 
-pub put_after-there : (f n r : ℕ) (cs later : Forest) → f ≢ r → put_after f n (tree r cs later) ≡ tree r cs (put_after f n later)
+put_after-there : (f n r : ℕ) (cs later : Forest) → f ≢ r → put_after f n (tree r cs later) ≡ tree r cs (put_after f n later)
 put_after-there f n r cs later ne = rw (ne_eqb f r ne)
 
 -- a root stands in the forest
-pub count_in-root : (a : ℕ) (forest : Forest) → IsRoot a forest → 1 ≤ count_in a forest
+count_in-root : (a : ℕ) (forest : Forest) → IsRoot a forest → 1 ≤ count_in a forest
 count_in-root a no_tree h = absurd h
 count_in-root a (tree r cs later) (inl e) = omega (arith, count_in-here a r cs later e)
-count_in-root a (tree r cs later) (inr h) = elim (cases_eq a r) [ inl e ↦ omega (arith, count_in-here a r cs later e) | inr ne ↦ omega (arith, count_in-there a r cs later ne, count_in-root a later h) ]
+count_in-root a (tree r cs later) (inr h) =
+    elim (cases_eq a r) [
+      | inl e ↦ omega (arith, count_in-here a r cs later e)
+      | inr ne ↦ omega
+          (arith, count_in-there a r cs later ne, count_in-root a later h)
+    ]
 
 -- what stands among the children of a root stands in the forest
-pub count_in-children : (k a : ℕ) (forest : Forest) → count_in k (children_of a forest) ≤ count_in k forest
+count_in-children : (k a : ℕ) (forest : Forest) → count_in k (children_of a forest) ≤ count_in k forest
 count_in-children k a no_tree = omega arith
 count_in-children k a (tree r cs later) =
     elim (cases_eq a r) [
@@ -53,12 +58,12 @@ count_in-children k a (tree r cs later) =
       | inr ne ↦ rw (children_of-there a r cs later ne) (omega (arith, count_in-children k a later))
     ]
 
-pub count_in-at_end : (k : ℕ) (path : List ℕ) (forest : Forest) → count_in k (at_end path forest) ≤ count_in k forest
+count_in-at_end : (k : ℕ) (path : List ℕ) (forest : Forest) → count_in k (at_end path forest) ≤ count_in k forest
 count_in-at_end k [] forest = omega arith
 count_in-at_end k (a ∷ path) forest = omega (arith, count_in-at_end k path (children_of a forest), count_in-children k a forest)
 
 -- other children change the count by what they have more
-pub count_in-with_children : (k a : ℕ) (new forest : Forest) → IsRoot a forest → count_in k (with_children a new forest) + count_in k (children_of a forest) ≡ count_in k forest + count_in k new
+count_in-with_children : (k a : ℕ) (new forest : Forest) → IsRoot a forest → count_in k (with_children a new forest) + count_in k (children_of a forest) ≡ count_in k forest + count_in k new
 count_in-with_children k a new no_tree h = absurd h
 count_in-with_children k a new (tree r cs later) h =
     elim (cases_eq a r) [
@@ -70,13 +75,14 @@ count_in-with_children k a new (tree r cs later) h =
     in_later ne (inl e) = absurd (ne e)
     in_later ne (inr h) = h
 
-pub count_in-with_at_end : (k : ℕ) (path : List ℕ) (new forest : Forest) → IsPath path forest → count_in k (with_at_end path new forest) + count_in k (at_end path forest) ≡ count_in k forest + count_in k new
+count_in-with_at_end : (k : ℕ) (path : List ℕ) (new forest : Forest) → IsPath path forest
+    → count_in k (with_at_end path new forest) + count_in k (at_end path forest) ≡ count_in k forest + count_in k new
 count_in-with_at_end k [] new forest h = omega arith
 count_in-with_at_end k (a ∷ path) new forest h =
     omega (arith, count_in-with_children k a (with_at_end path new (children_of a forest)) forest h.0, count_in-with_at_end k path new (children_of a forest) h.1)
 
 -- the new node is once more in the forest, and no other
-pub count_in-put_after : (k f n : ℕ) (forest : Forest) → count_in k (put_after f n forest) ≤ count_in k forest + count_in k (tree n no_tree no_tree)
+count_in-put_after : (k f n : ℕ) (forest : Forest) → count_in k (put_after f n forest) ≤ count_in k forest + count_in k (tree n no_tree no_tree)
 count_in-put_after k f n no_tree = omega arith
 count_in-put_after k f n (tree r cs later) =
     elim (cases_eq f r) [
@@ -85,11 +91,11 @@ count_in-put_after k f n (tree r cs later) =
     ]
 
 -- a root that is not the first is among the later ones
-pub IsRoot-later : (a r : ℕ) (cs later : Forest) → a ≢ r → IsRoot a (tree r cs later) → IsRoot a later
+IsRoot-later : (a r : ℕ) (cs later : Forest) → a ≢ r → IsRoot a (tree r cs later) → IsRoot a later
 IsRoot-later a r cs later ne (inl e) = absurd (ne e)
 IsRoot-later a r cs later ne (inr h) = h
 
-pub children_of-with_children : (a : ℕ) (new forest : Forest) → IsRoot a forest → children_of a (with_children a new forest) ≡ new
+children_of-with_children : (a : ℕ) (new forest : Forest) → IsRoot a forest → children_of a (with_children a new forest) ≡ new
 children_of-with_children a new no_tree h = absurd h
 children_of-with_children a new (tree r cs later) h =
     elim (cases_eq a r) [
@@ -97,7 +103,7 @@ children_of-with_children a new (tree r cs later) h =
       | inr ne ↦ rw (with_children-there a r new cs later ne, children_of-there a r cs (with_children a new later) ne) (children_of-with_children a new later (IsRoot-later a r cs later ne h))
     ]
 
-pub IsRoot-with_children : (a : ℕ) (new forest : Forest) → IsRoot a forest → IsRoot a (with_children a new forest)
+IsRoot-with_children : (a : ℕ) (new forest : Forest) → IsRoot a forest → IsRoot a (with_children a new forest)
 IsRoot-with_children a new no_tree h = absurd h
 IsRoot-with_children a new (tree r cs later) h =
     elim (cases_eq a r) [
@@ -105,17 +111,17 @@ IsRoot-with_children a new (tree r cs later) h =
       | inr ne ↦ rw (with_children-there a r new cs later ne) (inr (IsRoot-with_children a new later (IsRoot-later a r cs later ne h)))
     ]
 
-pub IsPath-with_at_end : (path : List ℕ) (new forest : Forest) → IsPath path forest → IsPath path (with_at_end path new forest)
+IsPath-with_at_end : (path : List ℕ) (new forest : Forest) → IsPath path forest → IsPath path (with_at_end path new forest)
 IsPath-with_at_end [] new forest h = tt
 IsPath-with_at_end (a ∷ path) new forest h =
     (IsRoot-with_children a _ forest h.0, rw (children_of-with_children a (with_at_end path new (children_of a forest)) forest h.0) (IsPath-with_at_end path new (children_of a forest) h.1))
 
-pub at_end-with_at_end : (path : List ℕ) (new forest : Forest) → IsPath path forest → at_end path (with_at_end path new forest) ≡ new
+at_end-with_at_end : (path : List ℕ) (new forest : Forest) → IsPath path forest → at_end path (with_at_end path new forest) ≡ new
 at_end-with_at_end [] new forest h = refl
 at_end-with_at_end (a ∷ path) new forest h =
     rw (children_of-with_children a (with_at_end path new (children_of a forest)) forest h.0) (at_end-with_at_end path new (children_of a forest) h.1)
 
-pub IsRoot-put_after : (f n : ℕ) (forest : Forest) → IsRoot f forest → IsRoot n (put_after f n forest)
+IsRoot-put_after : (f n : ℕ) (forest : Forest) → IsRoot f forest → IsRoot n (put_after f n forest)
 IsRoot-put_after f n no_tree h = absurd h
 IsRoot-put_after f n (tree r cs later) h =
     elim (cases_eq f r) [
@@ -129,7 +135,7 @@ module _ {T : Type 0} where
   KeepsBut old new x = (i : ℕ) (node : Node T) → i ≢ x → slice_get old i ≡ Some node → slice_get new i ≡ Some node
 
   -- links are those of a forest in which no changed node stands
-  pub IsLinkedAs-kept : (old new : List (Node T)) (x : ℕ) (link : Option ℕ) (forest : Forest) → KeepsBut old new x → count_in x forest ≡ 0 → IsLinkedAs old link forest → IsLinkedAs new link forest
+  IsLinkedAs-kept : (old new : List (Node T)) (x : ℕ) (link : Option ℕ) (forest : Forest) → KeepsBut old new x → count_in x forest ≡ 0 → IsLinkedAs old link forest → IsLinkedAs new link forest
   IsLinkedAs-kept old new x link no_tree kept none h = h
   IsLinkedAs-kept old new x link (tree r cs later) kept none h =
       let ne : r ≢ x = λ e. omega (arith, count_in-here x r cs later (sym e)) in
@@ -137,7 +143,7 @@ module _ {T : Type 0} where
       (h.0, h.1, kept r h.1 ne h.2, IsLinkedAs-kept old new x h.1.child cs kept (omega arith) h.3, IsLinkedAs-kept old new x h.1.next later kept (omega arith) h.4)
 
   -- a change inside the children of a root
-  pub IsLinkedAs-with_children : (old new : List (Node T)) (x a : ℕ) (changed forest : Forest) (link : Option ℕ) → KeepsBut old new x
+  IsLinkedAs-with_children : (old new : List (Node T)) (x a : ℕ) (changed forest : Forest) (link : Option ℕ) → KeepsBut old new x
       → IsRoot a forest → count_in x forest ≤ 1 → 1 ≤ count_in x (children_of a forest)
       → ((l : Option ℕ) → IsLinkedAs old l (children_of a forest) → IsLinkedAs new l changed)
       → IsLinkedAs old link forest → IsLinkedAs new link (with_children a changed forest)
@@ -156,11 +162,18 @@ module _ {T : Type 0} where
             let below = count_in-children x a later in
             let ne : r ≢ x = λ q. omega (arith, count_in-here x r cs later (sym q)) in
             let apart = count_in-there x r cs later (λ q. ne (sym q)) in
-            rw (with_children-there a r changed cs later n) (h.0, h.1, kept r h.1 ne h.2, IsLinkedAs-kept old new x h.1.child cs kept (omega arith) h.3, IsLinkedAs-with_children old new x a changed later h.1.next kept (IsRoot-later a r cs later n root) (omega arith) inside' step' h.4)
+            rw (with_children-there a r changed cs later n) (
+              h.0,
+              h.1,
+              kept r h.1 ne h.2,
+              IsLinkedAs-kept old new x h.1.child cs kept (omega arith) h.3,
+              IsLinkedAs-with_children old new x a changed later h.1.next kept
+                  (IsRoot-later a r cs later n root) (omega arith) inside' step' h.4,
+            )
       ]
 
   -- a change at the end of a path
-  pub IsLinkedAs-with_at_end : (old new : List (Node T)) (x : ℕ) (path : List ℕ) (changed forest : Forest) (link : Option ℕ) → KeepsBut old new x
+  IsLinkedAs-with_at_end : (old new : List (Node T)) (x : ℕ) (path : List ℕ) (changed forest : Forest) (link : Option ℕ) → KeepsBut old new x
       → IsPath path forest → count_in x forest ≤ 1 → 1 ≤ count_in x (at_end path forest)
       → ((l : Option ℕ) → IsLinkedAs old l (at_end path forest) → IsLinkedAs new l changed)
       → IsLinkedAs old link forest → IsLinkedAs new link (with_at_end path changed forest)
@@ -172,7 +185,7 @@ module _ {T : Type 0} where
       (λ l g. IsLinkedAs-with_at_end old new x path changed (children_of a forest) l kept leads.1 (omega arith) inside step g) h
 
   -- a new node after the focus
-  pub IsLinkedAs-put_after : (old new : List (Node T)) (f n : ℕ) (item : T) (forest : Forest) (link : Option ℕ) → KeepsBut old new f
+  IsLinkedAs-put_after : (old new : List (Node T)) (f n : ℕ) (item : T) (forest : Forest) (link : Option ℕ) → KeepsBut old new f
       → ((node : Node T) → slice_get old f ≡ Some node → slice_get new f ≡ Some (record node { next = Some n }))
       → slice_get new n ≡ Some (isolated item)
       → IsRoot f forest → count_in f forest ≤ 1
@@ -182,25 +195,35 @@ module _ {T : Type 0} where
       elim (cases_eq f r) [
         | inl e ↦
             let here = count_in-here f r cs later e in
-            rw (put_after-here f n r cs later e)
-            (h.0, record h.1 { next = Some n }, subst (λ i. slice_get new i ≡ Some (record h.1 { next = Some n })) e (changed h.1 (rw e h.2)), IsLinkedAs-kept old new f h.1.child cs kept (omega arith) h.3, (refl, isolated item, made, refl, refl))
+            rw (put_after-here f n r cs later e) (
+              h.0,
+              record h.1 { next = Some n },
+              subst (λ i. slice_get new i ≡ Some (record h.1 { next = Some n })) e (changed h.1 (rw e h.2)),
+              IsLinkedAs-kept old new f h.1.child cs kept (omega arith) h.3,
+              (refl, isolated item, made, refl, refl),
+            )
         | inr ne ↦
             let there = count_in-there f r cs later ne in
             let root' = IsRoot-later f r cs later ne root in
             let among = count_in-root f later root' in
-            rw (put_after-there f n r cs later ne)
-            (h.0, h.1, kept r h.1 (λ q. ne (sym q)) h.2, IsLinkedAs-kept old new f h.1.child cs kept (omega arith) h.3, IsLinkedAs-put_after old new f n item later h.1.next kept changed made root' (omega arith) h.4)
+            rw (put_after-there f n r cs later ne) (
+              h.0,
+              h.1,
+              kept r h.1 (λ q. ne (sym q)) h.2,
+              IsLinkedAs-kept old new f h.1.child cs kept (omega arith) h.3,
+              IsLinkedAs-put_after old new f n item later h.1.next kept changed made root' (omega arith) h.4,
+            )
       ]
 
 -- the end of a path stands in the forest
-pub count_in-last : (p : ℕ) (path : List ℕ) (forest : Forest) → last path ≡ Some p → IsPath path forest → 1 ≤ count_in p forest
+count_in-last : (p : ℕ) (path : List ℕ) (forest : Forest) → last path ≡ Some p → IsPath path forest → 1 ≤ count_in p forest
 count_in-last p [] forest e h = cc
 count_in-last p (a ∷ []) forest e h = let same : a ≡ p = cc in subst (λ i. 1 ≤ count_in i forest) same (count_in-root a forest h.0)
 count_in-last p (a ∷ b ∷ path) forest e h = omega (arith, count_in-last p (b ∷ path) (children_of a forest) e h.1, count_in-children p a forest)
 
 module _ {T : Type 0} where
   -- other children of a root, by its child link
-  pub IsLinkedAs-new_children : (old new : List (Node T)) (a : ℕ) (child : Option ℕ) (changed forest : Forest) (link : Option ℕ) → KeepsBut old new a
+  IsLinkedAs-new_children : (old new : List (Node T)) (a : ℕ) (child : Option ℕ) (changed forest : Forest) (link : Option ℕ) → KeepsBut old new a
       → ((node : Node T) → slice_get old a ≡ Some node → slice_get new a ≡ Some (record node { child = child }))
       → IsLinkedAs new child changed
       → IsRoot a forest → count_in a forest ≤ 1
@@ -210,18 +233,28 @@ module _ {T : Type 0} where
       elim (cases_eq a r) [
         | inl e ↦
             let here = count_in-here a r cs later e in
-            rw (with_children-here a r changed cs later e)
-            (h.0, record h.1 { child = child }, subst (λ i. slice_get new i ≡ Some (record h.1 { child = child })) e (change h.1 (rw e h.2)), under, IsLinkedAs-kept old new a h.1.next later kept (omega arith) h.4)
+            rw (with_children-here a r changed cs later e) (
+              h.0,
+              record h.1 { child = child },
+              subst (λ i. slice_get new i ≡ Some (record h.1 { child = child })) e (change h.1 (rw e h.2)),
+              under,
+              IsLinkedAs-kept old new a h.1.next later kept (omega arith) h.4,
+            )
         | inr ne ↦
             let there = count_in-there a r cs later ne in
             let root' = IsRoot-later a r cs later ne root in
             let among = count_in-root a later root' in
-            rw (with_children-there a r changed cs later ne)
-            (h.0, h.1, kept r h.1 (λ q. ne (sym q)) h.2, IsLinkedAs-kept old new a h.1.child cs kept (omega arith) h.3, IsLinkedAs-new_children old new a child changed later h.1.next kept change under root' (omega arith) h.4)
+            rw (with_children-there a r changed cs later ne) (
+              h.0,
+              h.1,
+              kept r h.1 (λ q. ne (sym q)) h.2,
+              IsLinkedAs-kept old new a h.1.child cs kept (omega arith) h.3,
+              IsLinkedAs-new_children old new a child changed later h.1.next kept change under root' (omega arith) h.4,
+            )
       ]
 
   -- other children of the path's end, by its child link
-  pub IsLinkedAs-under_end : (old new : List (Node T)) (p : ℕ) (child : Option ℕ) (path : List ℕ) (changed forest : Forest) (link : Option ℕ) → KeepsBut old new p
+  IsLinkedAs-under_end : (old new : List (Node T)) (p : ℕ) (child : Option ℕ) (path : List ℕ) (changed forest : Forest) (link : Option ℕ) → KeepsBut old new p
       → ((node : Node T) → slice_get old p ≡ Some node → slice_get new p ≡ Some (record node { child = child }))
       → IsLinkedAs new child changed
       → last path ≡ Some p → IsPath path forest → count_in p forest ≤ 1
@@ -239,7 +272,7 @@ module _ {T : Type 0} where
       (λ l g. IsLinkedAs-under_end old new p child (b ∷ path) changed (children_of a forest) l kept change under e leads.1 (omega arith) g) h
 
   -- an index past the nodes stands in no forest that they link
-  pub count_in-past : (nodes : List (Node T)) (k : ℕ) (link : Option ℕ) (forest : Forest) → length nodes ≤ k → IsLinkedAs nodes link forest → count_in k forest ≡ 0
+  count_in-past : (nodes : List (Node T)) (k : ℕ) (link : Option ℕ) (forest : Forest) → length nodes ≤ k → IsLinkedAs nodes link forest → count_in k forest ≡ 0
   count_in-past nodes k link no_tree past h = refl
   count_in-past nodes k link (tree r cs later) past h =
       let within = slice_get_within nodes r h.1 h.2 in
@@ -249,7 +282,7 @@ module _ {T : Type 0} where
       omega arith
 
   -- a forest that is not empty has node 1 as its first root
-  pub roots_there : (nodes : List (Node T)) (k : ℕ) (forest : Forest) → 1 ≤ count_in k forest → IsLinkedAs nodes (first_root nodes) forest → 1 < length nodes
+  roots_there : (nodes : List (Node T)) (k : ℕ) (forest : Forest) → 1 ≤ count_in k forest → IsLinkedAs nodes (first_root nodes) forest → 1 < length nodes
   roots_there nodes k no_tree h l = absurd (omega arith)
   roots_there nodes k (tree r cs later) h l =
       elim (cases_lt 1 (length nodes)) [
@@ -257,21 +290,21 @@ module _ {T : Type 0} where
         | inr few ↦ let none = first_root-empty nodes few in let some = l.0 in cc
       ]
 
-  pub first_root-same : (old new : List (Node T)) → 1 < length old → 1 < length new → first_root new ≡ first_root old
+  first_root-same : (old new : List (Node T)) → 1 < length old → 1 < length new → first_root new ≡ first_root old
   first_root-same old new h h' = sym (first_root-some new h') ∙ first_root-some old h
 
   -- a node at the end, and one changed
-  pub KeepsBut-edit : (g : Node T → Node T) (nodes : List (Node T)) (node : Node T) (x : ℕ) → KeepsBut nodes (update_at g (nodes ++ node ∷ []) x) x
+  KeepsBut-edit : (g : Node T → Node T) (nodes : List (Node T)) (node : Node T) (x : ℕ) → KeepsBut nodes (update_at g (nodes ++ node ∷ []) x) x
   KeepsBut-edit g nodes node x i v ne e = get-update_at_other g (nodes ++ node ∷ []) x i ne ∙ get-append_left nodes (node ∷ []) i v e
 
-  pub edited_at : (g : Node T → Node T) (nodes : List (Node T)) (node : Node T) (x : ℕ) (v : Node T) → slice_get nodes x ≡ Some v → slice_get (update_at g (nodes ++ node ∷ []) x) x ≡ Some (g v)
+  edited_at : (g : Node T → Node T) (nodes : List (Node T)) (node : Node T) (x : ℕ) (v : Node T) → slice_get nodes x ≡ Some v → slice_get (update_at g (nodes ++ node ∷ []) x) x ≡ Some (g v)
   edited_at g nodes node x v e = get-update_at_same g (nodes ++ node ∷ []) x v (get-append_left nodes (node ∷ []) x v e)
 
-  pub new_at_end : (g : Node T → Node T) (nodes : List (Node T)) (node : Node T) (x : ℕ) → x < length nodes → slice_get (update_at g (nodes ++ node ∷ []) x) (length nodes) ≡ Some node
+  new_at_end : (g : Node T → Node T) (nodes : List (Node T)) (node : Node T) (x : ℕ) → x < length nodes → slice_get (update_at g (nodes ++ node ∷ []) x) (length nodes) ≡ Some node
   new_at_end g nodes node x h = get-update_at_other g (nodes ++ node ∷ []) x (length nodes) (λ e. omega arith) ∙ get-push nodes node
 
   -- a node that stands in a linked forest is within the nodes
-  pub count_in-within : (nodes : List (Node T)) (k : ℕ) (link : Option ℕ) (forest : Forest) → IsLinkedAs nodes link forest → 1 ≤ count_in k forest → k < length nodes
+  count_in-within : (nodes : List (Node T)) (k : ℕ) (link : Option ℕ) (forest : Forest) → IsLinkedAs nodes link forest → 1 ≤ count_in k forest → k < length nodes
   count_in-within nodes k link forest h among =
       elim (cases_lt k (length nodes)) [ inl within ↦ within | inr past ↦ absurd (let none = count_in-past nodes k link forest past h in omega arith) ]
 
@@ -290,7 +323,7 @@ module _ {T : Type 0} where
   -- append, where the tree's spine and focus are written as the forest's path and focus
   StandsFor-appended_at : (nodes : List (Node T)) (item : T) (forest : Forest) (path : List ℕ) (focus : Option ℕ)
       → StandsFor (record { nodes = nodes; spine = path; focus = focus }) (record { forest = forest; path = path; focus = focus })
-      → StandsFor (effect.appended (record { nodes = nodes; spine = path; focus = focus }) item) (appended (record { forest = forest; path = path; focus = focus }) (length nodes))
+      → StandsFor (effect.after_append (record { nodes = nodes; spine = path; focus = focus }) item) (appended (record { forest = forest; path = path; focus = focus }) (length nodes))
   StandsFor-appended_at nodes item forest path (Some f) h =
       let below = at_end path forest in
       let among = count_in-root f below h.focus_among in
@@ -304,7 +337,9 @@ module _ {T : Type 0} where
       record {
         links = rw (first_root-same nodes new more (omega arith))
             (IsLinkedAs-with_at_end nodes new f path (put_after f (length nodes) below) forest (first_root nodes) kept h.path_leads (h.once f) (omega arith)
-            (λ l under. IsLinkedAs-put_after nodes new f (length nodes) item below l kept (edited_at g nodes (isolated item) f) (new_at_end g nodes (isolated item) f within) h.focus_among (let top = h.once f in omega arith) under)
+            (λ l under. IsLinkedAs-put_after nodes new f (length nodes) item below l kept
+            (edited_at g nodes (isolated item) f) (new_at_end g nodes (isolated item) f within) h.focus_among
+            (let top = h.once f in omega arith) under)
             h.links);
         spine_is = refl;
         focus_is = refl;
@@ -316,13 +351,32 @@ module _ {T : Type 0} where
   StandsFor-appended_at nodes item forest path None h = by_parent (last path) refl
     where
       by_parent : (parent : Option ℕ) → last path ≡ parent
-          → StandsFor (record { nodes = effect.linked_from_parent (nodes ++ isolated item ∷ []) parent (Some (length nodes)); spine = path; focus = Some (length nodes) }) (record { forest = with_at_end path (tree (length nodes) no_tree no_tree) forest; path = path; focus = Some (length nodes) })
+          → StandsFor (record {
+            nodes = effect.linked_from_parent (nodes ++ isolated item ∷ []) parent
+                (Some (length nodes));
+            spine = path;
+            focus = Some (length nodes);
+          })
+          (record {
+            forest = with_at_end path (tree (length nodes) no_tree no_tree) forest;
+            path = path;
+            focus = Some
+                (length nodes);
+          })
       by_parent None e =
           let empty : path ≡ [] = last-none path e in
           let lone = h.focus_there empty refl in
           let longer = length_push nodes (isolated item) in
           rw empty (record {
-            links = (let root = first_root-some (nodes ++ isolated item ∷ []) (omega arith) in let one : Some 1 ≡ Some (length nodes) = ap Some (sym lone) in sym root ∙ one, isolated item, get-push nodes (isolated item), refl, refl);
+            links = (
+              let root = first_root-some (nodes ++ isolated item ∷ []) (omega arith) in let one : Some 1 ≡ Some
+                  (length nodes) = ap Some (sym lone) in sym root ∙ one,
+              isolated item,
+              get-push nodes
+                  (isolated item),
+              refl,
+              refl,
+            );
             spine_is = refl;
             focus_is = refl;
             path_leads = tt;
@@ -353,28 +407,40 @@ module _ {T : Type 0} where
             once = λ k. grown_under nodes item forest path h k lone (omega arith);
           }
 
-  pub StandsFor-appended : (t : Linked T) (item : T) (f : Focused) → StandsFor t f → StandsFor (effect.appended t item) (appended f (length t.nodes))
+  pub StandsFor-appended : (t : Linked T) (item : T) (f : Focused) → StandsFor t f → StandsFor (effect.after_append t item) (appended f (length t.nodes))
   StandsFor-appended t item f h =
       let same_spine = h.spine_is in
       let same_focus = h.focus_is in
-      let at_spine : (spine : List ℕ) (focus : Option ℕ) → spine ≡ f.path → focus ≡ f.focus → StandsFor (effect.appended (record { nodes = t.nodes; spine = spine; focus = focus }) item) (appended f (length t.nodes)) =
-      λ spine focus p q. rw (p, q) (StandsFor-appended_at t.nodes item f.forest f.path f.focus (record { links = h.links; spine_is = refl; focus_is = refl; path_leads = h.path_leads; focus_among = h.focus_among; focus_there = h.focus_there; once = h.once })) in
+      let at_spine : (spine : List ℕ) (focus : Option ℕ) → spine ≡ f.path → focus ≡ f.focus
+      → StandsFor (effect.after_append (record { nodes = t.nodes; spine = spine; focus = focus }) item)
+      (appended f (length t.nodes)) =
+      λ spine focus p q. rw (p, q)
+      (StandsFor-appended_at t.nodes item f.forest f.path f.focus
+      (record {
+        links = h.links;
+        spine_is = refl;
+        focus_is = refl;
+        path_leads = h.path_leads;
+        focus_among = h.focus_among;
+        focus_there = h.focus_there;
+        once = h.once;
+      })) in
       at_spine t.spine t.focus h.spine_is h.focus_is
 
 -- the root of each sub-forest is one of its roots
-pub first-IsRoot : (forest : Forest) → IfSome (first forest) (λ node. IsRoot node forest)
+first-IsRoot : (forest : Forest) → IfSome (first forest) (λ node. IsRoot node forest)
 first-IsRoot no_tree = tt
 first-IsRoot (tree r cs later) = inl refl
 
-pub IsPath-push : (path : List ℕ) (a : ℕ) (forest : Forest) → IsPath path forest → IsRoot a (at_end path forest) → IsPath (path ++ a ∷ []) forest
+IsPath-push : (path : List ℕ) (a : ℕ) (forest : Forest) → IsPath path forest → IsRoot a (at_end path forest) → IsPath (path ++ a ∷ []) forest
 IsPath-push [] a forest h root = (root, tt)
 IsPath-push (b ∷ path) a forest h root = (h.0, IsPath-push path a (children_of b forest) h.1 root)
 
-pub at_end-push : (path : List ℕ) (a : ℕ) (forest : Forest) → at_end (path ++ a ∷ []) forest ≡ children_of a (at_end path forest)
+at_end-push : (path : List ℕ) (a : ℕ) (forest : Forest) → at_end (path ++ a ∷ []) forest ≡ children_of a (at_end path forest)
 at_end-push [] a forest = refl
 at_end-push (b ∷ path) a forest = at_end-push path a (children_of b forest)
 
-pub IsPath-but_end : (path : List ℕ) (a : ℕ) (forest : Forest) → IsPath (path ++ a ∷ []) forest → IsPath path forest × IsRoot a (at_end path forest)
+IsPath-but_end : (path : List ℕ) (a : ℕ) (forest : Forest) → IsPath (path ++ a ∷ []) forest → IsPath path forest × IsRoot a (at_end path forest)
 IsPath-but_end [] a forest h = (tt, h.0)
 IsPath-but_end (b ∷ path) a forest h = let below = IsPath-but_end path a (children_of b forest) h.1 in ((h.0, below.0), below.1)
 
@@ -383,12 +449,14 @@ push-not-nil [] a e = cc
 push-not-nil (x ∷ xs) a e = cc
 
 module _ {T : Type 0} where
-  pub IsLinkedAs-first : (nodes : List (Node T)) (link : Option ℕ) (forest : Forest) → IsLinkedAs nodes link forest → link ≡ first forest
+  IsLinkedAs-first : (nodes : List (Node T)) (link : Option ℕ) (forest : Forest) → IsLinkedAs nodes link forest → link ≡ first forest
   IsLinkedAs-first nodes link no_tree h = h
   IsLinkedAs-first nodes link (tree r cs later) h = h.0
 
   -- the children of a root, from its child link on
-  pub IsLinkedAs-children : (nodes : List (Node T)) (link : Option ℕ) (a : ℕ) (forest : Forest) → IsLinkedAs nodes link forest → IsRoot a forest → IsLinkedAs nodes (effect.child_of nodes a) (children_of a forest)
+  IsLinkedAs-children : (nodes : List (Node T)) (link : Option ℕ) (a : ℕ) (forest : Forest)
+      → IsLinkedAs nodes link forest → IsRoot a forest
+      → IsLinkedAs nodes (effect.child_of nodes a) (children_of a forest)
   IsLinkedAs-children nodes link a no_tree h root = absurd root
   IsLinkedAs-children nodes link a (tree r cs later) h root =
       elim (cases_eq a r) [
@@ -396,12 +464,13 @@ module _ {T : Type 0} where
         | inr ne ↦ rw (children_of-there a r cs later ne) (IsLinkedAs-children nodes h.1.next a later h.4 (IsRoot-later a r cs later ne root))
       ]
 
-  pub IsLinkedAs-at_end : (nodes : List (Node T)) (link : Option ℕ) (path : List ℕ) (forest : Forest) → IsLinkedAs nodes link forest → IsPath path forest → (l : Option ℕ) × IsLinkedAs nodes l (at_end path forest)
+  IsLinkedAs-at_end : (nodes : List (Node T)) (link : Option ℕ) (path : List ℕ) (forest : Forest)
+      → IsLinkedAs nodes link forest → IsPath path forest → (l : Option ℕ) × IsLinkedAs nodes l (at_end path forest)
   IsLinkedAs-at_end nodes link [] forest h leads = (link, h)
   IsLinkedAs-at_end nodes link (a ∷ path) forest h leads =
       IsLinkedAs-at_end nodes (effect.child_of nodes a) path (children_of a forest) (IsLinkedAs-children nodes link a forest h leads.0) leads.1
 
-  pub StandsFor-pushed : (t : Linked T) (a : ℕ) (f : Focused) → t.focus ≡ Some a → StandsFor t f → StandsFor (effect.pushed t a) (pushed f a)
+  pub StandsFor-pushed : (t : Linked T) (a : ℕ) (f : Focused) → t.focus ≡ Some a → StandsFor t f → StandsFor (effect.after_push t a) (pushed f a)
   StandsFor-pushed t a f e h =
       let focused : f.focus ≡ Some a = sym h.focus_is ∙ e in
       let root : IsRoot a (siblings f) = rw focused at h.focus_among in
@@ -417,10 +486,10 @@ module _ {T : Type 0} where
         once = h.once;
       }
 
-  pub StandsFor-popped : (t : Linked T) (f : Focused) → StandsFor t f → StandsFor (effect.popped t) (popped f)
-  StandsFor-popped t f h = subst (λ s. StandsFor (effect.popped_to t (last s)) (popped f)) (sym h.spine_is) (by_end (last f.path) refl)
+  pub StandsFor-popped : (t : Linked T) (f : Focused) → StandsFor t f → StandsFor (effect.after_pop t) (popped f)
+  StandsFor-popped t f h = subst (λ s. StandsFor (effect.after_pop_to t (last s)) (popped f)) (sym h.spine_is) (by_end (last f.path) refl)
     where
-      by_end : (end : Option ℕ) → last f.path ≡ end → StandsFor (effect.popped_to t end) (popped_to f end)
+      by_end : (end : Option ℕ) → last f.path ≡ end → StandsFor (effect.after_pop_to t end) (popped_to f end)
       by_end None e = h
       by_end (Some a) e =
           let parts = IsPath-but_end (but_last f.path) a f.forest (rw (last-split f.path a e) at h.path_leads) in
@@ -434,7 +503,7 @@ module _ {T : Type 0} where
             once = h.once;
           }
 
-  pub StandsFor-reset : (t : Linked T) (f : Focused) → 0 < length t.nodes → StandsFor t f → StandsFor (effect.reset_of t) (reset_of f)
+  pub StandsFor-reset : (t : Linked T) (f : Focused) → 0 < length t.nodes → StandsFor t f → StandsFor (effect.after_reset t) (reset_of f)
   StandsFor-reset t f dummy h =
       record {
         links = h.links;

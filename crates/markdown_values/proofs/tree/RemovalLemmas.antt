@@ -78,7 +78,9 @@ module _ {T : Type 0} where
     pub IsWithin-removed : IsWithin (with_child front parent None) path (Some parent)
     IsWithin-removed = record {
       has_dummy = let some = parent_before in let same = same_length in omega arith;
-      links_lead = λ k d lt. subst (λ (count : ℕ). IsNodeWithin count (get_or (with_child front parent None) k d)) (sym same_length) (changed_within k _ (slice_get-get_or (with_child front parent None) k d lt));
+      links_lead =
+          λ k d lt. subst (λ (count : ℕ). IsNodeWithin count (get_or (with_child front parent None) k d))
+          (sym same_length) (changed_within k _ (slice_get-get_or (with_child front parent None) k d lt));
       spine_leads = λ k d lt.
           let before = on_spine_before k d (omega (arith, length_push path parent)) in
           let same = get_or-append path (parent ∷ []) d k lt in

@@ -2,7 +2,7 @@
 use Rattle.std.proofs.Common.{◌≡◌, ℕ, [], ◌∷◌, Option, Some, None, refl}
 use Rattle.markdown_values.specs.declared.tree.Node.{Node}
 use Rattle.markdown_values.specs.tree.Linked.{Linked}
-use Rattle.markdown_values.specs.tree.Tree.{empty_tree, appended, pushed, popped, removed, reset_of, truncated_to_parent, with_node}
+use Rattle.markdown_values.specs.tree.Tree.{empty_tree, after_append, after_push, after_pop, removed, after_reset, truncated_to_parent, with_node}
 use Rattle.markdown_values.specs.tree.Forest as forest
 use Rattle.markdown_values.specs.tree.Forest.{Forest, no_tree, tree, Focused}
 
@@ -12,7 +12,7 @@ node child next item = record { child = child; next = next; item = item }
 
 -- append A, push, append B, append C, pop, push, append D
 abbrev pushed_twice : Linked ℕ
-pushed_twice = appended (pushed (popped (appended (appended (pushed (appended (empty_tree 0) 65) 1) 66) 67)) 1) 68
+pushed_twice = after_append (after_push (after_pop (after_append (after_append (after_push (after_append (empty_tree 0) 65) 1) 66) 67)) 1) 68
 
 pushed_twice_nodes : pushed_twice.nodes ≡ node None None 0 ∷ node (Some 2) None 65 ∷ node None (Some 4) 66 ∷ node None None 67 ∷ node None None 68 ∷ []
 unfolding node
@@ -32,25 +32,31 @@ pushed_twice_forest_is : pushed_twice_forest ≡ record { forest = tree 1 (tree 
 pushed_twice_forest_is = refl
 
 -- append A, push, append B, remove_node
-pushed_twice_removed : removed (appended (pushed (appended (empty_tree 0) 65) 1) 66) ≡ record { nodes = node None None 0 ∷ node None None 65 ∷ []; spine = []; focus = Some 1 }
+pushed_twice_removed : removed (after_append (after_push (after_append (empty_tree 0) 65) 1) 66) ≡ record { nodes = node None None 0 ∷ node None None 65 ∷ []; spine = []; focus = Some 1 }
 unfolding node
 pushed_twice_removed = refl
 
 -- append A, push, append B, push, append C, append D, pop, truncate_to_parent(C)
 abbrev inside_b : Linked ℕ
-inside_b = appended (appended (pushed (appended (pushed (appended (empty_tree 0) 65) 1) 66) 2) 67) 68
+inside_b = after_append (after_append (after_push (after_append (after_push (after_append (empty_tree 0) 65) 1) 66) 2) 67) 68
 
-truncated_row : truncated_to_parent (popped inside_b) 3 ≡ record { nodes = node None None 0 ∷ node (Some 2) None 65 ∷ node (Some 3) (Some 4) 66 ∷ node None None 67 ∷ node None None 68 ∷ []; spine = 1 ∷ []; focus = Some 4 }
+truncated_row : truncated_to_parent (after_pop inside_b) 3
+    ≡ record {
+      nodes = node None None 0 ∷ node (Some 2) None 65 ∷ node (Some 3)
+          (Some 4) 66 ∷ node None None 67 ∷ node None None 68 ∷ [];
+      spine = 1 ∷ [];
+      focus = Some 4;
+    }
 unfolding node
 truncated_row = refl
 
 inside_b_spine : inside_b.spine ≡ 1 ∷ 2 ∷ []
 inside_b_spine = refl
 
-reset_empty : (reset_of {T = ℕ} (empty_tree 0)).focus ≡ None
+reset_empty : (after_reset {T = ℕ} (empty_tree 0)).focus ≡ None
 reset_empty = refl
 
 -- create_node A, append B, reset
-reset_isolated : reset_of (appended (with_node (empty_tree 0) 65) 66) ≡ record { nodes = node None None 0 ∷ node None None 65 ∷ node None None 66 ∷ []; spine = []; focus = Some 1 }
+reset_isolated : after_reset (after_append (with_node (empty_tree 0) 65) 66) ≡ record { nodes = node None None 0 ∷ node None None 65 ∷ node None None 66 ∷ []; spine = []; focus = Some 1 }
 unfolding node
 reset_isolated = refl

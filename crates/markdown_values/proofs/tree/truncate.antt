@@ -1,3 +1,4 @@
+pub mod ChainChanges
 pub mod ChainLemmas
 pub mod Rows
 pub mod TruncateLemmas

@@ -96,26 +96,26 @@ module _ {T : Type 0} where
   with_node t item = record t { nodes = t.nodes ++ isolated item ∷ [] }
 
   -- a node more, linked from the focus or the parent, and in focus
-  abbrev pub appended : Linked T → T → Linked T
-  appended t item = record {
+  abbrev pub after_append : Linked T → T → Linked T
+  after_append t item = record {
     nodes = linked_from_focus (t.nodes ++ isolated item ∷ []) t.focus t.spine (Some (length t.nodes));
     spine = t.spine;
     focus = Some (length t.nodes);
   }
 
   -- this node goes on the spine, and its first child, if there is one, is in focus
-  abbrev pub pushed : Linked T → ℕ → Linked T
-  pushed t ix = record t { spine = t.spine ++ ix ∷ []; focus = child_of t.nodes ix }
+  abbrev pub after_push : Linked T → ℕ → Linked T
+  after_push t ix = record t { spine = t.spine ++ ix ∷ []; focus = child_of t.nodes ix }
 
   -- this parent, the last of the spine, leaves it and is in focus
-  abbrev pub popped_to : Linked T → Option ℕ → Linked T
-  popped_to t None = t
-  popped_to t (Some parent) = record t { spine = but_last t.spine; focus = Some parent }
+  abbrev pub after_pop_to : Linked T → Option ℕ → Linked T
+  after_pop_to t None = t
+  after_pop_to t (Some parent) = record t { spine = but_last t.spine; focus = Some parent }
 
-  abbrev pub popped : Linked T → Linked T
-  popped t = popped_to t (last t.spine)
+  abbrev pub after_pop : Linked T → Linked T
+  after_pop t = after_pop_to t (last t.spine)
 
-  -- as popped, and without the last node and the child link of the parent
+  -- as after `pop`, and without the last node and the child link of the parent
   abbrev pub removed_under : Linked T → Option ℕ → Linked T
   removed_under t None = t
   removed_under t (Some parent) = record {
@@ -134,8 +134,8 @@ module _ {T : Type 0} where
     pub on_spine : All (λ ix. ix ≢ length t.nodes - 1) t.spine
 
   -- focus on the first node, if there is one, and an empty spine
-  abbrev pub reset_of : Linked T → Linked T
-  reset_of t = record t { spine = []; focus = first_root t.nodes }
+  abbrev pub after_reset : Linked T → Linked T
+  after_reset t = record t { spine = []; focus = first_root t.nodes }
 
   -- this node loses its next link, which the focus or the parent takes
   abbrev pub truncated_to_parent : Linked T → ℕ → Linked T

@@ -97,7 +97,9 @@ module _ {T : Type 0} where
     -- a search finds the first other child, and the child before it, or that every child ends before e
     abbrev pub FindsOther : ℕ → List (Node T) → Option ℕ → Option ℕ → Option ℕ → Type 0
     FindsOther e nodes link previous None = (children : List (ℕ × Node T)) × AllEndBefore e nodes link children
-    FindsOther e nodes link previous (Some ix) = (kept : List (ℕ × Node T)) × (node : Node T) × (later : List (ℕ × Node T)) × IsFirstOther e nodes link kept (ix, node) later × (previous ≡ last_index kept)
+    FindsOther e nodes link previous (Some ix) =
+        (kept : List (ℕ × Node T)) × (node : Node T) × (later : List (ℕ × Node T)) × IsFirstOther e nodes link kept
+        (ix, node) later × (previous ≡ last_index kept)
 
     -- the tree after a truncation at e, where c is the first child of parent that does not end before e, and previous the one before it
     abbrev pub cut_tree : (T → ℕ → ℕ → T) → ℕ → Option ℕ → Option ℕ → ℕ × Node T → Linked T → Linked T
@@ -111,3 +113,10 @@ module _ {T : Type 0} where
         else dropped_after t parent previous
         )
         else record t { nodes = with_next (with_item t.nodes ix (with_range item range.start e)) ix None; focus = Some ix }
+
+    -- where there is a first other child, c, it is cut behind those that are kept
+    abbrev pub CutsFirstOther : (T → ℕ → ℕ → T) → ℕ → Linked T → Linked T → Type 0
+    CutsFirstOther with_range e old new =
+        (kept : List (ℕ × Node T)) (c : ℕ × Node T) (later : List (ℕ × Node T))
+        → IsFirstOther e old.nodes (first_sibling old) kept c later
+        → new ≡ cut_tree with_range e (last old.spine) (last_index kept) c old

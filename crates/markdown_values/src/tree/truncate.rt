@@ -35,28 +35,28 @@ pub trait SpanItem {
 
 impl<T: SpanItem + Drop> Tree<T> {
     ghost use Rattle.markdown_values.specs.tree.Tree.{last, child_of, with_item, IsLinkWithin};
-    ghost use Rattle.markdown_values.specs.tree.Truncate.{CanCut, CanTruncate, IsFirstOther, AllEndBefore, cut_tree, dropped_after, last_index, first_sibling, HasChildren, HasSiblings, truncated, truncated_focus, FindsOther};
+    ghost use Rattle.markdown_values.specs.tree.Truncate.{CanCut, CanTruncate, AllEndBefore, CutsFirstOther, cut_tree, dropped_after, first_sibling, HasChildren, HasSiblings, truncated, truncated_focus, FindsOther};
 
-    /// Cuts the children of the parent where its text now ends, at the byte `end`, and moves the focus to the last child
-    /// that is left of those up to there.
+    /// Cuts the children of the parent where its text now ends, at the byte `end`, and moves the
+    /// focus to the last child that is left of those up to there.
     ///
-    /// Children that end before `end` stay. The first other child becomes the last where it ends there; is dropped, with
-    /// those after it, where it starts there; and else ends there and becomes the last. One that starts there behind a
-    /// backslash becomes the backslash instead, and those after it stay. Where there is no other child, nothing changes.
+    /// Children that end before `end` stay. The first other child becomes the last where it ends
+    /// there; is dropped, with those after it, where it starts there; and else ends there and
+    /// becomes the last. One that starts there behind a backslash becomes the backslash instead,
+    /// and those after it stay. Where there is no other child, nothing changes.
     pub fn truncate_siblings(&mut self, end: usize)
         requires parent { IsSome (last self.old.spine) }
         requires range { CanTruncate T.span end self.old }
         ensures count { length self.new.nodes ≡ length self.old.nodes }
         ensures spine { self.new.spine ≡ self.old.spine }
+
         // Where every child ends before `end`, nothing changes.
         ensures kept { (children : _)
             → AllEndBefore T.span end self.old.nodes (first_sibling self.old) children
             → self.new ≡ self.old }
-        // Else the first other child, c, is cut behind those that are kept.
-        ensures cut { (kept : _) (c : _) (later : _)
-            → IsFirstOther T.span end self.old.nodes (first_sibling self.old) kept c later
-            → self.new
-            ≡ cut_tree T.span T.with_range end (last self.old.spine) (last_index kept) c self.old }
+        // Else the first other child is cut behind those that are kept.
+        ensures cut { CutsFirstOther T.span T.with_range end self.old self.new }
+
         // The same, by the ranges of the children.
         ensures children { (spans : _) → HasSiblings T.span self.old spans
             → HasSiblings T.span self.new (truncated end spans) }
@@ -128,7 +128,8 @@ impl<T: SpanItem + Drop> Tree<T> {
         }
     }
 
-    // Makes `previous` the last child, or with none leaves the parent no child, and moves the focus to it.
+    // Makes `previous` the last child, or with none leaves the parent no child, and moves the focus
+    // to it.
     fn drop_after(&mut self, parent: TreeIndex, previous: Option<TreeIndex>)
         requires parent { parent < length self.old.nodes }
         requires previous { IsLinkWithin (length self.old.nodes) previous }

@@ -7,8 +7,9 @@ use crate::strings::CowStr;
 use crate::values::{Tag, TagEnd};
 use std::alloc::{AllocError, Global};
 
-/// A part of a document. A document is read as a list of these, in which starts and ends balance: each `Start` has
-/// its `End` after it, that of `Tag::to_end`, and the events in between belong to that part.
+/// A part of a document. A document is read as a list of these, in which starts and ends balance:
+/// each `Start` has its `End` after it, that of `Tag::to_end`, and the events in between belong to
+/// that part.
 #[derive(Debug, PartialEq, Drop)]
 pub enum Event<'a> {
     /// What comes next belongs to a part of this kind.
@@ -27,7 +28,8 @@ pub enum Event<'a> {
     Html(CowStr<'a>),
     /// HTML within a line. (CommonMark 0.31.2, section 6.6)
     InlineHtml(CowStr<'a>),
-    /// The label of a footnote, where it is called. Wants `ENABLE_FOOTNOTES` or `ENABLE_OLD_FOOTNOTES`.
+    /// The label of a footnote, where it is called. Wants `ENABLE_FOOTNOTES` or
+    /// `ENABLE_OLD_FOOTNOTES`.
     FootnoteReference(CowStr<'a>),
     /// A line ending in a paragraph. (CommonMark 0.31.2, section 6.8)
     SoftBreak,

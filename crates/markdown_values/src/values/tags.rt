@@ -13,7 +13,8 @@ use crate::values::{
 };
 use std::alloc::{AllocError, Global};
 
-/// What opens a part of a document. Each has the end that `to_end` gives. (Sections are of CommonMark 0.31.2.)
+/// What opens a part of a document. Each has the end that `to_end` gives. (Sections are of
+/// CommonMark 0.31.2.)
 #[derive(Debug, PartialEq, Drop)]
 pub enum Tag<'a> {
     /// A paragraph. (4.8)

@@ -34,7 +34,7 @@ module _ {T : Type 0} where
   steps nodes (suc fuel) None = 0
   steps nodes (suc fuel) (Some ix) = suc (steps nodes fuel (next_of nodes ix))
 
-  pub steps-is : (nodes : List (Node T)) (fuel : ℕ) (link : Option ℕ) (xs : List (ℕ × Node T)) → IsChain nodes link xs → length xs ≤ fuel → steps nodes fuel link ≡ length xs
+  steps-is : (nodes : List (Node T)) (fuel : ℕ) (link : Option ℕ) (xs : List (ℕ × Node T)) → IsChain nodes link xs → length xs ≤ fuel → steps nodes fuel link ≡ length xs
   steps-is nodes zero link [] h e = refl
   steps-is nodes zero link (x ∷ xs) h e = absurd (omega arith)
   steps-is nodes (suc fuel) link [] h e = rw h
@@ -65,10 +65,14 @@ module _ {T : Type 0} where
       ]
 
   -- a chain has at most as many nodes as there are
-  pub length-chain : (nodes : List (Node T)) (link : Option ℕ) (xs : List (ℕ × Node T)) → IsChain nodes link xs → length xs ≤ length nodes
+  length-chain : (nodes : List (Node T)) (link : Option ℕ) (xs : List (ℕ × Node T)) → IsChain nodes link xs → length xs ≤ length nodes
   length-chain nodes link xs h =
       let count = length-indices xs in
-      let bound = length-le_from_distinct_below (indices xs) (length nodes) (IsDistinct-from_apart eqb (indices xs) (λ i j d lt within. ne_eqb _ _ (λ e. apart i j d lt (omega arith) e))) (λ q e. index-within nodes link xs q h e) in
+      let bound =
+      length-le_from_distinct_below (indices xs) (length nodes)
+      (IsDistinct-from_apart eqb (indices xs)
+      (λ i j d lt within. ne_eqb _ _ (λ e. apart i j d lt (omega arith) e)))
+      (λ q e. index-within nodes link xs q h e) in
       omega arith
     where
       apart : (i j d : ℕ) → i < j → j < length xs → get_or (indices xs) i d ≡ get_or (indices xs) j d → ⊥
@@ -137,7 +141,9 @@ module _ {T : Type 0} where
     Passed-all previous kept (x ∷ rest) h = let p = h.next_is.0 in cc
 
     -- the first other child is one
-    pub same_first_other : (kept kept' later later' : List (ℕ × Node T)) (c c' : ℕ × Node T) → IsFirstOther span e nodes link kept c later → IsFirstOther span e nodes link kept' c' later' → (kept ≡ kept') × (c ≡ c')
+    pub same_first_other : (kept kept' later later' : List (ℕ × Node T)) (c c' : ℕ × Node T)
+        → IsFirstOther span e nodes link kept c later → IsFirstOther span e nodes link kept' c' later'
+        → (kept ≡ kept') × (c ≡ c')
     same_first_other kept kept' later later' c c' h k = split kept kept' (same_chain nodes link _ _ h.chain k.chain) h.ends_before k.ends_before
       where
         split : (a b : List (ℕ × Node T)) → a ++ c ∷ later ≡ b ++ c' ∷ later' → All (λ x. (span x.1.item).end < e) a → All (λ x. (span x.1.item).end < e) b → (a ≡ b) × (c ≡ c')
@@ -160,7 +166,9 @@ module _ {T : Type 0} where
         let there = get_or_at kept c later c (length kept) refl in
         absurd (let ends' = rw there at ends in omega arith)
 
-    pub first_other-within : (kept later : List (ℕ × Node T)) (c : ℕ × Node T) → IsFirstOther span e nodes link kept c later → (slice_get nodes c.0 ≡ Some c.1) × IsLinkWithin (length nodes) (last_index kept)
+    pub first_other-within : (kept later : List (ℕ × Node T)) (c : ℕ × Node T)
+        → IsFirstOther span e nodes link kept c later
+        → (slice_get nodes c.0 ≡ Some c.1) × IsLinkWithin (length nodes) (last_index kept)
     first_other-within kept later c h = (chain_at link kept h.chain, by_last link kept h.chain)
       where
         chain_at : (l : Option ℕ) (kept : List (ℕ × Node T)) → IsChain nodes l (kept ++ c ∷ later) → slice_get nodes c.0 ≡ Some c.1

@@ -1,91 +1,17 @@
 -- The children of a parent, after one of them is cut.
-use Rattle.std.proofs.Common.{◌≡◌, ◌≢◌, inl, inr, ℕ, zero, suc, ◌-◌, ◌<◌, ◌≤◌, List, [], ◌∷◌, ◌++◌, length, refl, ap, sym, ◌∙◌, arith, Option, Some, None, Bool, true, false, map, append-nil, append_assoc, length-append}
+use Rattle.std.proofs.Common.{◌≡◌, inl, inr, ℕ, suc, ◌-◌, ◌≤◌, List, [], ◌∷◌, ◌++◌, refl, ap, sym, ◌∙◌, arith, Option, Some, None, Bool, true, false, map, append-nil, append_assoc}
 use Rattle.std.specs.Prelude.{slice_get, All, if◌then◌else◌, option_map}
 use Rattle.std.proofs.lemmas.Bool.{cases_eq, eq-eqb, ne_eqb, lt-ltb, le-ltb}
 use Rattle.std.proofs.lemmas.List.{map-append}
 use Rattle.markdown_values.specs.declared.tree.Node.{Node}
 use Rattle.markdown_values.specs.tree.Linked.{Linked}
-use Rattle.markdown_values.specs.tree.Tree.{last, but_last, child_of, update_at, with_next, with_child, with_item}
+use Rattle.markdown_values.specs.tree.Tree.{last, but_last, child_of, update_at, with_next, with_item}
 use Rattle.markdown_values.specs.tree.Truncate.{Span, IsChain, last_index, EndsBefore, IsFirstOther, AllEndBefore, HasChildren, HasSiblings, cut_tree, dropped_after, cut, cut_focus, first_other, CanCut, CanTruncate, truncated, truncated_focus}
-use Rattle.markdown_values.proofs.tree.TreeLemmas.{get-update_at_other, get-update_at_same, last-none, last-split}
-use Rattle.markdown_values.proofs.tree.ForestLemmas.{KeepsBut}
+use Rattle.markdown_values.proofs.tree.TreeLemmas.{get-update_at_same, last-none, last-split}
 use Rattle.markdown_values.proofs.tree.truncate.ChainLemmas.{same_chain}
+use Rattle.markdown_values.proofs.tree.truncate.ChainChanges.{chain_from, IsChain-ended, IsChain-changed, KeepsBut-update, KeepsBut-twice, child_of-update, child_of-with_child}
 
 module _ {T : Type 0} where
-  -- no child of the list is this node
-  abbrev pub AllApart : ℕ → List (ℕ × Node T) → Type 0
-  AllApart ix [] = Unit {0}
-  AllApart ix (c ∷ cs) = (c.0 ≢ ix) × AllApart ix cs
-
-  -- no child before c is c
-  apart_before : (nodes : List (Node T)) (link : Option ℕ) (kept later : List (ℕ × Node T)) (c : ℕ × Node T) → IsChain nodes (Some c.0) (c ∷ later) → IsChain nodes link (kept ++ c ∷ later) → AllApart c.0 kept
-  apart_before nodes link [] later c from h = tt
-  apart_before nodes link (x ∷ kept) later c from h = (
-    λ e.
-        let again : IsChain nodes (Some c.0) (x ∷ (kept ++ c ∷ later)) = (ap Some (sym e), h.1, h.2) in
-        let same : length (x ∷ (kept ++ c ∷ later)) ≡ length (c ∷ later) = ap length (same_chain nodes (Some c.0) (x ∷ (kept ++ c ∷ later)) (c ∷ later) again from) in
-        omega (arith, length-append kept (c ∷ later)),
-    apart_before nodes x.1.next kept later c from h.2,
-  )
-
-  -- no child of a shorter chain is the first of this one
-  apart_after : (nodes : List (Node T)) (link : Option ℕ) (ix : ℕ) (whole later : List (ℕ × Node T)) → IsChain nodes (Some ix) whole → length later < length whole → IsChain nodes link later → AllApart ix later
-  apart_after nodes link ix whole [] from shorter h = tt
-  apart_after nodes link ix whole (x ∷ later) from shorter h = (
-    λ e.
-        let again : IsChain nodes (Some ix) (x ∷ later) = (ap Some (sym e), h.1, h.2) in
-        let same : length (x ∷ later) ≡ length whole = ap length (same_chain nodes (Some ix) (x ∷ later) whole again from) in
-        omega arith,
-    apart_after nodes x.1.next ix whole later from (omega arith) h.2,
-  )
-
-  -- a chain stays where no node of it changes
-  IsChain-kept : (old new : List (Node T)) (ix : ℕ) (link : Option ℕ) (chain : List (ℕ × Node T)) → KeepsBut old new ix → AllApart ix chain → IsChain old link chain → IsChain new link chain
-  IsChain-kept old new ix link [] kept apart h = h
-  IsChain-kept old new ix link (x ∷ chain) kept apart h = (h.0, kept x.0 x.1 apart.0 h.1, IsChain-kept old new ix x.1.next chain kept apart.1 h.2)
-
-  -- what leads to c leads to what follows c now
-  IsChain-joined : (old new : List (Node T)) (link : Option ℕ) (kept later rest : List (ℕ × Node T)) (c : ℕ × Node T) → KeepsBut old new c.0 → AllApart c.0 kept → IsChain old link (kept ++ c ∷ later) → IsChain new (Some c.0) rest → IsChain new link (kept ++ rest)
-  IsChain-joined old new link [] later rest c keeps apart h follows = rw h.0 follows
-  IsChain-joined old new link (x ∷ kept) later rest c keeps apart h follows =
-      (h.0, keeps x.0 x.1 apart.0 h.1, IsChain-joined old new x.1.next kept later rest c keeps apart.1 h.2 follows)
-
-  chain_from : (nodes : List (Node T)) (link : Option ℕ) (kept later : List (ℕ × Node T)) (c : ℕ × Node T) → IsChain nodes link (kept ++ c ∷ later) → IsChain nodes (Some c.0) (c ∷ later)
-  chain_from nodes link [] later c h = (refl, h.1, h.2)
-  chain_from nodes link (x ∷ kept) later c h = chain_from nodes x.1.next kept later c h.2
-
-  -- c is changed, and is the last child
-  IsChain-ended : (old new : List (Node T)) (link : Option ℕ) (kept later : List (ℕ × Node T)) (c : ℕ × Node T) (node : Node T) → KeepsBut old new c.0 → slice_get new c.0 ≡ Some node → node.next ≡ None → IsChain old link (kept ++ c ∷ later) → IsChain new link (kept ++ (c.0, node) ∷ [])
-  IsChain-ended old new link kept later c node keeps changed ends h =
-      IsChain-joined old new link kept later ((c.0, node) ∷ []) c keeps (apart_before old link kept later c (chain_from old link kept later c h) h) h (refl, changed, ends)
-
-  -- c is changed, and those after it follow it as they did
-  IsChain-changed : (old new : List (Node T)) (link : Option ℕ) (kept later : List (ℕ × Node T)) (c : ℕ × Node T) (node : Node T) → KeepsBut old new c.0 → slice_get new c.0 ≡ Some node → node.next ≡ c.1.next → IsChain old link (kept ++ c ∷ later) → IsChain new link (kept ++ (c.0, node) ∷ later)
-  IsChain-changed old new link kept later c node keeps changed same h =
-      let from = chain_from old link kept later c h in
-      let apart = apart_after old c.1.next c.0 (c ∷ later) later from (omega arith) from.2 in
-      let follows : IsChain new node.next later = rw same (IsChain-kept old new c.0 c.1.next later keeps apart from.2) in
-      IsChain-joined old new link kept later ((c.0, node) ∷ later) c keeps (apart_before old link kept later c from h) h (refl, changed, follows)
-
-  KeepsBut-update : (g : Node T → Node T) (nodes : List (Node T)) (ix : ℕ) → KeepsBut nodes (update_at g nodes ix) ix
-  KeepsBut-update g nodes ix i node ne e = get-update_at_other g nodes ix i ne ∙ e
-
-  KeepsBut-twice : (f g : Node T → Node T) (nodes : List (Node T)) (ix : ℕ) → KeepsBut nodes (update_at g (update_at f nodes ix) ix) ix
-  KeepsBut-twice f g nodes ix i node ne e = get-update_at_other g (update_at f nodes ix) ix i ne ∙ (get-update_at_other f nodes ix i ne ∙ e)
-
-  -- an update that leaves the child links leaves the child of each node
-  child_of-update : (g : Node T → Node T) (nodes : List (Node T)) (ix parent : ℕ) → ((node : Node T) → (g node).child ≡ node.child) → child_of (update_at g nodes ix) parent ≡ child_of nodes parent
-  child_of-update g [] ix parent same = refl
-  child_of-update g (n ∷ ns) zero zero same = same n
-  child_of-update g (n ∷ ns) zero (suc parent) same = refl
-  child_of-update g (n ∷ ns) (suc ix) zero same = refl
-  child_of-update g (n ∷ ns) (suc ix) (suc parent) same = child_of-update g ns ix parent same
-
-  child_of-with_child : (nodes : List (Node T)) (parent : ℕ) → child_of (with_child nodes parent None) parent ≡ None
-  child_of-with_child [] parent = refl
-  child_of-with_child (n ∷ ns) zero = refl
-  child_of-with_child (n ∷ ns) (suc parent) = child_of-with_child ns parent
-
   module _ (span : T → Span) where
     -- a child as its node's index and the range of its item
     abbrev pub see : ℕ × Node T → ℕ × Span
@@ -108,7 +34,8 @@ module _ {T : Type 0} where
     truncated_focus-all e focus previous (x ∷ children) ends =
         rw (lt-ltb (span x.1.item).end e (ends 0 x (omega arith))) (truncated_focus-all e focus (Some x.0) children (λ k d lt. ends (suc k) d (omega arith)))
 
-    first_other-kept : (e : ℕ) (kept later : List (ℕ × Node T)) (c : ℕ × Node T) → All (EndsBefore span e) kept → e ≤ (span c.1.item).end → first_other e (map see (kept ++ c ∷ later)) ≡ Some (span c.1.item)
+    first_other-kept : (e : ℕ) (kept later : List (ℕ × Node T)) (c : ℕ × Node T) → All (EndsBefore span e) kept
+        → e ≤ (span c.1.item).end → first_other e (map see (kept ++ c ∷ later)) ≡ Some (span c.1.item)
     first_other-kept e [] later c ends reaches = rw (le-ltb (span c.1.item).end e reaches)
     first_other-kept e (x ∷ kept) later c ends reaches =
         rw (lt-ltb (span x.1.item).end e (ends 0 x (omega arith))) (first_other-kept e kept later c (λ k d lt. ends (suc k) d (omega arith)) reaches)
@@ -121,7 +48,9 @@ module _ {T : Type 0} where
     HasSiblings-of t parent spans p h = rw p h
 
     -- the first other child can be cut
-    pub CanCut-first : (e : ℕ) (t : Linked T) (parent : ℕ) (kept later : List (ℕ × Node T)) (c : ℕ × Node T) → last t.spine ≡ Some parent → IsFirstOther span e t.nodes (child_of t.nodes parent) kept c later → CanTruncate span e t → CanCut e (span c.1.item)
+    pub CanCut-first : (e : ℕ) (t : Linked T) (parent : ℕ) (kept later : List (ℕ × Node T)) (c : ℕ × Node T)
+        → last t.spine ≡ Some parent → IsFirstOther span e t.nodes (child_of t.nodes parent) kept c later
+        → CanTruncate span e t → CanCut e (span c.1.item)
     CanCut-first e t parent kept later c p h can =
         let has = HasChildren-of t parent can.0 p can.1 in
         let same = same_chain t.nodes (child_of t.nodes parent) has.0 (kept ++ c ∷ later) has.1 h.chain in
@@ -156,7 +85,7 @@ module _ {T : Type 0} where
         truncated_focus-after e focus None kept later c ends reaches ∙ ap (λ (previous : Option ℕ). cut_focus e previous (see c)) (last_after-none kept)
 
     -- the children of parent are those in kept, and then these
-    abbrev pub HasAfter : Linked T → ℕ → List (ℕ × Node T) → List (ℕ × Span) → Type 0
+    abbrev HasAfter : Linked T → ℕ → List (ℕ × Node T) → List (ℕ × Span) → Type 0
     HasAfter t parent kept spans = (children : List (ℕ × Node T)) × IsChain t.nodes (child_of t.nodes parent) children × (map see children ≡ map see kept ++ spans)
 
     module _ (e : ℕ) (t : Linked T) (parent : ℕ) (kept later : List (ℕ × Node T)) (c : ℕ × Node T) (h : IsChain t.nodes (child_of t.nodes parent) (kept ++ c ∷ later)) where
@@ -169,7 +98,9 @@ module _ {T : Type 0} where
           let node = record c.1 { next = None } in
           let changed = get-update_at_same (λ node. record node { next = None }) t.nodes c.0 c.1 here in (
             kept ++ (c.0, node) ∷ [],
-            rw (child_of-update (λ node. record node { next = None }) t.nodes c.0 parent (λ n. refl)) (IsChain-ended t.nodes _ (child_of t.nodes parent) kept later c node (KeepsBut-update _ t.nodes c.0) changed refl h),
+            rw (child_of-update (λ node. record node { next = None }) t.nodes c.0 parent (λ n. refl))
+                (IsChain-ended t.nodes _ (child_of t.nodes parent) kept later c node
+                (KeepsBut-update _ t.nodes c.0) changed refl h),
             map-append see kept ((c.0, node) ∷ []),
           )
 
@@ -179,7 +110,9 @@ module _ {T : Type 0} where
           let node = record c.1 { item = item } in
           let changed = get-update_at_same (λ node. record node { item = item }) t.nodes c.0 c.1 here in (
             kept ++ (c.0, node) ∷ later,
-            rw (child_of-update (λ node. record node { item = item }) t.nodes c.0 parent (λ n. refl)) (IsChain-changed t.nodes _ (child_of t.nodes parent) kept later c node (KeepsBut-update _ t.nodes c.0) changed refl h),
+            rw (child_of-update (λ node. record node { item = item }) t.nodes c.0 parent (λ n. refl))
+                (IsChain-changed t.nodes _ (child_of t.nodes parent) kept later c node
+                (KeepsBut-update _ t.nodes c.0) changed refl h),
             map-append see kept ((c.0, node) ∷ later),
           )
 
@@ -191,7 +124,12 @@ module _ {T : Type 0} where
           let node = g (f c.1) in
           let changed = get-update_at_same g (update_at f t.nodes c.0) c.0 (f c.1) (get-update_at_same f t.nodes c.0 c.1 here) in (
             kept ++ (c.0, node) ∷ [],
-            rw (child_of-update g (update_at f t.nodes c.0) c.0 parent (λ n. refl), child_of-update f t.nodes c.0 parent (λ n. refl)) (IsChain-ended t.nodes _ (child_of t.nodes parent) kept later c node (KeepsBut-twice f g t.nodes c.0) changed refl h),
+            rw (
+              child_of-update g (update_at f t.nodes c.0) c.0 parent (λ n. refl),
+              child_of-update f t.nodes c.0 parent (λ n. refl),
+            )
+                (IsChain-ended t.nodes _ (child_of t.nodes parent) kept later c node
+                (KeepsBut-twice f g t.nodes c.0) changed refl h),
             map-append see kept ((c.0, node) ∷ []),
           )
 
@@ -208,7 +146,9 @@ module _ {T : Type 0} where
               let longer : IsChain t.nodes (child_of t.nodes parent) (front ++ x ∷ (c ∷ later)) = rw append_assoc at (rw split at h) in
               let changed = get-update_at_same g t.nodes x.0 x.1 (chain_from t.nodes (child_of t.nodes parent) front (c ∷ later) x longer).1 in (
                 front ++ (x.0, g x.1) ∷ [],
-                rw (child_of-update g t.nodes x.0 parent (λ n. refl)) (IsChain-ended t.nodes _ (child_of t.nodes parent) front (c ∷ later) x (g x.1) (KeepsBut-update g t.nodes x.0) changed refl longer),
+                rw (child_of-update g t.nodes x.0 parent (λ n. refl))
+                    (IsChain-ended t.nodes _ (child_of t.nodes parent) front (c ∷ later) x (g x.1)
+                    (KeepsBut-update g t.nodes x.0) changed refl longer),
                 map-append see front ((x.0, g x.1) ∷ []) ∙ (sym (map-append see front (x ∷ [])) ∙ (ap (map see) (sym split) ∙ sym (append-nil (map see kept)))),
               )
 
@@ -230,7 +170,11 @@ module _ {T : Type 0} where
           ]
         where
           at_bit : (bit : Bool) → (span c.1.item).escaped ≡ bit
-              → HasAfter (if (span c.1.item).escaped then record t { nodes = with_item t.nodes c.0 (with_range c.1.item (e - 1) e); focus = Some c.0 } else dropped_after t (Some parent) (last_index kept)) parent kept
+              → HasAfter (if (span c.1.item).escaped then record t {
+                nodes = with_item t.nodes c.0 (with_range c.1.item (e - 1) e);
+                focus = Some c.0;
+              } else dropped_after t (Some parent)
+              (last_index kept)) parent kept
               (if (span c.1.item).escaped then (c.0, record (span c.1.item) { start = e - 1; end = e }) ∷ map see later else [])
           at_bit true bit =
               let after = has-changed e t parent kept later c h (with_range c.1.item (e - 1) e) (Some c.0) in
@@ -239,7 +183,9 @@ module _ {T : Type 0} where
           at_bit false bit = rw bit (has-dropped e t parent kept later c h)
 
     -- the focus after the first other child was cut
-    focus-cut : (with_range : T → ℕ → ℕ → T) (e : ℕ) (t : Linked T) (parent : ℕ) (previous : Option ℕ) (c : ℕ × Node T) → (cut_tree span with_range e (Some parent) previous c t).focus ≡ cut_focus e previous (see c)
+    focus-cut : (with_range : T → ℕ → ℕ → T) (e : ℕ) (t : Linked T) (parent : ℕ) (previous : Option ℕ)
+        (c : ℕ × Node T) → (cut_tree span with_range e (Some parent) previous c t).focus ≡ cut_focus e previous
+        (see c)
     focus-cut with_range e t parent previous c =
         elim (cases_eq (span c.1.item).end e) [
           | inl at_end ↦ rw (eq-eqb (span c.1.item).end e at_end)
@@ -252,7 +198,11 @@ module _ {T : Type 0} where
         ]
       where
         at_bit : (bit : Bool) → (span c.1.item).escaped ≡ bit → (previous : Option ℕ)
-            → (if (span c.1.item).escaped then record t { nodes = with_item t.nodes c.0 (with_range c.1.item (e - 1) e); focus = Some c.0 } else dropped_after t (Some parent) previous).focus ≡ (if (span c.1.item).escaped then Some c.0 else previous)
+            → (if (span c.1.item).escaped then record t {
+              nodes = with_item t.nodes c.0 (with_range c.1.item (e - 1) e);
+              focus = Some c.0;
+            } else dropped_after t (Some parent) previous).focus
+            ≡ (if (span c.1.item).escaped then Some c.0 else previous)
         at_bit true bit previous = rw bit
         at_bit false bit None = rw bit
         at_bit false bit (Some ix) = rw bit
@@ -296,11 +246,17 @@ module _ {T : Type 0} where
         focus-cut with_range e t parent (last_index kept) c ∙ sym (ap (truncated_focus e t.focus None) are ∙ truncated_focus-kept e t.focus kept later c h.ends_before h.ends_later)
 
     -- where every child ends before e, nothing is cut
-    spans-all : (e : ℕ) (t : Linked T) (parent : ℕ) (children : List (ℕ × Node T)) (spans : List (ℕ × Span)) → AllEndBefore span e t.nodes (child_of t.nodes parent) children → HasChildren span t parent spans → spans ≡ map see children
+    spans-all : (e : ℕ) (t : Linked T) (parent : ℕ) (children : List (ℕ × Node T)) (spans : List (ℕ × Span))
+        → AllEndBefore span e t.nodes (child_of t.nodes parent) children → HasChildren span t parent spans
+        → spans ≡ map see children
     spans-all e t parent children spans h has = sym has.2 ∙ ap (map see) (same_chain t.nodes (child_of t.nodes parent) has.0 children has.1 h.chain)
 
-    pub truncated-same : (e : ℕ) (t : Linked T) (parent : ℕ) (children : List (ℕ × Node T)) (spans : List (ℕ × Span)) → AllEndBefore span e t.nodes (child_of t.nodes parent) children → HasChildren span t parent spans → truncated e spans ≡ spans
+    pub truncated-same : (e : ℕ) (t : Linked T) (parent : ℕ) (children : List (ℕ × Node T)) (spans : List (ℕ × Span))
+        → AllEndBefore span e t.nodes (child_of t.nodes parent) children → HasChildren span t parent spans
+        → truncated e spans ≡ spans
     truncated-same e t parent children spans h has = rw (spans-all e t parent children spans h has) (truncated-all e children h.ends_before)
 
-    pub truncated_focus-same : (e : ℕ) (t : Linked T) (parent : ℕ) (children : List (ℕ × Node T)) (spans : List (ℕ × Span)) → AllEndBefore span e t.nodes (child_of t.nodes parent) children → HasChildren span t parent spans → truncated_focus e t.focus None spans ≡ t.focus
+    pub truncated_focus-same : (e : ℕ) (t : Linked T) (parent : ℕ) (children : List (ℕ × Node T))
+        (spans : List (ℕ × Span)) → AllEndBefore span e t.nodes (child_of t.nodes parent) children
+        → HasChildren span t parent spans → truncated_focus e t.focus None spans ≡ t.focus
     truncated_focus-same e t parent children spans h has = rw (spans-all e t parent children spans h has) (truncated_focus-all e t.focus None children h.ends_before)

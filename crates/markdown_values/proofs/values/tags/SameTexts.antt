@@ -11,11 +11,11 @@ use Rattle.markdown_values.specs.strings.Text.{cow_text}
 use Rattle.markdown_values.specs.values.Tags.{attribute_view}
 
 -- an attribute with its value
-abbrev pub Attribute : Type 0
+abbrev Attribute : Type 0
 Attribute = CowStr × Option CowStr
 
 -- lists whose elements say the same, where such elements are equal
-pub pointwise-same : {A B : Type 0} (R : A → A → Bool) (f : A → B)
+pointwise-same : {A B : Type 0} (R : A → A → Bool) (f : A → B)
     → ((a b : A) → f a ≡ f b → R a b ≡ true)
     → (xs ys : List A) → map f xs ≡ map f ys → pointwise R xs ys ≡ true
 pointwise-same R f same [] [] h = refl
@@ -27,15 +27,15 @@ pointwise-same R f same (x ∷ xs) (y ∷ ys) h =
     rw (same x y first, pointwise-same R f same xs ys rest) refl
 
 -- whether two texts are the same bytes
-abbrev pub cow_eq : CowStr → CowStr → Bool
+abbrev cow_eq : CowStr → CowStr → Bool
 cow_eq a b = pointwise nat_eq (cow_text a) (cow_text b)
 
 -- texts of the same bytes are equal
-pub cow_eq-same : (a b : CowStr) → cow_text a ≡ cow_text b → cow_eq a b ≡ true
+cow_eq-same : (a b : CowStr) → cow_text a ≡ cow_text b → cow_eq a b ≡ true
 cow_eq-same a b h = rw h (nat_list_eq_equiv.refl (cow_text b))
 
 -- and so are two such texts, or none and none
-pub option_eq-same : (a b : Option CowStr)
+option_eq-same : (a b : Option CowStr)
     → option_map cow_text a ≡ option_map cow_text b
     → option_eq cow_eq a b ≡ true
 option_eq-same None None h = refl
@@ -44,7 +44,7 @@ option_eq-same (Some a) None h = cc
 option_eq-same (Some a) (Some b) h = cow_eq-same a b cc
 
 -- and two attributes that say the same
-pub attribute-same : (R : Attribute → Attribute → Bool)
+attribute-same : (R : Attribute → Attribute → Bool)
     → ((a b : Attribute) → R a b ≡ (cow_eq a.0 b.0 && option_eq cow_eq a.1 b.1))
     → (a b : Attribute) → attribute_view cow_text a ≡ attribute_view cow_text b
     → R a b ≡ true
@@ -54,7 +54,7 @@ attribute-same R is a b h =
     rw (is a b, cow_eq-same a.0 b.0 name, option_eq-same a.1 b.1 value) refl
 
 -- four tests that pass, as a derived equality joins them
-pub all_four : (a b c d : Bool) → a ≡ true → b ≡ true → c ≡ true → d ≡ true
+all_four : (a b c d : Bool) → a ≡ true → b ≡ true → c ≡ true → d ≡ true
     → (a && (b && (c && d))) ≡ true
 all_four a b c d p q r s = rw (p, q, r, s) refl
 
@@ -76,7 +76,7 @@ heading-same level E R h e is id id' texts texts' attrs attrs' same_id same_text
     (pointwise-same R (attribute_view cow_text) (attribute-same R is) attrs attrs' same_attrs))
 
 -- an alignment equals itself
-pub alignment-same : (a : Alignment) → Aligned.eq a a ≡ true
+alignment-same : (a : Alignment) → Aligned.eq a a ≡ true
 alignment-same Unaligned = refl
 alignment-same Left = refl
 alignment-same Center = refl

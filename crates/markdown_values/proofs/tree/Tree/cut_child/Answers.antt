@@ -17,15 +17,35 @@ pub returns-then-escaped-clause-state : goal.returns-then-escaped-clause-state
 returns-then-escaped-clause-state g c =
     let r = c.index.ensures.here in
     let ranged = rw r at c.set_item_range.ensures.state in
-    rw r (c.focus_on-then-escaped.ensures ∙ rw (ranged, ne_eqb _ _ (λ e. c.if-old_end-end.false (c.end-old_end.ensures ∙ e)), eq-eqb _ _ (sym c.start-start.ensures ∙ c.if-start-end.true), ← c.backslash_escaped-escaped.ensures, c.if-escaped.true))
+    rw r (c.focus_on-then-escaped.ensures ∙ rw (
+      ranged,
+      ne_eqb _ _ (λ e. c.if-old_end-end.false (c.end-old_end.ensures ∙ e)),
+      eq-eqb _ _
+          (sym c.start-start.ensures ∙ c.if-start-end.true),
+      ← c.backslash_escaped-escaped.ensures,
+      c.if-escaped.true,
+    ))
 
 pub returns-else-escaped-clause-state : goal.returns-else-escaped-clause-state
 returns-else-escaped-clause-state g c =
     let r = c.index.ensures.here in
-    rw r (c.drop_after.ensures.state ∙ rw (ne_eqb _ _ (λ e. c.if-old_end-end.false (c.end-old_end.ensures ∙ e)), eq-eqb _ _ (sym c.start-start.ensures ∙ c.if-start-end.true), ← c.backslash_escaped-escaped.ensures, c.if-escaped.false))
+    rw r (c.drop_after.ensures.state ∙ rw (
+      ne_eqb _ _ (λ e. c.if-old_end-end.false (c.end-old_end.ensures ∙ e)),
+      eq-eqb _ _
+          (sym c.start-start.ensures ∙ c.if-start-end.true),
+      ← c.backslash_escaped-escaped.ensures,
+      c.if-escaped.false,
+    ))
 
 pub returns-else-start-end-clause-state : goal.returns-else-start-end-clause-state
 returns-else-start-end-clause-state g c =
     let r = c.index.ensures.here in
     let ranged = rw (r, c.start-start.ensures) at c.set_item_range-else-start-end.ensures.state in
-    rw r (c.focus_on-else-start-end.ensures ∙ rw (c.set_next-else-start-end.ensures.state, ranged, ne_eqb _ _ (λ e. c.if-old_end-end.false (c.end-old_end.ensures ∙ e)), ne_eqb _ _ (λ e. c.if-start-end.false (c.start-start.ensures ∙ e))))
+    rw r (c.focus_on-else-start-end.ensures ∙ rw (
+      c.set_next-else-start-end.ensures.state,
+      ranged,
+      ne_eqb _ _
+          (λ e. c.if-old_end-end.false (c.end-old_end.ensures ∙ e)),
+      ne_eqb _ _
+          (λ e. c.if-start-end.false (c.start-start.ensures ∙ e)),
+    ))

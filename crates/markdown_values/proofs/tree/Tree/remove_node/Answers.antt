@@ -40,14 +40,21 @@ index_mut-requires g c =
 
 -- the nodes that are left
 edited : (g : _) (c : After-index_mut g) → c.in_ok-parent.parent < length (with_child c.pop-2.new.self.items c.in_ok-parent.parent None)
-    → slice_set c.pop-2.new.self.items c.get.result (record { child = None; next = c.index_mut.result.now.next; item = c.index_mut.result.now.item }) ≡ with_child c.pop-2.new.self.items c.in_ok-parent.parent None
+    → slice_set c.pop-2.new.self.items c.get.result
+    (record { child = None; next = c.index_mut.result.now.next; item = c.index_mut.result.now.item })
+    ≡ with_child c.pop-2.new.self.items c.in_ok-parent.parent None
 edited g c before =
-    sym (update_at-read (λ node. record node { child = None }) c.pop-2.new.self.items c.get.result c.index_mut.result.now (omega (arith, length-update_at {A = Node g.row.T.Denot})) c.index_mut.ensures.value)
+    sym (update_at-read (λ node.
+    record node { child = None }) c.pop-2.new.self.items c.get.result c.index_mut.result.now
+    (omega (arith, length-update_at {A = Node g.row.T.Denot})) c.index_mut.ensures.value)
     ∙ ap (λ (ix : ℕ). with_child c.pop-2.new.self.items ix None) c.get.ensures.value
 
 pub invariant_of-self-2 : goal.invariant_of-self-2
 invariant_of-self-2 g c =
-    subst (λ (nodes : List (Node g.row.T.Denot)). IsWithin nodes c.pop.new.self.items (Some c.in_ok-parent.parent)) (sym (edited g (goal.at.invariant_of-self-2 g c).After-index_mut (within g (goal.at.invariant_of-self-2 g c).After-pop-2).focus_leads)) (within g (goal.at.invariant_of-self-2 g c).After-pop-2)
+    subst (λ (nodes : List (Node g.row.T.Denot)). IsWithin nodes c.pop.new.self.items (Some c.in_ok-parent.parent))
+    (sym (edited g (goal.at.invariant_of-self-2 g c).After-index_mut
+    (within g (goal.at.invariant_of-self-2 g c).After-pop-2).focus_leads))
+    (within g (goal.at.invariant_of-self-2 g c).After-pop-2)
 
 pub returns-clause-parent : goal.returns-clause-parent
 returns-clause-parent g c =
@@ -55,9 +62,20 @@ returns-clause-parent g c =
 
 pub returns-clause-within : goal.returns-clause-within
 returns-clause-within g c =
-    subst (λ (nodes : List (Node g.row.T.Denot)). c.in_ok-parent.parent < length nodes) (sym (edited g (goal.at.returns-clause-within g c).After-index_mut (within g (goal.at.returns-clause-within g c).After-pop-2).focus_leads)) (within g (goal.at.returns-clause-within g c).After-pop-2).focus_leads
+    subst (λ (nodes : List (Node g.row.T.Denot)). c.in_ok-parent.parent < length nodes)
+    (sym (edited g (goal.at.returns-clause-within g c).After-index_mut
+    (within g (goal.at.returns-clause-within g c).After-pop-2).focus_leads))
+    (within g (goal.at.returns-clause-within g c).After-pop-2).focus_leads
 
 pub returns-clause-state : goal.returns-clause-state
 returns-clause-state g c =
-    let effect = ap removed (self_is g (goal.at.returns-clause-state g c).After-pop-2) ∙ removed-is c.pop-2.new.self.items (dropped g (goal.at.returns-clause-state g c).After-pop-2).0 c.pop.new.self.items c.in_ok-parent.parent c.self.inside.focus in
-    ap (λ (nodes : List (Node g.row.T.Denot)). record { nodes = nodes; spine = c.pop.new.self.items; focus = Some c.in_ok-parent.parent }) (edited g (goal.at.returns-clause-state g c).After-index_mut (within g (goal.at.returns-clause-state g c).After-pop-2).focus_leads) ∙ sym effect
+    let effect =
+    ap removed (self_is g (goal.at.returns-clause-state g c).After-pop-2) ∙ removed-is c.pop-2.new.self.items
+    (dropped g (goal.at.returns-clause-state g c).After-pop-2).0 c.pop.new.self.items c.in_ok-parent.parent c.self.inside.focus in
+    ap (λ (nodes : List (Node g.row.T.Denot)). record {
+      nodes = nodes;
+      spine = c.pop.new.self.items;
+      focus = Some c.in_ok-parent.parent;
+    })
+    (edited g (goal.at.returns-clause-state g c).After-index_mut
+    (within g (goal.at.returns-clause-state g c).After-pop-2).focus_leads) ∙ sym effect

@@ -15,7 +15,9 @@ parent_is g c = sym c.peek_up.ensures.parent ∙ c.unwrap-parent.ensures
 pub first_other-previous-requires-clause-parent : goal.first_other-previous-requires-clause-parent
 first_other-previous-requires-clause-parent g c = rw c.unwrap-parent.ensures at c.peek_up.ensures.within
 
-found : (g : _) (c : In-Some g) → FindsOther g.T.SpanItem.span c.args.end c.args.self.now.nodes (child_of c.args.self.now.nodes c.unwrap-parent.result) c.first_other-previous.result.0 (Some c.in-Some.ix)
+found : (g : _) (c : In-Some g)
+    → FindsOther g.T.SpanItem.span c.args.end c.args.self.now.nodes
+    (child_of c.args.self.now.nodes c.unwrap-parent.result) c.first_other-previous.result.0 (Some c.in-Some.ix)
 found g c = rw c.in-Some.is at c.first_other-previous.ensures
 
 pub first_other-previous-requires-clause-children : goal.first_other-previous-requires-clause-children
@@ -50,7 +52,9 @@ effect : (g : _) (c : After-cut_child g) (kept later : List (ℕ × Node g.row.T
     → c.first_other-previous.result.0 ≡ last_index kept
     → c.cut_child.new.self ≡ cut_tree g.T.SpanItem.span g.T.SpanItem.with_range c.args.end (Some c.unwrap-parent.result) (last_index kept) (c.in-Some.ix, node) c.args.self.now
 effect g c kept later node first previous =
-    let tree_at : Option ℕ → Linked g.row.T.Denot = λ previous. cut_tree g.T.SpanItem.span g.T.SpanItem.with_range c.args.end (Some c.unwrap-parent.result) previous (c.in-Some.ix, node) c.args.self.now in
+    let tree_at : Option ℕ → Linked g.row.T.Denot =
+    λ previous. cut_tree g.T.SpanItem.span g.T.SpanItem.with_range c.args.end
+    (Some c.unwrap-parent.result) previous (c.in-Some.ix, node) c.args.self.now in
     rw ((first_other-within _ _ _ _ kept later _ first).0) at c.cut_child.ensures.state ∙ ap tree_at previous
 
 pub returns-in-Some-clause-cut : goal.returns-in-Some-clause-cut
@@ -58,8 +62,12 @@ returns-in-Some-clause-cut g c =
     let f = found g (goal.at.returns-in-Some-clause-cut g c).In-Some in
     rw (parent_is g (goal.at.returns-in-Some-clause-cut g c).After-unwrap-parent) (λ kept c' later first.
     let same = same_first_other _ _ _ _ f.0 kept f.2 later _ c' f.3 first in
-    let tree_at : Option ℕ → ℕ × Node g.row.T.Denot → Linked g.row.T.Denot = λ previous child. cut_tree g.T.SpanItem.span g.T.SpanItem.with_range c.args.end (Some c.unwrap-parent.result) previous child c.args.self.now in
-    effect g (goal.at.returns-in-Some-clause-cut g c).After-cut_child f.0 f.2 f.1 f.3 f.4 ∙ (ap (λ previous. tree_at previous (c.in-Some.ix, f.1)) (ap last_index same.0) ∙ ap (tree_at (last_index kept)) same.1))
+    let tree_at : Option ℕ → ℕ × Node g.row.T.Denot → Linked g.row.T.Denot =
+    λ previous child. cut_tree g.T.SpanItem.span g.T.SpanItem.with_range c.args.end
+    (Some c.unwrap-parent.result) previous child c.args.self.now in
+    effect g (goal.at.returns-in-Some-clause-cut g c).After-cut_child f.0 f.2 f.1 f.3 f.4
+    ∙ (ap (λ previous. tree_at previous (c.in-Some.ix, f.1)) (ap last_index same.0) ∙ ap
+    (tree_at (last_index kept)) same.1))
 
 pub returns-in_default-clause-cut : goal.returns-in_default-clause-cut
 returns-in_default-clause-cut g c =
@@ -80,16 +88,20 @@ returns-in-Some-clause-spine g c =
     spine_left g (goal.at.returns-in-Some-clause-spine g c).After-cut_child f.0 f.2 f.1 f.3 f.4
 
 -- the siblings as the parent's children
-children : (g : _) (c : After-unwrap-parent g) (spans : List (ℕ × Span)) → HasSiblings g.T.SpanItem.span c.args.self.now spans → HasChildren g.T.SpanItem.span c.args.self.now c.unwrap-parent.result spans
+children : (g : _) (c : After-unwrap-parent g) (spans : List (ℕ × Span))
+    → HasSiblings g.T.SpanItem.span c.args.self.now spans
+    → HasChildren g.T.SpanItem.span c.args.self.now c.unwrap-parent.result spans
 children g c spans has = HasChildren-of g.T.SpanItem.span c.args.self.now c.unwrap-parent.result spans (parent_is g c) has
 
 pub returns-in-Some-clause-children : goal.returns-in-Some-clause-children
 returns-in-Some-clause-children g c =
     let here = goal.at.returns-in-Some-clause-children g c in
     let f = found g here.In-Some in λ spans has.
-    HasSiblings-of g.T.SpanItem.span c.cut_child.new.self c.unwrap-parent.result (truncated c.args.end spans) (ap last (spine_left g here.After-cut_child f.0 f.2 f.1 f.3 f.4) ∙ parent_is g here.After-unwrap-parent)
+    HasSiblings-of g.T.SpanItem.span c.cut_child.new.self c.unwrap-parent.result (truncated c.args.end spans)
+    (ap last (spine_left g here.After-cut_child f.0 f.2 f.1 f.3 f.4) ∙ parent_is g here.After-unwrap-parent)
     (subst (λ (t : Linked g.row.T.Denot). HasChildren g.T.SpanItem.span t c.unwrap-parent.result (truncated c.args.end spans)) (sym (effect g here.After-cut_child f.0 f.2 f.1 f.3 f.4))
-    (HasChildren-cut g.T.SpanItem.span g.T.SpanItem.with_range g.met.T.SpanItem.sets_range c.args.end c.args.self.now c.unwrap-parent.result f.0 f.2 (c.in-Some.ix, f.1) spans f.3 (children g here.After-unwrap-parent spans has)))
+    (HasChildren-cut g.T.SpanItem.span g.T.SpanItem.with_range g.met.T.SpanItem.sets_range c.args.end c.args.self.now c.unwrap-parent.result f.0 f.2
+    (c.in-Some.ix, f.1) spans f.3 (children g here.After-unwrap-parent spans has)))
 
 pub returns-in-Some-clause-focus : goal.returns-in-Some-clause-focus
 returns-in-Some-clause-focus g c =

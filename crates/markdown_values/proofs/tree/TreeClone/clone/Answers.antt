@@ -14,7 +14,9 @@ loop-node-preserved g c =
     let read : c.node-item.result ≡ get_or nodes c.loop-node.node-index c.node-item.result = rw c.deref-node-items.ensures.value at c.node-item.is in
     let within : c.loop-node.node-index < length nodes = rw c.deref-node-items.ensures.value at c.loop-node-test.true in
     rw (c.in_ok-push.ensures.items, take_more nodes c.loop-node.node-index c.node-item.result within, ← read)
-    (AllZip-push (IsNodeClone g.T.Clone.is_clone) (take c.loop-node.node-index nodes) c.loop-node.nodes.items c.node-item.result _ c.loop-node.invariant (record { child = refl; next = refl; item = c.in_ok-clone.ensures.cases }))
+    (AllZip-push (IsNodeClone g.T.Clone.is_clone)
+    (take c.loop-node.node-index nodes) c.loop-node.nodes.items c.node-item.result _ c.loop-node.invariant
+    (record { child = refl; next = refl; item = c.in_ok-clone.ensures.cases }))
 
 -- all nodes are cloned
 clones : (g : _) (c : After-clone-2 g) → AllZip (IsNodeClone g.T.Clone.is_clone) c.self.inside.nodes.items c.loop-node.nodes.items
@@ -25,7 +27,8 @@ clones g c =
 pub invariant_of-result : goal.invariant_of-result
 invariant_of-result g c =
     let spine : c.in_ok-clone-2.field-0.items ≡ c.self.inside.spine.items = each_same _ _ c.in_ok-clone-2.ensures.cases.0 in
-    rw spine (IsWithin-clones g.T.Clone.is_clone c.self.inside.nodes.items c.loop-node.nodes.items c.self.inside.spine.items c.self.inside.focus (clones g (goal.at.invariant_of-result g c).After-clone-2) c.self.invariant)
+    rw spine (IsWithin-clones g.T.Clone.is_clone c.self.inside.nodes.items c.loop-node.nodes.items c.self.inside.spine.items c.self.inside.focus
+    (clones g (goal.at.invariant_of-result g c).After-clone-2) c.self.invariant)
 
 pub returns : goal.returns
 returns g c =
