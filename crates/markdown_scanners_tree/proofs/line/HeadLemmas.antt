@@ -16,6 +16,7 @@ use Rattle.markdown_scanners_tree.specs.declared.line.run.LineCall.{LineCall}
 use Rattle.markdown_scanners_tree.specs.declared.line.run.LineCall.TheVariants.{Space, Upto, Eol, Quote, List as ItemCall, Definition as DefinitionCall}
 use Rattle.markdown_scanners_tree.proofs.line.ColumnLemmas.{after-more, bool_cases, written-end, written-cons, head_end-cons, head_end-end}
 use Rattle.markdown_scanners_tree.proofs.line.SpaceLemmas.{state_of, spaces, written_out-phase}
+use Rattle.markdown_scanners_tree.proofs.line.WrittenLemmas.{pick}
 
 -- how many bytes stand before the first line ending
 abbrev pub head_len : List ℕ → ℕ
@@ -126,23 +127,15 @@ ordered-head-by r (d ∷ back) m e n h =
     (λ no. let f = rw no at h in cc)
 
 -- the marker's bytes end no line
-marker-head : (r : List ℕ) (m : Marker) → list_marker r ≡ Some m → head_len r ≡ m.width + head_len (drop m.width r)
-marker-head r m h =
+marker-head-by : (r : List ℕ) (m : Marker) (bullet : Option Marker) → bullet_marker r ≡ bullet
+    → pick bullet (ordered_marker r) ≡ Some m → head_len r ≡ m.width + head_len (drop m.width r)
+marker-head-by r m (Some x) e h = bullet-head r m (e ∙ h)
+marker-head-by r m None e h =
     let n : length (take_while is_digit r) ≡ prefix_len is_digit r = length-prefix_len is_digit r in
-    let by : (o : Option Marker) → bullet_marker r ≡ o → (elim o as (λ _. Option Marker) [
-      | Some x ↦ Some x
-      | None ↦ ordered_marker r
-    ]) ≡ Some m
-    → head_len r ≡ m.width + head_len (drop m.width r) =
-    λ o. elim o as (λ o. bullet_marker r ≡ o → (elim o as (λ _. Option Marker) [
-      | Some x ↦ Some x
-      | None ↦ ordered_marker r
-    ]) ≡ Some m
-    → head_len r ≡ m.width + head_len (drop m.width r)) [
-      | Some x ↦ (λ e h. bullet-head r m (e ∙ h))
-      | None ↦ (λ e h. ordered-head-by r (drop (prefix_len is_digit r) r) m refl n (rw n at h))
-    ] in
-    by (bullet_marker r) refl h
+    ordered-head-by r (drop (prefix_len is_digit r) r) m refl n (rw n at h)
+
+marker-head : (r : List ℕ) (m : Marker) → list_marker r ≡ Some m → head_len r ≡ m.width + head_len (drop m.width r)
+marker-head r m h = marker-head-by r m (bullet_marker r) refl h
 
 pub marker_spaces-within : (m : ℕ) → marker_spaces m ≤ m
 marker_spaces-within m = grind (arith, nat_tests)

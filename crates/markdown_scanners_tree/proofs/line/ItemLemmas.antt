@@ -1,5 +1,5 @@
 -- A list item's marker that a line start passes.
-use Rattle.std.specs.Prelude.{ℕ, ◌≢◌, not, if◌then◌else◌, Bool, true, false, ◌≡◌, refl, ◌==◌, ◌||◌, ◌&&◌, List, [], ◌∷◌, ◌++◌, ◌+◌, ◌-◌, ◌<◌, ◌≤◌, Option, Some, None}
+use Rattle.std.specs.Prelude.{ℕ, ◌≢◌, not, if◌then◌else◌, Bool, true, false, ◌≡◌, refl, ◌==◌, ◌||◌, ◌&&◌, List, [], ◌∷◌, ◌++◌, ◌+◌, ◌-◌, ◌<◌, ◌≤◌, Some, None}
 use Rattle.std.proofs.Common.{cond, sym, ◌∙◌, ap, arith, length-append, append_assoc, min, length, take, drop, get_or, nat_le, nat_lt}
 use Rattle.std.specs.List.{list_all, prefix_len}
 use Rattle.std.proofs.lemmas.Bool.{le-leb, leb-true, lt-ltb}
@@ -23,7 +23,7 @@ use Rattle.markdown_scanners_tree.proofs.PrefixLemmas.{both_true, list_all-impli
 use Rattle.markdown_scanners_tree.proofs.line.HeadLemmas.{head_len, leading-head, head_len-end, marker_spaces-within}
 use Rattle.markdown_scanners_tree.proofs.scanners.list_items.ListItemLemmas.{ordered-parts, ordered-scanned, bullet-scanned, begins-at}
 use Rattle.markdown_scanners_tree.proofs.line.StepLemmas.{nothing_taken, rest-none, rest-bytes, bytes_then, further-add}
-use Rattle.markdown_scanners_tree.proofs.line.WrittenLemmas.{is_one_column, digit_one_column, marker_of, marker_of-parts, written-first, blank-written, list_marker-written}
+use Rattle.markdown_scanners_tree.proofs.line.WrittenLemmas.{is_one_column, digit_one_column, pick, marker_of, marker_of-parts, written-first, blank-written, list_marker-written}
 
 -- the bytes of a list marker are no tabs and end no line
 marker-plain : (marker : List ℕ) (delimiter start : ℕ) → IsListMarker marker delimiter start
@@ -34,10 +34,6 @@ marker-plain marker delimiter start (ordered digits d one few all is) =
     let plain : is_one_column d ≡ true = grind (arith, nat_tests) in
     list_all-append is_one_column digits (d ∷ [])
     ∙ rw (list_all-implies is_digit is_one_column digit_one_column digits all, plain) refl
-
--- a bullet before an ordered marker
-abbrev pick : Option Marker → Option Marker → Option Marker
-pick o other = elim o as (λ _. Option Marker) [ Some m ↦ Some m | None ↦ other ]
 
 bullet-none : (r : List ℕ) → begins_with is_bullet r ≡ false → bullet_marker r ≡ None
 bullet-none [] other = refl

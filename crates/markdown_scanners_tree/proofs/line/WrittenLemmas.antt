@@ -257,11 +257,11 @@ ordered_marker-written bs c =
     ∙ ordered-written digits back (c + length digits)
     ∙ sym (ap (marker_of n) (sym whole) ∙ marker_of-parts n digits back count)
 
+-- a bullet before an ordered marker
+abbrev pub pick : Option Marker → Option Marker → Option Marker
+pick o other = elim o as (λ _. Option Marker) [ Some m ↦ Some m | None ↦ other ]
+
 pub list_marker-written : (bs : List ℕ) (c : ℕ) → list_marker (written_out c bs) ≡ list_marker bs
 list_marker-written bs c =
-    let pick : Option Marker → Option Marker → Option Marker = λ o other. elim o as (λ _. Option Marker) [
-      | Some m ↦ Some m
-      | None ↦ other
-    ] in
     ap (λ o. pick o (ordered_marker (written_out c bs))) (bullet-written bs c)
     ∙ ap (pick (bullet_marker bs)) (ordered_marker-written bs c)
