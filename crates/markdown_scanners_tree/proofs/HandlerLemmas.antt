@@ -10,23 +10,28 @@ use Rattle.markdown_scanners_tree.proofs.PrefixLemmas.{both_true}
 use denote.Ref.{Bor}
 
 -- behind an ASCII byte a text may be cut
-pub cut_behind_ascii : (rest : List ℕ) (skip : ℕ) → IsUtf8 rest → skip ≤ length rest → 0 < skip → get_or rest (skip - 1) 0 < 128 → IsCharBoundary rest skip
+pub cut_behind_ascii : (rest : List ℕ) (skip : ℕ) → IsUtf8 rest → skip ≤ length rest → 0 < skip
+    → get_or rest (skip - 1) 0 < 128 → IsCharBoundary rest skip
 cut_behind_ascii rest skip utf8 within some ascii =
     subst (IsCharBoundary rest) (omega (arith, some)) (IsCharBoundary-after_ascii rest (skip - 1) utf8 (omega (arith, some, within)) ascii)
 
-last_ascii : (rest : List ℕ) (k : ℕ) → k < length rest → list_all (λ b. nat_lt b 128) (take (suc k) rest) ≡ true → get_or rest k 0 < 128
+last_ascii : (rest : List ℕ) (k : ℕ) → k < length rest → list_all (λ b. nat_lt b 128) (take (suc k) rest) ≡ true
+    → get_or rest k 0 < 128
 last_ascii [] k inside all = absurd (omega (arith, inside))
 last_ascii (b ∷ rest) zero inside all = ltb-true b 128 (both_true (nat_lt b 128) true all).0
-last_ascii (b ∷ rest) (suc k) inside all = last_ascii rest k (omega (arith, inside)) (both_true (nat_lt b 128) (list_all (λ c. nat_lt c 128) (take (suc k) rest)) all).1
+last_ascii (b ∷ rest) (suc k) inside all =
+    last_ascii rest k (omega (arith, inside)) (both_true (nat_lt b 128) (list_all (λ c. nat_lt c 128) (take (suc k) rest)) all).1
 
 -- and behind an ASCII front
 pub cut_behind_front : (rest : List ℕ) (skip : ℕ) → IsUtf8 rest → IsAsciiFront rest skip → IsCharBoundary rest skip
 cut_behind_front rest zero utf8 front = IsCharBoundary-start rest utf8
 cut_behind_front rest (suc k) utf8 front =
-    subst (IsCharBoundary rest) (omega arith) (IsCharBoundary-after_ascii rest k utf8 (omega (arith, front.0)) (last_ascii rest k (omega (arith, front.0)) front.1))
+    subst (IsCharBoundary rest) (omega arith) (IsCharBoundary-after_ascii rest k utf8 (omega (arith, front.0))
+    (last_ascii rest k (omega (arith, front.0)) front.1))
 
 -- a front that `starts_with` finds
-pub front_found : (rest front : List ℕ) → starts_with nat_eq rest front ≡ true → list_all (λ b. nat_lt b 128) front ≡ true → IsAsciiFront rest (length front)
+pub front_found : (rest front : List ℕ) → starts_with nat_eq rest front ≡ true
+    → list_all (λ b. nat_lt b 128) front ≡ true → IsAsciiFront rest (length front)
 front_found rest [] found ascii = (omega arith, refl)
 front_found [] (b ∷ front) found ascii = cc
 front_found (c ∷ rest) (b ∷ front) found ascii =

@@ -10,11 +10,14 @@ use Rattle.markdown_scanners_tree.proofs.RunLemmas.{not_true}
 
 -- The byte at the place is kept, and what follows it is read from the next place.
 pub record Step (answers : List ℕ → ℕ → Type 0) (place : ℕ) (source : List ℕ) (kept : KeptByte) (next : ℕ) (rest : List ℕ) : Type 0 where
-  pub forth : (c : KeptByte) (t : List KeptByte) → Reads answers next rest (c ∷ t) → Reads answers place source (kept ∷ c ∷ t)
-  pub back : (c : KeptByte) (t : List KeptByte) → Reads answers place source (c ∷ t) → (c ≡ kept) × Reads answers next rest t
+  pub forth : (c : KeptByte) (t : List KeptByte) → Reads answers next rest (c ∷ t)
+      → Reads answers place source (kept ∷ c ∷ t)
+  pub back : (c : KeptByte) (t : List KeptByte) → Reads answers place source (c ∷ t)
+      → (c ≡ kept) × Reads answers next rest t
 
 -- LF, and a CR that no LF follows, end a line alone
-pub ends_alone : (place b : ℕ) (bs : List ℕ) → ends_source_line (b ∷ bs) ≡ true → (is_line_ending b ≡ true) × (kept_line place (b ∷ bs) ≡ at_line_end b place ∷ []) × (line_len (b ∷ bs) ≡ 1)
+pub ends_alone : (place b : ℕ) (bs : List ℕ) → ends_source_line (b ∷ bs) ≡ true
+    → (is_line_ending b ≡ true) × (kept_line place (b ∷ bs) ≡ at_line_end b place ∷ []) × (line_len (b ∷ bs) ≡ 1)
 ends_alone place b bs h =
     elim (cases_Bool (b == line_feed)) [
       | inl lf ↦ (rw lf refl, rw lf refl, rw lf refl)
@@ -28,7 +31,8 @@ ends_alone place b bs h =
     ]
 
 -- a byte of a line ending that ends no line is a CR before LF
-return_before : (b : ℕ) (bs : List ℕ) → is_line_ending b ≡ true → ends_source_line (b ∷ bs) ≡ false → (b ≡ carriage_return) × (r : List ℕ) × (bs ≡ line_feed ∷ r)
+return_before : (b : ℕ) (bs : List ℕ) → is_line_ending b ≡ true → ends_source_line (b ∷ bs) ≡ false
+    → (b ≡ carriage_return) × (r : List ℕ) × (bs ≡ line_feed ∷ r)
 return_before b bs e h =
     elim (cases_Bool (b == line_feed)) [
       | inl lf ↦ absurd (let ended = rw lf at h in cc)
@@ -39,7 +43,8 @@ return_before b bs e h =
           )
     ]
   where
-    feed_first : (xs : List ℕ) → not (begins_with (λ c. c == line_feed) xs) ≡ false → (r : List ℕ) × (xs ≡ line_feed ∷ r)
+    feed_first : (xs : List ℕ) → not (begins_with (λ c. c == line_feed) xs) ≡ false
+        → (r : List ℕ) × (xs ≡ line_feed ∷ r)
     feed_first [] n = cc
     feed_first (x ∷ xs) n = (xs, ap (λ z. z ∷ xs) (eqb-true x line_feed (by (x == line_feed) n)))
       where
@@ -48,16 +53,22 @@ return_before b bs e h =
         by false k = cc
 
 module _ (answers : List ℕ → ℕ → Type 0) (place : ℕ) where
-  plain_step : (b : ℕ) (bs : List ℕ) → is_line_ending b ≡ false → Step answers place (b ∷ bs) (in_line b place) (place + 1) bs
+  plain_step : (b : ℕ) (bs : List ℕ) → is_line_ending b ≡ false
+      → Step answers place (b ∷ bs) (in_line b place) (place + 1) bs
   plain_step b bs plain = record {
     forth = λ c t r. reads_more answers place b bs plain (c ∷ t) r;
     back = λ c t r. reads_less answers place b bs plain c t r;
   }
 
-  AreSkips-return : (bs : List ℕ) (skip : ℕ) (skips : List ℕ) → AreSkips answers (carriage_return ∷ line_feed ∷ bs) (skip ∷ skips) ≡ AreSkips answers (line_feed ∷ bs) (skip ∷ skips)
-  AreSkips-return bs skip skips = let d : 2 + skip ≡ suc (1 + skip) = omega arith in ap (λ z. (true ≡ true) × answers bs skip × AreSkips answers (drop z (carriage_return ∷ line_feed ∷ bs)) skips) d
+  AreSkips-return : (bs : List ℕ) (skip : ℕ) (skips : List ℕ)
+      → AreSkips answers (carriage_return ∷ line_feed ∷ bs) (skip ∷ skips)
+      ≡ AreSkips answers (line_feed ∷ bs) (skip ∷ skips)
+  AreSkips-return bs skip skips =
+      let d : 2 + skip ≡ suc (1 + skip) = omega arith in ap (λ z. (true ≡ true) × answers bs skip × AreSkips answers (drop z (carriage_return ∷ line_feed ∷ bs)) skips) d
 
-  return_forth : (bs : List ℕ) (c : KeptByte) (t rest : List KeptByte) (skips : List ℕ) → AreSkips answers (line_feed ∷ bs) skips → kept_from (place + 1) (line_feed ∷ bs) skips ≡ c ∷ (t ++ rest) → Reads answers place (carriage_return ∷ line_feed ∷ bs) (in_line carriage_return place ∷ c ∷ t)
+  return_forth : (bs : List ℕ) (c : KeptByte) (t rest : List KeptByte) (skips : List ℕ)
+      → AreSkips answers (line_feed ∷ bs) skips → kept_from (place + 1) (line_feed ∷ bs) skips ≡ c ∷ (t ++ rest)
+      → Reads answers place (carriage_return ∷ line_feed ∷ bs) (in_line carriage_return place ∷ c ∷ t)
   return_forth bs c t rest [] s e = cc
   return_forth bs c t rest (skip ∷ skips) s e = record {
     skips = skip ∷ skips;
@@ -66,22 +77,28 @@ module _ (answers : List ℕ → ℕ → Type 0) (place : ℕ) where
     begins = kept_from-return place bs skip skips ∙ ap (λ z. in_line carriage_return place ∷ z) e;
   }
 
-  return_back : (bs : List ℕ) (c : KeptByte) (t rest : List KeptByte) (skips : List ℕ) → AreSkips answers (carriage_return ∷ line_feed ∷ bs) skips → kept_from place (carriage_return ∷ line_feed ∷ bs) skips ≡ c ∷ (t ++ rest) → (c ≡ in_line carriage_return place) × Reads answers (place + 1) (line_feed ∷ bs) t
+  return_back : (bs : List ℕ) (c : KeptByte) (t rest : List KeptByte) (skips : List ℕ)
+      → AreSkips answers (carriage_return ∷ line_feed ∷ bs) skips
+      → kept_from place (carriage_return ∷ line_feed ∷ bs) skips ≡ c ∷ (t ++ rest)
+      → (c ≡ in_line carriage_return place) × Reads answers (place + 1) (line_feed ∷ bs) t
   return_back bs c t rest [] s e = cc
   return_back bs c t rest (skip ∷ skips) s e =
-      let f : in_line carriage_return place ∷ kept_from (place + 1) (line_feed ∷ bs) (skip ∷ skips) ≡ c ∷ (t ++ rest) = sym (kept_from-return place bs skip skips) ∙ e in
+      let f : in_line carriage_return place ∷ kept_from (place + 1) (line_feed ∷ bs) (skip ∷ skips) ≡ c ∷ (t ++ rest) =
+      sym (kept_from-return place bs skip skips) ∙ e in
       let head : c ≡ in_line carriage_return place = cc in
       let tail : kept_from (place + 1) (line_feed ∷ bs) (skip ∷ skips) ≡ t ++ rest = cc in
       (head, record { skips = skip ∷ skips; rest = rest; answered = subst (λ X. X) (AreSkips-return bs skip skips) s; begins = tail })
 
-  return_step : (bs : List ℕ) → Step answers place (carriage_return ∷ line_feed ∷ bs) (in_line carriage_return place) (place + 1) (line_feed ∷ bs)
+  return_step : (bs : List ℕ)
+      → Step answers place (carriage_return ∷ line_feed ∷ bs) (in_line carriage_return place) (place + 1) (line_feed ∷ bs)
   return_step bs = record {
     forth = λ c t r. return_forth bs c t r.rest r.skips r.answered r.begins;
     back = λ c t r. return_back bs c t r.rest r.skips r.answered r.begins;
   }
 
   -- a byte that ends no line
-  pub step_in_line : (b : ℕ) (bs : List ℕ) → ends_source_line (b ∷ bs) ≡ false → Step answers place (b ∷ bs) (in_line b place) (place + 1) bs
+  pub step_in_line : (b : ℕ) (bs : List ℕ) → ends_source_line (b ∷ bs) ≡ false
+      → Step answers place (b ∷ bs) (in_line b place) (place + 1) bs
   step_in_line b bs h =
       elim (cases_Bool (is_line_ending b)) [
         | inr plain ↦ plain_step b bs plain
@@ -92,7 +109,9 @@ module _ (answers : List ℕ → ℕ → Type 0) (place : ℕ) where
       ]
 
   -- a byte that ends a line, and the one skip after it
-  pub step_at_end : (b : ℕ) (bs : List ℕ) (skip : ℕ) → ends_source_line (b ∷ bs) ≡ true → answers bs skip → ((n : ℕ) → answers bs n → n ≡ skip) → Step answers place (b ∷ bs) (at_line_end b place) (place + (1 + skip)) (drop skip bs)
+  pub step_at_end : (b : ℕ) (bs : List ℕ) (skip : ℕ) → ends_source_line (b ∷ bs) ≡ true → answers bs skip
+      → ((n : ℕ) → answers bs n → n ≡ skip)
+      → Step answers place (b ∷ bs) (at_line_end b place) (place + (1 + skip)) (drop skip bs)
   step_at_end b bs skip h a only =
       let ends = ends_alone place b bs h in
       record {
@@ -104,7 +123,8 @@ module _ (answers : List ℕ → ℕ → Type 0) (place : ℕ) where
       }
 
   -- where no skip is answered nothing is read
-  pub no_step : (b : ℕ) (bs : List ℕ) → ends_source_line (b ∷ bs) ≡ true → ((n : ℕ) → answers bs n → ⊥) → (c : KeptByte) (t : List KeptByte) → Reads answers place (b ∷ bs) (c ∷ t) → ⊥
+  pub no_step : (b : ℕ) (bs : List ℕ) → ends_source_line (b ∷ bs) ≡ true → ((n : ℕ) → answers bs n → ⊥)
+      → (c : KeptByte) (t : List KeptByte) → Reads answers place (b ∷ bs) (c ∷ t) → ⊥
   no_step b bs h none c t r =
       let ends = ends_alone place b bs h in
       let read = reads_from_end answers place b bs ends.0 ends.1 ends.2 c t r in
@@ -118,4 +138,5 @@ module _ (answers : List ℕ → ℕ → Type 0) (place : ℕ) where
       by (skip ∷ skips) s e = let none : false ≡ true = s.0 in cc
 
   pub last_read : (b : ℕ) (bs : List ℕ) → is_line_ending b ≡ false → Reads answers place (b ∷ bs) (in_line b place ∷ [])
-  last_read b bs plain = reads_more answers place b bs plain [] (record { skips = []; rest = _; answered = tt; begins = refl })
+  last_read b bs plain =
+      reads_more answers place b bs plain [] (record { skips = []; rest = _; answered = tt; begins = refl })

@@ -14,48 +14,67 @@ is_itself a b e = grind (arith, nat_tests)
 
 module _ (hay needle : List ℕ) (some : 0 < length needle) where
   -- no needle stands whose last byte is passed
-  pub none_before : (place : ℕ) → Nowhere (Passes (is_byte (get_or needle (length needle - 1) 0)) (take (length hay - (length needle - 1)) (drop (length needle - 1) hay))) 0 place → Nowhere (OccursAt hay needle) 0 place
+  pub none_before : (place : ℕ)
+      → Nowhere (Passes (is_byte (get_or needle (length needle - 1) 0)) (take (length hay - (length needle - 1)) (drop (length needle - 1) hay))) 0 place
+      → Nowhere (OccursAt hay needle) 0 place
   none_before place none k low high occurs =
       let reads : get_or (take (length hay - (length needle - 1)) (drop (length needle - 1) hay)) k 0 ≡ get_or needle (length needle - 1) 0 =
       ap (λ l. get_or l k 0) (take_rest hay (length needle - 1)) ∙ get_or-drop (length needle - 1) hay k 0 ∙ ap (λ m. get_or hay m 0) (let e : length needle - 1 + k ≡ k + (length needle - 1) = omega arith in e) ∙ occurs.reads (length needle - 1) (omega arith) in
       none k low high (is_itself _ _ reads)
 
   -- where its last byte stands nowhere
-  pub none_at_all : length needle - 1 ≤ length hay → Nowhere (Passes (is_byte (get_or needle (length needle - 1) 0)) (take (length hay - (length needle - 1)) (drop (length needle - 1) hay))) 0 (length (take (length hay - (length needle - 1)) (drop (length needle - 1) hay))) → FindsNeedle hay needle 0 None
+  pub none_at_all : length needle - 1 ≤ length hay
+      → Nowhere (Passes (is_byte (get_or needle (length needle - 1) 0))
+      (take (length hay - (length needle - 1)) (drop (length needle - 1) hay))) 0 (length
+      (take (length hay - (length needle - 1)) (drop (length needle - 1) hay)))
+      → FindsNeedle hay needle 0 None
   none_at_all inside none k low high occurs =
-      let size : length (take (length hay - (length needle - 1)) (drop (length needle - 1) hay)) ≡ length hay - (length needle - 1) = ap length (take_rest hay (length needle - 1)) ∙ length-drop (length needle - 1) hay in
+      let size : length (take (length hay - (length needle - 1)) (drop (length needle - 1) hay))
+      ≡ length hay - (length needle - 1) =
+      ap length (take_rest hay (length needle - 1)) ∙ length-drop (length needle - 1) hay in
       none_before _ none k low (omega (arith, occurs.fits)) occurs
 
-  pub found_there : (place : ℕ) → occurs_at hay needle place ≡ true → Nowhere (OccursAt hay needle) 0 place → FindsNeedle hay needle 0 (Some place)
+  pub found_there : (place : ℕ) → occurs_at hay needle place ≡ true → Nowhere (OccursAt hay needle) 0 place
+      → FindsNeedle hay needle 0 (Some place)
   found_there place there none =
       let occurs : OccursAt hay needle place = OccursAt-true hay needle place there in
       (record { low = omega arith; high = omega (arith, occurs.fits); before = none }, occurs)
 
   -- a place at which it does not stand
-  pub none_there : (place : ℕ) → occurs_at hay needle place ≡ false → Nowhere (OccursAt hay needle) 0 place → Nowhere (OccursAt hay needle) 0 (place + 1)
+  pub none_there : (place : ℕ) → occurs_at hay needle place ≡ false → Nowhere (OccursAt hay needle) 0 place
+      → Nowhere (OccursAt hay needle) 0 (place + 1)
   none_there place gone none k low high occurs =
       ⊎_elim
       (λ same. false≢true (sym gone ∙ occurs_at-true hay needle place (subst (OccursAt hay needle) same occurs)))
       (λ other. none k low (omega arith) occurs)
       (cases_eq k place)
 
-  from_after : (after : ℕ) (r : Option ℕ) → Nowhere (OccursAt hay needle) 0 after → FindsNeedle hay needle after r → FindsNeedle hay needle 0 r
-  from_after after None none h = λ k low high occurs. ⊎_elim (λ early. none k low early occurs) (λ late. h k late high occurs) (cases_lt k after)
+  from_after : (after : ℕ) (r : Option ℕ) → Nowhere (OccursAt hay needle) 0 after → FindsNeedle hay needle after r
+      → FindsNeedle hay needle 0 r
+  from_after after None none h =
+      λ k low high occurs. ⊎_elim (λ early. none k low early occurs) (λ late. h k late high occurs) (cases_lt k after)
   from_after after (Some k) none h = (
     record {
       low = omega arith;
       high = h.0.high;
-      before = λ m low below occurs. ⊎_elim (λ early. none m low early occurs) (λ late. h.0.before m late below occurs) (cases_lt m after);
+      before =
+          λ m low below occurs. ⊎_elim (λ early. none m low early occurs) (λ late. h.0.before m late below occurs) (cases_lt m after);
     },
     h.1,
   )
 
   -- a search after that place
-  pub found_after : (after : ℕ) (r : Option ℕ) → after ≤ length hay → Nowhere (OccursAt hay needle) 0 after → FindsNeedle (take (length hay - after) (drop after hay)) needle 0 r → FindsNeedle hay needle 0 (option_map (λ k. after + k) r)
+  pub found_after : (after : ℕ) (r : Option ℕ) → after ≤ length hay → Nowhere (OccursAt hay needle) 0 after
+      → FindsNeedle (take (length hay - after) (drop after hay)) needle 0 r
+      → FindsNeedle hay needle 0 (option_map (λ k. after + k) r)
   found_after after r inside none h =
-      subst (FindsNeedle hay needle 0) (sym (FindsNeedle-slice hay needle after inside r h)) (from_after after (first_place hay needle after) none (first_place-FindsNeedle hay needle after))
+      subst (FindsNeedle hay needle 0) (sym (FindsNeedle-slice hay needle after inside r h))
+      (from_after after (first_place hay needle after) none (first_place-FindsNeedle hay needle after))
 
-  pub place_inside : (place : ℕ) → place < length (take (length hay - (length needle - 1)) (drop (length needle - 1) hay)) → place + 1 ≤ length hay
+  pub place_inside : (place : ℕ)
+      → place < length (take (length hay - (length needle - 1)) (drop (length needle - 1) hay)) → place + 1 ≤ length hay
   place_inside place low =
-      let size : length (take (length hay - (length needle - 1)) (drop (length needle - 1) hay)) ≡ length hay - (length needle - 1) = ap length (take_rest hay (length needle - 1)) ∙ length-drop (length needle - 1) hay in
+      let size : length (take (length hay - (length needle - 1)) (drop (length needle - 1) hay))
+      ≡ length hay - (length needle - 1) =
+      ap length (take_rest hay (length needle - 1)) ∙ length-drop (length needle - 1) hay in
       omega arith

@@ -19,7 +19,8 @@ module _ (text bytes : List ℕ) where
   unfolding least_place
   hit i n h = cond-true _ _ _ h
 
-  miss : (i n : ℕ) → occurs_at text bytes i ≡ false → least_place text bytes i (suc n) ≡ least_place text bytes (i + 1) n
+  miss : (i n : ℕ) → occurs_at text bytes i ≡ false
+      → least_place text bytes i (suc n) ≡ least_place text bytes (i + 1) n
   unfolding least_place
   miss i n h = cond-false _ _ _ h
 
@@ -28,7 +29,8 @@ module _ (text bytes : List ℕ) where
   empty i = refl
 
   -- a search that begins one place later, after a place where the bytes do not stand
-  IsFirst-later : (i j : ℕ) → ¬ OccursAt text bytes i → (r : Option ℕ) → IsFirst (OccursAt text bytes) (i + 1) j r → IsFirst (OccursAt text bytes) i j r
+  IsFirst-later : (i j : ℕ) → ¬ OccursAt text bytes i → (r : Option ℕ) → IsFirst (OccursAt text bytes) (i + 1) j r
+      → IsFirst (OccursAt text bytes) i j r
   IsFirst-later i j gone None h = λ k low high occurs.
       ⊎_elim (λ same. gone (subst (OccursAt text bytes) same occurs)) (λ other. h k (omega arith) high occurs) (cases_eq k i)
   IsFirst-later i j gone (Some k) h = (
@@ -45,7 +47,8 @@ module _ (text bytes : List ℕ) where
   least_place-first : (n i : ℕ) → IsFirst (OccursAt text bytes) i (i + n) (least_place text bytes i n)
   least_place-first zero i = rw (empty i) (λ k low high occurs. absurd (omega arith))
   least_place-first (suc n) i = ⊎_elim
-      (λ yes. rw (hit i n yes) (record { low = omega arith; high = omega arith; before = λ m low below occurs. absurd (omega arith) }, OccursAt-true text bytes i yes))
+      (λ yes. rw (hit i n yes)
+      (record { low = omega arith; high = omega arith; before = λ m low below occurs. absurd (omega arith) }, OccursAt-true text bytes i yes))
       (λ no.
       let step : i + 1 + n ≡ i + suc n = omega arith in
       rw (miss i n no) (IsFirst-later i (i + suc n) (λ occurs. absurd (false≢true (sym no ∙ occurs_at-true text bytes i occurs))) _
@@ -94,13 +97,15 @@ module _ (text bytes : List ℕ) where
     reads = λ j below. get_or-drop i text (k + j) 0 ∙ ap (λ m. get_or text m 0) (omega arith) ∙ h.reads j below;
   }
 
-  none_from : (i : ℕ) → i ≤ length text → Nowhere (OccursAt (drop i text) bytes) 0 (length (drop i text) + 1) → Nowhere (OccursAt text bytes) i (length text + 1)
+  none_from : (i : ℕ) → i ≤ length text → Nowhere (OccursAt (drop i text) bytes) 0 (length (drop i text) + 1)
+      → Nowhere (OccursAt text bytes) i (length text + 1)
   none_from i in_text h k low high occurs =
       let there : i + (k - i) ≡ k = omega arith in
       h (k - i) (omega arith) (omega (arith, length-drop i text)) (OccursAt-unshift i (k - i) in_text (subst (OccursAt text bytes) (sym there) occurs))
 
   -- a search in the rest of the text from i on
-  pub FindsNeedle-rest : (i : ℕ) → i ≤ length text → (r : Option ℕ) → FindsNeedle (drop i text) bytes 0 r → option_map (λ k. i + k) r ≡ first_place text bytes i
+  pub FindsNeedle-rest : (i : ℕ) → i ≤ length text → (r : Option ℕ) → FindsNeedle (drop i text) bytes 0 r
+      → option_map (λ k. i + k) r ≡ first_place text bytes i
   FindsNeedle-rest i in_text None h = first_place-value i None (none_from i in_text h)
   FindsNeedle-rest i in_text (Some k) h = first_place-value i (Some (i + k)) (
     record {
@@ -113,8 +118,11 @@ module _ (text bytes : List ℕ) where
     OccursAt-shift i k in_text h.1,
   )
 
-  pub FindsNeedle-slice : (i : ℕ) → i ≤ length text → (r : Option ℕ) → FindsNeedle (take (length text - i) (drop i text)) bytes 0 r → option_map (λ k. i + k) r ≡ first_place text bytes i
-  FindsNeedle-slice i in_text r h = FindsNeedle-rest i in_text r (subst (λ l. FindsNeedle l bytes 0 r) (take_rest text i) h)
+  pub FindsNeedle-slice : (i : ℕ) → i ≤ length text → (r : Option ℕ)
+      → FindsNeedle (take (length text - i) (drop i text)) bytes 0 r
+      → option_map (λ k. i + k) r ≡ first_place text bytes i
+  FindsNeedle-slice i in_text r h =
+      FindsNeedle-rest i in_text r (subst (λ l. FindsNeedle l bytes 0 r) (take_rest text i) h)
 
   stands-if : (i : ℕ) (rest : List ℕ) → i ≤ length text → drop i text ≡ bytes ++ rest → OccursAt text bytes i
   stands-if i rest in_text e = record {
@@ -123,7 +131,8 @@ module _ (text bytes : List ℕ) where
   }
 
   -- whether the rest of the text from i on begins with the bytes
-  pub occurs_at-rest : (i : ℕ) → i ≤ length text → (r : Bool) → r ≡ pointwise nat_eq bytes (take (length bytes) (drop i text)) → r ≡ occurs_at text bytes i
+  pub occurs_at-rest : (i : ℕ) → i ≤ length text → (r : Bool)
+      → r ≡ pointwise nat_eq bytes (take (length bytes) (drop i text)) → r ≡ occurs_at text bytes i
   occurs_at-rest i in_text r e =
       let says = starts_is Decides-eqb (drop i text) bytes r e in
       ⊎_elim
@@ -134,8 +143,11 @@ module _ (text bytes : List ℕ) where
       (cases_Bool (occurs_at text bytes i)))
       (cases_Bool r)
 
-  pub occurs_at-slice : (i : ℕ) → i ≤ length text → (r : Bool) → r ≡ pointwise nat_eq bytes (take (length bytes) (take (length text - i) (drop i text))) → r ≡ occurs_at text bytes i
-  occurs_at-slice i in_text r e = occurs_at-rest i in_text r (e ∙ ap (λ l. pointwise nat_eq bytes (take (length bytes) l)) (take_rest text i))
+  pub occurs_at-slice : (i : ℕ) → i ≤ length text → (r : Bool)
+      → r ≡ pointwise nat_eq bytes (take (length bytes) (take (length text - i) (drop i text)))
+      → r ≡ occurs_at text bytes i
+  occurs_at-slice i in_text r e =
+      occurs_at-rest i in_text r (e ∙ ap (λ l. pointwise nat_eq bytes (take (length bytes) l)) (take_rest text i))
 
   pub occurs_at-past : (i : ℕ) → length text < i → occurs_at text bytes i ≡ false
   occurs_at-past i past = and_left _ _ (lt-leb (i + length bytes) (length text) (omega arith))

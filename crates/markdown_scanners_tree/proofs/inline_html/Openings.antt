@@ -29,8 +29,10 @@ module _ (text : List ℕ) (b : ℕ) (bytes : List ℕ) (p : ℕ) where
       go zero below = ap (λ m. get_or text m 0) (add-zero p) ∙ get_or_from_slice_get text p b 0 first
       go (suc j) below = ap (λ m. get_or text m 0) (omega arith) ∙ h.reads j (omega arith)
 
-  pub stands-cons : slice_get text p ≡ Some b → occurs_at text bytes (p + 1) ≡ true → occurs_at text (b ∷ bytes) p ≡ true
-  stands-cons first rest = occurs_at-true text (b ∷ bytes) p (cons-OccursAt first (OccursAt-true text bytes (p + 1) rest))
+  pub stands-cons : slice_get text p ≡ Some b → occurs_at text bytes (p + 1) ≡ true
+      → occurs_at text (b ∷ bytes) p ≡ true
+  stands-cons first rest =
+      occurs_at-true text (b ∷ bytes) p (cons-OccursAt first (OccursAt-true text bytes (p + 1) rest))
 
   pub stands-not-tail : occurs_at text bytes (p + 1) ≡ false → occurs_at text (b ∷ bytes) p ≡ false
   stands-not-tail rest = false_from_ne_true _ (λ there.
@@ -40,38 +42,50 @@ module _ (text : List ℕ) (b : ℕ) (bytes : List ℕ) (p : ℕ) where
   stands-not-head other = false_from_ne_true _ (λ there. other (head-OccursAt (OccursAt-true text (b ∷ bytes) p there)))
 
 stands-empty : (text : List ℕ) (p : ℕ) → p ≤ length text → occurs_at text [] p ≡ true
-stands-empty text p in_text = occurs_at-true text [] p (record { fits = omega arith; reads = λ j below. absurd (omega arith) })
+stands-empty text p in_text =
+    occurs_at-true text [] p (record { fits = omega arith; reads = λ j below. absurd (omega arith) })
 
 pub stands-one : (text : List ℕ) (b p : ℕ) → slice_get text p ≡ Some b → occurs_at text (b ∷ []) p ≡ true
-stands-one text b p first = stands-cons text b [] p first (stands-empty text (p + 1) (let within = slice_get_within text p b first in omega arith))
+stands-one text b p first =
+    stands-cons text b [] p first (stands-empty text (p + 1) (let within = slice_get_within text p b first in omega arith))
 
-pub stands-other : (text : List ℕ) (b c : ℕ) (bytes : List ℕ) (p : ℕ) → slice_get text p ≡ Some c → c ≢ b → occurs_at text (b ∷ bytes) p ≡ false
-stands-other text b c bytes p first other = stands-not-head text b bytes p (λ same. other (same_Some c b (sym first ∙ same)))
+pub stands-other : (text : List ℕ) (b c : ℕ) (bytes : List ℕ) (p : ℕ) → slice_get text p ≡ Some c → c ≢ b
+    → occurs_at text (b ∷ bytes) p ≡ false
+stands-other text b c bytes p first other =
+    stands-not-head text b bytes p (λ same. other (same_Some c b (sym first ∙ same)))
 
-pub stands-nowhere : (text : List ℕ) (b : ℕ) (bytes : List ℕ) (p : ℕ) → slice_get text p ≡ None → occurs_at text (b ∷ bytes) p ≡ false
+pub stands-nowhere : (text : List ℕ) (b : ℕ) (bytes : List ℕ) (p : ℕ) → slice_get text p ≡ None
+    → occurs_at text (b ∷ bytes) p ≡ false
 stands-nowhere text b bytes p gone = stands-not-head text b bytes p (λ same. none-some b (sym gone ∙ same))
 
 module _ (text : List ℕ) (p : ℕ) where
-  pub declared_at-comment : slice_get text p ≡ Some hyphen → slice_get text (p + 1) ≡ Some hyphen → declared_at text p ≡ Begins Comment
+  pub declared_at-comment : slice_get text p ≡ Some hyphen → slice_get text (p + 1) ≡ Some hyphen
+      → declared_at text p ≡ Begins Comment
   unfolding declared_at
-  declared_at-comment first second = rw (stands-cons text hyphen (hyphen ∷ []) p first (stands-one text hyphen (p + 1) second))
+  declared_at-comment first second =
+      rw (stands-cons text hyphen (hyphen ∷ []) p first (stands-one text hyphen (p + 1) second))
 
-  pub declared_at-hyphen : slice_get text p ≡ Some hyphen → slice_get text (p + 1) ≢ Some hyphen → declared_at text p ≡ Hyphen
+  pub declared_at-hyphen : slice_get text p ≡ Some hyphen → slice_get text (p + 1) ≢ Some hyphen
+      → declared_at text p ≡ Hyphen
   unfolding declared_at
   declared_at-hyphen first second =
       rw (stands-not-tail text hyphen (hyphen ∷ []) p (stands-not-head text hyphen [] (p + 1) second), stands-one text hyphen p first)
 
   -- no hyphen stands at the place
-  no-hyphens : (c : ℕ) → slice_get text p ≡ Some c → c ≢ hyphen → (occurs_at text (hyphen ∷ hyphen ∷ []) p ≡ false) × (occurs_at text (hyphen ∷ []) p ≡ false)
-  no-hyphens c first other = (stands-other text hyphen c (hyphen ∷ []) p first other, stands-other text hyphen c [] p first other)
+  no-hyphens : (c : ℕ) → slice_get text p ≡ Some c → c ≢ hyphen
+      → (occurs_at text (hyphen ∷ hyphen ∷ []) p ≡ false) × (occurs_at text (hyphen ∷ []) p ≡ false)
+  no-hyphens c first other =
+      (stands-other text hyphen c (hyphen ∷ []) p first other, stands-other text hyphen c [] p first other)
 
-  pub declared_at-cdata : slice_get text p ≡ Some left_bracket → occurs_at text (codes "CDATA[") (p + 1) ≡ true → declared_at text p ≡ Begins Cdata
+  pub declared_at-cdata : slice_get text p ≡ Some left_bracket → occurs_at text (codes "CDATA[") (p + 1) ≡ true
+      → declared_at text p ≡ Begins Cdata
   unfolding declared_at
   declared_at-cdata first rest =
       let free = no-hyphens left_bracket first (λ e. omega arith) in
       rw (free.0, free.1, stands-cons text left_bracket (codes "CDATA[") p first rest)
 
-  pub declared_at-bracket : slice_get text p ≡ Some left_bracket → occurs_at text (codes "CDATA[") (p + 1) ≡ false → declared_at text p ≡ Bracket
+  pub declared_at-bracket : slice_get text p ≡ Some left_bracket → occurs_at text (codes "CDATA[") (p + 1) ≡ false
+      → declared_at text p ≡ Bracket
   unfolding declared_at
   declared_at-bracket first rest =
       let free = no-hyphens left_bracket first (λ e. omega arith) in
@@ -91,14 +105,17 @@ module _ (text : List ℕ) (p : ℕ) where
         get_or_from_slice_get text p c 0 first,
       ) refl
 
-  pub declared_at-letter : (c : ℕ) → slice_get text p ≡ Some c → is_letter c ≡ true → declared_at text p ≡ Begins Declaration
+  pub declared_at-letter : (c : ℕ) → slice_get text p ≡ Some c → is_letter c ≡ true
+      → declared_at text p ≡ Begins Declaration
   declared_at-letter c first letter =
-      let is_no : (b : ℕ) → is_letter b ≡ false → c ≢ b = λ b none e. false≢true (sym none ∙ subst (λ d. is_letter d ≡ true) e letter) in
+      let is_no : (b : ℕ) → is_letter b ≡ false → c ≢ b =
+      λ b none e. false≢true (sym none ∙ subst (λ d. is_letter d ≡ true) e letter) in
       declared_at-byte c first (is_no hyphen refl) (is_no left_bracket refl) ∙ rw letter refl
 
   pub declared_at-other : (c : ℕ) → slice_get text p ≡ Some c → c ≢ hyphen → c ≢ left_bracket → is_letter c ≡ false
       → declared_at text p ≡ Nothing
-  declared_at-other c first not_hyphen not_bracket letter = declared_at-byte c first not_hyphen not_bracket ∙ rw letter refl
+  declared_at-other c first not_hyphen not_bracket letter =
+      declared_at-byte c first not_hyphen not_bracket ∙ rw letter refl
 
   pub declared_at-end : slice_get text p ≡ None → declared_at text p ≡ Nothing
   unfolding declared_at
@@ -117,4 +134,5 @@ stands-length text bytes p there = (OccursAt-true text bytes p there).fits
 
 pub some_or_not : (o : Option ℕ) (b : ℕ) → (o ≡ Some b) ⊎ (o ≢ Some b)
 some_or_not None b = inr (none-some b)
-some_or_not (Some a) b = ⊎_elim (λ same. inl (ap Some same)) (λ other. inr (λ e. other (same_Some a b e))) (cases_eq a b)
+some_or_not (Some a) b =
+    ⊎_elim (λ same. inl (ap Some same)) (λ other. inr (λ e. other (same_Some a b e))) (cases_eq a b)

@@ -81,7 +81,8 @@ unfolding computing
 hyphen_then_comment = (refl, refl, refl)
 
 -- refusals
-refused : (refusal (new_run (codes "<!a<!>x")) 0 ≡ Some NoOpener) × (refusal (new_run (codes "<!a<!>x")) 1 ≡ Some NoOpener) × (refusal (new_run (codes "<!a<!>x")) 8 ≡ Some NoOpener)
+refused : (refusal (new_run (codes "<!a<!>x")) 0 ≡ Some NoOpener)
+    × (refusal (new_run (codes "<!a<!>x")) 1 ≡ Some NoOpener) × (refusal (new_run (codes "<!a<!>x")) 8 ≡ Some NoOpener)
     × (refusal (run_step (new_run (codes "<!a<!>x")) 2) 2 ≡ Some NotRising) × (refusal (run_step (new_run (codes "<!a<!>x")) 2) 5 ≡ Some InsideFind)
     × ((run_step (new_run (codes "<!a<!>x")) 2).passed ≡ 4) × ((run_step (new_run (codes "<!a<!>x")) 2).steps ≡ 1)
 unfolding computing

@@ -15,7 +15,8 @@ pub record IsScan (text : List ℕ) (guard : HtmlScanGuard) (opening : Opening) 
   pub counts : count ≡ cost text (is_stopped guard p) opening p
 
 module _ (text : List ℕ) (guard : HtmlScanGuard) (p : ℕ) where
-  pub scan-stopped : (kind : Kind) → is_stopped guard p kind ≡ true → IsScan text guard (Begins kind) p None guard (looked_at kind)
+  pub scan-stopped : (kind : Kind) → is_stopped guard p kind ≡ true
+      → IsScan text guard (Begins kind) p None guard (looked_at kind)
   unfolding cost
   scan-stopped kind stopped = record { answers = rw stopped; guards = rw stopped; counts = rw stopped }
 
@@ -36,7 +37,8 @@ module _ (text : List ℕ) (guard : HtmlScanGuard) (p : ℕ) where
   scan-nothing = record { answers = refl; guards = refl; counts = refl }
 
 -- the kinds that are stopped decide what a scan costs
-pub cost-same : (text : List ℕ) (stopped other : Kind → Bool) (opening : Opening) (p : ℕ) → ((kind : Kind) → stopped kind ≡ other kind) → cost text stopped opening p ≡ cost text other opening p
+pub cost-same : (text : List ℕ) (stopped other : Kind → Bool) (opening : Opening) (p : ℕ)
+    → ((kind : Kind) → stopped kind ≡ other kind) → cost text stopped opening p ≡ cost text other opening p
 unfolding cost
 cost-same text stopped other (Begins kind) p same = rw (same kind)
 cost-same text stopped other Hyphen p same = rw (same Comment)
@@ -44,14 +46,16 @@ cost-same text stopped other Bracket p same = refl
 cost-same text stopped other Nothing p same = refl
 
 -- a search hits at its start or later, and the hit ends in the text
-pub first_place-bounds : (text bytes : List ℕ) (i hit : ℕ) → first_place text bytes i ≡ Some hit → (i ≤ hit) × (hit + length bytes ≤ length text)
+pub first_place-bounds : (text bytes : List ℕ) (i hit : ℕ) → first_place text bytes i ≡ Some hit
+    → (i ≤ hit) × (hit + length bytes ≤ length text)
 first_place-bounds text bytes i hit found =
     let first = subst (FindsNeedle text bytes i) found (first_place-FindsNeedle text bytes i) in
     (first.0.low, first.1.fits)
 
 -- one count after another
 pub passing-twice : (t u : CountedBytes) (a b c : ℕ) → u ≡ passing t a → a + b ≡ c → passing u b ≡ passing t c
-passing-twice t u a b c e sum = rw e (let same : t.passed + a + b ≡ t.passed + c = omega arith in ap (λ n. record t { passed = n }) same)
+passing-twice t u a b c e sum =
+    rw e (let same : t.passed + a + b ≡ t.passed + c = omega arith in ap (λ n. record t { passed = n }) same)
 
 pub passing-none : (t : CountedBytes) → t ≡ passing t 0
 passing-none t = let same : t.passed ≡ t.passed + 0 = omega arith in ap (λ n. record t { passed = n }) same
@@ -92,8 +96,11 @@ module _ (t u : CountedBytes) (before : ℕ) (counted : u ≡ passing t before) 
   found-after : (r : Option ℕ) → r ≡ first_place u.text bytes i → first_place t.text bytes i ≡ r
   found-after r found = sym (found ∙ ap (λ v. first_place v.text bytes i) counted)
 
-  counts-after : (v : CountedBytes) (r : Option ℕ) → v ≡ passing u (searched_bytes u.text bytes i r) → v ≡ passing t (before + searched_bytes t.text bytes i r)
-  counts-after v r e = e ∙ ap (λ w. passing w (searched_bytes w.text bytes i r)) counted ∙ passing-twice t (passing t before) before (searched_bytes t.text bytes i r) _ refl refl
+  counts-after : (v : CountedBytes) (r : Option ℕ) → v ≡ passing u (searched_bytes u.text bytes i r)
+      → v ≡ passing t (before + searched_bytes t.text bytes i r)
+  counts-after v r e =
+      e ∙ ap (λ w. passing w (searched_bytes w.text bytes i r)) counted
+      ∙ passing-twice t (passing t before) before (searched_bytes t.text bytes i r) _ refl refl
 
 -- A scan that its guard does not stop: it looks at some bytes and searches behind them.
 module _ (t u v : CountedBytes) (guard : HtmlScanGuard) (p before : ℕ) (kind : Kind) (found : Option ℕ)

@@ -24,29 +24,36 @@ HasFreeLead text p Hyphen = Unit {0}
 HasFreeLead text p Bracket = Unit {0}
 HasFreeLead text p Nothing = Unit {0}
 
-not-among : (x : ℕ) (bytes : List ℕ) → list_all (λ b. not (b == x)) bytes ≡ true → (j : ℕ) → j < length bytes → get_or bytes j 0 ≡ x → ⊥
+not-among : (x : ℕ) (bytes : List ℕ) → list_all (λ b. not (b == x)) bytes ≡ true → (j : ℕ) → j < length bytes
+    → get_or bytes j 0 ≡ x → ⊥
 not-among x [] h j below e = absurd (omega arith)
 not-among x (b ∷ bs) h zero below e = false≢true (sym (ap not (eq-eqb b x e)) ∙ (and_parts _ _ h).0)
 not-among x (b ∷ bs) h (suc j) below e = not-among x bs (and_parts _ _ h).1 j (omega arith) e
 
-cdata-lead : (text : List ℕ) (p : ℕ) → OccursAt text (codes "[CDATA[") p → Nowhere (OccursAt text (codes "]]>")) p (p + 7)
+cdata-lead : (text : List ℕ) (p : ℕ) → OccursAt text (codes "[CDATA[") p
+    → Nowhere (OccursAt text (codes "]]>")) p (p + 7)
 cdata-lead text p h q low high closes =
     let there : p + (q - p) ≡ q = omega arith in
-    let first : get_or text q 0 ≡ right_bracket = ap (λ m. get_or text m 0) (sym (add-zero q)) ∙ closes.reads 0 (omega arith) in
+    let first : get_or text q 0 ≡ right_bracket =
+    ap (λ m. get_or text m 0) (sym (add-zero q)) ∙ closes.reads 0 (omega arith) in
     not-among right_bracket (codes "[CDATA[") refl (q - p) (omega arith) (sym (h.reads (q - p) (omega arith)) ∙ ap (λ m. get_or text m 0) there ∙ first)
 
-letter-lead : (text : List ℕ) (p : ℕ) → is_letter (slice_index text p) ≡ true → Nowhere (OccursAt text (codes ">")) p (p + 1)
+letter-lead : (text : List ℕ) (p : ℕ) → is_letter (slice_index text p) ≡ true
+    → Nowhere (OccursAt text (codes ">")) p (p + 1)
 letter-lead text p letter q low high closes =
     let here : q + 0 ≡ p = omega arith in
-    let first : get_or text p 0 ≡ greater_than_sign = ap (λ m. get_or text m 0) (sym here) ∙ closes.reads 0 (omega arith) in
+    let first : get_or text p 0 ≡ greater_than_sign =
+    ap (λ m. get_or text m 0) (sym here) ∙ closes.reads 0 (omega arith) in
     false≢true (subst (λ b. is_letter b ≡ true) first letter)
 
 -- the cases of what is declared, by the tests in turn
 chain : Bool → Bool → Bool → Bool → Bool → Opening
 unfolding declared_at
-chain a b c d e = cond a (Begins Comment) (cond b Hyphen (cond c (Begins Cdata) (cond d Bracket (cond e (Begins Declaration) Nothing))))
+chain a b c d e =
+    cond a (Begins Comment) (cond b Hyphen (cond c (Begins Cdata) (cond d Bracket (cond e (Begins Declaration) Nothing))))
 
-empty-lead : (text : List ℕ) (kind : Kind) (p : ℕ) → lead kind ≡ 0 → Nowhere (OccursAt text (closer kind)) p (p + lead kind)
+empty-lead : (text : List ℕ) (kind : Kind) (p : ℕ) → lead kind ≡ 0
+    → Nowhere (OccursAt text (closer kind)) p (p + lead kind)
 empty-lead text kind p none q low high = absurd (omega arith)
 
 chain-lead : (text : List ℕ) (p : ℕ) (a b c d e : Bool)
@@ -71,7 +78,8 @@ processing-lead text p = empty-lead text Processing p refl
 
 -- ---- guards
 
-earlier-stop : (guard : HtmlScanGuard) (p q : ℕ) → p ≤ q → (kind : Kind) → is_stopped guard q kind ≡ true → is_stopped guard p kind ≡ true
+earlier-stop : (guard : HtmlScanGuard) (p q : ℕ) → p ≤ q → (kind : Kind) → is_stopped guard q kind ≡ true
+    → is_stopped guard p kind ≡ true
 earlier-stop guard p q le Comment s = let above = ltb-true _ _ s in lt-ltb _ guard.comment (omega arith)
 earlier-stop guard p q le Cdata s = let above = ltb-true _ _ s in lt-ltb _ guard.cdata (omega arith)
 earlier-stop guard p q le Declaration s = let above = ltb-true _ _ s in lt-ltb _ guard.declaration (omega arith)
@@ -84,7 +92,8 @@ module _ (text : List ℕ) (guard : HtmlScanGuard) where
   pub IsTrueGuard-later : (p q : ℕ) → p ≤ q → IsTrueGuard text guard p → IsTrueGuard text guard q
   IsTrueGuard-later p q le is kind s = Nowhere-later le (is kind (earlier-stop guard p q le kind s))
 
-  with_number-true : (q number : ℕ) → IsTrueGuard text guard q → (kind : Kind) → Nowhere (OccursAt text (closer kind)) q (length text + 1) → IsTrueGuard text (with_number guard kind number) q
+  with_number-true : (q number : ℕ) → IsTrueGuard text guard q → (kind : Kind)
+      → Nowhere (OccursAt text (closer kind)) q (length text + 1) → IsTrueGuard text (with_number guard kind number) q
   with_number-true q number is Comment none Comment s = none
   with_number-true q number is Comment none Cdata s = is Cdata s
   with_number-true q number is Comment none Declaration s = is Declaration s
@@ -103,7 +112,8 @@ module _ (text : List ℕ) (guard : HtmlScanGuard) where
   with_number-true q number is Processing none Processing s = none
 
   -- after a hit only the comments' number changes, to a place below the find
-  hit-true : (q hit : ℕ) → IsTrueGuard text guard q → (kind : Kind) → hit + length (closer kind) ≤ q → IsTrueGuard text (searched_guard text guard kind (Some hit)) q
+  hit-true : (q hit : ℕ) → IsTrueGuard text guard q → (kind : Kind) → hit + length (closer kind) ≤ q
+      → IsTrueGuard text (searched_guard text guard kind (Some hit)) q
   hit-true q hit is Comment above Comment s = let below = ltb-true _ _ s in absurd (omega arith)
   hit-true q hit is Comment above Cdata s = is Cdata s
   hit-true q hit is Comment above Declaration s = is Declaration s
@@ -114,18 +124,22 @@ module _ (text : List ℕ) (guard : HtmlScanGuard) where
 
   module _ (p : ℕ) (is : IsTrueGuard text guard p) where
     -- the answer and the guard, by whether the kind is stopped and its closer is found
-    answers-kind : (kind : Kind) (stopped : Bool) → is_stopped guard p kind ≡ stopped → cond stopped None (closed_at text kind p) ≡ closed_at text kind p
+    answers-kind : (kind : Kind) (stopped : Bool) → is_stopped guard p kind ≡ stopped
+        → cond stopped None (closed_at text kind p) ≡ closed_at text kind p
     answers-kind kind false e = refl
     answers-kind kind true e =
-        let none = first_place-value text (closer kind) (p + lead kind) None (Nowhere-later (omega arith) (is kind e)) in
+        let none =
+        first_place-value text (closer kind) (p + lead kind) None (Nowhere-later (omega arith) (is kind e)) in
         rw (← none)
 
-    kind-stays_true : (kind : Kind) → HasFreeLead text p (Begins kind) → (stopped : Bool) → (found : Option ℕ) → first_closer text kind p ≡ found
+    kind-stays_true : (kind : Kind) → HasFreeLead text p (Begins kind) → (stopped : Bool) → (found : Option ℕ)
+        → first_closer text kind p ≡ found
         → (q : ℕ) → p < q → IfSome (cond stopped None (closed_at text kind p)) (λ end. end ≤ q)
         → IsTrueGuard text (cond stopped guard (searched_guard text guard kind found)) q
     kind-stays_true kind free true found e q later outside = IsTrueGuard-later p q (omega arith) is
     kind-stays_true kind free false None e q later outside =
-        let gone = subst (FindsNeedle text (closer kind) (p + lead kind)) e (first_place-FindsNeedle text (closer kind) (p + lead kind)) in
+        let gone =
+        subst (FindsNeedle text (closer kind) (p + lead kind)) e (first_place-FindsNeedle text (closer kind) (p + lead kind)) in
         with_number-true q (length text) (IsTrueGuard-later p q (omega arith) is) kind (Nowhere-later (omega arith) (Nowhere-then free gone))
     kind-stays_true kind free false (Some hit) e q later outside =
         hit-true q hit (IsTrueGuard-later p q (omega arith) is) kind (rw e at outside)
@@ -136,7 +150,9 @@ module _ (text : List ℕ) (guard : HtmlScanGuard) where
     true_answer Bracket = refl
     true_answer Nothing = refl
 
-    pub true_after : (opening : Opening) → HasFreeLead text p opening → (q : ℕ) → p < q → IfSome (guarded_answer text guard opening p) (λ end. end ≤ q) → IsTrueGuard text (guard_after text guard opening p) q
+    pub true_after : (opening : Opening) → HasFreeLead text p opening → (q : ℕ) → p < q
+        → IfSome (guarded_answer text guard opening p) (λ end. end ≤ q)
+        → IsTrueGuard text (guard_after text guard opening p) q
     true_after (Begins kind) free q later outside = kind-stays_true kind free _ _ refl q later outside
     true_after Hyphen free q later outside = IsTrueGuard-later p q (omega arith) is
     true_after Bracket free q later outside = IsTrueGuard-later p q (omega arith) is
@@ -144,11 +160,13 @@ module _ (text : List ℕ) (guard : HtmlScanGuard) where
 
 -- ---- what begins at a place, by the mark of its opener
 
-pub opening_at-declared : (text : List ℕ) (p : ℕ) → ends_opener exclamation_mark text p ≡ true → opening_at text p ≡ declared_at text p
+pub opening_at-declared : (text : List ℕ) (p : ℕ) → ends_opener exclamation_mark text p ≡ true
+    → opening_at text p ≡ declared_at text p
 unfolding opening_at
 opening_at-declared text p e = rw e
 
-one-mark : (text : List ℕ) (p : ℕ) → ends_opener question_mark text p ≡ true → ends_opener exclamation_mark text p ≡ false
+one-mark : (text : List ℕ) (p : ℕ) → ends_opener question_mark text p ≡ true
+    → ends_opener exclamation_mark text p ≡ false
 one-mark text p question = false_from_ne_true _ (λ bang.
     let one : 1 < 2 = omega arith in
     let a = OccursAt-true text (less_than_sign ∷ question_mark ∷ []) (p - 2) (and_parts (nat_le 2 p) _ question).1 in
@@ -158,7 +176,8 @@ one-mark text p question = false_from_ne_true _ (λ bang.
     apart : ◌≡◌ {A = ℕ} question_mark exclamation_mark → ⊥
     apart e = omega (arith, e)
 
-pub opening_at-processing : (text : List ℕ) (p : ℕ) → ends_opener question_mark text p ≡ true → opening_at text p ≡ Begins Processing
+pub opening_at-processing : (text : List ℕ) (p : ℕ) → ends_opener question_mark text p ≡ true
+    → opening_at text p ≡ Begins Processing
 unfolding opening_at
 opening_at-processing text p e = rw (one-mark text p e, e)
 
@@ -176,15 +195,18 @@ true-scan text guard opening p answer after a g is_here free is = record {
 pub true-declared : (text : List ℕ) (guard : HtmlScanGuard) (p : ℕ) (answer : Option ℕ) (after : HtmlScanGuard)
     → answer ≡ guarded_answer text guard (declared_at text p) p → after ≡ guard_after text guard (declared_at text p) p
     → ends_opener exclamation_mark text p ≡ true → IsTrueGuard text guard p → IsTrueScan text p answer after
-true-declared text guard p answer after a g opener is = true-scan text guard _ p answer after a g (opening_at-declared text p opener) (declared_at-lead text p) is
+true-declared text guard p answer after a g opener is =
+    true-scan text guard _ p answer after a g (opening_at-declared text p opener) (declared_at-lead text p) is
 
 pub true-processing : (text : List ℕ) (guard : HtmlScanGuard) (p : ℕ) (answer : Option ℕ) (after : HtmlScanGuard)
     → answer ≡ guarded_answer text guard (Begins Processing) p → after ≡ guard_after text guard (Begins Processing) p
     → ends_opener question_mark text p ≡ true → IsTrueGuard text guard p → IsTrueScan text p answer after
-true-processing text guard p answer after a g opener is = true-scan text guard _ p answer after a g (opening_at-processing text p opener) (processing-lead text p) is
+true-processing text guard p answer after a g opener is =
+    true-scan text guard _ p answer after a g (opening_at-processing text p opener) (processing-lead text p) is
 
 -- the same where the scan was told over the text with one byte counted
-pub true-declared-after : (t u : CountedBytes) (guard : HtmlScanGuard) (p count : ℕ) (answer : Option ℕ) (after : HtmlScanGuard) → u ≡ passing t count
+pub true-declared-after : (t u : CountedBytes) (guard : HtmlScanGuard) (p count : ℕ) (answer : Option ℕ) (after : HtmlScanGuard)
+    → u ≡ passing t count
     → answer ≡ guarded_answer u.text guard (declared_at u.text p) p → after ≡ guard_after u.text guard (declared_at u.text p) p
     → ends_opener exclamation_mark t.text p ≡ true → IsTrueGuard t.text guard p → IsTrueScan t.text p answer after
 true-declared-after t u guard p count answer after counted a g =
@@ -202,20 +224,28 @@ opener-in mark text p e =
     let two = leb-true _ _ parts.0 in
     (two, omega (arith, (OccursAt-true text (less_than_sign ∷ mark ∷ []) (p - 2) parts.1).fits))
 
-some-mark : (bang question : Bool) (mark : ℕ) → cond bang (Some exclamation_mark) (cond question (Some question_mark) None) ≡ Some mark → ((bang ≡ true) × (mark ≡ exclamation_mark)) ⊎ ((question ≡ true) × (mark ≡ question_mark))
+some-mark : (bang question : Bool) (mark : ℕ)
+    → cond bang (Some exclamation_mark) (cond question (Some question_mark) None) ≡ Some mark
+    → ((bang ≡ true) × (mark ≡ exclamation_mark)) ⊎ ((question ≡ true) × (mark ≡ question_mark))
 some-mark true question mark e = inl (refl, same_Some mark exclamation_mark (sym e))
 some-mark false true mark e = inr (refl, same_Some mark question_mark (sym e))
 some-mark false false mark e = absurd (none-some mark e)
 
 -- the mark tells which opener ends at the place
-pub opener-mark : (text : List ℕ) (p mark : ℕ) → opener_before text p ≡ Some mark → ((ends_opener exclamation_mark text p ≡ true) × (mark ≡ exclamation_mark)) ⊎ ((ends_opener question_mark text p ≡ true) × (mark ≡ question_mark))
+pub opener-mark : (text : List ℕ) (p mark : ℕ) → opener_before text p ≡ Some mark
+    → ((ends_opener exclamation_mark text p ≡ true) × (mark ≡ exclamation_mark)) ⊎ ((ends_opener question_mark text p ≡ true) × (mark ≡ question_mark))
 opener-mark text p mark e = some-mark _ _ mark e
 
-pub opener-bang : (text : List ℕ) (p mark : ℕ) → opener_before text p ≡ Some mark → mark ≡ exclamation_mark → ends_opener exclamation_mark text p ≡ true
-opener-bang text p mark e is_bang = ⊎_elim (λ bang. bang.0) (λ question. absurd (omega (arith, question.1))) (opener-mark text p mark e)
+pub opener-bang : (text : List ℕ) (p mark : ℕ) → opener_before text p ≡ Some mark → mark ≡ exclamation_mark
+    → ends_opener exclamation_mark text p ≡ true
+opener-bang text p mark e is_bang =
+    ⊎_elim (λ bang. bang.0) (λ question. absurd (omega (arith, question.1))) (opener-mark text p mark e)
 
-pub opener-question : (text : List ℕ) (p mark : ℕ) → opener_before text p ≡ Some mark → (mark ≡ exclamation_mark → ⊥) → ends_opener question_mark text p ≡ true
-opener-question text p mark e no_bang = ⊎_elim (λ bang. absurd (no_bang bang.1)) (λ question. question.0) (opener-mark text p mark e)
+pub opener-question : (text : List ℕ) (p mark : ℕ) → opener_before text p ≡ Some mark → (mark ≡ exclamation_mark → ⊥)
+    → ends_opener question_mark text p ≡ true
+opener-question text p mark e no_bang =
+    ⊎_elim (λ bang. absurd (no_bang bang.1)) (λ question. question.0) (opener-mark text p mark e)
 
 pub opener-bounds : (text : List ℕ) (p mark : ℕ) → opener_before text p ≡ Some mark → (2 ≤ p) × (p ≤ length text)
-opener-bounds text p mark e = ⊎_elim (λ bang. opener-in exclamation_mark text p bang.0) (λ question. opener-in question_mark text p question.0) (opener-mark text p mark e)
+opener-bounds text p mark e =
+    ⊎_elim (λ bang. opener-in exclamation_mark text p bang.0) (λ question. opener-in question_mark text p question.0) (opener-mark text p mark e)

@@ -6,11 +6,13 @@ use Rattle.markdown_scanners_tree.specs.declared.inline_html.HtmlStop.{HtmlStop}
 use Rattle.markdown_scanners_tree.specs.inline_html.InlineHtml.{find_at}
 use Rattle.markdown_scanners_tree.specs.inline_html.run.Run.{Run, refusal, answer_of, run_step, run_answers, run_passed, run_stop}
 
-pub answer-err : (run : Run) (p : ℕ) (why : Option HtmlStop) (stop : HtmlStop) → Err stop ≡ answer_of run p why → why ≡ Some stop
+pub answer-err : (run : Run) (p : ℕ) (why : Option HtmlStop) (stop : HtmlStop) → Err stop ≡ answer_of run p why
+    → why ≡ Some stop
 answer-err run p None stop e = absurd (cc)
 answer-err run p (Some other) stop e = cc
 
-pub answer-ok : (run : Run) (p : ℕ) (why : Option HtmlStop) (answer : Option ℕ) → Ok answer ≡ answer_of run p why → (why ≡ None) × (answer ≡ find_at run.text p)
+pub answer-ok : (run : Run) (p : ℕ) (why : Option HtmlStop) (answer : Option ℕ) → Ok answer ≡ answer_of run p why
+    → (why ≡ None) × (answer ≡ find_at run.text p)
 answer-ok run p None answer e = (refl, cc)
 answer-ok run p (Some other) answer e = absurd (cc)
 
@@ -29,13 +31,17 @@ module _ (run : Run) (places : List ℕ) (i : ℕ) (below : i < length places) w
     stop-refused = rw (next, refused)
 
   module _ (free : refusal run (get_or places i 0) ≡ None) where
-    pub answers-accepted : (before : List (Option ℕ)) → (before ++ find_at run.text (get_or places i 0) ∷ []) ++ run_answers (run_step run (get_or places i 0)) (drop (i + 1) places) ≡ before ++ run_answers run (drop i places)
+    pub answers-accepted : (before : List (Option ℕ))
+        → (before ++ find_at run.text (get_or places i 0) ∷ []) ++ run_answers (run_step run (get_or places i 0)) (drop (i + 1) places)
+        ≡ before ++ run_answers run (drop i places)
     answers-accepted before = rw (next, free) (append_assoc before _ _)
 
-    pub passed-accepted : run_passed (run_step run (get_or places i 0)) (drop (i + 1) places) ≡ run_passed run (drop i places)
+    pub passed-accepted : run_passed (run_step run (get_or places i 0)) (drop (i + 1) places)
+        ≡ run_passed run (drop i places)
     passed-accepted = rw (next, free)
 
-    pub stop-accepted : run_stop (run_step run (get_or places i 0)) (i + 1) (drop (i + 1) places) ≡ run_stop run i (drop i places)
+    pub stop-accepted : run_stop (run_step run (get_or places i 0)) (i + 1) (drop (i + 1) places)
+        ≡ run_stop run i (drop i places)
     stop-accepted = rw (next, free)
 
 -- a run answers at most one place each

@@ -12,7 +12,8 @@ use Rattle.markdown_scanners_tree.proofs.inline_html.Scans.{cost-same}
 abbrev Agrees : Run → List ℕ → Type 0
 Agrees run earlier = (kind : Kind) → is_shut run.shut kind ≡ is_shut_after run.text earlier kind
 
-shut_by-is : (shut : ShutKinds) (opening : Opening) (found : Option ℕ) (kind : Kind) → is_shut (shut_by shut opening found) kind ≡ (begins_kind kind opening && is_none found || is_shut shut kind)
+shut_by-is : (shut : ShutKinds) (opening : Opening) (found : Option ℕ) (kind : Kind)
+    → is_shut (shut_by shut opening found) kind ≡ (begins_kind kind opening && is_none found || is_shut shut kind)
 shut_by-is shut (Begins Comment) None Comment = refl
 shut_by-is shut (Begins Comment) None Cdata = refl
 shut_by-is shut (Begins Comment) None Declaration = refl
@@ -36,18 +37,23 @@ shut_by-is shut Nothing found kind = refl
 
 -- the sum over states is the sum over the accepted places
 abbrev IsSum : Run → List ℕ → List ℕ → Type 0
-IsSum run earlier places = run_passed run places ≡ run.passed + sum_after run.text earlier (take (length (run_answers run places)) places)
+IsSum run earlier places =
+    run_passed run places ≡ run.passed + sum_after run.text earlier (take (length (run_answers run places)) places)
 
-sum-next : (run : Run) (earlier : List ℕ) (p : ℕ) (places : List ℕ) (why : Option HtmlStop) → Agrees run earlier → refusal run p ≡ why → IsSum (run_step run p) (p ∷ earlier) places → IsSum run earlier (p ∷ places)
+sum-next : (run : Run) (earlier : List ℕ) (p : ℕ) (places : List ℕ) (why : Option HtmlStop) → Agrees run earlier
+    → refusal run p ≡ why → IsSum (run_step run p) (p ∷ earlier) places → IsSum run earlier (p ∷ places)
 sum-next run earlier p places (Some stop) agrees e next = rw e (omega arith)
 sum-next run earlier p places None agrees e next =
-    let same = cost-same run.text (is_shut run.shut) (is_shut_after run.text earlier) (opening_at run.text p) p agrees in
+    let same =
+    cost-same run.text (is_shut run.shut) (is_shut_after run.text earlier) (opening_at run.text p) p agrees in
     rw e (omega (arith, next, same))
 
 pub passed-is : (run : Run) (earlier places : List ℕ) → Agrees run earlier → IsSum run earlier places
 passed-is run earlier [] agrees = omega arith
 passed-is run earlier (p ∷ places) agrees =
-    let later : Agrees (run_step run p) (p ∷ earlier) = λ kind. shut_by-is run.shut (opening_at run.text p) (find_at run.text p) kind ∙ ap (λ b. begins_kind kind (opening_at run.text p) && is_none (find_at run.text p) || b) (agrees kind) in
+    let later : Agrees (run_step run p) (p ∷ earlier) =
+    λ kind. shut_by-is run.shut (opening_at run.text p) (find_at run.text p) kind
+    ∙ ap (λ b. begins_kind kind (opening_at run.text p) && is_none (find_at run.text p) || b) (agrees kind) in
     sum-next run earlier p places _ agrees refl (passed-is (run_step run p) (p ∷ earlier) places later)
 
 none_shut : (text : List ℕ) → Agrees (new_run text) []
@@ -56,5 +62,8 @@ none_shut text Cdata = refl
 none_shut text Declaration = refl
 none_shut text Processing = refl
 
-pub passed-counted : (text places : List ℕ) (passed : ℕ) (answers : List (Option ℕ)) → passed ≡ run_passed (new_run text) places → answers ≡ run_answers (new_run text) places → passed ≡ bytes_passed text (take (length answers) places)
-passed-counted text places passed answers all each = let sum = passed-is (new_run text) [] places (none_shut text) in rw each (omega (arith, all, sum))
+pub passed-counted : (text places : List ℕ) (passed : ℕ) (answers : List (Option ℕ))
+    → passed ≡ run_passed (new_run text) places → answers ≡ run_answers (new_run text) places
+    → passed ≡ bytes_passed text (take (length answers) places)
+passed-counted text places passed answers all each =
+    let sum = passed-is (new_run text) [] places (none_shut text) in rw each (omega (arith, all, sum))

@@ -13,7 +13,8 @@ use Rattle.markdown_scanners_tree.proofs.inline_html.scan_comment.Goals as goal
 -- what the test of the second byte tells
 is_some_byte : (o : Option ℕ) (b : ℕ) → false ≡ not (option_eq ◌==◌ o (Some b)) → o ≡ Some b
 is_some_byte None b e = absurd (false≢true e)
-is_some_byte (Some a) b e = ⊎_elim (λ same. ap Some (eqb-true a b same)) (λ other. absurd (false≢true (e ∙ ap not other))) (cases_Bool (a == b))
+is_some_byte (Some a) b e =
+    ⊎_elim (λ same. ap Some (eqb-true a b same)) (λ other. absurd (false≢true (e ∙ ap not other))) (cases_Bool (a == b))
 
 no_such_byte : (o : Option ℕ) (b : ℕ) → true ≡ not (option_eq ◌==◌ o (Some b)) → o ≢ Some b
 no_such_byte None b e = none-some b
@@ -37,7 +38,8 @@ returns-then-place-guard c =
 pub returns-then-ne : goal.returns-then-ne
 returns-then-ne c =
     let text = c.args.text.now in
-    let other = subst (λ o. o ≢ Some hyphen) c.look-second.ensures.answer (no_such_byte c.look-second.result hyphen c.if-ne.ensures) in
+    let other =
+    subst (λ o. o ≢ Some hyphen) c.look-second.ensures.answer (no_such_byte c.look-second.result hyphen c.if-ne.ensures) in
     let scan = scan-hyphen text.text c.args.guard.now c.args.place (le-ltb _ _ c.if-place-guard.false) in
     rw (declared_at-hyphen text.text c.args.place c.requires.stands other)
     (record { answer = scan.answers; guards = scan.guards; counts = scan-counts text c.look-second.new.self _ scan c.look-second.ensures.counts refl })

@@ -52,14 +52,16 @@ two_endings = no_tag _ _ refl
 parted_ending : ¬ IsTagOf (codes "</a" ++ carriage_return ∷ line_feed ∷ codes ">") 2
 parted_ending = no_tag _ _ refl
 
-parted_count : line_endings (kept_text (codes "a" ++ carriage_return ∷ codes "X" ++ line_feed ∷ codes "b") (1 ∷ 0 ∷ [])) ≡ 2
+parted_count : line_endings (kept_text (codes "a" ++ carriage_return ∷ codes "X" ++ line_feed ∷ codes "b") (1 ∷ 0 ∷ []))
+    ≡ 2
 parted_count = refl
 
 joined_count : line_endings (kept_text (codes "a" ++ carriage_return ∷ line_feed ∷ codes "b") (0 ∷ [])) ≡ 1
 joined_count = refl
 
 -- the kept text of "<foo\n> bar>" with the skip 2: its text, and the place after it
-text_over_lines : tag_buffer (kept_text (codes "<foo" ++ line_feed ∷ codes "> bar>") (2 ∷ [])) ≡ codes "<foo" ++ line_feed ∷ codes "bar>"
+text_over_lines : tag_buffer (kept_text (codes "<foo" ++ line_feed ∷ codes "> bar>") (2 ∷ []))
+    ≡ codes "<foo" ++ line_feed ∷ codes "bar>"
 text_over_lines = refl
 
 place_over_lines : place_after 0 (kept_text (codes "<foo" ++ line_feed ∷ codes "> bar>") (2 ∷ [])) ≡ 11

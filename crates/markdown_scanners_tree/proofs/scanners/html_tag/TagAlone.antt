@@ -21,13 +21,15 @@ pub record Plain (place : ℕ) (source : List ℕ) (prefix : List KeptByte) : Ty
   pub plain : AllPass ends_no_line (bytes_of prefix)
   pub end : place_after place prefix ≡ place + length prefix
 
-plain_head : (place b : ℕ) (bs : List ℕ) → is_line_ending b ≡ false → kept_head place (b ∷ bs) ≡ in_line b place ∷ kept_head (place + 1) bs
+plain_head : (place b : ℕ) (bs : List ℕ) → is_line_ending b ≡ false
+    → kept_head place (b ∷ bs) ≡ in_line b place ∷ kept_head (place + 1) bs
 plain_head place b bs plain = rw plain refl
 
 no_head : (place b : ℕ) (bs : List ℕ) → is_line_ending b ≡ true → kept_head place (b ∷ bs) ≡ []
 no_head place b bs ends = rw ends refl
 
-plain_more : (place b : ℕ) (bs : List ℕ) (ks : List KeptByte) → is_line_ending b ≡ false → Plain (place + 1) bs ks → Plain place (b ∷ bs) (in_line b place ∷ ks)
+plain_more : (place b : ℕ) (bs : List ℕ) (ks : List KeptByte) → is_line_ending b ≡ false → Plain (place + 1) bs ks
+    → Plain place (b ∷ bs) (in_line b place ∷ ks)
 plain_more place b bs ks plain more = record {
   after = more.after;
   parts = ap (λ z. b ∷ z) more.parts;
@@ -38,14 +40,17 @@ plain_more place b bs ks plain more = record {
     by : (n : ℕ) → place + 1 + n ≡ place + suc n
     by n = omega arith
 
-head_prefix : (place : ℕ) (source : List ℕ) (prefix rest : List KeptByte) → kept_head place source ≡ prefix ++ rest → Plain place source prefix
-head_prefix place source [] rest e = record { after = source; parts = refl; plain = AllPass-nil ends_no_line; end = omega arith }
+head_prefix : (place : ℕ) (source : List ℕ) (prefix rest : List KeptByte) → kept_head place source ≡ prefix ++ rest
+    → Plain place source prefix
+head_prefix place source [] rest e =
+    record { after = source; parts = refl; plain = AllPass-nil ends_no_line; end = omega arith }
 head_prefix place [] (k ∷ ks) rest e = cc
 head_prefix place (b ∷ bs) (k ∷ ks) rest e =
     elim (cases_Bool (is_line_ending b)) [
       | inl ends ↦ absurd (let none : [] ≡ k ∷ (ks ++ rest) = sym (no_head place b bs ends) ∙ e in cc)
       | inr plain ↦ (
-          let some : in_line b place ∷ kept_head (place + 1) bs ≡ k ∷ (ks ++ rest) = sym (plain_head place b bs plain) ∙ e in
+          let some : in_line b place ∷ kept_head (place + 1) bs ≡ k ∷ (ks ++ rest) =
+          sym (plain_head place b bs plain) ∙ e in
           let head : in_line b place ≡ k = cc in
           let tail : kept_head (place + 1) bs ≡ ks ++ rest = cc in
           subst (λ z. Plain place (b ∷ bs) (z ∷ ks)) head (plain_more place b bs ks plain (head_prefix (place + 1) bs ks rest tail))
@@ -61,7 +66,8 @@ pub record Kept (place : ℕ) (bytes after : List ℕ) : Type 0 where
   pub none : line_endings prefix ≡ 0
 
 prefix_kept : (place : ℕ) (bytes after : List ℕ) → AllPass ends_no_line bytes → Kept place bytes after
-prefix_kept place [] after all = record { prefix = []; rest = kept_head place after; begins = refl; same = refl; none = refl }
+prefix_kept place [] after all =
+    record { prefix = []; rest = kept_head place after; begins = refl; same = refl; none = refl }
 prefix_kept place (b ∷ bs) after all =
     let plain : is_line_ending b ≡ false = not_true (is_line_ending b) (AllPass-head ends_no_line b bs all) in
     let more = prefix_kept (place + 1) bs after (AllPass-tail ends_no_line b bs all) in
@@ -70,29 +76,36 @@ prefix_kept place (b ∷ bs) after all =
       rest = more.rest;
       begins = plain_head place b (bs ++ after) plain ∙ ap (λ z. in_line b place ∷ z) more.begins;
       same = ap (λ z. b ∷ z) more.same;
-      none = sum_by-append (λ (k : KeptByte). cond k.ends_line 1 0) (in_line b place ∷ []) more.prefix ∙ (let rest : line_endings more.prefix ≡ 0 = more.none in omega arith);
+      none =
+          sum_by-append (λ (k : KeptByte). cond k.ends_line 1 0) (in_line b place ∷ []) more.prefix
+          ∙ (let rest : line_endings more.prefix ≡ 0 = more.none in omega arith);
     }
 
 either_tag : (bytes : List ℕ) (endings : ℕ) → IsOpenTag bytes ⊎ (IsClosingTag bytes × (endings ≤ 1)) → IsTag bytes
 either_tag bytes endings (inl o) = inl o
 either_tag bytes endings (inr c) = inr c.0
 
-tag_either : (bytes : List ℕ) (endings : ℕ) → endings ≡ 0 → IsTag bytes → IsOpenTag bytes ⊎ (IsClosingTag bytes × (endings ≤ 1))
+tag_either : (bytes : List ℕ) (endings : ℕ) → endings ≡ 0 → IsTag bytes
+    → IsOpenTag bytes ⊎ (IsClosingTag bytes × (endings ≤ 1))
 tag_either bytes endings none (inl o) = inl o
 tag_either bytes endings none (inr c) = inr (c, omega arith)
 
 module _ (answers : List ℕ → ℕ → Type 0) (none : (rest : List ℕ) (n : ℕ) → answers rest n → ⊥) (bytes : List ℕ) where
-  no_skips : (skips : List ℕ) (kept : List KeptByte) → AreSkips answers bytes skips → kept_text bytes skips ≡ kept → kept_head 0 bytes ≡ kept
+  no_skips : (skips : List ℕ) (kept : List KeptByte) → AreSkips answers bytes skips → kept_text bytes skips ≡ kept
+      → kept_head 0 bytes ≡ kept
   no_skips [] kept s e = e
   no_skips (skip ∷ skips) kept s e = absurd (none _ _ s.1)
 
-  pub tag_alone : (end blank : ℕ) (prefix : List KeptByte) → IsKeptTag answers bytes prefix → end ≡ place_after 0 prefix → IsBlankLine (take (length bytes - end) (drop end bytes)) blank → IsTagAloneInLine bytes end
+  pub tag_alone : (end blank : ℕ) (prefix : List KeptByte) → IsKeptTag answers bytes prefix → end ≡ place_after 0 prefix
+      → IsBlankLine (take (length bytes - end) (drop end bytes)) blank → IsTagAloneInLine bytes end
   tag_alone end blank prefix k e b =
       let p = head_prefix 0 bytes prefix k.kept.rest (no_skips k.kept.skips _ k.kept.answered k.kept.begins) in
       let sized : length (bytes_of prefix) ≡ length prefix = length-map prefix (λ x. x.byte) in
       let place : place_after 0 prefix ≡ 0 + length prefix = p.end in
       let n_is_length : end ≡ length (bytes_of prefix) = omega arith in
-      let rest : take (length bytes - end) (drop end bytes) ≡ p.after = from_place bytes end ∙ ap (λ z. drop z bytes) n_is_length ∙ ap (drop (length (bytes_of prefix))) p.parts ∙ drop-append_seam (bytes_of prefix) p.after in
+      let rest : take (length bytes - end) (drop end bytes) ≡ p.after =
+      from_place bytes end ∙ ap (λ z. drop z bytes) n_is_length ∙ ap (drop (length (bytes_of prefix))) p.parts
+      ∙ drop-append_seam (bytes_of prefix) p.after in
       record {
         tag = bytes_of prefix;
         rest = p.after;
@@ -103,7 +116,8 @@ module _ (answers : List ℕ → ℕ → Type 0) (none : (rest : List ℕ) (n : 
         n_is_length = n_is_length;
       }
 
-  kept_from_alone : (n : ℕ) → IsTagAloneInLine bytes n → (prefix : List KeptByte) × IsKeptTag answers bytes prefix × (place_after 0 prefix ≡ n)
+  kept_from_alone : (n : ℕ) → IsTagAloneInLine bytes n
+      → (prefix : List KeptByte) × IsKeptTag answers bytes prefix × (place_after 0 prefix ≡ n)
   kept_from_alone n a =
       let k = prefix_kept 0 a.tag a.rest a.tag_in_line.1 in
       let begins : kept_head 0 bytes ≡ k.prefix ++ k.rest = ap (kept_head 0) a.parts ∙ k.begins in
@@ -114,21 +128,29 @@ module _ (answers : List ℕ → ℕ → Type 0) (none : (rest : List ℕ) (n : 
         k.prefix,
         record {
           kept = record { skips = []; rest = k.rest; answered = tt; begins = begins };
-          tag = tag_either (bytes_of k.prefix) (line_endings k.prefix) k.none (subst IsTag (sym k.same) a.tag_in_line.0);
+          tag =
+              tag_either (bytes_of k.prefix) (line_endings k.prefix) k.none (subst IsTag (sym k.same) a.tag_in_line.0);
         },
         omega (arith, a.n_is_length),
       )
 
-  pub no_tag_alone : ((prefix : List KeptByte) → IsKeptTag answers bytes prefix → ⊥) → (n : ℕ) → ¬ IsTagAloneInLine bytes n
+  pub no_tag_alone : ((prefix : List KeptByte) → IsKeptTag answers bytes prefix → ⊥) → (n : ℕ)
+      → ¬ IsTagAloneInLine bytes n
   no_tag_alone no_tag n a = let k = kept_from_alone n a in no_tag k.0 k.1
 
-  pub not_alone : (end : ℕ) → ((prefix : List KeptByte) → IsKeptTag answers bytes prefix → end ≡ place_after 0 prefix) → ((blank : ℕ) → ¬ IsBlankLine (take (length bytes - end) (drop end bytes)) blank) → (n : ℕ) → ¬ IsTagAloneInLine bytes n
+  pub not_alone : (end : ℕ) → ((prefix : List KeptByte) → IsKeptTag answers bytes prefix → end ≡ place_after 0 prefix)
+      → ((blank : ℕ) → ¬ IsBlankLine (take (length bytes - end) (drop end bytes)) blank) → (n : ℕ)
+      → ¬ IsTagAloneInLine bytes n
   not_alone end only not_blank n a =
       let k = kept_from_alone n a in
       let ends : end ≡ length a.tag = only k.0 k.1 ∙ k.2 ∙ a.n_is_length in
-      let rest : take (length bytes - end) (drop end bytes) ≡ a.rest = from_place bytes end ∙ ap (λ z. drop z bytes) ends ∙ ap (drop (length a.tag)) a.parts ∙ drop-append_seam a.tag a.rest in
+      let rest : take (length bytes - end) (drop end bytes) ≡ a.rest =
+      from_place bytes end ∙ ap (λ z. drop z bytes) ends ∙ ap (drop (length a.tag)) a.parts
+      ∙ drop-append_seam a.tag a.rest in
       not_blank a.blank (subst (λ z. IsBlankLine z a.blank) (sym rest) a.blank_rest)
 
   -- the length of such a tag, where `end` is that of each tag
-  pub one_tag_alone : (end : ℕ) → ((prefix : List KeptByte) → IsKeptTag answers bytes prefix → end ≡ place_after 0 prefix) → (n : ℕ) → IsTagAloneInLine bytes n → n ≡ end
+  pub one_tag_alone : (end : ℕ)
+      → ((prefix : List KeptByte) → IsKeptTag answers bytes prefix → end ≡ place_after 0 prefix) → (n : ℕ)
+      → IsTagAloneInLine bytes n → n ≡ end
   one_tag_alone end only n a = let k = kept_from_alone n a in sym (only k.0 k.1 ∙ k.2)

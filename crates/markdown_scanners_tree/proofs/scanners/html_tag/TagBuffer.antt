@@ -7,7 +7,8 @@ use Rattle.markdown_scanners_tree.specs.Kept.{KeptByte, bytes_of}
 use Rattle.markdown_scanners_tree.specs.Handler.{Answers}
 use Rattle.markdown_scanners_tree.specs.scanners.html_tag.KeptTag.{AnswersIfAny, IsKeptPrefix, place_after, tag_buffer}
 
-pub buffer_built : (prefix : List KeptByte) (kept end : ℕ) → kept ≡ length prefix → end ≡ place_after 0 prefix → (kept ≡ end → ⊥) → bytes_of prefix ≡ tag_buffer prefix
+pub buffer_built : (prefix : List KeptByte) (kept end : ℕ) → kept ≡ length prefix → end ≡ place_after 0 prefix
+    → (kept ≡ end → ⊥) → bytes_of prefix ≡ tag_buffer prefix
 buffer_built prefix kept end e f other =
     let differ : (place_after 0 prefix == length prefix) ≡ false = rw (sym e, sym f) (by) in
     sym (ap (λ t. cond t [] (bytes_of prefix)) differ)
@@ -15,7 +16,8 @@ buffer_built prefix kept end e f other =
     by : (end == kept) ≡ false
     by = grind (arith, nat_tests)
 
-pub buffer_empty : (prefix : List KeptByte) (kept end : ℕ) → kept ≡ length prefix → end ≡ place_after 0 prefix → kept ≡ end → [] ≡ tag_buffer prefix
+pub buffer_empty : (prefix : List KeptByte) (kept end : ℕ) → kept ≡ length prefix → end ≡ place_after 0 prefix
+    → kept ≡ end → [] ≡ tag_buffer prefix
 buffer_empty prefix kept end e f same =
     let equal : (place_after 0 prefix == length prefix) ≡ true = rw (sym e, sym f, same) (by) in
     sym (ap (λ t. cond t [] (bytes_of prefix)) equal)
@@ -24,7 +26,9 @@ buffer_empty prefix kept end e f same =
     by = grind (arith, nat_tests)
 
 -- a prefix of the text that is kept under the handler that is there
-pub prefix_under : {F : Type 0} (g : Shared F (Bor (List ℕ) × Unit {0}) ℕ) (handler : Option (Bor F)) (f : Bor F) (source : List ℕ) (prefix : List KeptByte) → handler ≡ Some f → IsKeptPrefix (AnswersIfAny g handler) source prefix → IsKeptPrefix (Answers g f.now) source prefix
+pub prefix_under : {F : Type 0} (g : Shared F (Bor (List ℕ) × Unit {0}) ℕ) (handler : Option (Bor F)) (f : Bor F) (source : List ℕ) (prefix : List KeptByte)
+    → handler ≡ Some f → IsKeptPrefix (AnswersIfAny g handler) source prefix
+    → IsKeptPrefix (Answers g f.now) source prefix
 prefix_under g handler f source prefix is k = subst (λ h. IsKeptPrefix (AnswersIfAny g h) source prefix) is k
 
 -- one number for another, where there is no handler

@@ -23,17 +23,27 @@ abbrev pub EndsTag : List KeptByte → Type 0
 EndsTag prefix = is_tag_end (state_after Start (bytes_of prefix)) (line_endings prefix) ≡ true
 
 -- A prefix of a kept text is a tag exactly where it is read and the scanner comes to its end with it.
-tag_read : (answers : List ℕ → ℕ → Type 0) (source : List ℕ) (prefix : List KeptByte) → IsKeptTag answers source prefix → Reads answers 0 source prefix
-tag_read answers source prefix k = record { skips = k.kept.skips; rest = k.kept.rest; answered = k.kept.answered; begins = k.kept.begins }
+tag_read : (answers : List ℕ → ℕ → Type 0) (source : List ℕ) (prefix : List KeptByte) → IsKeptTag answers source prefix
+    → Reads answers 0 source prefix
+tag_read answers source prefix k =
+    record { skips = k.kept.skips; rest = k.kept.rest; answered = k.kept.answered; begins = k.kept.begins }
 
-tag_ends : (answers : List ℕ → ℕ → Type 0) (source : List ℕ) (prefix : List KeptByte) → IsKeptTag answers source prefix → EndsTag prefix
+tag_ends : (answers : List ℕ → ℕ → Type 0) (source : List ℕ) (prefix : List KeptByte) → IsKeptTag answers source prefix
+    → EndsTag prefix
 tag_ends answers source prefix k = (tag_exactly (bytes_of prefix) (line_endings prefix)).0 k.tag
 
-tag_from : (answers : List ℕ → ℕ → Type 0) (source : List ℕ) (prefix : List KeptByte) → Reads answers 0 source prefix → EndsTag prefix → IsKeptTag answers source prefix
-tag_from answers source prefix r e = record { kept = record { skips = r.skips; rest = r.rest; answered = r.answered; begins = r.begins }; tag = (tag_exactly (bytes_of prefix) (line_endings prefix)).1 e }
+tag_from : (answers : List ℕ → ℕ → Type 0) (source : List ℕ) (prefix : List KeptByte) → Reads answers 0 source prefix
+    → EndsTag prefix → IsKeptTag answers source prefix
+tag_from answers source prefix r e =
+    record {
+      kept = record { skips = r.skips; rest = r.rest; answered = r.answered; begins = r.begins };
+      tag =
+          (tag_exactly (bytes_of prefix) (line_endings prefix)).1 e;
+    }
 
 -- one more byte at the end
-marks_more : (passed : List KeptByte) (k : KeptByte) → line_endings (passed ++ k ∷ []) ≡ line_endings passed + cond k.ends_line 1 0
+marks_more : (passed : List KeptByte) (k : KeptByte)
+    → line_endings (passed ++ k ∷ []) ≡ line_endings passed + cond k.ends_line 1 0
 marks_more passed k =
     let one : 0 + cond k.ends_line 1 0 ≡ cond k.ends_line 1 0 = omega arith in
     sum_by-append (λ (x : KeptByte). cond x.ends_line 1 0) passed (k ∷ []) ∙ ap (λ z. line_endings passed + z) one
@@ -42,8 +52,11 @@ after_more : (place : ℕ) (passed : List KeptByte) (k : KeptByte) → place_aft
 after_more place [] k = refl
 after_more place (x ∷ xs) k = after_more (x.place + 1) xs k
 
-state_more : (passed : List KeptByte) (k : KeptByte) → state_after Start (bytes_of (passed ++ k ∷ [])) ≡ next_state (state_after Start (bytes_of passed)) k.byte
-state_more passed k = ap (state_after Start) (map-append (λ x. x.byte) passed (k ∷ [])) ∙ state_after_append Start (bytes_of passed) (k.byte ∷ [])
+state_more : (passed : List KeptByte) (k : KeptByte)
+    → state_after Start (bytes_of (passed ++ k ∷ [])) ≡ next_state (state_after Start (bytes_of passed)) k.byte
+state_more passed k =
+    ap (state_after Start) (map-append (λ x. x.byte) passed (k ∷ []))
+    ∙ state_after_append Start (bytes_of passed) (k.byte ∷ [])
 
 -- One turn of a loop: the byte at the place is kept, and the next one stands at the next place.
 pub record Turn (answers : List ℕ → ℕ → Type 0) (source : List ℕ) (place endings next marks : ℕ) : Type 0 where
@@ -53,15 +66,18 @@ pub record Turn (answers : List ℕ → ℕ → Type 0) (source : List ℕ) (pla
   pub step : Step answers place (drop place source) kept next (drop next source)
   pub marked : marks ≡ endings + cond kept.ends_line 1 0
   pub inside : next ≤ length source
-  pub alone : is_line_ending kept.byte ≡ false → (next ≡ place + 1) × Reads answers place (drop place source) (kept ∷ [])
+  pub alone : is_line_ending kept.byte ≡ false
+      → (next ≡ place + 1) × Reads answers place (drop place source) (kept ∷ [])
 
 module _ (answers : List ℕ → ℕ → Type 0) (source : List ℕ) (place endings : ℕ) (low : place < length source) where
   begins : drop place source ≡ get_or source place 0 ∷ drop (place + 1) source
   begins = drop_more source place 0 low
 
-  pub turn_in_line : ends_source_line (drop place source) ≡ false → Turn answers source place endings (place + 1) endings
+  pub turn_in_line : ends_source_line (drop place source) ≡ false
+      → Turn answers source place endings (place + 1) endings
   turn_in_line h =
-      let plain : ends_source_line (get_or source place 0 ∷ drop (place + 1) source) ≡ false = ap ends_source_line (sym begins) ∙ h in
+      let plain : ends_source_line (get_or source place 0 ∷ drop (place + 1) source) ≡ false =
+      ap ends_source_line (sym begins) ∙ h in
       record {
         kept = in_line (get_or source place 0) place;
         byte = refl;
@@ -72,45 +88,70 @@ module _ (answers : List ℕ → ℕ → Type 0) (source : List ℕ) (place endi
         alone = λ e. (refl, rw begins (last_read answers place (get_or source place 0) (drop (place + 1) source) e));
       }
 
-  pub turn_at_end : (skip : ℕ) → ends_source_line (drop place source) ≡ true → answers (drop (place + 1) source) skip → ((n : ℕ) → answers (drop (place + 1) source) n → n ≡ skip) → skip ≤ length (drop (place + 1) source) → Turn answers source place endings (place + 1 + skip) (endings + 1)
+  pub turn_at_end : (skip : ℕ) → ends_source_line (drop place source) ≡ true → answers (drop (place + 1) source) skip
+      → ((n : ℕ) → answers (drop (place + 1) source) n → n ≡ skip) → skip ≤ length (drop (place + 1) source)
+      → Turn answers source place endings (place + 1 + skip) (endings + 1)
   turn_at_end skip h a only inside =
       let byte : ℕ = get_or source place 0 in
       let ends : ends_source_line (byte ∷ drop (place + 1) source) ≡ true = ap ends_source_line (sym begins) ∙ h in
       let next : place + (1 + skip) ≡ place + 1 + skip = omega arith in
-      let rest : drop skip (drop (place + 1) source) ≡ drop (place + 1 + skip) source = drop-drop skip (place + 1) source in
-      let step : Step answers place (byte ∷ drop (place + 1) source) (at_line_end byte place) (place + (1 + skip)) (drop skip (drop (place + 1) source)) = step_at_end answers place byte (drop (place + 1) source) skip ends a only in
+      let rest : drop skip (drop (place + 1) source) ≡ drop (place + 1 + skip) source =
+      drop-drop skip (place + 1) source in
+      let step : Step answers place (byte ∷ drop (place + 1) source) (at_line_end byte place) (place + (1 + skip)) (drop skip (drop (place + 1) source)) =
+      step_at_end answers place byte (drop (place + 1) source) skip ends a only in
       record {
         kept = at_line_end byte place;
         byte = refl;
         at = refl;
-        step = subst (λ z. Step answers place z (at_line_end byte place) (place + 1 + skip) (drop (place + 1 + skip) source)) (sym begins) (subst (λ z. Step answers place (byte ∷ drop (place + 1) source) (at_line_end byte place) (place + 1 + skip) z) rest (subst (λ z. Step answers place (byte ∷ drop (place + 1) source) (at_line_end byte place) z (drop skip (drop (place + 1) source))) next step));
+        step =
+            subst (λ z. Step answers place z (at_line_end byte place) (place + 1 + skip)
+            (drop (place + 1 + skip) source)) (sym begins) (subst
+            (λ z. Step answers place (byte ∷ drop (place + 1) source) (at_line_end byte place) (place + 1 + skip) z)
+            rest
+            (subst (λ z. Step answers place (byte ∷ drop (place + 1) source) (at_line_end byte place) z (drop skip (drop (place + 1) source))) next step));
         marked = refl;
-        inside = (let l : length (drop (place + 1) source) ≡ length source - (place + 1) = length-drop (place + 1) source in omega arith);
-        alone = λ e. absurd (let t : is_line_ending byte ≡ true = (ends_alone place byte (drop (place + 1) source) ends).0 in cc);
+        inside =
+            (let l : length (drop (place + 1) source) ≡ length source - (place + 1) = length-drop (place + 1) source in omega arith);
+        alone =
+            λ e. absurd (let t : is_line_ending byte ≡ true = (ends_alone place byte (drop (place + 1) source) ends).0 in cc);
       }
 
-  pub no_turn : ends_source_line (drop place source) ≡ true → ((n : ℕ) → answers (drop (place + 1) source) n → ⊥) → (c : KeptByte) (t : List KeptByte) → Reads answers place (drop place source) (c ∷ t) → ⊥
+  pub no_turn : ends_source_line (drop place source) ≡ true → ((n : ℕ) → answers (drop (place + 1) source) n → ⊥)
+      → (c : KeptByte) (t : List KeptByte) → Reads answers place (drop place source) (c ∷ t) → ⊥
   no_turn h none c t r =
-      let ends : ends_source_line (get_or source place 0 ∷ drop (place + 1) source) ≡ true = ap ends_source_line (sym begins) ∙ h in
+      let ends : ends_source_line (get_or source place 0 ∷ drop (place + 1) source) ≡ true =
+      ap ends_source_line (sym begins) ∙ h in
       no_step answers place (get_or source place 0) (drop (place + 1) source) ends none c t (subst (λ z. Reads answers place z (c ∷ t)) begins r)
 
 -- a turn of a scan under a handler, by what its calls answer
 module _ {F : Type 0} (g : Shared F (Bor (List ℕ) × Unit {0}) ℕ) (handler : Option (Bor F)) (source : List ℕ) (place : ℕ) (low : place < length source) where
-  pub turn_with_skip : (endings : ℕ) (f : Bor F) (skip : ℕ) → handler ≡ Some f → IfSome handler (λ h. IsSteady g h.now) → ends_source_line (take (length source - place) (drop place source)) ≡ true → Answers g f.now (take (length source - (place + 1)) (drop (place + 1) source)) skip → Turn (AnswersIfAny g handler) source place endings (place + 1 + skip) (endings + 1)
+  pub turn_with_skip : (endings : ℕ) (f : Bor F) (skip : ℕ) → handler ≡ Some f → IfSome handler (λ h. IsSteady g h.now)
+      → ends_source_line (take (length source - place) (drop place source)) ≡ true
+      → Answers g f.now (take (length source - (place + 1)) (drop (place + 1) source)) skip
+      → Turn (AnswersIfAny g handler) source place endings (place + 1 + skip) (endings + 1)
   turn_with_skip endings f skip is steady h a =
       let sure : IsSteady g f.now = subst (λ z. IfSome z (λ h. IsSteady g h.now)) is steady in
-      let answer : Answers g f.now (drop (place + 1) source) skip = subst (λ z. Answers g f.now z skip) (from_place source (place + 1)) a in
-      rw is (turn_at_end (Answers g f.now) source place endings low skip (ap ends_source_line (sym (from_place source place)) ∙ h) answer (λ n b. sure.one_answer (drop (place + 1) source) n skip b answer) (sure.inside (drop (place + 1) source) skip answer))
+      let answer : Answers g f.now (drop (place + 1) source) skip =
+      subst (λ z. Answers g f.now z skip) (from_place source (place + 1)) a in
+      rw is (turn_at_end (Answers g f.now) source place endings low skip
+      (ap ends_source_line (sym (from_place source place)) ∙ h) answer
+      (λ n b. sure.one_answer (drop (place + 1) source) n skip b answer)
+      (sure.inside (drop (place + 1) source) skip answer))
 
-  pub skip_inside : (f : Bor F) (skip : ℕ) → handler ≡ Some f → IfSome handler (λ h. IsSteady g h.now) → Answers g f.now (take (length source - (place + 1)) (drop (place + 1) source)) skip → place + 1 + skip ≤ length source
+  pub skip_inside : (f : Bor F) (skip : ℕ) → handler ≡ Some f → IfSome handler (λ h. IsSteady g h.now)
+      → Answers g f.now (take (length source - (place + 1)) (drop (place + 1) source)) skip
+      → place + 1 + skip ≤ length source
   skip_inside f skip is steady a =
       let sure : IsSteady g f.now = subst (λ z. IfSome z (λ h. IsSteady g h.now)) is steady in
-      let inside : skip ≤ length (drop (place + 1) source) = sure.inside (drop (place + 1) source) skip (subst (λ z. Answers g f.now z skip) (from_place source (place + 1)) a) in
+      let inside : skip ≤ length (drop (place + 1) source) =
+      sure.inside (drop (place + 1) source) skip (subst (λ z. Answers g f.now z skip) (from_place source (place + 1)) a) in
       let l : length (drop (place + 1) source) ≡ length source - (place + 1) = length-drop (place + 1) source in
       omega arith
 
-  pub turn_without : (endings : ℕ) → ends_source_line (take (length source - place) (drop place source)) ≡ false → Turn (AnswersIfAny g handler) source place endings (place + 1) endings
-  turn_without endings h = turn_in_line (AnswersIfAny g handler) source place endings low (ap ends_source_line (sym (from_place source place)) ∙ h)
+  pub turn_without : (endings : ℕ) → ends_source_line (take (length source - place) (drop place source)) ≡ false
+      → Turn (AnswersIfAny g handler) source place endings (place + 1) endings
+  turn_without endings h =
+      turn_in_line (AnswersIfAny g handler) source place endings low (ap ends_source_line (sym (from_place source place)) ∙ h)
 
 -- The bytes passed are read, and each tag begins with them.
 pub record Scanned (answers : List ℕ → ℕ → Type 0) (source : List ℕ) (place kept endings : ℕ) (state : TagState) : Type 0 where
@@ -119,33 +160,51 @@ pub record Scanned (answers : List ℕ → ℕ → Type 0) (source : List ℕ) (
   pub ended : endings ≡ line_endings passed
   pub reached : state ≡ state_after Start (bytes_of passed)
   pub whole : is_tag_end state endings ≡ true → Reads answers 0 source passed × (place ≡ place_after 0 passed)
-  pub forth : (c : KeptByte) (t : List KeptByte) → Reads answers place (drop place source) (c ∷ t) → Reads answers 0 source (passed ++ c ∷ t)
-  pub left : (prefix : List KeptByte) → Reads answers 0 source prefix → EndsTag prefix → (t : List KeptByte) × (prefix ≡ passed ++ t) × Reads answers place (drop place source) t
+  pub forth : (c : KeptByte) (t : List KeptByte) → Reads answers place (drop place source) (c ∷ t)
+      → Reads answers 0 source (passed ++ c ∷ t)
+  pub left : (prefix : List KeptByte) → Reads answers 0 source prefix → EndsTag prefix
+      → (t : List KeptByte) × (prefix ≡ passed ++ t) × Reads answers place (drop place source) t
 
 pub scan_starts : (answers : List ℕ → ℕ → Type 0) (source : List ℕ) → Scanned answers source 0 0 0 Start
-scan_starts answers source = record { passed = []; counted = refl; ended = refl; reached = refl; whole = λ e. cc; forth = λ c t r. r; left = λ prefix r e. (prefix, refl, r) }
+scan_starts answers source =
+    record { passed = []; counted = refl; ended = refl; reached = refl; whole = λ e. cc; forth = λ c t r. r; left = λ prefix r e. (prefix, refl, r) }
 
 module _ (answers : List ℕ → ℕ → Type 0) (source : List ℕ) (place kept endings : ℕ) (state : TagState) (s : Scanned answers source place kept endings state) where
   -- what is passed is a tag exactly where the state says so
   ends_passed : is_tag_end state endings ≡ is_tag_end (state_after Start (bytes_of s.passed)) (line_endings s.passed)
-  ends_passed = ap (λ z. is_tag_end z endings) s.reached ∙ ap (is_tag_end (state_after Start (bytes_of s.passed))) s.ended
+  ends_passed =
+      ap (λ z. is_tag_end z endings) s.reached ∙ ap (is_tag_end (state_after Start (bytes_of s.passed))) s.ended
 
   -- a tag goes on after what is passed, where that is none
-  goes_on : is_tag_end state endings ≡ false → (prefix : List KeptByte) → Reads answers 0 source prefix → EndsTag prefix → (c : KeptByte) × (t : List KeptByte) × (prefix ≡ s.passed ++ c ∷ t) × Reads answers place (drop place source) (c ∷ t)
+  goes_on : is_tag_end state endings ≡ false → (prefix : List KeptByte) → Reads answers 0 source prefix → EndsTag prefix
+      → (c : KeptByte) × (t : List KeptByte) × (prefix ≡ s.passed ++ c ∷ t)
+      × Reads answers place (drop place source) (c ∷ t)
   goes_on none prefix r e = let l = s.left prefix r e in by l.0 l.1 l.2
     where
-      by : (t : List KeptByte) → prefix ≡ s.passed ++ t → Reads answers place (drop place source) t → (c : KeptByte) × (t : List KeptByte) × (prefix ≡ s.passed ++ c ∷ t) × Reads answers place (drop place source) (c ∷ t)
+      by : (t : List KeptByte) → prefix ≡ s.passed ++ t → Reads answers place (drop place source) t
+          → (c : KeptByte) × (t : List KeptByte) × (prefix ≡ s.passed ++ c ∷ t)
+          × Reads answers place (drop place source) (c ∷ t)
       by [] is rest =
-          let whole : is_tag_end state endings ≡ true = ends_passed ∙ ap (λ z. is_tag_end (state_after Start (bytes_of z)) (line_endings z)) (sym (append-nil s.passed) ∙ sym is) ∙ e in
+          let whole : is_tag_end state endings ≡ true =
+          ends_passed
+          ∙ ap (λ z. is_tag_end (state_after Start (bytes_of z)) (line_endings z)) (sym (append-nil s.passed) ∙ sym is)
+          ∙ e in
           cc
       by (c ∷ t) is rest = (c, t, is, rest)
 
   -- and none goes on after a final state
-  nowhere : is_final state ≡ true → (prefix : List KeptByte) → EndsTag prefix → (x : KeptByte) (u : List KeptByte) → prefix ≡ s.passed ++ x ∷ u → ⊥
+  nowhere : is_final state ≡ true → (prefix : List KeptByte) → EndsTag prefix → (x : KeptByte) (u : List KeptByte)
+      → prefix ≡ s.passed ++ x ∷ u → ⊥
   nowhere final prefix e x u is =
-      let run : state_after Start (bytes_of (s.passed ++ x ∷ u)) ≡ state_after state (x.byte ∷ bytes_of u) = ap (state_after Start) (map-append (λ z. z.byte) s.passed (x ∷ u)) ∙ state_after_append Start (bytes_of s.passed) (x.byte ∷ bytes_of u) ∙ ap (λ z. state_after z (x.byte ∷ bytes_of u)) (sym s.reached) in
-      let whole : is_tag_end (state_after state (x.byte ∷ bytes_of u)) (line_endings (s.passed ++ x ∷ u)) ≡ true = ap (λ z. is_tag_end z (line_endings (s.passed ++ x ∷ u))) (sym run) ∙ ap (λ z. is_tag_end (state_after Start (bytes_of z)) (line_endings z)) (sym is) ∙ e in
-      let other : is_tag_end (state_after state (x.byte ∷ bytes_of u)) (line_endings (s.passed ++ x ∷ u)) ≡ false = final_goes_nowhere state x.byte (bytes_of u) (line_endings (s.passed ++ x ∷ u)) final in
+      let run : state_after Start (bytes_of (s.passed ++ x ∷ u)) ≡ state_after state (x.byte ∷ bytes_of u) =
+      ap (state_after Start) (map-append (λ z. z.byte) s.passed (x ∷ u))
+      ∙ state_after_append Start (bytes_of s.passed) (x.byte ∷ bytes_of u)
+      ∙ ap (λ z. state_after z (x.byte ∷ bytes_of u)) (sym s.reached) in
+      let whole : is_tag_end (state_after state (x.byte ∷ bytes_of u)) (line_endings (s.passed ++ x ∷ u)) ≡ true =
+      ap (λ z. is_tag_end z (line_endings (s.passed ++ x ∷ u))) (sym run)
+      ∙ ap (λ z. is_tag_end (state_after Start (bytes_of z)) (line_endings z)) (sym is) ∙ e in
+      let other : is_tag_end (state_after state (x.byte ∷ bytes_of u)) (line_endings (s.passed ++ x ∷ u)) ≡ false =
+      final_goes_nowhere state x.byte (bytes_of u) (line_endings (s.passed ++ x ∷ u)) final in
       cc
 
   pub scan_finds : is_tag_end state endings ≡ true
@@ -156,24 +215,34 @@ module _ (answers : List ℕ → ℕ → Type 0) (source : List ℕ) (place kept
 
   pub scan_only : is_tag_end state endings ≡ true
       → (prefix : List KeptByte) → IsKeptTag answers source prefix → AreLengths kept place prefix
-  scan_only e prefix k = let l = s.left prefix (tag_read answers source prefix k) (tag_ends answers source prefix k) in by l.0 l.1
+  scan_only e prefix k =
+      let l = s.left prefix (tag_read answers source prefix k) (tag_ends answers source prefix k) in by l.0 l.1
     where
       by : (t : List KeptByte) → prefix ≡ s.passed ++ t → AreLengths kept place prefix
-      by [] is = let same : s.passed ≡ prefix = sym (append-nil s.passed) ∙ sym is in (s.counted ∙ ap length same, (s.whole e).1 ∙ ap (place_after 0) same)
+      by [] is =
+          let same : s.passed ≡ prefix = sym (append-nil s.passed)
+          ∙ sym is in (s.counted ∙ ap length same, (s.whole e).1 ∙ ap (place_after 0) same)
       by (x ∷ u) is = absurd (nowhere (end_is_final state endings e) prefix (tag_ends answers source prefix k) x u is)
 
-  pub scan_ends : is_tag_end state endings ≡ false → (length source ≤ place) ⊎ (is_final state ≡ true) → (prefix : List KeptByte) → IsKeptTag answers source prefix → ⊥
-  scan_ends none end prefix k = let l = goes_on none prefix (tag_read answers source prefix k) (tag_ends answers source prefix k) in by end l.0 l.1 l.2 l.3
+  pub scan_ends : is_tag_end state endings ≡ false → (length source ≤ place) ⊎ (is_final state ≡ true)
+      → (prefix : List KeptByte) → IsKeptTag answers source prefix → ⊥
+  scan_ends none end prefix k =
+      let l = goes_on none prefix (tag_read answers source prefix k) (tag_ends answers source prefix k) in by end l.0 l.1 l.2 l.3
     where
-      by : (length source ≤ place) ⊎ (is_final state ≡ true) → (c : KeptByte) (t : List KeptByte) → prefix ≡ s.passed ++ c ∷ t → Reads answers place (drop place source) (c ∷ t) → ⊥
-      by (inl high) c t is r = nothing_read answers place c t (subst (λ z. Reads answers place z (c ∷ t)) (drop_all place source high) r)
+      by : (length source ≤ place) ⊎ (is_final state ≡ true) → (c : KeptByte) (t : List KeptByte)
+          → prefix ≡ s.passed ++ c ∷ t → Reads answers place (drop place source) (c ∷ t) → ⊥
+      by (inl high) c t is r =
+          nothing_read answers place c t (subst (λ z. Reads answers place z (c ∷ t)) (drop_all place source high) r)
       by (inr final) c t is r = nowhere final prefix (tag_ends answers source prefix k) c t is
 
   module _ (unfinished : is_final state ≡ false) where
     no_end : is_tag_end state endings ≡ false
-    no_end = elim (cases_Bool (is_tag_end state endings)) [ inl e ↦ absurd (let final : is_final state ≡ true = end_is_final state endings e in cc) | inr e ↦ e ]
+    no_end =
+        elim (cases_Bool (is_tag_end state endings)) [ inl e ↦ absurd (let final : is_final state ≡ true = end_is_final state endings e in cc) | inr e ↦ e ]
 
-    pub scan_has_no_skip : place < length source → ends_source_line (drop place source) ≡ true → ((n : ℕ) → answers (drop (place + 1) source) n → ⊥) → (prefix : List KeptByte) → IsKeptTag answers source prefix → ⊥
+    pub scan_has_no_skip : place < length source → ends_source_line (drop place source) ≡ true
+        → ((n : ℕ) → answers (drop (place + 1) source) n → ⊥) → (prefix : List KeptByte)
+        → IsKeptTag answers source prefix → ⊥
     scan_has_no_skip low h none prefix k =
         let l = goes_on no_end prefix (tag_read answers source prefix k) (tag_ends answers source prefix k) in
         no_turn answers source place endings low h none l.0 l.1 l.3
@@ -199,7 +268,8 @@ module _ (answers : List ℕ → ℕ → Type 0) (source : List ℕ) (place kept
           let alone = turn.alone (plain e) in
           (s.forth turn.kept [] alone.1, alone.0 ∙ ap (λ z. z + 1) (sym turn.at) ∙ sym (after_more 0 s.passed turn.kept))
 
-      left_more : (prefix : List KeptByte) → Reads answers 0 source prefix → EndsTag prefix → (t : List KeptByte) × (prefix ≡ more ++ t) × Reads answers next (drop next source) t
+      left_more : (prefix : List KeptByte) → Reads answers 0 source prefix → EndsTag prefix
+          → (t : List KeptByte) × (prefix ≡ more ++ t) × Reads answers next (drop next source) t
       unfolding more
       left_more prefix r e =
           let l = goes_on no_end prefix r e in
@@ -212,9 +282,13 @@ module _ (answers : List ℕ → ℕ → Type 0) (source : List ℕ) (place kept
         passed = more;
         counted = ap (λ z. z + 1) s.counted ∙ sym (length-append s.passed (turn.kept ∷ []));
         ended = turn.marked ∙ ap (λ z. z + cond turn.kept.ends_line 1 0) s.ended ∙ sym (marks_more s.passed turn.kept);
-        reached = ap (next_state state) (sym turn.byte) ∙ ap (λ z. next_state z turn.kept.byte) s.reached ∙ sym (state_more s.passed turn.kept);
+        reached =
+            ap (next_state state) (sym turn.byte) ∙ ap (λ z. next_state z turn.kept.byte) s.reached
+            ∙ sym (state_more s.passed turn.kept);
         whole = whole_more;
-        forth = λ c t r. subst (λ z. Reads answers 0 source z) (sym (append_assoc s.passed (turn.kept ∷ []) (c ∷ t))) (s.forth turn.kept (c ∷ t) (turn.step.forth c t r));
+        forth =
+            λ c t r. subst (λ z. Reads answers 0 source z) (sym (append_assoc s.passed (turn.kept ∷ []) (c ∷ t)))
+            (s.forth turn.kept (c ∷ t) (turn.step.forth c t r));
         left = left_more;
       }
 
@@ -227,33 +301,53 @@ plain_here place b bs plain =
     ]
 
 module _ (answers : List ℕ → ℕ → Type 0) (source : List ℕ) (endings : ℕ) where
-  pub scan_reads : (n place kept : ℕ) (from to : TagState) → Scanned answers source place kept endings from → place + n ≤ length source → LeadsTo from (take n (drop place source)) to → Scanned answers source (place + n) (kept + n) endings to
+  pub scan_reads : (n place kept : ℕ) (from to : TagState) → Scanned answers source place kept endings from
+      → place + n ≤ length source → LeadsTo from (take n (drop place source)) to
+      → Scanned answers source (place + n) (kept + n) endings to
   scan_reads zero place kept from to s inside l =
       let p : place ≡ place + 0 = omega arith in
       let k : kept ≡ kept + 0 = omega arith in
-      subst (λ z. Scanned answers source z (kept + 0) endings to) p (subst (λ z. Scanned answers source place z endings to) k (subst (λ z. Scanned answers source place kept endings z) l s))
+      subst (λ z. Scanned answers source z (kept + 0) endings to) p (subst
+      (λ z. Scanned answers source place z endings to) k
+      (subst (λ z. Scanned answers source place kept endings z) l s))
   scan_reads (suc n) place kept from to s inside l =
       let low : place < length source = omega arith in
       let byte : ℕ = get_or source place 0 in
-      let parts : LeadsTo from (byte ∷ take n (drop (place + 1) source)) to = subst (λ z. LeadsTo from (take (suc n) z) to) (drop_more source place 0 low) l in
-      let plain : ends_source_line (drop place source) ≡ false = rw (drop_more source place 0 low) (plain_here place byte (drop (place + 1) source) parts.1) in
-      let one : Scanned answers source (place + 1) (kept + 1) endings (next_state from byte) = scan_goes_on answers source place kept endings from s parts.0 (place + 1) endings (turn_in_line answers source place endings low plain) in
-      let rest : Scanned answers source (place + 1 + n) (kept + 1 + n) endings to = scan_reads n (place + 1) (kept + 1) (next_state from byte) to one (omega arith) parts.2 in
+      let parts : LeadsTo from (byte ∷ take n (drop (place + 1) source)) to =
+      subst (λ z. LeadsTo from (take (suc n) z) to) (drop_more source place 0 low) l in
+      let plain : ends_source_line (drop place source) ≡ false =
+      rw (drop_more source place 0 low) (plain_here place byte (drop (place + 1) source) parts.1) in
+      let one : Scanned answers source (place + 1) (kept + 1) endings (next_state from byte) =
+      scan_goes_on answers source place kept endings from s parts.0 (place + 1) endings (turn_in_line answers source place endings low plain) in
+      let rest : Scanned answers source (place + 1 + n) (kept + 1 + n) endings to =
+      scan_reads n (place + 1) (kept + 1) (next_state from byte) to one (omega arith) parts.2 in
       let p : place + 1 + n ≡ place + suc n = omega arith in
       let k : kept + 1 + n ≡ kept + suc n = omega arith in
       subst (λ z. Scanned answers source z (kept + suc n) endings to) p (subst (λ z. Scanned answers source (place + 1 + n) z endings to) k rest)
 
 -- the first bytes
-pub scan_begins : (answers : List ℕ → ℕ → Type 0) (source : List ℕ) (n : ℕ) (to : TagState) → n ≤ length source → BeginsWith (take n source) to → Scanned answers source n n 0 to
-scan_begins answers source n to inside l = subst (λ z. Scanned answers source z z 0 to) (let e : 0 + n ≡ n = omega arith in e) (scan_reads answers source 0 n 0 0 Start to (scan_starts answers source) (omega arith) l)
+pub scan_begins : (answers : List ℕ → ℕ → Type 0) (source : List ℕ) (n : ℕ) (to : TagState) → n ≤ length source
+    → BeginsWith (take n source) to → Scanned answers source n n 0 to
+scan_begins answers source n to inside l =
+    subst (λ z. Scanned answers source z z 0 to) (let e : 0 + n ≡ n = omega arith in e) (scan_reads answers source 0 n 0 0 Start to (scan_starts answers source) (omega arith) l)
 
 -- the bytes of a line's rest
-pub scan_reads_on : (answers : List ℕ → ℕ → Type 0) (source : List ℕ) (place kept endings n : ℕ) (from to : TagState) → Scanned answers source place kept endings from → place ≤ length source → n ≤ length (take (length source - place) (drop place source)) → LeadsTo from (take n (take (length source - place) (drop place source))) to → Scanned answers source (place + n) (kept + n) endings to
+pub scan_reads_on : (answers : List ℕ → ℕ → Type 0) (source : List ℕ) (place kept endings n : ℕ) (from to : TagState)
+    → Scanned answers source place kept endings from → place ≤ length source
+    → n ≤ length (take (length source - place) (drop place source))
+    → LeadsTo from (take n (take (length source - place) (drop place source))) to
+    → Scanned answers source (place + n) (kept + n) endings to
 scan_reads_on answers source place kept endings n from to s low inside l =
-    let rest : length (take (length source - place) (drop place source)) ≡ length source - place = ap length (from_place source place) ∙ length-drop place source in
+    let rest : length (take (length source - place) (drop place source)) ≡ length source - place =
+    ap length (from_place source place) ∙ length-drop place source in
     scan_reads answers source endings n place kept from to s (omega arith) (subst (λ z. LeadsTo from (take n z) to) (from_place source place) l)
 
 -- without a handler no line end is kept
-pub no_handler_stops : {F : Type 0} (g : Shared F (Bor (List ℕ) × Unit {0}) ℕ) (handler : Option (Bor F)) (source : List ℕ) (place kept endings : ℕ) (state : TagState) → Scanned (AnswersIfAny g handler) source place kept endings state → is_final state ≡ false → place < length source → handler ≡ None → ends_source_line (take (length source - place) (drop place source)) ≡ true → (prefix : List KeptByte) → IsKeptTag (AnswersIfAny g handler) source prefix → ⊥
+pub no_handler_stops : {F : Type 0} (g : Shared F (Bor (List ℕ) × Unit {0}) ℕ) (handler : Option (Bor F)) (source : List ℕ) (place kept endings : ℕ) (state : TagState)
+    → Scanned (AnswersIfAny g handler) source place kept endings state → is_final state ≡ false → place < length source
+    → handler ≡ None → ends_source_line (take (length source - place) (drop place source)) ≡ true
+    → (prefix : List KeptByte) → IsKeptTag (AnswersIfAny g handler) source prefix → ⊥
 no_handler_stops g handler source place kept endings state s unfinished low none h =
-    scan_has_no_skip (AnswersIfAny g handler) source place kept endings state s unfinished low (ap ends_source_line (sym (from_place source place)) ∙ h) (λ n a. subst (λ z. AnswersIfAny g z (drop (place + 1) source) n) none a)
+    scan_has_no_skip (AnswersIfAny g handler) source place kept endings state s unfinished low
+    (ap ends_source_line (sym (from_place source place)) ∙ h)
+    (λ n a. subst (λ z. AnswersIfAny g z (drop (place + 1) source) n) none a)

@@ -21,41 +21,65 @@ row_bytes (b ∷ bytes) all =
     let both = both_true (is_cell_byte b) (list_all is_cell_byte bytes) all in
     rw both.0 (row_bytes bytes both.1)
 
-cells_bytes : (cells : List (List ℕ)) → list_all is_cell cells ≡ true → list_all is_row_byte (flat_map ended_cell cells) ≡ true
+cells_bytes : (cells : List (List ℕ)) → list_all is_cell cells ≡ true
+    → list_all is_row_byte (flat_map ended_cell cells) ≡ true
 cells_bytes [] all = refl
 cells_bytes (c ∷ cells) all =
     let both = both_true (is_cell c) (list_all is_cell cells) all in
     let cell = (both_true (list_all is_cell_byte c) _ both.0).0 in
-    rw (list_all-append is_row_byte (c ++ vertical_line ∷ []) (flat_map ended_cell cells), list_all-append is_row_byte c (vertical_line ∷ []), row_bytes c cell, cells_bytes cells both.1) refl
+    rw (
+      list_all-append is_row_byte (c ++ vertical_line ∷ []) (flat_map ended_cell cells),
+      list_all-append is_row_byte c
+          (vertical_line ∷ []),
+      row_bytes c cell,
+      cells_bytes cells both.1,
+    ) refl
 
-row_all : (piped : Bool) (cells : List (List ℕ)) (last : List ℕ) → list_all is_cell cells ≡ true → list_all is_cell_byte last ≡ true → list_all is_row_byte (delimiter_row piped cells last) ≡ true
-row_all true cells last all all' = rw (list_all-append is_row_byte (flat_map ended_cell cells) last, cells_bytes cells all, row_bytes last all') refl
-row_all false cells last all all' = rw (list_all-append is_row_byte (flat_map ended_cell cells) last, cells_bytes cells all, row_bytes last all') refl
+row_all : (piped : Bool) (cells : List (List ℕ)) (last : List ℕ) → list_all is_cell cells ≡ true
+    → list_all is_cell_byte last ≡ true → list_all is_row_byte (delimiter_row piped cells last) ≡ true
+row_all true cells last all all' =
+    rw (list_all-append is_row_byte (flat_map ended_cell cells) last, cells_bytes cells all, row_bytes last all') refl
+row_all false cells last all all' =
+    rw (list_all-append is_row_byte (flat_map ended_cell cells) last, cells_bytes cells all, row_bytes last all') refl
 
 -- a pipe is among them
-row_pipe : (piped : Bool) (cells : List (List ℕ)) (last : List ℕ) → (piped || not (is_empty cells)) ≡ true → list_any is_pipe (delimiter_row piped cells last) ≡ true
+row_pipe : (piped : Bool) (cells : List (List ℕ)) (last : List ℕ) → (piped || not (is_empty cells)) ≡ true
+    → list_any is_pipe (delimiter_row piped cells last) ≡ true
 row_pipe true cells last some = refl
 row_pipe false [] last some = absurd (false≢true some)
-row_pipe false (c ∷ cells) last some = rw (list_any-append is_pipe ((c ++ vertical_line ∷ []) ++ flat_map ended_cell cells) last, list_any-append is_pipe (c ++ vertical_line ∷ []) (flat_map ended_cell cells), list_any-append is_pipe c (vertical_line ∷ [])) (or_true (list_any is_pipe c) _ _)
+row_pipe false (c ∷ cells) last some =
+    rw (
+      list_any-append is_pipe ((c ++ vertical_line ∷ []) ++ flat_map ended_cell cells) last,
+      list_any-append is_pipe
+          (c ++ vertical_line ∷ []) (flat_map ended_cell cells),
+      list_any-append is_pipe c (vertical_line ∷ []),
+    ) (or_true
+    (list_any is_pipe c) _ _)
   where
     or_true : (a b c : Bool) → (((a || true) || b) || c) ≡ true
     or_true true b c = refl
     or_true false b c = refl
 
 -- what is made of such bytes and then ends its line may be a row
-made_row : (row rest : List ℕ) (ending : ℕ) → list_all is_row_byte row ≡ true → list_any is_pipe row ≡ true → line_ending rest ≡ Some ending → may_be_row (row ++ rest) ≡ true
+made_row : (row rest : List ℕ) (ending : ℕ) → list_all is_row_byte row ≡ true → list_any is_pipe row ≡ true
+    → line_ending rest ≡ Some ending → may_be_row (row ++ rest) ≡ true
 made_row row rest ending all some ends =
-    let run : prefix_len is_row_byte (row ++ rest) ≡ length row = prefix_len-parts is_row_byte row rest all (first-line_ending is_row_byte refl refl rest ending ends) in
+    let run : prefix_len is_row_byte (row ++ rest) ≡ length row =
+    prefix_len-parts is_row_byte row rest all (first-line_ending is_row_byte refl refl rest ending ends) in
     rw (run, drop-append_seam row rest, take-append_seam row rest, ends, some) refl
 
 pub no_row : (bytes : List ℕ) → may_be_row (drop (prefix_len is_space bytes) bytes) ≡ false → NoDelimiterRow bytes
 no_row bytes none n alignments it =
     let only = IsDelimiterRow-only bytes n alignments it in
     let row = delimiter_row it.piped it.cells it.last in
-    let parts : bytes ≡ replicate it.indent 32 ++ (row ++ it.rest) = it.parts ∙ append_assoc (replicate it.indent 32) row it.rest in
+    let parts : bytes ≡ replicate it.indent 32 ++ (row ++ it.rest) =
+    it.parts ∙ append_assoc (replicate it.indent 32) row it.rest in
     let dropped : drop it.indent bytes ≡ row ++ it.rest =
-    rw parts (ap (λ m. drop m (replicate it.indent 32 ++ (row ++ it.rest))) (sym (length-replicate it.indent 32)) ∙ drop-append_seam (replicate it.indent 32) (row ++ it.rest)) in
-    let made = made_row row it.rest it.ending (row_all it.piped it.cells it.last it.all_cells it.last_cell) (row_pipe it.piped it.cells it.last it.some_pipe) it.ends in
+    rw parts (ap (λ m. drop m (replicate it.indent 32 ++ (row ++ it.rest))) (sym (length-replicate it.indent 32)) ∙
+    drop-append_seam (replicate it.indent 32) (row ++ it.rest)) in
+    let made =
+    made_row row it.rest it.ending (row_all it.piped it.cells it.last it.all_cells it.last_cell)
+    (row_pipe it.piped it.cells it.last it.some_pipe) it.ends in
     false≢true (sym none ∙ ap may_be_row (ap (λ m. drop m bytes) only.0 ∙ dropped) ∙ made)
 
 -- what may be a row has a pipe in front of its cells or behind one
@@ -65,25 +89,33 @@ no_pipe (b ∷ bytes) all =
     let both = both_true (is_cell_byte b) (list_all is_cell_byte bytes) all in
     rw (cell_byte_no_pipe b both.0) (no_pipe bytes both.1)
 
-pub some_pipe : (bytes : List ℕ) (cells : List (List ℕ)) (last rest : List ℕ) (ending : ℕ) → may_be_row bytes ≡ true → AreCells (drop (pipe_length (begins_with is_pipe bytes)) bytes) cells last rest ending
+pub some_pipe : (bytes : List ℕ) (cells : List (List ℕ)) (last rest : List ℕ) (ending : ℕ) → may_be_row bytes ≡ true
+    → AreCells (drop (pipe_length (begins_with is_pipe bytes)) bytes) cells last rest ending
     → (begins_with is_pipe bytes || not (is_empty cells)) ≡ true
 some_pipe bytes (c ∷ cells) last rest ending may are = or_right (begins_with is_pipe bytes) true refl
 some_pipe bytes [] last rest ending may are = elim (cases_Bool (begins_with is_pipe bytes)) [
   | inl piped ↦ rw piped refl
   | inr none ↦ (
       let parts : bytes ≡ last ++ rest = rw none at are.parts in
-      let run : prefix_len is_row_byte (last ++ rest) ≡ length last = prefix_len-parts is_row_byte last rest (row_bytes last are.last_cell) (first-line_ending is_row_byte refl refl rest ending are.ends) in
-      let made : may_be_row (last ++ rest) ≡ false = rw (run, drop-append_seam last rest, take-append_seam last rest, are.ends, no_pipe last are.last_cell) refl in
+      let run : prefix_len is_row_byte (last ++ rest) ≡ length last =
+      prefix_len-parts is_row_byte last rest (row_bytes last are.last_cell) (first-line_ending is_row_byte refl refl rest ending are.ends) in
+      let made : may_be_row (last ++ rest) ≡ false =
+      rw (run, drop-append_seam last rest, take-append_seam last rest, are.ends, no_pipe last are.last_cell) refl in
       absurd (false≢true (sym made ∙ ap may_be_row (sym parts) ∙ may))
       )
 ]
 
 -- what the test of a row's front and that of its cells tell together
 pub row_tests : (bytes : List ℕ) (indent pipe : ℕ) (run : indent ≡ prefix_len is_space bytes) (pipe_is : pipe ≡ cond (begins_with is_pipe (take (length bytes - indent) (drop indent bytes))) 1 0)
-    → (n : ℕ) (alignments : List Alignment) (some_ended hyphen : Bool) (scanned : AreScannedCells (take (length bytes - (indent + pipe)) (drop (indent + pipe) bytes)) n alignments some_ended hyphen)
-    → may_be_row (take (length bytes - indent) (drop indent bytes)) ≡ true → (some_ended || hyphen) ≡ true → (((pipe == 1) || some_ended) && (some_ended || hyphen)) ≡ true
+    → (n : ℕ) (alignments : List Alignment) (some_ended hyphen : Bool) (scanned : AreScannedCells
+    (take (length bytes - (indent + pipe)) (drop (indent + pipe) bytes)) n alignments some_ended hyphen)
+    → may_be_row (take (length bytes - indent) (drop indent bytes)) ≡ true → (some_ended || hyphen) ≡ true →
+    (((pipe == 1) || some_ended) && (some_ended || hyphen)) ≡ true
 row_tests bytes indent pipe run pipe_is n alignments some_ended hyphen scanned may hyphens =
-    let at : take (length bytes - indent) (drop indent bytes) ≡ drop (prefix_len is_space bytes) bytes = from_place bytes indent ∙ ap (λ i. drop i bytes) run in
-    let pipes = some_pipe (drop (prefix_len is_space bytes) bytes) scanned.cells scanned.last scanned.rest scanned.ending (ap may_be_row (sym at) ∙ may) (rw (cells_start bytes indent pipe run pipe_is) at scanned.are_cells) in
+    let at : take (length bytes - indent) (drop indent bytes) ≡ drop (prefix_len is_space bytes) bytes =
+    from_place bytes indent ∙ ap (λ i. drop i bytes) run in
+    let pipes =
+    some_pipe (drop (prefix_len is_space bytes) bytes) scanned.cells scanned.last scanned.rest scanned.ending
+    (ap may_be_row (sym at) ∙ may) (rw (cells_start bytes indent pipe run pipe_is) at scanned.are_cells) in
     let some = rw scanned.tells_ended at hyphens in
     rw (pipe_test bytes indent pipe run pipe_is, scanned.tells_ended) (rw pipes some)

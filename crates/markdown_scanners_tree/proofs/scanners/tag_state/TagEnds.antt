@@ -18,9 +18,11 @@ IsTagOf bytes endings = IsOpenTag bytes ⊎ (IsClosingTag bytes × (endings ≤ 
 
 leads_run : (s : TagState) (pre xs : List ℕ) → Leads s pre → Leads (state_after s xs) (pre ++ xs)
 leads_run s pre [] l = subst (λ z. Leads s z) (sym (append-nil pre)) l
-leads_run s pre (x ∷ xs) l = subst (λ z. Leads (state_after (next_state s x) xs) z) (append_assoc pre (x ∷ []) xs) (leads_run (next_state s x) (pre ++ x ∷ []) xs (leads_next s x pre l))
+leads_run s pre (x ∷ xs) l =
+    subst (λ z. Leads (state_after (next_state s x) xs) z) (append_assoc pre (x ∷ []) xs) (leads_run (next_state s x) (pre ++ x ∷ []) xs (leads_next s x pre l))
 
-tag_at_end : (s : TagState) (bytes : List ℕ) (endings : ℕ) → Leads s bytes → is_tag_end s endings ≡ true → IsTagOf bytes endings
+tag_at_end : (s : TagState) (bytes : List ℕ) (endings : ℕ) → Leads s bytes → is_tag_end s endings ≡ true
+    → IsTagOf bytes endings
 tag_at_end Open bytes endings l e = inl l
 tag_at_end Closed bytes endings l e = inr (l, grind (arith, nat_tests))
 tag_at_end Refused bytes endings l e = cc
@@ -41,13 +43,17 @@ tag_at_end ClosingSpaced bytes endings l e = cc
 tag_at_end ClosingReturned bytes endings l e = cc
 tag_at_end ClosingEnded bytes endings l e = cc
 
-end_of_tag : (bytes : List ℕ) (endings : ℕ) → IsTagOf bytes endings → is_tag_end (state_after Start bytes) endings ≡ true
+end_of_tag : (bytes : List ℕ) (endings : ℕ) → IsTagOf bytes endings
+    → is_tag_end (state_after Start bytes) endings ≡ true
 end_of_tag bytes endings (inl o) = ap (λ s. is_tag_end s endings) (open_whole bytes o)
-end_of_tag bytes endings (inr (c, at_most_one)) = ap (λ s. is_tag_end s endings) (closing_whole bytes c) ∙ grind (arith, nat_tests)
+end_of_tag bytes endings (inr (c, at_most_one)) =
+    ap (λ s. is_tag_end s endings) (closing_whole bytes c) ∙ grind (arith, nat_tests)
 
 -- bytes are a tag exactly where the scanner comes to its end with them
-pub tag_exactly : (bytes : List ℕ) (endings : ℕ) → IsTagOf bytes endings ↔ (is_tag_end (state_after Start bytes) endings ≡ true)
-tag_exactly bytes endings = (end_of_tag bytes endings, tag_at_end (state_after Start bytes) bytes endings (leads_run Start [] bytes refl))
+pub tag_exactly : (bytes : List ℕ) (endings : ℕ)
+    → IsTagOf bytes endings ↔ (is_tag_end (state_after Start bytes) endings ≡ true)
+tag_exactly bytes endings =
+    (end_of_tag bytes endings, tag_at_end (state_after Start bytes) bytes endings (leads_run Start [] bytes refl))
 
 -- a tag's end is final, and so no tag goes on after it
 pub end_is_final : (s : TagState) (endings : ℕ) → is_tag_end s endings ≡ true → is_final s ≡ true
@@ -71,7 +77,8 @@ end_is_final ClosingSpaced endings e = cc
 end_is_final ClosingReturned endings e = cc
 end_is_final ClosingEnded endings e = cc
 
-pub final_goes_nowhere : (s : TagState) (x : ℕ) (xs : List ℕ) (endings : ℕ) → is_final s ≡ true → is_tag_end (state_after s (x ∷ xs)) endings ≡ false
+pub final_goes_nowhere : (s : TagState) (x : ℕ) (xs : List ℕ) (endings : ℕ) → is_final s ≡ true
+    → is_tag_end (state_after s (x ∷ xs)) endings ≡ false
 final_goes_nowhere Open x xs endings e = ap (λ z. is_tag_end z endings) (refused_stays xs)
 final_goes_nowhere Closed x xs endings e = ap (λ z. is_tag_end z endings) (refused_stays xs)
 final_goes_nowhere Refused x xs endings e = ap (λ z. is_tag_end z endings) (refused_stays xs)
@@ -132,26 +139,33 @@ module _ (b endings : ℕ) (other : (b == greater_than_sign) ≡ false) where
 
   other_ends_none : (s : TagState) → EndsNone (next_state s b)
   other_ends_none Start = elim (cases_Bool (b == less_than_sign)) [ inl k ↦ rw k refl | inr k ↦ rw k refl ]
-  other_ends_none Opened = elim (cases_Bool (is_letter b)) [ inl l ↦ rw l refl | inr l ↦ elim (cases_Bool (b == slash)) [ inl k ↦ rw (l, k) refl | inr k ↦ rw (l, k) refl ] ]
+  other_ends_none Opened =
+      elim (cases_Bool (is_letter b)) [ inl l ↦ rw l refl | inr l ↦ elim (cases_Bool (b == slash)) [ inl k ↦ rw (l, k) refl | inr k ↦ rw (l, k) refl ] ]
   other_ends_none Name = elim (cases_Bool (is_tag_name_byte b)) [ inl k ↦ rw k refl | inr k ↦ rw k part_ends_none ]
   other_ends_none Spaced = elim (cases_Bool (is_attribute_start b)) [ inl k ↦ rw k refl | inr k ↦ rw k part_ends_none ]
-  other_ends_none AttributeName = elim (cases_Bool (is_attribute_byte b)) [ inl k ↦ rw k refl | inr k ↦ rw k attribute_name_ends_none ]
-  other_ends_none AfterName = elim (cases_Bool (is_attribute_start b)) [ inl k ↦ rw k refl | inr k ↦ rw k attribute_name_ends_none ]
+  other_ends_none AttributeName =
+      elim (cases_Bool (is_attribute_byte b)) [ inl k ↦ rw k refl | inr k ↦ rw k attribute_name_ends_none ]
+  other_ends_none AfterName =
+      elim (cases_Bool (is_attribute_start b)) [ inl k ↦ rw k refl | inr k ↦ rw k attribute_name_ends_none ]
   other_ends_none BeforeValue = before_value_ends_none
   other_ends_none Unquoted = elim (cases_Bool (is_unquoted b)) [ inl k ↦ rw k refl | inr k ↦ rw k part_ends_none ]
   other_ends_none (Quoted quote) = elim (cases_Bool (b == quote)) [ inl k ↦ rw k refl | inr k ↦ rw k refl ]
   other_ends_none AfterValue = part_ends_none
   other_ends_none Slashed = rw other refl
   other_ends_none Closing = elim (cases_Bool (is_letter b)) [ inl k ↦ rw k refl | inr k ↦ rw k refl ]
-  other_ends_none ClosingName = elim (cases_Bool (is_tag_name_byte b)) [ inl k ↦ rw k refl | inr k ↦ rw k closing_name_ends_none ]
+  other_ends_none ClosingName =
+      elim (cases_Bool (is_tag_name_byte b)) [ inl k ↦ rw k refl | inr k ↦ rw k closing_name_ends_none ]
   other_ends_none ClosingSpaced = closing_name_ends_none
-  other_ends_none ClosingReturned = elim (cases_Bool (is_white_space_in_line b || b == line_feed)) [ inl k ↦ rw k refl | inr k ↦ rw (k, other) refl ]
-  other_ends_none ClosingEnded = elim (cases_Bool (is_white_space_in_line b)) [ inl k ↦ rw k refl | inr k ↦ rw (k, other) refl ]
+  other_ends_none ClosingReturned =
+      elim (cases_Bool (is_white_space_in_line b || b == line_feed)) [ inl k ↦ rw k refl | inr k ↦ rw (k, other) refl ]
+  other_ends_none ClosingEnded =
+      elim (cases_Bool (is_white_space_in_line b)) [ inl k ↦ rw k refl | inr k ↦ rw (k, other) refl ]
   other_ends_none Open = refl
   other_ends_none Closed = refl
   other_ends_none Refused = refl
 
-pub line_ending_ends_none : (s : TagState) (b endings : ℕ) → is_line_ending b ≡ true → is_tag_end (next_state s b) endings ≡ false
+pub line_ending_ends_none : (s : TagState) (b endings : ℕ) → is_line_ending b ≡ true
+    → is_tag_end (next_state s b) endings ≡ false
 line_ending_ends_none s b endings e = other_ends_none b endings not_closing s
   where
     not_closing : (b == greater_than_sign) ≡ false

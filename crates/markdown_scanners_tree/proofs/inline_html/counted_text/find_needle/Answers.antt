@@ -12,22 +12,38 @@ returns-in_err-place c =
 pub returns-then-starts_with : goal.returns-then-starts_with
 returns-then-starts_with c =
     let first = rw (c.in_ok-place.was {u = tt}) at c.memchr.ensures in
-    let inside = place_inside c.args.haystack.now c.args.needle.now c.requires.some_needle c.in_ok-place.place first.0.high in
-    let there : occurs_at c.args.haystack.now c.args.needle.now c.in_ok-place.place ≡ true = sym (occurs_at-slice c.args.haystack.now c.args.needle.now c.in_ok-place.place (omega arith) _ c.starts_with.ensures.value) ∙ c.if-starts_with.true in
-    found_there c.args.haystack.now c.args.needle.now c.requires.some_needle c.in_ok-place.place there (none_before c.args.haystack.now c.args.needle.now c.requires.some_needle c.in_ok-place.place first.0.before)
+    let inside =
+    place_inside c.args.haystack.now c.args.needle.now c.requires.some_needle c.in_ok-place.place first.0.high in
+    let there : occurs_at c.args.haystack.now c.args.needle.now c.in_ok-place.place ≡ true =
+    sym (occurs_at-slice c.args.haystack.now c.args.needle.now c.in_ok-place.place (omega arith) _ c.starts_with.ensures.value)
+    ∙ c.if-starts_with.true in
+    found_there c.args.haystack.now c.args.needle.now c.requires.some_needle c.in_ok-place.place there
+    (none_before c.args.haystack.now c.args.needle.now c.requires.some_needle c.in_ok-place.place first.0.before)
 
 pub returns-in-Some : goal.returns-in-Some
 returns-in-Some c =
     let first = rw (c.in_ok-place.was {u = tt}) at c.memchr.ensures in
-    let inside : c.in_ok-place.place + 1 ≤ length c.args.haystack.now = place_inside c.args.haystack.now c.args.needle.now c.requires.some_needle c.in_ok-place.place first.0.high in
-    let gone : occurs_at c.args.haystack.now c.args.needle.now c.in_ok-place.place ≡ false = sym (occurs_at-slice c.args.haystack.now c.args.needle.now c.in_ok-place.place (omega arith) _ c.starts_with.ensures.value) ∙ c.if-starts_with.false in
-    let none = none_there c.args.haystack.now c.args.needle.now c.requires.some_needle c.in_ok-place.place gone (none_before c.args.haystack.now c.args.needle.now c.requires.some_needle c.in_ok-place.place first.0.before) in
-    rw c.in-Some.is at (found_after c.args.haystack.now c.args.needle.now c.requires.some_needle (c.in_ok-place.place + 1) c.find.result inside none c.find.ensures)
+    let inside : c.in_ok-place.place + 1 ≤ length c.args.haystack.now =
+    place_inside c.args.haystack.now c.args.needle.now c.requires.some_needle c.in_ok-place.place first.0.high in
+    let gone : occurs_at c.args.haystack.now c.args.needle.now c.in_ok-place.place ≡ false =
+    sym (occurs_at-slice c.args.haystack.now c.args.needle.now c.in_ok-place.place (omega arith) _ c.starts_with.ensures.value)
+    ∙ c.if-starts_with.false in
+    let none =
+    none_there c.args.haystack.now c.args.needle.now c.requires.some_needle c.in_ok-place.place gone (none_before
+    c.args.haystack.now c.args.needle.now c.requires.some_needle c.in_ok-place.place first.0.before) in
+    rw c.in-Some.is at (found_after c.args.haystack.now c.args.needle.now c.requires.some_needle
+    (c.in_ok-place.place + 1) c.find.result inside none c.find.ensures)
 
 pub returns-in-None : goal.returns-in-None
 returns-in-None c =
     let first = rw (c.in_ok-place.was {u = tt}) at c.memchr.ensures in
-    let inside : c.in_ok-place.place + 1 ≤ length c.args.haystack.now = place_inside c.args.haystack.now c.args.needle.now c.requires.some_needle c.in_ok-place.place first.0.high in
-    let gone : occurs_at c.args.haystack.now c.args.needle.now c.in_ok-place.place ≡ false = sym (occurs_at-slice c.args.haystack.now c.args.needle.now c.in_ok-place.place (omega arith) _ c.starts_with.ensures.value) ∙ c.if-starts_with.false in
-    let none = none_there c.args.haystack.now c.args.needle.now c.requires.some_needle c.in_ok-place.place gone (none_before c.args.haystack.now c.args.needle.now c.requires.some_needle c.in_ok-place.place first.0.before) in
-    rw c.in-None.is at (found_after c.args.haystack.now c.args.needle.now c.requires.some_needle (c.in_ok-place.place + 1) c.find.result inside none c.find.ensures)
+    let inside : c.in_ok-place.place + 1 ≤ length c.args.haystack.now =
+    place_inside c.args.haystack.now c.args.needle.now c.requires.some_needle c.in_ok-place.place first.0.high in
+    let gone : occurs_at c.args.haystack.now c.args.needle.now c.in_ok-place.place ≡ false =
+    sym (occurs_at-slice c.args.haystack.now c.args.needle.now c.in_ok-place.place (omega arith) _ c.starts_with.ensures.value)
+    ∙ c.if-starts_with.false in
+    let none =
+    none_there c.args.haystack.now c.args.needle.now c.requires.some_needle c.in_ok-place.place gone (none_before
+    c.args.haystack.now c.args.needle.now c.requires.some_needle c.in_ok-place.place first.0.before) in
+    rw c.in-None.is at (found_after c.args.haystack.now c.args.needle.now c.requires.some_needle
+    (c.in_ok-place.place + 1) c.find.result inside none c.find.ensures)

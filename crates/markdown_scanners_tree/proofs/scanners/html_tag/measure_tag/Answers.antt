@@ -8,25 +8,41 @@ use Rattle.markdown_scanners_tree.proofs.scanners.html_tag.measure_tag.Goals.{el
 use Rattle.markdown_scanners_tree.proofs.scanners.html_tag.measure_tag.Goals as goal
 
 pub loop-state-init : goal.loop-state-init
-loop-state-init g c = (scan_begins _ _ _ _ c.after_first-state.ensures.within c.after_first-state.ensures.leads, c.after_first-state.ensures.within, omega arith, omega arith, if_none c.args.handler _ _ (λ e. refl))
+loop-state-init g c = (
+  scan_begins _ _ _ _ c.after_first-state.ensures.within c.after_first-state.ensures.leads,
+  c.after_first-state.ensures.within,
+  omega arith,
+  omega arith,
+  if_none c.args.handler _ _ (λ e. refl),
+)
 
 pub returns-in_err-skips-clause-none : goal.returns-in_err-skips-clause-none
 returns-in_err-skips-clause-none g c =
-    let line = scan_reads_on _ _ _ _ _ _ _ _ c.loop-state.invariant.0 c.loop-state.invariant.1 c.read_in_line-after.ensures.within c.read_in_line-after.ensures.leads in
-    rw c.from_residual.ensures (no_handler_stops g.F.Fn c.args.handler c.args.bytes.now _ _ _ _ line (sym (c.if-is_final.ensures {u = tt})) c.if-place-bytes.false (c.in_err-skips.was {u = tt}) (sym (c.if-is_last.ensures {u = tt})))
+    let line =
+    scan_reads_on _ _ _ _ _ _ _ _ c.loop-state.invariant.0 c.loop-state.invariant.1
+    c.read_in_line-after.ensures.within c.read_in_line-after.ensures.leads in
+    rw c.from_residual.ensures (no_handler_stops g.F.Fn c.args.handler c.args.bytes.now _ _ _ _ line (sym (c.if-is_final.ensures {u =
+    tt})) c.if-place-bytes.false (c.in_err-skips.was {u = tt}) (sym (c.if-is_last.ensures {u = tt})))
 
 pub overflow_add-place-then-is_last : goal.overflow_add-place-then-is_last
 overflow_add-place-then-is_last g c =
-    let answer : Answers g.F.Fn c.in_ok-skips.skips.now (take (length c.args.bytes.now - (c.loop-state.place + c.read_in_line-after.result.1 + 1)) (drop (c.loop-state.place + c.read_in_line-after.result.1 + 1) c.args.bytes.now)) c.skips-place.result = search (rules, of_calls) in
-    let inside : c.loop-state.place + c.read_in_line-after.result.1 + 1 + c.skips-place.result ≤ length c.args.bytes.now = skip_inside g.F.Fn c.args.handler c.args.bytes.now _ c.if-place-bytes.false c.in_ok-skips.skips c.skips-place.result (c.in_ok-skips.was {u = tt}) c.requires.steady answer in
+    let answer : Answers g.F.Fn c.in_ok-skips.skips.now (take (length c.args.bytes.now - (c.loop-state.place + c.read_in_line-after.result.1 + 1)) (drop (c.loop-state.place + c.read_in_line-after.result.1 + 1) c.args.bytes.now)) c.skips-place.result =
+    search (rules, of_calls) in
+    let inside : c.loop-state.place + c.read_in_line-after.result.1 + 1 + c.skips-place.result ≤ length c.args.bytes.now =
+    skip_inside g.F.Fn c.args.handler c.args.bytes.now _ c.if-place-bytes.false c.in_ok-skips.skips
+    c.skips-place.result (c.in_ok-skips.was {u = tt}) c.requires.steady answer in
     omega (arith, inside)
 
 pub loop-state-preserved-then-is_last : goal.loop-state-preserved-then-is_last
 loop-state-preserved-then-is_last g c =
-    let line = scan_reads_on _ _ _ _ _ _ _ _ c.loop-state.invariant.0 c.loop-state.invariant.1 c.read_in_line-after.ensures.within c.read_in_line-after.ensures.leads in
-    let answer : Answers g.F.Fn c.in_ok-skips.skips.now (take (length c.args.bytes.now - (c.loop-state.place + c.read_in_line-after.result.1 + 1)) (drop (c.loop-state.place + c.read_in_line-after.result.1 + 1) c.args.bytes.now)) c.skips-place.result = search (rules, of_calls) in
+    let line =
+    scan_reads_on _ _ _ _ _ _ _ _ c.loop-state.invariant.0 c.loop-state.invariant.1
+    c.read_in_line-after.ensures.within c.read_in_line-after.ensures.leads in
+    let answer : Answers g.F.Fn c.in_ok-skips.skips.now (take (length c.args.bytes.now - (c.loop-state.place + c.read_in_line-after.result.1 + 1)) (drop (c.loop-state.place + c.read_in_line-after.result.1 + 1) c.args.bytes.now)) c.skips-place.result =
+    search (rules, of_calls) in
     let turn = turn_with_skip g.F.Fn c.args.handler c.args.bytes.now _ c.if-place-bytes.false c.loop-state.endings c.in_ok-skips.skips c.skips-place.result (c.in_ok-skips.was {u = tt}) c.requires.steady (sym (c.if-is_last.ensures {u = tt})) answer in (
-      rw c.after_line_ending-state.ensures (scan_goes_on _ _ _ _ _ _ line (sym (c.if-is_final.ensures {u = tt})) _ _ turn),
+      rw c.after_line_ending-state.ensures (scan_goes_on _ _ _ _ _ _ line (sym (c.if-is_final.ensures {u =
+          tt})) _ _ turn),
       turn.inside,
       omega arith,
       omega arith,
@@ -35,9 +51,12 @@ loop-state-preserved-then-is_last g c =
 
 pub loop-state-preserved : goal.loop-state-preserved
 loop-state-preserved g c =
-    let line = scan_reads_on _ _ _ _ _ _ _ _ c.loop-state.invariant.0 c.loop-state.invariant.1 c.read_in_line-after.ensures.within c.read_in_line-after.ensures.leads in
+    let line =
+    scan_reads_on _ _ _ _ _ _ _ _ c.loop-state.invariant.0 c.loop-state.invariant.1
+    c.read_in_line-after.ensures.within c.read_in_line-after.ensures.leads in
     let turn = turn_without g.F.Fn c.args.handler c.args.bytes.now _ c.if-place-bytes.false c.loop-state.endings (sym (c.if-is_last.ensures {u = tt})) in (
-      rw c.after_line_ending-state.ensures (scan_goes_on _ _ _ _ _ _ line (sym (c.if-is_final.ensures {u = tt})) _ _ turn),
+      rw c.after_line_ending-state.ensures (scan_goes_on _ _ _ _ _ _ line (sym (c.if-is_final.ensures {u =
+          tt})) _ _ turn),
       turn.inside,
       omega arith,
       omega arith,
@@ -63,7 +82,11 @@ returns-then-is_tag_end-clause-only g c =
 pub returns-else-is_tag_end-clause-none : goal.returns-else-is_tag_end-clause-none
 returns-else-is_tag_end-clause-none g c =
     let read : Scanned (AnswersIfAny g.F.Fn c.args.handler) c.args.bytes.now c.loop-state-test.place c.loop-state-test.kept c.loop-state.endings c.loop-state-test.state × ((length c.args.bytes.now ≤ c.loop-state-test.place) ⊎ (is_final c.loop-state-test.state ≡ true)) = elim c.loop-state-test.branch [
-      | else-loop-state-test w ↦ rw (w.place-is, w.kept-is, w.state-is) (c.loop-state.invariant.0, inr (sym (w.loop-state-test.ensures {u = tt})))
+      | else-loop-state-test w ↦ rw (w.place-is, w.kept-is, w.state-is) (
+        c.loop-state.invariant.0,
+        inr (sym (w.loop-state-test.ensures {u =
+            tt})),
+      )
       | then-loop-state-test+then-place-bytes w ↦ rw (w.place-is, w.kept-is, w.state-is) (
         scan_reads_on _ _ _ _ _ _ _ _ c.loop-state.invariant.0 c.loop-state.invariant.1 w.read_in_line-after.ensures.within w.read_in_line-after.ensures.leads,
         elim w.then-place-bytes.branch [

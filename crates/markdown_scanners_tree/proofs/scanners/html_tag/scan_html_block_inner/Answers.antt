@@ -13,8 +13,12 @@ returns-clause-only g c = λ prefix tag.
     let sizes = c.in-Some.ensures.only prefix tag in
     elim c.match-handler.branch [
       | in-Some-handler+in_ok-buffer-in-Some-handler w ↦ (
-          let under = prefix_under g.F.Fn c.args.handler w.in-Some-handler.skips c.args.bytes.now prefix w.in-Some-handler.is tag.kept in
-          (ap (λ (v : Vec ℕ Global). v.items) w.buffer-is ∙ w.in_ok-buffer-in-Some-handler.ensures.copied prefix under sizes.0 ∙ buffer_built prefix _ _ sizes.0 sizes.1 w.if-tag.true, sizes.1)
+          let under =
+          prefix_under g.F.Fn c.args.handler w.in-Some-handler.skips c.args.bytes.now prefix w.in-Some-handler.is tag.kept in (
+            ap (λ (v : Vec ℕ Global). v.items) w.buffer-is ∙ w.in_ok-buffer-in-Some-handler.ensures.copied prefix under
+                sizes.0 ∙ buffer_built prefix _ _ sizes.0 sizes.1 w.if-tag.true,
+            sizes.1,
+          )
           )
       | in_default-handler w ↦ (
           let same : c.in-Some.tag.kept ≡ c.in-Some.tag.end = elim w.in_default-handler.branch [

@@ -4,12 +4,22 @@ use Rattle.markdown_scanners_tree.proofs.scanners.tag_state.TagRuns.{leads_step,
 use Rattle.markdown_scanners_tree.proofs.scanners.tag_state.TagState.read_in_line.Goals as goal
 
 pub returns-then-is_final-clause-leads : goal.returns-then-is_final-clause-leads
-returns-then-is_final-clause-leads c = rw c.next-state.ensures (leads_step c.args.bytes.now c.args.self c.loop-place.place c.loop-place.state c.loop-place-test.true c.loop-place.invariant.0 c.loop-place.invariant.2 (sym (c.if-not-is_line_ending.ensures {u = tt})))
+returns-then-is_final-clause-leads c =
+    rw c.next-state.ensures (leads_step c.args.bytes.now c.args.self c.loop-place.place c.loop-place.state
+    c.loop-place-test.true c.loop-place.invariant.0 c.loop-place.invariant.2
+    (sym (c.if-not-is_line_ending.ensures {u = tt})))
 
 pub loop-place-preserved : goal.loop-place-preserved
 loop-place-preserved c =
     let unfinished : is_final c.next-state.result ≡ false = sym (c.if-is_final.ensures {u = tt}) in
-    let one : LeadsTo c.args.self (take (c.loop-place.place + 1) c.args.bytes.now) c.next-state.result = rw c.next-state.ensures (leads_step c.args.bytes.now c.args.self c.loop-place.place c.loop-place.state c.loop-place-test.true c.loop-place.invariant.0 c.loop-place.invariant.2 (sym (c.if-not-is_line_ending.ensures {u = tt}))) in
+    let one : LeadsTo c.args.self (take (c.loop-place.place + 1) c.args.bytes.now) c.next-state.result =
+    rw c.next-state.ensures (leads_step c.args.bytes.now c.args.self c.loop-place.place c.loop-place.state
+    c.loop-place-test.true c.loop-place.invariant.0 c.loop-place.invariant.2
+    (sym (c.if-not-is_line_ending.ensures {u = tt}))) in
     let rises : c.loop-place.place + 1 ≤ c.end_of_run-place.result = c.end_of_run-place.ensures.within.0 in
-    let inside : c.end_of_run-place.result ≤ length c.args.bytes.now = c.end_of_run-place.ensures.within.1 in
-    (leads_over_run c.args.bytes.now c.args.self (c.loop-place.place + 1) c.end_of_run-place.result c.next-state.result rises inside one unfinished c.end_of_run-place.ensures.run, inside, unfinished)
+    let inside : c.end_of_run-place.result ≤ length c.args.bytes.now = c.end_of_run-place.ensures.within.1 in (
+      leads_over_run c.args.bytes.now c.args.self (c.loop-place.place + 1) c.end_of_run-place.result c.next-state.result
+          rises inside one unfinished c.end_of_run-place.ensures.run,
+      inside,
+      unfinished,
+    )

@@ -3,7 +3,8 @@ use Rattle.markdown_scanners_tree.specs.scanners.tag_state.private.TagMachine.{L
 use Rattle.markdown_scanners_tree.proofs.scanners.tag_state.TagState.read_in_line.Given as goal
 
 abbrev pub invariant-loop-place : goal.invariant-loop-place
-invariant-loop-place l = LeadsTo l.fn.self (take l.place l.bytes) l.state × (l.place ≤ length l.bytes) × (is_final l.state ≡ false)
+invariant-loop-place l =
+    LeadsTo l.fn.self (take l.place l.bytes) l.state × (l.place ≤ length l.bytes) × (is_final l.state ≡ false)
 
 abbrev pub decreases-loop-place : goal.decreases-loop-place
 decreases-loop-place l = length l.bytes - l.place
