@@ -1,276 +1,190 @@
 //! Runs of calls on a line: worked rows and hostile lines.
+use markdown_scanners_tree::line::LineAnswer::{Count, Flag};
+use markdown_scanners_tree::line::LineCall::{Eol, Quote, Space, Upto};
 use markdown_scanners_tree::line::{LineAnswer, LineCall, LineRun, LineStop, run_line};
 use std::alloc::Global;
 use std::process::Abort;
 use std::test::Fail;
 
-/// A run of calls on a line, and what it gives.
-#[derive(Drop)]
-struct Row {
-    line: &'static [u8],
-    calls: &'static [LineCall],
-    answers: &'static [LineAnswer],
-    scanned: usize,
-    rest: &'static [u8],
-    stop: Option<(usize, LineStop)>,
-}
+// A line, and the calls on it.
+type Run = (&'static [u8], &'static [LineCall]);
 
-fn assert_rows(rt: &impl Abort, alloc: Global, rows: &[Row]) -> Result<(), Fail> {
-    for row in rows {
-        let run = run_line(alloc, row.line, row.calls)?;
-        assert_eq!(rt; run.answers.as_slice(), row.answers);
-        assert_eq!(rt; run.scanned, row.scanned);
-        assert_eq!(rt; run.rest.as_slice(), row.rest);
-        assert_eq!(rt; run.stop, row.stop);
+// The answers, the bytes scanned, the rest, and where the run stopped.
+type Given = (
+    &'static [LineAnswer],
+    usize,
+    &'static [u8],
+    Option<(usize, LineStop)>,
+);
+
+fn assert_rows(rt: &impl Abort, alloc: Global, rows: &[(Run, Given)]) -> Result<(), Fail> {
+    for ((line, calls), (answers, scanned, rest, stop)) in rows {
+        let run = run_line(alloc, line, calls)?;
+        assert_eq!(rt; run.answers.as_slice(), *answers);
+        assert_eq!(rt; run.scanned, *scanned);
+        assert_eq!(rt; run.rest.as_slice(), *rest);
+        assert_eq!(rt; run.stop, *stop);
     }
     Ok(())
 }
 
 #[test]
 fn runs_over_spaces(rt: HostRuntime) -> Result<(), Fail> {
-    let rows = [
-        Row {
-            line: b"   x",
-            calls: &[LineCall::Upto(2), LineCall::Space(1), LineCall::Eol],
-            answers: &[
-                LineAnswer::Count(2),
-                LineAnswer::Flag(true),
-                LineAnswer::Flag(false),
-            ],
-            scanned: 3,
-            rest: b"x",
-            stop: None,
-        },
-        Row {
-            line: b"x",
-            calls: &[LineCall::Space(1)],
-            answers: &[LineAnswer::Flag(false)],
-            scanned: 0,
-            rest: b"x",
-            stop: None,
-        },
-        Row {
-            line: b"  \nx",
-            calls: &[LineCall::Upto(9), LineCall::Eol],
-            answers: &[LineAnswer::Count(2), LineAnswer::Flag(true)],
-            scanned: 2,
-            rest: b"\nx",
-            stop: None,
-        },
-        Row {
-            line: b"   ",
-            calls: &[LineCall::Space(4), LineCall::Eol],
-            answers: &[LineAnswer::Flag(false), LineAnswer::Flag(true)],
-            scanned: 3,
-            rest: b"",
-            stop: None,
-        },
-        Row {
-            line: b"a",
-            calls: &[],
-            answers: &[],
-            scanned: 0,
-            rest: b"a",
-            stop: None,
-        },
-        Row {
-            line: b"",
-            calls: &[],
-            answers: &[],
-            scanned: 0,
-            rest: b"",
-            stop: None,
-        },
-        Row {
-            line: b" x",
-            calls: &[LineCall::Upto(usize::MAX)],
-            answers: &[LineAnswer::Count(1)],
-            scanned: 1,
-            rest: b"x",
-            stop: None,
-        },
+    let rows: [(Run, Given); 7] = [
+        (
+            (b"   x", &[Upto(2), Space(1), Eol]),
+            (&[Count(2), Flag(true), Flag(false)], 3, b"x", None),
+        ),
+        ((b"x", &[Space(1)]), (&[Flag(false)], 0, b"x", None)),
+        (
+            (b"  \nx", &[Upto(9), Eol]),
+            (&[Count(2), Flag(true)], 2, b"\nx", None),
+        ),
+        (
+            (b"   ", &[Space(4), Eol]),
+            (&[Flag(false), Flag(true)], 3, b"", None),
+        ),
+        ((b"a", &[]), (&[], 0, b"a", None)),
+        ((b"", &[]), (&[], 0, b"", None)),
+        ((b" x", &[Upto(usize::MAX)]), (&[Count(1)], 1, b"x", None)),
     ];
     assert_rows(&rt, rt.alloc(), &rows)
 }
 
 #[test]
 fn runs_over_tabs(rt: HostRuntime) -> Result<(), Fail> {
-    let rows = [
-        Row {
-            line: b"\tx",
-            calls: &[LineCall::Upto(3), LineCall::Upto(5)],
-            answers: &[LineAnswer::Count(3), LineAnswer::Count(1)],
-            scanned: 1,
-            rest: b"x",
-            stop: None,
-        },
-        Row {
-            line: b"\tx",
-            calls: &[LineCall::Upto(3), LineCall::Eol],
-            answers: &[LineAnswer::Count(3)],
-            scanned: 1,
-            rest: b" x",
-            stop: Some((1, LineStop::SpacePending)),
-        },
-        Row {
-            line: b">\t\tx",
-            calls: &[LineCall::Quote, LineCall::Upto(9)],
-            answers: &[LineAnswer::Flag(true), LineAnswer::Count(6)],
-            scanned: 3,
-            rest: b"x",
-            stop: None,
-        },
-        Row {
-            line: b">\t- x",
-            calls: &[LineCall::Quote, LineCall::Eol],
-            answers: &[LineAnswer::Flag(true)],
-            scanned: 2,
-            rest: b"  - x",
-            stop: Some((1, LineStop::SpacePending)),
-        },
+    let rows: [(Run, Given); 4] = [
+        (
+            (b"\tx", &[Upto(3), Upto(5)]),
+            (&[Count(3), Count(1)], 1, b"x", None),
+        ),
+        (
+            (b"\tx", &[Upto(3), Eol]),
+            (&[Count(3)], 1, b" x", Some((1, LineStop::SpacePending))),
+        ),
+        (
+            (b">\t\tx", &[Quote, Upto(9)]),
+            (&[Flag(true), Count(6)], 3, b"x", None),
+        ),
+        (
+            (b">\t- x", &[Quote, Eol]),
+            (
+                &[Flag(true)],
+                2,
+                b"  - x",
+                Some((1, LineStop::SpacePending)),
+            ),
+        ),
     ];
     assert_rows(&rt, rt.alloc(), &rows)
 }
 
 #[test]
 fn runs_over_markers(rt: HostRuntime) -> Result<(), Fail> {
-    let rows = [
-        Row {
-            line: b"-\tx",
-            calls: &[LineCall::List(0)],
-            answers: &[LineAnswer::List(Some((b'-', 0, 4)))],
-            scanned: 2,
-            rest: b"x",
-            stop: None,
-        },
-        Row {
-            line: b"- * * *",
-            calls: &[LineCall::List(0), LineCall::List(0)],
-            answers: &[LineAnswer::List(Some((b'-', 0, 2))), LineAnswer::List(None)],
-            scanned: 2,
-            rest: b"* * *",
-            stop: None,
-        },
-        Row {
-            line: b"123456789. x",
-            calls: &[LineCall::List(0)],
-            answers: &[LineAnswer::List(Some((b'.', 123_456_789, 11)))],
-            scanned: 11,
-            rest: b"x",
-            stop: None,
-        },
-        Row {
-            line: b"1234567890. x",
-            calls: &[LineCall::List(0)],
-            answers: &[LineAnswer::List(None)],
-            scanned: 0,
-            rest: b"1234567890. x",
-            stop: None,
-        },
-        Row {
-            line: b"-",
-            calls: &[LineCall::List(0)],
-            answers: &[LineAnswer::List(Some((b'-', 0, 2)))],
-            scanned: 1,
-            rest: b"",
-            stop: None,
-        },
-        Row {
-            line: b":    x",
-            calls: &[LineCall::Definition(0)],
-            answers: &[LineAnswer::Definition(Some(5))],
-            scanned: 5,
-            rest: b"x",
-            stop: None,
-        },
-        Row {
-            line: b":     x",
-            calls: &[LineCall::Definition(0)],
-            answers: &[LineAnswer::Definition(Some(2))],
-            scanned: 2,
-            rest: b"    x",
-            stop: None,
-        },
+    let rows: [(Run, Given); 7] = [
+        (
+            (b"-\tx", &[LineCall::List(0)]),
+            (&[LineAnswer::List(Some((b'-', 0, 4)))], 2, b"x", None),
+        ),
+        (
+            (b"- * * *", &[LineCall::List(0), LineCall::List(0)]),
+            (
+                &[LineAnswer::List(Some((b'-', 0, 2))), LineAnswer::List(None)],
+                2,
+                b"* * *",
+                None,
+            ),
+        ),
+        (
+            (b"123456789. x", &[LineCall::List(0)]),
+            (
+                &[LineAnswer::List(Some((b'.', 123_456_789, 11)))],
+                11,
+                b"x",
+                None,
+            ),
+        ),
+        (
+            (b"1234567890. x", &[LineCall::List(0)]),
+            (&[LineAnswer::List(None)], 0, b"1234567890. x", None),
+        ),
+        (
+            (b"-", &[LineCall::List(0)]),
+            (&[LineAnswer::List(Some((b'-', 0, 2)))], 1, b"", None),
+        ),
+        (
+            (b":    x", &[LineCall::Definition(0)]),
+            (&[LineAnswer::Definition(Some(5))], 5, b"x", None),
+        ),
+        (
+            (b":     x", &[LineCall::Definition(0)]),
+            (&[LineAnswer::Definition(Some(2))], 2, b"    x", None),
+        ),
     ];
     assert_rows(&rt, rt.alloc(), &rows)
 }
 
 #[test]
 fn runs_over_markers_and_tabs(rt: HostRuntime) -> Result<(), Fail> {
-    let rows = [
-        Row {
-            line: b">\t- x",
-            calls: &[LineCall::Quote, LineCall::List(0)],
-            answers: &[LineAnswer::Flag(true)],
-            scanned: 2,
-            rest: b"  - x",
-            stop: Some((1, LineStop::SpacePending)),
-        },
-        Row {
-            line: b">\t- x",
-            calls: &[LineCall::Quote, LineCall::Upto(3), LineCall::List(2)],
-            answers: &[
-                LineAnswer::Flag(true),
-                LineAnswer::Count(2),
-                LineAnswer::List(Some((b'-', 0, 4))),
-            ],
-            scanned: 4,
-            rest: b"x",
-            stop: None,
-        },
-        Row {
-            line: b"-\t\tx",
-            calls: &[LineCall::List(0)],
-            answers: &[LineAnswer::List(Some((b'-', 0, 2)))],
-            scanned: 2,
-            rest: b"      x",
-            stop: None,
-        },
-        Row {
-            line: b"-\t",
-            calls: &[LineCall::List(0), LineCall::Eol],
-            answers: &[LineAnswer::List(Some((b'-', 0, 2)))],
-            scanned: 2,
-            rest: b"  ",
-            stop: Some((1, LineStop::SpacePending)),
-        },
-        Row {
-            line: b"- x",
-            calls: &[LineCall::List(usize::MAX)],
-            answers: &[],
-            scanned: 0,
-            rest: b"- x",
-            stop: Some((0, LineStop::IndentTooLarge)),
-        },
-        Row {
-            line: b"- x",
-            calls: &[LineCall::List(18_446_744_073_709_551_599)],
-            answers: &[LineAnswer::List(Some((b'-', 0, 18_446_744_073_709_551_601)))],
-            scanned: 2,
-            rest: b"x",
-            stop: None,
-        },
-        Row {
-            line: b"\tx",
-            calls: &[LineCall::Upto(1), LineCall::List(usize::MAX)],
-            answers: &[LineAnswer::Count(1)],
-            scanned: 1,
-            rest: b"   x",
-            stop: Some((1, LineStop::SpacePending)),
-        },
-        Row {
-            line: b": x",
-            calls: &[LineCall::Definition(18_446_744_073_709_551_600)],
-            answers: &[],
-            scanned: 0,
-            rest: b": x",
-            stop: Some((0, LineStop::IndentTooLarge)),
-        },
+    let rows: [(Run, Given); 8] = [
+        (
+            (b">\t- x", &[Quote, LineCall::List(0)]),
+            (
+                &[Flag(true)],
+                2,
+                b"  - x",
+                Some((1, LineStop::SpacePending)),
+            ),
+        ),
+        (
+            (b">\t- x", &[Quote, Upto(3), LineCall::List(2)]),
+            (
+                &[Flag(true), Count(2), LineAnswer::List(Some((b'-', 0, 4)))],
+                4,
+                b"x",
+                None,
+            ),
+        ),
+        (
+            (b"-\t\tx", &[LineCall::List(0)]),
+            (&[LineAnswer::List(Some((b'-', 0, 2)))], 2, b"      x", None),
+        ),
+        (
+            (b"-\t", &[LineCall::List(0), Eol]),
+            (
+                &[LineAnswer::List(Some((b'-', 0, 2)))],
+                2,
+                b"  ",
+                Some((1, LineStop::SpacePending)),
+            ),
+        ),
+        (
+            (b"- x", &[LineCall::List(usize::MAX)]),
+            (&[], 0, b"- x", Some((0, LineStop::IndentTooLarge))),
+        ),
+        (
+            (b"- x", &[LineCall::List(18_446_744_073_709_551_599)]),
+            (
+                &[LineAnswer::List(Some((b'-', 0, 18_446_744_073_709_551_601)))],
+                2,
+                b"x",
+                None,
+            ),
+        ),
+        (
+            (b"\tx", &[Upto(1), LineCall::List(usize::MAX)]),
+            (&[Count(1)], 1, b"   x", Some((1, LineStop::SpacePending))),
+        ),
+        (
+            (b": x", &[LineCall::Definition(18_446_744_073_709_551_600)]),
+            (&[], 0, b": x", Some((0, LineStop::IndentTooLarge))),
+        ),
     ];
     assert_rows(&rt, rt.alloc(), &rows)
 }
 
-// A line of so many equal parts and what ends it, with a call for a list item's marker for each part.
+// A line of so many equal parts and what ends it, with a call for a list item's marker for each
+// part.
 fn run_markers(alloc: Global, part: &[u8], count: usize, last: &[u8]) -> Result<LineRun, Fail> {
     let mut line = Vec::new(alloc);
     let mut calls = Vec::new(alloc);
@@ -295,8 +209,8 @@ fn passes_ten_thousand_bullets(rt: HostRuntime) -> Result<(), Fail> {
     Ok(())
 }
 
-// Each bullet looks as if a thematic break began there, up to the end of the line. Were each looked at
-// to the end, this run would read some 10^11 bytes and not end within a test's time.
+// Each bullet looks as if a thematic break began there, up to the end of the line. Were each looked
+// at to the end, this run would read some 10^11 bytes and not end within a test's time.
 #[test]
 fn looks_for_a_thematic_break_once(rt: HostRuntime) -> Result<(), Fail> {
     let run = run_markers(rt.alloc(), b"- ", 400_000, b"x")?;
@@ -314,8 +228,8 @@ fn assert_no_marker(rt: &impl Abort, run: &LineRun, calls: usize) {
     assert_eq!(rt; run.stop, None);
 }
 
-// The line is a thematic break, so no call passes a bullet. Were the line read to its end by each, this
-// run would read some 10^11 bytes.
+// The line is a thematic break, so no call passes a bullet. Were the line read to its end by each,
+// this run would read some 10^11 bytes.
 #[test]
 fn finds_a_thematic_break_once(rt: HostRuntime) -> Result<(), Fail> {
     let run = run_markers(rt.alloc(), b"- ", 400_000, b"\n")?;
@@ -323,8 +237,8 @@ fn finds_a_thematic_break_once(rt: HostRuntime) -> Result<(), Fail> {
     Ok(())
 }
 
-// Ten digits are no marker, however many follow. Were all read by each call, this run would read some
-// 10^11 bytes.
+// Ten digits are no marker, however many follow. Were all read by each call, this run would read
+// some 10^11 bytes.
 #[test]
 fn looks_at_ten_digits(rt: HostRuntime) -> Result<(), Fail> {
     let run = run_markers(rt.alloc(), b"1", 400_000, b". x")?;
@@ -336,11 +250,8 @@ fn looks_at_ten_digits(rt: HostRuntime) -> Result<(), Fail> {
 fn takes_a_hundred_thousand_tabs(rt: HostRuntime) -> Result<(), Fail> {
     let mut line = vec![in rt.alloc(); b'\t'; 100_000]?;
     line.push(b'x')?;
-    let run = run_line(rt.alloc(), &line, &[LineCall::Upto(usize::MAX)])?;
-    assert_eq!(rt;
-        run.answers.as_slice(),
-        [LineAnswer::Count(400_000)].as_slice()
-    );
+    let run = run_line(rt.alloc(), &line, &[Upto(usize::MAX)])?;
+    assert_eq!(rt; run.answers.as_slice(), [Count(400_000)].as_slice());
     assert_eq!(rt; run.scanned, 100_000);
     assert_eq!(rt; run.rest.as_slice(), b"x".as_slice());
     assert_eq!(rt; run.stop, None);
