@@ -232,6 +232,17 @@ fn labels_of_999_characters_are_read(rt: HostRuntime) -> Result<(), Fail> {
 }
 
 #[test]
+fn a_line_ending_may_be_the_999th_character(rt: HostRuntime) -> Result<(), Fail> {
+    let text = with_letters(rt.alloc(), 998, "\n", 0)?;
+    let Some((bytes, _, label)) = scan_after_markers(rt.alloc(), text.as_str(), b"", false)? else {
+        return Err(Fail::from("no label"));
+    };
+    assert_eq!(rt; bytes, 1000);
+    assert_eq!(rt; label.as_str().len(), 998);
+    Ok(())
+}
+
+#[test]
 fn labels_of_more_characters_are_not_read(rt: HostRuntime) -> Result<(), Fail> {
     for (count, middle) in [(1000, ""), (999, " "), (998, "\r\n")] {
         let text = with_letters(rt.alloc(), count, middle, 0)?;

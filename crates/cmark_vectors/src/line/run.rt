@@ -53,7 +53,8 @@ fn runs_over_spaces(rt: HostRuntime) -> Result<(), Fail> {
 
 #[test]
 fn runs_over_tabs(rt: HostRuntime) -> Result<(), Fail> {
-    let rows: [(Run, Given); 4] = [
+    let rows: [(Run, Given); 5] = [
+        ((b"a\tb", &[]), (&[], 0, b"a   b", None)),
         (
             (b"\tx", &[Upto(3), Upto(5)]),
             (&[Count(3), Count(1)], 1, b"x", None),
