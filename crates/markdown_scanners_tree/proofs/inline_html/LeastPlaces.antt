@@ -104,7 +104,7 @@ module _ (text bytes : List ℕ) where
       h (k - i) (omega arith) (omega (arith, length-drop i text)) (OccursAt-unshift i (k - i) in_text (subst (OccursAt text bytes) (sym there) occurs))
 
   -- a search in the rest of the text from i on
-  pub FindsNeedle-rest : (i : ℕ) → i ≤ length text → (r : Option ℕ) → FindsNeedle (drop i text) bytes 0 r
+  FindsNeedle-rest : (i : ℕ) → i ≤ length text → (r : Option ℕ) → FindsNeedle (drop i text) bytes 0 r
       → option_map (λ k. i + k) r ≡ first_place text bytes i
   FindsNeedle-rest i in_text None h = first_place-value i None (none_from i in_text h)
   FindsNeedle-rest i in_text (Some k) h = first_place-value i (Some (i + k)) (
@@ -131,7 +131,7 @@ module _ (text bytes : List ℕ) where
   }
 
   -- whether the rest of the text from i on begins with the bytes
-  pub occurs_at-rest : (i : ℕ) → i ≤ length text → (r : Bool)
+  occurs_at-rest : (i : ℕ) → i ≤ length text → (r : Bool)
       → r ≡ pointwise nat_eq bytes (take (length bytes) (drop i text)) → r ≡ occurs_at text bytes i
   occurs_at-rest i in_text r e =
       let says = starts_is Decides-eqb (drop i text) bytes r e in

@@ -190,7 +190,7 @@ module _ (t : CountedBytes) (guard : HtmlScanGuard) (last e steps p : ℕ) (fiel
       (cost-nothing t.text (is_stopped guard p) (is_shut (shut_kinds (length t.text) guard steps)) p))
       (cases_lt p (length t.text))
 
-  pub cost-agrees : (mark : ℕ) → opener_before t.text p ≡ Some mark
+  cost-agrees : (mark : ℕ) → opener_before t.text p ≡ Some mark
       → cost t.text (is_stopped guard p) (opening_at t.text p) p ≡ cost t.text (is_shut (shut_kinds (length t.text) guard steps)) (opening_at t.text p) p
   cost-agrees mark opener =
       ⊎_elim

@@ -48,7 +48,7 @@ sum-next run earlier p places None agrees e next =
     cost-same run.text (is_shut run.shut) (is_shut_after run.text earlier) (opening_at run.text p) p agrees in
     rw e (omega (arith, next, same))
 
-pub passed-is : (run : Run) (earlier places : List ℕ) → Agrees run earlier → IsSum run earlier places
+passed-is : (run : Run) (earlier places : List ℕ) → Agrees run earlier → IsSum run earlier places
 passed-is run earlier [] agrees = omega arith
 passed-is run earlier (p ∷ places) agrees =
     let later : Agrees (run_step run p) (p ∷ earlier) =
