@@ -1,17 +1,15 @@
 -- The least place at which bytes stand in a text.
-use Rattle.std.proofs.Common.{◌≡◌, ℕ, zero, suc, ◌+◌, ◌-◌, ◌≤◌, ◌<◌, Bool, true, false, List, length, get_or, take, drop, refl, sym, ap, subst, ◌∙◌, arith, ⊎_elim, Option, Some, None, length-drop, get_or-drop}
-use Rattle.std.proofs.Common.{◌++◌, length-append}
+use Rattle.std.proofs.Common.{◌≡◌, ℕ, zero, suc, ◌+◌, ◌-◌, ◌≤◌, ◌<◌, Bool, true, false, Option, Some, None, ⊎_elim, arith}
+use Rattle.std.proofs.Common.{List, ◌++◌, length, get_or, take, drop, length-drop, get_or-drop, length-append, refl, sym, ap, subst, ◌∙◌}
 use lib.Pointwise.{pointwise}
-use Rattle.std.specs.Prelude.{nat_eq}
+use Rattle.std.specs.Prelude.{nat_eq, option_map}
 use Rattle.std.proofs.lemmas.List.{take_rest}
 use Rattle.std.proofs.lemmas.List.Prefix.{at_reads}
 use Rattle.std.proofs.lemmas.Slice.Eq.{starts_is}
 use Rattle.std.proofs.lemmas.Bool.Decides.{Decides-eqb}
-use Rattle.memchr.proofs.lemmas.MatchLemmas.{OccursAt-split}
-use Rattle.std.specs.Prelude.{option_map}
 use Rattle.std.proofs.lemmas.Bool.{cases_Bool, cases_eq, cases_lt, cond-true, cond-false, false≢true, lt-leb, and_left}
 use Rattle.memchr.specs.Find.{OccursAt, Nowhere, IsFirst, FindsNeedle, occurs_at}
-use Rattle.memchr.proofs.lemmas.MatchLemmas.{occurs_at-true, OccursAt-true}
+use Rattle.memchr.proofs.lemmas.MatchLemmas.{OccursAt-split, occurs_at-true, OccursAt-true}
 use Rattle.markdown_scanners_tree.specs.inline_html.InlineHtml.{least_place, first_place}
 
 module _ (text bytes : List ℕ) where

@@ -3,7 +3,8 @@ ghost use Rattle.std.specs.Prelude.{◌≡◌, ◌≤◌, ◌<◌, ◌+◌, ◌*
 ghost use Rattle.markdown_scanners_tree.specs.inline_html.InlineHtml.{opener_before, opening_at};
 ghost use Rattle.markdown_scanners_tree.specs.inline_html.Guard.{answer_of_scan, guard_after_scan, text_after_scan, IsTrueGuard, IsTrueScan};
 ghost use Rattle.markdown_scanners_tree.specs.inline_html.run.Passed.{bytes_passed};
-ghost use Rattle.markdown_scanners_tree.specs.inline_html.run.Run.{new_run, refusal, answer_of, run_after, run_answers, run_passed, run_stop, IsWithinBudget};
+ghost use Rattle.markdown_scanners_tree.specs.inline_html.run.Run.{Run, new_run, refusal, answer_of, run_after, run_answers, run_passed, run_stop, IsWithinBudget};
+ghost use Rattle.markdown_scanners_tree.specs.inline_html.run.private.RunFields.{run_of, AreRunFields};
 
 use crate::inline_html::{
     CountedText, HtmlScanGuard, HtmlStop, scan_inline_html_comment_counted,
@@ -25,11 +26,7 @@ pub struct InlineHtmlRun<'a> {
 }
 
 impl<'a> Model for InlineHtmlRun<'a> {
-    ghost use Rattle.markdown_scanners_tree.specs.inline_html.run.Run.{Run};
-
     ghost Value = { Run };
-
-    ghost use Rattle.markdown_scanners_tree.specs.inline_html.run.private.RunFields.{run_of, AreRunFields};
 
     ghost view = { λ r. run_of r.text r.guard r.last r.find_end r.steps };
 
