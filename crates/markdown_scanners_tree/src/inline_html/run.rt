@@ -52,9 +52,12 @@ impl<'a> InlineHtmlRun<'a> {
     /// where it isn't closed. A place that is refused leaves the run as it was.
     /// (CommonMark 0.31.2, section 6.6)
     pub fn step(&mut self, place: usize) -> Result<Option<usize>, HtmlStop>
+        // What is answered.
         ensures answer { result ≡ answer_of self.old place (refusal self.old place) }
         ensures within { IfOk result (λ found. IfSome found (λ end.
             (place ≤ end) × (end ≤ length self.old.text))) }
+
+        // The run after the step.
         ensures after { self.new ≡ run_after self.old place (refusal self.old place) }
         ensures text { self.new.text ≡ self.old.text }
         ensures budget { IsWithinBudget self.new }
@@ -101,9 +104,13 @@ fn scan_after(
 ) -> Option<usize>
     requires room { text.old.passed < 2 ^ 119 }
     requires opener { opener_before text.old.text place ≡ Some mark }
+
+    // What every guard gives.
     ensures answer { result ≡ answer_of_scan opening_at text.old.text guard.old place }
     ensures guards { guard.new ≡ guard_after_scan opening_at text.old.text guard.old place }
     ensures counts { text.new ≡ text_after_scan opening_at text.old guard.old place }
+
+    // What a true guard gives.
     ensures finds { IsTrueGuard text.old.text guard.old place
         → IsTrueScan text.old.text place result guard.new }
 {
