@@ -3,7 +3,7 @@ ghost use Rattle.std.specs.Prelude.{◌≡◌, ◌≤◌, ◌<◌, ◌+◌, ◌*
 ghost use Rattle.markdown_scanners_tree.specs.inline_html.InlineHtml.{opener_before, opening_at};
 ghost use Rattle.markdown_scanners_tree.specs.inline_html.Guard.{answer_of_scan, guard_after_scan, text_after_scan, IsTrueGuard, IsTrueScan};
 ghost use Rattle.markdown_scanners_tree.specs.inline_html.run.Passed.{bytes_passed};
-ghost use Rattle.markdown_scanners_tree.specs.inline_html.run.Run.{Run, new_run, refusal, answer_of, run_after, run_answers, run_passed, run_stop, IsWithinBudget};
+ghost use Rattle.markdown_scanners_tree.specs.inline_html.run.Run.{Run, new_run, place_refusal, answer_of, run_after, run_answers, run_passed, run_stop, IsWithinBudget};
 ghost use Rattle.markdown_scanners_tree.specs.inline_html.run.private.RunFields.{run_of, AreRunFields};
 
 use crate::inline_html::{
@@ -53,12 +53,12 @@ impl<'a> InlineHtmlRun<'a> {
     /// (CommonMark 0.31.2, section 6.6)
     pub fn step(&mut self, place: usize) -> Result<Option<usize>, HtmlStop>
         // What is answered.
-        ensures answer { result ≡ answer_of self.old place (refusal self.old place) }
+        ensures answer { result ≡ answer_of self.old place (place_refusal self.old place) }
         ensures within { IfOk result (λ found. IfSome found (λ end.
             (place ≤ end) × (end ≤ length self.old.text))) }
 
         // The run after the step.
-        ensures after { self.new ≡ run_after self.old place (refusal self.old place) }
+        ensures after { self.new ≡ run_after self.old place (place_refusal self.old place) }
         ensures text { self.new.text ≡ self.old.text }
         ensures budget { IsWithinBudget self.new }
     {
