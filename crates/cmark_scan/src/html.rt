@@ -1,7 +1,7 @@
 //! The scans of inline HTML in a text, and their printed lines.
 ghost use Rattle.std.specs.Prelude.{◌≡◌, ◌++◌, IfOk, OnOk, string_bytes};
 ghost use Rattle.std.specs.List.{flat_map};
-ghost use Rattle.markdown_scanners_tree.specs.inline_html.run.Run.{refusal, run_after};
+ghost use Rattle.markdown_scanners_tree.specs.inline_html.run.Run.{place_refusal, run_after};
 ghost use Rattle.cmark_scan.specs.html.HtmlScans.{html_text, scan_text, scans_at, scans_of};
 ghost use Rattle.cmark_scan.specs.printing.Printed.{IsOutcome};
 ghost use Rattle.cmark_scan.specs.report.Report.{outcome_view};
@@ -37,7 +37,7 @@ fn html_text(alloc: Global, bytes: &[u8]) -> Result<String, AllocError>
 fn push_step(text: &mut String, run: &mut InlineHtmlRun, place: usize) -> Result<(), AllocError>
     ensures written { OnOk result (string_bytes text.new
         ≡ string_bytes text.old ++ flat_map scan_text (scans_at run.old place)) }
-    ensures after { run.new ≡ run_after run.old place (refusal run.old place) }
+    ensures after { run.new ≡ run_after run.old place (place_refusal run.old place) }
 {
     match run.step(place) {
         Ok(Some(end)) => writeln!(text, "{place} {end}"),

@@ -1,7 +1,7 @@
 //! HTML: all that is inline in a text, and a tag over the lines of a block quote.
 ghost use Rattle.std.specs.Prelude.{◌≡◌, ◌≤◌, ◌+◌, ◌*◌, ◌⊎◌, ℕ, List, length, Some, None, IfOk, IfSome};
 ghost use Rattle.markdown_scanners_tree.specs.inline_html.InlineHtml.{find_at};
-ghost use Rattle.markdown_scanners_tree.specs.inline_html.run.Run.{new_run, refusal, run_answers};
+ghost use Rattle.markdown_scanners_tree.specs.inline_html.run.Run.{new_run, place_refusal, run_answers};
 ghost use Rattle.markdown_scanners_tree.specs.Kept.{KeptByte, bytes_of, line_endings};
 ghost use Rattle.markdown_scanners_tree.specs.scanners.html_tag.HtmlTag.{IsOpenTag, IsClosingTag};
 ghost use Rattle.markdown_scanners_tree.specs.scanners.html_tag.KeptTag.{tag_buffer, place_after};
@@ -14,7 +14,7 @@ use std::alloc::{AllocError, Global};
 /// with one run. However many openers it meets, its searches pass over four bytes for each byte and eight for each opener.
 pub fn html_end(run: &mut InlineHtmlRun, place: usize) -> Option<usize>
     ensures found { IfSome result (λ end. find_at run.old.text place ≡ Some end) }
-    ensures accepted { refusal run.old place ≡ None → result ≡ find_at run.old.text place }
+    ensures accepted { place_refusal run.old place ≡ None → result ≡ find_at run.old.text place }
     ensures text { run.new.text ≡ run.old.text }
     ensures budget { run.new.passed ≤ 4 * length run.old.text + 8 * run.new.steps }
 {

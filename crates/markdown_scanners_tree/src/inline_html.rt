@@ -103,9 +103,13 @@ pub fn scan_inline_html_comment_counted(
     guard: &mut HtmlScanGuard,
 ) -> Option<usize>
     requires room { text.old.passed < 2 ^ 119 }
+
+    // What every guard gives.
     ensures answer { result ≡ answer_of_scan declared_at text.old.text guard.old place }
     ensures guards { guard.new ≡ guard_after_scan declared_at text.old.text guard.old place }
     ensures counts { text.new ≡ text_after_scan declared_at text.old guard.old place }
+
+    // What a true guard gives.
     ensures finds { IsTrue (ends_opener exclamation_mark text.old.text place)
         → IsTrueGuard text.old.text guard.old place
         → IsTrueScan text.old.text place result guard.new }
@@ -126,9 +130,13 @@ pub fn scan_inline_html_processing_counted(
 ) -> Option<usize>
     requires room { text.old.passed < 2 ^ 119 }
     requires within { place ≤ length text.old.text }
+
+    // What every guard gives.
     ensures answer { result ≡ answer_of_scan processing_at text.old.text guard.old place }
     ensures guards { guard.new ≡ guard_after_scan processing_at text.old.text guard.old place }
     ensures counts { text.new ≡ text_after_scan processing_at text.old guard.old place }
+
+    // What a true guard gives.
     ensures finds { IsTrue (ends_opener question_mark text.old.text place)
         → IsTrueGuard text.old.text guard.old place
         → IsTrueScan text.old.text place result guard.new }
@@ -152,9 +160,13 @@ fn find_or_shut(
 ) -> Option<usize>
     requires some_closer { 0 < length closer.now }
     requires room { text.old.passed < 2 ^ 120 }
+
+    // What is found.
     ensures answer { result ≡ first_place text.old.text closer.now from }
     ensures within { IfSome result (λ hit.
         (from ≤ hit) × (hit + length closer.now ≤ length text.old.text)) }
+
+    // What is left.
     ensures number { number.new ≡ number_after text.old.text number.old result }
     ensures counts { text.new
         ≡ passing text.old (searched_bytes text.old.text closer.now from result) }
@@ -172,6 +184,7 @@ fn scan_comment(text: &mut CountedText, place: usize, guard: &mut HtmlScanGuard)
     requires room { text.old.passed < 2 ^ 119 + 1 }
     requires fits_usize { length text.old.text < 2 ^ 64 }
     requires stands { slice_get text.old.text place ≡ Some hyphen }
+
     ensures answer { result ≡ answer_of_scan declared_at text.old.text guard.old place }
     ensures guards { guard.new ≡ guard_after_scan declared_at text.old.text guard.old place }
     ensures counts { passing text.new 1 ≡ text_after_scan declared_at text.old guard.old place }
@@ -193,6 +206,7 @@ fn scan_cdata(text: &mut CountedText, place: usize, guard: &mut HtmlScanGuard) -
     requires room { text.old.passed < 2 ^ 119 + 1 }
     requires fits_usize { length text.old.text < 2 ^ 64 }
     requires stands { slice_get text.old.text place ≡ Some left_bracket }
+
     ensures answer { result ≡ answer_of_scan declared_at text.old.text guard.old place }
     ensures guards { guard.new ≡ guard_after_scan declared_at text.old.text guard.old place }
     ensures counts { passing text.new 1 ≡ text_after_scan declared_at text.old guard.old place }
@@ -218,6 +232,7 @@ fn scan_declaration(
     requires fits_usize { length text.old.text < 2 ^ 64 }
     requires stands { declared_at text.old.text place ≡ Begins Declaration }
     requires within { place < length text.old.text }
+
     ensures answer { result ≡ answer_of_scan declared_at text.old.text guard.old place }
     ensures guards { guard.new ≡ guard_after_scan declared_at text.old.text guard.old place }
     ensures counts { passing text.new 1 ≡ text_after_scan declared_at text.old guard.old place }

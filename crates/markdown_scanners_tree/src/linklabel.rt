@@ -1,5 +1,6 @@
 //! Link labels: the bracketed names by which references and footnotes are matched.
-ghost use Rattle.std.specs.Prelude.{length, drop, ◌≡◌, ◌⊎◌, ◌≤◌, ◌+◌, ◌-◌, ◌++◌, ◌&&◌, not, ℕ, true, false, IfOk, OnOk, OnErr, IsOk, is_ok, ◌<◌, if◌then◌else◌, IfSome, IfNone, option_map, string_bytes, encode_utf8, map, nat_eq, IsCharBoundary};
+ghost use Rattle.std.specs.Prelude.{◌≡◌, ◌⊎◌, ◌≤◌, ◌<◌, ◌+◌, ◌-◌, ◌++◌, ◌&&◌, not, if◌then◌else◌, true, false, ℕ, nat_eq, List, length, drop, map};
+ghost use Rattle.std.specs.Prelude.{IfOk, OnOk, OnErr, IsOk, is_ok, IfSome, IfNone, option_map, string_bytes, encode_utf8, IsAscii, IsTrue, IsCharBoundary};
 ghost use Rattle.std.specs.Cmp.{on_equiv, on_per, partial_equiv_from_equiv};
 ghost use Rattle.std.specs.Cmp.Lexicographic.{pointwise, nat_list_eq_equiv};
 ghost use Rattle.std.specs.Cmp.Rules.{hashing};
@@ -53,9 +54,6 @@ pub struct LinkLabel<'a> {
 }
 
 impl<'a> Model for LinkLabel<'a> {
-    ghost use Rattle.std.specs.Prelude.{ℕ, List, IsAscii, IsTrue};
-    ghost use Rattle.markdown_values.specs.strings.Text.{cow_text};
-
     ghost Value = { List ℕ };
 
     ghost view = { λ l. cow_text l.text };

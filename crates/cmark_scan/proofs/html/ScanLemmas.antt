@@ -7,7 +7,7 @@ use Rattle.markdown_scanners_tree.specs.declared.inline_html.HtmlStop.{HtmlStop}
 use Rattle.markdown_scanners_tree.specs.declared.inline_html.HtmlStop.TheVariants.{NoOpener, InsideFind}
 use Rattle.markdown_scanners_tree.specs.inline_html.InlineHtml.{opener_before, find_at}
 use Rattle.markdown_scanners_tree.specs.inline_html.run.Passed.{bytes_passed}
-use Rattle.markdown_scanners_tree.specs.inline_html.run.Run.{Run, new_run, refusal, run_after, run_step, run_answers, run_passed}
+use Rattle.markdown_scanners_tree.specs.inline_html.run.Run.{Run, new_run, place_refusal, run_after, run_step, run_answers, run_passed}
 use Rattle.markdown_scanners_tree.proofs.ForCallers.{accepted, opener-bounds, passed-counted}
 use Rattle.cmark_scan.specs.html.HtmlScans.{is_scanned, end_after, before_later, scans_from, scans_of, scans_at, places_of, scan_text}
 
@@ -26,10 +26,10 @@ pub record IsUnderWay (bytes : List ℕ) (run : Run) (place : ℕ) (written : Li
 
 module _ (bytes : List ℕ) (run : Run) (p : ℕ) (text : run.text ≡ bytes) (rising : run.last ≤ p - 1) where
   abbrev IsMade : Type 0
-  IsMade = (refusal run p ≡ None) × (is_scanned bytes run.find_end p ≡ true)
+  IsMade = (place_refusal run p ≡ None) × (is_scanned bytes run.find_end p ≡ true)
 
   abbrev IsRefused : HtmlStop → Type 0
-  IsRefused stop = (refusal run p ≡ Some stop) × (is_scanned bytes run.find_end p ≡ false)
+  IsRefused stop = (place_refusal run p ≡ Some stop) × (is_scanned bytes run.find_end p ≡ false)
 
   by_opener : (mark : Option ℕ) → opener_before run.text p ≡ mark → IsMade ⊎ ((stop : HtmlStop) × IsRefused stop)
   by_opener None e = inr (NoOpener, (rw e refl, rw (sym text, e) refl))
@@ -92,7 +92,7 @@ module _ (bytes : List ℕ) (run : Run) (p : ℕ) (text : run.text ≡ bytes) (r
         }
 
 pub step_kept : (bytes : List ℕ) (run : Run) (p : ℕ) (written : List ℕ) → p ≤ length bytes → IsUnderWay bytes run p written
-    → IsUnderWay bytes (run_after run p (refusal run p)) (p + 1) (written ++ flat_map scan_text (scans_at run p))
+    → IsUnderWay bytes (run_after run p (place_refusal run p)) (p + 1) (written ++ flat_map scan_text (scans_at run p))
 step_kept bytes run p written within way =
     elim (made_or_refused bytes run p way.text way.rising) [
       | inl made ↦ rw made.0 (made_kept bytes run p way.text way.rising within written made way)

@@ -5,7 +5,7 @@ use Rattle.std.specs.List.{flat_map}
 use Rattle.std.specs.Fmt.{decimal}
 use Rattle.markdown_scanners_tree.specs.inline_html.InlineHtml.{opener_before, find_at}
 use Rattle.markdown_scanners_tree.specs.inline_html.run.Passed.{bytes_passed}
-use Rattle.markdown_scanners_tree.specs.inline_html.run.Run.{Run, refusal}
+use Rattle.markdown_scanners_tree.specs.inline_html.run.Run.{Run, place_refusal}
 use Rattle.cmark_scan.specs.printing.Outcome.{Outcome, line_of, number_text}
 
 -- a scan is made just after an opener, unless that place is below the end of the last find
@@ -39,7 +39,7 @@ places_of scans = map (λ scan. scan.0) scans
 
 -- the scan that a run makes at a place, if the place is not refused
 abbrev pub scans_at : Run → ℕ → List (ℕ × Option ℕ)
-scans_at run place = before_later (is_none (refusal run place)) (place, find_at run.text place) []
+scans_at run place = before_later (is_none (place_refusal run place)) (place, find_at run.text place) []
 
 -- the place of a scan, and the end of the find there
 abbrev pub scan_text : ℕ × Option ℕ → List ℕ

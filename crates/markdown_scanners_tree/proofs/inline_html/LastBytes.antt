@@ -13,13 +13,22 @@ is_itself : (a b : ℕ) → a ≡ b → (a == b) ≡ true
 is_itself a b e = grind (arith, nat_tests)
 
 module _ (hay needle : List ℕ) (some : 0 < length needle) where
+  moved : (k : ℕ) → length needle - 1 + k ≡ k + (length needle - 1)
+  moved k = omega arith
+
   -- no needle stands whose last byte is passed
   pub none_before : (place : ℕ)
-      → Nowhere (Passes (is_byte (get_or needle (length needle - 1) 0)) (take (length hay - (length needle - 1)) (drop (length needle - 1) hay))) 0 place
+      → Nowhere (Passes (is_byte (get_or needle (length needle - 1) 0))
+      (take (length hay - (length needle - 1)) (drop (length needle - 1) hay))) 0 place
       → Nowhere (OccursAt hay needle) 0 place
   none_before place none k low high occurs =
-      let reads : get_or (take (length hay - (length needle - 1)) (drop (length needle - 1) hay)) k 0 ≡ get_or needle (length needle - 1) 0 =
-      ap (λ l. get_or l k 0) (take_rest hay (length needle - 1)) ∙ get_or-drop (length needle - 1) hay k 0 ∙ ap (λ m. get_or hay m 0) (let e : length needle - 1 + k ≡ k + (length needle - 1) = omega arith in e) ∙ occurs.reads (length needle - 1) (omega arith) in
+      let reads :
+      get_or (take (length hay - (length needle - 1)) (drop (length needle - 1) hay)) k 0
+      ≡ get_or needle (length needle - 1) 0 =
+      ap (λ l. get_or l k 0) (take_rest hay (length needle - 1))
+      ∙ get_or-drop (length needle - 1) hay k 0
+      ∙ ap (λ m. get_or hay m 0) (moved k)
+      ∙ occurs.reads (length needle - 1) (omega arith) in
       none k low high (is_itself _ _ reads)
 
   -- where its last byte stands nowhere

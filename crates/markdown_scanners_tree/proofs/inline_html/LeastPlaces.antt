@@ -1,17 +1,15 @@
 -- The least place at which bytes stand in a text.
-use Rattle.std.proofs.Common.{◌≡◌, ℕ, zero, suc, ◌+◌, ◌-◌, ◌≤◌, ◌<◌, Bool, true, false, List, length, get_or, take, drop, refl, sym, ap, subst, ◌∙◌, arith, ⊎_elim, Option, Some, None, length-drop, get_or-drop}
-use Rattle.std.proofs.Common.{◌++◌, length-append}
+use Rattle.std.proofs.Common.{◌≡◌, ℕ, zero, suc, ◌+◌, ◌-◌, ◌≤◌, ◌<◌, Bool, true, false, Option, Some, None, ⊎_elim, arith}
+use Rattle.std.proofs.Common.{List, ◌++◌, length, get_or, take, drop, length-drop, get_or-drop, length-append, refl, sym, ap, subst, ◌∙◌}
 use lib.Pointwise.{pointwise}
-use Rattle.std.specs.Prelude.{nat_eq}
+use Rattle.std.specs.Prelude.{nat_eq, option_map}
 use Rattle.std.proofs.lemmas.List.{take_rest}
 use Rattle.std.proofs.lemmas.List.Prefix.{at_reads}
 use Rattle.std.proofs.lemmas.Slice.Eq.{starts_is}
 use Rattle.std.proofs.lemmas.Bool.Decides.{Decides-eqb}
-use Rattle.memchr.proofs.lemmas.MatchLemmas.{OccursAt-split}
-use Rattle.std.specs.Prelude.{option_map}
 use Rattle.std.proofs.lemmas.Bool.{cases_Bool, cases_eq, cases_lt, cond-true, cond-false, false≢true, lt-leb, and_left}
 use Rattle.memchr.specs.Find.{OccursAt, Nowhere, IsFirst, FindsNeedle, occurs_at}
-use Rattle.memchr.proofs.lemmas.MatchLemmas.{occurs_at-true, OccursAt-true}
+use Rattle.memchr.proofs.lemmas.MatchLemmas.{OccursAt-split, occurs_at-true, OccursAt-true}
 use Rattle.markdown_scanners_tree.specs.inline_html.InlineHtml.{least_place, first_place}
 
 module _ (text bytes : List ℕ) where
@@ -104,7 +102,7 @@ module _ (text bytes : List ℕ) where
       h (k - i) (omega arith) (omega (arith, length-drop i text)) (OccursAt-unshift i (k - i) in_text (subst (OccursAt text bytes) (sym there) occurs))
 
   -- a search in the rest of the text from i on
-  pub FindsNeedle-rest : (i : ℕ) → i ≤ length text → (r : Option ℕ) → FindsNeedle (drop i text) bytes 0 r
+  FindsNeedle-rest : (i : ℕ) → i ≤ length text → (r : Option ℕ) → FindsNeedle (drop i text) bytes 0 r
       → option_map (λ k. i + k) r ≡ first_place text bytes i
   FindsNeedle-rest i in_text None h = first_place-value i None (none_from i in_text h)
   FindsNeedle-rest i in_text (Some k) h = first_place-value i (Some (i + k)) (
@@ -131,7 +129,7 @@ module _ (text bytes : List ℕ) where
   }
 
   -- whether the rest of the text from i on begins with the bytes
-  pub occurs_at-rest : (i : ℕ) → i ≤ length text → (r : Bool)
+  occurs_at-rest : (i : ℕ) → i ≤ length text → (r : Bool)
       → r ≡ pointwise nat_eq bytes (take (length bytes) (drop i text)) → r ≡ occurs_at text bytes i
   occurs_at-rest i in_text r e =
       let says = starts_is Decides-eqb (drop i text) bytes r e in

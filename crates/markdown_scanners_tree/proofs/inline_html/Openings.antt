@@ -29,32 +29,32 @@ module _ (text : List ℕ) (b : ℕ) (bytes : List ℕ) (p : ℕ) where
       go zero below = ap (λ m. get_or text m 0) (add-zero p) ∙ get_or_from_slice_get text p b 0 first
       go (suc j) below = ap (λ m. get_or text m 0) (omega arith) ∙ h.reads j (omega arith)
 
-  pub stands-cons : slice_get text p ≡ Some b → occurs_at text bytes (p + 1) ≡ true
+  stands-cons : slice_get text p ≡ Some b → occurs_at text bytes (p + 1) ≡ true
       → occurs_at text (b ∷ bytes) p ≡ true
   stands-cons first rest =
       occurs_at-true text (b ∷ bytes) p (cons-OccursAt first (OccursAt-true text bytes (p + 1) rest))
 
-  pub stands-not-tail : occurs_at text bytes (p + 1) ≡ false → occurs_at text (b ∷ bytes) p ≡ false
+  stands-not-tail : occurs_at text bytes (p + 1) ≡ false → occurs_at text (b ∷ bytes) p ≡ false
   stands-not-tail rest = false_from_ne_true _ (λ there.
       false≢true (sym rest ∙ occurs_at-true text bytes (p + 1) (tail-OccursAt (OccursAt-true text (b ∷ bytes) p there))))
 
-  pub stands-not-head : slice_get text p ≢ Some b → occurs_at text (b ∷ bytes) p ≡ false
+  stands-not-head : slice_get text p ≢ Some b → occurs_at text (b ∷ bytes) p ≡ false
   stands-not-head other = false_from_ne_true _ (λ there. other (head-OccursAt (OccursAt-true text (b ∷ bytes) p there)))
 
 stands-empty : (text : List ℕ) (p : ℕ) → p ≤ length text → occurs_at text [] p ≡ true
 stands-empty text p in_text =
     occurs_at-true text [] p (record { fits = omega arith; reads = λ j below. absurd (omega arith) })
 
-pub stands-one : (text : List ℕ) (b p : ℕ) → slice_get text p ≡ Some b → occurs_at text (b ∷ []) p ≡ true
+stands-one : (text : List ℕ) (b p : ℕ) → slice_get text p ≡ Some b → occurs_at text (b ∷ []) p ≡ true
 stands-one text b p first =
     stands-cons text b [] p first (stands-empty text (p + 1) (let within = slice_get_within text p b first in omega arith))
 
-pub stands-other : (text : List ℕ) (b c : ℕ) (bytes : List ℕ) (p : ℕ) → slice_get text p ≡ Some c → c ≢ b
+stands-other : (text : List ℕ) (b c : ℕ) (bytes : List ℕ) (p : ℕ) → slice_get text p ≡ Some c → c ≢ b
     → occurs_at text (b ∷ bytes) p ≡ false
 stands-other text b c bytes p first other =
     stands-not-head text b bytes p (λ same. other (same_Some c b (sym first ∙ same)))
 
-pub stands-nowhere : (text : List ℕ) (b : ℕ) (bytes : List ℕ) (p : ℕ) → slice_get text p ≡ None
+stands-nowhere : (text : List ℕ) (b : ℕ) (bytes : List ℕ) (p : ℕ) → slice_get text p ≡ None
     → occurs_at text (b ∷ bytes) p ≡ false
 stands-nowhere text b bytes p gone = stands-not-head text b bytes p (λ same. none-some b (sym gone ∙ same))
 

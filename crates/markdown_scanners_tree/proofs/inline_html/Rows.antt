@@ -4,7 +4,7 @@ use Rattle.std.specs.Prelude.{codes}
 use Rattle.markdown_scanners_tree.specs.declared.inline_html.HtmlStop.{HtmlStop}
 use Rattle.markdown_scanners_tree.specs.declared.inline_html.HtmlStop.TheVariants.{NoOpener, NotRising, InsideFind}
 use Rattle.markdown_scanners_tree.specs.inline_html.InlineHtml.{find_at, declared_at, opening_at, least_place, cost}
-use Rattle.markdown_scanners_tree.specs.inline_html.run.Run.{new_run, run_answers, run_passed, run_stop, run_step, refusal}
+use Rattle.markdown_scanners_tree.specs.inline_html.run.Run.{new_run, run_answers, run_passed, run_stop, run_step, place_refusal}
 
 -- one name to unfold
 unfoldable computing : Unit {0}
@@ -81,9 +81,11 @@ unfolding computing
 hyphen_then_comment = (refl, refl, refl)
 
 -- refusals
-refused : (refusal (new_run (codes "<!a<!>x")) 0 ≡ Some NoOpener)
-    × (refusal (new_run (codes "<!a<!>x")) 1 ≡ Some NoOpener) × (refusal (new_run (codes "<!a<!>x")) 8 ≡ Some NoOpener)
-    × (refusal (run_step (new_run (codes "<!a<!>x")) 2) 2 ≡ Some NotRising) × (refusal (run_step (new_run (codes "<!a<!>x")) 2) 5 ≡ Some InsideFind)
+refused : (place_refusal (new_run (codes "<!a<!>x")) 0 ≡ Some NoOpener)
+    × (place_refusal (new_run (codes "<!a<!>x")) 1 ≡ Some NoOpener)
+    × (place_refusal (new_run (codes "<!a<!>x")) 8 ≡ Some NoOpener)
+    × (place_refusal (run_step (new_run (codes "<!a<!>x")) 2) 2 ≡ Some NotRising)
+    × (place_refusal (run_step (new_run (codes "<!a<!>x")) 2) 5 ≡ Some InsideFind)
     × ((run_step (new_run (codes "<!a<!>x")) 2).passed ≡ 4) × ((run_step (new_run (codes "<!a<!>x")) 2).steps ≡ 1)
 unfolding computing
 refused = (refl, refl, refl, refl, refl, refl, refl)

@@ -53,7 +53,7 @@ first_place-bounds text bytes i hit found =
     (first.0.low, first.1.fits)
 
 -- one count after another
-pub passing-twice : (t u : CountedBytes) (a b c : ℕ) → u ≡ passing t a → a + b ≡ c → passing u b ≡ passing t c
+passing-twice : (t u : CountedBytes) (a b c : ℕ) → u ≡ passing t a → a + b ≡ c → passing u b ≡ passing t c
 passing-twice t u a b c e sum =
     rw e (let same : t.passed + a + b ≡ t.passed + c = omega arith in ap (λ n. record t { passed = n }) same)
 

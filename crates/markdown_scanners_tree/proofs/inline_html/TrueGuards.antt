@@ -18,7 +18,7 @@ use Rattle.markdown_scanners_tree.proofs.inline_html.LeastPlaces.{first_place-Fi
 -- ---- what begins at a place holds no closer
 
 -- no closer of the kind begins among the bytes that belong to the beginning of a piece
-abbrev pub HasFreeLead : List ℕ → ℕ → Opening → Type 0
+abbrev HasFreeLead : List ℕ → ℕ → Opening → Type 0
 HasFreeLead text p (Begins kind) = Nowhere (OccursAt text (closer kind)) p (p + lead kind)
 HasFreeLead text p Hyphen = Unit {0}
 HasFreeLead text p Bracket = Unit {0}
@@ -67,13 +67,13 @@ chain-lead text p false false false true e cdata letter = tt
 chain-lead text p false false false false true cdata letter = letter refl
 chain-lead text p false false false false false cdata letter = tt
 
-pub declared_at-lead : (text : List ℕ) (p : ℕ) → HasFreeLead text p (declared_at text p)
+declared_at-lead : (text : List ℕ) (p : ℕ) → HasFreeLead text p (declared_at text p)
 unfolding declared_at chain
 declared_at-lead text p =
     chain-lead text p _ _ (occurs_at text (codes "[CDATA[") p) _ (is_letter (slice_index text p))
     (λ there. cdata-lead text p (OccursAt-true text (codes "[CDATA[") p there)) (letter-lead text p)
 
-pub processing-lead : (text : List ℕ) (p : ℕ) → HasFreeLead text p (Begins Processing)
+processing-lead : (text : List ℕ) (p : ℕ) → HasFreeLead text p (Begins Processing)
 processing-lead text p = empty-lead text Processing p refl
 
 -- ---- guards
@@ -85,11 +85,11 @@ earlier-stop guard p q le Cdata s = let above = ltb-true _ _ s in lt-ltb _ guard
 earlier-stop guard p q le Declaration s = let above = ltb-true _ _ s in lt-ltb _ guard.declaration (omega arith)
 earlier-stop guard p q le Processing s = let above = leb-true _ _ s in le-leb _ guard.processing (omega arith)
 
-pub Nowhere-later : {P : ℕ → Type 0} {i j l : ℕ} → i ≤ j → Nowhere P i l → Nowhere P j l
+Nowhere-later : {P : ℕ → Type 0} {i j l : ℕ} → i ≤ j → Nowhere P i l → Nowhere P j l
 Nowhere-later {P} {i} {j} {l} le h k low high = h k (omega arith) high
 
 module _ (text : List ℕ) (guard : HtmlScanGuard) where
-  pub IsTrueGuard-later : (p q : ℕ) → p ≤ q → IsTrueGuard text guard p → IsTrueGuard text guard q
+  IsTrueGuard-later : (p q : ℕ) → p ≤ q → IsTrueGuard text guard p → IsTrueGuard text guard q
   IsTrueGuard-later p q le is kind s = Nowhere-later le (is kind (earlier-stop guard p q le kind s))
 
   with_number-true : (q number : ℕ) → IsTrueGuard text guard q → (kind : Kind)
@@ -144,13 +144,13 @@ module _ (text : List ℕ) (guard : HtmlScanGuard) where
     kind-stays_true kind free false (Some hit) e q later outside =
         hit-true q hit (IsTrueGuard-later p q (omega arith) is) kind (rw e at outside)
 
-    pub true_answer : (opening : Opening) → guarded_answer text guard opening p ≡ end_of text opening p
+    true_answer : (opening : Opening) → guarded_answer text guard opening p ≡ end_of text opening p
     true_answer (Begins kind) = answers-kind kind _ refl
     true_answer Hyphen = refl
     true_answer Bracket = refl
     true_answer Nothing = refl
 
-    pub true_after : (opening : Opening) → HasFreeLead text p opening → (q : ℕ) → p < q
+    true_after : (opening : Opening) → HasFreeLead text p opening → (q : ℕ) → p < q
         → IfSome (guarded_answer text guard opening p) (λ end. end ≤ q)
         → IsTrueGuard text (guard_after text guard opening p) q
     true_after (Begins kind) free q later outside = kind-stays_true kind free _ _ refl q later outside
@@ -182,7 +182,7 @@ unfolding opening_at
 opening_at-processing text p e = rw (one-mark text p e, e)
 
 -- a scan of what begins at a place just after an opener, by its answer and guard
-pub true-scan : (text : List ℕ) (guard : HtmlScanGuard) (opening : Opening) (p : ℕ) (answer : Option ℕ) (after : HtmlScanGuard)
+true-scan : (text : List ℕ) (guard : HtmlScanGuard) (opening : Opening) (p : ℕ) (answer : Option ℕ) (after : HtmlScanGuard)
     → answer ≡ guarded_answer text guard opening p → after ≡ guard_after text guard opening p → opening_at text p ≡ opening → HasFreeLead text p opening
     → IsTrueGuard text guard p → IsTrueScan text p answer after
 true-scan text guard opening p answer after a g is_here free is = record {
@@ -218,7 +218,7 @@ true-declared-after t u guard p count answer after counted a g =
 -- ---- openers
 
 -- an opener lies in the text
-pub opener-in : (mark : ℕ) (text : List ℕ) (p : ℕ) → ends_opener mark text p ≡ true → (2 ≤ p) × (p ≤ length text)
+opener-in : (mark : ℕ) (text : List ℕ) (p : ℕ) → ends_opener mark text p ≡ true → (2 ≤ p) × (p ≤ length text)
 opener-in mark text p e =
     let parts = and_parts (nat_le 2 p) _ e in
     let two = leb-true _ _ parts.0 in

@@ -4,14 +4,12 @@ use Rattle.std.proofs.Common.{ℕ, Bool, true, false, ◌||◌, ◌&&◌, ◌==�
 use Rattle.std.proofs.Math.Bool.{and-true, and-false, and-or_distrib_left}
 use Rattle.std.proofs.lemmas.Bool.{and_parts}
 use Rattle.markdown_scanners_tree.specs.Bytes.{begins_with, is_line_ending, is_white_space}
-use Rattle.markdown_scanners_tree.specs.Ascii.{space, backslash, vertical_line}
+use Rattle.markdown_scanners_tree.specs.Ascii.{space, backslash}
 use Rattle.markdown_scanners_tree.specs.Kept.{KeptByte, in_line, at_line_end, kept_line, kept_return}
+use Rattle.markdown_scanners_tree.specs.scanners.Tables.{is_pipe}
 use Rattle.markdown_scanners_tree.specs.linklabel.Label.{is_white, pipe_at, without_pipe_backslashes, has_pipe_backslash, in_cell}
 use Rattle.markdown_scanners_tree.specs.linklabel.private.Pass.{starts_dropped}
 use Rattle.markdown_scanners_tree.proofs.linklabel.JoinedWords.{text_from}
-
-abbrev pub is_pipe : ℕ → Bool
-is_pipe b = b == vertical_line
 
 -- these kept bytes begin with a pipe exactly where the source does
 abbrev pub Follows : ℕ → List ℕ → List KeptByte → Type 0

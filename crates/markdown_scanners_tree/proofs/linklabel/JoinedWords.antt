@@ -28,22 +28,25 @@ abbrev after_word : List (List KeptByte) → List ℕ
 after_word [] = []
 after_word (run ∷ runs) = space ∷ joined (run ∷ runs)
 
-abbrev goes_on : Bool → List (List KeptByte) → List ℕ
-goes_on begins [] = []
-goes_on begins (run ∷ runs) = cond begins (bytes_of run ++ after_word runs) (after_word (run ∷ runs))
+-- what follows a byte of a word: the rest of that word where a word's byte comes next, else a space
+-- and the next word
+abbrev joined_after : Bool → List (List KeptByte) → List ℕ
+joined_after begins [] = []
+joined_after begins (run ∷ runs) = cond begins (bytes_of run ++ after_word runs) (after_word (run ∷ runs))
 
 joined-cons : (run : List KeptByte) (runs : List (List KeptByte))
     → joined (run ∷ runs) ≡ bytes_of run ++ after_word runs
 joined-cons run [] = sym (append-nil (bytes_of run))
 joined-cons run (r ∷ runs) = refl
 
-onto_joined : (B : Bool) (k : KeptByte) (R : List (List KeptByte)) → k.byte ∷ goes_on B R ≡ joined (onto_runs B k R)
+onto_joined : (B : Bool) (k : KeptByte) (R : List (List KeptByte))
+    → k.byte ∷ joined_after B R ≡ joined (onto_runs B k R)
 onto_joined B k [] = refl
 onto_joined true k (r ∷ R) = sym (joined-cons (k ∷ r) R)
 onto_joined false k (r ∷ R) = refl
 
 onto_open : (B : Bool) (k : KeptByte) (R : List (List KeptByte))
-    → joined (onto_runs B k R) ≡ goes_on true (onto_runs B k R)
+    → joined (onto_runs B k R) ≡ joined_after true (onto_runs B k R)
 onto_open B k [] = refl
 onto_open true k (r ∷ R) = joined-cons (k ∷ r) R
 onto_open false k (r ∷ R) = refl
@@ -54,13 +57,13 @@ onto_after B k [] = refl
 onto_after true k (r ∷ R) = refl
 onto_after false k (r ∷ R) = refl
 
-closed : (R : List (List KeptByte)) → after_word R ≡ goes_on false R
+closed : (R : List (List KeptByte)) → after_word R ≡ joined_after false R
 closed [] = refl
 closed (r ∷ R) = refl
 
 written : (ks : List KeptByte)
     → (text_from false true ks ≡ joined (words ks))
-    × (text_from true false ks ≡ goes_on (begins_with is_word_byte ks) (words ks))
+    × (text_from true false ks ≡ joined_after (begins_with is_word_byte ks) (words ks))
     × (text_from true true ks ≡ after_word (words ks))
 written [] = (refl, refl, refl)
 written (k ∷ ks) =
@@ -71,7 +74,7 @@ written (k ∷ ks) =
     (λ v. (cond v (text_from false true ks) (k.byte ∷ text_from true false ks)
     ≡ joined (cond (not v) (onto_runs B k (words ks)) (words ks)))
     × (cond v (text_from true true ks) (k.byte ∷ text_from true false ks)
-    ≡ goes_on (not v) (cond (not v) (onto_runs B k (words ks)) (words ks)))
+    ≡ joined_after (not v) (cond (not v) (onto_runs B k (words ks)) (words ks)))
     × (cond v (text_from true true ks) (32 ∷ k.byte ∷ text_from true false ks)
     ≡ after_word (cond (not v) (onto_runs B k (words ks)) (words ks)))) [
       | true ↦ (rest.0, rest.2 ∙ closed (words ks), rest.2)

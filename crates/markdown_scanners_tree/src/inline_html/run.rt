@@ -3,7 +3,8 @@ ghost use Rattle.std.specs.Prelude.{◌≡◌, ◌≤◌, ◌<◌, ◌+◌, ◌*
 ghost use Rattle.markdown_scanners_tree.specs.inline_html.InlineHtml.{opener_before, opening_at};
 ghost use Rattle.markdown_scanners_tree.specs.inline_html.Guard.{answer_of_scan, guard_after_scan, text_after_scan, IsTrueGuard, IsTrueScan};
 ghost use Rattle.markdown_scanners_tree.specs.inline_html.run.Passed.{bytes_passed};
-ghost use Rattle.markdown_scanners_tree.specs.inline_html.run.Run.{new_run, refusal, answer_of, run_after, run_answers, run_passed, run_stop, IsWithinBudget};
+ghost use Rattle.markdown_scanners_tree.specs.inline_html.run.Run.{Run, new_run, place_refusal, answer_of, run_after, run_answers, run_passed, run_stop, IsWithinBudget};
+ghost use Rattle.markdown_scanners_tree.specs.inline_html.run.private.RunFields.{run_of, AreRunFields};
 
 use crate::inline_html::{
     CountedText, HtmlScanGuard, HtmlStop, scan_inline_html_comment_counted,
@@ -25,11 +26,7 @@ pub struct InlineHtmlRun<'a> {
 }
 
 impl<'a> Model for InlineHtmlRun<'a> {
-    ghost use Rattle.markdown_scanners_tree.specs.inline_html.run.Run.{Run};
-
     ghost Value = { Run };
-
-    ghost use Rattle.markdown_scanners_tree.specs.inline_html.run.private.RunFields.{run_of, AreRunFields};
 
     ghost view = { λ r. run_of r.text r.guard r.last r.find_end r.steps };
 
@@ -55,10 +52,13 @@ impl<'a> InlineHtmlRun<'a> {
     /// where it isn't closed. A place that is refused leaves the run as it was.
     /// (CommonMark 0.31.2, section 6.6)
     pub fn step(&mut self, place: usize) -> Result<Option<usize>, HtmlStop>
-        ensures answer { result ≡ answer_of self.old place (refusal self.old place) }
+        // What is answered.
+        ensures answer { result ≡ answer_of self.old place (place_refusal self.old place) }
         ensures within { IfOk result (λ found. IfSome found (λ end.
             (place ≤ end) × (end ≤ length self.old.text))) }
-        ensures after { self.new ≡ run_after self.old place (refusal self.old place) }
+
+        // The run after the step.
+        ensures after { self.new ≡ run_after self.old place (place_refusal self.old place) }
         ensures text { self.new.text ≡ self.old.text }
         ensures budget { IsWithinBudget self.new }
     {
@@ -104,9 +104,13 @@ fn scan_after(
 ) -> Option<usize>
     requires room { text.old.passed < 2 ^ 119 }
     requires opener { opener_before text.old.text place ≡ Some mark }
+
+    // What every guard gives.
     ensures answer { result ≡ answer_of_scan opening_at text.old.text guard.old place }
     ensures guards { guard.new ≡ guard_after_scan opening_at text.old.text guard.old place }
     ensures counts { text.new ≡ text_after_scan opening_at text.old guard.old place }
+
+    // What a true guard gives.
     ensures finds { IsTrueGuard text.old.text guard.old place
         → IsTrueScan text.old.text place result guard.new }
 {

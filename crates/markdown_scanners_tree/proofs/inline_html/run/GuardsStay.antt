@@ -7,7 +7,7 @@ use Rattle.markdown_scanners_tree.specs.declared.inline_html.HtmlScanGuard.{Html
 use Rattle.markdown_scanners_tree.specs.inline_html.CountedText.{CountedBytes, passing}
 use Rattle.markdown_scanners_tree.specs.inline_html.InlineHtml.{Kind, Comment, Cdata, Declaration, Processing, Opening, Begins, Hyphen, Bracket, Nothing, closer, lead, first_closer, closed_at, end_of, find_at, declared_at, opening_at, opener_before, cost}
 use Rattle.markdown_scanners_tree.specs.inline_html.Guard.{is_stopped, with_number, searched_guard, guarded_answer, guard_after, IsTrueGuard, IsTrueScan}
-use Rattle.markdown_scanners_tree.specs.inline_html.run.Run.{ShutKinds, Run, is_shut, shutting, shut_by, run_step, refusal, IsWithinBudget}
+use Rattle.markdown_scanners_tree.specs.inline_html.run.Run.{ShutKinds, Run, is_shut, shutting, shut_by, run_step, place_refusal, IsWithinBudget}
 use Rattle.markdown_scanners_tree.specs.inline_html.run.private.RunFields.{says_shut, shut_kinds, run_of, AreRunFields}
 use Rattle.markdown_scanners_tree.proofs.inline_html.Openings.{declared_at-end}
 use Rattle.markdown_scanners_tree.proofs.inline_html.Scans.{cost-same, first_place-bounds}
@@ -190,7 +190,7 @@ module _ (t : CountedBytes) (guard : HtmlScanGuard) (last e steps p : ℕ) (fiel
       (cost-nothing t.text (is_stopped guard p) (is_shut (shut_kinds (length t.text) guard steps)) p))
       (cases_lt p (length t.text))
 
-  pub cost-agrees : (mark : ℕ) → opener_before t.text p ≡ Some mark
+  cost-agrees : (mark : ℕ) → opener_before t.text p ≡ Some mark
       → cost t.text (is_stopped guard p) (opening_at t.text p) p ≡ cost t.text (is_shut (shut_kinds (length t.text) guard steps)) (opening_at t.text p) p
   cost-agrees mark opener =
       ⊎_elim
@@ -365,5 +365,5 @@ module _ (t : CountedBytes) (guard : HtmlScanGuard) (last e steps p : ℕ) (fiel
 
 -- a place just after an opener, above the last place and not below the find, is not refused
 pub accepted : (run : Run) (p mark : ℕ) → opener_before run.text p ≡ Some mark → run.last < p → run.find_end ≤ p
-    → refusal run p ≡ None
+    → place_refusal run p ≡ None
 accepted run p mark opener later outside = rw (opener, lt-leb p run.last later, le-ltb p run.find_end outside)

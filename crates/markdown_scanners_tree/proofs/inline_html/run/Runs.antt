@@ -4,7 +4,7 @@ use Rattle.std.specs.Option.{is_none}
 use Rattle.std.proofs.lemmas.Bool.{cases_Bool}
 use Rattle.markdown_scanners_tree.specs.declared.inline_html.HtmlStop.{HtmlStop}
 use Rattle.markdown_scanners_tree.specs.inline_html.InlineHtml.{find_at}
-use Rattle.markdown_scanners_tree.specs.inline_html.run.Run.{Run, refusal, answer_of, run_step, run_answers, run_passed, run_stop}
+use Rattle.markdown_scanners_tree.specs.inline_html.run.Run.{Run, place_refusal, answer_of, run_step, run_answers, run_passed, run_stop}
 
 pub answer-err : (run : Run) (p : ℕ) (why : Option HtmlStop) (stop : HtmlStop) → Err stop ≡ answer_of run p why
     → why ≡ Some stop
@@ -20,7 +20,7 @@ module _ (run : Run) (places : List ℕ) (i : ℕ) (below : i < length places) w
   next : drop i places ≡ get_or places i 0 ∷ drop (i + 1) places
   next = rw (add-one, drop-cons places i 0)
 
-  module _ (stop : HtmlStop) (refused : refusal run (get_or places i 0) ≡ Some stop) where
+  module _ (stop : HtmlStop) (refused : place_refusal run (get_or places i 0) ≡ Some stop) where
     pub answers-refused : (before : List (Option ℕ)) → before ++ run_answers run (drop i places) ≡ before
     answers-refused before = rw (next, refused) (append-nil before)
 
@@ -30,7 +30,7 @@ module _ (run : Run) (places : List ℕ) (i : ℕ) (below : i < length places) w
     pub stop-refused : run_stop run i (drop i places) ≡ Some (i, stop)
     stop-refused = rw (next, refused)
 
-  module _ (free : refusal run (get_or places i 0) ≡ None) where
+  module _ (free : place_refusal run (get_or places i 0) ≡ None) where
     pub answers-accepted : (before : List (Option ℕ))
         → (before ++ find_at run.text (get_or places i 0) ∷ []) ++ run_answers (run_step run (get_or places i 0)) (drop (i + 1) places)
         ≡ before ++ run_answers run (drop i places)
@@ -47,7 +47,7 @@ module _ (run : Run) (places : List ℕ) (i : ℕ) (below : i < length places) w
 -- a run answers at most one place each
 pub answers-count : (run : Run) (places : List ℕ) → length (run_answers run places) ≤ length places
 answers-count run [] = omega arith
-answers-count run (p ∷ places) = elim (cases_Bool (is_none (refusal run p))) [
+answers-count run (p ∷ places) = elim (cases_Bool (is_none (place_refusal run p))) [
   | inl accepted ↦ rw accepted (omega (arith, answers-count (run_step run p) places))
   | inr refused ↦ rw refused (omega arith)
 ]

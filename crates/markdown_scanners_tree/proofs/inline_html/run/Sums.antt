@@ -4,7 +4,7 @@ use Rattle.std.specs.Prelude.{◌&&◌, ◌||◌, is_none}
 use Rattle.std.proofs.Math.Bool.{and-false}
 use Rattle.markdown_scanners_tree.specs.declared.inline_html.HtmlStop.{HtmlStop}
 use Rattle.markdown_scanners_tree.specs.inline_html.InlineHtml.{Kind, Comment, Cdata, Declaration, Processing, Opening, Begins, Hyphen, Bracket, Nothing, opening_at, find_at}
-use Rattle.markdown_scanners_tree.specs.inline_html.run.Run.{ShutKinds, Run, is_shut, shut_by, refusal, run_step, run_answers, run_passed, new_run}
+use Rattle.markdown_scanners_tree.specs.inline_html.run.Run.{ShutKinds, Run, is_shut, shut_by, place_refusal, run_step, run_answers, run_passed, new_run}
 use Rattle.markdown_scanners_tree.specs.inline_html.run.Passed.{begins_kind, is_shut_after, sum_after, bytes_passed}
 use Rattle.markdown_scanners_tree.proofs.inline_html.Scans.{cost-same}
 
@@ -41,14 +41,14 @@ IsSum run earlier places =
     run_passed run places ≡ run.passed + sum_after run.text earlier (take (length (run_answers run places)) places)
 
 sum-next : (run : Run) (earlier : List ℕ) (p : ℕ) (places : List ℕ) (why : Option HtmlStop) → Agrees run earlier
-    → refusal run p ≡ why → IsSum (run_step run p) (p ∷ earlier) places → IsSum run earlier (p ∷ places)
+    → place_refusal run p ≡ why → IsSum (run_step run p) (p ∷ earlier) places → IsSum run earlier (p ∷ places)
 sum-next run earlier p places (Some stop) agrees e next = rw e (omega arith)
 sum-next run earlier p places None agrees e next =
     let same =
     cost-same run.text (is_shut run.shut) (is_shut_after run.text earlier) (opening_at run.text p) p agrees in
     rw e (omega (arith, next, same))
 
-pub passed-is : (run : Run) (earlier places : List ℕ) → Agrees run earlier → IsSum run earlier places
+passed-is : (run : Run) (earlier places : List ℕ) → Agrees run earlier → IsSum run earlier places
 passed-is run earlier [] agrees = omega arith
 passed-is run earlier (p ∷ places) agrees =
     let later : Agrees (run_step run p) (p ∷ earlier) =

@@ -14,7 +14,7 @@ use Rattle.markdown_scanners_tree.proofs.linklabel.write_word.Goals.{then-is_spa
 
 module _ {Z : Type 0} (due : Bool) (old mid : String Z) where
   -- the space was appended exactly where it is due
-  pub record IsSpaced : Type 0 where
+  record IsSpaced : Type 0 where
     pub bytes_are : string_bytes mid ≡ string_bytes old ++ cond due (space ∷ []) []
     pub len_is : string_len mid ≡ string_len old + due_len due
 

@@ -218,8 +218,8 @@ no_end b d high opened =
           opened (eqb-true b right_parenthesis both.0) (eqb-true d 0 both.1)
     ])
 
-goes_on : (b d : ℕ) → ends_at b d ≡ false → (stands_bare (b ∷ []) ≡ true) × (b ≡ right_parenthesis → d ≡ 0 → ⊥)
-goes_on b d e =
+not_ended : (b d : ℕ) → ends_at b d ≡ false → (stands_bare (b ∷ []) ≡ true) × (b ≡ right_parenthesis → d ≡ 0 → ⊥)
+not_ended b d e =
     let parts = or_parts (leb b space) (eqb b right_parenthesis && eqb d 0) e in (
       lt-ltb space b (omega (arith, leb-false b space parts.0)),
       λ close none. false≢true
@@ -250,7 +250,7 @@ pub so_far_single : (most d d' i : ℕ) (bytes : List ℕ) → IsBareSoFar most 
     → IsBareSoFar most d' (i + 1) bytes
 so_far_single most d d' i bytes is in' plain on turns low =
     so_far_more most d d' i (i + 1) bytes (get_or bytes i 0 ∷ []) is (units_single_at bytes i in' plain) refl
-    (omega (arith, in')) (goes_on (get_or bytes i 0) d on).0 turns low
+    (omega (arith, in')) (not_ended (get_or bytes i 0) d on).0 turns low
 
 -- the place at which the loop stops
 abbrev pub IsStop : List ℕ → ℕ → ℕ → Type 0

@@ -25,9 +25,9 @@ position-searched byte bytes (Some k) first =
     rw (prefix_len-found byte bytes k first, lt-ltb k (length bytes) first.0.high) refl
 
 -- the text from a place on, as a slice of its bytes
-pub text_from : (bytes text : List ℕ) (start : ℕ) → bytes ≡ text
+pub slice_is_rest : (bytes text : List ℕ) (start : ℕ) → bytes ≡ text
     → take (length bytes - start) (drop start bytes) ≡ drop start text
-text_from bytes text start same = take_rest bytes start ∙ ap (drop start) same
+slice_is_rest bytes text start same = take_rest bytes start ∙ ap (drop start) same
 
 -- the first n bytes from a place, cut at the end of the text, as two slices of its bytes
 pub window_is : (bytes text : List ℕ) (start n m : ℕ) → bytes ≡ text
@@ -35,7 +35,7 @@ pub window_is : (bytes text : List ℕ) (start n m : ℕ) → bytes ≡ text
     → take m (take (length bytes - start) (drop start bytes)) ≡ take n (drop start text)
 window_is bytes text start n m same least =
     let rest = take (length bytes - start) (drop start bytes) in
-    ap (λ k. take k rest) least ∙ (cut n rest ∙ ap (take n) (text_from bytes text start same))
+    ap (λ k. take k rest) least ∙ (cut n rest ∙ ap (take n) (slice_is_rest bytes text start same))
   where
     cut : (n : ℕ) (xs : List ℕ) → take (min n (length xs)) xs ≡ take n xs
     cut n xs = elim (cases_lt n (length xs)) [

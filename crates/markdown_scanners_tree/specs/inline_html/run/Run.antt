@@ -46,8 +46,8 @@ new_run text = record {
 
 -- why a place is refused: no opener ends there; it is not above the last place; it is below the end
 -- of the last find
-abbrev pub refusal : Run → ℕ → Option HtmlStop
-refusal run p =
+abbrev pub place_refusal : Run → ℕ → Option HtmlStop
+place_refusal run p =
     if is_none (opener_before run.text p) then Some NoOpener
     else if nat_le p run.last then Some NotRising
     else if nat_lt p run.find_end then Some InsideFind
@@ -87,14 +87,14 @@ run_after run p None = run_step run p
 abbrev pub run_answers : Run → List ℕ → List (Option ℕ)
 run_answers run [] = []
 run_answers run (p ∷ places) =
-    if is_none (refusal run p) then find_at run.text p ∷ run_answers (run_step run p) places
+    if is_none (place_refusal run p) then find_at run.text p ∷ run_answers (run_step run p) places
     else []
 
 -- the bytes passed over at them
 abbrev pub run_passed : Run → List ℕ → ℕ
 run_passed run [] = run.passed
 run_passed run (p ∷ places) =
-    if is_none (refusal run p) then run_passed (run_step run p) places
+    if is_none (place_refusal run p) then run_passed (run_step run p) places
     else run.passed
 
 abbrev pub stop_at : Option HtmlStop → ℕ → Option (ℕ × HtmlStop) → Option (ℕ × HtmlStop)
@@ -104,7 +104,7 @@ stop_at (Some stop) i later = Some (i, stop)
 -- the index, counted from i, and the name of the first refusal
 abbrev pub run_stop : Run → ℕ → List ℕ → Option (ℕ × HtmlStop)
 run_stop run i [] = None
-run_stop run i (p ∷ places) = stop_at (refusal run p) i (run_stop (run_step run p) (i + 1) places)
+run_stop run i (p ∷ places) = stop_at (place_refusal run p) i (run_stop (run_step run p) (i + 1) places)
 
 abbrev pub one_if : Bool → ℕ
 one_if b = if b then 1 else 0

@@ -7,7 +7,7 @@ use Rattle.std.specs.Str.{IsCharBoundary}
 use Rattle.markdown_scanners_tree.specs.Ascii.{less_than_sign}
 use Rattle.markdown_scanners_tree.specs.scanners.links.LinkDestination.{IsPointedFrom, IsBareFrom}
 use Rattle.markdown_scanners_tree.proofs.SomeExactlyLemmas.{SomeExactly-from_none}
-use Rattle.markdown_scanners_tree.proofs.scanners.links.LinkLemmas.{no_pointed, no_bare, opened_by, text_from, cut_behind}
+use Rattle.markdown_scanners_tree.proofs.scanners.links.LinkLemmas.{no_pointed, no_bare, opened_by, slice_is_rest, cut_behind}
 use Rattle.markdown_scanners_tree.proofs.scanners.links.OneDestination.{one_destination}
 use Rattle.markdown_scanners_tree.proofs.scanners.links.scan_link_dest.Goals as goal
 use Rattle.markdown_scanners_tree.proofs.scanners.links.scan_link_dest.Goals.{else-not-is_empty-via-then-not-is_empty+else-bytes-eq60, else-not-is_empty-via-else-not-is_empty}
@@ -15,7 +15,7 @@ use Rattle.markdown_scanners_tree.proofs.scanners.links.scan_link_dest.Goals.{el
 pub returns-in_err-n-clause-found : goal.returns-in_err-n-clause-found
 returns-in_err-n-clause-found c =
     let text = drop c.args.start c.args.text.now in
-    let read = text_from c.as_bytes.result.now c.args.text.now c.args.start c.as_bytes.ensures.value in
+    let read = slice_is_rest c.as_bytes.result.now c.args.text.now c.args.start c.as_bytes.ensures.value in
     let opens = opened_by text (ap (λ t. get_or t 0 0) (sym read) ∙ c.if-bytes-eq60.true) in
     let after = take_rest _ 1 ∙ ap (drop 1) read in
     SomeExactly-from_none _ (ap (option_map (λ (r : ℕ × Bor (List ℕ)). (r.0, r.1.now))) c.from_residual.ensures) (λ r.
@@ -25,7 +25,7 @@ returns-in_err-n-clause-found c =
 pub range-requires-clause-start_boundary : goal.range-requires-clause-start_boundary
 range-requires-clause-start_boundary c = λ _.
     let text = drop c.args.start c.args.text.now in
-    let read = text_from c.as_bytes.result.now c.args.text.now c.args.start c.as_bytes.ensures.value in
+    let read = slice_is_rest c.as_bytes.result.now c.args.text.now c.args.start c.as_bytes.ensures.value in
     let first : get_or text 0 0 ≡ less_than_sign = ap (λ t. get_or t 0 0) (sym read) ∙ c.if-bytes-eq60.true in
     let inside : c.args.start < length c.args.text.now =
     omega (arith, ap length (opened_by text first), length-drop c.args.start c.args.text.now) in
@@ -36,7 +36,7 @@ range-requires-clause-start_boundary c = λ _.
 
 pub returns-then-bytes-eq60-clause-found : goal.returns-then-bytes-eq60-clause-found
 returns-then-bytes-eq60-clause-found c =
-    let read = text_from c.as_bytes.result.now c.args.text.now c.args.start c.as_bytes.ensures.value in
+    let read = slice_is_rest c.as_bytes.result.now c.args.text.now c.args.start c.as_bytes.ensures.value in
     let after = take_rest _ 1 ∙ ap (drop 1) read in
     inl (record {
       after = drop 1 (drop c.args.start c.args.text.now);
@@ -51,7 +51,7 @@ returns-then-bytes-eq60-clause-found c =
 
 pub returns-in_err-n-2-clause-found : goal.returns-in_err-n-2-clause-found
 returns-in_err-n-2-clause-found c =
-    let read = text_from c.as_bytes.result.now c.args.text.now c.args.start c.as_bytes.ensures.value in
+    let read = slice_is_rest c.as_bytes.result.now c.args.text.now c.args.start c.as_bytes.ensures.value in
     SomeExactly-from_none _
     (ap (option_map (λ (r : ℕ × Bor (List ℕ)). (r.0, r.1.now))) c.from_residual-in_err-n-2.ensures)
     (λ r. no_bare (c.args.max_next + 1) (drop c.args.start c.args.text.now)
@@ -65,7 +65,7 @@ returns-in_err-n-2-clause-found c =
 
 pub returns-clause-found : goal.returns-clause-found
 returns-clause-found c =
-    let read = text_from c.as_bytes.result.now c.args.text.now c.args.start c.as_bytes.ensures.value in
+    let read = slice_is_rest c.as_bytes.result.now c.args.text.now c.args.start c.as_bytes.ensures.value in
     let n = c.in_ok-n-2.n in
     inr (record {
       unpointed = λ after e. elim c.else-not-is_empty.branch [
@@ -84,7 +84,7 @@ returns-clause-found c =
 
 pub returns-then-bytes-eq60-clause-boundary : goal.returns-then-bytes-eq60-clause-boundary
 returns-then-bytes-eq60-clause-boundary c =
-    let read = text_from c.as_bytes.result.now c.args.text.now c.args.start c.as_bytes.ensures.value in
+    let read = slice_is_rest c.as_bytes.result.now c.args.text.now c.args.start c.as_bytes.ensures.value in
     let after = take_rest _ 1 ∙ (ap (drop 1) read ∙ drop-drop 1 c.args.start c.args.text.now) in
     subst (IsCharBoundary c.args.text.now) (omega arith)
     (cut_behind _ c.args.text.now (c.args.start + 1) c.in_ok-n.n after c.utf8.text c.in_ok-n.ensures.within
