@@ -87,7 +87,8 @@ block_to bytes b =
     rw (e, n) (subst IsBlockName (sym (take-append_seam b.name b.rest)) b.named, ap ends_block_name (drop-append_seam b.name b.rest) ∙ b.ended)
 
 -- by the tests of a scan
-module _ (bytes after : List ℕ) (n : ℕ) (ended : Bool) (a : after ≡ after_slash bytes) (k : n ≡ run after) (e : ended ≡ ends_block_name (take (length after - n) (drop n after))) where
+module _ (bytes after : List ℕ) (n : ℕ) (ended : Bool) (a : after ≡ after_slash bytes) (k : n ≡ run after)
+    (e : ended ≡ ends_block_name (take (length after - n) (drop n after))) where
   name_is : take n after ≡ take (run (after_slash bytes)) (after_slash bytes)
   name_is = ap (λ z. take z after) k ∙ ap (λ z. take (run z) z) a
 

@@ -23,9 +23,13 @@ pub same_cut : (p : ℕ → Bool) (prefix rest prefix' rest' : List ℕ) → lis
     → begins_with p rest ≡ false → list_all p prefix' ≡ true → begins_with p rest' ≡ false
     → prefix ++ rest ≡ prefix' ++ rest' → (prefix ≡ prefix') × (rest ≡ rest')
 same_cut p prefix rest prefix' rest' all stop all' stop' whole =
-    let counted = sym (prefix_len-parts p prefix rest all stop) ∙ ap (prefix_len p) whole ∙ prefix_len-parts p prefix' rest' all' stop' in (
-      sym (take-append_seam prefix rest) ∙ ap (take (length prefix)) whole ∙ ap (λ n. take n (prefix' ++ rest')) counted ∙ take-append_seam prefix' rest',
-      sym (drop-append_seam prefix rest) ∙ ap (drop (length prefix)) whole ∙ ap (λ n. drop n (prefix' ++ rest')) counted ∙ drop-append_seam prefix' rest',
+    let counted =
+    sym (prefix_len-parts p prefix rest all stop) ∙ ap (prefix_len p) whole
+    ∙ prefix_len-parts p prefix' rest' all' stop' in (
+      sym (take-append_seam prefix rest) ∙ ap (take (length prefix)) whole
+          ∙ ap (λ n. take n (prefix' ++ rest')) counted ∙ take-append_seam prefix' rest',
+      sym (drop-append_seam prefix rest) ∙ ap (drop (length prefix)) whole
+          ∙ ap (λ n. drop n (prefix' ++ rest')) counted ∙ drop-append_seam prefix' rest',
     )
 
 list_any-filter : (bytes : List ℕ) → list_any is_colon (filter (λ b. not (is_space b)) bytes) ≡ list_any is_colon bytes
@@ -38,7 +42,8 @@ list_any-filter (b ∷ bytes) =
 
 pub alignment-parts : (cell : List ℕ) → prefix_len is_space cell < length cell
     → alignment cell
-    ≡ alignment_by (get_or cell (prefix_len is_space cell) 0 == 58) (list_any is_colon (drop (prefix_len is_space cell + 1) cell))
+    ≡ alignment_by (get_or cell (prefix_len is_space cell) 0 == 58)
+    (list_any is_colon (drop (prefix_len is_space cell + 1) cell))
 alignment-parts [] lt = absurd (omega arith)
 alignment-parts (b ∷ cell) lt =
     elim (cases_Bool (b == 32)) [
@@ -74,10 +79,15 @@ AreCells-tail cell left all (c ∷ more) last rest ending are =
     let both = both_true (is_cell c) (list_all is_cell more) are.all_cells in
     let bytes = both_true (list_all is_cell_byte c) (list_any is_hyphen c) both.0 in
     let cut =
-    same_cut is_cell_byte cell (vertical_line ∷ left) c (vertical_line ∷ (flat_map ended_cell more ++ (last ++ rest))) all refl bytes.0 refl parts in
+    same_cut is_cell_byte cell (vertical_line ∷ left) c (vertical_line ∷ (flat_map ended_cell more ++ (last ++ rest)))
+    all refl bytes.0 refl parts in
     let first : cell ≡ c = cut.0 in
-    let after : left ≡ flat_map ended_cell more ++ (last ++ rest) = (let whole = cut.1 in cc) in
-    (more, ap (λ x. x ∷ more) (sym first), rw first both.0, record { parts = after; all_cells = both.1; last_cell = are.last_cell; ends = are.ends })
+    let after : left ≡ flat_map ended_cell more ++ (last ++ rest) = (let whole = cut.1 in cc) in (
+      more,
+      ap (λ x. x ∷ more) (sym first),
+      rw first both.0,
+      record { parts = after; all_cells = both.1; last_cell = are.last_cell; ends = are.ends },
+    )
 
 -- and the other way
 pub AreCells-cons : (cell left : List ℕ) (cells : List (List ℕ)) (last rest : List ℕ) (ending : ℕ) → is_cell cell ≡ true
@@ -107,14 +117,16 @@ AreCells-last cell left all stop no_pipe (c ∷ more) last rest ending are =
     let both = both_true (is_cell c) (list_all is_cell more) are.all_cells in
     let bytes = both_true (list_all is_cell_byte c) (list_any is_hyphen c) both.0 in
     let cut =
-    same_cut is_cell_byte cell left c (vertical_line ∷ (flat_map ended_cell more ++ (last ++ rest))) all stop bytes.0 refl parts in
+    same_cut is_cell_byte cell left c (vertical_line ∷ (flat_map ended_cell more ++ (last ++ rest))) all stop bytes.0
+    refl parts in
     let pipe = rw cut.1 at no_pipe in cc)
 
 pub alignment-scanned : (cell : List ℕ) (i : ℕ) (begins later : Bool) → i ≡ prefix_len is_space cell → i < length cell
     → begins ≡ (get_or cell i 0 == 58) → later ≡ list_any is_colon (take (length cell - (i + 1)) (drop (i + 1) cell))
     → alignment_by begins later ≡ alignment cell
 alignment-scanned cell i begins later run lt is_first is_later =
-    rw (is_first, is_later, from_place cell (i + 1), run) (sym (alignment-parts cell (let below : prefix_len is_space cell < length cell = omega arith in below)))
+    rw (is_first, is_later, from_place cell (i + 1), run)
+    (sym (alignment-parts cell (let below : prefix_len is_space cell < length cell = omega arith in below)))
 
 -- How far a scan of a delimiter row has come: the cells of the row are those that are done, and then those of what is left.
 pub record Progress (bytes : List ℕ) (done : List (List ℕ)) (left : List ℕ) : Type 0 where
@@ -140,8 +152,11 @@ Progress-more bytes done cell left is progress = record {
 left_parts : (left : List ℕ) (n : ℕ) → n ≡ prefix_len is_cell_byte left
     → (take n left ++ drop n left ≡ left) × (list_all is_cell_byte (take n left) ≡ true)
     × (begins_with is_cell_byte (drop n left) ≡ false)
-left_parts left n run =
-    (take-append-drop n left, rw run (list_all-prefix is_cell_byte left), rw run (begins_with-after_prefix is_cell_byte left))
+left_parts left n run = (
+  take-append-drop n left,
+  rw run (list_all-prefix is_cell_byte left),
+  rw run (begins_with-after_prefix is_cell_byte left),
+)
 
 piped_parts : (left : List ℕ) (n : ℕ) → begins_with is_pipe (drop n left) ≡ true
     → drop n left ≡ vertical_line ∷ drop (n + 1) left
@@ -154,7 +169,8 @@ piped_parts left n pipe = parts (drop n left) pipe (drop-drop 1 n left)
 
 pub Progress-step : (bytes : List ℕ) (done : List (List ℕ)) (left : List ℕ) (n : ℕ) → n ≡ prefix_len is_cell_byte left
     → begins_with is_pipe (drop n left) ≡ true
-    → list_any is_hyphen (take n left) ≡ true → Progress bytes done left → Progress bytes (done ++ take n left ∷ []) (drop (n + 1) left)
+    → list_any is_hyphen (take n left) ≡ true → Progress bytes done left
+    → Progress bytes (done ++ take n left ∷ []) (drop (n + 1) left)
 Progress-step bytes done left n run pipe hyphen progress =
     let parts = left_parts left n run in
     let whole : take n left ++ vertical_line ∷ drop (n + 1) left ≡ left =
@@ -216,14 +232,16 @@ module _ (bytes : List ℕ) (done : List (List ℕ)) (i n : ℕ) (alignments : L
       → begins_with is_pipe (drop n (take (length bytes - i) (drop i bytes))) ≡ true → (hyphen : Bool)
       → hyphen ≡ list_any is_hyphen (take (i + n - i) (drop i bytes)) → hyphen ≡ true → (new : List Alignment)
       (a : Alignment) → new ≡ alignments ++ a ∷ [] → a ≡ alignment (take (i + n - i) (drop i bytes))
-      → (x : List (List ℕ)) × (new ≡ map alignment x) × Progress bytes x (drop (i + (n + 1)) bytes) × (i + (n + 1) ≤ length bytes)
+      → (x : List (List ℕ)) × (new ≡ map alignment x) × Progress bytes x (drop (i + (n + 1)) bytes)
+      × (i + (n + 1) ≤ length bytes)
   scanned_cell below pipe hyphen has is new a pushed is_alignment =
       let piped : begins_with is_pipe (drop n (drop i bytes)) ≡ true = rw (from_place bytes i) at pipe in
       let has_hyphen : list_any is_hyphen (take n (drop i bytes)) ≡ true =
       rw (cell_slice bytes i n) at (sym has ∙ is) in
       let step = Progress-step bytes done (drop i bytes) n run_is piped has_hyphen progress in (
         done ++ take n (drop i bytes) ∷ [],
-        rw (map-append alignment done (take n (drop i bytes) ∷ [])) (rw (pushed, aligned, is_alignment, cell_slice bytes i n) refl),
+        rw (map-append alignment done (take n (drop i bytes) ∷ []))
+            (rw (pushed, aligned, is_alignment, cell_slice bytes i n) refl),
         rw (drop-drop (n + 1) i bytes) at step,
         (let room = within_slice bytes i (suc n) below in omega (arith, room, inside)),
       )
@@ -236,7 +254,9 @@ module _ (bytes : List ℕ) (done : List (List ℕ)) (i n : ℕ) (alignments : L
       rw (cell_slice bytes i n) at (sym has ∙ is) in
       Progress-refused bytes done (drop i bytes) n run_is piped no_hyphen progress
 
-  module _ (no_pipe : begins_with is_pipe (drop (prefix_len is_cell_byte (take (length bytes - i) (drop i bytes))) (take (length bytes - i) (drop i bytes))) ≡ false) where
+  module _
+      (no_pipe : begins_with is_pipe (drop (prefix_len is_cell_byte (take (length bytes - i) (drop i bytes)))
+      (take (length bytes - i) (drop i bytes))) ≡ false) where
     pub scanned_no_end : None ≡ line_ending (take (length bytes - (i + n)) (drop (i + n) bytes)) → NoCells bytes
     scanned_no_end no_end =
         let stop : begins_with is_pipe (drop n (drop i bytes)) ≡ false = rw (← run, from_place bytes i) at no_pipe in
@@ -248,7 +268,8 @@ module _ (bytes : List ℕ) (done : List (List ℕ)) (i n : ℕ) (alignments : L
       → Some ending ≡ line_ending (take (length bytes - (i + n)) (drop (i + n) bytes))
       → (new : List Alignment) → new ≡ alignments ++ map alignment (counted_last_cell (take (i + n - i) (drop i bytes)))
       → (len : ℕ) (empty : Bool) → len ≡ length alignments → empty ≡ (len == 0)
-      → (hyphen : Bool) → hyphen ≡ list_any is_hyphen (take (i + n - i) (drop i bytes)) → AreScannedCells bytes (i + n + ending) new (not empty) hyphen
+      → (hyphen : Bool) → hyphen ≡ list_any is_hyphen (take (i + n - i) (drop i bytes))
+      → AreScannedCells bytes (i + n + ending) new (not empty) hyphen
   scanned_last ending within ends new pushed len empty counted_len is_empty_is hyphen has =
       let some : line_ending (drop n (drop i bytes)) ≡ Some ending =
       rw (drop-drop n i bytes) (sym (rw (from_place bytes (i + n)) at ends)) in
@@ -261,7 +282,8 @@ module _ (bytes : List ℕ) (done : List (List ℕ)) (i n : ℕ) (alignments : L
         are_cells = Progress-last bytes done (drop i bytes) n ending run_is some progress;
         counted = omega (arith, room, inside, length-drop n (drop i bytes), length-drop i bytes);
         aligned =
-            rw (map-append alignment done (counted_last_cell (take n (drop i bytes)))) (rw (pushed, aligned, cell_slice bytes i n) refl);
+            rw (map-append alignment done (counted_last_cell (take n (drop i bytes))))
+            (rw (pushed, aligned, cell_slice bytes i n) refl);
         tells_ended = ap not (is_empty_is ∙ emptiness done len (counted_len ∙ ap length aligned));
         tells_hyphen = rw (cell_slice bytes i n) at has;
       }
@@ -275,7 +297,8 @@ pub push_none : (alignments : List Alignment) (last : List ℕ) → list_any (λ
 push_none alignments last none = rw none (sym (append-nil alignments))
 
 -- The cells of a delimiter row are determined.
-pub AreCells-same : (bytes : List ℕ) (cells : List (List ℕ)) (last rest : List ℕ) (ending : ℕ) (cells' : List (List ℕ)) (last' rest' : List ℕ) (ending' : ℕ)
+pub AreCells-same : (bytes : List ℕ) (cells : List (List ℕ)) (last rest : List ℕ) (ending : ℕ)
+    (cells' : List (List ℕ)) (last' rest' : List ℕ) (ending' : ℕ)
     → AreCells bytes cells last rest ending → AreCells bytes cells' last' rest' ending'
     → (cells' ≡ cells) × (last' ≡ last)
 AreCells-same bytes [] last rest ending cells' last' rest' ending' are are' =
@@ -346,14 +369,16 @@ IsDelimiterRow-only bytes n alignments it =
     rw parts (prefix_len-parts is_space (replicate it.indent 32) after
     (list_all-replicate is_space it.indent 32 refl) stop ∙ length-replicate it.indent 32) in
     let dropped : drop it.indent bytes ≡ after =
-    rw parts (ap (λ m. drop m (replicate it.indent 32 ++ after)) (sym (length-replicate it.indent 32)) ∙ drop-append_seam (replicate it.indent 32) after) in
+    rw parts (ap (λ m. drop m (replicate it.indent 32 ++ after)) (sym (length-replicate it.indent 32))
+    ∙ drop-append_seam (replicate it.indent 32) after) in
     let cells_of : (flat : List ℕ) → flat ≡ flat_map ended_cell it.cells ++ (it.last ++ it.rest)
     → AreCells flat it.cells it.last it.rest it.ending =
     λ flat is. record { parts = is; all_cells = it.all_cells; last_cell = it.last_cell; ends = it.ends } in
     let whole = delimiter_row-rest it.piped it.cells it.last it.rest in (
       run,
       rw (run, dropped, whole)
-          (piped_is it.piped (flat_map ended_cell it.cells ++ (it.last ++ it.rest)) (not_piped _ it.cells it.last it.rest it.ending (cells_of _ refl))),
+          (piped_is it.piped (flat_map ended_cell it.cells ++ (it.last ++ it.rest))
+          (not_piped _ it.cells it.last it.rest it.ending (cells_of _ refl))),
       rw (run, dropped, whole)
           (cells_of _ (after_pipe it.piped (flat_map ended_cell it.cells ++ (it.last ++ it.rest)))),
     )
@@ -374,7 +399,8 @@ delimiter_row-from : (piped : Bool) (after : List ℕ) (cells : List (List ℕ))
 delimiter_row-from false after cells last rest begins parts = parts ∙ sym (delimiter_row-rest false cells last rest)
 delimiter_row-from true [] cells last rest begins parts = absurd (let no_byte : false ≡ true = begins in cc)
 delimiter_row-from true (b ∷ after) cells last rest begins parts =
-    let is : b ≡ 124 = eqb-true b 124 begins in rw is (ap (λ x. vertical_line ∷ x) parts ∙ sym (delimiter_row-rest true cells last rest))
+    let is : b ≡ 124 = eqb-true b 124 begins in
+    rw is (ap (λ x. vertical_line ∷ x) parts ∙ sym (delimiter_row-rest true cells last rest))
 
 hyphen_in_row : (cells : List (List ℕ)) (last : List ℕ) → list_all is_cell cells ≡ true
     → (not (is_empty cells) || list_any is_hyphen last) ≡ true
@@ -383,7 +409,10 @@ hyphen_in_row [] last all some = some
 hyphen_in_row (c ∷ cells) last all some =
     let both = both_true (is_cell c) (list_all is_cell cells) all in
     let hyphen : list_any is_hyphen c ≡ true = (both_true (list_all is_cell_byte c) (list_any is_hyphen c) both.0).1 in
-    rw (list_any-append is_hyphen (c ++ flat_map (λ cell. cell) cells) last, list_any-append is_hyphen c (flat_map (λ cell. cell) cells)) (rw hyphen refl)
+    rw (
+      list_any-append is_hyphen (c ++ flat_map (λ cell. cell) cells) last,
+      list_any-append is_hyphen c (flat_map (λ cell. cell) cells),
+    ) (rw hyphen refl)
 
 hyphen_somewhere : (cells : List (List ℕ)) (last : List ℕ)
     → list_any is_hyphen (flat_map (λ cell. cell) cells ++ last) ≡ true
@@ -404,11 +433,13 @@ IsDelimiterRow-from bytes piped cells last rest ending n at_most begins are some
     replicate-all 32 (take (prefix_len is_space bytes) bytes) (list_all-prefix is_space bytes)
     ∙ ap (λ m. replicate m 32) (length-prefix_len is_space bytes) in
     let parts : bytes ≡ (replicate (prefix_len is_space bytes) 32 ++ delimiter_row piped cells last) ++ rest =
-    sym (take-append-drop (prefix_len is_space bytes) bytes) ∙ ap (λ x. x ++ drop (prefix_len is_space bytes) bytes)
-    spaces ∙ ap (λ x. replicate (prefix_len is_space bytes) 32 ++ x) after ∙ sym
-    (append_assoc (replicate (prefix_len is_space bytes) 32) (delimiter_row piped cells last) rest) in
+    sym (take-append-drop (prefix_len is_space bytes) bytes)
+    ∙ ap (λ x. x ++ drop (prefix_len is_space bytes) bytes) spaces
+    ∙ ap (λ x. replicate (prefix_len is_space bytes) 32 ++ x) after
+    ∙ sym (append_assoc (replicate (prefix_len is_space bytes) 32) (delimiter_row piped cells last) rest) in
     let stop : begins_with is_space (delimiter_row piped cells last) ≡ false =
-    begins_with-prefix is_space (delimiter_row piped cells last) rest (rw after at (begins_with-after_prefix is_space bytes)) in
+    begins_with-prefix is_space (delimiter_row piped cells last) rest
+    (rw after at (begins_with-after_prefix is_space bytes)) in
     record {
       indent = prefix_len is_space bytes;
       piped = piped;
@@ -446,7 +477,8 @@ delimiter_row-too_far bytes indent run far n alignments it =
     let only = IsDelimiterRow-only bytes n alignments it in
     omega (arith, run, far, only.0, it.at_most_three)
 
-module _ (bytes : List ℕ) (indent pipe : ℕ) (run : indent ≡ prefix_len is_space bytes) (pipe_is : pipe ≡ cond (begins_with is_pipe (take (length bytes - indent) (drop indent bytes))) 1 0) where
+module _ (bytes : List ℕ) (indent pipe : ℕ) (run : indent ≡ prefix_len is_space bytes)
+    (pipe_is : pipe ≡ cond (begins_with is_pipe (take (length bytes - indent) (drop indent bytes))) 1 0) where
   piped : Bool
   piped = begins_with is_pipe (drop (prefix_len is_space bytes) bytes)
 
@@ -454,7 +486,8 @@ module _ (bytes : List ℕ) (indent pipe : ℕ) (run : indent ≡ prefix_len is_
   pipe_counted = rw (from_place bytes indent, run) at pipe_is
 
   pub cells_start : take (length bytes - (indent + pipe)) (drop (indent + pipe) bytes)
-      ≡ drop (pipe_length (begins_with is_pipe (drop (prefix_len is_space bytes) bytes))) (drop (prefix_len is_space bytes) bytes)
+      ≡ drop (pipe_length (begins_with is_pipe (drop (prefix_len is_space bytes) bytes)))
+      (drop (prefix_len is_space bytes) bytes)
   cells_start = from_place bytes (indent + pipe) ∙ sym (drop-drop pipe indent bytes) ∙ rw (run, pipe_counted) refl
 
   pub no_cells : NoCells (take (length bytes - (indent + pipe)) (drop (indent + pipe) bytes)) → NoDelimiterRow bytes
@@ -470,7 +503,9 @@ module _ (bytes : List ℕ) (indent pipe : ℕ) (run : indent ≡ prefix_len is_
       test false = refl
 
   -- what the cells that were scanned tell of any delimiter row
-  module _ (n : ℕ) (alignments : List Alignment) (some_ended hyphen : Bool) (scanned : AreScannedCells (take (length bytes - (indent + pipe)) (drop (indent + pipe) bytes)) n alignments some_ended hyphen) where
+  module _ (n : ℕ) (alignments : List Alignment) (some_ended hyphen : Bool)
+      (scanned : AreScannedCells (take (length bytes - (indent + pipe)) (drop (indent + pipe) bytes)) n alignments
+      some_ended hyphen) where
     pub delimiter_row-found : indent ≤ 3 → indent ≤ length bytes
         → pipe ≤ length (take (length bytes - indent) (drop indent bytes))
         → (((pipe == 1) || some_ended) && (some_ended || hyphen)) ≡ true
@@ -501,9 +536,11 @@ module _ (bytes : List ℕ) (indent pipe : ℕ) (run : indent ≡ prefix_len is_
         let same =
         AreCells-same _ scanned.cells scanned.last scanned.rest scanned.ending it.cells it.last it.rest it.ending
         (rw cells_start at scanned.are_cells) (rw only.1 only.2) in
-        let pipes : ((pipe == 1) || some_ended) ≡ true = rw (pipe_test, scanned.tells_ended, only.1, ← same.0) it.some_pipe in
+        let pipes : ((pipe == 1) || some_ended) ≡ true =
+        rw (pipe_test, scanned.tells_ended, only.1, ← same.0) it.some_pipe in
         let hyphens : (some_ended || hyphen) ≡ true =
-        rw (scanned.tells_ended, scanned.tells_hyphen, ← same.0, ← same.1) (hyphen_somewhere it.cells it.last it.some_hyphen) in
+        rw (scanned.tells_ended, scanned.tells_hyphen, ← same.0, ← same.1)
+        (hyphen_somewhere it.cells it.last it.some_hyphen) in
         let refused = rw (pipes, hyphens) at test in
         cc
 
@@ -521,7 +558,9 @@ delimiter_row-length false (c ∷ cells) last pipe =
 pub IsDelimiterRow-some : (bytes : List ℕ) (n : ℕ) (alignments : List Alignment) → IsDelimiterRow bytes n alignments
     → ¬ (n ≡ 0)
 IsDelimiterRow-some bytes n alignments it none =
-    let some = delimiter_row-length it.piped it.cells it.last it.some_pipe in let counted = it.counted in omega (arith, some, counted, none)
+    let some = delimiter_row-length it.piped it.cells it.last it.some_pipe in
+    let counted = it.counted in
+    omega (arith, some, counted, none)
 
 -- a hyphen is no space
 hyphen_counts : (bytes : List ℕ) → list_any is_hyphen bytes ≡ true → list_any (λ b. not (is_space b)) bytes ≡ true

@@ -106,7 +106,8 @@ some_pipe bytes [] last rest ending may are = elim (cases_Bool (begins_with is_p
 ]
 
 -- what the test of a row's front and that of its cells tell together
-pub row_tests : (bytes : List ℕ) (indent pipe : ℕ) (run : indent ≡ prefix_len is_space bytes) (pipe_is : pipe ≡ cond (begins_with is_pipe (take (length bytes - indent) (drop indent bytes))) 1 0)
+pub row_tests : (bytes : List ℕ) (indent pipe : ℕ) (run : indent ≡ prefix_len is_space bytes)
+    (pipe_is : pipe ≡ cond (begins_with is_pipe (take (length bytes - indent) (drop indent bytes))) 1 0)
     → (n : ℕ) (alignments : List Alignment) (some_ended hyphen : Bool) (scanned : AreScannedCells
     (take (length bytes - (indent + pipe)) (drop (indent + pipe) bytes)) n alignments some_ended hyphen)
     → may_be_row (take (length bytes - indent) (drop indent bytes)) ≡ true → (some_ended || hyphen) ≡ true →

@@ -19,7 +19,8 @@ IsTagOf bytes endings = IsOpenTag bytes ⊎ (IsClosingTag bytes × (endings ≤ 
 leads_run : (s : TagState) (pre xs : List ℕ) → Leads s pre → Leads (state_after s xs) (pre ++ xs)
 leads_run s pre [] l = subst (λ z. Leads s z) (sym (append-nil pre)) l
 leads_run s pre (x ∷ xs) l =
-    subst (λ z. Leads (state_after (next_state s x) xs) z) (append_assoc pre (x ∷ []) xs) (leads_run (next_state s x) (pre ++ x ∷ []) xs (leads_next s x pre l))
+    subst (λ z. Leads (state_after (next_state s x) xs) z) (append_assoc pre (x ∷ []) xs)
+    (leads_run (next_state s x) (pre ++ x ∷ []) xs (leads_next s x pre l))
 
 tag_at_end : (s : TagState) (bytes : List ℕ) (endings : ℕ) → Leads s bytes → is_tag_end s endings ≡ true
     → IsTagOf bytes endings
@@ -140,7 +141,10 @@ module _ (b endings : ℕ) (other : (b == greater_than_sign) ≡ false) where
   other_ends_none : (s : TagState) → EndsNone (next_state s b)
   other_ends_none Start = elim (cases_Bool (b == less_than_sign)) [ inl k ↦ rw k refl | inr k ↦ rw k refl ]
   other_ends_none Opened =
-      elim (cases_Bool (is_letter b)) [ inl l ↦ rw l refl | inr l ↦ elim (cases_Bool (b == slash)) [ inl k ↦ rw (l, k) refl | inr k ↦ rw (l, k) refl ] ]
+      elim (cases_Bool (is_letter b)) [
+        | inl l ↦ rw l refl
+        | inr l ↦ elim (cases_Bool (b == slash)) [ inl k ↦ rw (l, k) refl | inr k ↦ rw (l, k) refl ]
+      ]
   other_ends_none Name = elim (cases_Bool (is_tag_name_byte b)) [ inl k ↦ rw k refl | inr k ↦ rw k part_ends_none ]
   other_ends_none Spaced = elim (cases_Bool (is_attribute_start b)) [ inl k ↦ rw k refl | inr k ↦ rw k part_ends_none ]
   other_ends_none AttributeName =

@@ -40,4 +40,5 @@ module _ (bytes : List ℕ) (from : TagState) where
       → LeadsTo from (take end bytes) to
   leads_over_run place end to rises inside l unfinished keep =
       let e : place + (end - place) ≡ end = omega arith in
-      subst (λ k. LeadsTo from (take k bytes) to) e (leads_run (end - place) place to (omega arith) l unfinished (λ i low high. keep i low (omega arith)))
+      subst (λ k. LeadsTo from (take k bytes) to) e
+      (leads_run (end - place) place to (omega arith) l unfinished (λ i low high. keep i low (omega arith)))

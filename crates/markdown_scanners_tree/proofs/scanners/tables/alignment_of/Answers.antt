@@ -8,4 +8,5 @@ returns-then-i-cell c = sym (alignment-spaces c.args.cell.now (sym c.scan_ch_rep
 pub returns : goal.returns
 returns c =
     let below : c.scan_ch_repeat-i.result < length c.args.cell.now = omega arith in
-    c.alignment_by.ensures ∙ alignment-scanned c.args.cell.now c.scan_ch_repeat-i.result _ _ c.scan_ch_repeat-i.ensures.run below refl c.has_colon-later.ensures
+    c.alignment_by.ensures ∙ alignment-scanned c.args.cell.now c.scan_ch_repeat-i.result _ _
+    c.scan_ch_repeat-i.ensures.run below refl c.has_colon-later.ensures
