@@ -1,14 +1,13 @@
 -- Delimiter rows of tables.
 use Rattle.std.proofs.Common.{◌≡◌, ℕ, suc, ◌+◌, ◌-◌, ◌≤◌, ◌<◌, Bool, true, false, not, cond, ◌&&◌, ◌||◌, ◌==◌, List, [], ◌∷◌, ◌++◌, map, length, take, drop, get_or, refl, sym, ap, ◌∙◌, arith, inl, inr, Some, None, one-add, add-one, append_assoc}
 use Rattle.std.specs.List.{prefix_len, list_all, list_any, flat_map, filter}
-use Rattle.std.proofs.lemmas.List.{take-append-drop, length-drop, length-take, drop-drop, append-nil, map-append}
+use Rattle.std.proofs.lemmas.List.{take-append-drop, length-drop, length-take, drop-drop, append-nil, map-append, length-replicate, length-append, length-map}
 use Rattle.std.proofs.lemmas.List.Folds.{length-prefix_len, list_any-append}
 use Rattle.std.proofs.lemmas.Bool.{cases_Bool, eqb-true}
 use Rattle.std.proofs.lemmas.Bool.Decides.{nat_tests}
 use Rattle.std.proofs.Math.Seq.{drop-append_seam, take-append_seam}
 use Rattle.std.proofs.Math.Dec.{eqb-suc-zero}
 use Rattle.std.proofs.Math.ListN.{replicate}
-use Rattle.std.proofs.lemmas.List.{length-replicate, length-append, length-map}
 use Rattle.markdown_values.specs.declared.values.Alignment.{Alignment}
 use Rattle.markdown_values.specs.declared.values.Alignment.TheVariants as Aligned
 use Rattle.markdown_scanners_tree.specs.Ascii.{vertical_line}
