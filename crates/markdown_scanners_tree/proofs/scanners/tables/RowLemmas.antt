@@ -12,7 +12,8 @@ use Rattle.markdown_values.specs.declared.values.Alignment.{Alignment}
 use Rattle.markdown_scanners_tree.specs.scanners.Tables.{is_cell_byte, is_row_byte, is_cell, is_pipe, is_space, is_empty, may_be_row, ended_cell, delimiter_row, AreCells, AreScannedCells, NoDelimiterRow}
 use Rattle.markdown_scanners_tree.proofs.PrefixLemmas.{from_place, both_true, prefix_len-parts}
 use Rattle.markdown_scanners_tree.proofs.scanners.lines.BlankLemmas.{first-line_ending}
-use Rattle.markdown_scanners_tree.proofs.scanners.tables.DelimiterRowLemmas.{IsDelimiterRow-only, cell_byte_no_pipe, pipe_length, pipe_test, cells_start}
+use Rattle.markdown_scanners_tree.proofs.scanners.tables.CellLemmas.{cell_byte_no_pipe}
+use Rattle.markdown_scanners_tree.proofs.scanners.tables.DelimiterRowLemmas.{IsDelimiterRow-only, pipe_length, pipe_test, cells_start}
 
 -- all bytes of a delimiter row are those of cells, and pipes
 row_bytes : (bytes : List ℕ) → list_all is_cell_byte bytes ≡ true → list_all is_row_byte bytes ≡ true

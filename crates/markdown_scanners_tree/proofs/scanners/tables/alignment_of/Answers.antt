@@ -1,5 +1,5 @@
 use Rattle.std.proofs.Common.{◌<◌, length, arith, sym, ◌∙◌, refl}
-use Rattle.markdown_scanners_tree.proofs.scanners.tables.DelimiterRowLemmas.{alignment-scanned, alignment-spaces}
+use Rattle.markdown_scanners_tree.proofs.scanners.tables.CellLemmas.{alignment-scanned, alignment-spaces}
 use Rattle.markdown_scanners_tree.proofs.scanners.tables.alignment_of.Goals as goal
 
 pub returns-then-i-cell : goal.returns-then-i-cell

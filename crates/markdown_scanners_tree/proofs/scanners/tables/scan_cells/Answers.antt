@@ -1,6 +1,6 @@
 use Rattle.std.proofs.Common.{◌+◌, ◌-◌, length, arith, drop}
 use Rattle.std.proofs.lemmas.List.{length-take, length-drop}
-use Rattle.markdown_scanners_tree.proofs.scanners.tables.DelimiterRowLemmas.{scanned_cell, scanned_refused, scanned_no_end, scanned_last}
+use Rattle.markdown_scanners_tree.proofs.scanners.tables.CellScan.{scanned_cell, scanned_refused, scanned_no_end, scanned_last}
 use Rattle.markdown_scanners_tree.proofs.scanners.tables.scan_cells.Goals as goal
 
 pub loop-len-preserved : goal.loop-len-preserved
