@@ -15,7 +15,7 @@ use Rattle.std.proofs.lemmas.Bool.{cases_lt}
 use Rattle.markdown_scanners_tree.proofs.PrefixLemmas.{both_true}
 use Rattle.markdown_scanners_tree.proofs.RunLemmas.{not_true}
 
-pub sorted_from_rises : (rows : List (Bor (List ℕ))) → rises rows ≡ true
+sorted_from_rises : (rows : List (Bor (List ℕ))) → rises rows ≡ true
     → IsSortedBy (λ a b. is_lt (slice_cmp nat_cmp (text a) (text b))) rows
 sorted_from_rises [] e k d low high = absurd (omega arith)
 sorted_from_rises (x ∷ []) e k d low high = absurd (omega arith)

@@ -15,7 +15,7 @@ use Rattle.markdown_scanners_tree.proofs.PassLemmas.{AllPass-nil, AllPass-cons, 
 use Rattle.markdown_scanners_tree.proofs.RunLemmas.{not_true}
 
 -- a prefix of a head: bytes that end no line, one after the other
-pub record Plain (place : ℕ) (source : List ℕ) (prefix : List KeptByte) : Type 0 where
+record Plain (place : ℕ) (source : List ℕ) (prefix : List KeptByte) : Type 0 where
   pub after : List ℕ
   pub parts : source ≡ bytes_of prefix ++ after
   pub plain : AllPass ends_no_line (bytes_of prefix)

@@ -73,7 +73,7 @@ module _ (answers : List ℕ → ℕ → Type 0) (source : List ℕ) (place endi
   begins : drop place source ≡ get_or source place 0 ∷ drop (place + 1) source
   begins = drop_more source place 0 low
 
-  pub turn_in_line : ends_source_line (drop place source) ≡ false
+  turn_in_line : ends_source_line (drop place source) ≡ false
       → Turn answers source place endings (place + 1) endings
   turn_in_line h =
       let plain : ends_source_line (get_or source place 0 ∷ drop (place + 1) source) ≡ false =
@@ -88,7 +88,7 @@ module _ (answers : List ℕ → ℕ → Type 0) (source : List ℕ) (place endi
         alone = λ e. (refl, rw begins (last_read answers place (get_or source place 0) (drop (place + 1) source) e));
       }
 
-  pub turn_at_end : (skip : ℕ) → ends_source_line (drop place source) ≡ true → answers (drop (place + 1) source) skip
+  turn_at_end : (skip : ℕ) → ends_source_line (drop place source) ≡ true → answers (drop (place + 1) source) skip
       → ((n : ℕ) → answers (drop (place + 1) source) n → n ≡ skip) → skip ≤ length (drop (place + 1) source)
       → Turn answers source place endings (place + 1 + skip) (endings + 1)
   turn_at_end skip h a only inside =
@@ -118,7 +118,7 @@ module _ (answers : List ℕ → ℕ → Type 0) (source : List ℕ) (place endi
             λ e. absurd (let t : is_line_ending byte ≡ true = (ends_alone place byte (drop (place + 1) source) ends).0 in cc);
       }
 
-  pub no_turn : ends_source_line (drop place source) ≡ true → ((n : ℕ) → answers (drop (place + 1) source) n → ⊥)
+  no_turn : ends_source_line (drop place source) ≡ true → ((n : ℕ) → answers (drop (place + 1) source) n → ⊥)
       → (c : KeptByte) (t : List KeptByte) → Reads answers place (drop place source) (c ∷ t) → ⊥
   no_turn h none c t r =
       let ends : ends_source_line (get_or source place 0 ∷ drop (place + 1) source) ≡ true =
@@ -169,7 +169,7 @@ pub record Scanned (answers : List ℕ → ℕ → Type 0) (source : List ℕ) (
   pub left : (prefix : List KeptByte) → Reads answers 0 source prefix → EndsTag prefix
       → (t : List KeptByte) × (prefix ≡ passed ++ t) × Reads answers place (drop place source) t
 
-pub scan_starts : (answers : List ℕ → ℕ → Type 0) (source : List ℕ) → Scanned answers source 0 0 0 Start
+scan_starts : (answers : List ℕ → ℕ → Type 0) (source : List ℕ) → Scanned answers source 0 0 0 Start
 scan_starts answers source =
     record {
       passed = [];
@@ -256,7 +256,7 @@ module _ (answers : List ℕ → ℕ → Type 0) (source : List ℕ) (place kept
           | inr e ↦ e
         ]
 
-    pub scan_has_no_skip : place < length source → ends_source_line (drop place source) ≡ true
+    scan_has_no_skip : place < length source → ends_source_line (drop place source) ≡ true
         → ((n : ℕ) → answers (drop (place + 1) source) n → ⊥) → (prefix : List KeptByte)
         → IsKeptTag answers source prefix → ⊥
     scan_has_no_skip low h none prefix k =
@@ -320,7 +320,7 @@ plain_here place b bs plain =
     ]
 
 module _ (answers : List ℕ → ℕ → Type 0) (source : List ℕ) (endings : ℕ) where
-  pub scan_reads : (n place kept : ℕ) (from to : TagState) → Scanned answers source place kept endings from
+  scan_reads : (n place kept : ℕ) (from to : TagState) → Scanned answers source place kept endings from
       → place + n ≤ length source → LeadsTo from (take n (drop place source)) to
       → Scanned answers source (place + n) (kept + n) endings to
   scan_reads zero place kept from to s inside l =

@@ -13,7 +13,7 @@ use Rattle.markdown_scanners_tree.proofs.PrefixLemmas.{from_place, both_true, pr
 use Rattle.markdown_scanners_tree.proofs.scanners.lines.BlankLemmas.{first-line_ending}
 
 -- Two cuts of a list at the end of the longest prefix that a test accepts are one.
-pub same_cut : (p : ℕ → Bool) (prefix rest prefix' rest' : List ℕ) → list_all p prefix ≡ true
+same_cut : (p : ℕ → Bool) (prefix rest prefix' rest' : List ℕ) → list_all p prefix ≡ true
     → begins_with p rest ≡ false → list_all p prefix' ≡ true → begins_with p rest' ≡ false
     → prefix ++ rest ≡ prefix' ++ rest' → (prefix ≡ prefix') × (rest ≡ rest')
 same_cut p prefix rest prefix' rest' all stop all' stop' whole =
@@ -34,7 +34,7 @@ list_any-filter (b ∷ bytes) =
       | inr other ↦ rw other (rw (list_any-filter bytes) refl)
     ]
 
-pub alignment-parts : (cell : List ℕ) → prefix_len is_space cell < length cell
+alignment-parts : (cell : List ℕ) → prefix_len is_space cell < length cell
     → alignment cell
     ≡ alignment_by (get_or cell (prefix_len is_space cell) 0 == 58)
     (list_any is_colon (drop (prefix_len is_space cell + 1) cell))

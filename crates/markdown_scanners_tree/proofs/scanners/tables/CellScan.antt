@@ -18,7 +18,7 @@ pub record Progress (bytes : List ℕ) (done : List (List ℕ)) (left : List ℕ
   pub only : (cells : List (List ℕ)) (last rest : List ℕ) (ending : ℕ) → AreCells bytes cells last rest ending
       → (more : List (List ℕ)) × (cells ≡ done ++ more) × AreCells left more last rest ending
 
-pub Progress-more : (bytes : List ℕ) (done : List (List ℕ)) (cell left : List ℕ) → is_cell cell ≡ true
+Progress-more : (bytes : List ℕ) (done : List (List ℕ)) (cell left : List ℕ) → is_cell cell ≡ true
     → Progress bytes done (cell ++ vertical_line ∷ left) → Progress bytes (done ++ cell ∷ []) left
 Progress-more bytes done cell left is progress = record {
   extend =
@@ -50,7 +50,7 @@ piped_parts left n pipe = parts (drop n left) pipe (drop-drop 1 n left)
     parts [] pipe next = absurd (let no_byte : false ≡ true = pipe in cc)
     parts (b ∷ after) pipe next = let is : b ≡ 124 = eqb-true b 124 pipe in rw is (ap (λ x. vertical_line ∷ x) next)
 
-pub Progress-step : (bytes : List ℕ) (done : List (List ℕ)) (left : List ℕ) (n : ℕ) → n ≡ prefix_len is_cell_byte left
+Progress-step : (bytes : List ℕ) (done : List (List ℕ)) (left : List ℕ) (n : ℕ) → n ≡ prefix_len is_cell_byte left
     → begins_with is_pipe (drop n left) ≡ true
     → list_any is_hyphen (take n left) ≡ true → Progress bytes done left
     → Progress bytes (done ++ take n left ∷ []) (drop (n + 1) left)
@@ -62,7 +62,7 @@ Progress-step bytes done left n run pipe hyphen progress =
     Progress-more bytes done (take n left) (drop (n + 1) left) (rw (all, hyphen) refl) (rw whole progress)
 
 -- a cell that a pipe ends and that has no hyphen
-pub Progress-refused : (bytes : List ℕ) (done : List (List ℕ)) (left : List ℕ) (n : ℕ)
+Progress-refused : (bytes : List ℕ) (done : List (List ℕ)) (left : List ℕ) (n : ℕ)
     → n ≡ prefix_len is_cell_byte left → begins_with is_pipe (drop n left) ≡ true
     → list_any is_hyphen (take n left) ≡ false → Progress bytes done left → NoCells bytes
 Progress-refused bytes done left n run pipe hyphen progress cells last rest ending are =
@@ -76,7 +76,7 @@ Progress-refused bytes done left n run pipe hyphen progress cells last rest endi
     cc
 
 -- the last cell
-pub Progress-last : (bytes : List ℕ) (done : List (List ℕ)) (left : List ℕ) (n ending : ℕ)
+Progress-last : (bytes : List ℕ) (done : List (List ℕ)) (left : List ℕ) (n ending : ℕ)
     → n ≡ prefix_len is_cell_byte left → line_ending (drop n left) ≡ Some ending → Progress bytes done left
     → AreCells bytes done (take n left) (drop n left) ending
 Progress-last bytes done left n ending run ends progress =
@@ -85,7 +85,7 @@ Progress-last bytes done left n ending run ends progress =
     record { parts = sym parts.0; all_cells = refl; last_cell = parts.1; ends = ends } in
     rw append-nil at (progress.extend [] (take n left) (drop n left) ending none)
 
-pub Progress-no_end : (bytes : List ℕ) (done : List (List ℕ)) (left : List ℕ) (n : ℕ) → n ≡ prefix_len is_cell_byte left
+Progress-no_end : (bytes : List ℕ) (done : List (List ℕ)) (left : List ℕ) (n : ℕ) → n ≡ prefix_len is_cell_byte left
     → begins_with is_pipe (drop n left) ≡ false → line_ending (drop n left) ≡ None
     → Progress bytes done left → NoCells bytes
 Progress-no_end bytes done left n run no_pipe no_end progress cells last rest ending are =

@@ -104,7 +104,7 @@ hyphen_somewhere : (cells : List (List ℕ)) (last : List ℕ)
 hyphen_somewhere [] last some = some
 hyphen_somewhere (c ∷ cells) last some = refl
 
-pub IsDelimiterRow-from : (bytes : List ℕ) (piped : Bool) (cells : List (List ℕ)) (last rest : List ℕ) (ending n : ℕ)
+IsDelimiterRow-from : (bytes : List ℕ) (piped : Bool) (cells : List (List ℕ)) (last rest : List ℕ) (ending n : ℕ)
     → prefix_len is_space bytes ≤ 3 → begins_with is_pipe (drop (prefix_len is_space bytes) bytes) ≡ piped
     → AreCells (drop (pipe_length piped) (drop (prefix_len is_space bytes) bytes)) cells last rest ending →
     (piped || not (is_empty cells)) ≡ true → (not (is_empty cells) || list_any is_hyphen last) ≡ true
@@ -166,7 +166,7 @@ module _ (bytes : List ℕ) (indent pipe : ℕ) (run : indent ≡ prefix_len is_
   piped : Bool
   piped = begins_with is_pipe (drop (prefix_len is_space bytes) bytes)
 
-  pub pipe_counted : pipe ≡ pipe_length (begins_with is_pipe (drop (prefix_len is_space bytes) bytes))
+  pipe_counted : pipe ≡ pipe_length (begins_with is_pipe (drop (prefix_len is_space bytes) bytes))
   pipe_counted = rw (from_place bytes indent, run) at pipe_is
 
   pub cells_start : take (length bytes - (indent + pipe)) (drop (indent + pipe) bytes)

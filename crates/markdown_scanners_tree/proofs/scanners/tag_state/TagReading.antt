@@ -159,7 +159,7 @@ Leads ClosingEnded pre =
 Leads Closed pre = IsClosingTag pre
 Leads Refused pre = Unit {0}
 
-pub weaken : (P Q : List ℕ → Type 0) (pre : List ℕ) → Reading P pre → ((last : List ℕ) → P last → Q last) → Reading Q pre
+weaken : (P Q : List ℕ → Type 0) (pre : List ℕ) → Reading P pre → ((last : List ℕ) → P last → Q last) → Reading Q pre
 weaken P Q pre r f =
     record {
       name = r.name;

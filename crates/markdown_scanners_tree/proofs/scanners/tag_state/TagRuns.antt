@@ -7,7 +7,7 @@ use Rattle.markdown_scanners_tree.specs.scanners.tag_state.private.TagMachine.{n
 use Rattle.markdown_scanners_tree.specs.declared.scanners.tag_state.TagState.{TagState}
 
 -- one more byte at the end
-pub leads-snoc : (from to : TagState) (xs : List ℕ) (b : ℕ) → LeadsTo from xs to → is_final to ≡ false
+leads-snoc : (from to : TagState) (xs : List ℕ) (b : ℕ) → LeadsTo from xs to → is_final to ≡ false
     → is_line_ending b ≡ false → LeadsTo from (xs ++ b ∷ []) (next_state to b)
 leads-snoc from to [] b l unfinished plain =
     (subst (λ s. is_final s ≡ false) (sym l) unfinished, plain, ap (λ s. next_state s b) l)
