@@ -21,7 +21,8 @@ sorted_from_rises [] e k d low high = absurd (omega arith)
 sorted_from_rises (x ∷ []) e k d low high = absurd (omega arith)
 sorted_from_rises (x ∷ y ∷ xs) e zero d low high = not_true _ (both_true _ _ e).0
 sorted_from_rises (x ∷ y ∷ xs) e (suc k) d low high =
-    let h = sorted_from_rises (y ∷ xs) (both_true _ _ e).1 k d (omega arith) (omega arith) in simp unary_clauses (simp unary_clauses at h)
+    let h = sorted_from_rises (y ∷ xs) (both_true _ _ e).1 k d (omega arith) (omega arith) in
+    simp unary_clauses (simp unary_clauses at h)
 
 -- what a search found is one of the texts
 found_one : (rows : List (Bor (List ℕ))) (name : List ℕ) (i : ℕ) → i < length rows

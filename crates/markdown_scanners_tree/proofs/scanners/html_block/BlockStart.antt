@@ -83,8 +83,12 @@ block_to : (bytes : List ℕ) → IsBlockStart bytes
 block_to bytes b =
     let e : after_slash bytes ≡ b.name ++ b.rest = after_is bytes b in
     let n : run (b.name ++ b.rest) ≡ length b.name =
-    prefix_len-parts is_alphanumeric b.name b.rest (list_all-from_AllPass is_alphanumeric b.name b.letters_and_digits) (ends_run b.rest b.ended) in
-    rw (e, n) (subst IsBlockName (sym (take-append_seam b.name b.rest)) b.named, ap ends_block_name (drop-append_seam b.name b.rest) ∙ b.ended)
+    prefix_len-parts is_alphanumeric b.name b.rest
+    (list_all-from_AllPass is_alphanumeric b.name b.letters_and_digits) (ends_run b.rest b.ended) in
+    rw (e, n) (
+      subst IsBlockName (sym (take-append_seam b.name b.rest)) b.named,
+      ap ends_block_name (drop-append_seam b.name b.rest) ∙ b.ended,
+    )
 
 -- by the tests of a scan
 module _ (bytes after : List ℕ) (n : ℕ) (ended : Bool) (a : after ≡ after_slash bytes) (k : n ≡ run after)

@@ -9,7 +9,8 @@ use Rattle.markdown_scanners_tree.proofs.KeptReading.{nothing_read}
 use Rattle.markdown_scanners_tree.proofs.scanners.html_tag.TagScan.{Turn}
 
 -- the prefix is what is copied and what is read from the place on
-pub record Split (answers : List ℕ → ℕ → Type 0) (source : List ℕ) (place : ℕ) (copied : List ℕ) (prefix : List KeptByte) : Type 0 where
+pub record Split (answers : List ℕ → ℕ → Type 0) (source : List ℕ) (place : ℕ) (copied : List ℕ)
+    (prefix : List KeptByte) : Type 0 where
   pub passed : List KeptByte
   pub left : List KeptByte
   pub parts : prefix ≡ passed ++ left

@@ -53,7 +53,8 @@ head_prefix place (b ∷ bs) (k ∷ ks) rest e =
           sym (plain_head place b bs plain) ∙ e in
           let head : in_line b place ≡ k = cc in
           let tail : kept_head (place + 1) bs ≡ ks ++ rest = cc in
-          subst (λ z. Plain place (b ∷ bs) (z ∷ ks)) head (plain_more place b bs ks plain (head_prefix (place + 1) bs ks rest tail))
+          subst (λ z. Plain place (b ∷ bs) (z ∷ ks)) head
+          (plain_more place b bs ks plain (head_prefix (place + 1) bs ks rest tail))
           )
     ]
 

@@ -113,7 +113,8 @@ module _ (answers : List ℕ → ℕ → Type 0) (source : List ℕ) (place endi
             (drop skip (drop (place + 1) source))) next step));
         marked = refl;
         inside =
-            (let l : length (drop (place + 1) source) ≡ length source - (place + 1) = length-drop (place + 1) source in omega arith);
+            (let l : length (drop (place + 1) source) ≡ length source - (place + 1) = length-drop (place + 1) source in
+            omega arith);
         alone =
             λ e. absurd (let t : is_line_ending byte ≡ true = (ends_alone place byte (drop (place + 1) source) ends).0 in cc);
       }
@@ -240,7 +241,8 @@ module _ (answers : List ℕ → ℕ → Type 0) (source : List ℕ) (place kept
   pub scan_ends : is_tag_end state endings ≡ false → (length source ≤ place) ⊎ (is_final state ≡ true)
       → (prefix : List KeptByte) → IsKeptTag answers source prefix → ⊥
   scan_ends none end prefix k =
-      let l = goes_on none prefix (tag_read answers source prefix k) (tag_ends answers source prefix k) in by end l.0 l.1 l.2 l.3
+      let l = goes_on none prefix (tag_read answers source prefix k) (tag_ends answers source prefix k) in
+      by end l.0 l.1 l.2 l.3
     where
       by : (length source ≤ place) ⊎ (is_final state ≡ true) → (c : KeptByte) (t : List KeptByte)
           → prefix ≡ s.passed ++ c ∷ t → Reads answers place (drop place source) (c ∷ t) → ⊥
@@ -337,7 +339,8 @@ module _ (answers : List ℕ → ℕ → Type 0) (source : List ℕ) (endings : 
       let plain : ends_source_line (drop place source) ≡ false =
       rw (drop_more source place 0 low) (plain_here place byte (drop (place + 1) source) parts.1) in
       let one : Scanned answers source (place + 1) (kept + 1) endings (next_state from byte) =
-      scan_goes_on answers source place kept endings from s parts.0 (place + 1) endings (turn_in_line answers source place endings low plain) in
+      scan_goes_on answers source place kept endings from s parts.0 (place + 1) endings
+      (turn_in_line answers source place endings low plain) in
       let rest : Scanned answers source (place + 1 + n) (kept + 1 + n) endings to =
       scan_reads n (place + 1) (kept + 1) (next_state from byte) to one (omega arith) parts.2 in
       let p : place + 1 + n ≡ place + suc n = omega arith in

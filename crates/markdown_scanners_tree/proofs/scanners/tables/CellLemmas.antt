@@ -64,7 +64,8 @@ pub AreCells-tail : (cell left : List ℕ) → list_all is_cell_byte cell ≡ tr
     → (more : List (List ℕ)) × (cells ≡ cell ∷ more) × (is_cell cell ≡ true) × AreCells left more last rest ending
 AreCells-tail cell left all [] last rest ending are =
     absurd (let cut =
-    same_cut is_cell_byte cell (vertical_line ∷ left) last rest all refl are.last_cell (cell_stop rest ending are.ends) are.parts in
+    same_cut is_cell_byte cell (vertical_line ∷ left) last rest all refl are.last_cell
+    (cell_stop rest ending are.ends) are.parts in
     let no_pipe = first-line_ending is_pipe refl refl rest ending are.ends in
     let pipe = rw (← cut.1) at no_pipe in cc)
 AreCells-tail cell left all (c ∷ more) last rest ending are =

@@ -11,7 +11,8 @@ use Rattle.markdown_scanners_tree.specs.scanners.Tables.{is_cell_byte, is_cell, 
 use Rattle.markdown_scanners_tree.proofs.PrefixLemmas.{from_place, both_true, list_all-prefix, begins_with-after_prefix}
 use Rattle.markdown_scanners_tree.proofs.scanners.tables.CellLemmas.{AreCells-tail, AreCells-cons, AreCells-last}
 
--- How far a scan of a delimiter row has come: the cells of the row are those that are done, and then those of what is left.
+-- How far a scan of a delimiter row has come: the cells of the row are those that are done, and then those of what is
+-- left.
 pub record Progress (bytes : List ℕ) (done : List (List ℕ)) (left : List ℕ) : Type 0 where
   pub extend : (more : List (List ℕ)) (last rest : List ℕ) (ending : ℕ) → AreCells left more last rest ending
       → AreCells bytes (done ++ more) last rest ending

@@ -99,7 +99,8 @@ some_pipe bytes [] last rest ending may are = elim (cases_Bool (begins_with is_p
   | inr none ↦ (
       let parts : bytes ≡ last ++ rest = rw none at are.parts in
       let run : prefix_len is_row_byte (last ++ rest) ≡ length last =
-      prefix_len-parts is_row_byte last rest (row_bytes last are.last_cell) (first-line_ending is_row_byte refl refl rest ending are.ends) in
+      prefix_len-parts is_row_byte last rest (row_bytes last are.last_cell)
+      (first-line_ending is_row_byte refl refl rest ending are.ends) in
       let made : may_be_row (last ++ rest) ≡ false =
       rw (run, drop-append_seam last rest, take-append_seam last rest, are.ends, no_pipe last are.last_cell) refl in
       absurd (false≢true (sym made ∙ ap may_be_row (sym parts) ∙ may))
