@@ -1,2 +1,4 @@
+pub mod CellLemmas
+pub mod CellScan
 pub mod DelimiterRowLemmas
 pub mod RowLemmas

@@ -1,3 +1,5 @@
+pub mod ClosingTagReading
+pub mod OpenTagReading
 pub mod TagEnds
 pub mod TagReading
 pub mod TagRuns

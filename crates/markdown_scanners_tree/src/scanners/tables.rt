@@ -21,8 +21,11 @@ const MOST_SPACES: usize = 3;
 ///
 /// `AllocError` where memory for the alignments is refused.
 pub fn scan_table_head(alloc: Global, bytes: &[u8]) -> Result<(usize, Vec<Alignment>), AllocError>
+    // A row is there, or none.
     ensures found { IfOk result (λ r. 0 < r.0 → IsDelimiterRow bytes.now r.0 r.1.items) }
     ensures none { IfOk result (λ r. r.0 ≡ 0 → NoDelimiterRow bytes.now) }
+
+    // How many alignments and bytes are answered.
     ensures empty { IfOk result (λ r. r.0 ≡ 0 → r.1.items ≡ []) }
     ensures some_alignment { IfOk result (λ r. 0 < r.0 → 0 < length r.1.items) }
     ensures within { IfOk result (λ r. r.0 ≤ length bytes.now) }
@@ -90,6 +93,7 @@ fn scan_cells(alloc: Global, bytes: &[u8]) -> Result<Option<Cells>, AllocError>
     ensures found { IfOk result (λ r. IfSome r (λ cells.
         AreScannedCells bytes.now cells.length cells.alignments.items cells.ended cells.hyphen)) }
     ensures none { IfOk result (λ r. IfNone r (NoCells bytes.now)) }
+
     ensures within { IfOk result (λ r. IfSome r (λ cells. cells.length ≤ length bytes.now)) }
 {
     let mut alignments = Vec::new(alloc);
@@ -159,9 +163,12 @@ fn scan_cell_bytes(bytes: &[u8]) -> usize
 
 // The length of that prefix, where a pipe ends it.
 fn scan_ended_cell(bytes: &[u8]) -> Option<usize>
+    // A pipe ends it.
     ensures run { IfSome result (λ n. n ≡ prefix_len is_cell_byte bytes.now) }
     ensures inside { IfSome result (λ n. n < length bytes.now) }
     ensures piped { IfSome result (λ n. IsTrue (begins_with is_pipe (drop n bytes.now))) }
+
+    // None does.
     ensures none { IfNone result (begins_with is_pipe (after_cell bytes.now) ≡ false) }
 {
     let n = scan_cell_bytes(bytes);

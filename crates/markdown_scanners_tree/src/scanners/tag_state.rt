@@ -111,6 +111,7 @@ fn after_closing(byte: u8) -> TagState
 fn end_of<F: Fn(u8) -> bool>(bytes: &[u8], place: usize, passes: F) -> usize
     requires callable { F.IsAlwaysCallable passes }
     requires inside { place ≤ length bytes.now }
+
     ensures run { (i : ℕ) → place ≤ i → i < result
         → F.post passes (slice_index bytes.now i) true }
     ensures within { (place ≤ result) × (result ≤ length bytes.now) }
@@ -171,8 +172,12 @@ impl TagState {
     // quicker than a turn for each byte.
     pub(crate) fn read_in_line(self, bytes: &[u8]) -> (TagState, usize)
         requires { is_final self ≡ false }
+
+        // What is read.
         ensures leads { LeadsTo self (take result.1 bytes.now) result.0 }
         ensures within { result.1 ≤ length bytes.now }
+
+        // Why no more is read.
         ensures stops { (is_final result.0 ≡ true)
             ⊎ (is_at_line_end (drop result.1 bytes.now) ≡ true) }
     {

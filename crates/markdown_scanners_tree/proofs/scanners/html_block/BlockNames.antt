@@ -15,13 +15,14 @@ use Rattle.std.proofs.lemmas.Bool.{cases_lt}
 use Rattle.markdown_scanners_tree.proofs.PrefixLemmas.{both_true}
 use Rattle.markdown_scanners_tree.proofs.RunLemmas.{not_true}
 
-pub sorted_from_rises : (rows : List (Bor (List ℕ))) → rises rows ≡ true
+sorted_from_rises : (rows : List (Bor (List ℕ))) → rises rows ≡ true
     → IsSortedBy (λ a b. is_lt (slice_cmp nat_cmp (text a) (text b))) rows
 sorted_from_rises [] e k d low high = absurd (omega arith)
 sorted_from_rises (x ∷ []) e k d low high = absurd (omega arith)
 sorted_from_rises (x ∷ y ∷ xs) e zero d low high = not_true _ (both_true _ _ e).0
 sorted_from_rises (x ∷ y ∷ xs) e (suc k) d low high =
-    let h = sorted_from_rises (y ∷ xs) (both_true _ _ e).1 k d (omega arith) (omega arith) in simp unary_clauses (simp unary_clauses at h)
+    let h = sorted_from_rises (y ∷ xs) (both_true _ _ e).1 k d (omega arith) (omega arith) in
+    simp unary_clauses (simp unary_clauses at h)
 
 -- what a search found is one of the texts
 found_one : (rows : List (Bor (List ℕ))) (name : List ℕ) (i : ℕ) → i < length rows

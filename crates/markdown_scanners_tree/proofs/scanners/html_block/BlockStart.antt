@@ -83,11 +83,16 @@ block_to : (bytes : List ℕ) → IsBlockStart bytes
 block_to bytes b =
     let e : after_slash bytes ≡ b.name ++ b.rest = after_is bytes b in
     let n : run (b.name ++ b.rest) ≡ length b.name =
-    prefix_len-parts is_alphanumeric b.name b.rest (list_all-from_AllPass is_alphanumeric b.name b.letters_and_digits) (ends_run b.rest b.ended) in
-    rw (e, n) (subst IsBlockName (sym (take-append_seam b.name b.rest)) b.named, ap ends_block_name (drop-append_seam b.name b.rest) ∙ b.ended)
+    prefix_len-parts is_alphanumeric b.name b.rest
+    (list_all-from_AllPass is_alphanumeric b.name b.letters_and_digits) (ends_run b.rest b.ended) in
+    rw (e, n) (
+      subst IsBlockName (sym (take-append_seam b.name b.rest)) b.named,
+      ap ends_block_name (drop-append_seam b.name b.rest) ∙ b.ended,
+    )
 
 -- by the tests of a scan
-module _ (bytes after : List ℕ) (n : ℕ) (ended : Bool) (a : after ≡ after_slash bytes) (k : n ≡ run after) (e : ended ≡ ends_block_name (take (length after - n) (drop n after))) where
+module _ (bytes after : List ℕ) (n : ℕ) (ended : Bool) (a : after ≡ after_slash bytes) (k : n ≡ run after)
+    (e : ended ≡ ends_block_name (take (length after - n) (drop n after))) where
   name_is : take n after ≡ take (run (after_slash bytes)) (after_slash bytes)
   name_is = ap (λ z. take z after) k ∙ ap (λ z. take (run z) z) a
 

@@ -9,7 +9,8 @@ use Rattle.markdown_scanners_tree.proofs.KeptReading.{nothing_read}
 use Rattle.markdown_scanners_tree.proofs.scanners.html_tag.TagScan.{Turn}
 
 -- the prefix is what is copied and what is read from the place on
-pub record Split (answers : List ℕ → ℕ → Type 0) (source : List ℕ) (place : ℕ) (copied : List ℕ) (prefix : List KeptByte) : Type 0 where
+pub record Split (answers : List ℕ → ℕ → Type 0) (source : List ℕ) (place : ℕ) (copied : List ℕ)
+    (prefix : List KeptByte) : Type 0 where
   pub passed : List KeptByte
   pub left : List KeptByte
   pub parts : prefix ≡ passed ++ left
@@ -24,11 +25,17 @@ pub record Copied (answers : List ℕ → ℕ → Type 0) (source : List ℕ) (p
 pub copy_starts : (answers : List ℕ → ℕ → Type 0) (source : List ℕ) (kept : ℕ) → Copied answers source 0 kept []
 copy_starts answers source kept =
     record {
-      each = λ prefix k e. record
-          { passed = []; left = prefix; parts = refl; same = refl; reads = record { skips = k.skips; rest = k.rest; answered = k.answered; begins = k.begins } };
+      each = λ prefix k e. record {
+        passed = [];
+        left = prefix;
+        parts = refl;
+        same = refl;
+        reads = record { skips = k.skips; rest = k.rest; answered = k.answered; begins = k.begins };
+      };
     }
 
-lengths : (answers : List ℕ → ℕ → Type 0) (source : List ℕ) (place kept : ℕ) (copied : List ℕ) (prefix : List KeptByte) (s : Split answers source place copied prefix)
+lengths : (answers : List ℕ → ℕ → Type 0) (source : List ℕ) (place kept : ℕ) (copied : List ℕ)
+    (prefix : List KeptByte) (s : Split answers source place copied prefix)
     → kept ≡ length prefix → kept ≡ length copied + length s.left
 lengths answers source place kept copied prefix s e =
     let whole : length prefix ≡ length s.passed + length s.left = ap length s.parts ∙ length-append s.passed s.left in
@@ -36,7 +43,8 @@ lengths answers source place kept copied prefix s e =
     omega arith
 
 -- where some are left to copy, one is read next
-next_left : (answers : List ℕ → ℕ → Type 0) (source : List ℕ) (place kept : ℕ) (copied : List ℕ) (prefix : List KeptByte) (s : Split answers source place copied prefix)
+next_left : (answers : List ℕ → ℕ → Type 0) (source : List ℕ) (place kept : ℕ) (copied : List ℕ)
+    (prefix : List KeptByte) (s : Split answers source place copied prefix)
     → kept ≡ length prefix → length copied < kept → (c : KeptByte) × (t : List KeptByte) × (s.left ≡ c ∷ t)
 next_left answers source place kept copied prefix s e low =
     by s.left (lengths answers source place kept copied prefix s e)
@@ -46,7 +54,8 @@ next_left answers source place kept copied prefix s e low =
     by [] f = absurd (omega arith)
     by (c ∷ t) f = (c, t, refl)
 
-module _ (answers : List ℕ → ℕ → Type 0) (source : List ℕ) (place kept : ℕ) (copied : List ℕ) (s : Copied answers source place kept copied) where
+module _ (answers : List ℕ → ℕ → Type 0) (source : List ℕ) (place kept : ℕ) (copied : List ℕ)
+    (s : Copied answers source place kept copied) where
   pub copy_inside : ((prefix : List KeptByte) × IsKeptPrefix answers source prefix × (kept ≡ length prefix))
       → length copied < kept → place < length source
   copy_inside (prefix, k, e) low =
@@ -56,7 +65,8 @@ module _ (answers : List ℕ → ℕ → Type 0) (source : List ℕ) (place kept
             let split = s.each prefix k e in
             let next = next_left answers source place kept copied prefix split e low in
             absurd (nothing_read answers place next.0 next.1
-            (subst (λ z. Reads answers place z (next.0 ∷ next.1)) (drop_all place source high) (subst (λ z. Reads answers place (drop place source) z) next.2 split.reads)))
+            (subst (λ z. Reads answers place z (next.0 ∷ next.1)) (drop_all place source high)
+            (subst (λ z. Reads answers place (drop place source) z) next.2 split.reads)))
             )
       ]
 

@@ -15,7 +15,7 @@ use Rattle.markdown_scanners_tree.proofs.PassLemmas.{AllPass-nil, AllPass-cons, 
 use Rattle.markdown_scanners_tree.proofs.RunLemmas.{not_true}
 
 -- a prefix of a head: bytes that end no line, one after the other
-pub record Plain (place : ℕ) (source : List ℕ) (prefix : List KeptByte) : Type 0 where
+record Plain (place : ℕ) (source : List ℕ) (prefix : List KeptByte) : Type 0 where
   pub after : List ℕ
   pub parts : source ≡ bytes_of prefix ++ after
   pub plain : AllPass ends_no_line (bytes_of prefix)
@@ -53,7 +53,8 @@ head_prefix place (b ∷ bs) (k ∷ ks) rest e =
           sym (plain_head place b bs plain) ∙ e in
           let head : in_line b place ≡ k = cc in
           let tail : kept_head (place + 1) bs ≡ ks ++ rest = cc in
-          subst (λ z. Plain place (b ∷ bs) (z ∷ ks)) head (plain_more place b bs ks plain (head_prefix (place + 1) bs ks rest tail))
+          subst (λ z. Plain place (b ∷ bs) (z ∷ ks)) head
+          (plain_more place b bs ks plain (head_prefix (place + 1) bs ks rest tail))
           )
     ]
 

@@ -26,7 +26,8 @@ buffer_empty prefix kept end e f same =
     by = grind (arith, nat_tests)
 
 -- a prefix of the text that is kept under the handler that is there
-pub prefix_under : {F : Type 0} (g : Shared F (Bor (List ℕ) × Unit {0}) ℕ) (handler : Option (Bor F)) (f : Bor F) (source : List ℕ) (prefix : List KeptByte)
+pub prefix_under : {F : Type 0} (g : Shared F (Bor (List ℕ) × Unit {0}) ℕ) (handler : Option (Bor F)) (f : Bor F)
+    (source : List ℕ) (prefix : List KeptByte)
     → handler ≡ Some f → IsKeptPrefix (AnswersIfAny g handler) source prefix
     → IsKeptPrefix (Answers g f.now) source prefix
 prefix_under g handler f source prefix is k = subst (λ h. IsKeptPrefix (AnswersIfAny g h) source prefix) is k

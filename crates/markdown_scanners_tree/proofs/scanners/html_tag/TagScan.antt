@@ -73,7 +73,7 @@ module _ (answers : List ℕ → ℕ → Type 0) (source : List ℕ) (place endi
   begins : drop place source ≡ get_or source place 0 ∷ drop (place + 1) source
   begins = drop_more source place 0 low
 
-  pub turn_in_line : ends_source_line (drop place source) ≡ false
+  turn_in_line : ends_source_line (drop place source) ≡ false
       → Turn answers source place endings (place + 1) endings
   turn_in_line h =
       let plain : ends_source_line (get_or source place 0 ∷ drop (place + 1) source) ≡ false =
@@ -88,7 +88,7 @@ module _ (answers : List ℕ → ℕ → Type 0) (source : List ℕ) (place endi
         alone = λ e. (refl, rw begins (last_read answers place (get_or source place 0) (drop (place + 1) source) e));
       }
 
-  pub turn_at_end : (skip : ℕ) → ends_source_line (drop place source) ≡ true → answers (drop (place + 1) source) skip
+  turn_at_end : (skip : ℕ) → ends_source_line (drop place source) ≡ true → answers (drop (place + 1) source) skip
       → ((n : ℕ) → answers (drop (place + 1) source) n → n ≡ skip) → skip ≤ length (drop (place + 1) source)
       → Turn answers source place endings (place + 1 + skip) (endings + 1)
   turn_at_end skip h a only inside =
@@ -97,7 +97,8 @@ module _ (answers : List ℕ → ℕ → Type 0) (source : List ℕ) (place endi
       let next : place + (1 + skip) ≡ place + 1 + skip = omega arith in
       let rest : drop skip (drop (place + 1) source) ≡ drop (place + 1 + skip) source =
       drop-drop skip (place + 1) source in
-      let step : Step answers place (byte ∷ drop (place + 1) source) (at_line_end byte place) (place + (1 + skip)) (drop skip (drop (place + 1) source)) =
+      let step : Step answers place (byte ∷ drop (place + 1) source) (at_line_end byte place) (place + (1 + skip))
+      (drop skip (drop (place + 1) source)) =
       step_at_end answers place byte (drop (place + 1) source) skip ends a only in
       record {
         kept = at_line_end byte place;
@@ -108,23 +109,27 @@ module _ (answers : List ℕ → ℕ → Type 0) (source : List ℕ) (place endi
             (drop (place + 1 + skip) source)) (sym begins) (subst
             (λ z. Step answers place (byte ∷ drop (place + 1) source) (at_line_end byte place) (place + 1 + skip) z)
             rest
-            (subst (λ z. Step answers place (byte ∷ drop (place + 1) source) (at_line_end byte place) z (drop skip (drop (place + 1) source))) next step));
+            (subst (λ z. Step answers place (byte ∷ drop (place + 1) source) (at_line_end byte place) z
+            (drop skip (drop (place + 1) source))) next step));
         marked = refl;
         inside =
-            (let l : length (drop (place + 1) source) ≡ length source - (place + 1) = length-drop (place + 1) source in omega arith);
+            (let l : length (drop (place + 1) source) ≡ length source - (place + 1) = length-drop (place + 1) source in
+            omega arith);
         alone =
             λ e. absurd (let t : is_line_ending byte ≡ true = (ends_alone place byte (drop (place + 1) source) ends).0 in cc);
       }
 
-  pub no_turn : ends_source_line (drop place source) ≡ true → ((n : ℕ) → answers (drop (place + 1) source) n → ⊥)
+  no_turn : ends_source_line (drop place source) ≡ true → ((n : ℕ) → answers (drop (place + 1) source) n → ⊥)
       → (c : KeptByte) (t : List KeptByte) → Reads answers place (drop place source) (c ∷ t) → ⊥
   no_turn h none c t r =
       let ends : ends_source_line (get_or source place 0 ∷ drop (place + 1) source) ≡ true =
       ap ends_source_line (sym begins) ∙ h in
-      no_step answers place (get_or source place 0) (drop (place + 1) source) ends none c t (subst (λ z. Reads answers place z (c ∷ t)) begins r)
+      no_step answers place (get_or source place 0) (drop (place + 1) source) ends none c t
+      (subst (λ z. Reads answers place z (c ∷ t)) begins r)
 
 -- a turn of a scan under a handler, by what its calls answer
-module _ {F : Type 0} (g : Shared F (Bor (List ℕ) × Unit {0}) ℕ) (handler : Option (Bor F)) (source : List ℕ) (place : ℕ) (low : place < length source) where
+module _ {F : Type 0} (g : Shared F (Bor (List ℕ) × Unit {0}) ℕ) (handler : Option (Bor F)) (source : List ℕ)
+    (place : ℕ) (low : place < length source) where
   pub turn_with_skip : (endings : ℕ) (f : Bor F) (skip : ℕ) → handler ≡ Some f → IfSome handler (λ h. IsSteady g h.now)
       → ends_source_line (take (length source - place) (drop place source)) ≡ true
       → Answers g f.now (take (length source - (place + 1)) (drop (place + 1) source)) skip
@@ -165,11 +170,20 @@ pub record Scanned (answers : List ℕ → ℕ → Type 0) (source : List ℕ) (
   pub left : (prefix : List KeptByte) → Reads answers 0 source prefix → EndsTag prefix
       → (t : List KeptByte) × (prefix ≡ passed ++ t) × Reads answers place (drop place source) t
 
-pub scan_starts : (answers : List ℕ → ℕ → Type 0) (source : List ℕ) → Scanned answers source 0 0 0 Start
+scan_starts : (answers : List ℕ → ℕ → Type 0) (source : List ℕ) → Scanned answers source 0 0 0 Start
 scan_starts answers source =
-    record { passed = []; counted = refl; ended = refl; reached = refl; whole = λ e. cc; forth = λ c t r. r; left = λ prefix r e. (prefix, refl, r) }
+    record {
+      passed = [];
+      counted = refl;
+      ended = refl;
+      reached = refl;
+      whole = λ e. cc;
+      forth = λ c t r. r;
+      left = λ prefix r e. (prefix, refl, r);
+    }
 
-module _ (answers : List ℕ → ℕ → Type 0) (source : List ℕ) (place kept endings : ℕ) (state : TagState) (s : Scanned answers source place kept endings state) where
+module _ (answers : List ℕ → ℕ → Type 0) (source : List ℕ) (place kept endings : ℕ) (state : TagState)
+    (s : Scanned answers source place kept endings state) where
   -- what is passed is a tag exactly where the state says so
   ends_passed : is_tag_end state endings ≡ is_tag_end (state_after Start (bytes_of s.passed)) (line_endings s.passed)
   ends_passed =
@@ -227,7 +241,8 @@ module _ (answers : List ℕ → ℕ → Type 0) (source : List ℕ) (place kept
   pub scan_ends : is_tag_end state endings ≡ false → (length source ≤ place) ⊎ (is_final state ≡ true)
       → (prefix : List KeptByte) → IsKeptTag answers source prefix → ⊥
   scan_ends none end prefix k =
-      let l = goes_on none prefix (tag_read answers source prefix k) (tag_ends answers source prefix k) in by end l.0 l.1 l.2 l.3
+      let l = goes_on none prefix (tag_read answers source prefix k) (tag_ends answers source prefix k) in
+      by end l.0 l.1 l.2 l.3
     where
       by : (length source ≤ place) ⊎ (is_final state ≡ true) → (c : KeptByte) (t : List KeptByte)
           → prefix ≡ s.passed ++ c ∷ t → Reads answers place (drop place source) (c ∷ t) → ⊥
@@ -238,9 +253,12 @@ module _ (answers : List ℕ → ℕ → Type 0) (source : List ℕ) (place kept
   module _ (unfinished : is_final state ≡ false) where
     no_end : is_tag_end state endings ≡ false
     no_end =
-        elim (cases_Bool (is_tag_end state endings)) [ inl e ↦ absurd (let final : is_final state ≡ true = end_is_final state endings e in cc) | inr e ↦ e ]
+        elim (cases_Bool (is_tag_end state endings)) [
+          | inl e ↦ absurd (let final : is_final state ≡ true = end_is_final state endings e in cc)
+          | inr e ↦ e
+        ]
 
-    pub scan_has_no_skip : place < length source → ends_source_line (drop place source) ≡ true
+    scan_has_no_skip : place < length source → ends_source_line (drop place source) ≡ true
         → ((n : ℕ) → answers (drop (place + 1) source) n → ⊥) → (prefix : List KeptByte)
         → IsKeptTag answers source prefix → ⊥
     scan_has_no_skip low h none prefix k =
@@ -259,7 +277,10 @@ module _ (answers : List ℕ → ℕ → Type 0) (source : List ℕ) (place kept
       plain e =
           elim (cases_Bool (is_line_ending turn.kept.byte)) [
             | inr other ↦ other
-            | inl ending ↦ absurd (let none : is_tag_end (next_state state (get_or source place 0)) marks ≡ false = line_ending_ends_none state (get_or source place 0) marks (ap is_line_ending (sym turn.byte) ∙ ending) in cc)
+            | inl ending ↦ absurd (
+                let none : is_tag_end (next_state state (get_or source place 0)) marks ≡ false =
+                line_ending_ends_none state (get_or source place 0) marks (ap is_line_ending (sym turn.byte) ∙ ending) in
+                cc)
           ]
 
       whole_more : is_tag_end after marks ≡ true → Reads answers 0 source more × (next ≡ place_after 0 more)
@@ -301,7 +322,7 @@ plain_here place b bs plain =
     ]
 
 module _ (answers : List ℕ → ℕ → Type 0) (source : List ℕ) (endings : ℕ) where
-  pub scan_reads : (n place kept : ℕ) (from to : TagState) → Scanned answers source place kept endings from
+  scan_reads : (n place kept : ℕ) (from to : TagState) → Scanned answers source place kept endings from
       → place + n ≤ length source → LeadsTo from (take n (drop place source)) to
       → Scanned answers source (place + n) (kept + n) endings to
   scan_reads zero place kept from to s inside l =
@@ -318,18 +339,21 @@ module _ (answers : List ℕ → ℕ → Type 0) (source : List ℕ) (endings : 
       let plain : ends_source_line (drop place source) ≡ false =
       rw (drop_more source place 0 low) (plain_here place byte (drop (place + 1) source) parts.1) in
       let one : Scanned answers source (place + 1) (kept + 1) endings (next_state from byte) =
-      scan_goes_on answers source place kept endings from s parts.0 (place + 1) endings (turn_in_line answers source place endings low plain) in
+      scan_goes_on answers source place kept endings from s parts.0 (place + 1) endings
+      (turn_in_line answers source place endings low plain) in
       let rest : Scanned answers source (place + 1 + n) (kept + 1 + n) endings to =
       scan_reads n (place + 1) (kept + 1) (next_state from byte) to one (omega arith) parts.2 in
       let p : place + 1 + n ≡ place + suc n = omega arith in
       let k : kept + 1 + n ≡ kept + suc n = omega arith in
-      subst (λ z. Scanned answers source z (kept + suc n) endings to) p (subst (λ z. Scanned answers source (place + 1 + n) z endings to) k rest)
+      subst (λ z. Scanned answers source z (kept + suc n) endings to) p
+      (subst (λ z. Scanned answers source (place + 1 + n) z endings to) k rest)
 
 -- the first bytes
 pub scan_begins : (answers : List ℕ → ℕ → Type 0) (source : List ℕ) (n : ℕ) (to : TagState) → n ≤ length source
     → BeginsWith (take n source) to → Scanned answers source n n 0 to
 scan_begins answers source n to inside l =
-    subst (λ z. Scanned answers source z z 0 to) (let e : 0 + n ≡ n = omega arith in e) (scan_reads answers source 0 n 0 0 Start to (scan_starts answers source) (omega arith) l)
+    subst (λ z. Scanned answers source z z 0 to) (let e : 0 + n ≡ n = omega arith in e)
+    (scan_reads answers source 0 n 0 0 Start to (scan_starts answers source) (omega arith) l)
 
 -- the bytes of a line's rest
 pub scan_reads_on : (answers : List ℕ → ℕ → Type 0) (source : List ℕ) (place kept endings n : ℕ) (from to : TagState)
@@ -340,10 +364,12 @@ pub scan_reads_on : (answers : List ℕ → ℕ → Type 0) (source : List ℕ) 
 scan_reads_on answers source place kept endings n from to s low inside l =
     let rest : length (take (length source - place) (drop place source)) ≡ length source - place =
     ap length (from_place source place) ∙ length-drop place source in
-    scan_reads answers source endings n place kept from to s (omega arith) (subst (λ z. LeadsTo from (take n z) to) (from_place source place) l)
+    scan_reads answers source endings n place kept from to s (omega arith)
+    (subst (λ z. LeadsTo from (take n z) to) (from_place source place) l)
 
 -- without a handler no line end is kept
-pub no_handler_stops : {F : Type 0} (g : Shared F (Bor (List ℕ) × Unit {0}) ℕ) (handler : Option (Bor F)) (source : List ℕ) (place kept endings : ℕ) (state : TagState)
+pub no_handler_stops : {F : Type 0} (g : Shared F (Bor (List ℕ) × Unit {0}) ℕ) (handler : Option (Bor F))
+    (source : List ℕ) (place kept endings : ℕ) (state : TagState)
     → Scanned (AnswersIfAny g handler) source place kept endings state → is_final state ≡ false → place < length source
     → handler ≡ None → ends_source_line (take (length source - place) (drop place source)) ≡ true
     → (prefix : List KeptByte) → IsKeptTag (AnswersIfAny g handler) source prefix → ⊥

@@ -12,7 +12,8 @@ use Rattle.markdown_values.specs.declared.values.Alignment.{Alignment}
 use Rattle.markdown_scanners_tree.specs.scanners.Tables.{is_cell_byte, is_row_byte, is_cell, is_pipe, is_space, is_empty, may_be_row, ended_cell, delimiter_row, AreCells, AreScannedCells, NoDelimiterRow}
 use Rattle.markdown_scanners_tree.proofs.PrefixLemmas.{from_place, both_true, prefix_len-parts}
 use Rattle.markdown_scanners_tree.proofs.scanners.lines.BlankLemmas.{first-line_ending}
-use Rattle.markdown_scanners_tree.proofs.scanners.tables.DelimiterRowLemmas.{IsDelimiterRow-only, cell_byte_no_pipe, pipe_length, pipe_test, cells_start}
+use Rattle.markdown_scanners_tree.proofs.scanners.tables.CellLemmas.{cell_byte_no_pipe}
+use Rattle.markdown_scanners_tree.proofs.scanners.tables.DelimiterRowLemmas.{IsDelimiterRow-only, pipe_length, pipe_test, cells_start}
 
 -- all bytes of a delimiter row are those of cells, and pipes
 row_bytes : (bytes : List ℕ) → list_all is_cell_byte bytes ≡ true → list_all is_row_byte bytes ≡ true
@@ -98,7 +99,8 @@ some_pipe bytes [] last rest ending may are = elim (cases_Bool (begins_with is_p
   | inr none ↦ (
       let parts : bytes ≡ last ++ rest = rw none at are.parts in
       let run : prefix_len is_row_byte (last ++ rest) ≡ length last =
-      prefix_len-parts is_row_byte last rest (row_bytes last are.last_cell) (first-line_ending is_row_byte refl refl rest ending are.ends) in
+      prefix_len-parts is_row_byte last rest (row_bytes last are.last_cell)
+      (first-line_ending is_row_byte refl refl rest ending are.ends) in
       let made : may_be_row (last ++ rest) ≡ false =
       rw (run, drop-append_seam last rest, take-append_seam last rest, are.ends, no_pipe last are.last_cell) refl in
       absurd (false≢true (sym made ∙ ap may_be_row (sym parts) ∙ may))
@@ -106,7 +108,8 @@ some_pipe bytes [] last rest ending may are = elim (cases_Bool (begins_with is_p
 ]
 
 -- what the test of a row's front and that of its cells tell together
-pub row_tests : (bytes : List ℕ) (indent pipe : ℕ) (run : indent ≡ prefix_len is_space bytes) (pipe_is : pipe ≡ cond (begins_with is_pipe (take (length bytes - indent) (drop indent bytes))) 1 0)
+pub row_tests : (bytes : List ℕ) (indent pipe : ℕ) (run : indent ≡ prefix_len is_space bytes)
+    (pipe_is : pipe ≡ cond (begins_with is_pipe (take (length bytes - indent) (drop indent bytes))) 1 0)
     → (n : ℕ) (alignments : List Alignment) (some_ended hyphen : Bool) (scanned : AreScannedCells
     (take (length bytes - (indent + pipe)) (drop (indent + pipe) bytes)) n alignments some_ended hyphen)
     → may_be_row (take (length bytes - indent) (drop indent bytes)) ≡ true → (some_ended || hyphen) ≡ true →

@@ -9,17 +9,43 @@ use Rattle.markdown_scanners_tree.specs.scanners.html_tag.HtmlTag.{IsOpenTag, Is
 use Rattle.markdown_scanners_tree.specs.scanners.tag_state.private.TagMachine.{next_state, after_part, after_attribute_name, before_value, after_closing_name, state_after, is_tag_end, is_final}
 use Rattle.markdown_scanners_tree.specs.declared.scanners.tag_state.TagState.{TagState}
 use Rattle.markdown_scanners_tree.specs.declared.scanners.tag_state.TagState.TheVariants.{Start, Opened, Name, Spaced, AttributeName, AfterName, BeforeValue, Unquoted, Quoted, AfterValue, Slashed, Open, Closing, ClosingName, ClosingSpaced, ClosingReturned, ClosingEnded, Closed, Refused}
-use Rattle.markdown_scanners_tree.proofs.scanners.tag_state.TagReading.{Leads, leads_next}
+use Rattle.markdown_scanners_tree.proofs.scanners.tag_state.ClosingTagReading.{leads_closing, leads_closing_name, leads_closing_spaced, leads_closing_ended, leads_closing_returned}
+use Rattle.markdown_scanners_tree.proofs.scanners.tag_state.OpenTagReading.{leads_name, leads_start, leads_opened, leads_spaced, leads_attribute, leads_after_name, leads_before_value, leads_unquoted, leads_quoted, leads_after_value, leads_slashed}
+use Rattle.markdown_scanners_tree.proofs.scanners.tag_state.TagReading.{Leads}
 use Rattle.markdown_scanners_tree.proofs.scanners.tag_state.TagWhole.{open_whole, closing_whole, refused_stays}
 
 -- an open tag, or a closing tag with at most one line ending of the source
 abbrev pub IsTagOf : List ℕ → ℕ → Type 0
 IsTagOf bytes endings = IsOpenTag bytes ⊎ (IsClosingTag bytes × (endings ≤ 1))
 
+-- one more byte, in each state
+leads_next : (state : TagState) (b : ℕ) (pre : List ℕ) → Leads state pre
+    → Leads (next_state state b) (pre ++ b ∷ [])
+leads_next Start b pre r = leads_start b pre r
+leads_next Opened b pre r = leads_opened b pre r
+leads_next Name b pre r = leads_name b pre r
+leads_next Spaced b pre r = leads_spaced b pre r
+leads_next AttributeName b pre r = leads_attribute b pre r
+leads_next AfterName b pre r = leads_after_name b pre r
+leads_next BeforeValue b pre r = leads_before_value b pre r
+leads_next Unquoted b pre r = leads_unquoted b pre r
+leads_next (Quoted quote) b pre r = leads_quoted quote b pre r
+leads_next AfterValue b pre r = leads_after_value b pre r
+leads_next Slashed b pre r = leads_slashed b pre r
+leads_next Open b pre r = tt
+leads_next Closing b pre r = leads_closing b pre r
+leads_next ClosingName b pre r = leads_closing_name b pre r
+leads_next ClosingSpaced b pre r = leads_closing_spaced b pre r
+leads_next ClosingReturned b pre r = leads_closing_returned b pre r
+leads_next ClosingEnded b pre r = leads_closing_ended b pre r
+leads_next Closed b pre r = tt
+leads_next Refused b pre r = tt
+
 leads_run : (s : TagState) (pre xs : List ℕ) → Leads s pre → Leads (state_after s xs) (pre ++ xs)
 leads_run s pre [] l = subst (λ z. Leads s z) (sym (append-nil pre)) l
 leads_run s pre (x ∷ xs) l =
-    subst (λ z. Leads (state_after (next_state s x) xs) z) (append_assoc pre (x ∷ []) xs) (leads_run (next_state s x) (pre ++ x ∷ []) xs (leads_next s x pre l))
+    subst (λ z. Leads (state_after (next_state s x) xs) z) (append_assoc pre (x ∷ []) xs)
+    (leads_run (next_state s x) (pre ++ x ∷ []) xs (leads_next s x pre l))
 
 tag_at_end : (s : TagState) (bytes : List ℕ) (endings : ℕ) → Leads s bytes → is_tag_end s endings ≡ true
     → IsTagOf bytes endings
@@ -140,7 +166,10 @@ module _ (b endings : ℕ) (other : (b == greater_than_sign) ≡ false) where
   other_ends_none : (s : TagState) → EndsNone (next_state s b)
   other_ends_none Start = elim (cases_Bool (b == less_than_sign)) [ inl k ↦ rw k refl | inr k ↦ rw k refl ]
   other_ends_none Opened =
-      elim (cases_Bool (is_letter b)) [ inl l ↦ rw l refl | inr l ↦ elim (cases_Bool (b == slash)) [ inl k ↦ rw (l, k) refl | inr k ↦ rw (l, k) refl ] ]
+      elim (cases_Bool (is_letter b)) [
+        | inl l ↦ rw l refl
+        | inr l ↦ elim (cases_Bool (b == slash)) [ inl k ↦ rw (l, k) refl | inr k ↦ rw (l, k) refl ]
+      ]
   other_ends_none Name = elim (cases_Bool (is_tag_name_byte b)) [ inl k ↦ rw k refl | inr k ↦ rw k part_ends_none ]
   other_ends_none Spaced = elim (cases_Bool (is_attribute_start b)) [ inl k ↦ rw k refl | inr k ↦ rw k part_ends_none ]
   other_ends_none AttributeName =

@@ -7,7 +7,7 @@ use Rattle.markdown_scanners_tree.specs.scanners.tag_state.private.TagMachine.{n
 use Rattle.markdown_scanners_tree.specs.declared.scanners.tag_state.TagState.{TagState}
 
 -- one more byte at the end
-pub leads-snoc : (from to : TagState) (xs : List ℕ) (b : ℕ) → LeadsTo from xs to → is_final to ≡ false
+leads-snoc : (from to : TagState) (xs : List ℕ) (b : ℕ) → LeadsTo from xs to → is_final to ≡ false
     → is_line_ending b ≡ false → LeadsTo from (xs ++ b ∷ []) (next_state to b)
 leads-snoc from to [] b l unfinished plain =
     (subst (λ s. is_final s ≡ false) (sym l) unfinished, plain, ap (λ s. next_state s b) l)
@@ -40,4 +40,5 @@ module _ (bytes : List ℕ) (from : TagState) where
       → LeadsTo from (take end bytes) to
   leads_over_run place end to rises inside l unfinished keep =
       let e : place + (end - place) ≡ end = omega arith in
-      subst (λ k. LeadsTo from (take k bytes) to) e (leads_run (end - place) place to (omega arith) l unfinished (λ i low high. keep i low (omega arith)))
+      subst (λ k. LeadsTo from (take k bytes) to) e
+      (leads_run (end - place) place to (omega arith) l unfinished (λ i low high. keep i low (omega arith)))

@@ -92,7 +92,8 @@ quoted_run : (quote : ℕ) (inner : List ℕ) → ((quote ≡ apostrophe) ⊎ (q
 quoted_run quote inner q h first same =
     ap (λ z. state_after z (inner ++ quote ∷ [])) first
     ∙ state_after_append (Quoted quote) inner (quote ∷ [])
-    ∙ ap (λ z. next_state z quote) (stay (Quoted quote) (λ b. not (b == quote)) (λ b k. rw (not_true (b == quote) k) refl) inner h)
+    ∙ ap (λ z. next_state z quote)
+    (stay (Quoted quote) (λ b. not (b == quote)) (λ b k. rw (not_true (b == quote) k) refl) inner h)
     ∙ rw same refl
 
 unquoted_start : (b : ℕ) → (is_unquoted b && not (is_white_space b)) ≡ true → next_state BeforeValue b ≡ Unquoted
@@ -213,7 +214,8 @@ closing_run : (s : TagState) (xs : List ℕ) → InClosing s → AllPass is_whit
     → InClosing (state_after s xs)
 closing_run s [] a h = a
 closing_run s (x ∷ xs) a h =
-    closing_run (next_state s x) xs (closing_more s x a (AllPass-head is_white_space_in_line x xs h)) (AllPass-tail is_white_space_in_line x xs h)
+    closing_run (next_state s x) xs (closing_more s x a (AllPass-head is_white_space_in_line x xs h))
+    (AllPass-tail is_white_space_in_line x xs h)
 
 close_closing : (s : TagState) → InClosing s → next_state s greater_than_sign ≡ Closed
 close_closing _ in_closing_name = refl

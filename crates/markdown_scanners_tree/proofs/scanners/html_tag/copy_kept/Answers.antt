@@ -32,7 +32,9 @@ overflow_add-place-then-is_last g c =
     let low : length c.loop-is_last.buffer.items < c.args.kept = omega arith in
     let inside : c.loop-is_last.place < length c.args.bytes.now =
     copy_inside _ _ _ _ _ c.loop-is_last.invariant.0 c.requires.some low in
-    let answer : Answers g.F.Fn c.args.handler.now (take (length c.args.bytes.now - (c.loop-is_last.place + 1)) (drop (c.loop-is_last.place + 1) c.args.bytes.now)) c.handler-place.result =
+    let answer : Answers g.F.Fn c.args.handler.now
+    (take (length c.args.bytes.now - (c.loop-is_last.place + 1)) (drop (c.loop-is_last.place + 1) c.args.bytes.now))
+    c.handler-place.result =
     search (rules, of_calls) in
     let end : c.loop-is_last.place + 1 + c.handler-place.result ≤ length c.args.bytes.now =
     skip_inside g.F.Fn (Some c.args.handler) c.args.bytes.now c.loop-is_last.place inside c.args.handler
@@ -44,7 +46,9 @@ loop-is_last-preserved-then-is_last g c =
     let low : length c.loop-is_last.buffer.items < c.args.kept = omega arith in
     let inside : c.loop-is_last.place < length c.args.bytes.now =
     copy_inside _ _ _ _ _ c.loop-is_last.invariant.0 c.requires.some low in
-    let answer : Answers g.F.Fn c.args.handler.now (take (length c.args.bytes.now - (c.loop-is_last.place + 1)) (drop (c.loop-is_last.place + 1) c.args.bytes.now)) c.handler-place.result =
+    let answer : Answers g.F.Fn c.args.handler.now
+    (take (length c.args.bytes.now - (c.loop-is_last.place + 1)) (drop (c.loop-is_last.place + 1) c.args.bytes.now))
+    c.handler-place.result =
     search (rules, of_calls) in
     let turn =
     turn_with_skip g.F.Fn (Some c.args.handler) c.args.bytes.now c.loop-is_last.place inside 0 c.args.handler

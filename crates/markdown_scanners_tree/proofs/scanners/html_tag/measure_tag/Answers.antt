@@ -21,12 +21,15 @@ returns-in_err-skips-clause-none g c =
     let line =
     scan_reads_on _ _ _ _ _ _ _ _ c.loop-state.invariant.0 c.loop-state.invariant.1
     c.read_in_line-after.ensures.within c.read_in_line-after.ensures.leads in
-    rw c.from_residual.ensures (no_handler_stops g.F.Fn c.args.handler c.args.bytes.now _ _ _ _ line (sym (c.if-is_final.ensures {u =
-    tt})) c.if-place-bytes.false (c.in_err-skips.was {u = tt}) (sym (c.if-is_last.ensures {u = tt})))
+    rw c.from_residual.ensures
+    (no_handler_stops g.F.Fn c.args.handler c.args.bytes.now _ _ _ _ line (sym (c.if-is_final.ensures {u = tt}))
+    c.if-place-bytes.false (c.in_err-skips.was {u = tt}) (sym (c.if-is_last.ensures {u = tt})))
 
 pub overflow_add-place-then-is_last : goal.overflow_add-place-then-is_last
 overflow_add-place-then-is_last g c =
-    let answer : Answers g.F.Fn c.in_ok-skips.skips.now (take (length c.args.bytes.now - (c.loop-state.place + c.read_in_line-after.result.1 + 1)) (drop (c.loop-state.place + c.read_in_line-after.result.1 + 1) c.args.bytes.now)) c.skips-place.result =
+    let answer : Answers g.F.Fn c.in_ok-skips.skips.now
+    (take (length c.args.bytes.now - (c.loop-state.place + c.read_in_line-after.result.1 + 1))
+    (drop (c.loop-state.place + c.read_in_line-after.result.1 + 1) c.args.bytes.now)) c.skips-place.result =
     search (rules, of_calls) in
     let inside : c.loop-state.place + c.read_in_line-after.result.1 + 1 + c.skips-place.result ≤ length c.args.bytes.now =
     skip_inside g.F.Fn c.args.handler c.args.bytes.now _ c.if-place-bytes.false c.in_ok-skips.skips
@@ -38,11 +41,16 @@ loop-state-preserved-then-is_last g c =
     let line =
     scan_reads_on _ _ _ _ _ _ _ _ c.loop-state.invariant.0 c.loop-state.invariant.1
     c.read_in_line-after.ensures.within c.read_in_line-after.ensures.leads in
-    let answer : Answers g.F.Fn c.in_ok-skips.skips.now (take (length c.args.bytes.now - (c.loop-state.place + c.read_in_line-after.result.1 + 1)) (drop (c.loop-state.place + c.read_in_line-after.result.1 + 1) c.args.bytes.now)) c.skips-place.result =
+    let answer : Answers g.F.Fn c.in_ok-skips.skips.now
+    (take (length c.args.bytes.now - (c.loop-state.place + c.read_in_line-after.result.1 + 1))
+    (drop (c.loop-state.place + c.read_in_line-after.result.1 + 1) c.args.bytes.now)) c.skips-place.result =
     search (rules, of_calls) in
-    let turn = turn_with_skip g.F.Fn c.args.handler c.args.bytes.now _ c.if-place-bytes.false c.loop-state.endings c.in_ok-skips.skips c.skips-place.result (c.in_ok-skips.was {u = tt}) c.requires.steady (sym (c.if-is_last.ensures {u = tt})) answer in (
-      rw c.after_line_ending-state.ensures (scan_goes_on _ _ _ _ _ _ line (sym (c.if-is_final.ensures {u =
-          tt})) _ _ turn),
+    let turn =
+    turn_with_skip g.F.Fn c.args.handler c.args.bytes.now _ c.if-place-bytes.false c.loop-state.endings
+    c.in_ok-skips.skips c.skips-place.result (c.in_ok-skips.was {u = tt}) c.requires.steady
+    (sym (c.if-is_last.ensures {u = tt})) answer in (
+      rw c.after_line_ending-state.ensures
+          (scan_goes_on _ _ _ _ _ _ line (sym (c.if-is_final.ensures {u = tt})) _ _ turn),
       turn.inside,
       omega arith,
       omega arith,
@@ -54,41 +62,55 @@ loop-state-preserved g c =
     let line =
     scan_reads_on _ _ _ _ _ _ _ _ c.loop-state.invariant.0 c.loop-state.invariant.1
     c.read_in_line-after.ensures.within c.read_in_line-after.ensures.leads in
-    let turn = turn_without g.F.Fn c.args.handler c.args.bytes.now _ c.if-place-bytes.false c.loop-state.endings (sym (c.if-is_last.ensures {u = tt})) in (
-      rw c.after_line_ending-state.ensures (scan_goes_on _ _ _ _ _ _ line (sym (c.if-is_final.ensures {u =
-          tt})) _ _ turn),
+    let turn =
+    turn_without g.F.Fn c.args.handler c.args.bytes.now _ c.if-place-bytes.false c.loop-state.endings
+    (sym (c.if-is_last.ensures {u = tt})) in (
+      rw c.after_line_ending-state.ensures
+          (scan_goes_on _ _ _ _ _ _ line (sym (c.if-is_final.ensures {u = tt})) _ _ turn),
       turn.inside,
       omega arith,
       omega arith,
-      if_none c.args.handler _ _ (λ e. ap (λ z. z + c.read_in_line-after.result.1 + 1) (none_given c.args.handler _ _ c.loop-state.invariant.4 e)),
+      if_none c.args.handler _ _
+          (λ e. ap (λ z. z + c.read_in_line-after.result.1 + 1) (none_given c.args.handler _ _ c.loop-state.invariant.4 e)),
     )
 
 pub returns-then-is_tag_end-clause-found : goal.returns-then-is_tag_end-clause-found
 returns-then-is_tag_end-clause-found g c =
-    let read : Scanned (AnswersIfAny g.F.Fn c.args.handler) c.args.bytes.now c.loop-state-test.place c.loop-state-test.kept c.loop-state.endings c.loop-state-test.state = elim c.loop-state-test.branch [
+    let read : Scanned (AnswersIfAny g.F.Fn c.args.handler) c.args.bytes.now c.loop-state-test.place
+    c.loop-state-test.kept c.loop-state.endings c.loop-state-test.state =
+    elim c.loop-state-test.branch [
       | else-loop-state-test w ↦ rw (w.place-is, w.kept-is, w.state-is) c.loop-state.invariant.0
-      | then-loop-state-test+then-place-bytes w ↦ rw (w.place-is, w.kept-is, w.state-is) (scan_reads_on _ _ _ _ _ _ _ _ c.loop-state.invariant.0 c.loop-state.invariant.1 w.read_in_line-after.ensures.within w.read_in_line-after.ensures.leads)
+      | then-loop-state-test+then-place-bytes w ↦ rw (w.place-is, w.kept-is, w.state-is)
+          (scan_reads_on _ _ _ _ _ _ _ _ c.loop-state.invariant.0 c.loop-state.invariant.1
+          w.read_in_line-after.ensures.within w.read_in_line-after.ensures.leads)
     ] in
     scan_finds _ _ _ _ _ _ read (sym (c.if-is_tag_end.ensures {u = tt}))
 
 pub returns-then-is_tag_end-clause-only : goal.returns-then-is_tag_end-clause-only
 returns-then-is_tag_end-clause-only g c =
-    let read : Scanned (AnswersIfAny g.F.Fn c.args.handler) c.args.bytes.now c.loop-state-test.place c.loop-state-test.kept c.loop-state.endings c.loop-state-test.state = elim c.loop-state-test.branch [
+    let read : Scanned (AnswersIfAny g.F.Fn c.args.handler) c.args.bytes.now c.loop-state-test.place
+    c.loop-state-test.kept c.loop-state.endings c.loop-state-test.state =
+    elim c.loop-state-test.branch [
       | else-loop-state-test w ↦ rw (w.place-is, w.kept-is, w.state-is) c.loop-state.invariant.0
-      | then-loop-state-test+then-place-bytes w ↦ rw (w.place-is, w.kept-is, w.state-is) (scan_reads_on _ _ _ _ _ _ _ _ c.loop-state.invariant.0 c.loop-state.invariant.1 w.read_in_line-after.ensures.within w.read_in_line-after.ensures.leads)
+      | then-loop-state-test+then-place-bytes w ↦ rw (w.place-is, w.kept-is, w.state-is)
+          (scan_reads_on _ _ _ _ _ _ _ _ c.loop-state.invariant.0 c.loop-state.invariant.1
+          w.read_in_line-after.ensures.within w.read_in_line-after.ensures.leads)
     ] in
     scan_only _ _ _ _ _ _ read (sym (c.if-is_tag_end.ensures {u = tt}))
 
 pub returns-else-is_tag_end-clause-none : goal.returns-else-is_tag_end-clause-none
 returns-else-is_tag_end-clause-none g c =
-    let read : Scanned (AnswersIfAny g.F.Fn c.args.handler) c.args.bytes.now c.loop-state-test.place c.loop-state-test.kept c.loop-state.endings c.loop-state-test.state × ((length c.args.bytes.now ≤ c.loop-state-test.place) ⊎ (is_final c.loop-state-test.state ≡ true)) = elim c.loop-state-test.branch [
+    let read : Scanned (AnswersIfAny g.F.Fn c.args.handler) c.args.bytes.now c.loop-state-test.place
+    c.loop-state-test.kept c.loop-state.endings c.loop-state-test.state
+    × ((length c.args.bytes.now ≤ c.loop-state-test.place) ⊎ (is_final c.loop-state-test.state ≡ true)) =
+    elim c.loop-state-test.branch [
       | else-loop-state-test w ↦ rw (w.place-is, w.kept-is, w.state-is) (
         c.loop-state.invariant.0,
-        inr (sym (w.loop-state-test.ensures {u =
-            tt})),
+        inr (sym (w.loop-state-test.ensures {u = tt})),
       )
       | then-loop-state-test+then-place-bytes w ↦ rw (w.place-is, w.kept-is, w.state-is) (
-        scan_reads_on _ _ _ _ _ _ _ _ c.loop-state.invariant.0 c.loop-state.invariant.1 w.read_in_line-after.ensures.within w.read_in_line-after.ensures.leads,
+        scan_reads_on _ _ _ _ _ _ _ _ c.loop-state.invariant.0 c.loop-state.invariant.1
+            w.read_in_line-after.ensures.within w.read_in_line-after.ensures.leads,
         elim w.then-place-bytes.branch [
           | then-place-bytes-via-then-place-bytes v ↦ inl v.if-place-bytes.true
           | then-place-bytes-via-else-place-bytes+then-is_final v ↦ inr (sym (v.if-is_final.ensures {u = tt}))

@@ -6,7 +6,10 @@ use Rattle.markdown_scanners_tree.proofs.scanners.html_tag.scan_html_block_inner
 pub copy_kept-requires-clause-some : goal.copy_kept-requires-clause-some
 copy_kept-requires-clause-some g c =
     let found = c.in-Some.ensures.found in
-    (found.0, prefix_under g.F.Fn c.args.handler c.in-Some-handler.skips c.args.bytes.now found.0 c.in-Some-handler.is found.1.kept, found.2.0)
+    let under =
+    prefix_under g.F.Fn c.args.handler c.in-Some-handler.skips c.args.bytes.now found.0 c.in-Some-handler.is
+    found.1.kept in
+    (found.0, under, found.2.0)
 
 pub returns-clause-only : goal.returns-clause-only
 returns-clause-only g c = λ prefix tag.
@@ -23,9 +26,13 @@ returns-clause-only g c = λ prefix tag.
       | in_default-handler w ↦ (
           let same : c.in-Some.tag.kept ≡ c.in-Some.tag.end = elim w.in_default-handler.branch [
             | in_default-handler-via-in-Some-handler+else-tag v ↦ v.if-tag.false
-            | in_default-handler-via-in_default-handler v ↦ none_given c.args.handler _ _ c.in-Some.ensures.whole v.in_default-handler.is
-          ] in
-          (ap (λ (v : Vec ℕ Global). v.items) w.buffer-is ∙ w.new-buffer.ensures.items ∙ buffer_empty prefix _ _ sizes.0 sizes.1 same, sizes.1)
+            | in_default-handler-via-in_default-handler v ↦
+                none_given c.args.handler _ _ c.in-Some.ensures.whole v.in_default-handler.is
+          ] in (
+            ap (λ (v : Vec ℕ Global). v.items) w.buffer-is ∙ w.new-buffer.ensures.items
+                ∙ buffer_empty prefix _ _ sizes.0 sizes.1 same,
+            sizes.1,
+          )
           )
     ]
 

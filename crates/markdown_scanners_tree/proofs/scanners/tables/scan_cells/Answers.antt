@@ -1,6 +1,6 @@
 use Rattle.std.proofs.Common.{◌+◌, ◌-◌, length, arith, drop}
 use Rattle.std.proofs.lemmas.List.{length-take, length-drop}
-use Rattle.markdown_scanners_tree.proofs.scanners.tables.DelimiterRowLemmas.{scanned_cell, scanned_refused, scanned_no_end, scanned_last}
+use Rattle.markdown_scanners_tree.proofs.scanners.tables.CellScan.{scanned_cell, scanned_refused, scanned_no_end, scanned_last}
 use Rattle.markdown_scanners_tree.proofs.scanners.tables.scan_cells.Goals as goal
 
 pub loop-len-preserved : goal.loop-len-preserved
@@ -25,7 +25,8 @@ returns-in_default-scan_eol-clause-none c =
 pub returns-clause-found : goal.returns-clause-found
 returns-clause-found c =
     let before = c.loop-len.invariant in
-    scanned_last c.args.bytes.now before.0 c.loop-len.i c.scan_cell_bytes-len.result _ before.1 before.2 before.3 c.scan_cell_bytes-len.ensures.run
+    scanned_last c.args.bytes.now before.0 c.loop-len.i c.scan_cell_bytes-len.result _ before.1 before.2 before.3
+    c.scan_cell_bytes-len.ensures.run
     c.in-Some-scan_eol.ending c.scan_cell_bytes-len.ensures.within c.in-Some-scan_eol.ensures.ending _
     c.in_ok-push_last.ensures _ _ c.loop-len.alignments.ok.0 c.is_empty-ended.ensures _ c.has_hyphen-hyphen.ensures
 

@@ -15,7 +15,8 @@ pub returns-then-not-may_be_row-clause-none : goal.returns-then-not-may_be_row-c
 returns-then-not-may_be_row-clause-none c _ =
     no_row c.args.bytes.now
     (ap may_be_row
-    (sym (from_place c.args.bytes.now (prefix_len is_space c.args.bytes.now)) ∙ ap (λ i. take (length c.args.bytes.now - i) (drop i c.args.bytes.now)) (sym c.scan_ch_repeat-indent.ensures.run))
+    (sym (from_place c.args.bytes.now (prefix_len is_space c.args.bytes.now))
+    ∙ ap (λ i. take (length c.args.bytes.now - i) (drop i c.args.bytes.now)) (sym c.scan_ch_repeat-indent.ensures.run))
     ∙ sym c.may_be_row.ensures ∙ c.if-not-may_be_row.true)
 
 pub returns-in_default-clause-none : goal.returns-in_default-clause-none
@@ -26,7 +27,9 @@ returns-in_default-clause-none c _ =
 pub returns-then-has_hyphens : goal.returns-then-has_hyphens
 returns-then-has_hyphens c =
     let scanned = rw c.in-Some.is at c.in_ok-cells.ensures.found in
-    let row = delimiter_row-found c.args.bytes.now c.scan_ch_repeat-indent.result c.scan_ch-piped.result c.scan_ch_repeat-indent.ensures.run c.scan_ch-piped.ensures.first _ _ _ _ scanned
+    let row =
+    delimiter_row-found c.args.bytes.now c.scan_ch_repeat-indent.result c.scan_ch-piped.result
+    c.scan_ch_repeat-indent.ensures.run c.scan_ch-piped.ensures.first _ _ _ _ scanned
     (omega arith) c.scan_ch_repeat-indent.ensures.within c.scan_ch-piped.ensures.within
     (row_tests c.args.bytes.now c.scan_ch_repeat-indent.result c.scan_ch-piped.result
     c.scan_ch_repeat-indent.ensures.run c.scan_ch-piped.ensures.first _ _ _ _ scanned
