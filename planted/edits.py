@@ -60,8 +60,9 @@ def edited(edit):
 
 def copied(room):
     """Copies what proofs and builds read of the tree into a folder, with the libraries that are built already."""
-    for name in ("crates.txt", "HANDLES"):
+    for name in ("crates.txt", "HANDLES", "README.md"):
         shutil.copy(TOP / name, room)
+    shutil.copytree(TOP / "c", room / "c")
     for crate in (TOP / "crates").iterdir():
         for part in ("src", "specs", "proofs", "out/rlib"):
             if (crate / part).is_dir():
