@@ -58,15 +58,18 @@ def edited(edit):
     return texts
 
 
-def copied(room):
-    """Copies what proofs and builds read of the tree into a folder, with the libraries that are built already."""
+def copied(room, built=TOP):
+    """Copies what proofs and builds read of the tree into a folder, with the libraries that are built, here or in a copy."""
     for name in ("crates.txt", "HANDLES", "README.md"):
         shutil.copy(TOP / name, room)
     shutil.copytree(TOP / "c", room / "c")
     for crate in (TOP / "crates").iterdir():
-        for part in ("src", "specs", "proofs", "out/rlib"):
+        for part in ("src", "specs", "proofs"):
             if (crate / part).is_dir():
                 shutil.copytree(crate / part, room / "crates" / crate.name / part)
+        library = built / "crates" / crate.name / "out/rlib"
+        if (library / "stamp").is_file():
+            shutil.copytree(library, room / "crates" / crate.name / "out/rlib")
         for part in ("stdin", "stdout", "args"):
             if (crate / part).is_file():
                 shutil.copy(crate / part, room / "crates" / crate.name)

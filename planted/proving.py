@@ -8,16 +8,16 @@ from pathlib import Path
 
 from edits import TOP, copied, crate_of
 
-# A share's first edit proves the whole crate; each further one only what it changes.
+# A share's first edit proves the whole crate, each further one only what it changes: so a crate has no second share for less.
 SHARE = 16
 
 
-def shares_of(edits):
-    """The edits of each crate in shares of like size, none over SHARE, the largest first."""
+def shares_of(edits, lanes):
+    """The edits of each crate in shares of like size, no more than there are lanes, and the largest first."""
     found = []
     for crate in dict.fromkeys(map(crate_of, edits)):
         of_crate = [it for it in edits if crate_of(it) == crate]
-        number = -(-len(of_crate) // SHARE)
+        number = min(lanes, -(-len(of_crate) // SHARE))
         found += [(crate, of_crate[at::number]) for at in range(number)]
     return sorted(found, key=lambda share: -len(share[1]))
 
@@ -29,10 +29,10 @@ def build_libraries():
             raise SystemExit(f"planted: {crate} is not proved as it stands, so its edits say nothing")
 
 
-def tried(crate, edits):
+def tried(crate, edits, built):
     """What rt says of each edit, by the edit's name."""
     with tempfile.TemporaryDirectory(prefix="planted-") as room:
-        copied(Path(room))
+        copied(Path(room), built)
         folder = Path(room) / "crates" / crate / "must-fail"
         folder.mkdir()
         for edit in edits:
@@ -42,19 +42,20 @@ def tried(crate, edits):
     return {it.stem: said.get(it.stem, f"BAD EDIT: rt says nothing of it: {ran.stdout[-300:]}") for it in edits}
 
 
-def prove_all(edits, lanes):
+def prove_all(edits, lanes, built=None):
     """Tries the edits, and prints what is not refused. An edit that is refused only since a proof names what it took away is
-    counted as refused, with a line."""
-    build_libraries()
+    counted as refused, with a line. The libraries are those that are built in a copy of the tree, or built here first."""
+    if not built:
+        build_libraries()
     refused = others = 0
     with ThreadPoolExecutor(lanes) as pool:
-        shares = shares_of(edits)
-        for (crate, share), said in zip(shares, pool.map(lambda share: tried(*share), shares)):
+        shares = shares_of(edits, lanes)
+        for (_, share), said in zip(shares, pool.map(lambda share: tried(*share, built or TOP), shares)):
             for edit in share:
                 text = said[edit.stem]
                 is_refused = text.startswith("refused, as it must be")
                 refused, others = refused + is_refused, others + (not is_refused)
                 if not is_refused or "(only because" in text:
-                    print(f"{crate}/{edit.stem}: {text}", flush=True)
+                    print(f"{crate_of(edit)}/{edit.stem}: {text}", flush=True)
     print(f"{refused} refused, {others} not refused")
     return 1 if others or refused != len(edits) or not edits else 0
