@@ -12,11 +12,14 @@ from pathlib import Path
 
 from edits import copied, crate_of, edited
 
+# Tests of hostile texts that don't end in the minute that rt gives a build with checks: they say nothing here.
+SLOW = {"passes_over_hostile_texts_once", "passes_over_cut_texts_once"}
+
 # What may tell a wrong body of a crate, the quickest first: the stored run of a program, or the tests of a crate.
 TELLERS = {
     "markdown_values": ["tests cmark_vectors_values", "run cmark_replay", "tests cmark_uses"],
     "markdown_scanners_tree": ["run cmark_replay", "tests markdown_scanners_tree", "tests cmark_vectors"],
-    "cmark_scan": ["tests cmark_scan", "run cmark_scan"],
+    "cmark_scan": ["run cmark_scan", "tests cmark_scan"],
 }
 
 
@@ -31,6 +34,12 @@ def stored_run(crate, room):
     return ["rt", "try", "--steps", "1", "--cases", str(cases)]
 
 
+def fails(said):
+    """Whether a test that is not too slow did not pass."""
+    tests = re.findall(r"^test (\S+) \.\.\. (\w+)", said, flags=re.M)
+    return any(how != "ok" for name, how in tests if name.rsplit("::", 1)[-1] not in SLOW)
+
+
 def tells(teller, room):
     """Whether the tests or the stored run fail in the tree of the folder, or None where they were not built."""
     kind, name = teller.split()
@@ -38,8 +47,9 @@ def tells(teller, room):
     words = stored_run(crate, room) if kind == "run" else ["rt", "try", "--test", "--steps", "1"]
     how = {"stdin": subprocess.DEVNULL, "stdout": subprocess.PIPE, "stderr": subprocess.STDOUT, "errors": "replace"}
     ran = subprocess.run(words, cwd=crate, **how)
-    was_built = "run=none" not in ran.stdout and ("proved=no" in ran.stdout)
-    return ran.returncode != 0 if was_built else None
+    if "run=none" in ran.stdout or "proved=no" not in ran.stdout:
+        return None
+    return ran.returncode != 0 if kind == "run" else fails(ran.stdout)
 
 
 def without_ensures(text, place):
