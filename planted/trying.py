@@ -35,13 +35,14 @@ def stored_run(crate, room):
 
 
 def fails(said):
-    """Whether a test that is not too slow did not pass."""
+    """Whether a test that is not too slow did not pass, or None where none was run."""
     tests = re.findall(r"^test (\S+) \.\.\. (\w+)", said, flags=re.M)
-    return any(how != "ok" for name, how in tests if name.rsplit("::", 1)[-1] not in SLOW)
+    ends = [how for name, how in tests if name.rsplit("::", 1)[-1] not in SLOW]
+    return any(how != "ok" for how in ends) if ends else None
 
 
 def tells(teller, room):
-    """Whether the tests or the stored run fail in the tree of the folder, or None where they were not built."""
+    """Whether the tests or the stored run fail in the tree of the folder, or None where they were not built or none was run."""
     kind, name = teller.split()
     crate = room / "crates" / name
     words = stored_run(crate, room) if kind == "run" else ["rt", "try", "--test", "--steps", "1"]
@@ -87,7 +88,7 @@ def told_by(edit):
         for teller in TELLERS[crate]:
             told = tells(teller, room)
             if told is None:
-                return False, f"NOT BUILT for {teller}"
+                return False, f"NOT RUN: {teller}"
             if told:
                 return True, f"told by {teller}"
     return False, "TOLD BY NO TEST"
