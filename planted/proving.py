@@ -1,45 +1,50 @@
-"""Has the prover try wrong bodies, shares of them side by side, each share in a copy of the tree."""
-import re
+"""Has the prover try wrong bodies, several side by side, over what it has kept of the crate as it stands.
+
+`rt must-fail` tries the edits of a crate one after another, so this calls the function of rt that tries one.
+"""
+import os
 import shutil
 import subprocess
+import sys
 import tempfile
 from concurrent.futures import ThreadPoolExecutor
+from importlib.machinery import SourceFileLoader
+from importlib.util import module_from_spec, spec_from_loader
 from pathlib import Path
 
-from edits import TOP, copied, crate_of
+from edits import TOP, crate_of
 
-# A share's first edit proves the whole crate, each further one only what it changes: so a crate has no second share for less.
-SHARE = 16
+ONE_JOB = ["--jobs", "1"]
 
 
-def shares_of(edits, lanes):
-    """The edits of each crate in shares of like size, no more than there are lanes, and the largest first."""
-    found = []
-    for crate in dict.fromkeys(map(crate_of, edits)):
-        of_crate = [it for it in edits if crate_of(it) == crate]
-        number = min(lanes, -(-len(of_crate) // SHARE))
-        found += [(crate, of_crate[at::number]) for at in range(number)]
-    return sorted(found, key=lambda share: -len(share[1]))
+def rt_program():
+    """The program rt, as a module."""
+    loader = SourceFileLoader("rt", str(Path(shutil.which("rt")).resolve()))
+    rt = module_from_spec(spec_from_loader("rt", loader))
+    sys.modules["rt"] = rt
+    loader.exec_module(rt)
+    os.environ.pop(rt.rtlib.ALLOW_C, None)
+    rt.rtlib.guarded()  # its first call must come from the main thread
+    return rt
 
 
 def build_libraries():
-    """Builds the libraries in the tree itself, so that each copy has them."""
+    """Builds the libraries in the tree itself."""
     for crate in ("markdown_values", "markdown_scanners_tree"):
         if subprocess.run(["rt", "lib"], cwd=TOP / "crates" / crate, stdout=subprocess.DEVNULL).returncode:
             raise SystemExit(f"planted: {crate} is not proved as it stands, so its edits say nothing")
 
 
-def tried(crate, edits, built):
-    """What rt says of each edit, by the edit's name."""
-    with tempfile.TemporaryDirectory(prefix="planted-") as room:
-        copied(Path(room), built)
-        folder = Path(room) / "crates" / crate / "must-fail"
-        folder.mkdir()
-        for edit in edits:
-            shutil.copy(edit, folder)
-        ran = subprocess.run(["rt", "must-fail", crate], cwd=room, stdin=subprocess.DEVNULL, stdout=subprocess.PIPE, text=True)
-    said = dict(re.findall(r"^(?:rt: )?must-fail \w+/(\S+)\.edit: (.*)$", ran.stdout, flags=re.M))
-    return {it.stem: said.get(it.stem, f"BAD EDIT: rt says nothing of it: {ran.stdout[-300:]}") for it in edits}
+def tried(rt, crate, edits, lanes):
+    """Whether each edit is refused, and what rt says of it. That the crate is proved as it stands is seen before and after."""
+    with tempfile.TemporaryDirectory(prefix="planted-") as kept, ThreadPoolExecutor(lanes) as pool:
+        is_proved = lambda jobs: not rt.checked(crate, {}, jobs, kept).returncode
+        if not is_proved(["--jobs", str(lanes)]):
+            raise SystemExit(f"planted: {crate.name} is not proved as it stands, so its edits say nothing")
+        found = list(pool.map(lambda edit: rt.must_fail(crate, str(edit), ONE_JOB, kept), edits))
+        if not is_proved(ONE_JOB):
+            raise SystemExit(f"planted: {crate.name} is not proved over what its edits left, so they say nothing")
+    return found
 
 
 def prove_all(edits, lanes, built=None):
@@ -47,15 +52,15 @@ def prove_all(edits, lanes, built=None):
     counted as refused, with a line. The libraries are those that are built in a copy of the tree, or built here first."""
     if not built:
         build_libraries()
+    rt = rt_program()
+    crates = {it.name: it for it in rt.rtlib.crates_below(str(built or TOP))}
     refused = others = 0
-    with ThreadPoolExecutor(lanes) as pool:
-        shares = shares_of(edits, lanes)
-        for (_, share), said in zip(shares, pool.map(lambda share: tried(*share, built or TOP), shares)):
-            for edit in share:
-                text = said[edit.stem]
-                is_refused = text.startswith("refused, as it must be")
-                refused, others = refused + is_refused, others + (not is_refused)
-                if not is_refused or "(only because" in text:
-                    print(f"{crate_of(edit)}/{edit.stem}: {text}", flush=True)
+    for name in dict.fromkeys(map(crate_of, edits)):
+        of_crate = [it for it in edits if crate_of(it) == name]
+        for edit, (is_refused, text) in zip(of_crate, tried(rt, crates[name], of_crate, lanes)):
+            refused, others = refused + is_refused, others + (not is_refused)
+            if not is_refused or "(only because" in text:
+                print(text.removeprefix("must-fail "), flush=True)
+        print(f"{name}: {len(of_crate)} tried", flush=True)
     print(f"{refused} refused, {others} not refused")
     return 1 if others or refused != len(edits) or not edits else 0
