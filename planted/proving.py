@@ -1,6 +1,7 @@
-"""Has the prover try wrong bodies, several side by side, over what it has kept of the crate as it stands.
+"""Has the prover try wrong bodies, in groups and side by side, over what it has kept of the crate as it stands.
 
-`rt must-fail` tries the edits of a crate one after another, so this calls the function of rt that tries one.
+`rt must-fail` tries the edits of a crate one after another. So this calls the functions of rt that check an edited crate and
+that try one edit; the latter tries each edit that its group does not show to be refused.
 """
 import os
 import shutil
@@ -13,6 +14,7 @@ from importlib.util import module_from_spec, spec_from_loader
 from pathlib import Path
 
 from edits import TOP, crate_of
+from grouping import groups_of, refused_in, texts_of
 
 ONE_JOB = ["--jobs", "1"]
 
@@ -35,16 +37,32 @@ def build_libraries():
             raise SystemExit(f"planted: {crate} is not proved as it stands, so its edits say nothing")
 
 
+def refused_in_groups(rt, crate, edits, pool, kept):
+    """The edits that groups show to be refused. Those that waited for others are grouped again."""
+    refused = set()
+    in_group = lambda group: refused_in(group, rt.checked(crate, texts_of(group), ONE_JOB, kept).stdout)
+    while groups := groups_of([it for it in edits if it not in refused]):
+        found = {edit for shown in pool.map(in_group, groups) for edit in shown}
+        if not found:
+            break
+        refused |= found
+    return refused
+
+
 def tried(rt, crate, edits, lanes):
-    """Whether each edit is refused, and what rt says of it. That the crate is proved as it stands is seen before and after."""
+    """Whether each edit is refused, and what rt says of it where it was tried alone. That the crate is proved as it stands is
+    seen before and after."""
     with tempfile.TemporaryDirectory(prefix="planted-") as kept, ThreadPoolExecutor(lanes) as pool:
         is_proved = lambda jobs: not rt.checked(crate, {}, jobs, kept).returncode
         if not is_proved(["--jobs", str(lanes)]):
             raise SystemExit(f"planted: {crate.name} is not proved as it stands, so its edits say nothing")
-        found = list(pool.map(lambda edit: rt.must_fail(crate, str(edit), ONE_JOB, kept), edits))
+        refused = refused_in_groups(rt, crate, edits, pool, kept)
+        alone = [it for it in edits if it not in refused]
+        said = dict(zip(alone, pool.map(lambda edit: rt.must_fail(crate, str(edit), ONE_JOB, kept), alone)))
         if not is_proved(ONE_JOB):
             raise SystemExit(f"planted: {crate.name} is not proved over what its edits left, so they say nothing")
-    return found
+    print(f"{crate.name}: {len(refused)} tried in groups, {len(alone)} alone", flush=True)
+    return [(True, "") if it in refused else said[it] for it in edits]
 
 
 def prove_all(edits, lanes, built=None):
@@ -61,6 +79,5 @@ def prove_all(edits, lanes, built=None):
             refused, others = refused + is_refused, others + (not is_refused)
             if not is_refused or "(only because" in text:
                 print(text.removeprefix("must-fail "), flush=True)
-        print(f"{name}: {len(of_crate)} tried", flush=True)
     print(f"{refused} refused, {others} not refused")
     return 1 if others or refused != len(edits) or not edits else 0

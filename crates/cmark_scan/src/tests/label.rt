@@ -7,7 +7,7 @@ const LABEL: &[&str] = &["label"];
 
 #[test]
 fn prints_labels(rt: HostRuntime) -> Result<(), Fail> {
-    let rows: [Row; 5] = [
+    let rows: [Row; 6] = [
         (
             (LABEL, b"Foo  Bar]"),
             (0, "bytes 9\nborrowed false\nlabel Foo Bar\n"),
@@ -15,6 +15,10 @@ fn prints_labels(rt: HostRuntime) -> Result<(), Fail> {
         (
             (LABEL, b"a\\ ]"),
             (0, "bytes 4\nborrowed true\nlabel a\\\n"),
+        ),
+        (
+            (LABEL, b"a\\|b]"),
+            (0, "bytes 5\nborrowed true\nlabel a\\|b\n"),
         ),
         (
             (LABEL, b"hello\r\nworld\r\n]"),

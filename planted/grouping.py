@@ -1,0 +1,90 @@
+"""Tries several wrong bodies in one check, each in a function of its own.
+
+A function is proved from its body and from the contracts of what it calls. So where each edit of a group stands in another
+function, the prover refuses in one check what it refuses in a check of each edit. It says of a function that calls a refused
+one that it waits for that: then nothing is known of its own body, and it is tried in a later group, or alone. A group where a
+function that has no edit is refused for itself shows nothing.
+"""
+import re
+import sys
+
+from edits import TOP, crate_of, edited
+
+sys.path.insert(0, str(TOP / "docs"))
+from reading import items_of
+
+MOST = 16
+NOT_PROVED = re.compile(r"^fn (\S+): (?:not proved|no proof)\b(.*)", re.M)
+WAITS = "it calls"
+NAMES_WHAT_IS_GONE = re.compile(r"^\S*proofs/\S*: .*(?:has no field|is not in scope|has no `|was not admitted)", re.M)
+
+
+def changed_lines(edit):
+    """The lines that an edit changes: their texts by their place, a path and a number from 1."""
+    found = {}
+    for path, text in edited(edit).items():
+        before = (TOP / "crates" / crate_of(edit) / path).read_text().split("\n")
+        for number, (old, new) in enumerate(zip(before, text.split("\n"), strict=True), 1):
+            if old != new:
+                found[path, number] = new
+    return found
+
+
+def function_of(edit, lines):
+    """The function whose body alone holds the lines."""
+    paths, numbers = {path for path, _ in lines}, [number for _, number in lines]
+    for item in items_of(crate_of(edit)) if len(paths) == 1 else []:
+        first = item.end - len(item.body.split("\n"))
+        in_body = item.kind == "fn" and item.body and first <= min(numbers) and max(numbers) < item.end
+        if in_body and item.path.endswith("/" + paths.copy().pop()):
+            return item
+    return None
+
+
+def key_of(item):
+    """What the prover's name for a function has of it: the type or the module that it stands in, and its own name."""
+    return (item.of_type or item.module.split("/")[-1], item.short)
+
+
+def groups_of(edits):
+    """Groups of edits, no two in functions of one key, as dicts of edits and changed lines by key."""
+    groups = []
+    for edit in edits:
+        lines = changed_lines(edit)
+        item = function_of(edit, lines)
+        if item:
+            key = key_of(item)
+            group = next((it for it in groups if key not in it and len(it) < MOST), None)
+            if group is None:
+                group = {}
+                groups.append(group)
+            group[key] = edit, lines
+    return [it for it in groups if len(it) > 1]
+
+
+def texts_of(group):
+    """The texts of the files with all edits of a group, by path."""
+    texts = {}
+    for edit, lines in group.values():
+        for (path, number), new in lines.items():
+            if path not in texts:
+                texts[path] = (TOP / "crates" / crate_of(edit) / path).read_text().split("\n")
+            texts[path][number - 1] = new
+    return {path: "\n".join(lines) for path, lines in texts.items()}
+
+
+def key_named(name, keys):
+    """The key that a name of the prover's is of: `crate::tree::Tree::push`, `crate::tree::TreeClone::clone`, `crate::line::run_line`."""
+    place, short = name.split("::")[-2:]
+    found = [key for key in keys if key[1] == short and place.startswith(key[0])]
+    return max(found, key=lambda key: len(key[0]), default=None)
+
+
+def refused_in(group, said):
+    """The edits of a group that a check shows to be refused, by what it said: none where it can't be read so."""
+    if not said.rstrip("\n").rpartition("\n")[2].startswith("logic=not-proved") or NAMES_WHAT_IS_GONE.search(said):
+        return []
+    keys = [key_named(name, group) for name, why in NOT_PROVED.findall(said) if WAITS not in why]
+    if None in keys or len(set(keys)) < len(keys):
+        return []
+    return [group[key][0] for key in keys]
