@@ -259,6 +259,19 @@ def tag(text, skips=None):
     return found[0], bytes_kept[found.end() - 1][1] + 1
 
 
+BLOCK_NAMES = (
+    b"address article aside base basefont blockquote body caption center col colgroup dd details dialog dir div dl dt fieldset "
+    b"figcaption figure footer form frame frameset h1 h2 h3 h4 h5 h6 head header hr html iframe legend li link main menu menuitem "
+    b"nav noframes ol optgroup option p param search section summary table tbody td tfoot th thead title tr track ul"
+).split()
+
+
+def is_block_name(text):
+    """Whether what follows `<` opens an HTML block by its name (4.6, start condition 6)."""
+    found = re.match(rb"/?([A-Za-z0-9]+)(?:[ \t\r\n>]|/>|\Z)", text)
+    return bool(found) and found[1].lower() in BLOCK_NAMES
+
+
 def tag_alone(text):
     """The length of a tag that is alone in its line (4.6, start condition 7)."""
     found = tag(text)
