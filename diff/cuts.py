@@ -3,11 +3,15 @@
 
     diff/cuts.py | cmp - crates/cmark_cuts/stdout
 
-Nothing here knows the library: each part is answered from docs/DEFINITIONS.md, or counted by hand. Where a figure comes
-from stands above its function. Bracketed sections are of CommonMark 0.31.2.
+Nothing here knows the library: each part is answered from docs/DEFINITIONS.md (answers.py), or counted by hand. Where a
+figure comes from stands above its function. Bracketed sections are of CommonMark 0.31.2.
 """
 import re
+import sys
 from bisect import bisect_left
+
+sys.dont_write_bytecode = True
+from answers import blank_line, destination, label, tag
 
 MOST = 200
 SIDES = ["without its first", "without its last", "only its first", "only its last"]
@@ -165,19 +169,7 @@ def print_tabs():
               f"scanned {tabs}, rest {rest}, 0 stops")
 
 
-# Link destinations (6.3): balanced parentheses, at most `max_next + 1` of them open at once. A closing one that opens
-# nothing ends the destination; where the text ends one that is open, there is none.
-
-def destination(text, max_next):
-    depth = 0
-    for place, byte in enumerate(text):
-        if byte == ord(")") and depth == 0:
-            return place
-        depth += 1 if byte == ord("(") else -1
-        if depth > max_next + 1:
-            return None
-    return len(text) if depth == 0 else None
-
+# Link destinations (6.3): of parentheses alone.
 
 def print_parentheses():
     text = b"(" * 1000 + b")" * 1000
@@ -190,53 +182,41 @@ def print_parentheses():
                   f"{len(taken)} finds of {sum(taken)} bytes")
 
 
-# Link labels (6.3) without backslashes. Behind each line ending the handler says how many bytes are skipped.
+# Labels and tags over lines (6.3, 6.6): behind each line ending a handler says how many bytes are skipped. Blank lines (2.2).
 
-def label(text, skips):
-    kept, endings, place = b"", 0, 0
-    while text[place:place + 1] != b"]":
-        unit = re.match(rb"\r\n|[^[]", text[place:], re.S)
-        if unit is None:
-            return "none"
-        kept, place = kept + unit[0], place + unit.end()
-        if unit[0] in (b"\n", b"\r", b"\r\n"):
-            endings, place = endings + 1, place + skips(text[place:])
-        elif unit[0] not in (b" ", b"\t", b"\x0b", b"\x0c"):
-            endings = 0
-        if endings == 2:
-            return "none"
-    words = kept.split()
-    if not words or len(kept) > 999:
-        return "none"
-    how = "lent" if all(run == b" " for run in re.findall(rb"\s+", kept)) else "built"
-    return f"{place + 1} {how} {b' '.join(words).decode()}"
+def nothing(_):
+    return 0
 
 
-# A tag over lines (6.6) of which all behind a line ending is skipped ends before that line ending. So `<a` and LF begin
-# none, and no part of `<a`, LF, `>` is a tag.
-
-def tag_skipped(_):
-    return "none"
+def shown_label(text, skips):
+    found = label(text, skips)
+    return f"{found[0]} {'lent' if found[2] else 'built'} {found[1]}" if found else "none"
 
 
-# Blank lines (2.2): white space without line endings, then a line ending or the end of the text; its length.
+def tag_skipped(text):
+    """The length of a tag of which all is skipped behind its first line ending."""
+    found = tag(text, len)
+    return str(found[1]) if found else "none"
 
-def blank_line(text):
-    found = re.match(rb"[ \t\x0b\x0c]*(\r\n|\r|\n|\Z)", text)
-    return str(found.end()) if found else "none"
+
+def shown_blank_line(text):
+    found = blank_line(text)
+    return "none" if found is None else str(found)
 
 
 SHORT = [
-    ("label over CR LF", b"a\r\nb]", lambda it: label(it, lambda rest: 0), "5 built a b"),
-    ("label over LF, CR", b"a\n\rb]", lambda it: label(it, lambda rest: 0), "none"),
-    ("label over CR, X, LF", b"a\rX\nb]", lambda it: label(it, lambda rest: rest[:1] == b"X"), "none"),
-    ("label of which all is skipped", b"a\n]", lambda it: label(it, len), "none"),
+    ("label over CR LF", b"a\r\nb]", lambda it: shown_label(it, nothing), "5 built a b"),
+    ("label over LF, CR", b"a\n\rb]", lambda it: shown_label(it, nothing), "none"),
+    ("label over CR, X, LF", b"a\rX\nb]", lambda it: shown_label(it, lambda rest: rest[:1] == b"X"), "none"),
+    ("label of which all is skipped", b"a\n]", lambda it: shown_label(it, len), "none"),
     ("tag of which all is skipped", b"<a\n>", tag_skipped, "none"),
-    ("blank line", b"\r\r\n", blank_line, "1"),
+    ("blank line", b"\r\r\n", shown_blank_line, "1"),
 ]
 
 
 def print_short():
+    # the same tag, where its second line begins with what is skipped, and where nothing is skipped
+    assert (tag(b"<a\n> >", lambda rest: 2), tag(b"<a\n>", nothing)) == ((b"<a\n>", 6), (b"<a\n>", 4))
     for name, text, answer, whole in SHORT:
         assert answer(text) == whole
         for side in SIDES[:2]:

@@ -74,7 +74,10 @@ def say_of_row(crate, row):
 def say_of_lemmas(text, rows):
     """Lemmas for callers that no row of their section names."""
     heads = {name for row in rows for name in row[1]}
-    for crate in re.findall(r"(?m)^## .*`(\w+)::proofs::ForCallers`", text):
+    sections = re.findall(r"(?m)^## .*`(\w+)::proofs::ForCallers`", text)
+    if not sections:
+        yield "no section of lemmas was found"
+    for crate in sections:
         for line in re.findall(r"\{([^}]*)\}", text_of(f"crates/{crate}/proofs/ForCallers.antt")):
             yield from [f"no row names the lemma {it.strip()}" for it in line.split(",") if it.strip() not in heads]
 

@@ -1,15 +1,35 @@
-"""The cases of cmark_refusals: each request refused in turn, alone or with all that follow it."""
+"""The cases of cmark_refusals: each request refused in turn, alone or with all that follow it.
+
+The file `cases` names them, and says how many calls of each must be seen refused.
+"""
 
 READY = b"ready\n"
-# How many of its calls a case must see refused, where that isn't each: a `String` keeps its memory, a new label takes
-# none, and a spine has room for a few nodes.
-REFUSED = {"link_label_new": 0, "text_from_string": 0, "tree_push": 2}
+TOO_MANY = 10_000
+
+
+class Case:
+    """A case, what it prints with ample memory, and how many of its calls must be seen refused; None where no call of it
+    asks for memory."""
+
+    def __init__(self, name, wanted, calls):
+        self.name, self.wanted, self.calls = name, wanted, calls
 
 
 def sections(text):
     """What the stored run has for each case, by its name."""
     parts = text.split(b"case ")[1:]
     return {part.split(b"\n")[0].decode(): b"case " + part for part in parts}
+
+
+def cases_of(top):
+    """The cases, which the file `cases` and the stored run must both have, in one order."""
+    rows = [line.split() for line in (top / "faults/cases").read_text().splitlines() if not line.startswith("#")]
+    stored = sections((top / "crates/cmark_refusals/stdout").read_bytes())
+    named = [name for name, _ in rows]
+    if named != list(stored) or not named:
+        missing = sorted(set(named) ^ set(stored)) or named
+        raise SystemExit(f"faults: the file cases and the stored run of cmark_refusals don't name the same cases: {' '.join(missing)}")
+    return [Case(name, stored[name], None if calls == "none" else int(calls)) for name, calls in rows]
 
 
 def without_refusals(out):
@@ -42,39 +62,43 @@ def calls_refused(run, ample, are_all_refused):
     return calls if bool(calls) == ends_in_refusal and are_all_refused >= bool(calls) else None
 
 
-def refused_in_turn(program, case, ample, tally):
+def refused_in_turn(program, case, how, ample, tally):
     """Refuses the first, second, .. request until a run makes fewer. Answers which calls were refused."""
     seen = set()
-    for how in ("refuse", "refuse_from"):
-        for n in range(1, 10_000):
-            run = program.run([case], **{how: n})
-            calls = calls_refused(run, ample, how == "refuse_from")
-            tally.check(f"{program.name} {case}, {how} {n}", calls is not None, run)
-            if run.told is None or not run.told["refused"]:
-                tally.check(f"{program.name} {case}, with nothing refused at {n}", run.same_as(ample), run)
-                break
-            seen.update(calls or [])
+    for n in range(1, TOO_MANY):
+        run = program.run([case.name], **{how: n})
+        calls = calls_refused(run, ample, how == "refuse_from")
+        tally.check(f"{program.name} {case.name}, {how} {n}", calls is not None, run)
+        if run.count("refused") < 1:
+            tally.check(f"{program.name} {case.name}, with nothing refused at {n}", run.told and run.same_as(ample), run)
+            return seen
+        seen.update(calls or [])
+    tally.check(f"{program.name} {case.name}, {how}: there is no end", False)
     return seen
 
 
-def run_case(program, case, wanted, tally):
-    ample = program.run([case])
-    well = (ample.out, ample.err, ample.status) == (wanted, b"", 0)
-    tally.check(f"{program.name} {case}, with ample memory", well, ample)
+def run_case(program, case, tally):
+    ample = program.run([case.name])
+    well = (ample.out, ample.err, ample.status) == (case.wanted, b"", 0)
+    tally.check(f"{program.name} {case.name}, with ample memory", well, ample)
+    tally.check(f"{program.name} {case.name}, what refuse.c told", ample.told is not None, ample)
     if not ample.told:
         return
-    seen = refused_in_turn(program, case, ample, tally)
-    ready, requests = ample.told["at_ready"], ample.told["requests"]
-    if case.startswith("no_memory"):
-        tally.check(f"{program.name} {case}, requests after `ready`", requests == ready, ample)
-        run = program.run([case], refuse_from=ready + 1)
-        tally.check(f"{program.name} {case}, all refused after `ready`", run.same_as(ample), run)
-        return
-    least = REFUSED.get(case, wanted.count(READY))
-    well = len(seen) >= least
-    tally.check(f"{program.name} {case}, calls that were refused", well, why=f"{len(seen)} of {least}")
-    if case.endswith("_900"):
+    turns = [refused_in_turn(program, case, how, ample, tally) for how in ("refuse", "refuse_from")]
+    seen = set().union(*turns)
+    tally.check(f"{program.name} {case.name}, calls that were refused", len(seen) == (case.calls or 0), why=f"{len(seen)}")
+    if case.calls is None:
+        without_memory(program, case, ample, tally)
+    if case.name.endswith("_900"):
         ask_once(program, case, ample, tally)
+
+
+def without_memory(program, case, ample, tally):
+    """Nothing is asked for after `ready`, and all may be refused from there on."""
+    ready = ample.told["at_ready"]
+    tally.check(f"{program.name} {case.name}, requests after `ready`", ample.told["requests"] == ready, ample)
+    run = program.run([case.name], refuse_from=ready + 1)
+    tally.check(f"{program.name} {case.name}, all refused after `ready`", run.told and run.same_as(ample), run)
 
 
 def ask_once(program, case, ample, tally):
@@ -82,14 +106,18 @@ def ask_once(program, case, ample, tally):
     the second refused, there is none."""
     ready = ample.told["at_ready"]
     once = ample.told["requests"] == ready + 1 and ample.told["last_size"] == 900
-    tally.check(f"{program.name} {case}, requests of the call", once, ample)
-    first, second = (program.run([case], refuse=ready + n) for n in (1, 2))
+    tally.check(f"{program.name} {case.name}, requests of the call", once, ample)
+    first, second = (program.run([case.name], refuse=ready + n) for n in (1, 2))
     well = calls_refused(first, ample, False) == [1]
-    tally.check(f"{program.name} {case}, its first request refused", well, first)
-    well = second.same_as(ample) and not second.told["refused"]
-    tally.check(f"{program.name} {case}, its second request refused", well, second)
+    tally.check(f"{program.name} {case.name}, its first request refused", well, first)
+    well = second.same_as(ample) and second.count("refused") == 0
+    tally.check(f"{program.name} {case.name}, its second request refused", well, second)
 
 
-def run_cases(program, stored, tally):
-    for case, wanted in sections(stored).items():
-        run_case(program, case, wanted, tally)
+def run_cases(program, cases, tally):
+    """Runs each case, and once the program without a name: it has these cases and no others."""
+    run = program.run([])
+    whole = (b"".join(it.wanted for it in cases), b"", 0)
+    tally.check(f"{program.name}, all cases", (run.out, run.err, run.status) == whole, run)
+    for case in cases:
+        run_case(program, case, tally)

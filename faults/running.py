@@ -1,4 +1,4 @@
-"""One run of a built program under refuse.c, and what became of it."""
+"""One run of a built program under refuse.c, what became of it, and which builds are run."""
 import os
 import resource
 import subprocess
@@ -7,6 +7,8 @@ from pathlib import Path
 
 TOP = Path(__file__).resolve().parent.parent
 SECONDS = 60
+# How the file of a build is called: as LLVM makes it, and as Rattle's own compiler does.
+ENDS = ("", ".by-rattle")
 
 
 class Run:
@@ -16,6 +18,10 @@ class Run:
         self.out, self.err, self.status = out, err, status
         numbers = [line.split() for line in told.splitlines()]
         self.told = {name: int(number) for name, number in numbers} or None
+
+    def count(self, name):
+        """What was told by a name, or -1 where nothing was."""
+        return self.told[name] if self.told else -1
 
     def same_as(self, other):
         return (self.out, self.err, self.status) == (other.out, other.err, other.status)
@@ -71,7 +77,7 @@ class Program:
 
 
 class Tally:
-    """How many runs were as they must be, and how many not."""
+    """How many checks were as they must be, and how many not."""
 
     def __init__(self):
         self.passed = self.failed = 0
@@ -83,22 +89,38 @@ class Tally:
         self.failed += 1
         print(f"FAILED: {name}{f': {why}' if why else ''}{f': {run}' if run else ''}", flush=True)
 
+    def add(self, other):
+        self.passed, self.failed = self.passed + other.passed, self.failed + other.failed
+
 
 def newest_source(crates):
     files = [it for name in crates for it in (TOP / "crates" / name / "src").rglob("*.rt")]
     return max(it.stat().st_mtime for it in files)
 
 
-def programs(crate, below, words, library):
-    """The builds of a crate's program: as LLVM makes it, and as Rattle's own compiler does where the gate left that. It is
-    proved and built first where it is not there or is older than what it is made of."""
-    folder = TOP / "crates" / crate
-    built, since = folder / "out" / crate, newest_source([crate, *below])
-    if not built.is_file() or built.stat().st_mtime < since:
-        print(f"proving and building {crate}", flush=True)
-        how = {"stdin": subprocess.DEVNULL, "stdout": subprocess.PIPE, "stderr": subprocess.STDOUT}
-        ran = subprocess.run(["rt", "run", "--", *words], cwd=folder, **how)
-        if ran.returncode:
+def files_of(crate):
+    return [TOP / "crates" / crate / "out" / f"{crate}{end}" for end in ENDS]
+
+
+def lacking(crate, below):
+    """Why a build of the crate's program can't be run, or None: it isn't there, or is older than what it is made of."""
+    since = newest_source([crate, *below])
+    for it in files_of(crate):
+        if not it.is_file():
+            return f"{it} is not there"
+        if it.stat().st_mtime < since:
+            return f"{it} is older than its sources"
+    return None
+
+
+def build(crate, words):
+    """Proves the crate's program and builds it, by Rattle's own compiler and by LLVM."""
+    print(f"proving and building {crate}", flush=True)
+    by_llvm, by_rattle = files_of(crate)
+    how = {"cwd": TOP / "crates" / crate, "stdin": subprocess.DEVNULL, "stdout": subprocess.PIPE, "stderr": subprocess.STDOUT}
+    for flags in (["--backend", "rattle"], ["--backend", "llvm"]):
+        ran = subprocess.run(["rt", "run", *flags, "--", *words], **how)
+        if ran.returncode or not by_llvm.is_file():
             raise SystemExit(f"{ran.stdout.decode(errors='replace')}\nfaults: {crate} was not built")
-    both = [built, built.with_name(f"{crate}.by-rattle")]
-    return [Program(it, library) for it in both if it.is_file() and it.stat().st_mtime >= since]
+        if "rattle" in flags:
+            by_llvm.replace(by_rattle)

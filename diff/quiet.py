@@ -1,0 +1,243 @@
+"""What the cases `no_memory_..` of cmark_refusals tell: the answers of calls that take no memory. refusals.py says where each
+comes from."""
+import answers
+from cuts import CLOSERS, bytes_passed, find_at, least_closers
+from shown import INLINED, Plain, Value, borrowed, copied, index, link, some, told
+from telling import KNOWN, OF_30, STREET, html_steps, quote, told_label, told_tag
+from trees import nested
+
+OF_22, OF_23 = OF_30[:22], OF_30[:23]
+TABLE = Value("Table", [Value("None"), Value("Center")])
+
+
+# Texts. Equal texts have one hash, and a copy is equal.
+
+def inlined(text):
+    return (text, True) if len(text.encode()) <= INLINED else "too long"
+
+
+def texts():
+    return [
+        inlined(OF_22), inlined(OF_23), Plain("🍔 true"), (told("borrowed", OF_30), True, True),
+        (told("inlined", "藏"), True, True), told("inlined", "a"), copied(OF_22),
+    ]
+
+
+# Kinds of code blocks, levels, links, tags and events.
+
+def values():
+    is_indented = lambda kind: (kind == "indented", kind == "fenced")
+    level = lambda number: Plain(f"h{number}" if 1 <= number <= 6 else f"not {number}")
+    return [
+        *map(is_indented, ("indented", "fenced", "fenced")), level(3), level(7), Value("CollapsedUnknown"), Value("Link"),
+        Value("List", True), link(borrowed(OF_30)), Value("Text", borrowed(OF_30)), Value("TaskListMarker", True),
+        Value("End", Value("Table")),
+    ]
+
+
+# Options, by their bits: from 2 on, and old footnotes are footnotes with a bit of their own.
+
+TABLES, FOOTNOTES, MATH, GFM = 1 << 1, 1 << 2, 1 << 10, 1 << 11
+OLD_FOOTNOTES = FOOTNOTES | 1 << 9
+ALL = sum(1 << bit for bit in range(1, 16))
+
+
+def options():
+    is_known = lambda bits: bits & ~ALL == 0
+    is_gfm = lambda bits: bits & FOOTNOTES == FOOTNOTES and bits & OLD_FOOTNOTES != OLD_FOOTNOTES
+    six = TABLES | FOOTNOTES
+    three = TABLES | MATH | GFM
+    return [
+        (0, ALL), (is_known(1), is_known(512)), (7 & ALL, 7), (True, True),
+        (FOOTNOTES & OLD_FOOTNOTES == OLD_FOOTNOTES, FOOTNOTES & OLD_FOOTNOTES != 0),
+        (is_gfm(FOOTNOTES), is_gfm(OLD_FOOTNOTES)), (six, six & OLD_FOOTNOTES), OLD_FOOTNOTES & ~FOOTNOTES,
+        six ^ OLD_FOOTNOTES, ~six & ALL, three, three & ~TABLES ^ MATH,
+    ]
+
+
+# Starts of lines.
+
+def of_line(line, *calls):
+    """What calls answer on the start of a line; a call without an answer tells nothing."""
+    start, found = answers.LineStart(line), []
+    for name, *words in calls:
+        found.append(getattr(start, name)(*words))
+    return found
+
+
+def lines():
+    is_three = lambda taken: taken == 3
+    taken, is_at_end, one, two, after, _, last = of_line(
+        b"\t \tx", ("upto", 3), ("is_at_end",), ("seen",), ("upto", 2), ("seen",), ("all_space",), ("seen",))
+    found = [(is_three(taken), is_at_end), one, two, after, last]
+    quote, taken, item, seen = of_line(b">\t\t- x", ("quote",), ("upto", 9), ("list", 1), ("seen",))
+    found += [quote, taken, some(item), seen]
+    indent, seen = of_line(b":\tx", ("definition", 0), ("seen",))
+    found += [some(indent), seen]
+    box, seen = of_line(b"\t[x] a", ("task",), ("seen",))
+    found += [some(box), seen]
+    alert, seen = of_line(b"[!Note]  \nx", ("alert",), ("seen",))
+    return found + [some(alert and Value(alert)), seen]
+
+
+# Scanners of lines.
+
+def classes(byte):
+    """Whether a byte is white space, white space that ends no line, punctuation."""
+    classes_of = (rb"[ \t-\r]", answers.INLINE_SPACE, answers.PUNCTUATION)
+    return tuple(answers.length_of(it, byte) is not None for it in classes_of)
+
+
+def run_of(text, byte):
+    return len(text) - len(text.lstrip(byte))
+
+
+def scanners():
+    level, setext = answers.atx_level(b"###"), answers.setext(b"==  \nx")
+    broken, other = answers.thematic_break(b"* * *\n"), answers.thematic_break(b"- -x-")
+    assert other is None
+    return [
+        *map(classes, (b"\n", b" ", b"-", b"a")),
+        int(b"ab".startswith(b"a")), run_of(b"aab", b"a"), run_of(b"aab", b"a"), run_of(b"baa"[::-1], b"a"),
+        answers.length_of(answers.INLINE_SPACE + b"*", b" \tx"),
+        some(answers.eol(b"\rx")), some(answers.blank_line(b"\r\r\n")), b"a\rb\nc".index(b"\n") + 1,
+        some(answers.length_of(b"> ?", b"> ")), Value("Ok", broken), Value("Err", answers.break_length(b"- -x-")),
+        answers.indent(b"\t x", 4), some(Value(f"H{level}")), some((setext[0], Value(f"H{setext[1]}"))),
+        some(answers.code_fence(b"~~~a`")), some(answers.closing_code_fence(b"````  \n", ord("`"), 3)),
+        some(answers.metadata_block(b"---\na: b\n---\n", ord("-"))), some(answers.closing_metadata(b"--- \n", ord("-"))),
+        some(answers.list_item(b"-   x")), some(answers.list_item(b"1844674407370955161615!")),
+    ]
+
+
+# Scanners of inline text, and what the calls that may want memory answer without it.
+
+def told_reference(text):
+    found = answers.reference(text, KNOWN)
+    if not found:
+        return 0, some(None)
+    variant = "borrowed" if found[1] in KNOWN.values() else "inlined"
+    return found[0], some(told(variant, found[1]))
+
+
+def told_destination(text, max_next):
+    length = answers.destination(text, max_next)
+    return some(None if length is None else (length, text[:length].decode()))
+
+
+def inline():
+    end, address = answers.uri(b"https://a.b>", 0)
+    plain = "plain & simple"
+    assert answers.unescaped(plain.encode(), KNOWN) == plain
+    return [
+        *map(told_reference, ("&#x1F354;".encode(), b"&amp;", b"&#12345678;")),
+        some(answers.wikilink(b"a|b]]", 0, 3)), told_destination(b"((a))", 1), told_destination(b"(((a)))", 1),
+        some((end, borrowed(address), Value("Autolink"))), answers.is_block_name(b"DIV>"),
+        some(answers.tag_alone(b"<a b=\t'c'>  \n")), told_tag(b"<foo bar>", None), told_tag(b"</a\n>", None),
+        told_tag(b"<a\nb\nc>", quote), told_tag(b"</a\n\n> >", quote), told("borrowed", plain),
+        answers.table_head(b"| a |"), *map(told_label, (b"a\\ ]", b" a b ]", b"a  b", b"a\n\nb]")),
+    ]
+
+
+# Inline HTML under a guard, of which a scan of a comment keeps the place of its closer's second hyphen, and the text's length
+# where a search finds no closer.
+
+def guarded(text, kind, number=0):
+    """A scan just after the first opener, where nothing is shut: what it answers, the guard's number for the kind, and the
+    bytes passed over."""
+    closers = least_closers(text)
+    begun, found = find_at(text, closers, 2)
+    assert begun == kind
+    if found is None:
+        number = len(text)
+    elif kind == "comment":
+        number = found - len(CLOSERS[kind]) + 1
+    return some(found), number, bytes_passed(text, 2, kind, found, set())
+
+
+def steps(text, places):
+    """The answer of each step, then the bytes passed over and the number of steps that were not refused."""
+    made = list(html_steps(text, places))
+    told_steps = [Value("Err", Value(why)) if why else Value("Ok", some(found)) for why, found, _ in made]
+    return [*told_steps, (made[-1][2], sum(not why for why, _, _ in made))]
+
+
+def inline_html():
+    comment, cdata = guarded(b"<!--->", "comment"), guarded(b"<![CDATA[a]>b]]>", "cdata")
+    processing = guarded(b"<?>", "processing")
+    text = b"<!a-->b"
+    hit = text.index(b"-->")
+    # one byte is looked at, three are compared, and a search passes over all up to the end of its hit
+    passed = 1 + 3 + hit + 3
+    return [
+        comment[:2], cdata[:2], (*processing[:2], 0), (len(text), some(text[1])), some(text[2]), text[3:6] == b"-->",
+        some(hit), passed, guarded(b"<!--<?a?>", "comment"), guarded(b"<?a?>", "processing"),
+        *steps(b"<!-- a <!-- b --> <!-- c", [2, 9, 2, 20, 1]),
+    ]
+
+
+def labels():
+    """A label has its text, and two whose texts have one case folding match and have one hash."""
+    match = STREET.casefold() == f"STRASSE {OF_30.upper()}".casefold()
+    return [(True, match, match)]
+
+
+# Trees of ranges.
+
+def linked(number):
+    """The index of a node, or of none."""
+    return some(index(number) if number else None)
+
+
+def told_spine(tree):
+    up, grandparent = (tree.spine[-at] if len(tree.spine) >= at else None for at in (1, 2))
+    return [linked(tree.focus), *tree.spine, len(tree.spine), (linked(up), linked(grandparent)), not tree.nodes]
+
+
+def tree_index():
+    number = nested([0, 9]).focus
+    return [(number, linked(number + 1), linked(number - 1))]
+
+
+def tree():
+    it = nested([0, 9], [0, 8], [0, 3])
+    it.append([3, 8])
+    found = told_spine(it)
+    it.nodes[3][0][1] = 4
+    found += [(it.nodes[3][0][1], linked(it.nodes[3][2])), linked(it.pop())]
+    it.truncate_to_parent(3)
+    found.append((linked(it.focus), linked(it.nodes[2][2])))
+    it.nodes[4][1], it.nodes[2][2] = 3, None
+    found += [(linked(it.nodes[4][1]), linked(it.nodes[2][2])), linked(it.next_sibling(1))]
+    it.reset()
+    return found + told_spine(it)
+
+
+def remove_node():
+    it = nested([0, 9], [0, 8])
+    return [linked(it.remove_node()), *told_spine(it)]
+
+
+def truncate_siblings():
+    it = nested([0, 9], [3, 8])
+    it.cut_children(4)
+    return [(index(it.focus), *it.nodes[it.focus][0]), *told_spine(it)]
+
+
+QUIET = {
+    "texts": texts,
+    "copied_short_text": lambda: [(copied(OF_22), True, True)],
+    "static_owned_text": lambda: [told("boxed", OF_30)],
+    "owned_string": lambda: [OF_30[:15]],
+    "values": values,
+    "static_table": lambda: [TABLE],
+    "options": options,
+    "lines": lines,
+    "scanners": scanners,
+    "inline": inline,
+    "inline_html": inline_html,
+    "labels": labels,
+    "tree_index": tree_index,
+    "tree": tree,
+    "remove_node": remove_node,
+    "truncate_siblings": truncate_siblings,
+}

@@ -1,0 +1,95 @@
+"""How Rust's derived `Debug` shows values, and the values of `markdown_values` by their types."""
+
+
+class Value:
+    """A variant or a struct: its name, and its parts in order or by name."""
+
+    def __init__(self, name, *parts, **fields):
+        self.name, self.parts, self.fields = name, parts, fields
+
+
+def some(value):
+    """A value or None, as an Option."""
+    return Value("None") if value is None else Value("Some", value)
+
+
+ESCAPED = {"\\": "\\\\", '"': '\\"', "\t": "\\t", "\n": "\\n", "\r": "\\r"}
+
+
+def shown(value):
+    """The text of `{:?}`."""
+    if isinstance(value, bool):
+        return "true" if value else "false"
+    if isinstance(value, (int, float)):
+        return str(value)
+    if isinstance(value, str):
+        return '"' + "".join(ESCAPED.get(it, it) for it in value) + '"'
+    if isinstance(value, list):
+        return "[" + ", ".join(map(shown, value)) + "]"
+    if isinstance(value, tuple):
+        return "(" + ", ".join(map(shown, value)) + ")"
+    if value.fields:
+        return f"{value.name} {{ " + ", ".join(f"{name}: {shown(it)}" for name, it in value.fields.items()) + " }"
+    return value.name + (shown(value.parts) if value.parts else "")
+
+
+class Plain:
+    """Shown as this text."""
+
+    def __init__(self, text):
+        self.name, self.parts, self.fields = text, (), {}
+
+
+# Texts: which are owned, lent, or lie in the value itself, which has room for 22 bytes.
+
+INLINED = 22
+
+
+def boxed(text):
+    return Value("Boxed", Value("BoxedStr", string=text))
+
+
+def borrowed(text):
+    return Value("Borrowed", text)
+
+
+def told(variant, text):
+    """A text that is told with its variant."""
+    return Plain(f"{variant} {shown(text)}")
+
+
+def copied(text):
+    """How a text that is copied from an owned one is told."""
+    return told("inlined" if len(text.encode()) <= INLINED else "boxed", text)
+
+
+# Tags, by the text in each place of them.
+
+def fenced(text):
+    return Value("Fenced", text)
+
+
+def code_block(text):
+    return Value("CodeBlock", fenced(text))
+
+
+def footnote(text):
+    return Value("FootnoteDefinition", text)
+
+
+def heading(text):
+    """Of level 2 with an identifier, two classes and two attributes, of which one has a value."""
+    attributes = [(text, some(text)), (text, some(None))]
+    return Value("Heading", level=Value("H2"), id=some(text), classes=[text, text], attrs=attributes)
+
+
+def link(text):
+    return Value("Link", link_type=Value("Inline"), dest_url=text, title=text, id=text)
+
+
+def image(text):
+    return Value("Image", link_type=Value("Email"), dest_url=text, title=text, id=text)
+
+
+def index(number):
+    return Value("TreeIndex", value=number)
