@@ -39,6 +39,15 @@ static void lines(void) {
     SAME(mds_scan_blockquote_start(NULL, 0), MDS_NONE);
 }
 
+static void no_item(int line, struct mds_list_item item) {
+    same(line, "length", item.length, MDS_NONE);
+    same(line, "start", item.start, 0);
+    same(line, "indent", item.indent, 0);
+    same(line, "delimiter", item.delimiter, 0);
+}
+
+#define NO_ITEM(item) no_item(__LINE__, item)
+
 static void items(void) {
     struct mds_list_item item = mds_scan_listitem(OF("-   x"));
     SAME(item.length, 4), SAME(item.delimiter, '-'), SAME(item.start, 0), SAME(item.indent, 4);
@@ -46,9 +55,9 @@ static void items(void) {
     SAME(item.length, 3), SAME(item.delimiter, '.'), SAME(item.start, 1), SAME(item.indent, 3);
     item = mds_scan_listitem(OF("-\n"));
     SAME(item.length, 1), SAME(item.delimiter, '-'), SAME(item.start, 0), SAME(item.indent, 2);
-    SAME(mds_scan_listitem(OF("-x")).length, MDS_NONE);
-    SAME(mds_scan_listitem(OF("1844674407370955161615!")).length, MDS_NONE);
-    SAME(mds_scan_listitem(NULL, 0).length, MDS_NONE);
+    NO_ITEM(mds_scan_listitem(OF("-x")));
+    NO_ITEM(mds_scan_listitem(OF("1844674407370955161615!")));
+    NO_ITEM(mds_scan_listitem(NULL, 0));
 }
 
 static void indents(void) {
@@ -84,17 +93,25 @@ static void breaks_and_headings(void) {
     SAME(underline.length, 5), SAME(underline.level, 1);
     underline = mds_scan_setext_heading(OF("-"));
     SAME(underline.length, 1), SAME(underline.level, 2);
-    SAME(mds_scan_setext_heading(OF("=-")).length, MDS_NONE);
-    SAME(mds_scan_setext_heading(NULL, 0).length, MDS_NONE);
+    underline = mds_scan_setext_heading(OF("=-"));
+    SAME(underline.length, MDS_NONE), SAME(underline.level, 0);
+    underline = mds_scan_setext_heading(NULL, 0);
+    SAME(underline.length, MDS_NONE), SAME(underline.level, 0);
 }
 
+static void fence_is(int line, struct mds_fence fence, size_t length, uint8_t byte) {
+    same(line, "length", fence.length, length);
+    same(line, "byte", fence.byte, byte);
+}
+
+#define FENCE(fence, length, byte) fence_is(__LINE__, fence, length, byte)
+#define NO_FENCE(fence) fence_is(__LINE__, fence, MDS_NONE, 0)
+
 static void fences(void) {
-    struct mds_fence fence = mds_scan_code_fence(OF("~~~a`"));
-    SAME(fence.length, 3), SAME(fence.byte, '~');
-    fence = mds_scan_code_fence(OF("```rs\n`"));
-    SAME(fence.length, 3), SAME(fence.byte, '`');
-    SAME(mds_scan_code_fence(OF("```a`\n")).length, MDS_NONE);
-    SAME(mds_scan_code_fence(NULL, 0).length, MDS_NONE);
+    FENCE(mds_scan_code_fence(OF("~~~a`")), 3, '~');
+    FENCE(mds_scan_code_fence(OF("```rs\n`")), 3, '`');
+    NO_FENCE(mds_scan_code_fence(OF("```a`\n")));
+    NO_FENCE(mds_scan_code_fence(NULL, 0));
     SAME(mds_scan_closing_code_fence(OF("````  \n"), '`', 3), 6);
     SAME(mds_scan_closing_code_fence(OF("```\t \n"), '`', 3), 5);
     SAME(mds_scan_closing_code_fence(OF("``\n"), '`', 3), MDS_NONE);
@@ -104,16 +121,13 @@ static void fences(void) {
 }
 
 static void metadata(void) {
-    struct mds_fence fence = mds_scan_metadata_block(OF("---\na: b\n---\n"), true, false);
-    SAME(fence.length, 3), SAME(fence.byte, '-');
-    fence = mds_scan_metadata_block(OF("---\na\n..."), true, false);
-    SAME(fence.length, 3), SAME(fence.byte, '-');
-    fence = mds_scan_metadata_block(OF("+++\na\n+++"), true, true);
-    SAME(fence.length, 3), SAME(fence.byte, '+');
-    SAME(mds_scan_metadata_block(OF("---\na\n---"), false, true).length, MDS_NONE);
-    SAME(mds_scan_metadata_block(OF("---\n---\n"), true, true).length, MDS_NONE);
-    SAME(mds_scan_metadata_block(OF("+++\na\n..."), true, true).length, MDS_NONE);
-    SAME(mds_scan_metadata_block(NULL, 0, true, true).length, MDS_NONE);
+    FENCE(mds_scan_metadata_block(OF("---\na: b\n---\n"), true, false), 3, '-');
+    FENCE(mds_scan_metadata_block(OF("---\na\n..."), true, false), 3, '-');
+    FENCE(mds_scan_metadata_block(OF("+++\na\n+++"), true, true), 3, '+');
+    NO_FENCE(mds_scan_metadata_block(OF("---\na\n---"), false, true));
+    NO_FENCE(mds_scan_metadata_block(OF("---\n---\n"), true, true));
+    NO_FENCE(mds_scan_metadata_block(OF("+++\na\n..."), true, true));
+    NO_FENCE(mds_scan_metadata_block(NULL, 0, true, true));
     SAME(mds_scan_closing_metadata_block(OF("--- \n"), '-'), 4);
     SAME(mds_scan_closing_metadata_block(OF("...."), '-'), MDS_NONE);
     SAME(mds_scan_closing_metadata_block(OF("..."), '+'), MDS_NONE);
