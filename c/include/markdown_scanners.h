@@ -17,16 +17,17 @@
  * from 0. Columns and indents are in columns of a line whose tabs go to stops of four (2.2).
  *
  * Answers. A length or a place that there may be none of is `MDS_NONE` where there is none. Calls that can refuse what
- * they are given answer a struct with a field `status` of `enum mds_status`: `MDS_OK` where there is an answer,
- * `MDS_NOTHING` where nothing of the kind stands there, and else why they refused. The other fields mean something
- * where the comment of the struct says so, and are 0 otherwise.
+ * they are given answer a status of `enum mds_status`, most as the field `status` of a struct: `MDS_OK` where there is
+ * an answer, `MDS_NOTHING` where nothing of the kind stands there, and else why they refused. The other fields mean
+ * something where the comment of the struct says so, and are 0 otherwise.
  *
  * Memory and threads. Texts that are made go into the caller's buffer. Where it is too short it is left as it was, and
  * `length` says how many bytes it needs; so a first call with no buffer (null and 0) asks for the length. No call keeps
  * memory or a pointer, or has state, so calls may run in any threads at once. Those that ask the C library for memory
- * within the call say so, free it before they return, and answer `MDS_NO_MEMORY` where it was refused. They must not be
- * called in a signal handler, or in the forked child of a process with threads; and `malloc`, `realloc` and `free` must
- * be of one allocator, which aligns a block to each power of two up to 16 that divides its size.
+ * within the call say so, free it before they return, and answer `MDS_NO_MEMORY` where they can't do without what was
+ * refused. They must not be called in a signal handler, or in the forked child of a process with threads; and `malloc`,
+ * `realloc` and `free` must be of one allocator, which aligns a block to each power of two up to 16 that divides its
+ * size.
  */
 #ifndef MARKDOWN_SCANNERS_H
 #define MARKDOWN_SCANNERS_H
