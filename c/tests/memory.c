@@ -208,6 +208,7 @@ static void sparing(void) {
     ASKS_NOT(mds_scan_link_label(OF("a  b"), false, NULL, 0).status, MDS_NOTHING);
     ASKS_NOT(mds_scan_link_label(OF("a  b]\xff"), false, NULL, 0).status, MDS_NOT_UTF8);
     ASKS_NOT(mds_scan_table_head(OF("a | b"), NULL, 0).status, MDS_NOTHING);
+    ASKS_NOT(mds_scan_table_head(OF("- - -"), NULL, 0).status, MDS_NOTHING);
     ASKS_NOT(mds_run_line(OF("x"), (const struct mds_line_call[]){{6, 0}}, 1, NULL, 0, NULL, 0).status, MDS_BAD_KIND);
 }
 

@@ -164,6 +164,8 @@ static void destinations(void) {
     NO_PART(mds_scan_link_dest(OF("a"), SIZE_MAX, 9), MDS_PAST_END);
     NO_PART(mds_scan_link_dest(OF("a\xff"), 0, 9), MDS_NOT_UTF8);
     NO_PART(mds_scan_link_dest(OF("\xc3\xa9"), 1, 9), MDS_NOT_BOUNDARY);
+    NO_PART(mds_scan_link_dest(OF("\xc3\xa9\xff"), 1, 9), MDS_NOT_UTF8);
+    NO_PART(mds_scan_link_dest(OF("\xff"), 2, 9), MDS_PAST_END);
     PART(mds_scan_link_dest(OF("\xc3\xa9"), 2, 9), 2, 2, 0);
 }
 

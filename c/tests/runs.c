@@ -35,6 +35,7 @@ static void html_runs(void) {
     HTML_RUN("<!-- <!x> <!-- <![CDATA[ ]]>", SIZES(2, 7, 12, 17), MDS_OK, SIZES(MDS_NONE, 9, MDS_NONE, 28));
     HTML_RUN("<!a>", SIZES(2, 2), MDS_NOT_RISING, SIZES(4));
     HTML_RUN("<!a><?b?>", SIZES(6, 2), MDS_NOT_RISING, SIZES(9));
+    HTML_RUN("<!a>", SIZES(2, 1), MDS_NO_OPENER, SIZES(4));
     HTML_RUN("<!-- a <!-- b --> <!-- c", SIZES(2, 9), MDS_INSIDE_FIND, SIZES(17));
     HTML_RUN("<?a?>", SIZES(2, SIZE_MAX), MDS_NO_OPENER, SIZES(5));
     HTML_RUN("<?a?>", SIZES(1), MDS_NO_OPENER, NONE_OF(size_t));
@@ -103,6 +104,7 @@ static void line_runs(void) {
         ANSWERS({true, 0, 0, 2}, {true, 0, 0, 0}, {false, 0, 0, 0}));
     LINE_RUN(" x", CALLS({MDS_SPACE, 2}, {MDS_SPACE, 0}), MDS_OK, 1, "x", ANSWERS({false, 0, 0, 0}, {true, 0, 0, 0}));
     LINE_RUN(">\t- x", CALLS({MDS_QUOTE, 0}, {MDS_LIST, 0}), MDS_SPACE_PENDING, 2, "  - x", ANSWERS({true, 0, 0, 0}));
+    LINE_RUN(">\t- x", CALLS({MDS_QUOTE, 0}, {MDS_LIST, SIZE_MAX}), MDS_SPACE_PENDING, 2, "  - x", ANSWERS({true, 0, 0, 0}));
     LINE_RUN(">\t- x", CALLS({MDS_QUOTE, 0}, {MDS_UPTO, 3}, {MDS_LIST, 2}), MDS_OK, 4, "x",
         ANSWERS({true, 0, 0, 0}, {true, 0, 0, 2}, {true, '-', 0, 4}));
     LINE_RUN("a\tb\n\tc", CALLS({MDS_QUOTE, 0}), MDS_OK, 0, "a   b\n\tc", ANSWERS({false, 0, 0, 0}));
