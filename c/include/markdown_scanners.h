@@ -3,25 +3,31 @@
  * They stand over the library `markdown_scanners_tree`, and each is proved to answer what that library's definitions
  * say, after CommonMark 0.31.2 (https://spec.commonmark.org/0.31.2/), whose sections stand in brackets below. They are
  * scanners: each reads from the front of the bytes that it is given, or from a place in a text, and says what begins
- * there. None reads ahead for the next construct, so a caller goes through its document and asks.
+ * there. None looks for the next construct, so a caller goes through its document and asks.
  *
- * Bytes and texts. A pointer and a length in bytes go together; nothing has to end in a zero byte, and zero bytes are
- * read as any other. The pointer may be null where the length is 0. The bytes are read during the call alone, and
- * none is written but in a buffer. A buffer and the bytes of the same call must not overlap. What is named `bytes` may
- * be any bytes; what is named `text` must be UTF-8, and is refused where it is not.
+ * Bytes and texts. A pointer and a length go together; nothing has to end in a zero byte, and zero bytes are read as
+ * any other. The pointer may be null where the length is 0. What is given is read during the call alone, and nothing is
+ * written but in a buffer. What is named `bytes` may be any bytes; what is named `text`, `one` or `other` must be
+ * UTF-8. Each call looks through all of it, and refuses it where it is not.
  *
- * Units. Lengths and places are in bytes, places count from 0, and columns and indents are in columns of a line whose
- * tabs go to stops of four (2.2).
+ * Duties. No buffer may overlap another buffer or anything else that the call is given. A length or capacity is that of
+ * memory which is there, and its size in bytes is at most PTRDIFF_MAX. An array is aligned for its type.
+ *
+ * Units. Lengths, capacities and places are in bytes, those of an array of another type in its elements. Places count
+ * from 0. Columns and indents are in columns of a line whose tabs go to stops of four (2.2).
  *
  * Answers. A length or a place that there may be none of is `MDS_NONE` where there is none. Calls that can refuse what
- * they are given answer a struct with a field `status` of `enum mds_status`: `MDS_OK` where there is an answer,
- * `MDS_NOTHING` where nothing of the kind stands there, and else why they refused. The other fields mean something
- * where the comment of the struct says so, and are 0 otherwise.
+ * they are given answer a status of `enum mds_status`, most as the field `status` of a struct: `MDS_OK` where there is
+ * an answer, `MDS_NOTHING` where nothing of the kind stands there, and else why they refused. The other fields mean
+ * something where the comment of the struct says so, and are 0 otherwise.
  *
  * Memory and threads. Texts that are made go into the caller's buffer. Where it is too short it is left as it was, and
  * `length` says how many bytes it needs; so a first call with no buffer (null and 0) asks for the length. No call keeps
  * memory or a pointer, or has state, so calls may run in any threads at once. Those that ask the C library for memory
- * within the call say so, free it before they return, and answer `MDS_NO_MEMORY` where it was refused.
+ * within the call say so, free it before they return, and answer `MDS_NO_MEMORY` where they can't do without what was
+ * refused. They must not be called in a signal handler, or in the forked child of a process with threads; and `malloc`,
+ * `realloc` and `free` must be of one allocator, which aligns a block to each power of two up to 16 that divides its
+ * size.
  */
 #ifndef MARKDOWN_SCANNERS_H
 #define MARKDOWN_SCANNERS_H
@@ -29,6 +35,10 @@
 #include <stdbool.h>
 #include <stddef.h>
 #include <stdint.h>
+
+#if SIZE_MAX != UINT64_MAX
+#error "markdown_scanners.h is for 64-bit machines"
+#endif
 
 #ifdef __cplusplus
 extern "C" {
@@ -95,7 +105,7 @@ size_t mds_scan_blockquote_start(const uint8_t *bytes, size_t length);
 struct mds_list_item {
     size_t length;     /* bytes of the marker and of the white space behind it that belongs to it */
     size_t start;      /* the number of an ordered item, else 0 */
-    size_t indent;     /* columns from the marker to the item's text */
+    size_t indent;     /* columns of the marker and that space, at least one of it; tabs count from the marker's end */
     uint8_t delimiter; /* `-`, `+` or `*`; `.` or `)` of an ordered item */
 };
 
@@ -109,9 +119,9 @@ struct mds_indent {
     size_t columns; /* of the spaces and tabs that were counted */
 };
 
-/* The columns of the spaces and tabs at the front, up to `max`, which is SIZE_MAX / 4 at most. A space that fills `max`
- * columns is counted and ends the scan; a tab that would go past `max` ends it uncounted, as each other byte does.
- * (2.2) */
+/* The columns of the spaces and tabs at the front. A space that fills `max` columns is counted and ends the scan; a tab
+ * that would go past `max` ends it uncounted, as each other byte does. So spaces are counted on where `max` is 0, and
+ * behind a tab that fills it. `max` is SIZE_MAX / 4 at most. (2.2) */
 struct mds_indent mds_calc_indent(const uint8_t *bytes, size_t length, size_t max);
 
 /* ---- Runs of calls on the start of a line ---- */
@@ -150,8 +160,8 @@ struct mds_line_run {
  * first call that is refused: MDS_SPACE_PENDING where a tab is taken in part and the call takes no space, MDS_TOO_LARGE
  * where an indent is too large; else the status is MDS_OK. In all these cases the answers stand at the front of
  * `answers`, and what is left of the line, its tabs before the line ending written out, at the front of `rest`. Where
- * one of these has no room nothing is written, and the status is MDS_TOO_SHORT. MDS_BAD_KIND. Memory is asked for:
- * MDS_NO_MEMORY. (2.2) */
+ * one of these has no room nothing is written, and the status is MDS_TOO_SHORT. Where some call has no known kind none
+ * is made: MDS_BAD_KIND. Memory is asked for: MDS_NO_MEMORY. (2.2) */
 struct mds_line_run mds_run_line(
     const uint8_t *bytes, size_t length, const struct mds_line_call *calls, size_t call_count,
     struct mds_line_answer *answers, size_t capacity, uint8_t *rest, size_t rest_capacity);
@@ -182,12 +192,13 @@ struct mds_fence {
 /* The opening code fence at the front; its info string is not taken. (4.5) */
 struct mds_fence mds_scan_code_fence(const uint8_t *bytes, size_t length);
 
-/* The length of the closing code fence at the front, with the spaces behind it and without its line ending, of a fence
- * that was opened by `count` of the byte `fence`; or MDS_NONE. At the end of the bytes a fence closes too: 0. (4.5) */
+/* The length of the closing code fence at the front, with the spaces and tabs behind it and without its line ending, of
+ * a fence that was opened by `count` of the byte `fence`; or MDS_NONE. Of no bytes it is 0: the end closes a fence too.
+ * (4.5) */
 size_t mds_scan_closing_code_fence(const uint8_t *bytes, size_t length, uint8_t fence, size_t count);
 
-/* The opening line of a metadata block that a later line closes, of `---` where `yaml` is true and of `+++` where
- * `pluses` is. (An extension of pulldown-cmark) */
+/* The opening line of a metadata block, of `---` where `yaml` is true and of `+++` where `pluses` is. Its next line is
+ * neither blank nor closes it, and a later one does; they end at LF. (An extension of pulldown-cmark) */
 struct mds_fence mds_scan_metadata_block(const uint8_t *bytes, size_t length, bool yaml, bool pluses);
 
 /* The length of the line at the front that closes a metadata block opened by the byte `fence`, without its line
@@ -199,13 +210,13 @@ enum mds_alignment { MDS_ALIGN_NONE = 0, MDS_ALIGN_LEFT = 1, MDS_ALIGN_CENTER = 
 
 /* The delimiter row of a table at the front: `taken` is its length with the line ending, `length` how many columns it
  * has, whose alignments, each a number of enum mds_alignment, stand at the front of the buffer. MDS_NOTHING where there
- * is none. Memory is asked for: MDS_NO_MEMORY. (GitHub Flavored Markdown 0.29, 4.10) */
+ * is none. Memory is asked for, where there is one and elsewhere: MDS_NO_MEMORY. (GitHub Flavored Markdown 0.29, 4.10) */
 struct mds_text mds_scan_table_head(const uint8_t *bytes, size_t length, uint8_t *alignments, size_t capacity);
 
 /* ---- Parts of inline text ---- */
 
-/* A part of a text, where the status is MDS_OK. It is MDS_NOTHING where there is none; MDS_PAST_END, MDS_NOT_UTF8 or
- * MDS_NOT_BOUNDARY where the text or the place was refused. */
+/* A part of a text, where the status is MDS_OK. It is MDS_NOTHING where there is none; where the text or the place was
+ * refused it is the first that holds of MDS_PAST_END, MDS_NOT_UTF8 and MDS_NOT_BOUNDARY. */
 struct mds_part {
     uint32_t status;
     size_t end;    /* the place behind all that belongs to it */
@@ -218,11 +229,12 @@ struct mds_part {
  * (6.3) */
 struct mds_part mds_scan_link_dest(const uint8_t *text, size_t length, size_t start, size_t max_next);
 
-/* The absolute URI of the autolink whose `<` stands just before the place `start`; the end is behind its `>`. (6.5) */
+/* The absolute URI of the autolink whose `<`, at which the call doesn't look, stands just before the place `start`; the
+ * end is behind its `>`. (6.5) */
 struct mds_part mds_scan_autolink(const uint8_t *text, size_t length, size_t start);
 
-/* What stands before the first pipe of the `count` bytes from the place `start` on; the end is behind the pipe. (An
- * extension of pulldown-cmark) */
+/* What stands before the first pipe of the `count` bytes from the place `start` on, or of as many as there are; the end
+ * is behind the pipe. (An extension of pulldown-cmark) */
 struct mds_part mds_scan_wikilink_pipe(const uint8_t *text, size_t length, size_t start, size_t count);
 
 /* ---- HTML ---- */
@@ -231,8 +243,8 @@ struct mds_part mds_scan_wikilink_pipe(const uint8_t *text, size_t length, size_
  * `<`. (4.6) */
 bool mds_starts_html_block_type_6(const uint8_t *bytes, size_t length);
 
-/* The length of the open or closing tag at the front that stands alone in its line, or MDS_NONE. (4.6, start condition
- * 7) */
+/* The length of the open or closing tag at the front that stands alone in its line, whatever its name; or MDS_NONE.
+ * (4.6, start condition 7) */
 size_t mds_scan_html_type_7(const uint8_t *bytes, size_t length);
 
 /* The length of the open or closing tag at the front, which holds no line ending; or MDS_NONE. (6.6) */
@@ -248,36 +260,38 @@ struct mds_end {
  * (6.6) */
 struct mds_end mds_scan_inline_html(const uint8_t *bytes, size_t length, size_t place);
 
-/* What a run found. `count` is how many ends it found before it stopped, or 0 where memory was refused. */
+/* What a run found. `count` is at how many places it scanned before it stopped, or 0 where memory was refused. */
 struct mds_html_run {
     uint32_t status;
     size_t count;
 };
 
 /* The ends of what begins at each of the places in turn, as mds_scan_inline_html finds them, MDS_NONE where nothing does
- * or where it isn't closed. The run goes through the text once: for a text of n bytes and k places it passes over 4n + 8k
- * bytes at most, whatever the text. It stops before the first place that is refused: MDS_NO_OPENER, MDS_NOT_RISING, or
- * MDS_INSIDE_FIND where it is below the last end; else the status is MDS_OK. In all these cases the ends stand at the
- * front of `ends`; where it has no room for them, for which as many as there are places is enough, the status is
- * MDS_TOO_SHORT. Memory is asked for: MDS_NO_MEMORY. (6.6) */
+ * or where it isn't closed. The scans at k places of a text of n bytes pass over 4n + 8k bytes at most, whatever the
+ * text. The run stops before the first place that is refused, for the first reason that holds: MDS_NO_OPENER,
+ * MDS_NOT_RISING, or MDS_INSIDE_FIND where it is below the last end; else the status is MDS_OK. In all these cases the
+ * ends stand at the front of `ends`; where it has no room for them, for which as many as there are places is enough,
+ * nothing is written, and the status is MDS_TOO_SHORT. Memory is asked for: MDS_NO_MEMORY. (6.6) */
 struct mds_html_run mds_run_inline_html(
     const uint8_t *bytes, size_t length, const size_t *places, size_t place_count, size_t *ends, size_t capacity);
 
 /* ---- Texts that are made ---- */
 
 /* What the character reference at the front stands for: a decimal or hexadecimal one, or one of the entities `amp`,
- * `lt`, `gt` and `quot`. Others are MDS_NOTHING. MDS_EMPTY where there are no bytes. (2.5) */
+ * `lt`, `gt` and `quot`. The first byte is taken for its `&`, whatever it is. Others are MDS_NOTHING. MDS_EMPTY where
+ * there are no bytes. (2.5) */
 struct mds_text mds_scan_entity(const uint8_t *bytes, size_t length, uint8_t *buffer, size_t capacity);
 
 /* The text with its backslash escapes and the character references of mds_scan_entity resolved; CR are left out. In a
- * cell of a table (`in_table`) a pipe loses the backslashes before it. MDS_NOT_UTF8. Memory is asked for where the text
- * changes, at its exact length. (2.4, 2.5) */
+ * cell of a table (`in_table`) two backslashes and a pipe stand for the pipe, where the first of them is not itself
+ * escaped: both `\\|` and `\|` give `|`, and `\\\|` gives `\|`. MDS_NOT_UTF8. Memory is asked for where the text
+ * changes: MDS_NO_MEMORY. (2.4, 2.5) */
 struct mds_text mds_unescape(const uint8_t *text, size_t length, bool in_table, uint8_t *buffer, size_t capacity);
 
 /* The link label whose opening bracket stands just before the text: its words, joined by one space; `taken` counts its
  * closing bracket. MDS_NOTHING where there is none, MDS_NOT_UTF8. Labels may go on over lines, of which nothing is
- * left out. In a cell of a table (`in_table`) a pipe loses one backslash before it. Memory is asked for where the
- * label is not in the text as it is, at its exact length. (6.3) */
+ * left out. In a cell of a table (`in_table`) a pipe loses the backslash just before it. Memory is asked for where the
+ * label is not in the text as it is: MDS_NO_MEMORY. (6.3) */
 struct mds_text mds_scan_link_label(const uint8_t *text, size_t length, bool in_table, uint8_t *buffer, size_t capacity);
 
 /* Whether two labels, as mds_scan_link_label writes them, match, so that the one refers to what the other defines:

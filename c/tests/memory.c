@@ -1,10 +1,9 @@
-/* Memory refused: of each call that asks for it, the first, second, .. request is refused until none is left. The call
- * then answers MDS_NO_MEMORY and leaves the buffers as they were, or has its answer without that room ahead; and it frees
- * what it was given. Calls that take none make no request. The linker puts the functions __wrap_.. in the place of the C
- * library's (--wrap). */
-#include "markdown_scanners.h"
+/* Memory refused. Five functions may answer MDS_NO_MEMORY: on each of their inputs here the first, second, .. request is refused
+ * until none is left. The call then answers MDS_NO_MEMORY, tells nothing more and writes nothing, or it has the same answer as
+ * with ample memory; and it frees what it was given. The other functions make no request, and neither do these five where the
+ * header says so. The linker puts the functions __wrap_.. in the place of the C library's (--wrap). */
+#include "checks.h"
 
-#include <stdio.h>
 #include <stdlib.h>
 #include <string.h>
 
@@ -15,20 +14,22 @@ void *__wrap_malloc(size_t size);
 void *__wrap_realloc(void *old, size_t size);
 void __wrap_free(void *old);
 
-static size_t requests, refused, held;
+/* How many requests were made, and for how many bytes the last; which of them is refused; how many blocks are held. */
+static size_t requests, asked, refused, held;
 
-static bool is_refused(void) {
+static bool is_refused(size_t size) {
+    asked = size;
     return ++requests == refused;
 }
 
 void *__wrap_malloc(size_t size) {
-    void *made = is_refused() ? NULL : __real_malloc(size);
+    void *made = is_refused(size) ? NULL : __real_malloc(size);
     held += made != NULL;
     return made;
 }
 
 void *__wrap_realloc(void *old, size_t size) {
-    void *made = is_refused() ? NULL : __real_realloc(old, size);
+    void *made = is_refused(size) ? NULL : __real_realloc(old, size);
     held += made != NULL && old == NULL;
     return made;
 }
@@ -38,105 +39,214 @@ void __wrap_free(void *old) {
     __real_free(old);
 }
 
-#define OF(literal) (const uint8_t *)literal, sizeof(literal) - 1
+/* The parts of a long input, the bytes of one, and the room in a buffer for whatever a call makes here. */
+enum { MANY = 40, LONG = 900, AMPLE = 2400 };
 
-static uint8_t buffer[64];
-static const size_t places[] = {2, 6};
-static size_t ends[2];
-static const struct mds_line_call calls[] = {{MDS_UPTO, 2}, {MDS_EOL, 0}};
-static struct mds_line_answer answers[2];
+/* What a call tells: its status, and its other numbers. */
+struct told {
+    uint32_t status;
+    size_t numbers[3];
+};
 
-static uint32_t unescape(void) {
-    return mds_unescape(OF("a&amp;b"), false, buffer, sizeof(buffer)).status;
+/* A call with buffers of so many bytes. */
+typedef struct told call_with(size_t room);
+
+static struct told of_text(struct mds_text text) {
+    return (struct told){text.status, {text.taken, text.length, 0}};
 }
 
-static uint32_t label(void) {
-    return mds_scan_link_label(OF("a  b]"), false, buffer, sizeof(buffer)).status;
+static struct told escape(size_t room) {
+    return of_text(mds_unescape(OF("a&amp;b"), false, writable(BUFFER, room), room));
 }
 
-static uint32_t match(void) {
-    return mds_labels_match(OF("A b"), OF("a B"));
+static struct told escape_in_cell(size_t room) {
+    return of_text(mds_unescape(OF("\\\\|"), true, writable(BUFFER, room), room));
 }
 
-static uint32_t table(void) {
-    return mds_scan_table_head(OF("|-|-|"), buffer, sizeof(buffer)).status;
+static struct told long_escape(size_t room) {
+    static char text[LONG];
+    memset(text, 'a', LONG), text[LONG - 1] = '\r';
+    return of_text(mds_unescape(given(BYTES, text, LONG), LONG, false, writable(BUFFER, room), room));
 }
 
-static uint32_t html_run(void) {
-    return mds_run_inline_html(OF("<!a><!b>"), places, 2, ends, 2).status;
+static struct told label(size_t room) {
+    return of_text(mds_scan_link_label(OF("a  b]"), false, writable(BUFFER, room), room));
 }
 
-static uint32_t line_run(void) {
-    return mds_run_line(OF("  x"), calls, 2, answers, 2, buffer, sizeof(buffer)).status;
+static struct told label_in_cell(size_t room) {
+    return of_text(mds_scan_link_label(OF("a\\|b]"), true, writable(BUFFER, room), room));
 }
 
-static uint32_t plain_text(void) {
-    return mds_unescape(OF("plain"), false, buffer, sizeof(buffer)).status;
+static struct told long_label(size_t room) {
+    static char text[LONG];
+    memset(text, 'a', LONG), text[1] = text[2] = ' ', text[LONG - 1] = ']';
+    return of_text(mds_scan_link_label(given(BYTES, text, LONG), LONG, false, writable(BUFFER, room), room));
 }
 
-static uint32_t plain_label(void) {
-    return mds_scan_link_label(OF("a b]"), false, buffer, sizeof(buffer)).status;
+static struct told table(size_t room) {
+    return of_text(mds_scan_table_head(OF("|-|-|"), writable(BUFFER, room), room));
 }
 
-static uint32_t entity(void) {
-    return mds_scan_entity(OF("&#x1F354;"), buffer, sizeof(buffer)).status;
+static struct told wide_table(size_t room) {
+    static char text[2 * MANY];
+    for (size_t i = 0; i < MANY; i++)
+        text[2 * i] = '-', text[2 * i + 1] = '|';
+    return of_text(mds_scan_table_head(given(BYTES, text, 2 * MANY), 2 * MANY, writable(BUFFER, room), room));
 }
 
-static uint32_t tag(void) {
-    return mds_scan_html_tag(OF("<a b='c'>")) == 9 ? MDS_OK : MDS_NOTHING;
+static struct told of_html(const char *text, size_t length, const size_t *places, size_t count, size_t room) {
+    const uint8_t *bytes = given(BYTES, text, length);
+    const size_t *list = given(LIST, places, count * sizeof(*list));
+    size_t capacity = room / sizeof(size_t), *ends = writable(BUFFER, capacity * sizeof(size_t));
+    struct mds_html_run run = mds_run_inline_html(bytes, length, list, count, ends, capacity);
+    return (struct told){run.status, {run.count, 0, 0}};
 }
 
-static uint32_t no_label(void) {
-    return mds_scan_link_label(OF("a"), false, buffer, sizeof(buffer)).status == MDS_NOTHING ? MDS_OK : MDS_NOTHING;
+static struct told html_run(size_t room) {
+    return of_html("<!a><!b>", 8, (const size_t[]){2, 6}, 2, room);
 }
 
-static int passed, failed;
-
-static void check(const char *name, bool well, const char *what) {
-    passed += well;
-    failed += !well;
-    if (!well)
-        fprintf(stderr, "%s: %s at request %zu\n", name, what, refused);
+static struct told long_html_run(size_t room) {
+    static char text[2 * MANY];
+    static size_t places[MANY];
+    for (size_t i = 0; i < MANY; i++)
+        text[2 * i] = '<', text[2 * i + 1] = '!', places[i] = 2 * i + 2;
+    return of_html(text, 2 * MANY, places, MANY, room);
 }
 
-static bool is_clear(void) {
-    bool clear = ends[0] == 0 && ends[1] == 0 && !answers[0].found && !answers[1].found;
-    for (size_t i = 0; i < sizeof(buffer); i++)
-        clear = clear && buffer[i] == 0;
-    return clear;
+static struct told of_line(const char *text, size_t length, const struct mds_line_call *calls, size_t count, size_t room) {
+    const uint8_t *bytes = given(BYTES, text, length);
+    const struct mds_line_call *list = given(LIST, calls, count * sizeof(*list));
+    size_t capacity = room / sizeof(struct mds_line_answer);
+    struct mds_line_answer *answers = writable(BUFFER, capacity * sizeof(*answers));
+    struct mds_line_run run = mds_run_line(bytes, length, list, count, answers, capacity, writable(REST, room), room);
+    return (struct told){run.status, {run.count, run.scanned, run.rest}};
 }
 
-static void run(const char *name, uint32_t (*call)(void), bool asks) {
-    int refusals = 0;
-    for (refused = 1;; refused++) {
-        requests = held = 0;
-        memset(buffer, 0, sizeof(buffer)), memset(ends, 0, sizeof(ends)), memset(answers, 0, sizeof(answers));
-        uint32_t status = call();
-        check(name, held == 0, "not all is freed");
-        if (requests < refused) {
-            check(name, status == MDS_OK, "no answer");
-            break;
-        }
-        check(name, status == MDS_OK || status == MDS_NO_MEMORY, "no error");
-        check(name, status == MDS_OK || is_clear(), "something is written");
-        refusals += status == MDS_NO_MEMORY;
-    }
-    check(name, (refused > 1) == asks, asks ? "no request" : "a request");
-    check(name, (refusals > 0) == asks, "nothing was refused");
+static struct told line_run(size_t room) {
+    return of_line("  x", 3, (const struct mds_line_call[]){{MDS_UPTO, 2}, {MDS_EOL, 0}}, 2, room);
+}
+
+static struct told long_line_run(size_t room) {
+    static char text[2 * MANY];
+    static struct mds_line_call calls[MANY];
+    memset(text, '\t', sizeof(text));
+    for (size_t i = 0; i < MANY; i++)
+        calls[i] = (struct mds_line_call){MDS_UPTO, 7};
+    return of_line(text, sizeof(text), calls, MANY, room);
+}
+
+static struct told made(call_with *call, size_t room, size_t which) {
+    writable(BUFFER, 0), writable(REST, 0);
+    requests = held = 0, refused = which;
+    struct told told = call(room);
+    refused = 0;
+    return told;
+}
+
+/* What an answer with ample memory has written. */
+static uint8_t kept[ROOMS][ROOM_SIZE];
+
+static void keep(void) {
+    memcpy(kept[BUFFER], whole(BUFFER), ROOM_SIZE);
+    memcpy(kept[REST], whole(REST), ROOM_SIZE);
+}
+
+static bool is_kept(void) {
+    return !memcmp(kept[BUFFER], whole(BUFFER), ROOM_SIZE) && !memcmp(kept[REST], whole(REST), ROOM_SIZE);
+}
+
+static bool is_same(struct told one, struct told other) {
+    return one.status == other.status && !memcmp(one.numbers, other.numbers, sizeof(one.numbers));
+}
+
+/* Whether memory was refused; if not, the answer has to be that of ample memory. */
+static bool told_refusal(int line, struct told found, struct told ample) {
+    const struct told nothing_more = {MDS_NO_MEMORY, {0, 0, 0}};
+    same(line, "what is held", held, 0);
+    bool refusal = found.status == MDS_NO_MEMORY;
+    same(line, "what is told", is_same(found, refusal ? nothing_more : ample), true);
+    same(line, "what is written", refusal ? is_left(BUFFER, 0) && is_left(REST, 0) : is_kept(), true);
+    return refusal;
+}
+
+static void refuse_each(int line, call_with *call, size_t room, bool exact) {
+    struct told ample = made(call, room, 0);
+    size_t wanted = requests, refusals = 0;
+    keep();
+    same(line, "status", ample.status, room ? MDS_OK : MDS_TOO_SHORT);
+    same(line, "what is held", held, 0);
+    if (exact)
+        same(line, "requests", wanted, 1), same(line, "bytes asked for", asked, ample.numbers[1]);
+    for (size_t which = 1; which <= wanted; which++)
+        refusals += told_refusal(line, made(call, room, which), ample);
+    same(line, "some request is refused", refusals > 0, true);
+}
+
+/* Each of its requests is refused, where the buffers have room and where they have none. */
+#define ASKS(call) refuse_each(__LINE__, call, AMPLE, false), refuse_each(__LINE__, call, 0, false)
+
+/* It makes one request, for as many bytes as its text has. */
+#define ASKS_ONCE(call) refuse_each(__LINE__, call, AMPLE, true), refuse_each(__LINE__, call, 0, true)
+
+/* It makes none. */
+#define ASKS_NOT(call, wanted) (requests = 0, refused = 1, SAME(call, wanted), SAME(requests, 0), refused = 0)
+
+static void asking(void) {
+    ASKS_ONCE(escape), ASKS_ONCE(escape_in_cell), ASKS_ONCE(long_escape);
+    ASKS_ONCE(label), ASKS_ONCE(label_in_cell), ASKS_ONCE(long_label);
+    ASKS(table), ASKS(wide_table);
+    ASKS(html_run), ASKS(long_html_run);
+    ASKS(line_run), ASKS(long_line_run);
+}
+
+/* What these five need no memory for. */
+static void sparing(void) {
+    ASKS_NOT(mds_unescape(OF("plain"), false, NULL, 0).status, MDS_TOO_SHORT);
+    ASKS_NOT(mds_unescape(OF("\xff"), false, NULL, 0).status, MDS_NOT_UTF8);
+    ASKS_NOT(mds_scan_link_label(OF("a b]"), false, NULL, 0).status, MDS_TOO_SHORT);
+    ASKS_NOT(mds_scan_link_label(OF("a  b"), false, NULL, 0).status, MDS_NOTHING);
+    ASKS_NOT(mds_scan_link_label(OF("a  b]\xff"), false, NULL, 0).status, MDS_NOT_UTF8);
+    ASKS_NOT(mds_scan_table_head(OF("a | b"), NULL, 0).status, MDS_NOTHING);
+    ASKS_NOT(mds_scan_table_head(OF("- - -"), NULL, 0).status, MDS_NOTHING);
+    ASKS_NOT(mds_run_line(OF("x"), (const struct mds_line_call[]){{6, 0}}, 1, NULL, 0, NULL, 0).status, MDS_BAD_KIND);
+}
+
+static void others_on_lines(void) {
+    ASKS_NOT(mds_is_whitespace(' '), true);
+    ASKS_NOT(mds_is_whitespace_in_line(' '), true);
+    ASKS_NOT(mds_is_punctuation('!'), true);
+    ASKS_NOT(mds_scan_whitespace_in_line(OF("  x")), 2);
+    ASKS_NOT(mds_scan_eol(OF("\r\n")), 2);
+    ASKS_NOT(mds_scan_nextline(OF("a\nb")), 2);
+    ASKS_NOT(mds_scan_blank_line(OF(" \n")), 2);
+    ASKS_NOT(mds_scan_blockquote_start(OF("> a")), 2);
+    ASKS_NOT(mds_scan_listitem(OF("- a")).length, 2);
+    ASKS_NOT(mds_calc_indent(OF("  a"), 4).columns, 2);
+    ASKS_NOT(mds_scan_hrule(OF("***\n")), 4);
+    ASKS_NOT(mds_scan_atx_heading(OF("## a")), 2);
+    ASKS_NOT(mds_scan_setext_heading(OF("==\n")).length, 3);
+    ASKS_NOT(mds_scan_code_fence(OF("```\n")).length, 3);
+    ASKS_NOT(mds_scan_closing_code_fence(OF("```\n"), '`', 3), 3);
+    ASKS_NOT(mds_scan_metadata_block(OF("---\na\n---\n"), true, false).length, 3);
+    ASKS_NOT(mds_scan_closing_metadata_block(OF("---\n"), '-'), 3);
+}
+
+static void others_on_texts(void) {
+    ASKS_NOT(mds_scan_link_dest(OF("<a>"), 0, 9).end, 3);
+    ASKS_NOT(mds_scan_autolink(OF("<ab:c>"), 1).end, 6);
+    ASKS_NOT(mds_scan_wikilink_pipe(OF("a|b]]"), 0, 3).end, 2);
+    ASKS_NOT(mds_starts_html_block_type_6(OF("div>")), true);
+    ASKS_NOT(mds_scan_html_type_7(OF("<a b='c'>\n")), 9);
+    ASKS_NOT(mds_scan_html_tag(OF("<a b='c'>")), 9);
+    ASKS_NOT(mds_scan_inline_html(OF("<!-- a -->"), 2).end, 10);
+    ASKS_NOT(mds_scan_entity(OF("&#x1F354;"), writable(BUFFER, 4), 4).status, MDS_OK);
+    ASKS_NOT(mds_labels_match(OF("A b"), OTHER("a B")), MDS_OK);
+    ASKS_NOT(mds_labels_match(OF("\xe1\xba\x9e"), OTHER("SS")), MDS_OK);
 }
 
 int main(void) {
-    run("mds_unescape", unescape, true);
-    run("mds_scan_link_label", label, true);
-    run("mds_scan_table_head", table, true);
-    run("mds_run_inline_html", html_run, true);
-    run("mds_run_line", line_run, true);
-    run("mds_unescape of what stays", plain_text, false);
-    run("mds_scan_link_label of what stands there", plain_label, false);
-    run("mds_scan_link_label of none", no_label, false);
-    run("mds_labels_match", match, false);
-    run("mds_scan_entity", entity, false);
-    run("mds_scan_html_tag", tag, false);
-    printf("memory: %d passed, %d failed\n", passed, failed);
-    return failed != 0;
+    asking(), sparing();
+    others_on_lines(), others_on_texts();
+    return report("memory");
 }

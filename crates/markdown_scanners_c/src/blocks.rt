@@ -42,7 +42,8 @@ pub struct Underline {
 /// The setext heading underline at the front. (CommonMark 0.31.2, section 4.3)
 #[unsafe(no_mangle)]
 pub extern "C" fn mds_scan_setext_heading(bytes: &[u8]) -> Underline
-    ensures { FoundWithLevel (IsSetextUnderline bytes.now) result.length result.level }
+    ensures found { FoundWithLevel (IsSetextUnderline bytes.now) result.length result.level }
+    ensures zero { result.length ≡ none → result.level ≡ 0 }
 {
     match scan_setext_heading(bytes) {
         Some((length, level)) => Underline {
@@ -66,8 +67,9 @@ pub struct Fence {
 /// The opening code fence at the front. (CommonMark 0.31.2, section 4.5)
 #[unsafe(no_mangle)]
 pub extern "C" fn mds_scan_code_fence(bytes: &[u8]) -> Fence
-    ensures { FoundExactly (λ (r : ℕ × ℕ). IsCodeFence bytes.now r.0 r.1)
+    ensures found { FoundExactly (λ (r : ℕ × ℕ). IsCodeFence bytes.now r.0 r.1)
         result.length (result.length, result.byte) }
+    ensures zero { result.length ≡ none → result.byte ≡ 0 }
 {
     match scan_code_fence(bytes) {
         Some((length, byte)) => Fence { length, byte },
@@ -92,6 +94,7 @@ pub extern "C" fn mds_scan_metadata_block(bytes: &[u8], yaml: bool, pluses: bool
     ensures found { FoundExactly (λ (r : ℕ × ℕ). IsMetadataBlock bytes.now yaml pluses r.1)
         result.length (result.length, result.byte) }
     ensures opening { (result.length ≡ 3) ⊎ (result.length ≡ none) }
+    ensures zero { result.length ≡ none → result.byte ≡ 0 }
 {
     match scan_metadata_block(bytes, yaml, pluses) {
         Some((length, byte)) => Fence { length, byte },

@@ -91,8 +91,10 @@ pub struct ListItem {
 /// The list item that begins at the front. (CommonMark 0.31.2, section 5.2)
 #[unsafe(no_mangle)]
 pub extern "C" fn mds_scan_listitem(bytes: &[u8]) -> ListItem
-    ensures { FoundExactly (λ (r : ℕ × ℕ × ℕ × ℕ). IsListItem bytes.now r.0 r.1 r.2 r.3)
+    ensures found { FoundExactly (λ (r : ℕ × ℕ × ℕ × ℕ). IsListItem bytes.now r.0 r.1 r.2 r.3)
         result.length (result.length, result.delimiter, result.start, result.indent) }
+    ensures zeros { result.length ≡ none
+        → (result.delimiter ≡ 0) × (result.start ≡ 0) × (result.indent ≡ 0) }
 {
     match scan_listitem(bytes) {
         Some((length, delimiter, start, indent)) => ListItem {

@@ -1,5 +1,6 @@
 //! Runs of scans of inline HTML.
-ghost use Rattle.std.specs.Prelude.{◌≡◌, IfOk};
+ghost use Rattle.std.specs.Prelude.{◌≡◌, ◌≤◌, ◌+◌, ◌*◌, length, take, IfOk};
+ghost use Rattle.markdown_scanners_tree.specs.inline_html.run.Passed.{bytes_passed};
 ghost use Rattle.markdown_scanners_tree.specs.inline_html.run.Run.{new_run, run_stop};
 ghost use Rattle.markdown_scanners_c.specs.Runs.{end_number, stop_status, run_ends, AreNumbersWritten, IsHtmlRun};
 
@@ -22,7 +23,9 @@ pub extern "C" fn mds_run_inline_html(
     places: &[usize],
     ends: &mut [usize],
 ) -> HtmlEnds
-    ensures { IsHtmlRun bytes.now places.now ends.old ends.new result }
+    ensures run { IsHtmlRun bytes.now places.now ends.old ends.new result }
+    ensures budget { bytes_passed bytes.now (take result.count places.now)
+        ≤ 4 * length bytes.now + 8 * result.count }
 {
     match ends_of(alloc, bytes, places) {
         Ok((found, done)) => HtmlEnds {
@@ -51,6 +54,8 @@ fn write_numbers(numbers: &[usize], buffer: &mut [usize], done: u32) -> u32
 fn ends_of(alloc: Global, bytes: &[u8], places: &[usize]) -> Result<(Vec<usize>, u32), AllocError>
     ensures ends { IfOk result (λ r. r.0.items ≡ run_ends bytes.now places.now) }
     ensures status { IfOk result (λ r. r.1 ≡ stop_status (run_stop (new_run bytes.now) 0 places.now)) }
+    ensures budget { IfOk result (λ r. bytes_passed bytes.now (take (length r.0.items) places.now)
+        ≤ 4 * length bytes.now + 8 * length r.0.items) }
 {
     let run = run_inline_html(alloc, bytes, places)?;
     let ends: Vec<usize> = run

@@ -1,0 +1,117 @@
+#define _DEFAULT_SOURCE
+#include "checks.h"
+
+#include <signal.h>
+#include <stdio.h>
+#include <stdlib.h>
+#include <string.h>
+#include <sys/mman.h>
+#include <sys/wait.h>
+#include <unistd.h>
+
+bool at_front;
+
+static unsigned long long passed, failed;
+static uint8_t *rooms[ROOMS];
+static size_t puts_at[ROOMS];
+
+void same(int line, const char *what, unsigned long long found, unsigned long long wanted) {
+    if (found == wanted) {
+        passed++;
+        return;
+    }
+    failed++;
+    fprintf(stderr, "line %d, at the %s: %s is %llu and not %llu\n", line, at_front ? "front" : "end", what, found, wanted);
+}
+
+int report(const char *name) {
+    printf("%s: %llu passed, %llu failed\n", name, passed, failed);
+    return failed != 0;
+}
+
+static void stop(const char *why) {
+    fprintf(stderr, "checks: %s\n", why);
+    exit(2);
+}
+
+static void protect(uint8_t *room, int protection) {
+    if (mprotect(room, ROOM_SIZE, protection))
+        stop("mprotect is refused");
+}
+
+/* A room that can be written, between two pages that are no one's. */
+static uint8_t *new_room(void) {
+    size_t page = (size_t)sysconf(_SC_PAGESIZE);
+    if (ROOM_SIZE % page)
+        stop("a room is not made of whole pages");
+    uint8_t *pages = mmap(NULL, ROOM_SIZE + 2 * page, PROT_NONE, MAP_PRIVATE | MAP_ANONYMOUS, -1, 0);
+    if (pages == MAP_FAILED)
+        stop("mmap is refused");
+    return pages + page;
+}
+
+/* The place of so many bytes in the room, all of which can be written. */
+static uint8_t *place_in(enum room room, size_t size) {
+    if (size > ROOM_SIZE)
+        stop("what is put in a room is larger");
+    if (!rooms[room])
+        rooms[room] = new_room();
+    protect(rooms[room], PROT_READ | PROT_WRITE);
+    memset(rooms[room], UNTOUCHED, ROOM_SIZE);
+    puts_at[room] = at_front ? 0 : ROOM_SIZE - size;
+    return rooms[room] + puts_at[room];
+}
+
+const void *given(enum room room, const void *bytes, size_t size) {
+    uint8_t *place = place_in(room, size);
+    if (size)
+        memcpy(place, bytes, size);
+    protect(rooms[room], PROT_READ);
+    return place;
+}
+
+void *writable(enum room room, size_t size) {
+    return place_in(room, size);
+}
+
+bool is_left(enum room room, size_t written) {
+    size_t begin = puts_at[room], end = begin + written;
+    for (size_t i = 0; i < ROOM_SIZE; i++)
+        if ((i < begin || i >= end) && rooms[room][i] != UNTOUCHED)
+            return false;
+    return true;
+}
+
+const uint8_t *whole(enum room room) {
+    return rooms[room];
+}
+
+/* Whether a child that reads or writes the byte is ended for it. */
+static bool is_guarded(volatile uint8_t *byte, bool writes) {
+    pid_t child = fork();
+    if (child < 0)
+        stop("fork is refused");
+    if (child == 0) {
+        signal(SIGSEGV, SIG_DFL);
+        if (writes)
+            *byte = 0;
+        else
+            (void)*byte;
+        _exit(0);
+    }
+    int status;
+    if (waitpid(child, &status, 0) != child)
+        stop("a child is lost");
+    return WIFSIGNALED(status) && WTERMSIG(status) == SIGSEGV;
+}
+
+void check_rooms(void) {
+    uint8_t *buffer = writable(BUFFER, 8), *input = (uint8_t *)given(BYTES, "12345678", 8);
+    uint8_t *past_buffer = at_front ? buffer - 1 : buffer + 8, *past_input = at_front ? input - 1 : input + 8;
+    SAME(is_guarded(past_buffer, false), true), SAME(is_guarded(past_buffer, true), true);
+    SAME(is_guarded(buffer, false), false), SAME(is_guarded(buffer, true), false);
+    SAME(is_guarded(past_input, false), true);
+    SAME(is_guarded(input, false), false), SAME(is_guarded(input, true), true);
+    SAME(is_left(BUFFER, 0), true), buffer[3] = 0;
+    SAME(is_left(BUFFER, 3), false), SAME(is_left(BUFFER, 4), true);
+}
