@@ -16,7 +16,11 @@ from reading import items_of
 MOST = 16
 NOT_PROVED = re.compile(r"^fn (\S+): (?:not proved|no proof)\b(.*)", re.M)
 WAITS = "it calls"
-NAMES_WHAT_IS_GONE = re.compile(r"^\S*proofs/\S*: .*(?:has no field|is not in scope|has no `|was not admitted)", re.M)
+# A proof file that names what an edit took away: its folder, which is its function's, and its name.
+NAMES_WHAT_IS_GONE = re.compile(
+    r"^\S*?(\w+)/(\w+)\.antt:\d\S* .*(?:has no field|is not in scope|has no `|was not admitted)", re.M
+)
+OF_A_FUNCTION = {"Answers", "Invariants", "Proof"}
 
 
 def changed_lines(edit):
@@ -82,9 +86,12 @@ def key_named(name, keys):
 
 def refused_in(group, said):
     """The edits of a group that a check shows to be refused, by what it said: none where it can't be read so."""
-    if not said.rstrip("\n").rpartition("\n")[2].startswith("logic=not-proved") or NAMES_WHAT_IS_GONE.search(said):
+    gone = NAMES_WHAT_IS_GONE.findall(said)
+    is_read = said.rstrip("\n").rpartition("\n")[2].startswith("logic=not-proved")
+    if not is_read or any(file not in OF_A_FUNCTION for _, file in gone):
         return []
     keys = [key_named(name, group) for name, why in NOT_PROVED.findall(said) if WAITS not in why]
     if None in keys or len(set(keys)) < len(keys):
         return []
-    return [group[key][0] for key in keys]
+    folders = {folder for folder, _ in gone}
+    return [group[key][0] for key in keys if key[1] not in folders]

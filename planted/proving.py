@@ -37,12 +37,18 @@ def build_libraries():
             raise SystemExit(f"planted: {crate} is not proved as it stands, so its edits say nothing")
 
 
+def shown(rt, crate, group, kept):
+    """The edits of a group that one check shows to be refused."""
+    texts = texts_of(group)
+    said = rt.checked(crate, texts, ONE_JOB, kept).stdout
+    return [] if any(rt.unread(line, texts) for line in said.split("\n")) else refused_in(group, said)
+
+
 def refused_in_groups(rt, crate, edits, pool, kept):
     """The edits that groups show to be refused. Those that waited for others are grouped again."""
     refused = set()
-    in_group = lambda group: refused_in(group, rt.checked(crate, texts_of(group), ONE_JOB, kept).stdout)
     while groups := groups_of([it for it in edits if it not in refused]):
-        found = {edit for shown in pool.map(in_group, groups) for edit in shown}
+        found = {edit for refusals in pool.map(lambda it: shown(rt, crate, it, kept), groups) for edit in refusals}
         if not found:
             break
         refused |= found
