@@ -2,7 +2,8 @@
 ghost use Rattle.std.specs.Prelude.{◌≡◌, ◌+◌, ◌<◌, ◌≤◌, ◌==◌, [], length, drop, ◌++◌, map, IsTrue, false, not, ◌||◌, ◌&&◌, OnOk, IfSome, IfNone, IfOk};
 ghost use Rattle.std.specs.List.{prefix_len, list_any};
 ghost use Rattle.markdown_scanners_tree.specs.Bytes.{begins_with};
-ghost use Rattle.markdown_scanners_tree.specs.scanners.Tables.{is_cell_byte, is_row_byte, may_be_row, alignment, alignment_by, counted_last_cell, is_space, is_hyphen, is_colon, is_pipe, after_cell, NoCells, AreScannedCells, IsDelimiterRow, NoDelimiterRow};
+ghost use Rattle.markdown_scanners_tree.specs.scanners.tables.DelimiterRow.{is_cell_byte, alignment, alignment_by, counted_last_cell, is_space, is_hyphen, is_colon, is_pipe, IsDelimiterRow, NoDelimiterRow};
+ghost use Rattle.markdown_scanners_tree.specs.scanners.tables.private.ScannedCells.{is_row_byte, may_be_row, after_cell, NoCells, AreScannedCells};
 
 use crate::scanners::lines::scan_eol;
 use crate::scanners::runs::{has_byte, scan_ch, scan_ch_repeat};

@@ -8,7 +8,8 @@ use Rattle.std.proofs.Math.Seq.{drop-append_seam, take-append_seam}
 use Rattle.markdown_values.specs.declared.values.Alignment.TheVariants as Aligned
 use Rattle.markdown_scanners_tree.specs.Ascii.{vertical_line}
 use Rattle.markdown_scanners_tree.specs.Bytes.{begins_with, line_ending}
-use Rattle.markdown_scanners_tree.specs.scanners.Tables.{is_cell_byte, is_cell, alignment, alignment_by, ended_cell, AreCells, is_space, is_hyphen, is_colon, is_pipe}
+use Rattle.markdown_scanners_tree.specs.scanners.tables.DelimiterRow.{is_cell_byte, is_cell, alignment, alignment_by, ended_cell, is_space, is_hyphen, is_colon, is_pipe}
+use Rattle.markdown_scanners_tree.specs.scanners.tables.private.ScannedCells.{AreCells}
 use Rattle.markdown_scanners_tree.proofs.PrefixLemmas.{from_place, both_true, prefix_len-parts}
 use Rattle.markdown_scanners_tree.proofs.scanners.lines.BlankLemmas.{first-line_ending}
 

@@ -1,7 +1,8 @@
 use Rattle.std.proofs.Common.{arith, rules, ap, sym, ◌∙◌, ◌-◌, length, take, drop}
 use Rattle.std.specs.List.{prefix_len}
 use Rattle.std.proofs.lemmas.Bool.{and_right}
-use Rattle.markdown_scanners_tree.specs.scanners.Tables.{is_space, may_be_row}
+use Rattle.markdown_scanners_tree.specs.scanners.tables.DelimiterRow.{is_space}
+use Rattle.markdown_scanners_tree.specs.scanners.tables.private.ScannedCells.{may_be_row}
 use Rattle.markdown_scanners_tree.proofs.PrefixLemmas.{from_place}
 use Rattle.markdown_scanners_tree.proofs.scanners.tables.RowLemmas.{no_row, row_tests}
 use Rattle.markdown_scanners_tree.proofs.scanners.tables.DelimiterRowLemmas.{delimiter_row-too_far, no_cells, delimiter_row-found, delimiter_row-refused, IsDelimiterRow-some, IsDelimiterRow-some_alignment}
