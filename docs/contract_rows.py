@@ -5,7 +5,7 @@ from finding import definitions
 from reading import crates, items_of, public_items, text_of, words_of
 
 # Words of our specs that a row need not name: how an answer is said.
-GENERAL = {"SomeExactly"}
+GENERAL = {"SomeExactly", "IsOnly"}
 NAME = re.compile(r"(?:[^\W\d][\w'-]*::)*[^\W\d][\w'-]*(?:\([^)]*\))?$")
 
 

@@ -4,7 +4,7 @@ ghost use Rattle.markdown_scanners_tree.specs.Bytes.{IsBlankLine};
 ghost use Rattle.markdown_scanners_tree.specs.scanners.Breaks.{IsThematicBreak, break_length};
 ghost use Rattle.markdown_scanners_tree.specs.scanners.Fences.{IsCodeFence, IsClosingCodeFence};
 ghost use Rattle.markdown_scanners_tree.specs.scanners.Metadata.{IsMetadataBlock};
-ghost use Rattle.markdown_scanners_tree.specs.scanners.Tables.{IsDelimiterRow};
+ghost use Rattle.markdown_scanners_tree.specs.scanners.tables.DelimiterRow.{IsDelimiterRow};
 
 use markdown_scanners_tree::scanners::{
     scan_blank_line, scan_closing_code_fence, scan_code_fence, scan_hrule, scan_metadata_block,

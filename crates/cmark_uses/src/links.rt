@@ -66,7 +66,7 @@ pub fn resolved<'a, E: Entities>(
 }
 
 /// The title of a link: whatever pieces its text falls into, what they mean.
-#[tactic(auto, using(markdown_scanners_tree::proofs::ForCallers::same_pieces))]
+#[tactic(auto, using(markdown_scanners_tree::proofs::ForCallers::only_answers))]
 pub fn link_title<'a, E: Entities>(
     alloc: Global,
     text: &'a str,

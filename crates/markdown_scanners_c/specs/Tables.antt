@@ -2,7 +2,7 @@
 use Rattle.std.specs.Prelude.{ℕ, List, ◌≡◌, ◌⊎◌, map}
 use Rattle.markdown_values.specs.declared.values.Alignment.{Alignment}
 use Rattle.markdown_values.specs.declared.values.Alignment.TheVariants as Aligned
-use Rattle.markdown_scanners_tree.specs.scanners.Tables.{IsDelimiterRow, NoDelimiterRow}
+use Rattle.markdown_scanners_tree.specs.scanners.tables.DelimiterRow.{IsDelimiterRow, NoDelimiterRow}
 use Rattle.markdown_scanners_c.specs.Buffer.{IsWritten}
 use Rattle.markdown_scanners_c.specs.Status.{nothing, no_memory}
 use Rattle.markdown_scanners_c.specs.Texts.{IsNoText}

@@ -1,7 +1,7 @@
 //! HTML blocks, tags and inline HTML.
 ghost use Rattle.std.specs.Prelude.{◌≡◌, ◌↔◌, ℕ, List, IsTrue};
 ghost use Rattle.markdown_scanners_tree.specs.Kept.{KeptByte};
-ghost use Rattle.markdown_scanners_tree.specs.scanners.HtmlBlock.{IsBlockStart};
+ghost use Rattle.markdown_scanners_tree.specs.scanners.html_block.HtmlBlock.{IsBlockStart};
 ghost use Rattle.markdown_scanners_tree.specs.scanners.html_tag.HtmlTag.{IsTagAloneInLine};
 ghost use Rattle.markdown_scanners_tree.specs.scanners.html_tag.KeptTag.{IsKeptTag, place_after};
 ghost use Rattle.markdown_scanners_c.specs.Answers.{FoundExactly};

@@ -1,7 +1,7 @@
 //! Delimiter rows of tables.
 ghost use Rattle.std.specs.Prelude.{◌≡◌, List, map, IfOk, IfSome, IfNone};
 ghost use Rattle.markdown_values.specs.declared.values.Alignment.{Alignment as Aligned};
-ghost use Rattle.markdown_scanners_tree.specs.scanners.Tables.{IsDelimiterRow, NoDelimiterRow};
+ghost use Rattle.markdown_scanners_tree.specs.scanners.tables.DelimiterRow.{IsDelimiterRow, NoDelimiterRow};
 ghost use Rattle.markdown_scanners_c.specs.Tables.{alignment_number, IsTableHead};
 
 use crate::status::{NO_MEMORY, NOTHING};

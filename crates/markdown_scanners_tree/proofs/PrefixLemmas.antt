@@ -3,7 +3,7 @@ use Rattle.std.proofs.Common.{◌≡◌, ℕ, zero, suc, min, ◌+◌, ◌-◌, 
 use Rattle.std.specs.List.{prefix_len, list_all}
 use Rattle.std.proofs.lemmas.Bool.{cases_Bool}
 use Rattle.std.proofs.lemmas.List.{take_all, length-drop, take-append-drop}
-use Rattle.std.proofs.Math.Seq.{drop-cons}
+use Rattle.std.proofs.Math.Seq.{drop-cons, drop-append_seam, take-append_seam}
 use Rattle.markdown_scanners_tree.specs.Bytes.{begins_with}
 
 pub both_true : (a b : Bool) → (a && b) ≡ true → (a ≡ true) × (b ≡ true)
@@ -33,6 +33,20 @@ prefix_len-parts p (x ∷ prefix) rest all stop =
     let both = both_true (p x) (list_all p prefix) all in
     let passes : p x ≡ true = both.0 in
     rw passes (rw (prefix_len-parts p prefix rest both.1 stop, one-add))
+
+-- Two cuts of a list at the end of the longest prefix that a test accepts are one.
+pub same_cut : (p : ℕ → Bool) (prefix rest prefix' rest' : List ℕ) → list_all p prefix ≡ true
+    → begins_with p rest ≡ false → list_all p prefix' ≡ true → begins_with p rest' ≡ false
+    → prefix ++ rest ≡ prefix' ++ rest' → (prefix ≡ prefix') × (rest ≡ rest')
+same_cut p prefix rest prefix' rest' all stop all' stop' whole =
+    let counted =
+    sym (prefix_len-parts p prefix rest all stop) ∙ ap (prefix_len p) whole
+    ∙ prefix_len-parts p prefix' rest' all' stop' in (
+      sym (take-append_seam prefix rest) ∙ ap (take (length prefix)) whole
+          ∙ ap (λ n. take n (prefix' ++ rest')) counted ∙ take-append_seam prefix' rest',
+      sym (drop-append_seam prefix rest) ∙ ap (drop (length prefix)) whole
+          ∙ ap (λ n. drop n (prefix' ++ rest')) counted ∙ drop-append_seam prefix' rest',
+    )
 
 -- `&bytes[i..]`
 pub from_place : (bytes : List ℕ) (i : ℕ) → take (length bytes - i) (drop i bytes) ≡ drop i bytes

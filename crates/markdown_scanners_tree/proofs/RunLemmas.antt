@@ -1,5 +1,5 @@
 -- Runs of one byte, and prefixes before a line ending.
-use Rattle.std.proofs.Common.{◌≡◌, ℕ, ◌+◌, ◌-◌, ◌≤◌, Bool, true, false, not, ◌==◌, List, [], ◌∷◌, ◌++◌, length, take, drop, refl, sym, ap, ◌∙◌, arith, inl, inr, Option, Some, zero, suc, replicate}
+use Rattle.std.proofs.Common.{◌≡◌, ℕ, ◌+◌, ◌-◌, ◌≤◌, Bool, true, false, not, ◌==◌, List, [], ◌∷◌, ◌++◌, length, take, drop, refl, sym, ap, subst, ◌∙◌, arith, inl, inr, Option, Some, zero, suc, replicate}
 use Rattle.std.specs.List.{prefix_len, list_all}
 use Rattle.std.proofs.lemmas.Bool.{cases_Bool, eqb-true}
 use Rattle.std.proofs.lemmas.List.{take-append-drop, drop-drop}
@@ -7,7 +7,7 @@ use Rattle.std.proofs.lemmas.List.Folds.{length-prefix_len}
 use Rattle.std.proofs.Math.Seq.{drop-append_seam}
 use Rattle.markdown_scanners_tree.specs.Bytes.{begins_with, line_ending}
 use Rattle.markdown_scanners_tree.specs.scanners.Lines.{IsRunOf}
-use Rattle.markdown_scanners_tree.proofs.PrefixLemmas.{from_place, both_true, list_all-prefix, begins_with-after_prefix, prefix_len-parts}
+use Rattle.markdown_scanners_tree.proofs.PrefixLemmas.{from_place, both_true, list_all-prefix, begins_with-after_prefix, prefix_len-parts, same_cut}
 use Rattle.markdown_scanners_tree.proofs.scanners.lines.BlankLemmas.{first-line_ending}
 
 pub not_true : (b : Bool) → not b ≡ true → b ≡ false
@@ -51,6 +51,13 @@ module _ (byte : ℕ) (bytes : List ℕ) where
       ∙ prefix_len-parts (λ b. b == byte) run rest is.all (not_true _ is.longest) in
       (sym whole, sym (ap (λ n. drop n bytes) whole ∙ ap (drop (length run)) is.parts ∙ drop-append_seam run rest))
 
+-- A text begins with one run of a byte.
+pub one_run : (byte : ℕ) (bytes run rest run' rest' : List ℕ) → IsRunOf byte bytes run rest
+    → IsRunOf byte bytes run' rest' → (run ≡ run') × (rest ≡ rest')
+one_run byte bytes run rest run' rest' is is' =
+    same_cut (λ b. b == byte) run rest run' rest' is.all (not_true _ is.longest) is'.all (not_true _ is'.longest)
+    (sym is.parts ∙ is'.parts)
+
 -- A prefix that passes, before a line ending, is the longest one.
 module _ (p : ℕ → Bool) (lf : p 10 ≡ false) (cr : p 13 ≡ false) where
   pub prefix-only : (bytes prefix after : List ℕ) (ending : ℕ) → bytes ≡ prefix ++ after → list_all p prefix ≡ true
@@ -64,6 +71,14 @@ module _ (p : ℕ → Bool) (lf : p 10 ≡ false) (cr : p 13 ≡ false) where
             ∙ drop-append_seam prefix after),
       )
 
+  -- and there is one
+  pub one_prefix : (prefix after prefix' after' : List ℕ) (ending ending' : ℕ) → list_all p prefix ≡ true
+      → line_ending after ≡ Some ending → list_all p prefix' ≡ true → line_ending after' ≡ Some ending'
+      → prefix ++ after ≡ prefix' ++ after' → (prefix ≡ prefix') × (after ≡ after')
+  one_prefix prefix after prefix' after' ending ending' all ends all' ends' whole =
+      same_cut p prefix after prefix' after' all (first-line_ending p lf cr after ending ends) all'
+      (first-line_ending p lf cr after' ending' ends') whole
+
 pub not_empty : (p : ℕ → Bool) (bytes : List ℕ) → 1 ≤ prefix_len p bytes → begins_with p bytes ≡ true
 not_empty p [] some = absurd (omega (arith, some))
 not_empty p (b ∷ bytes) some = elim (cases_Bool (p b)) [
@@ -75,6 +90,24 @@ pub begun_by : (bytes : List ℕ) (x y : ℕ) → begins_with (λ b. b == x) byt
     → begins_with (λ b. b == y) bytes ≡ true → x ≡ y
 begun_by [] x y first second = cc
 begun_by (b ∷ bytes) x y first second = sym (eqb-true b x first) ∙ eqb-true b y second
+
+-- A run that is not empty is made of the byte that begins the text,
+pub run_begins : (byte : ℕ) (bytes run rest : List ℕ) → IsRunOf byte bytes run rest → 1 ≤ length run
+    → begins_with (λ b. b == byte) bytes ≡ true
+run_begins byte bytes run rest is some =
+    let only = run-only byte bytes run rest is in
+    let counted : 1 ≤ prefix_len (λ b. b == byte) bytes = omega (arith, only.0, some) in
+    not_empty (λ b. b == byte) bytes counted
+
+-- so that there is one such run, whichever byte it is of.
+pub one_begun_run : (bytes : List ℕ) (byte : ℕ) (run rest : List ℕ) (byte' : ℕ) (run' rest' : List ℕ)
+    → IsRunOf byte bytes run rest → IsRunOf byte' bytes run' rest' → 1 ≤ length run → 1 ≤ length run'
+    → (byte ≡ byte') × (run ≡ run') × (rest ≡ rest')
+one_begun_run bytes byte run rest byte' run' rest' is is' some some' =
+    let same : byte ≡ byte' = begun_by bytes byte byte' (run_begins byte bytes run rest is some)
+    (run_begins byte' bytes run' rest' is' some') in
+    let parts = one_run byte' bytes run rest run' rest' (subst (λ (b : ℕ). IsRunOf b bytes run rest) same is) is' in
+    (same, parts.0, parts.1)
 
 -- What a scan of `&bytes[i..]` or of `&bytes[i + j..]` tells of the bytes from there.
 pub prefix_len-from : (p : ℕ → Bool) (bytes : List ℕ) (i n : ℕ)

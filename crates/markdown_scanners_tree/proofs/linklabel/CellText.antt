@@ -6,7 +6,7 @@ use Rattle.std.proofs.lemmas.Bool.{and_parts}
 use Rattle.markdown_scanners_tree.specs.Bytes.{begins_with, is_line_ending, is_white_space}
 use Rattle.markdown_scanners_tree.specs.Ascii.{space, backslash}
 use Rattle.markdown_scanners_tree.specs.Kept.{KeptByte, in_line, at_line_end, kept_line, kept_return}
-use Rattle.markdown_scanners_tree.specs.scanners.Tables.{is_pipe}
+use Rattle.markdown_scanners_tree.specs.scanners.tables.DelimiterRow.{is_pipe}
 use Rattle.markdown_scanners_tree.specs.linklabel.Label.{is_white, pipe_at, without_pipe_backslashes, has_pipe_backslash, in_cell}
 use Rattle.markdown_scanners_tree.specs.linklabel.private.Pass.{starts_dropped}
 use Rattle.markdown_scanners_tree.proofs.linklabel.JoinedWords.{text_from}

@@ -17,7 +17,7 @@ use Rattle.markdown_scanners_tree.specs.linklabel.Label.{is_white, white_runs, c
 use Rattle.markdown_scanners_tree.specs.linklabel.private.Pass.{begun, due_len, starts_dropped, word_text, new_tally, tally_past_ending, tally_past_space, tally_past_word}
 use Rattle.markdown_scanners_tree.specs.declared.linklabel.tally.Tally.{Tally}
 use Rattle.markdown_scanners_tree.proofs.linklabel.WhiteRuns.{few, few-white_runs, few_at_ending, lone, lone_runs}
-use Rattle.markdown_scanners_tree.specs.scanners.Tables.{is_pipe}
+use Rattle.markdown_scanners_tree.specs.scanners.tables.DelimiterRow.{is_pipe}
 use Rattle.markdown_scanners_tree.proofs.linklabel.JoinedWords.{text_from, joined_words-from, lone_outer}
 use Rattle.markdown_scanners_tree.proofs.linklabel.CellText.{Follows, follows_byte, space_of, text_from-white, text_from-word, has_dropped-byte, not_dropped-white, gap_of_line, in_cell-same}
 

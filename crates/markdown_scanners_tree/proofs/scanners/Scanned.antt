@@ -1,6 +1,11 @@
 -- What the scanners' definitions say beyond the contracts of the calls, for callers in other crates.
 pub use Rattle.markdown_scanners_tree.proofs.scanners.breaks.BreakLemmas.{thematic_breaks}
-pub use Rattle.markdown_scanners_tree.proofs.scanners.lines.BlankLemmas.{blank_lines}
+pub use Rattle.markdown_scanners_tree.proofs.scanners.fences.OneFence.{one_code_fence, one_closing_fence}
+pub use Rattle.markdown_scanners_tree.proofs.scanners.headings.OneHeading.{one_atx_heading, one_underline}
+pub use Rattle.markdown_scanners_tree.proofs.scanners.lines.BlankLemmas.{blank_lines, one_blank_line}
+pub use Rattle.markdown_scanners_tree.proofs.scanners.lines.OneQuoteStart.{one_quote_start}
 pub use Rattle.markdown_scanners_tree.proofs.scanners.links.LinkLemmas.{one_uri}
 pub use Rattle.markdown_scanners_tree.proofs.scanners.links.OneDestination.{one_destination}
+pub use Rattle.markdown_scanners_tree.proofs.scanners.metadata.OneMetadata.{one_metadata_block, one_closing_metadata}
+pub use Rattle.markdown_scanners_tree.proofs.scanners.tables.OneRow.{one_row}
 pub use Rattle.markdown_scanners_tree.proofs.scanners.unescaping.PieceLemmas.{same_pieces}

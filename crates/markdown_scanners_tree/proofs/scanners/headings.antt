@@ -1,2 +1,3 @@
 pub mod HeadingLemmas
+pub mod OneHeading
 pub mod Rows

@@ -1,2 +1,3 @@
 pub mod MetadataLemmas
+pub mod OneMetadata
 pub mod Rows

@@ -1,4 +1,5 @@
 pub mod CellLemmas
 pub mod CellScan
 pub mod DelimiterRowLemmas
+pub mod OneRow
 pub mod RowLemmas

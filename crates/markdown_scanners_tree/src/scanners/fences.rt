@@ -1,6 +1,6 @@
 //! Fences of code blocks.
 ghost use Rattle.std.specs.Prelude.{◌≡◌, ◌≤◌, ◌==◌, length, IsTrue, IfSome};
-ghost use Rattle.markdown_scanners_tree.specs.SomeExactly.{SomeExactly};
+ghost use Rattle.markdown_scanners_tree.specs.SomeExactly.{SomeExactly, IsOnly};
 ghost use Rattle.markdown_scanners_tree.specs.Bytes.{begins_with};
 ghost use Rattle.markdown_scanners_tree.specs.scanners.Fences.{IsCodeFence, IsClosingCodeFence, is_fence_byte, has_backtick_in_line};
 
@@ -14,6 +14,7 @@ use memchr::memchr2;
 /// a fence of backticks, and a CR does not end that line. (CommonMark 0.31.2, section 4.5.)
 pub fn scan_code_fence(bytes: &[u8]) -> Option<(usize, u8)>
     ensures found { SomeExactly (λ r. IsCodeFence bytes.now r.0 r.1) result }
+    ensures only { IsOnly (λ r. IsCodeFence bytes.now r.0 r.1) result }
     ensures within { IfSome result (λ r. r.0 ≤ length bytes.now) }
 {
     match bytes {
@@ -56,6 +57,7 @@ fn has_backtick(bytes: &[u8]) -> bool
 /// text closes a fence too, with length 0. (CommonMark 0.31.2, section 4.5.)
 pub fn scan_closing_code_fence(bytes: &[u8], fence_char: u8, n_fence_char: usize) -> Option<usize>
     ensures found { SomeExactly (IsClosingCodeFence bytes.now fence_char n_fence_char) result }
+    ensures only { IsOnly (IsClosingCodeFence bytes.now fence_char n_fence_char) result }
     ensures within { IfSome result (λ n. n ≤ length bytes.now) }
 {
     if bytes.is_empty() {

@@ -1,7 +1,7 @@
 //! Headings.
 ghost use Rattle.std.specs.Prelude.{◌≡◌, ◌≤◌, ◌==◌, length, Some, IsTrue, IfSome};
 ghost use Rattle.markdown_values.specs.values.Headings.{heading_number};
-ghost use Rattle.markdown_scanners_tree.specs.SomeExactly.{SomeExactly};
+ghost use Rattle.markdown_scanners_tree.specs.SomeExactly.{SomeExactly, IsOnly};
 ghost use Rattle.markdown_scanners_tree.specs.Bytes.{begins_with, ends_or_begins_with, is_white_space};
 ghost use Rattle.markdown_scanners_tree.specs.scanners.Headings.{IsAtxHeading, IsSetextUnderline, underline_byte};
 
@@ -15,6 +15,7 @@ use markdown_values::values::HeadingLevel;
 /// Its opening has as many bytes as the level has number.
 pub fn scan_atx_heading(bytes: &[u8]) -> Option<HeadingLevel>
     ensures found { SomeExactly (IsAtxHeading bytes.now) result }
+    ensures only { IsOnly (IsAtxHeading bytes.now) result }
     ensures within { IfSome result (λ level. heading_number level ≤ length bytes.now) }
 {
     let run = scan_ch_repeat(bytes, b'#');
@@ -38,6 +39,7 @@ fn ends_or_begins_with_space(bytes: &[u8]) -> bool
 /// the level of the heading. (CommonMark 0.31.2, section 4.3.)
 pub fn scan_setext_heading(bytes: &[u8]) -> Option<(usize, HeadingLevel)>
     ensures found { SomeExactly (λ r. IsSetextUnderline bytes.now r.0 r.1) result }
+    ensures only { IsOnly (λ r. IsSetextUnderline bytes.now r.0 r.1) result }
     ensures within { IfSome result (λ r. r.0 ≤ length bytes.now) }
 {
     match bytes {

@@ -3,7 +3,8 @@ ghost use Rattle.std.specs.Prelude.{◌≡◌, ◌↔◌, IsTrue, length, map, C
 ghost use Rattle.std.specs.Ordering.{nat_cmp};
 ghost use Rattle.std.specs.Char.{to_ascii_lowercase};
 ghost use Rattle.std.specs.Cmp.Lexicographic.{slice_cmp};
-ghost use Rattle.markdown_scanners_tree.specs.scanners.HtmlBlock.{IsBlockName, IsBlockStart, ends_block_name, rises, texts, after_slash};
+ghost use Rattle.markdown_scanners_tree.specs.scanners.html_block.HtmlBlock.{IsBlockName, IsBlockStart, ends_block_name};
+ghost use Rattle.markdown_scanners_tree.specs.scanners.html_block.private.BlockRows.{rises, texts, after_slash};
 
 use crate::scanners::runs::scan_alphanumerics;
 use std::cmp::Ordering;

@@ -1,6 +1,6 @@
 //! Line endings, blank lines and the marks at the front of a line.
 ghost use Rattle.std.specs.Prelude.{◌≡◌, ◌≤◌, length, IfSome};
-ghost use Rattle.markdown_scanners_tree.specs.SomeExactly.{SomeExactly};
+ghost use Rattle.markdown_scanners_tree.specs.SomeExactly.{SomeExactly, IsOnly};
 ghost use Rattle.markdown_scanners_tree.specs.Bytes.{line_ending, IsBlankLine, blank_line};
 ghost use Rattle.markdown_scanners_tree.specs.scanners.Lines.{next_line, IsBlockQuoteStart};
 
@@ -53,6 +53,7 @@ pub fn scan_nextline(bytes: &[u8]) -> usize
 /// it may belong to the marker.
 pub fn scan_blockquote_start(bytes: &[u8]) -> Option<usize>
     ensures found { SomeExactly (IsBlockQuoteStart bytes.now) result }
+    ensures only { IsOnly (IsBlockQuoteStart bytes.now) result }
     ensures within { IfSome result (λ n. n ≤ length bytes.now) }
 {
     match bytes {

@@ -2,7 +2,8 @@
 ghost use Rattle.std.specs.Prelude.{◌≡◌, ◌≤◌, ◌==◌, ◌+◌, ℕ, List, length, drop, true, IfSome, IfNone};
 ghost use Rattle.std.specs.Bool.{Decides};
 ghost use Rattle.std.specs.List.{prefix_len};
-ghost use Rattle.markdown_scanners_tree.specs.SomeExactly.{SomeExactly};
+ghost use Rattle.std.specs.Option.{option_map};
+ghost use Rattle.markdown_scanners_tree.specs.SomeExactly.{SomeExactly, IsOnly};
 ghost use Rattle.markdown_scanners_tree.specs.scanners.Metadata.{is_after_opening, IsLineOfThree, IsClosingMetadataBlock, HasLaterClose, IsOpeningLine, IsBlockOf, IsMetadataBlock};
 
 use crate::scanners::lines::{scan_blank_line, scan_eol};
@@ -20,6 +21,8 @@ pub fn scan_metadata_block(
 ) -> Option<(usize, u8)>
     ensures found { SomeExactly
         (λ r. IsMetadataBlock bytes.now yaml_style_enabled pluses_style_enabled r.1) result }
+    ensures only { IsOnly (IsMetadataBlock bytes.now yaml_style_enabled pluses_style_enabled)
+        (option_map (λ r. r.1) result) }
     ensures opening { IfSome result (λ r. r.0 ≡ 3) }
     ensures within { IfSome result (λ r. r.0 ≤ length bytes.now) }
 {
@@ -104,6 +107,7 @@ fn has_later_close(body: &[u8], byte: u8) -> bool
 /// ending, where `fence_char` opened the block.
 pub fn scan_closing_metadata_block(bytes: &[u8], fence_char: u8) -> Option<usize>
     ensures found { SomeExactly (IsClosingMetadataBlock bytes.now fence_char) result }
+    ensures only { IsOnly (IsClosingMetadataBlock bytes.now fence_char) result }
     ensures within { IfSome result (λ n. n ≤ length bytes.now) }
 {
     match scan_line_of_three(bytes, fence_char) {

@@ -1,8 +1,9 @@
 //! The delimiter row of a table.
-ghost use Rattle.std.specs.Prelude.{◌≡◌, ◌+◌, ◌<◌, ◌≤◌, ◌==◌, [], length, drop, ◌++◌, map, IsTrue, false, not, ◌||◌, ◌&&◌, OnOk, IfSome, IfNone, IfOk};
+ghost use Rattle.std.specs.Prelude.{◌≡◌, ◌+◌, ◌<◌, ◌≤◌, ◌==◌, ℕ, List, [], length, drop, ◌++◌, map, IsTrue, false, not, ◌||◌, ◌&&◌, OnOk, IfSome, IfNone, IfOk};
 ghost use Rattle.std.specs.List.{prefix_len, list_any};
 ghost use Rattle.markdown_scanners_tree.specs.Bytes.{begins_with};
-ghost use Rattle.markdown_scanners_tree.specs.scanners.Tables.{is_cell_byte, is_row_byte, may_be_row, alignment, alignment_by, counted_last_cell, is_space, is_hyphen, is_colon, is_pipe, after_cell, NoCells, AreScannedCells, IsDelimiterRow, NoDelimiterRow};
+ghost use Rattle.markdown_scanners_tree.specs.scanners.tables.DelimiterRow.{is_cell_byte, alignment, alignment_by, counted_last_cell, is_space, is_hyphen, is_colon, is_pipe, IsDelimiterRow, NoDelimiterRow};
+ghost use Rattle.markdown_scanners_tree.specs.scanners.tables.private.ScannedCells.{is_row_byte, may_be_row, after_cell, NoCells, AreScannedCells};
 
 use crate::scanners::lines::scan_eol;
 use crate::scanners::runs::{has_byte, scan_ch, scan_ch_repeat};
@@ -23,6 +24,8 @@ const MOST_SPACES: usize = 3;
 pub fn scan_table_head(alloc: Global, bytes: &[u8]) -> Result<(usize, Vec<Alignment>), AllocError>
     // A row is there, or none.
     ensures found { IfOk result (λ r. 0 < r.0 → IsDelimiterRow bytes.now r.0 r.1.items) }
+    ensures only { IfOk result (λ r. 0 < r.0 → (row : ℕ × List Alignment)
+        → IsDelimiterRow bytes.now row.0 row.1 → row ≡ (r.0, r.1.items)) }
     ensures none { IfOk result (λ r. r.0 ≡ 0 → NoDelimiterRow bytes.now) }
 
     // How many alignments and bytes are answered.

@@ -9,7 +9,7 @@ use Rattle.markdown_scanners_tree.specs.Ascii.{line_feed, backtick}
 use Rattle.markdown_scanners_tree.specs.Bytes.{begins_with, line_ending, is_space_or_tab}
 use Rattle.markdown_scanners_tree.specs.scanners.Fences.{IsFenceClose, IsClosingCodeFence, IsCodeFence, is_fence_byte, has_backtick_in_line}
 use Rattle.markdown_scanners_tree.proofs.PrefixLemmas.{list_all-prefix}
-use Rattle.markdown_scanners_tree.proofs.RunLemmas.{not_true, not_false, run-scanned, run-only, prefix-only, not_empty, begun_by}
+use Rattle.markdown_scanners_tree.proofs.RunLemmas.{not_true, not_false, run-scanned, run-only, prefix-only, begun_by, run_begins}
 
 -- a backtick or an LF
 abbrev ends_search : ℕ → Bool
@@ -115,8 +115,9 @@ module _ (bytes : List ℕ) (byte run : ℕ) (begins : begins_with (λ b. b == b
       → (other ≡ byte) × (length fence.run ≡ run) × (fence.rest ≡ drop run bytes)
   fence-only n other fence =
       let only = run-only other bytes fence.run fence.rest fence.is_run in
-      let some : 1 ≤ prefix_len (λ b. b == other) bytes = omega (arith, only.0, fence.at_least_three) in
-      let same : other ≡ byte = begun_by bytes other byte (not_empty (λ b. b == other) bytes some) begins in
+      let some : 1 ≤ length fence.run = omega (arith, fence.at_least_three) in
+      let same : other ≡ byte =
+      begun_by bytes other byte (run_begins other bytes fence.run fence.rest fence.is_run some) begins in
       let run_is : prefix_len (λ b. b == other) bytes ≡ run =
       ap (λ k. prefix_len (λ b. b == k) bytes) same ∙ sym is_run in
       (same, only.0 ∙ run_is, only.1 ∙ ap (λ k. drop k bytes) run_is)

@@ -10,7 +10,7 @@ use Rattle.markdown_scanners_tree.specs.Ascii.{number_sign}
 use Rattle.markdown_scanners_tree.specs.Bytes.{begins_with, ends_or_begins_with, is_white_space, IsBlankLine}
 use Rattle.markdown_scanners_tree.specs.scanners.Headings.{IsAtxHeading, underline_byte, IsSetextUnderline}
 use Rattle.markdown_scanners_tree.proofs.PrefixLemmas.{from_place, prefix_len-parts}
-use Rattle.markdown_scanners_tree.proofs.RunLemmas.{list_all-replicate, run-scanned, run-only, not_empty, begun_by}
+use Rattle.markdown_scanners_tree.proofs.RunLemmas.{list_all-replicate, run-scanned, run-only, begun_by, run_begins}
 
 -- the run of `#` of a heading has the level's number
 no_hash : (rest : List ℕ) → ends_or_begins_with is_white_space rest ≡ true
@@ -63,9 +63,8 @@ pub underline-open : (bytes : List ℕ) (byte run : ℕ) → begins_with (λ b. 
     → ¬ IsSetextUnderline bytes n level
 underline-open bytes byte run begins is_run none n level line =
     let only = run-only line.byte bytes line.run line.rest line.is_run in
-    let some : 1 ≤ prefix_len (λ b. b == line.byte) bytes =
-    (let some = line.at_least_one in omega (arith, only.0, some)) in
-    let same : line.byte ≡ byte = begun_by bytes line.byte byte (not_empty (λ b. b == line.byte) bytes some) begins in
+    let same : line.byte ≡ byte =
+    begun_by bytes line.byte byte (run_begins line.byte bytes line.run line.rest line.is_run line.at_least_one) begins in
     let rest : line.rest ≡ drop run bytes =
     only.1 ∙ ap (λ k. drop (prefix_len (λ b. b == k) bytes) bytes) same ∙ ap (λ n. drop n bytes) (sym is_run) in
     none line.blank

@@ -10,7 +10,7 @@ use Rattle.std.proofs.lemmas.List.{get_or-map, length-map}
 use Rattle.std.proofs.lemmas.Map.Lookups.{exact_bytes}
 use Rattle.std.specs.Cmp.{tied_itself}
 use native.Mathlib.Numerals.{unary_clauses}
-use Rattle.markdown_scanners_tree.specs.scanners.HtmlBlock.{text, texts, rises}
+use Rattle.markdown_scanners_tree.specs.scanners.html_block.private.BlockRows.{text, texts, rises}
 use Rattle.std.proofs.lemmas.Bool.{cases_lt}
 use Rattle.markdown_scanners_tree.proofs.PrefixLemmas.{both_true}
 use Rattle.markdown_scanners_tree.proofs.RunLemmas.{not_true}

@@ -9,7 +9,8 @@ use Rattle.std.proofs.lemmas.List.Sums.{AllPass-from_list_all, list_all-from_All
 use Rattle.std.proofs.Math.Seq.{drop-append_seam, take-append_seam}
 use Rattle.markdown_scanners_tree.specs.Ascii.{slash}
 use Rattle.markdown_scanners_tree.specs.Bytes.{begins_with, is_alphanumeric}
-use Rattle.markdown_scanners_tree.specs.scanners.HtmlBlock.{block_names, IsBlockName, ends_block_name, IsBlockStart, after_slash}
+use Rattle.markdown_scanners_tree.specs.scanners.html_block.HtmlBlock.{block_names, IsBlockName, ends_block_name, IsBlockStart}
+use Rattle.markdown_scanners_tree.specs.scanners.html_block.private.BlockRows.{after_slash}
 use Rattle.markdown_scanners_tree.proofs.PrefixLemmas.{both_true, list_all-prefix, prefix_len-parts, from_place}
 
 abbrev run : List ℕ → ℕ

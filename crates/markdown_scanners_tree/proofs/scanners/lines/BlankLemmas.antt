@@ -97,6 +97,12 @@ blank_line-is bytes n line =
     rw line.parts (line_length-parts line.space line.rest line.ending all line.ends) ∙ sym line.counted in
     ap (λ t. cond t (Some (line_length bytes)) None) blank ∙ ap (λ k. Some k) counted
 
+-- a text begins with one blank line at most
+pub one_blank_line : (bytes : List ℕ) (n n' : ℕ) → IsBlankLine bytes n → IsBlankLine bytes n' → n ≡ n'
+one_blank_line bytes n n' is is' =
+    let same : Some n ≡ Some n' = sym (blank_line-is bytes n is) ∙ blank_line-is bytes n' is' in
+    cc
+
 -- the test answers the question
 pub is_blank-found : (bytes : List ℕ) → (n : ℕ) × IsBlankLine bytes n → is_blank bytes ≡ true
 is_blank-found bytes (n, line) = elim (cases_Bool (is_blank bytes)) [

@@ -6,6 +6,7 @@ use Rattle.std.proofs.lemmas.Bool.{false≢true}
 use Rattle.markdown_scanners_tree.specs.Ascii.{greater_than_sign, right_parenthesis}
 use Rattle.markdown_scanners_tree.specs.scanners.links.LinkDestination.{stands_pointed, stands_bare, opening_count, closing_count, ends_bare, IsBalanced, IsPointedFrom, IsBareFrom, IsLinkDestination}
 use Rattle.markdown_scanners_tree.proofs.PrefixLemmas.{both_true}
+use Rattle.markdown_scanners_tree.proofs.SomeExactlyLemmas.{same_pair}
 use Rattle.markdown_scanners_tree.proofs.scanners.links.BareLemmas.{Turns, head_of, balanced_off, ends_unit}
 
 -- between `<` and `>`: the units before the first `>`
@@ -73,9 +74,6 @@ one_bare most d text n n' is is' =
     is'.each_stands is.balanced is'.balanced is.ends is'.ends in
     is.n_is_length ∙ (ap (λ us. length (concat us)) same ∙ sym is'.n_is_length)
 
-pair_same : (m n : ℕ) (xs ys : List ℕ) → m ≡ n → xs ≡ ys → ◌≡◌ {A = ℕ × List ℕ} (m, xs) (n, ys)
-pair_same m n xs ys first second = λ i. (first i, second i)
-
 -- how many bytes it takes, and its raw text
 pub one_destination : (most : ℕ) (text : List ℕ) (taken : ℕ) (destination : List ℕ) (taken' : ℕ) (destination' : List ℕ)
     → IsLinkDestination most text taken destination → IsLinkDestination most text taken' destination'
@@ -84,7 +82,7 @@ one_destination most text taken destination taken' destination' (inl is) (inl is
     let after : is.after ≡ is'.after = ap (drop 1) (sym is.opens ∙ is'.opens) in
     let long = one_pointed is'.after is.n is'.n (rw after at is.pointed) is'.pointed in
     let same : taken ≡ taken' = omega (arith, is.with_brackets, is'.with_brackets, long) in
-    pair_same taken taken' destination destination' same
+    same_pair same
     (is.slice ∙ (ap (λ k. slice_range text 1 (k - 1)) same ∙ sym is'.slice))
 one_destination most text taken destination taken' destination' (inl is) (inr is') =
     absurd (is'.unpointed is.after is.opens)
@@ -92,4 +90,4 @@ one_destination most text taken destination taken' destination' (inr is) (inl is
     absurd (is.unpointed is'.after is'.opens)
 one_destination most text taken destination taken' destination' (inr is) (inr is') =
     let same = one_bare most 0 text taken taken' is.bare is'.bare in
-    pair_same taken taken' destination destination' same (is.slice ∙ (ap (λ k. take k text) same ∙ sym is'.slice))
+    same_pair same (is.slice ∙ (ap (λ k. take k text) same ∙ sym is'.slice))

@@ -4,27 +4,13 @@ use Rattle.std.proofs.Common.{◌≡◌, ℕ, ◌+◌, ◌-◌, ◌<◌, Bool, t
 use Rattle.std.specs.List.{prefix_len, list_all, list_any, flat_map, filter}
 use Rattle.std.proofs.lemmas.Bool.{cases_Bool, eqb-true}
 use Rattle.std.proofs.lemmas.Bool.Decides.{nat_tests}
-use Rattle.std.proofs.Math.Seq.{drop-append_seam, take-append_seam}
 use Rattle.markdown_values.specs.declared.values.Alignment.TheVariants as Aligned
 use Rattle.markdown_scanners_tree.specs.Ascii.{vertical_line}
 use Rattle.markdown_scanners_tree.specs.Bytes.{begins_with, line_ending}
-use Rattle.markdown_scanners_tree.specs.scanners.Tables.{is_cell_byte, is_cell, alignment, alignment_by, ended_cell, AreCells, is_space, is_hyphen, is_colon, is_pipe}
-use Rattle.markdown_scanners_tree.proofs.PrefixLemmas.{from_place, both_true, prefix_len-parts}
+use Rattle.markdown_scanners_tree.specs.scanners.tables.DelimiterRow.{is_cell_byte, is_cell, alignment, alignment_by, ended_cell, is_space, is_hyphen, is_colon, is_pipe}
+use Rattle.markdown_scanners_tree.specs.scanners.tables.private.ScannedCells.{AreCells}
+use Rattle.markdown_scanners_tree.proofs.PrefixLemmas.{from_place, both_true, same_cut}
 use Rattle.markdown_scanners_tree.proofs.scanners.lines.BlankLemmas.{first-line_ending}
-
--- Two cuts of a list at the end of the longest prefix that a test accepts are one.
-same_cut : (p : ℕ → Bool) (prefix rest prefix' rest' : List ℕ) → list_all p prefix ≡ true
-    → begins_with p rest ≡ false → list_all p prefix' ≡ true → begins_with p rest' ≡ false
-    → prefix ++ rest ≡ prefix' ++ rest' → (prefix ≡ prefix') × (rest ≡ rest')
-same_cut p prefix rest prefix' rest' all stop all' stop' whole =
-    let counted =
-    sym (prefix_len-parts p prefix rest all stop) ∙ ap (prefix_len p) whole
-    ∙ prefix_len-parts p prefix' rest' all' stop' in (
-      sym (take-append_seam prefix rest) ∙ ap (take (length prefix)) whole
-          ∙ ap (λ n. take n (prefix' ++ rest')) counted ∙ take-append_seam prefix' rest',
-      sym (drop-append_seam prefix rest) ∙ ap (drop (length prefix)) whole
-          ∙ ap (λ n. drop n (prefix' ++ rest')) counted ∙ drop-append_seam prefix' rest',
-    )
 
 list_any-filter : (bytes : List ℕ) → list_any is_colon (filter (λ b. not (is_space b)) bytes) ≡ list_any is_colon bytes
 list_any-filter [] = refl

@@ -7,7 +7,8 @@ use Rattle.std.proofs.Math.Dec.{eqb-suc-zero}
 use Rattle.markdown_values.specs.declared.values.Alignment.{Alignment}
 use Rattle.markdown_scanners_tree.specs.Ascii.{vertical_line}
 use Rattle.markdown_scanners_tree.specs.Bytes.{begins_with, line_ending}
-use Rattle.markdown_scanners_tree.specs.scanners.Tables.{is_cell_byte, is_cell, alignment, counted_last_cell, is_empty, AreCells, NoCells, AreScannedCells, is_space, is_hyphen, is_pipe}
+use Rattle.markdown_scanners_tree.specs.scanners.tables.DelimiterRow.{is_cell_byte, is_cell, alignment, counted_last_cell, is_empty, is_space, is_hyphen, is_pipe}
+use Rattle.markdown_scanners_tree.specs.scanners.tables.private.ScannedCells.{AreCells, NoCells, AreScannedCells}
 use Rattle.markdown_scanners_tree.proofs.PrefixLemmas.{from_place, both_true, list_all-prefix, begins_with-after_prefix}
 use Rattle.markdown_scanners_tree.proofs.scanners.tables.CellLemmas.{AreCells-tail, AreCells-cons, AreCells-last}
 

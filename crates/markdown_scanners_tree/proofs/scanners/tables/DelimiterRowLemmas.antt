@@ -10,7 +10,8 @@ use Rattle.std.proofs.Math.ListN.{replicate}
 use Rattle.markdown_values.specs.declared.values.Alignment.{Alignment}
 use Rattle.markdown_scanners_tree.specs.Ascii.{vertical_line}
 use Rattle.markdown_scanners_tree.specs.Bytes.{begins_with}
-use Rattle.markdown_scanners_tree.specs.scanners.Tables.{is_cell_byte, is_cell, alignment, ended_cell, delimiter_row, counted_cells, is_empty, AreCells, NoCells, AreScannedCells, IsDelimiterRow, NoDelimiterRow, is_space, is_hyphen, is_pipe}
+use Rattle.markdown_scanners_tree.specs.scanners.tables.DelimiterRow.{is_cell_byte, is_cell, alignment, ended_cell, delimiter_row, counted_cells, is_empty, IsDelimiterRow, NoDelimiterRow, is_space, is_hyphen, is_pipe}
+use Rattle.markdown_scanners_tree.specs.scanners.tables.private.ScannedCells.{AreCells, NoCells, AreScannedCells}
 use Rattle.markdown_scanners_tree.proofs.PrefixLemmas.{from_place, both_true, list_all-prefix, begins_with-after_prefix, prefix_len-parts}
 use Rattle.markdown_scanners_tree.proofs.scanners.lines.BlankLemmas.{first-line_ending}
 use Rattle.markdown_scanners_tree.proofs.RunLemmas.{not_true, list_all-replicate, replicate-all}

@@ -2,6 +2,7 @@ use Rattle.std.proofs.Common.{sym, ◌∙◌}
 use Rattle.markdown_scanners_tree.specs.Bytes.{is_space_or_tab}
 use Rattle.markdown_scanners_tree.proofs.RunLemmas.{prefix_len-from, line_ending-from}
 use Rattle.markdown_scanners_tree.proofs.scanners.fences.FenceLemmas.{fence_close-few, fence_close-scanned, fence_close-open, closing-found, closing-only}
+use Rattle.markdown_scanners_tree.proofs.scanners.fences.OneFence.{one_closing_fence}
 use Rattle.markdown_scanners_tree.proofs.scanners.fences.scan_closing_code_fence.Goals as goal
 
 pub returns-then-run-n_fence_char-clause-found : goal.returns-then-run-n_fence_char-clause-found
@@ -31,3 +32,8 @@ returns-clause-found c =
     c.scan_ch_repeat-run.ensures.run c.scan_spaces_and_tabs-space.result _ c.if-run-n_fence_char.false is_space
     (line_ending-from c.args.bytes.now c.scan_ch_repeat-run.result c.scan_spaces_and_tabs-space.result _
     c.in_ok-scan_eol.ensures.ending))
+
+pub returns-clause-only : goal.returns-clause-only
+returns-clause-only c =
+    λ other is. one_closing_fence c.args.bytes.now c.args.fence_char c.args.n_fence_char other _ is
+    (returns-clause-found c)

@@ -1,10 +1,12 @@
 use Rattle.std.proofs.Common.{arith, rules, ap, sym, ◌∙◌, ◌-◌, length, take, drop}
 use Rattle.std.specs.List.{prefix_len}
 use Rattle.std.proofs.lemmas.Bool.{and_right}
-use Rattle.markdown_scanners_tree.specs.scanners.Tables.{is_space, may_be_row}
+use Rattle.markdown_scanners_tree.specs.scanners.tables.DelimiterRow.{is_space}
+use Rattle.markdown_scanners_tree.specs.scanners.tables.private.ScannedCells.{may_be_row}
 use Rattle.markdown_scanners_tree.proofs.PrefixLemmas.{from_place}
 use Rattle.markdown_scanners_tree.proofs.scanners.tables.RowLemmas.{no_row, row_tests}
 use Rattle.markdown_scanners_tree.proofs.scanners.tables.DelimiterRowLemmas.{delimiter_row-too_far, no_cells, delimiter_row-found, delimiter_row-refused, IsDelimiterRow-some, IsDelimiterRow-some_alignment}
+use Rattle.markdown_scanners_tree.proofs.scanners.tables.OneRow.{one_row}
 use Rattle.markdown_scanners_tree.proofs.scanners.tables.scan_table_head.Goals as goal
 
 pub returns-then-indent-gt-MOST_SPACES-clause-none : goal.returns-then-indent-gt-MOST_SPACES-clause-none
@@ -38,6 +40,7 @@ returns-then-has_hyphens c =
     record {
       found =
           λ _. row;
+      only = λ _ other is. one_row c.args.bytes.now other.0 other.1 _ _ is row;
       none = λ none. absurd (some none);
       empty = λ none. absurd (some none);
       some_alignment = λ _.

@@ -1,8 +1,5 @@
 -- HTML blocks that a known name opens. (CommonMark 0.31.2, section 4.6, start condition 6)
-use Rattle.std.specs.Prelude.{ℕ, Bool, true, ◌||◌, ◌&&◌, ◌==◌, List, [], ◌∷◌, ◌++◌, ◌≡◌, ◌⊎◌, map, codes, Contains, not, IsTrue, if◌then◌else◌}
-use Rattle.std.specs.Ordering.{nat_cmp, is_lt}
-use Rattle.std.specs.Cmp.Lexicographic.{slice_cmp}
-use denote.Ref.{Bor}
+use Rattle.std.specs.Prelude.{ℕ, Bool, true, ◌||◌, ◌&&◌, ◌==◌, List, [], ◌∷◌, ◌++◌, ◌≡◌, ◌⊎◌, map, codes, Contains, IsTrue}
 use Rattle.std.specs.List.{AllPass}
 use Rattle.std.specs.Char.{to_ascii_lowercase}
 use Rattle.markdown_scanners_tree.specs.Ascii.{tab, space, slash, greater_than_sign}
@@ -45,21 +42,3 @@ pub record IsBlockStart (bytes : List ℕ) : Type 0 where
   pub letters_and_digits : AllPass is_alphanumeric name
   pub named : IsBlockName name
   pub ended : IsTrue (ends_block_name rest)
-
--- a row of a table, and all rows, as lists of bytes
-abbrev pub text : Bor (List ℕ) → List ℕ
-text row = row.now
-
-abbrev pub texts : List (Bor (List ℕ)) → List (List ℕ)
-texts = map text
-
--- no row comes before the one before it
-abbrev pub rises : List (Bor (List ℕ)) → Bool
-rises [] = true
-rises (x ∷ []) = true
-rises (x ∷ y ∷ rows) = not (is_lt (slice_cmp nat_cmp (text y) (text x))) && rises (y ∷ rows)
-
--- the bytes without a `/` at their front
-abbrev pub after_slash : List ℕ → List ℕ
-after_slash [] = []
-after_slash (b ∷ bs) = if b == slash then bs else b ∷ bs

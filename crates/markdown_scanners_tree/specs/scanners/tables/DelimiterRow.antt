@@ -1,6 +1,6 @@
 -- The delimiter row of a table. (GitHub Flavored Markdown 0.29, section 4.10, tables)
-use Rattle.std.specs.Prelude.{ℕ, Bool, true, false, not, List, [], ◌∷◌, ◌++◌, ◌≡◌, ◌==◌, ◌||◌, ◌&&◌, ◌+◌, ◌≤◌, length, take, drop, is_some, Some, IsTrue, replicate, filter, flat_map, map, if◌then◌else◌}
-use Rattle.std.specs.List.{prefix_len, list_all, list_any}
+use Rattle.std.specs.Prelude.{ℕ, Bool, true, false, not, List, [], ◌∷◌, ◌++◌, ◌≡◌, ◌==◌, ◌||◌, ◌&&◌, ◌+◌, ◌≤◌, length, Some, IsTrue, replicate, filter, flat_map, map, if◌then◌else◌}
+use Rattle.std.specs.List.{list_all, list_any}
 use Rattle.markdown_values.specs.declared.values.Alignment.{Alignment}
 use Rattle.markdown_values.specs.declared.values.Alignment.TheVariants as Aligned
 use Rattle.markdown_scanners_tree.specs.Ascii.{space, hyphen, colon, vertical_line}
@@ -23,23 +23,9 @@ is_pipe b = b == vertical_line
 abbrev pub is_cell_byte : ℕ → Bool
 is_cell_byte b = is_space b || is_colon b || is_hyphen b
 
--- a byte of a delimiter row: of a cell, or a pipe
-abbrev pub is_row_byte : ℕ → Bool
-is_row_byte b = is_cell_byte b || is_pipe b
-
--- A pipe stands in the longest prefix of bytes of a delimiter row, and the line ends behind it.
-abbrev pub may_be_row : List ℕ → Bool
-may_be_row bytes =
-    is_some (line_ending (drop (prefix_len is_row_byte bytes) bytes))
-    && list_any is_pipe (take (prefix_len is_row_byte bytes) bytes)
-
 -- a list of cell bytes with a hyphen
 abbrev pub is_cell : List ℕ → Bool
 is_cell bytes = list_all is_cell_byte bytes && list_any is_hyphen bytes
-
--- what follows the longest prefix of bytes of a cell
-abbrev pub after_cell : List ℕ → List ℕ
-after_cell bytes = drop (prefix_len is_cell_byte bytes) bytes
 
 -- the alignment by a colon at the front and one later
 abbrev pub alignment_by : Bool → Bool → Alignment
@@ -78,30 +64,6 @@ counted_cells cells last = cells ++ counted_last_cell last
 abbrev pub is_empty : List (List ℕ) → Bool
 is_empty [] = true
 is_empty (cell ∷ cells) = false
-
--- The cells of a delimiter row, a last cell that may be empty, and the line's end.
-pub record AreCells (bytes : List ℕ) (cells : List (List ℕ)) (last rest : List ℕ) (ending : ℕ) : Type 0 where
-  pub parts : bytes ≡ flat_map ended_cell cells ++ (last ++ rest)
-  pub all_cells : IsTrue (list_all is_cell cells)
-  pub last_cell : IsTrue (list_all is_cell_byte last)
-  pub ends : line_ending rest ≡ Some ending
-
--- The bytes are not the cells of a delimiter row.
-abbrev pub NoCells : List ℕ → Type 0
-NoCells bytes =
-    (cells : List (List ℕ)) (last rest : List ℕ) (ending : ℕ) → ¬ AreCells bytes cells last rest ending
-
--- what a scan of the cells tells of them
-pub record AreScannedCells (bytes : List ℕ) (n : ℕ) (alignments : List Alignment) (some_ended hyphen_in_last : Bool) : Type 0 where
-  pub cells : List (List ℕ)
-  pub last : List ℕ
-  pub rest : List ℕ
-  pub ending : ℕ
-  pub are_cells : AreCells bytes cells last rest ending
-  pub counted : n + length rest ≡ length bytes + ending
-  pub aligned : alignments ≡ map alignment (counted_cells cells last)
-  pub tells_ended : some_ended ≡ not (is_empty cells)
-  pub tells_hyphen : hyphen_in_last ≡ list_any is_hyphen last
 
 -- A delimiter row: at most three spaces, a pipe or none, cells that each end in a pipe, a last
 -- cell that may be empty, and the line's end.

@@ -1,0 +1,2 @@
+pub mod HtmlBlock
+pub mod private

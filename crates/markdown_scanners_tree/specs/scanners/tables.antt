@@ -1,0 +1,2 @@
+pub mod DelimiterRow
+pub mod private
