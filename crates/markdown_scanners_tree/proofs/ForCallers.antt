@@ -5,3 +5,4 @@ pub use Rattle.markdown_scanners_tree.proofs.inline_html.TrueGuards.{opener-boun
 pub use Rattle.markdown_scanners_tree.proofs.inline_html.run.GuardsStay.{accepted}
 pub use Rattle.markdown_scanners_tree.proofs.inline_html.run.Sums.{passed-counted}
 pub use Rattle.markdown_scanners_tree.proofs.scanners.Scanned.{one_uri, one_destination, same_pieces, thematic_breaks, blank_lines}
+pub use Rattle.markdown_scanners_tree.proofs.scanners.runs.CallableLemmas.{callable_in_turn}

@@ -29,6 +29,18 @@ fn counts_bytes_that_a_closure_accepts(rt: HostRuntime) {
     assert_eq!(rt; asked, true);
 }
 
+// Counts by a closure of which no more is known than that it may always be called.
+fn count_accepted<F: FnMut(u8) -> bool>(bytes: &[u8], accepts: F) -> usize
+    requires { F.IsAlwaysCallable accepts }
+{
+    scan_while(bytes, accepts)
+}
+
+#[test]
+fn passes_a_closure_on(rt: HostRuntime) {
+    assert_eq!(rt; count_accepted(b"aab", |b| b == b'a'), 2);
+}
+
 // Bytes, the same bytes from the last one on, how many of them are accepted by a closure that
 // accepts each `a`, how often it is asked, and about which bytes: the digits of a number.
 type Asked = (&'static [u8], &'static [u8], usize, usize, u64);
