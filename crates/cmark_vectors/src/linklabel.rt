@@ -134,7 +134,7 @@ fn assert_line_rows(rt: &impl Abort, alloc: Global, rows: &[LineRow]) -> Result<
     Ok(())
 }
 
-const ROWS: [Row; 19] = [
+const ROWS: [Row; 20] = [
     (
         "«\t\tBlurry Eyes\t\t»]",
         b"",
@@ -150,6 +150,7 @@ const ROWS: [Row; 19] = [
     ),
     (" ]", b"", false, None),
     ("a\\|b]", b"", true, Some((5, false, "a|b"))),
+    ("a\\|b]", b"", false, Some((5, true, "a\\|b"))),
     ("a\\\\|b]", b"", true, Some((6, false, "a\\|b"))),
     ("a[b]", b"", false, None),
     ("", b"", false, None),

@@ -22,3 +22,4 @@ pub ruleset only_answers = (
   one_uri,
   same_pieces,
 )
+pub use Rattle.markdown_scanners_tree.proofs.scanners.runs.CallableLemmas.{callable_in_turn}

@@ -129,12 +129,12 @@ impl TryFrom<usize> for HeadingLevel {
 
     fn try_from(number: usize) -> Result<HeadingLevel, InvalidHeadingLevel> {
         match number {
-            1 => Ok(HeadingLevel::H1),
-            2 => Ok(HeadingLevel::H2),
-            3 => Ok(HeadingLevel::H3),
-            4 => Ok(HeadingLevel::H4),
-            5 => Ok(HeadingLevel::H5),
-            6 => Ok(HeadingLevel::H6),
+            n if n == HeadingLevel::H1 as usize => Ok(HeadingLevel::H1),
+            n if n == HeadingLevel::H2 as usize => Ok(HeadingLevel::H2),
+            n if n == HeadingLevel::H3 as usize => Ok(HeadingLevel::H3),
+            n if n == HeadingLevel::H4 as usize => Ok(HeadingLevel::H4),
+            n if n == HeadingLevel::H5 as usize => Ok(HeadingLevel::H5),
+            n if n == HeadingLevel::H6 as usize => Ok(HeadingLevel::H6),
             _ => Err(InvalidHeadingLevel(number)),
         }
     }

@@ -65,6 +65,8 @@ fn reads_uris_in_angle_brackets(rt: HostRuntime) -> Result<(), Fail> {
     assert_eq!(rt; autolink(&rt, "<a@b.c>", 1), None);
     assert_eq!(rt; autolink(&rt, "<ab:>", 1), found(5, "ab:"));
     assert_eq!(rt; autolink(&rt, "<ab:c d>", 1), None);
+    assert_eq!(rt; autolink(&rt, "<a+b-c.d:>", 1), found(10, "a+b-c.d:"));
+    assert_eq!(rt; autolink(&rt, "<a_b:>", 1), None);
     Ok(())
 }
 

@@ -2,7 +2,7 @@
 ghost use Rattle.std.specs.Prelude.{◌≡◌, ◌≤◌, ◌==◌, length, take, reverse, if◌then◌else◌};
 ghost use Rattle.std.specs.List.{prefix_len, list_any};
 ghost use Rattle.markdown_scanners_tree.specs.Bytes.{begins_with, is_alphanumeric, is_space_or_tab, is_white_space_in_line};
-ghost use Rattle.markdown_scanners_tree.specs.scanners.Runs.{IsAccepted};
+ghost use Rattle.markdown_scanners_tree.specs.scanners.Runs.{IsCallableInTurn, IsAccepted};
 
 use crate::scanners::classes::{is_ascii_alphanumeric, is_ascii_whitespace_no_nl};
 use memchr::memchr;
@@ -20,9 +20,10 @@ pub fn scan_ch(bytes: &[u8], c: u8) -> usize
 
 /// How many bytes from the front `f` accepts before it first refuses one.
 ///
-/// `f` is asked once for each byte, in order, and no more after it has refused one.
+/// `f` is asked once for each byte, in order, and no more after it has refused one; it need bear no
+/// other call.
 pub fn scan_while<F: FnMut(u8) -> bool>(bytes: &[u8], mut f: F) -> usize
-    requires { F.IsAlwaysCallable f }
+    requires { IsCallableInTurn (λ p b. F.pre p b) (λ p b r q. F.step p b r q) f bytes.now }
     ensures accepted { IsAccepted (λ p b r q. F.step p b r q) f bytes.now result }
     ensures within { result ≤ length bytes.now }
 {
@@ -38,9 +39,11 @@ pub fn scan_while<F: FnMut(u8) -> bool>(bytes: &[u8], mut f: F) -> usize
 
 /// How many bytes from the back `f` accepts before it first refuses one.
 ///
-/// `f` is asked once for each byte, from the last one on, and no more after it has refused one.
+/// `f` is asked once for each byte, from the last one on, and no more after it has refused one; it
+/// need bear no other call.
 pub fn scan_rev_while<F: FnMut(u8) -> bool>(bytes: &[u8], mut f: F) -> usize
-    requires { F.IsAlwaysCallable f }
+    requires { IsCallableInTurn (λ p b. F.pre p b) (λ p b r q. F.step p b r q) f
+        (reverse bytes.now) }
     ensures accepted { IsAccepted (λ p b r q. F.step p b r q) f (reverse bytes.now) result }
     ensures within { result ≤ length bytes.now }
 {

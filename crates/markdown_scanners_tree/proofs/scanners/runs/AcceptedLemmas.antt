@@ -1,13 +1,21 @@
 -- What a closure accepts of bytes that a scan hands it one after another, from either end.
-use Rattle.std.proofs.Common.{ℕ, ◌+◌, ◌<◌, ◌≤◌, Bool, true, false, List, length, take, drop, get_or, sym, arith}
+use Rattle.std.proofs.Common.{ℕ, ◌+◌, ◌<◌, ◌≤◌, Bool, true, false, List, ◌++◌, length, take, drop, get_or, sym, ap, ◌∙◌, arith}
 use Rattle.std.specs.List.{FoldsTo}
 use Rattle.std.proofs.lemmas.List.{take_more, take-append-drop, drop_all, length-take-le}
 use Rattle.std.proofs.lemmas.Fn.{FoldsTo-push}
 use Rattle.std.proofs.Math.Seq.{drop-cons}
-use Rattle.markdown_scanners_tree.specs.scanners.Runs.{IsAccepted, Refuses}
+use Rattle.markdown_scanners_tree.specs.scanners.Runs.{IsCallableInTurn, IsAccepted, Refuses}
 
 module _ {F : Type 0} (step : F → ℕ → Bool → F → Type 0) (f now : F) (bytes : List ℕ) (count : ℕ)
     (accepted : FoldsTo (λ p b q. step p b true q) f (take count bytes) now) where
+  -- the closure may be called at the next byte
+  pub pre-next : (pre : F → ℕ → Type 0) → IsCallableInTurn pre step f bytes → count < length bytes
+      → pre now (get_or bytes count 0)
+  pre-next pre callable inside =
+      callable.at (take count bytes) _ (get_or bytes count 0) now
+      (sym (take-append-drop count bytes) ∙ ap (λ rest. take count bytes ++ rest) (drop-cons bytes count 0 inside))
+      accepted
+
   -- one more byte is accepted
   pub FoldsTo-next : (next : F) → count < length bytes → step now (get_or bytes count 0) true next
       → FoldsTo (λ p b q. step p b true q) f (take (count + 1) bytes) next

@@ -4,8 +4,7 @@ use Rattle.markdown_scanners_tree.proofs.scanners.runs.scan_rev_while.Given as g
 
 abbrev pub invariant-loop-count : goal.invariant-loop-count
 invariant-loop-count g l =
-    goal.F-IsAlwaysCallable g l.f
-    × (l.count ≤ length l.bytes)
+    (l.count ≤ length l.bytes)
     × FoldsTo (λ p b q. goal.F-step g p b true q) l.fn.f (take l.count (reverse l.bytes)) l.f
 
 abbrev pub decreases-loop-count : goal.decreases-loop-count
