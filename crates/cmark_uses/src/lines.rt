@@ -1,9 +1,12 @@
 //! Lines in containers, read column by column: their markers, and what stands behind them.
-ghost use Rattle.std.specs.Prelude.{◌≡◌, ◌++◌, length, count_by, is_some, IfOk};
+ghost use Rattle.std.specs.Prelude.{◌≡◌, ◌++◌, length, count_by, false, is_some, IfOk};
 ghost use Rattle.std.specs.List.{filter_map};
+ghost use Rattle.markdown_scanners_tree.specs.line.ItemRules.{is_item_alone};
+ghost use Rattle.markdown_scanners_tree.specs.line.Outcome.{item_outcome};
 ghost use Rattle.cmark_uses.specs.Markers.{start_of, behind_quote, behind_item, item_behind, box_behind};
 
 use markdown_scanners_tree::line::LineStart;
+use markdown_scanners_tree::scanners::scan_listitem;
 use std::alloc::{AllocError, Global};
 
 // Goes past the marker of a block quote, behind at most three spaces.
@@ -68,6 +71,16 @@ pub fn item_count(lines: &[&[u8]]) -> usize
     lines.iter().filter(|line| item_of(line).is_some()).count()
 }
 
+/// Whether a list item begins the line, for a parser that asks so before it ends a paragraph: where a line start begins
+/// one, unless the line is an item to `scan_listitem` alone.
+#[tactic(auto, using(markdown_scanners_tree::proofs::ForCallers::found_alike))]
+pub fn ends_paragraph(line: &[u8]) -> bool
+    ensures { is_item_alone line.now ≡ false
+        → result ≡ is_some (item_outcome 0 (start_of line.now)).answer }
+{
+    scan_listitem(line).is_some()
+}
+
 // The box that stands at the place, and whether it is ticked.
 #[tactic(auto, unfolding(crate::specs::Markers::box_behind))]
 fn box_at(start: &mut LineStart) -> Option<bool>
@@ -105,6 +118,12 @@ mod tests {
         );
         assert_eq!(rt; item_count(&lines), 3);
         Ok(())
+    }
+
+    #[test]
+    fn items_end_paragraphs(rt: HostRuntime) {
+        assert_eq!(rt; ends_paragraph(b"- Milk"), true);
+        assert_eq!(rt; ends_paragraph(b"-Milk"), false);
     }
 
     #[test]
