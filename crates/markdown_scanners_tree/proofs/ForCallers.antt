@@ -5,5 +5,5 @@ pub use Rattle.markdown_scanners_tree.proofs.inline_html.TrueGuards.{opener-boun
 pub use Rattle.markdown_scanners_tree.proofs.inline_html.run.GuardsStay.{accepted}
 pub use Rattle.markdown_scanners_tree.proofs.inline_html.run.Sums.{passed-counted}
 pub use Rattle.markdown_scanners_tree.proofs.line.ItemIndents.{same_items}
-pub use Rattle.markdown_scanners_tree.proofs.line.ItemRules.{items_agree, item_alone, no_item_alone, found_alike, same_answers}
+pub use Rattle.markdown_scanners_tree.proofs.line.ItemRules.{items_agree, item_alone, no_item_alone, items_begun, same_answers}
 pub use Rattle.markdown_scanners_tree.proofs.scanners.Scanned.{one_uri, one_destination, same_pieces, thematic_breaks, blank_lines}

@@ -1,5 +1,5 @@
 -- The indent of a list item, to the two calls that look for one.
-use Rattle.std.specs.Prelude.{ℕ, not, if◌then◌else◌, Bool, true, false, ◌≡◌, refl, ◌==◌, nat_lt, List, [], ◌∷◌, ◌++◌, ◌+◌, ◌-◌, ◌%◌, ◌<◌, ◌≤◌, min, length, take, drop, Option, Some, None}
+use Rattle.std.specs.Prelude.{ℕ, not, if◌then◌else◌, Bool, true, false, ◌≡◌, refl, ◌==◌, nat_lt, List, [], ◌∷◌, ◌++◌, ◌+◌, ◌-◌, ◌%◌, ◌≤◌, min, length, take, drop, Option, Some, None}
 use Rattle.std.proofs.Common.{cond, sym, ◌∙◌, ap, arith, one-add, zero-add}
 use Rattle.std.specs.Option.{option_map}
 use Rattle.std.specs.List.{list_all}
@@ -10,8 +10,8 @@ use Rattle.std.proofs.Math.Seq.{drop-append_seam}
 use Rattle.markdown_scanners_tree.specs.SomeExactly.{SomeExactly}
 use Rattle.markdown_scanners_tree.specs.Bytes.{begins_with, ends_or_begins_with, is_blank, is_white_space_in_line, IsBlankLine}
 use Rattle.markdown_scanners_tree.specs.Columns.{column_after, column_past, bytes_below, written_out}
-use Rattle.markdown_scanners_tree.specs.line.ItemRules.{start_of, is_item_alone, is_tab_behind_spaces, is_before_tab}
-use Rattle.markdown_scanners_tree.specs.line.Outcome.{further_spaces, item_outcome}
+use Rattle.markdown_scanners_tree.specs.line.ItemRules.{item_at_start, is_item_alone, is_tab_behind_spaces, is_before_tab}
+use Rattle.markdown_scanners_tree.specs.line.Outcome.{further_spaces}
 use Rattle.markdown_scanners_tree.specs.line.PlainStep.{marker_spaces}
 use Rattle.markdown_scanners_tree.specs.line.State.{unscanned, rest_of, leading_spaces, space_within, columns_further, after_space}
 use Rattle.markdown_scanners_tree.specs.scanners.Breaks.{is_thematic_break}
@@ -195,7 +195,7 @@ content_of None = 0
 content_of (Some r) = r.2
 
 -- no thematic break stands where a line start finds a marker
-found-no_break : (line : List ℕ) (r : ℕ × ℕ × ℕ) → (item_outcome 0 (start_of line)).answer ≡ Some r
+found-no_break : (line : List ℕ) (r : ℕ × ℕ × ℕ) → item_at_start line ≡ Some r
     → is_thematic_break line ≡ false
 found-no_break line r answer =
     bool_cases (is_thematic_break line)
@@ -205,7 +205,7 @@ found-no_break line r answer =
 -- both calls answer the same indent where no tab stands in the space behind the marker
 pub same_indent : (line : List ℕ) (n delimiter start indent content : ℕ)
     → is_before_tab line (list_marker line) ≡ false → IsListItem line n delimiter start indent
-    → (item_outcome 0 (start_of line)).answer ≡ Some (delimiter, start, content) → content ≡ indent
+    → item_at_start line ≡ Some (delimiter, start, content) → content ≡ indent
 same_indent line n delimiter start indent content plain item answer =
     let m : Marker = record { width = length item.marker; delimiter = delimiter; start = start } in
     let no_break = found-no_break line (delimiter, start, content) answer in
@@ -228,7 +228,7 @@ same_indent line n delimiter start indent content plain item answer =
 
 -- so the answer of the line start is the item without its length
 pub same_items : (line : List ℕ) (item : Option (ℕ × ℕ × ℕ × ℕ)) (marker : Option (ℕ × ℕ × ℕ))
-    → SomeExactly (λ r. IsListItem line r.0 r.1 r.2 r.3) item → marker ≡ (item_outcome 0 (start_of line)).answer
+    → SomeExactly (λ r. IsListItem line r.0 r.1 r.2 r.3) item → marker ≡ item_at_start line
     → is_item_alone line ≡ false → is_before_tab line (list_marker line) ≡ false
     → option_map (λ r. (r.1, r.2, r.3)) item ≡ marker
 same_items line (Some r) marker is answer alone plain =

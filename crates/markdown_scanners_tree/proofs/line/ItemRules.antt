@@ -1,6 +1,6 @@
 -- Where the two calls that look for a list item agree.
-use Rattle.std.specs.Prelude.{ℕ, not, if◌then◌else◌, is_some, Bool, true, false, ◌≡◌, ◌↔◌, refl, ◌==◌, ◌||◌, ◌&&◌, nat_le, List, [], ◌∷◌, ◌++◌, ◌+◌, ◌%◌, ◌≤◌, count_by, length, take, drop, Option, Some, None}
-use Rattle.std.proofs.Common.{cond, subst, sym, ◌∙◌, ap, inl, inr, ◌⊎◌, arith, append_assoc, length-append, zero-add}
+use Rattle.std.specs.Prelude.{ℕ, not, is_some, Bool, true, false, ◌≡◌, ◌↔◌, refl, ◌==◌, ◌||◌, ◌&&◌, nat_le, List, [], ◌∷◌, ◌++◌, ◌+◌, ◌%◌, ◌≤◌, count_by, length, take, drop, Option, Some, None}
+use Rattle.std.proofs.Common.{cond, subst, sym, ◌∙◌, ap, arith, append_assoc, length-append, zero-add}
 use Rattle.std.specs.List.{list_all, prefix_len}
 use Rattle.std.specs.Option.{option_map}
 use Rattle.std.specs.Str.Parse.{digits_value}
@@ -12,16 +12,16 @@ use Rattle.std.proofs.lemmas.List.Sums.{sum_by-cons}
 use Rattle.std.proofs.Math.Seq.{take-append_seam, drop-append_seam}
 use Rattle.markdown_scanners_tree.specs.SomeExactly.{SomeExactly}
 use Rattle.markdown_scanners_tree.specs.Bytes.{begins_with, is_between, is_blank, is_digit, is_line_ending, is_space_or_tab, is_white_space_in_line, line_head}
-use Rattle.markdown_scanners_tree.specs.line.ItemRules.{start_of, HasItem, HasMarker, AgreeOnItems, is_blank_from_vertical, is_before_vertical, is_break_like_item, is_item_alone}
+use Rattle.markdown_scanners_tree.specs.line.ItemRules.{start_of, item_at_start, HasItem, HasMarker, AgreeOnItems, is_blank_from_vertical, is_before_vertical, is_break_like_item, is_item_alone}
 use Rattle.markdown_scanners_tree.specs.line.Outcome.{Outcome, further_spaces, item_outcome, item_outcome_by, item_outcome_after, not_found, space_or_end_follows}
 use Rattle.markdown_scanners_tree.specs.line.State.{LineState, bytes_further, after_space}
 use Rattle.markdown_scanners_tree.specs.scanners.Breaks.{is_break_marker, is_break_byte, is_break_head, is_thematic_break}
-use Rattle.markdown_scanners_tree.specs.scanners.list_items.ListItem.{IsListMarker, bullet, ordered, IsItemSpace, IsListItem}
+use Rattle.markdown_scanners_tree.specs.scanners.list_items.ListItem.{IsListMarker, bullet, ordered, IsListItem}
 use Rattle.markdown_scanners_tree.specs.scanners.list_items.ListMarker.{Marker, is_bullet, is_delimiter, bullet_marker, ordered_marker, ordered_marker_of, list_marker}
 use Rattle.markdown_scanners_tree.proofs.PrefixLemmas.{both_true, list_all-prefix, prefix_len-parts}
 use Rattle.markdown_scanners_tree.proofs.line.ColumnLemmas.{bool_cases}
 use Rattle.markdown_scanners_tree.proofs.line.ItemLemmas.{marker-is, item-found}
-use Rattle.markdown_scanners_tree.proofs.line.ItemSpaces.{is_item_rest, is_marker_rest, blank_space, item_space-found, item_space-only, marker_rest-written, marker_rest-item, item_rest-marker, vertical_no_marker, or_true}
+use Rattle.markdown_scanners_tree.proofs.line.ItemSpaces.{is_item_rest, is_marker_rest, item_space-found, item_space-only, marker_rest-written, marker_rest-item, item_rest-marker, vertical_no_marker, or_true}
 use Rattle.markdown_scanners_tree.proofs.line.WrittenLemmas.{head-cons, marker_of, pick}
 use Rattle.markdown_scanners_tree.proofs.scanners.breaks.BreakLemmas.{join_three, split_three}
 
@@ -112,24 +112,29 @@ follows line m = marker_rest-written ((0 + m.width) % 4) (drop (0 + m.width) lin
 abbrev pub behind_marker : List ℕ → ℕ → LineState
 behind_marker line width = after_space 1 (bytes_further width (start_of line))
 
+at_start : (line : List ℕ) → item_at_start line ≡ (item_outcome 0 (start_of line)).answer
+unfolding item_at_start
+at_start line = refl
+
 pub answer-is : (line : List ℕ) (m : Marker) → list_marker line ≡ Some m → is_marker_rest (drop m.width line) ≡ true
-    → (item_outcome 0 (start_of line)).answer
+    → item_at_start line
     ≡ Some (m.delimiter, m.start, 0 + m.width + 1 + further_spaces (behind_marker line m.width))
 answer-is line m found is =
-    ap (λ (o : Outcome (ℕ × ℕ × ℕ)). o.answer)
+    at_start line
+    ∙ ap (λ (o : Outcome (ℕ × ℕ × ℕ)). o.answer)
     (item-found 0 (further_spaces (behind_marker line m.width)) (start_of line) m found (follows line m ∙ is) refl)
 
 pub answer-bare : (line : List ℕ) (m : Marker) → list_marker line ≡ Some m → is_marker_rest (drop m.width line) ≡ false
-    → (item_outcome 0 (start_of line)).answer ≡ None
+    → item_at_start line ≡ None
 answer-bare line m found other =
     let s = start_of line in
     let marked = bytes_further m.width s in
-    ap (λ o. (item_outcome_by 0 s o).answer) found
+    at_start line ∙ ap (λ o. (item_outcome_by 0 s o).answer) found
     ∙ ap (λ t. (cond t (item_outcome_after 0 m (after_space 1 marked)) (not_found s)).answer)
     (follows line m ∙ other)
 
-pub answer-none : (line : List ℕ) → list_marker line ≡ None → (item_outcome 0 (start_of line)).answer ≡ None
-answer-none line none = ap (λ o. (item_outcome_by 0 (start_of line) o).answer) none
+pub answer-none : (line : List ℕ) → list_marker line ≡ None → item_at_start line ≡ None
+answer-none line none = at_start line ∙ ap (λ o. (item_outcome_by 0 (start_of line) o).answer) none
 
 -- each marker of a line start is an item
 abbrev delimiter_of : Option (ℕ × ℕ × ℕ) → ℕ
@@ -141,7 +146,7 @@ start_number_of None = 0
 start_number_of (Some r) = r.1
 
 marker_is_item-by : (line : List ℕ) (delimiter start content : ℕ) (o : Option Marker) → list_marker line ≡ o
-    → (item_outcome 0 (start_of line)).answer ≡ Some (delimiter, start, content) → HasItem line delimiter start
+    → item_at_start line ≡ Some (delimiter, start, content) → HasItem line delimiter start
 marker_is_item-by line delimiter start content None found answer =
     absurd (let none = answer-none line found in cc)
 marker_is_item-by line delimiter start content (Some m) found answer =
@@ -236,6 +241,7 @@ or_false false b h = (refl, h)
 
 item-follows : (line : List ℕ) (n delimiter start indent : ℕ) → is_item_alone line ≡ false
     → IsListItem line n delimiter start indent → HasMarker line delimiter start
+unfolding is_item_alone
 item-follows line n delimiter start indent alone item =
     let both = or_false (is_break_like_item line) (is_before_vertical line (list_marker line)) alone in
     let spaced = item_space-only item.rest item.place item.space item.is_space in
@@ -263,7 +269,7 @@ item_is_marker line delimiter start alone (n, indent, item) = item-follows line 
 -- the first call alone finds an item
 abbrev IsAlone : List ℕ → Type 0
 IsAlone line = ((delimiter : ℕ) × (start : ℕ) × HasItem line delimiter start)
-    × ((item_outcome 0 (start_of line)).answer ≡ None)
+    × (item_at_start line ≡ None)
 
 alone-vertical : (line : List ℕ) (o : Option Marker) → list_marker line ≡ o → is_before_vertical line o ≡ true
     → IsAlone line
@@ -301,7 +307,8 @@ second_true false b h k = k
 
 pub item_alone : (line : List ℕ) → is_item_alone line ≡ true
     → ((delimiter : ℕ) × (start : ℕ) × HasItem line delimiter start)
-    × ((item_outcome 0 (start_of line)).answer ≡ None)
+    × (item_at_start line ≡ None)
+unfolding is_item_alone
 item_alone line alone =
     bool_cases (is_break_like_item line)
     (λ like. alone-break line like)
@@ -332,6 +339,7 @@ first_false false b c h = refl
 -- where there is no thematic break, and no vertical white space behind a marker, there is no such item
 pub no_item_alone : (line : List ℕ) → is_thematic_break line ≡ false
     → is_before_vertical line (list_marker line) ≡ false → is_item_alone line ≡ false
+unfolding is_item_alone
 no_item_alone line no_break fine =
     or_none (is_break_like_item line) (is_before_vertical line (list_marker line))
     (first_false (is_thematic_break line) (begins_with is_bullet line) (begins_with is_space_or_tab (drop 1 line)) no_break)
@@ -339,7 +347,7 @@ no_item_alone line no_break fine =
 
 -- the same bullet or delimiter and the same start number, or none
 pub same_answers : (line : List ℕ) (item : Option (ℕ × ℕ × ℕ × ℕ)) (marker : Option (ℕ × ℕ × ℕ))
-    → SomeExactly (λ r. IsListItem line r.0 r.1 r.2 r.3) item → marker ≡ (item_outcome 0 (start_of line)).answer
+    → SomeExactly (λ r. IsListItem line r.0 r.1 r.2 r.3) item → marker ≡ item_at_start line
     → is_item_alone line ≡ false
     → option_map {U = ℕ × ℕ} (λ r. (r.1, r.2)) item ≡ option_map {U = ℕ × ℕ} (λ r. (r.0, r.1)) marker
 same_answers line (Some r) marker is answer alone =
@@ -350,15 +358,19 @@ same_answers line None (Some p) is answer alone =
     let item = marker_is_item line p.0 p.1 (p.2, sym answer) in
     absurd (is (item.0, p.0, p.1, item.1) item.2)
 
--- the first call finds an item exactly where the second finds a marker
-pub found_alike : (line : List ℕ) (item : Option (ℕ × ℕ × ℕ × ℕ))
-    → SomeExactly (λ r. IsListItem line r.0 r.1 r.2 r.3) item → is_item_alone line ≡ false
-    → is_some item ≡ is_some (item_outcome 0 (start_of line)).answer
-found_alike line item is alone =
-    let answer = (item_outcome 0 (start_of line)).answer in
-    let same = same_answers line item answer is refl alone in
-    some-mapped (λ r. (r.1, r.2)) item ∙ ap is_some same ∙ sym (some-mapped (λ r. (r.0, r.1)) answer)
+-- the second call finds a marker exactly where the first finds an item
+pub item_begun : (line : List ℕ) (n delimiter start indent : ℕ) → IsListItem line n delimiter start indent
+    → is_item_alone line ≡ false → is_some (item_at_start line) ≡ true
+item_begun line n delimiter start indent item alone =
+    let has = item_is_marker line delimiter start alone (n, indent, item) in rw has.1 refl
+
+pub no_item_begun : (line : List ℕ) → ((r : ℕ × ℕ × ℕ × ℕ) → ¬ IsListItem line r.0 r.1 r.2 r.3)
+    → is_some (item_at_start line) ≡ false
+no_item_begun line none = by (item_at_start line) refl
   where
-    some-mapped : {A : Type 0} (f : A → ℕ × ℕ) (o : Option A) → is_some o ≡ is_some (option_map f o)
-    some-mapped f None = refl
-    some-mapped f (Some x) = refl
+    by : (marker : Option (ℕ × ℕ × ℕ)) → item_at_start line ≡ marker → is_some marker ≡ false
+    by None is = refl
+    by (Some p) is =
+        let item = marker_is_item line p.0 p.1 (p.2, is) in absurd (none (item.0, p.0, p.1, item.1) item.2)
+
+pub ruleset items_begun = (item_begun, no_item_begun)

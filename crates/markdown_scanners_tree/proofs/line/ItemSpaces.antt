@@ -1,5 +1,5 @@
 -- What may stand behind a list marker, to the two calls that look for a list item.
-use Rattle.std.specs.Prelude.{ℕ, not, Bool, true, false, ◌≡◌, refl, ◌==◌, ◌||◌, ◌&&◌, nat_lt, List, [], ◌∷◌, ◌++◌, ◌+◌, ◌-◌, ◌<◌, ◌≤◌, length, if◌then◌else◌}
+use Rattle.std.specs.Prelude.{ℕ, not, Bool, true, false, ◌≡◌, refl, ◌==◌, ◌||◌, nat_lt, List, [], ◌∷◌, ◌++◌, ◌+◌, ◌-◌, ◌<◌, ◌≤◌, length, if◌then◌else◌}
 use Rattle.std.proofs.Common.{sym, ◌∙◌, ap, inl, inr, arith}
 use Rattle.std.specs.List.{list_all}
 use Rattle.std.proofs.lemmas.Bool.{lt-ltb, cases_lt}

@@ -106,13 +106,16 @@ not_blank = refl
 
 -- "-" or "1.", then a vertical tab or a form feed, and the line's end
 item_alone_vertical : (is_item_alone (45 ∷ 11 ∷ 10 ∷ []) ≡ true) × (is_item_alone (49 ∷ 46 ∷ 12 ∷ []) ≡ true)
+unfolding is_item_alone
 item_alone_vertical = (refl, refl)
 
 item_alone_break : (is_item_alone (codes "- - -") ≡ true) × (is_item_alone (codes "---") ≡ false)
+unfolding is_item_alone
 item_alone_break = (refl, refl)
 
 -- with a space before the vertical tab, or a letter behind it
 no_item_alone : (is_item_alone (45 ∷ 32 ∷ 11 ∷ 10 ∷ []) ≡ false) × (is_item_alone (45 ∷ 11 ∷ 120 ∷ []) ≡ false)
+unfolding is_item_alone
 no_item_alone = (refl, refl)
 
 -- "-", a space, a tab; "-", spaces, "x", a tab

@@ -18,10 +18,15 @@ abbrev pub HasItem : List ℕ → ℕ → ℕ → Type 0
 HasItem line delimiter start =
     (n : ℕ) × (indent : ℕ) × IsListItem line n delimiter start indent
 
--- a fresh `LineStart` finds an item's marker at indent 0, with the same two
+-- what a fresh `LineStart` of the line finds at indent 0: the bullet or delimiter of an item's
+-- marker, the start number, and the indent of its content
+unfoldable pub item_at_start : List ℕ → Option (ℕ × ℕ × ℕ)
+item_at_start line = (item_outcome 0 (start_of line)).answer
+
+-- it finds a marker, with this bullet or delimiter and this start number
 abbrev pub HasMarker : List ℕ → ℕ → ℕ → Type 0
 HasMarker line delimiter start =
-    (content : ℕ) × ((item_outcome 0 (start_of line)).answer ≡ Some (delimiter, start, content))
+    (content : ℕ) × (item_at_start line ≡ Some (delimiter, start, content))
 
 -- each finds what the other does
 abbrev pub AgreeOnItems : List ℕ → Type 0
@@ -44,7 +49,7 @@ is_break_like_item line =
     && begins_with is_space_or_tab (drop 1 line)
 
 -- an item to `scan_listitem` alone: such a break, or a marker before such a rest
-abbrev pub is_item_alone : List ℕ → Bool
+unfoldable pub is_item_alone : List ℕ → Bool
 is_item_alone line = is_break_like_item line || is_before_vertical line (list_marker line)
 
 -- the spaces at the front stand before a tab
