@@ -58,5 +58,10 @@ fn nearby_lines_are_items_to_both_or_to_none(rt: HostRuntime) {
 #[test]
 fn a_tab_behind_the_marker_gives_two_indents(rt: HostRuntime) {
     expect(&rt, b"-\tx", Some((2, b'-', 0, 5)), Some((b'-', 0, 4)));
-    expect(&rt, b"123.\tx", Some((5, b'.', 123, 8)), Some((b'.', 123, 8)));
+    expect(
+        &rt,
+        b"123.\tx",
+        Some((5, b'.', 123, 8)),
+        Some((b'.', 123, 8)),
+    );
 }

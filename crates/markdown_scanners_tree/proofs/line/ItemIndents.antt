@@ -226,7 +226,7 @@ same_indent line n delimiter start indent content plain item answer =
     let space = space-plain item.rest item.place item.space no_tab item.is_space in
     omega (arith, counted, further, space, item.columns_are)
 
--- so the answer of the line start is the item without its length
+-- so the line start answers the item without its length, where it is one to both
 pub same_items : (line : List ℕ) (item : Option (ℕ × ℕ × ℕ × ℕ)) (marker : Option (ℕ × ℕ × ℕ))
     → SomeExactly (λ r. IsListItem line r.0 r.1 r.2 r.3) item → marker ≡ item_at_start line
     → is_item_alone line ≡ false → is_before_tab line (list_marker line) ≡ false

@@ -345,7 +345,7 @@ no_item_alone line no_break fine =
     (first_false (is_thematic_break line) (begins_with is_bullet line) (begins_with is_space_or_tab (drop 1 line)) no_break)
     fine
 
--- the same bullet or delimiter and the same start number, or none
+-- there both answer the same bullet or delimiter and the same start number, or nothing
 pub same_answers : (line : List ℕ) (item : Option (ℕ × ℕ × ℕ × ℕ)) (marker : Option (ℕ × ℕ × ℕ))
     → SomeExactly (λ r. IsListItem line r.0 r.1 r.2 r.3) item → marker ≡ item_at_start line
     → is_item_alone line ≡ false
@@ -358,7 +358,7 @@ same_answers line None (Some p) is answer alone =
     let item = marker_is_item line p.0 p.1 (p.2, sym answer) in
     absurd (is (item.0, p.0, p.1, item.1) item.2)
 
--- the second call finds a marker exactly where the first finds an item
+-- the second call finds a marker where the first finds an item, unless it is one to the first alone, and none elsewhere
 pub item_begun : (line : List ℕ) (n delimiter start indent : ℕ) → IsListItem line n delimiter start indent
     → is_item_alone line ≡ false → is_some (item_at_start line) ≡ true
 item_begun line n delimiter start indent item alone =
