@@ -109,7 +109,10 @@ struct mds_list_item {
     uint8_t delimiter; /* `-`, `+` or `*`; `.` or `)` of an ordered item */
 };
 
-/* The list item that begins at the front. (5.2) */
+/* The list item that begins at the front. (5.2) Tab stops count from the marker's end. Two kinds are items here that
+ * are none to MDS_LIST below: a thematic break such as `- - -`, and a marker before a blank rest that begins with a
+ * vertical tab or a form feed. A parser that ends a paragraph by this call and begins the item by MDS_LIST loses the
+ * second kind, so it asks MDS_LIST both times. */
 struct mds_list_item mds_scan_listitem(const uint8_t *bytes, size_t length);
 
 /* An indent, where the status is MDS_OK; else it is MDS_TOO_LARGE. */
@@ -132,7 +135,8 @@ enum mds_line_call_kind {
     MDS_UPTO = 1,      /* at most `number` columns of space: how many */
     MDS_EOL = 2,       /* whether the line ends there; takes nothing */
     MDS_QUOTE = 3,     /* a block quote marker with at most one column of space (5.1) */
-    MDS_LIST = 4,      /* a list item's marker with the columns that belong to it, `number` being its indent (5.2) */
+    MDS_LIST = 4,      /* a list item's marker with the columns that belong to it, `number` being its indent (5.2);
+                        * mds_scan_listitem finds two kinds more */
     MDS_DEFINITION = 5 /* the marker `:` of a definition, `number` being its indent; an extension of pulldown-cmark */
 };
 

@@ -1,9 +1,11 @@
 //! Lines in containers, read column by column: their markers, and what stands behind them.
-ghost use Rattle.std.specs.Prelude.{◌≡◌, ◌++◌, length, count_by, is_some, IfOk};
+ghost use Rattle.std.specs.Prelude.{◌≡◌, ◌++◌, length, count_by, false, is_some, IfOk};
 ghost use Rattle.std.specs.List.{filter_map};
+ghost use Rattle.markdown_scanners_tree.specs.line.ItemRules.{is_item_alone, item_at_start};
 ghost use Rattle.cmark_uses.specs.Markers.{start_of, behind_quote, behind_item, item_behind, box_behind};
 
 use markdown_scanners_tree::line::LineStart;
+use markdown_scanners_tree::scanners::scan_listitem;
 use std::alloc::{AllocError, Global};
 
 // Goes past the marker of a block quote, behind at most three spaces.
@@ -68,6 +70,22 @@ pub fn item_count(lines: &[&[u8]]) -> usize
     lines.iter().filter(|line| item_of(line).is_some()).count()
 }
 
+/// Whether the line ends a paragraph by a list item: where it begins one, unless it is an item to `scan_listitem` alone.
+#[tactic(auto, using(markdown_scanners_tree::proofs::ForCallers::items_begun))]
+pub fn ends_paragraph(line: &[u8]) -> bool
+    ensures { is_item_alone line.now ≡ false → result ≡ is_some (item_at_start line.now) }
+{
+    scan_listitem(line).is_some()
+}
+
+/// The list item that the line begins: its bullet or delimiter, its start number and the indent of its text.
+#[tactic(auto, unfolding(markdown_scanners_tree::specs::line::ItemRules::item_at_start))]
+pub fn begun_item(line: &[u8]) -> Option<(u8, u64, usize)>
+    ensures { result ≡ item_at_start line.now }
+{
+    LineStart::new(line).scan_list_marker_with_indent(0)
+}
+
 // The box that stands at the place, and whether it is ticked.
 #[tactic(auto, unfolding(crate::specs::Markers::box_behind))]
 fn box_at(start: &mut LineStart) -> Option<bool>
@@ -105,6 +123,14 @@ mod tests {
         );
         assert_eq!(rt; item_count(&lines), 3);
         Ok(())
+    }
+
+    #[test]
+    fn items_end_paragraphs(rt: HostRuntime) {
+        assert_eq!(rt; ends_paragraph(b"3) Milk"), true);
+        assert_eq!(rt; begun_item(b"3) Milk"), Some((b')', 3, 3)));
+        assert_eq!(rt; ends_paragraph(b"3)Milk"), false);
+        assert_eq!(rt; begun_item(b"3)Milk"), None);
     }
 
     #[test]

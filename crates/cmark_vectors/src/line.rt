@@ -1,4 +1,5 @@
 //! Calls on the start of a line.
+mod items;
 mod run;
 
 use markdown_scanners_tree::line::LineStart;

@@ -4,6 +4,8 @@ pub use Rattle.markdown_scanners_tree.proofs.LabelHandlers.{label_of_more}
 pub use Rattle.markdown_scanners_tree.proofs.inline_html.TrueGuards.{opener-bounds}
 pub use Rattle.markdown_scanners_tree.proofs.inline_html.run.GuardsStay.{accepted}
 pub use Rattle.markdown_scanners_tree.proofs.inline_html.run.Sums.{passed-counted}
+pub use Rattle.markdown_scanners_tree.proofs.line.ItemIndents.{same_items}
+pub use Rattle.markdown_scanners_tree.proofs.line.ItemRules.{items_agree, item_alone, no_item_alone, items_begun, same_answers}
 pub use Rattle.markdown_scanners_tree.proofs.scanners.Scanned.{one_uri, one_destination, same_pieces, thematic_breaks, blank_lines}
 pub use Rattle.markdown_scanners_tree.proofs.scanners.Scanned.{one_blank_line, one_quote_start, one_code_fence, one_closing_fence, one_atx_heading, one_underline, one_metadata_block, one_closing_metadata, one_row}
 

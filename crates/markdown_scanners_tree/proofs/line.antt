@@ -1,6 +1,9 @@
 pub mod ColumnLemmas
 pub mod HeadLemmas
+pub mod ItemIndents
 pub mod ItemLemmas
+pub mod ItemRules
+pub mod ItemSpaces
 pub mod Rows
 pub mod SpaceLemmas
 pub mod StepLemmas

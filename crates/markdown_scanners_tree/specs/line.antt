@@ -1,3 +1,4 @@
+pub mod ItemRules
 pub mod Outcome
 pub mod PlainStep
 pub mod State

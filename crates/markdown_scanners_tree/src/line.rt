@@ -234,6 +234,11 @@ impl<'a> LineStart<'a> {
     /// than four columns are taken, unless the rest of the line is blank.
     /// (CommonMark 0.31.2, section 5.2)
     ///
+    /// A parser that begins its items by this call asks it too, on a clone, whether one ends a
+    /// paragraph: `scan_listitem` takes two kinds for items that this call does not, a thematic
+    /// break such as `- - -`, and a marker before a blank rest that begins with a vertical tab or a
+    /// form feed.
+    ///
     /// `indent` is at most `usize::MAX - 16`, so that the columns of the marker can be added.
     pub fn scan_list_marker_with_indent(&mut self, indent: usize) -> Option<(u8, u64, usize)>
         requires { indent ≤ usize.MAX - 16 }

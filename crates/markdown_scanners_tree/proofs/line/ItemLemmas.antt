@@ -40,7 +40,7 @@ bullet-none [] other = refl
 bullet-none (b ∷ r) other = rw other refl
 
 -- the marker that a list marker at the front of some bytes is
-marker-is : (marker rest : List ℕ) (delimiter start : ℕ) → IsListMarker marker delimiter start
+pub marker-is : (marker rest : List ℕ) (delimiter start : ℕ) → IsListMarker marker delimiter start
     → (length marker ≡ 1 → is_thematic_break (marker ++ rest) ≡ false)
     → list_marker (marker ++ rest) ≡ Some (record { width = length marker; delimiter = delimiter; start = start })
 marker-is marker rest delimiter start (bullet b is) no_break =
@@ -116,7 +116,7 @@ item_allowed p indent h =
     (λ no. let e = rw no at h in cc)
 
 -- where no space follows, the place is as it was
-none_after : (s : LineState) → leading_spaces (rest_of s) ≡ 0 → unscanned (after_space 1 s) ≡ unscanned s
+pub none_after : (s : LineState) → leading_spaces (rest_of s) ≡ 0 → unscanned (after_space 1 s) ≡ unscanned s
 none_after s none =
     let no_column : space_within 1 s ≡ 0 = omega arith in
     let no_byte : bytes_below s.phase (unscanned s) (s.phase + 0 - s.pending) ≡ 0 =

@@ -3,8 +3,10 @@ use Rattle.std.proofs.Common.{ℕ, ◌≡◌, refl, List, [], ◌∷◌, ◌++�
 use Rattle.markdown_scanners_tree.specs.Bytes.{blank_line}
 use Rattle.markdown_scanners_tree.specs.line.State.{after_space}
 use Rattle.markdown_scanners_tree.specs.line.Outcome.{after_all_space}
+use Rattle.markdown_scanners_tree.specs.line.ItemRules.{is_item_alone, is_before_tab}
 use Rattle.markdown_scanners_tree.specs.line.run.PlainRun.{plain_run, indexed_stop, rest_after, scanned_after}
 use Rattle.markdown_scanners_tree.specs.scanners.Breaks.{is_thematic_break}
+use Rattle.markdown_scanners_tree.specs.scanners.list_items.ListMarker.{list_marker}
 use Rattle.markdown_scanners_tree.specs.declared.line.run.LineAnswer.{LineAnswer}
 use Rattle.markdown_scanners_tree.specs.declared.line.run.LineAnswer.TheVariants.{Flag, Count}
 use Rattle.markdown_scanners_tree.specs.declared.line.run.LineCall.{LineCall}
@@ -101,3 +103,22 @@ blank_end = refl
 
 not_blank : blank_line (codes " x") ≡ None
 not_blank = refl
+
+-- "-" or "1.", then a vertical tab or a form feed, and the line's end
+item_alone_vertical : (is_item_alone (45 ∷ 11 ∷ 10 ∷ []) ≡ true) × (is_item_alone (49 ∷ 46 ∷ 12 ∷ []) ≡ true)
+unfolding is_item_alone
+item_alone_vertical = (refl, refl)
+
+item_alone_break : (is_item_alone (codes "- - -") ≡ true) × (is_item_alone (codes "---") ≡ false)
+unfolding is_item_alone
+item_alone_break = (refl, refl)
+
+-- with a space before the vertical tab, or a letter behind it
+no_item_alone : (is_item_alone (45 ∷ 32 ∷ 11 ∷ 10 ∷ []) ≡ false) × (is_item_alone (45 ∷ 11 ∷ 120 ∷ []) ≡ false)
+unfolding is_item_alone
+no_item_alone = (refl, refl)
+
+-- "-", a space, a tab; "-", spaces, "x", a tab
+tab_behind_a_marker : (is_before_tab (45 ∷ 32 ∷ 9 ∷ []) (list_marker (45 ∷ 32 ∷ 9 ∷ [])) ≡ true)
+    × (is_before_tab (45 ∷ 32 ∷ 120 ∷ 9 ∷ []) (list_marker (45 ∷ 32 ∷ 120 ∷ 9 ∷ [])) ≡ false)
+tab_behind_a_marker = (refl, refl)

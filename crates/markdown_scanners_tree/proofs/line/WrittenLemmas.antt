@@ -61,7 +61,7 @@ begins-written x no_space no_tab (b ∷ bs) c =
 abbrev goes_on : ℕ → Bool
 goes_on b = not (is_line_ending b)
 
-head-cons : (b : ℕ) (bs : List ℕ) → is_line_ending b ≡ false → line_head (b ∷ bs) ≡ b ∷ line_head bs
+pub head-cons : (b : ℕ) (bs : List ℕ) → is_line_ending b ≡ false → line_head (b ∷ bs) ≡ b ∷ line_head bs
 head-cons b bs goes = take_while-cons goes_on b bs ∙ rw goes refl
 
 head-spaces : (n : ℕ) (bs : List ℕ) → line_head (spaces n ++ bs) ≡ spaces n ++ line_head bs

@@ -18,7 +18,13 @@ const MOST_DIGITS: usize = 9;
 /// A list item at the front: the length in bytes of its marker with the space that belongs to
 /// it, its bullet or delimiter, its start number (0 for a bullet), and its indent in columns.
 ///
-/// A line that is blank after the marker has an indent one column wider than the marker.
+/// A line that is blank after the marker has an indent one column wider than the marker. Tab stops
+/// count from the marker's end.
+///
+/// A fresh `LineStart` finds the same items by `scan_list_marker_with_indent(0)`, but for two kinds
+/// that it finds none in: a thematic break such as `- - -`, and a marker before a blank rest that
+/// begins with a vertical tab or a form feed. A parser that ends a paragraph by this call and
+/// begins the item by the other loses the second kind, so it asks the other both times.
 /// (CommonMark 0.31.2, section 5.2.)
 pub fn scan_listitem(bytes: &[u8]) -> Option<(usize, u8, usize, usize)>
     ensures found { SomeExactly (λ r. IsListItem bytes.now r.0 r.1 r.2 r.3) result }

@@ -6,10 +6,10 @@ use Rattle.markdown_scanners_tree.specs.Bytes.{begins_with, line_head}
 use Rattle.markdown_scanners_tree.specs.scanners.Breaks.{is_break_marker, is_break_byte, IsThematicBreak, is_break_head, is_thematic_break}
 
 -- the test answers the question
-join_three : (a b c : Bool) → a ≡ true → b ≡ true → c ≡ true → (a && b && c) ≡ true
+pub join_three : (a b c : Bool) → a ≡ true → b ≡ true → c ≡ true → (a && b && c) ≡ true
 join_three a b c first second third = rw (first, second, third) refl
 
-split_three : (a b c : Bool) → (a && b && c) ≡ true → (a ≡ true) × (b ≡ true) × (c ≡ true)
+pub split_three : (a b c : Bool) → (a && b && c) ≡ true → (a ≡ true) × (b ≡ true) × (c ≡ true)
 split_three true true c h = (refl, refl, h)
 split_three true false c h = cc
 split_three false b c h = cc
