@@ -29,6 +29,7 @@ fn scan_fence_of(bytes: &[u8], byte: u8) -> Option<(usize, u8)>
     requires of_fence_byte { IsTrue (is_fence_byte byte) }
     requires begins { IsTrue (begins_with (λ b. b == byte) bytes.now) }
     ensures found { SomeExactly (λ r. IsCodeFence bytes.now r.0 r.1) result }
+    ensures only { IsOnly (λ r. IsCodeFence bytes.now r.0 r.1) result }
     ensures within { IfSome result (λ r. r.0 ≤ length bytes.now) }
 {
     let run = scan_ch_repeat(bytes, byte);

@@ -54,6 +54,7 @@ fn scan_underline(bytes: &[u8], byte: u8, level: HeadingLevel) -> Option<(usize,
     requires of_level { underline_byte level ≡ Some byte }
     requires begins { IsTrue (begins_with (λ b. b == byte) bytes.now) }
     ensures found { SomeExactly (λ r. IsSetextUnderline bytes.now r.0 r.1) result }
+    ensures only { IsOnly (λ r. IsSetextUnderline bytes.now r.0 r.1) result }
     ensures within { IfSome result (λ r. r.0 ≤ length bytes.now) }
 {
     let run = scan_ch_repeat(bytes, byte);

@@ -2,6 +2,7 @@ use Rattle.std.proofs.Common.{sym, ◌∙◌, ap}
 use Rattle.markdown_scanners_tree.specs.scanners.Fences.{has_backtick_in_line}
 use Rattle.markdown_scanners_tree.proofs.PrefixLemmas.{from_place}
 use Rattle.markdown_scanners_tree.proofs.scanners.fences.FenceLemmas.{fence-few, fence-backtick, fence-scanned}
+use Rattle.markdown_scanners_tree.proofs.scanners.fences.OneFence.{one_code_fence}
 use Rattle.markdown_scanners_tree.proofs.scanners.fences.scan_fence_of.Goals as goal
 use Rattle.markdown_scanners_tree.proofs.scanners.fences.scan_fence_of.Goals.{else-byte-eq96-via-then-byte-eq96+else-has_backtick, else-byte-eq96-via-else-byte-eq96}
 
@@ -25,3 +26,7 @@ returns-clause-found c =
           ∙ sym w.has_backtick.ensures ∙ w.if-has_backtick.false
       | else-byte-eq96-via-else-byte-eq96 w ↦ absurd (w.if-byte-eq96.false is_backtick)
     ])
+
+pub returns-clause-only : goal.returns-clause-only
+returns-clause-only c =
+    λ other is. one_code_fence c.args.bytes.now other.0 other.1 _ _ is (returns-clause-found c)
