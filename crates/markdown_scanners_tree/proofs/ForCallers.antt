@@ -4,4 +4,6 @@ pub use Rattle.markdown_scanners_tree.proofs.LabelHandlers.{label_of_more}
 pub use Rattle.markdown_scanners_tree.proofs.inline_html.TrueGuards.{opener-bounds}
 pub use Rattle.markdown_scanners_tree.proofs.inline_html.run.GuardsStay.{accepted}
 pub use Rattle.markdown_scanners_tree.proofs.inline_html.run.Sums.{passed-counted}
-pub use Rattle.markdown_scanners_tree.proofs.scanners.Scanned.{one_uri, one_destination, same_pieces, thematic_breaks, blank_lines}
+pub use Rattle.markdown_scanners_tree.proofs.linklabel.OneLabel.{one_label}
+pub use Rattle.markdown_scanners_tree.proofs.scanners.Scanned.{one_destination, one_indent, one_item, one_reference, one_tag, one_tag_alone, one_uri}
+pub use Rattle.markdown_scanners_tree.proofs.scanners.Scanned.{same_pieces, thematic_breaks, blank_lines}

@@ -1,6 +1,10 @@
 -- What the scanners' definitions say beyond the contracts of the calls, for callers in other crates.
 pub use Rattle.markdown_scanners_tree.proofs.scanners.breaks.BreakLemmas.{thematic_breaks}
+pub use Rattle.markdown_scanners_tree.proofs.scanners.entities.ReferenceUnique.{one_reference}
+pub use Rattle.markdown_scanners_tree.proofs.scanners.html_tag.OneTag.{one_tag, one_tag_alone}
+pub use Rattle.markdown_scanners_tree.proofs.scanners.indent.IndentLemmas.{one_indent}
 pub use Rattle.markdown_scanners_tree.proofs.scanners.lines.BlankLemmas.{blank_lines}
 pub use Rattle.markdown_scanners_tree.proofs.scanners.links.LinkLemmas.{one_uri}
 pub use Rattle.markdown_scanners_tree.proofs.scanners.links.OneDestination.{one_destination}
+pub use Rattle.markdown_scanners_tree.proofs.scanners.list_items.OneItem.{one_item}
 pub use Rattle.markdown_scanners_tree.proofs.scanners.unescaping.PieceLemmas.{same_pieces}

@@ -2,6 +2,7 @@ use Rattle.std.proofs.Common.{◌+◌, arith, sym, ap, ◌∙◌, subst, encode_
 use Rattle.markdown_scanners_tree.specs.scanners.entities.CharacterReference.{StartsWithReference}
 use Rattle.markdown_scanners_tree.specs.scanners.entities.private.Digits.{StartsWithNumber}
 use Rattle.markdown_scanners_tree.proofs.scanners.entities.ReferenceLemmas.{no_hexadecimal, no_decimal, hexadecimal_found, decimal_found}
+use Rattle.markdown_scanners_tree.proofs.scanners.entities.ReferenceUnique.{one_reference}
 use Rattle.std.proofs.lemmas.List.{take_rest}
 use Rattle.std.proofs.lemmas.Bool.{false≢true}
 use Rattle.markdown_scanners_tree.proofs.scanners.entities.scan_entity.Goals as goal
@@ -47,3 +48,12 @@ returns-clause-found g c =
     (decimal_found (g.E.Entities.known c.args.entities.now) c.args.bytes.now r.n r.number c.if-bytes-lt2.false
     c.if-bytes-ne35.false
     (subst (λ bs. StartsWithNumber 10 7 bs r.n r.number) (take_rest c.args.bytes.now 2) r.ensures))
+
+pub returns-then-is_hexadecimal_mark-clause-only : goal.returns-then-is_hexadecimal_mark-clause-only
+returns-then-is_hexadecimal_mark-clause-only g c = λ other is.
+    one_reference (g.E.Entities.known c.args.entities.now) c.args.bytes.now other _ is
+    (returns-then-is_hexadecimal_mark-clause-found g c)
+
+pub returns-clause-only : goal.returns-clause-only
+returns-clause-only g c = λ other is.
+    one_reference (g.E.Entities.known c.args.entities.now) c.args.bytes.now other _ is (returns-clause-found g c)
