@@ -55,15 +55,16 @@ brackets_stay : (ks more : List KeptByte) → Stays (kept_units ks) (kept_units 
 brackets_stay [] more = inl refl
 brackets_stay (k ∷ []) more = last_byte k more
 brackets_stay (k ∷ l ∷ ks) more = elim (cases_Bool (k.byte == backslash && is_punctuation l.byte)) [
-  | inl escapes ↦ rw escapes (behind_escape k l _ _ (brackets_stay ks more))
-  | inr single ↦ rw single (behind_byte k _ _ (brackets_stay (l ∷ ks) more))
+  | inl escapes ↦ rw escapes (behind_escape k l (kept_units ks) (kept_units (ks ++ more)) (brackets_stay ks more))
+  | inr single ↦
+      rw single (behind_byte k (kept_units (l ∷ ks)) (kept_units (l ∷ (ks ++ more))) (brackets_stay (l ∷ ks) more))
 ]
 
 -- and so no label
 label_stays : (t : Bool) (ks more : List KeptByte) (label : Label) → label_of t ks ≡ Some label
     → label_of t (ks ++ more) ≡ Some label
 label_stays t ks more label is = elim (brackets_stay ks more) [
-  | inl none ↦ absurd (let lost : None ≡ Some label = sym (ap (label_between t) none) ∙ is in cc)
+  | inl none ↦ absurd (let lost : Some label ≡ None = sym is ∙ ap (label_between t) none in cc)
   | inr same ↦ ap (label_between t) same ∙ is
 ]
 
