@@ -1,5 +1,5 @@
 -- Where a handler has one answer for each rest, a source has one kept text, which is read up to some line.
-use Rattle.std.proofs.Common.{ℕ, List, [], ◌∷◌, ◌++◌, ◌+◌, ◌≡◌, true, ◌==◌, drop, refl, sym, ap, ◌∙◌, subst, ◌⊎◌, inl, inr, append_assoc, append-nil}
+use Rattle.std.proofs.Common.{ℕ, List, [], ◌∷◌, ◌++◌, ◌+◌, ◌≡◌, ◌==◌, drop, refl, sym, ap, ◌∙◌, subst, ◌⊎◌, inl, inr, append_assoc, append-nil}
 use Rattle.std.proofs.lemmas.Bool.{cases_Bool, or_parts}
 use Rattle.markdown_scanners_tree.specs.Ascii.{line_feed, carriage_return}
 use Rattle.markdown_scanners_tree.specs.Bytes.{is_line_ending}

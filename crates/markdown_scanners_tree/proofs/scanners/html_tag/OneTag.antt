@@ -1,5 +1,5 @@
 -- A text begins with one tag at most, where its handler is steady.
-use Rattle.std.proofs.Common.{ℕ, List, [], ◌∷◌, ◌++◌, ◌≡◌, ◌⊎◌, inl, inr, true, refl, sym, ap, ◌∙◌, subst, append_assoc, append-nil, Option, Some, None, IfSome}
+use Rattle.std.proofs.Common.{ℕ, List, [], ◌∷◌, ◌++◌, ◌≡◌, ◌⊎◌, inl, inr, sym, ap, ◌∙◌, subst, append_assoc, append-nil, Option, Some, None, IfSome}
 use Rattle.std.specs.Fn.{Shared}
 use denote.Ref.{Bor}
 use Rattle.markdown_scanners_tree.specs.Kept.{KeptByte, bytes_of, kept_text, line_endings}
