@@ -73,23 +73,19 @@ one_bare most d text n n' is is' =
     is'.each_stands is.balanced is'.balanced is.ends is'.ends in
     is.n_is_length ∙ (ap (λ us. length (concat us)) same ∙ sym is'.n_is_length)
 
-pair_same : (m n : ℕ) (xs ys : List ℕ) → m ≡ n → xs ≡ ys → ◌≡◌ {A = ℕ × List ℕ} (m, xs) (n, ys)
-pair_same m n xs ys first second = λ i. (first i, second i)
-
 -- how many bytes it takes, and its raw text
 pub one_destination : (most : ℕ) (text : List ℕ) (taken : ℕ) (destination : List ℕ) (taken' : ℕ) (destination' : List ℕ)
     → IsLinkDestination most text taken destination → IsLinkDestination most text taken' destination'
-    → ◌≡◌ {A = ℕ × List ℕ} (taken, destination) (taken', destination')
+    → (taken ≡ taken') × (destination ≡ destination')
 one_destination most text taken destination taken' destination' (inl is) (inl is') =
     let after : is.after ≡ is'.after = ap (drop 1) (sym is.opens ∙ is'.opens) in
     let long = one_pointed is'.after is.n is'.n (rw after at is.pointed) is'.pointed in
     let same : taken ≡ taken' = omega (arith, is.with_brackets, is'.with_brackets, long) in
-    pair_same taken taken' destination destination' same
-    (is.slice ∙ (ap (λ k. slice_range text 1 (k - 1)) same ∙ sym is'.slice))
+    (same, is.slice ∙ (ap (λ k. slice_range text 1 (k - 1)) same ∙ sym is'.slice))
 one_destination most text taken destination taken' destination' (inl is) (inr is') =
     absurd (is'.unpointed is.after is.opens)
 one_destination most text taken destination taken' destination' (inr is) (inl is') =
     absurd (is.unpointed is'.after is'.opens)
 one_destination most text taken destination taken' destination' (inr is) (inr is') =
     let same = one_bare most 0 text taken taken' is.bare is'.bare in
-    pair_same taken taken' destination destination' same (is.slice ∙ (ap (λ k. take k text) same ∙ sym is'.slice))
+    (same, is.slice ∙ (ap (λ k. take k text) same ∙ sym is'.slice))
