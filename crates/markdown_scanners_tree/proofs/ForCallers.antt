@@ -7,3 +7,6 @@ pub use Rattle.markdown_scanners_tree.proofs.inline_html.run.Sums.{passed-counte
 pub use Rattle.markdown_scanners_tree.proofs.linklabel.OneLabel.{one_label}
 pub use Rattle.markdown_scanners_tree.proofs.scanners.Scanned.{one_destination, one_indent, one_item, one_reference, one_tag, one_tag_alone, one_uri}
 pub use Rattle.markdown_scanners_tree.proofs.scanners.Scanned.{same_pieces, thematic_breaks, blank_lines}
+
+-- one text has one answer
+pub ruleset one_answer = (one_destination, one_indent, one_item, one_label, one_reference, one_tag, one_tag_alone, one_uri, same_pieces)

@@ -137,14 +137,15 @@ same_meaning known source meaning meaning' (inr (inr entity)) (inr (inr entity')
     cc
 
 -- the reference that a text begins with: its length and its meaning
-pub one_reference : (known : Lookup) (bytes : List ℕ) (n : ℕ) (meaning : List ℕ) (n' : ℕ) (meaning' : List ℕ)
-    → StartsWithReference known bytes n meaning → StartsWithReference known bytes n' meaning'
-    → (n ≡ n') × (meaning ≡ meaning')
-one_reference known bytes n meaning n' meaning' is is' =
+pub one_reference : (known : Lookup) (bytes : List ℕ) (reference other : ℕ × List ℕ)
+    → StartsWithReference known bytes reference.0 reference.1 → StartsWithReference known bytes other.0 other.1
+    → reference ≡ other
+one_reference known bytes reference other is is' =
     let sources : is.source ≡ is'.source =
-    same_source known is.source is.rest meaning is'.source is'.rest meaning' (sym is.splits ∙ is'.splits)
-    is.is_reference is'.is_reference in (
-      is.n_is_length ∙ (ap length sources ∙ sym is'.n_is_length),
-      same_meaning known is'.source meaning meaning'
-          (subst (λ s. IsReference known s meaning) sources is.is_reference) is'.is_reference,
-    )
+    same_source known is.source is.rest reference.1 is'.source is'.rest other.1 (sym is.splits ∙ is'.splits)
+    is.is_reference is'.is_reference in
+    let long : reference.0 ≡ other.0 = is.n_is_length ∙ (ap length sources ∙ sym is'.n_is_length) in
+    let meanings : reference.1 ≡ other.1 =
+    same_meaning known is'.source reference.1 other.1
+    (subst (λ s. IsReference known s reference.1) sources is.is_reference) is'.is_reference in
+    λ i. (long i, meanings i)

@@ -73,19 +73,20 @@ one_bare most d text n n' is is' =
     is'.each_stands is.balanced is'.balanced is.ends is'.ends in
     is.n_is_length ∙ (ap (λ us. length (concat us)) same ∙ sym is'.n_is_length)
 
--- how many bytes it takes, and its raw text
-pub one_destination : (most : ℕ) (text : List ℕ) (taken : ℕ) (destination : List ℕ) (taken' : ℕ) (destination' : List ℕ)
-    → IsLinkDestination most text taken destination → IsLinkDestination most text taken' destination'
-    → (taken ≡ taken') × (destination ≡ destination')
-one_destination most text taken destination taken' destination' (inl is) (inl is') =
+-- the destination that a text begins with: how many bytes it takes, and its raw text
+pub one_destination : (most : ℕ) (text : List ℕ) (destination other : ℕ × List ℕ)
+    → IsLinkDestination most text destination.0 destination.1 → IsLinkDestination most text other.0 other.1
+    → destination ≡ other
+one_destination most text destination other (inl is) (inl is') =
     let after : is.after ≡ is'.after = ap (drop 1) (sym is.opens ∙ is'.opens) in
     let long = one_pointed is'.after is.n is'.n (rw after at is.pointed) is'.pointed in
-    let same : taken ≡ taken' = omega (arith, is.with_brackets, is'.with_brackets, long) in
-    (same, is.slice ∙ (ap (λ k. slice_range text 1 (k - 1)) same ∙ sym is'.slice))
-one_destination most text taken destination taken' destination' (inl is) (inr is') =
-    absurd (is'.unpointed is.after is.opens)
-one_destination most text taken destination taken' destination' (inr is) (inl is') =
-    absurd (is.unpointed is'.after is'.opens)
-one_destination most text taken destination taken' destination' (inr is) (inr is') =
-    let same = one_bare most 0 text taken taken' is.bare is'.bare in
-    (same, is.slice ∙ (ap (λ k. take k text) same ∙ sym is'.slice))
+    let taken : destination.0 ≡ other.0 = omega (arith, is.with_brackets, is'.with_brackets, long) in
+    let raw : destination.1 ≡ other.1 =
+    is.slice ∙ (ap (λ k. slice_range text 1 (k - 1)) taken ∙ sym is'.slice) in
+    λ i. (taken i, raw i)
+one_destination most text destination other (inl is) (inr is') = absurd (is'.unpointed is.after is.opens)
+one_destination most text destination other (inr is) (inl is') = absurd (is.unpointed is'.after is'.opens)
+one_destination most text destination other (inr is) (inr is') =
+    let taken = one_bare most 0 text destination.0 other.0 is.bare is'.bare in
+    let raw : destination.1 ≡ other.1 = is.slice ∙ (ap (λ k. take k text) taken ∙ sym is'.slice) in
+    λ i. (taken i, raw i)

@@ -113,9 +113,11 @@ pub item_space-none : (rest : List ℕ) (place : ℕ) → ((n : ℕ) → ¬ IsBl
     → (at space : ℕ) → ¬ IsItemSpace rest at space
 item_space-none rest place none indent at space (blank n line) = none n line
 item_space-none rest place none indent at space (indented_code p s not_blank other deep) =
-    let same = (one_indent rest 5 place 0 p s indent other).1 in omega (arith, same, deep)
+    let same : 0 ≡ s = ap (λ (r : ℕ × ℕ). r.1) (one_indent rest 5 (place, 0) (p, s) indent other) in
+    omega (arith, same, deep)
 item_space-none rest place none indent at space (text p s not_blank other some few) =
-    let same = (one_indent rest 5 place 0 p s indent other).1 in omega (arith, same, some)
+    let same : 0 ≡ s = ap (λ (r : ℕ × ℕ). r.1) (one_indent rest 5 (place, 0) (p, s) indent other) in
+    omega (arith, same, some)
 
 pub bullet-scanned : (bytes : List ℕ) → begins_with is_bullet bytes ≡ true
     → IsListMarker (take 1 bytes) (get_or bytes 0 0) 0

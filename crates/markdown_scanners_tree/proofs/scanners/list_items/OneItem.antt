@@ -50,12 +50,15 @@ one_space rest place space place' space' (indented_code p s none is deep) (blank
 one_space rest place space place' space' (indented_code p s none is deep) (indented_code p' s' none' is' deep') =
     (refl, refl)
 one_space rest place space place' space' (indented_code p s none is deep) (text p' s' none' is' some few) =
-    let same = (one_indent rest 5 p s p' s' is is').1 in absurd (omega (arith, same, deep, few))
+    let same : s ≡ s' = ap (λ (r : ℕ × ℕ). r.1) (one_indent rest 5 (p, s) (p', s') is is') in
+    absurd (omega (arith, same, deep, few))
 one_space rest place space place' space' (text p s none is some few) (blank n line) = absurd (none n line)
 one_space rest place space place' space' (text p s none is some few) (indented_code p' s' none' is' deep) =
-    let same = (one_indent rest 5 p s p' s' is is').1 in absurd (omega (arith, same, deep, few))
+    let same : s ≡ s' = ap (λ (r : ℕ × ℕ). r.1) (one_indent rest 5 (p, s) (p', s') is is') in
+    absurd (omega (arith, same, deep, few))
 one_space rest place space place' space' (text p s none is some few) (text p' s' none' is' some' few') =
-    one_indent rest 5 p s p' s' is is'
+    let same : ◌≡◌ {A = ℕ × ℕ} (p, s) (p', s') = one_indent rest 5 (p, s) (p', s') is is' in
+    (ap (λ (r : ℕ × ℕ). r.0) same, ap (λ (r : ℕ × ℕ). r.1) same)
 
 -- where the marker of an item ends, and what follows it
 module _ (bytes : List ℕ) (n delimiter start indent : ℕ) (is : IsListItem bytes n delimiter start indent) where
@@ -68,20 +71,22 @@ module _ (bytes : List ℕ) (n delimiter start indent : ℕ) (is : IsListItem by
       ∙ (ap (drop (length is.marker)) is.parts ∙ drop-append_seam is.marker is.rest))
 
 -- the item that a text begins with: its length, its bullet or delimiter, its start number and its indent
-pub one_item : (bytes : List ℕ) (n delimiter start indent n' delimiter' start' indent' : ℕ)
-    → IsListItem bytes n delimiter start indent → IsListItem bytes n' delimiter' start' indent'
-    → (n ≡ n') × (delimiter ≡ delimiter') × (start ≡ start') × (indent ≡ indent')
-one_item bytes n delimiter start indent n' delimiter' start' indent' is is' =
-    let whole : is.marker ++ is.rest ≡ is'.marker ++ is'.rest = sym is.parts ∙ is'.parts in
+pub one_item : (bytes : List ℕ) (item other : ℕ × ℕ × ℕ × ℕ) → IsListItem bytes item.0 item.1 item.2 item.3
+    → IsListItem bytes other.0 other.1 other.2 other.3 → item ≡ other
+one_item bytes item other is is' =
     let width : length is.marker ≡ length is'.marker =
     sym (marker_ends bytes _ _ _ _ is) ∙ marker_ends bytes _ _ _ _ is' in
     let rest : is.rest ≡ is'.rest = rest_follows bytes _ _ _ _ is ∙ sym (rest_follows bytes _ _ _ _ is') in
     let spaces = one_space is'.rest is.place is.space is'.place is'.space
-    (subst (λ r. IsItemSpace r is.place is.space) rest is.is_space) is'.is_space in (
-      omega (arith, is.counted, is'.counted, width, spaces.0),
-      marker-delimiter is.marker delimiter start is.rest is.is_marker
-          ∙ (ap marker_delimiter whole ∙ sym (marker-delimiter is'.marker delimiter' start' is'.rest is'.is_marker)),
-      marker-start is.marker delimiter start is.rest is.is_marker
-          ∙ (ap marker_start whole ∙ sym (marker-start is'.marker delimiter' start' is'.rest is'.is_marker)),
-      omega (arith, is.columns_are, is'.columns_are, width, spaces.1),
-    )
+    (subst (λ r. IsItemSpace r is.place is.space) rest is.is_space) is'.is_space in
+    let long : item.0 ≡ other.0 = omega (arith, is.counted, is'.counted, width, spaces.0) in
+    let delimiter : item.1 ≡ other.1 =
+    marker-delimiter is.marker item.1 item.2 is.rest is.is_marker
+    ∙ (ap marker_delimiter (sym is.parts ∙ is'.parts)
+    ∙ sym (marker-delimiter is'.marker other.1 other.2 is'.rest is'.is_marker)) in
+    let start : item.2 ≡ other.2 =
+    marker-start is.marker item.1 item.2 is.rest is.is_marker
+    ∙ (ap marker_start (sym is.parts ∙ is'.parts)
+    ∙ sym (marker-start is'.marker other.1 other.2 is'.rest is'.is_marker)) in
+    let indent : item.3 ≡ other.3 = omega (arith, is.columns_are, is'.columns_are, width, spaces.1) in
+    λ i. (long i, delimiter i, start i, indent i)

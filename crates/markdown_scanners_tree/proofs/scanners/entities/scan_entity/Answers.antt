@@ -12,18 +12,16 @@ use Rattle.std.proofs.lemmas.Bool.{false≢true}
 use Rattle.markdown_scanners_tree.proofs.scanners.entities.scan_entity.Goals as goal
 use Rattle.markdown_scanners_tree.proofs.scanners.entities.scan_entity.Goals.{else-bytes-gt2-via-then-bytes-gt2+else-is_hexadecimal_mark, else-bytes-gt2-via-else-bytes-gt2}
 
--- an answer is the only one
-only_answer : (known : Lookup) (bytes : List ℕ) (n : ℕ) (answer : Option CowStr)
-    → IsReferenceAnswer known bytes n answer
-    → IsOnly (λ (r : ℕ × List ℕ). StartsWithReference known bytes r.0 r.1) (option_map (λ text. (n, cow_text text)) answer)
-only_answer known bytes n None none = tt
-only_answer known bytes n (Some text) found = λ other is.
-    let same = one_reference known bytes other.0 other.1 n (cow_text text) is found in
-    λ i. (same.0 i, same.1 i)
+-- no other reference is an answer than the one that is answered
+only_reference : (known : Lookup) (bytes : List ℕ) (n : ℕ) (text : Option CowStr) → IsReferenceAnswer known bytes n text
+    → IsOnly (λ (r : ℕ × List ℕ). StartsWithReference known bytes r.0 r.1) (option_map (λ t. (n, cow_text t)) text)
+only_reference known bytes n None none = tt
+only_reference known bytes n (Some text) found = λ other is.
+    one_reference known bytes other (n, cow_text text) is found
 
 pub returns-then-bytes-lt2-clause-only : goal.returns-then-bytes-lt2-clause-only
 returns-then-bytes-lt2-clause-only g c =
-    only_answer (g.E.Entities.known c.args.entities.now) c.args.bytes.now c.scan_named.result.0 c.scan_named.result.1
+    only_reference (g.E.Entities.known c.args.entities.now) c.args.bytes.now c.scan_named.result.0 c.scan_named.result.1
     c.scan_named.ensures.found
 
 pub returns-in_default-clause-found : goal.returns-in_default-clause-found
@@ -68,11 +66,10 @@ returns-clause-found g c =
     (subst (λ bs. StartsWithNumber 10 7 bs r.n r.number) (take_rest c.args.bytes.now 2) r.ensures))
 
 pub returns-then-is_hexadecimal_mark-clause-only : goal.returns-then-is_hexadecimal_mark-clause-only
-returns-then-is_hexadecimal_mark-clause-only g c =
-    only_answer (g.E.Entities.known c.args.entities.now) c.args.bytes.now (c.in-Some.n + 4) (Some c.from.result)
+returns-then-is_hexadecimal_mark-clause-only g c = λ other is.
+    one_reference (g.E.Entities.known c.args.entities.now) c.args.bytes.now other _ is
     (returns-then-is_hexadecimal_mark-clause-found g c)
 
 pub returns-clause-only : goal.returns-clause-only
-returns-clause-only g c =
-    only_answer (g.E.Entities.known c.args.entities.now) c.args.bytes.now (c.in-Some-scan_number.n + 3)
-    (Some c.from-2.result) (returns-clause-found g c)
+returns-clause-only g c = λ other is.
+    one_reference (g.E.Entities.known c.args.entities.now) c.args.bytes.now other _ is (returns-clause-found g c)

@@ -1,17 +1,10 @@
-use Rattle.std.proofs.Common.{ℕ, List, ◌≡◌, ◌≤◌, ◌+◌, true, false, [], get_or, take, refl, ap, sym, subst, ◌∙◌, arith, append-nil}
+use Rattle.std.proofs.Common.{◌≡◌, ◌≤◌, ◌+◌, true, false, [], get_or, take, refl, ap, sym, subst, ◌∙◌, arith, append-nil}
 use Rattle.std.proofs.lemmas.List.{take_all}
 use Rattle.markdown_scanners_tree.specs.Columns.{column_after, column_past}
 use Rattle.markdown_scanners_tree.specs.scanners.Indent.{goes_on, all_go_on, IsIndent}
 use Rattle.markdown_scanners_tree.proofs.scanners.indent.IndentLemmas.{one_indent, column_past-more, all_go_on-more, space_goes, space_stops, tab_goes, tab_stops, other_stops, stopped-space, stopped-other}
 use Rattle.markdown_scanners_tree.proofs.scanners.indent.calc_indent.Goals.{in-32-2, in-9}
 use Rattle.markdown_scanners_tree.proofs.scanners.indent.calc_indent.Goals as goal
-
--- an indent is the only one
-only_indent : (text : List ℕ) (limit : ℕ) (indent : ℕ × ℕ) → IsIndent text limit indent.0 indent.1 → (other : ℕ × ℕ)
-    → IsIndent text limit other.0 other.1 → other ≡ indent
-only_indent text limit indent is = λ other is'.
-    let same = one_indent text limit other.0 other.1 indent.0 indent.1 is' is in
-    λ i. (same.0 i, same.1 i)
 
 pub returns-in-32-clause-indent : goal.returns-in-32-clause-indent
 returns-in-32-clause-indent c =
@@ -38,13 +31,16 @@ returns-in_default-2-clause-indent c =
     (other_stops c.args.max c.loop-i.column _ no_space no_tab) no_space
 
 pub returns-in-32-clause-only : goal.returns-in-32-clause-only
-returns-in-32-clause-only c = only_indent c.args.text.now c.args.max _ (returns-in-32-clause-indent c)
+returns-in-32-clause-only c = λ other is.
+    one_indent c.args.text.now c.args.max other _ is (returns-in-32-clause-indent c)
 
 pub returns-in_default-clause-only : goal.returns-in_default-clause-only
-returns-in_default-clause-only c = only_indent c.args.text.now c.args.max _ (returns-in_default-clause-indent c)
+returns-in_default-clause-only c = λ other is.
+    one_indent c.args.text.now c.args.max other _ is (returns-in_default-clause-indent c)
 
 pub returns-in_default-2-clause-only : goal.returns-in_default-2-clause-only
-returns-in_default-2-clause-only c = only_indent c.args.text.now c.args.max _ (returns-in_default-2-clause-indent c)
+returns-in_default-2-clause-only c = λ other is.
+    one_indent c.args.text.now c.args.max other _ is (returns-in_default-2-clause-indent c)
 
 pub returns-clause-indent : goal.returns-clause-indent
 returns-clause-indent c =
@@ -62,7 +58,8 @@ returns-clause-indent c =
     }
 
 pub returns-clause-only : goal.returns-clause-only
-returns-clause-only c = only_indent c.args.text.now c.args.max _ (returns-clause-indent c)
+returns-clause-only c = λ other is.
+    one_indent c.args.text.now c.args.max other _ is (returns-clause-indent c)
 
 pub loop-i-preserved : goal.loop-i-preserved
 loop-i-preserved c =

@@ -52,6 +52,4 @@ returns-clause-found c =
     }
 
 pub returns-clause-only : goal.returns-clause-only
-returns-clause-only c = λ other item.
-    let same = one_item c.args.bytes.now other.0 other.1 other.2 other.3 _ _ _ _ item (returns-clause-found c) in
-    λ i. (same.0 i, same.1 i, same.2 i, same.3 i)
+returns-clause-only c = λ other item. one_item c.args.bytes.now other _ item (returns-clause-found c)
