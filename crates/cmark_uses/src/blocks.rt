@@ -1,14 +1,15 @@
-//! Blocks that their lines tell: thematic breaks, tables, fenced code and metadata.
+//! Blocks that their lines tell: thematic breaks, list items, tables, fenced code and metadata.
 ghost use Rattle.std.specs.Prelude.{◌≡◌, ◌≤◌, ◌<◌, ◌↔◌, ◌/◌, ◌++◌, ℕ, List, length, drop, true, IsTrue, IfOk, IfSome, IfNone};
 ghost use Rattle.markdown_scanners_tree.specs.Bytes.{IsBlankLine};
 ghost use Rattle.markdown_scanners_tree.specs.scanners.Breaks.{IsThematicBreak, break_length};
 ghost use Rattle.markdown_scanners_tree.specs.scanners.Fences.{IsCodeFence, IsClosingCodeFence};
 ghost use Rattle.markdown_scanners_tree.specs.scanners.Metadata.{IsMetadataBlock};
 ghost use Rattle.markdown_scanners_tree.specs.scanners.tables.DelimiterRow.{IsDelimiterRow};
+ghost use Rattle.markdown_scanners_tree.specs.scanners.list_items.ListItem.{IsListItem};
 
 use markdown_scanners_tree::scanners::{
-    scan_blank_line, scan_closing_code_fence, scan_code_fence, scan_hrule, scan_metadata_block,
-    scan_nextline, scan_table_head,
+    scan_blank_line, scan_closing_code_fence, scan_code_fence, scan_hrule, scan_listitem,
+    scan_metadata_block, scan_nextline, scan_table_head,
 };
 use markdown_values::values::{Alignment, MetadataBlockKind};
 use std::alloc::{AllocError, Global};
@@ -37,6 +38,15 @@ pub fn is_blank(line: &[u8]) -> bool
     ensures { IsTrue result ↔ ((n : ℕ) × IsBlankLine line.now n) }
 {
     scan_blank_line(line).is_some()
+}
+
+/// Whether two lines begin with the same list item, or neither with one. No line begins with two.
+pub fn begin_alike(one: &[u8], other: &[u8]) -> bool
+    ensures { IsTrue result ↔ ((item : ℕ × ℕ × ℕ × ℕ)
+        → IsListItem one.now item.0 item.1 item.2 item.3
+        ↔ IsListItem other.now item.0 item.1 item.2 item.3) }
+{
+    scan_listitem(one) == scan_listitem(other)
 }
 
 /// The alignments of a table's columns, in order, where the line is the delimiter row of a table.
@@ -138,6 +148,14 @@ mod tests {
     fn blank_lines_hold_white_space_alone(rt: HostRuntime) {
         assert!(rt; is_blank(b" \t\n"));
         assert!(rt; !is_blank(b" a\n"));
+    }
+
+    #[test]
+    fn items_begin_alike_or_not(rt: HostRuntime) {
+        assert!(rt; begin_alike(b"- milk\n", b"- bread\n"));
+        assert!(rt; begin_alike(b"milk\n", b"bread\n"));
+        assert!(rt; !begin_alike(b"- milk\n", b"+ milk\n"));
+        assert!(rt; !begin_alike(b"- milk\n", b"-  milk\n"));
     }
 
     #[test]

@@ -6,22 +6,31 @@ pub use Rattle.markdown_scanners_tree.proofs.inline_html.run.GuardsStay.{accepte
 pub use Rattle.markdown_scanners_tree.proofs.inline_html.run.Sums.{passed-counted}
 pub use Rattle.markdown_scanners_tree.proofs.line.ItemIndents.{same_items}
 pub use Rattle.markdown_scanners_tree.proofs.line.ItemRules.{items_agree, item_alone, no_item_alone, items_begun, same_answers}
-pub use Rattle.markdown_scanners_tree.proofs.scanners.Scanned.{one_uri, one_destination, same_pieces, thematic_breaks, blank_lines}
-pub use Rattle.markdown_scanners_tree.proofs.scanners.Scanned.{one_blank_line, one_quote_start, one_code_fence, one_closing_fence, one_atx_heading, one_underline, one_metadata_block, one_closing_metadata, one_row}
+pub use Rattle.markdown_scanners_tree.proofs.linklabel.OneLabel.{one_label}
+pub use Rattle.markdown_scanners_tree.proofs.scanners.Scanned.{same_pieces, thematic_breaks, blank_lines}
+pub use Rattle.markdown_scanners_tree.proofs.scanners.Scanned.{one_atx_heading, one_blank_line, one_closing_fence, one_closing_metadata, one_code_fence, one_destination}
+pub use Rattle.markdown_scanners_tree.proofs.scanners.Scanned.{one_indent, one_item, one_metadata_block, one_quote_start, one_reference, one_row}
+pub use Rattle.markdown_scanners_tree.proofs.scanners.Scanned.{one_tag, one_tag_alone, one_underline, one_uri}
+pub use Rattle.markdown_scanners_tree.proofs.scanners.runs.CallableLemmas.{callable_in_turn}
 
 -- A text has one answer: two that meet a definition there are equal.
 pub ruleset only_answers = (
-  one_blank_line,
-  one_quote_start,
-  one_code_fence,
-  one_closing_fence,
   one_atx_heading,
-  one_underline,
-  one_metadata_block,
+  one_blank_line,
+  one_closing_fence,
   one_closing_metadata,
-  one_row,
+  one_code_fence,
   one_destination,
+  one_indent,
+  one_item,
+  one_label,
+  one_metadata_block,
+  one_quote_start,
+  one_reference,
+  one_row,
+  one_tag,
+  one_tag_alone,
+  one_underline,
   one_uri,
   same_pieces,
 )
-pub use Rattle.markdown_scanners_tree.proofs.scanners.runs.CallableLemmas.{callable_in_turn}

@@ -4,6 +4,7 @@ pub mod PrefixLemmas
 pub mod KeptReading
 pub mod KeptStep
 pub mod LabelHandlers
+pub mod OneKeptText
 pub mod PassLemmas
 pub mod RunLemmas
 pub mod ScanLemmas

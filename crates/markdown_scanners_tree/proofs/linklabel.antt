@@ -3,6 +3,7 @@ pub mod CellText
 pub mod JoinedWords
 pub mod KeptTextSteps
 pub mod MeasureLemmas
+pub mod OneLabel
 pub mod ReadsBack
 pub mod Rows
 pub mod SeenBytes

@@ -6,7 +6,7 @@ abbrev pub SomeExactly : {A : Type 0} → (A → Type 0) → Option A → Type 0
 SomeExactly P (Some a) = P a
 SomeExactly P None = (a : _) → ¬ P a
 
--- Each value that has the property is the one that Some holds.
+-- The value in Some is the only one that has the property.
 abbrev pub IsOnly : {A : Type 0} → (A → Type 0) → Option A → Type 0
 IsOnly P (Some a) = (other : _) → P other → other ≡ a
 IsOnly P None = ⊤

@@ -8,7 +8,7 @@ ghost use Rattle.std.specs.Hash as fed;
 ghost use Rattle.std.specs.String.{string_len, string_capacity};
 ghost use Rattle.std.proofs.Common.{rules};
 ghost use Rattle.markdown_values.specs.strings.Text.{cow_text, IsBorrowed, IsBoxed};
-ghost use Rattle.markdown_scanners_tree.specs.SomeExactly.{SomeExactly};
+ghost use Rattle.markdown_scanners_tree.specs.SomeExactly.{SomeExactly, IsOnly};
 ghost use Rattle.markdown_scanners_tree.specs.Handler.{Skips, IsSteadyAtChars};
 ghost use Rattle.markdown_scanners_tree.specs.linklabel.Label.{Label, IsLabel, HasNoLabel, ends_in_backslash, ReadsBack};
 ghost use Rattle.markdown_scanners_tree.specs.linklabel.Answer.{answered_label, slice_before, without_first_space, without_last_space};
@@ -151,9 +151,9 @@ pub fn scan_link_label_rest<'t, F: Fn(&[u8]) -> Option<usize>>(
     ensures found { IfOk result (λ found.
         SomeExactly (IsLabel (Skips F.Fn handler.now) text.entry.now is_in_table)
         (option_map answered_label found)) }
-    ensures only { IfOk result (λ found. IfSome found (λ r. (label : Label)
-        → IsLabel (Skips F.Fn handler.now) text.entry.now is_in_table label
-        → label ≡ answered_label r)) }
+    ensures only { IfOk result (λ found.
+        IsOnly (IsLabel (Skips F.Fn handler.now) text.entry.now is_in_table)
+        (option_map answered_label found)) }
 
     // The bytes that are taken can be cut off the text.
     ensures within { IfOk result (λ found. IfSome found (λ r. r.0 ≤ length text.entry.now)) }
@@ -234,8 +234,7 @@ fn skip_at<F: Fn(&[u8]) -> Option<usize>>(text: &str, place: usize, handler: &F)
     requires steady { IsSteadyAtChars F.Fn handler.now }
     requires cut { IsCharBoundary text.now place }
     ensures found { SomeExactly (Skips F.Fn handler.now (drop place text.now)) result }
-    ensures only { IfSome result (λ skip. (other : ℕ)
-        → Skips F.Fn handler.now (drop place text.now) other → other ≡ skip) }
+    ensures only { IsOnly (Skips F.Fn handler.now (drop place text.now)) result }
     ensures cut { IfSome result (λ skip. IsCharBoundary text.now (place + skip)) }
 {
     handler(&text.as_bytes()[place..])

@@ -1,4 +1,5 @@
 pub mod KeptCopy
+pub mod OneTag
 pub mod Rows
 pub mod TagAlone
 pub mod TagBuffer

@@ -1,2 +1,3 @@
 pub mod ListItemLemmas
+pub mod OneItem
 pub mod Rows

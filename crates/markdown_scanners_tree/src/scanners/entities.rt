@@ -1,12 +1,13 @@
 //! Character references: entities by name, and characters by number.
 ghost use Rattle.std.specs.Prelude.{◌≡◌, ◌+◌, ◌<◌, ◌≤◌, ◌≢◌, ℕ, slice_index, List, Option, IfNone, length};
-ghost use Rattle.std.specs.Option.{option_copied};
+ghost use Rattle.std.specs.Option.{option_copied, option_map};
 ghost use Rattle.std.specs.List.{prefix_len};
 ghost use Rattle.std.specs.Str.Parse.{AllDigits, digits_value};
 ghost use Rattle.std.specs.Char.{is_digit, digit_value};
+ghost use Rattle.markdown_values.specs.strings.Text.{cow_text};
 ghost use Rattle.markdown_scanners_tree.specs.Ascii.{number_sign};
-ghost use Rattle.markdown_scanners_tree.specs.SomeExactly.{SomeExactly};
-ghost use Rattle.markdown_scanners_tree.specs.scanners.entities.CharacterReference.{referenced_char, marks_hexadecimal, IsReferenceAnswer};
+ghost use Rattle.markdown_scanners_tree.specs.SomeExactly.{SomeExactly, IsOnly};
+ghost use Rattle.markdown_scanners_tree.specs.scanners.entities.CharacterReference.{referenced_char, marks_hexadecimal, StartsWithReference, IsReferenceAnswer};
 ghost use Rattle.markdown_scanners_tree.specs.scanners.entities.private.Digits.{StartsWithNumber};
 
 use crate::scanners::numbers::number_of;
@@ -35,6 +36,9 @@ pub trait Entities {
 pub fn scan_entity<E: Entities>(bytes: &[u8], entities: &E) -> (usize, Option<CowStr<'static>>)
     requires { 0 < length bytes.now }
     ensures found { IsReferenceAnswer (E.known entities.now) bytes.now result.0 result.1 }
+    ensures only { IsOnly
+        (λ (r : ℕ × List ℕ). StartsWithReference (E.known entities.now) bytes.now r.0 r.1)
+        (option_map (λ text. (result.0, cow_text text)) result.1) }
     ensures empty { IfNone result.1 (result.0 ≡ 0) }
 {
     if bytes.len() < 2 || bytes[1] != b'#' {

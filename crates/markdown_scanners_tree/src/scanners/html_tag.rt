@@ -1,6 +1,6 @@
 //! Open and closing tags, over the lines of containers or alone in a line.
-ghost use Rattle.std.specs.Prelude.{ℕ, IsOk, ◌≡◌, ◌≢◌, ◌≤◌, [], IfOk, OnErr, List, IfSome, IfNone, length};
-ghost use Rattle.markdown_scanners_tree.specs.SomeExactly.{SomeExactly};
+ghost use Rattle.std.specs.Prelude.{IsOk, ◌≡◌, ◌≢◌, ◌≤◌, [], IfOk, OnErr, List, IfSome, IfNone, length};
+ghost use Rattle.markdown_scanners_tree.specs.SomeExactly.{SomeExactly, IsOnly};
 ghost use Rattle.markdown_scanners_tree.specs.Handler.{Answers, IsSteady};
 ghost use Rattle.markdown_scanners_tree.specs.Kept.{KeptByte, bytes_of};
 ghost use Rattle.markdown_scanners_tree.specs.scanners.html_tag.HtmlTag.{IsTagAloneInLine};
@@ -155,8 +155,7 @@ pub fn scan_html_block_inner<F: Fn(&[u8]) -> usize>(
 /// 4.6, start condition 7; the tag names that other start conditions take are not left out here.)
 pub fn scan_html_type_7(bytes: &[u8]) -> Option<usize>
     ensures found { SomeExactly (IsTagAloneInLine bytes.now) result }
-    ensures only { IfSome result (λ n. (other : ℕ)
-        → IsTagAloneInLine bytes.now other → other ≡ n) }
+    ensures only { IsOnly (IsTagAloneInLine bytes.now) result }
     ensures within { IfSome result (λ n. n ≤ length bytes.now) }
 {
     let tag = measure_tag(bytes, None::<&fn(&[u8]) -> usize>)?;

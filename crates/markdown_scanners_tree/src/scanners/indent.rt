@@ -1,5 +1,5 @@
 //! The indent of a line.
-ghost use Rattle.std.specs.Prelude.{◌≡◌, ◌+◌, ◌-◌, ◌/◌, ◌<◌, ◌≤◌, length};
+ghost use Rattle.std.specs.Prelude.{ℕ, ◌≡◌, ◌+◌, ◌-◌, ◌/◌, ◌<◌, ◌≤◌, length};
 ghost use Rattle.markdown_scanners_tree.specs.Columns.{next_tab_stop};
 ghost use Rattle.markdown_scanners_tree.specs.scanners.Indent.{IsIndent};
 
@@ -12,6 +12,7 @@ ghost use Rattle.markdown_scanners_tree.specs.scanners.Indent.{IsIndent};
 pub fn calc_indent(text: &[u8], max: usize) -> (usize, usize)
     requires { max ≤ usize.MAX / 4 }
     ensures indent { IsIndent text.now max result.0 result.1 }
+    ensures only { (other : ℕ × ℕ) → IsIndent text.now max other.0 other.1 → other ≡ result }
     ensures within { result.0 ≤ length text.now }
 {
     let mut column = 0;

@@ -6,7 +6,7 @@ ghost use Rattle.std.specs.Str.{IsCharBoundary};
 ghost use Rattle.markdown_values.specs.strings.Text.{cow_text, IsBorrowed};
 ghost use Rattle.markdown_scanners_tree.specs.Ascii.{vertical_line, less_than_sign, greater_than_sign};
 ghost use Rattle.markdown_scanners_tree.specs.Bytes.{is_line_ending};
-ghost use Rattle.markdown_scanners_tree.specs.SomeExactly.{SomeExactly};
+ghost use Rattle.markdown_scanners_tree.specs.SomeExactly.{SomeExactly, IsOnly};
 ghost use Rattle.markdown_scanners_tree.specs.scanners.links.LinkDestination.{IsLinkDestination, IsBareFrom, IsPointedFrom};
 ghost use Rattle.markdown_scanners_tree.specs.scanners.links.Autolink.{IsUriAutolink, StartsWithScheme, is_scheme_byte, is_uri_byte};
 
@@ -120,8 +120,8 @@ pub fn scan_autolink<'a>(text: &'a str, start: usize) -> Option<(usize, CowStr<'
     // The one URI that stands there is answered.
     ensures found { SomeExactly (IsUriAutolink (drop start text.now))
         (option_map (λ r. cow_text r.1) result) }
-    ensures only { IfSome result (λ r. (uri : List ℕ)
-        → IsUriAutolink (drop start text.now) uri → uri ≡ cow_text r.1) }
+    ensures only { IsOnly (IsUriAutolink (drop start text.now))
+        (option_map (λ r. cow_text r.1) result) }
 
     // It is lent from the text, and the answered place is behind its `>`.
     ensures place { IfSome result (λ r. r.0 ≡ start + length (cow_text r.1) + 1) }

@@ -1,7 +1,7 @@
 //! List items.
 ghost use Rattle.std.specs.Prelude.{◌≡◌, ◌≤◌, length, take, false, IfSome};
 ghost use Rattle.std.specs.List.{prefix_len};
-ghost use Rattle.markdown_scanners_tree.specs.SomeExactly.{SomeExactly};
+ghost use Rattle.markdown_scanners_tree.specs.SomeExactly.{SomeExactly, IsOnly};
 ghost use Rattle.markdown_scanners_tree.specs.Bytes.{begins_with, is_digit};
 ghost use Rattle.markdown_scanners_tree.specs.scanners.list_items.ListItem.{IsListMarker, IsItemSpace, IsListItem};
 ghost use Rattle.markdown_scanners_tree.specs.scanners.list_items.ListMarker.{is_bullet, is_delimiter};
@@ -28,6 +28,7 @@ const MOST_DIGITS: usize = 9;
 /// (CommonMark 0.31.2, section 5.2.)
 pub fn scan_listitem(bytes: &[u8]) -> Option<(usize, u8, usize, usize)>
     ensures found { SomeExactly (λ r. IsListItem bytes.now r.0 r.1 r.2 r.3) result }
+    ensures only { IsOnly (λ r. IsListItem bytes.now r.0 r.1 r.2 r.3) result }
     ensures within { IfSome result (λ r. r.0 ≤ length bytes.now) }
 {
     let (width, delimiter, start) = scan_marker(bytes)?;

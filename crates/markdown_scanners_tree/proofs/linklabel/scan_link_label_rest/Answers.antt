@@ -6,6 +6,7 @@ use Rattle.markdown_values.specs.strings.Text.{IsBoxed, is_borrowed}
 use Rattle.markdown_scanners_tree.specs.Handler.{Skips}
 use Rattle.markdown_scanners_tree.specs.linklabel.Answer.{without_first_space, without_last_space}
 use Rattle.markdown_scanners_tree.specs.linklabel.Label.{Label, IsLabel}
+use Rattle.markdown_scanners_tree.proofs.linklabel.OneLabel.{one_label}
 use Rattle.markdown_scanners_tree.proofs.linklabel.ReadsBack.{label_reads_back}
 use Rattle.markdown_scanners_tree.proofs.linklabel.SourceSteps.{same_take}
 use Rattle.markdown_scanners_tree.proofs.linklabel.scan_link_label_rest.Goals as goal
@@ -74,22 +75,13 @@ returns-then-measure-clause-reads_back g c =
 
 pub returns-clause-only : goal.returns-clause-only
 returns-clause-only g c = λ label l.
-    (let m = c.in-Some.ensures.found in
-    let text = c.in_ok-from_string.ensures.text ∙ c.in_ok-write_label.ensures.written m.label m.is_label
-    ∙ ap (λ z. z ++ m.label.text) c.in_ok-label.ensures.bytes in
-    let plain = is_borrowed-boxed _ c.in_ok-from_string.ensures.boxed ∙ sym c.if-measure.false ∙ m.plain_is in
-    m.only label l ∙ (λ i. record { len = sym m.len_is i; text = sym text i; plain = sym plain i }))
+    one_label g.F.Fn c.args.handler.now c.requires.steady c.args.text.now c.args.is_in_table label _ c.utf8.text l
+    (returns-clause-found g c)
 
 pub returns-then-measure-clause-only : goal.returns-then-measure-clause-only
 returns-then-measure-clause-only g c = λ label l.
-    (let m = c.in-Some.ensures.found in
-    let inner = c.range.ensures.value
-    ∙ same_take c.args.text.now (c.in-Some.measure.close - 0) c.in-Some.measure.close (omega arith) in
-    let text = c.from.ensures.0 ∙ c.up_to_last_space-label.ensures
-    ∙ ap without_last_space (c.past_first_space.ensures ∙ ap without_first_space inner)
-    ∙ sym (m.stands (sym m.plain_is ∙ c.if-measure.true)) in
-    let plain = c.from.ensures.1 ∙ sym c.if-measure.true ∙ m.plain_is in
-    m.only label l ∙ (λ i. record { len = sym m.len_is i; text = sym text i; plain = sym plain i }))
+    one_label g.F.Fn c.args.handler.now c.requires.steady c.args.text.now c.args.is_in_table label _ c.utf8.text l
+    (returns-then-measure-clause-found g c)
 
 pub returns-clause-within : goal.returns-clause-within
 returns-clause-within g c = c.in-Some.ensures.found.behind.0

@@ -3,7 +3,7 @@ use Rattle.std.proofs.Common.{ℕ, zero, suc, ◌≡◌, ◌+◌, ◌∙◌, ari
 use Rattle.std.proofs.lemmas.Str.{IsUtf8-drop, IsCharBoundary-from_rest}
 use Rattle.std.specs.Fn.{FnReturnsAt}
 use Rattle.std.specs.Str.{IsUtf8, IsCharBoundary}
-use Rattle.markdown_scanners_tree.specs.SomeExactly.{SomeExactly}
+use Rattle.markdown_scanners_tree.specs.SomeExactly.{SomeExactly, IsOnly}
 use Rattle.markdown_scanners_tree.specs.Handler.{Skips}
 use Rattle.markdown_scanners_tree.proofs.linklabel.SourceSteps.{rest_is}
 use Rattle.markdown_scanners_tree.proofs.linklabel.skip_at.Goals as goal
@@ -36,8 +36,7 @@ returns-clause-only g c =
     rest = IsUtf8-drop c.args.text.now c.args.place c.utf8.text c.requires.cut
 
     by : (r : Option ℕ) → FnReturnsAt g.F.Fn c.args.handler.now (drop c.args.place c.args.text.now) r
-        → IfSome r (λ skip. (other : ℕ) → Skips g.F.Fn c.args.handler.now (drop c.args.place c.args.text.now) other
-        → other ≡ skip)
+        → IsOnly (Skips g.F.Fn c.args.handler.now (drop c.args.place c.args.text.now)) r
     by None h = tt
     by (Some skip) h = λ other k. some-same _ _ (c.requires.steady.one_answer _ _ _ rest k h)
 

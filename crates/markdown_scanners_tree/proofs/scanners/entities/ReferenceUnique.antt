@@ -7,7 +7,7 @@ use Rattle.std.proofs.lemmas.Bool.{false≢true, ne_eqb}
 use Rattle.std.proofs.lemmas.List.{append_cancel_right, append-nil, take_at, length-append}
 use Rattle.markdown_scanners_tree.specs.Ascii.{number_sign, semicolon}
 use Rattle.markdown_scanners_tree.specs.Bytes.{is_alphanumeric}
-use Rattle.markdown_scanners_tree.specs.scanners.entities.CharacterReference.{Lookup, referenced_char, marks_hexadecimal, IsReference, IsDecimalReference, IsHexadecimalReference, IsEntityReference}
+use Rattle.markdown_scanners_tree.specs.scanners.entities.CharacterReference.{Lookup, referenced_char, marks_hexadecimal, IsReference, IsDecimalReference, IsHexadecimalReference, IsEntityReference, StartsWithReference}
 use Rattle.markdown_scanners_tree.proofs.PrefixLemmas.{both_true, prefix_len-parts}
 use Rattle.markdown_scanners_tree.proofs.scanners.entities.ReferenceLemmas.{decimal_at, hexadecimal_at, entity_at, entity_no_mark, decimal_no_letter}
 
@@ -135,3 +135,17 @@ same_meaning known source meaning meaning' (inr (inr entity)) (inr (inr entity')
     (ap (drop 1) (sym entity.spelled ∙ entity'.spelled)) in
     let both : Some meaning ≡ Some meaning' = sym entity.means ∙ (ap known name ∙ entity'.means) in
     cc
+
+-- the reference that a text begins with: its length and its meaning
+pub one_reference : (known : Lookup) (bytes : List ℕ) (reference other : ℕ × List ℕ)
+    → StartsWithReference known bytes reference.0 reference.1 → StartsWithReference known bytes other.0 other.1
+    → reference ≡ other
+one_reference known bytes reference other is is' =
+    let sources : is.source ≡ is'.source =
+    same_source known is.source is.rest reference.1 is'.source is'.rest other.1 (sym is.splits ∙ is'.splits)
+    is.is_reference is'.is_reference in
+    let long : reference.0 ≡ other.0 = is.n_is_length ∙ (ap length sources ∙ sym is'.n_is_length) in
+    let meanings : reference.1 ≡ other.1 =
+    same_meaning known is'.source reference.1 other.1
+    (subst (λ s. IsReference known s reference.1) sources is.is_reference) is'.is_reference in
+    λ i. (long i, meanings i)

@@ -117,7 +117,7 @@ module _ (answers : List ℕ → ℕ → Type 0) (none : (rest : List ℕ) (n : 
         n_is_length = n_is_length;
       }
 
-  kept_from_alone : (n : ℕ) → IsTagAloneInLine bytes n
+  pub kept_from_alone : (n : ℕ) → IsTagAloneInLine bytes n
       → (prefix : List KeptByte) × IsKeptTag answers bytes prefix × (place_after 0 prefix ≡ n)
   kept_from_alone n a =
       let k = prefix_kept 0 a.tag a.rest a.tag_in_line.1 in
@@ -149,9 +149,3 @@ module _ (answers : List ℕ → ℕ → Type 0) (none : (rest : List ℕ) (n : 
       from_place bytes end ∙ ap (λ z. drop z bytes) ends ∙ ap (drop (length a.tag)) a.parts
       ∙ drop-append_seam a.tag a.rest in
       not_blank a.blank (subst (λ z. IsBlankLine z a.blank) (sym rest) a.blank_rest)
-
-  -- the length of such a tag, where `end` is that of each tag
-  pub one_tag_alone : (end : ℕ)
-      → ((prefix : List KeptByte) → IsKeptTag answers bytes prefix → end ≡ place_after 0 prefix) → (n : ℕ)
-      → IsTagAloneInLine bytes n → n ≡ end
-  one_tag_alone end only n a = let k = kept_from_alone n a in sym (only k.0 k.1 ∙ k.2)

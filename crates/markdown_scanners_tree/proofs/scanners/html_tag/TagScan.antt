@@ -28,7 +28,7 @@ tag_read : (answers : List ℕ → ℕ → Type 0) (source : List ℕ) (prefix :
 tag_read answers source prefix k =
     record { skips = k.kept.skips; rest = k.kept.rest; answered = k.kept.answered; begins = k.kept.begins }
 
-tag_ends : (answers : List ℕ → ℕ → Type 0) (source : List ℕ) (prefix : List KeptByte) → IsKeptTag answers source prefix
+pub tag_ends : (answers : List ℕ → ℕ → Type 0) (source : List ℕ) (prefix : List KeptByte) → IsKeptTag answers source prefix
     → EndsTag prefix
 tag_ends answers source prefix k = (tag_exactly (bytes_of prefix) (line_endings prefix)).0 k.tag
 
@@ -57,6 +57,21 @@ state_more : (passed : List KeptByte) (k : KeptByte)
 state_more passed k =
     ap (state_after Start) (map-append (λ x. x.byte) passed (k ∷ []))
     ∙ state_after_append Start (bytes_of passed) (k.byte ∷ [])
+
+-- no tag goes on after a final state
+pub final_ends_none : (passed : List KeptByte) (k : KeptByte) (ks : List KeptByte)
+    → is_final (state_after Start (bytes_of passed)) ≡ true → EndsTag (passed ++ k ∷ ks) → ⊥
+final_ends_none passed k ks final ends =
+    let state = state_after Start (bytes_of passed) in
+    let endings = line_endings (passed ++ k ∷ ks) in
+    let run : state_after Start (bytes_of (passed ++ k ∷ ks)) ≡ state_after state (k.byte ∷ bytes_of ks) =
+    ap (state_after Start) (map-append (λ x. x.byte) passed (k ∷ ks))
+    ∙ state_after_append Start (bytes_of passed) (k.byte ∷ bytes_of ks) in
+    let whole : is_tag_end (state_after state (k.byte ∷ bytes_of ks)) endings ≡ true =
+    ap (λ z. is_tag_end z endings) (sym run) ∙ ends in
+    let other : is_tag_end (state_after state (k.byte ∷ bytes_of ks)) endings ≡ false =
+    final_goes_nowhere state k.byte (bytes_of ks) endings final in
+    cc
 
 -- One turn of a loop: the byte at the place is kept, and the next one stands at the next place.
 pub record Turn (answers : List ℕ → ℕ → Type 0) (source : List ℕ) (place endings next marks : ℕ) : Type 0 where
@@ -210,16 +225,7 @@ module _ (answers : List ℕ → ℕ → Type 0) (source : List ℕ) (place kept
   nowhere : is_final state ≡ true → (prefix : List KeptByte) → EndsTag prefix → (x : KeptByte) (u : List KeptByte)
       → prefix ≡ s.passed ++ x ∷ u → ⊥
   nowhere final prefix e x u is =
-      let run : state_after Start (bytes_of (s.passed ++ x ∷ u)) ≡ state_after state (x.byte ∷ bytes_of u) =
-      ap (state_after Start) (map-append (λ z. z.byte) s.passed (x ∷ u))
-      ∙ state_after_append Start (bytes_of s.passed) (x.byte ∷ bytes_of u)
-      ∙ ap (λ z. state_after z (x.byte ∷ bytes_of u)) (sym s.reached) in
-      let whole : is_tag_end (state_after state (x.byte ∷ bytes_of u)) (line_endings (s.passed ++ x ∷ u)) ≡ true =
-      ap (λ z. is_tag_end z (line_endings (s.passed ++ x ∷ u))) (sym run)
-      ∙ ap (λ z. is_tag_end (state_after Start (bytes_of z)) (line_endings z)) (sym is) ∙ e in
-      let other : is_tag_end (state_after state (x.byte ∷ bytes_of u)) (line_endings (s.passed ++ x ∷ u)) ≡ false =
-      final_goes_nowhere state x.byte (bytes_of u) (line_endings (s.passed ++ x ∷ u)) final in
-      cc
+      final_ends_none s.passed x u (ap is_final (sym s.reached) ∙ final) (subst EndsTag is e)
 
   pub scan_finds : is_tag_end state endings ≡ true
       → (prefix : List KeptByte) × IsKeptTag answers source prefix × AreLengths kept place prefix

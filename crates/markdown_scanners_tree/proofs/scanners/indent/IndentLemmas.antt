@@ -70,15 +70,15 @@ prefix-unique limit c (b ∷ prefix) rest (b' ∷ prefix') rest' same all stop a
     let prefixes : prefix ≡ prefix' = tails.0 in
     (cc, tails.1)
 
-pub IsIndent-unique : (text : List ℕ) (limit place total place' total' : ℕ) → IsIndent text limit place total
-    → IsIndent text limit place' total' → (place ≡ place') × (total ≡ total')
-IsIndent-unique text limit place total place' total' one other =
-    let same = prefix-unique limit 0 one.prefix one.rest other.prefix other.rest (sym one.parts
-    ∙ other.parts) one.passed one.stopped other.passed other.stopped in (
-      one.last_place ∙ rw (same.0, same.1) (sym other.last_place),
-      one.counted
-          ∙ rw (same.0, same.1) (sym other.counted),
-    )
+-- the indent of a text: the last place that was looked at, and the columns
+pub one_indent : (text : List ℕ) (limit : ℕ) (indent other : ℕ × ℕ) → IsIndent text limit indent.0 indent.1
+    → IsIndent text limit other.0 other.1 → indent ≡ other
+one_indent text limit indent other is is' =
+    let same = prefix-unique limit 0 is.prefix is.rest is'.prefix is'.rest (sym is.parts ∙ is'.parts) is.passed
+    is.stopped is'.passed is'.stopped in
+    let place : indent.0 ≡ other.0 = is.last_place ∙ rw (same.0, same.1) (sym is'.last_place) in
+    let total : indent.1 ≡ other.1 = is.counted ∙ rw (same.0, same.1) (sym is'.counted) in
+    λ i. (place i, total i)
 
 -- which bytes go on
 pub space_goes : (limit column : ℕ) → ¬ (column + 1 ≡ limit) → goes_on limit column 32 ≡ true

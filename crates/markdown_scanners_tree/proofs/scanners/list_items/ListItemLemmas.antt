@@ -13,10 +13,10 @@ use Rattle.std.specs.Str.Parse.{AllDigits, digits_value}
 use Rattle.std.specs.Int.{IsInRange}
 use Rattle.std.proofs.lemmas.Str.{digit_value_digit}
 use Rattle.markdown_scanners_tree.proofs.PrefixLemmas.{both_true, list_all-prefix, prefix_len-parts}
-use Rattle.markdown_scanners_tree.proofs.scanners.indent.IndentLemmas.{IsIndent-unique}
+use Rattle.markdown_scanners_tree.proofs.scanners.indent.IndentLemmas.{one_indent}
 
 -- how many bytes a list marker at the front has, if one stands there
-abbrev marker_length : List ℕ → ℕ
+abbrev pub marker_length : List ℕ → ℕ
 marker_length bytes = cond (begins_with is_bullet bytes) 1 (prefix_len is_digit bytes + 1)
 
 delimiter_no_digit : (b : ℕ) → is_delimiter b ≡ true → is_digit b ≡ false
@@ -41,7 +41,7 @@ ordered-parts (d ∷ digits) delimiter rest one all is =
       ap (drop (length (d ∷ digits))) joined ∙ drop-append_seam (d ∷ digits) (delimiter ∷ rest),
     )
 
-marker-length : (marker : List ℕ) (delimiter start : ℕ) (rest : List ℕ) → IsListMarker marker delimiter start
+pub marker-length : (marker : List ℕ) (delimiter start : ℕ) (rest : List ℕ) → IsListMarker marker delimiter start
     → marker_length (marker ++ rest) ≡ length marker
 marker-length marker delimiter start rest (bullet b is) = rw is refl
 marker-length marker delimiter start rest (ordered digits d one few all is) =
@@ -113,9 +113,11 @@ pub item_space-none : (rest : List ℕ) (place : ℕ) → ((n : ℕ) → ¬ IsBl
     → (at space : ℕ) → ¬ IsItemSpace rest at space
 item_space-none rest place none indent at space (blank n line) = none n line
 item_space-none rest place none indent at space (indented_code p s not_blank other deep) =
-    let same = (IsIndent-unique rest 5 place 0 p s indent other).1 in omega (arith, same, deep)
+    let same : 0 ≡ s = ap (λ (r : ℕ × ℕ). r.1) (one_indent rest 5 (place, 0) (p, s) indent other) in
+    omega (arith, same, deep)
 item_space-none rest place none indent at space (text p s not_blank other some few) =
-    let same = (IsIndent-unique rest 5 place 0 p s indent other).1 in omega (arith, same, some)
+    let same : 0 ≡ s = ap (λ (r : ℕ × ℕ). r.1) (one_indent rest 5 (place, 0) (p, s) indent other) in
+    omega (arith, same, some)
 
 pub bullet-scanned : (bytes : List ℕ) → begins_with is_bullet bytes ≡ true
     → IsListMarker (take 1 bytes) (get_or bytes 0 0) 0

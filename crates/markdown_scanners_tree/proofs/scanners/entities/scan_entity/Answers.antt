@@ -1,11 +1,28 @@
-use Rattle.std.proofs.Common.{◌+◌, arith, sym, ap, ◌∙◌, subst, encode_utf8}
-use Rattle.markdown_scanners_tree.specs.scanners.entities.CharacterReference.{StartsWithReference}
+use Rattle.std.proofs.Common.{ℕ, List, Option, Some, None, ◌+◌, arith, sym, ap, ◌∙◌, subst, encode_utf8}
+use Rattle.std.specs.Option.{option_map}
+use Rattle.markdown_values.specs.declared.strings.CowStr.{CowStr}
+use Rattle.markdown_values.specs.strings.Text.{cow_text}
+use Rattle.markdown_scanners_tree.specs.SomeExactly.{IsOnly}
+use Rattle.markdown_scanners_tree.specs.scanners.entities.CharacterReference.{Lookup, StartsWithReference, IsReferenceAnswer}
 use Rattle.markdown_scanners_tree.specs.scanners.entities.private.Digits.{StartsWithNumber}
 use Rattle.markdown_scanners_tree.proofs.scanners.entities.ReferenceLemmas.{no_hexadecimal, no_decimal, hexadecimal_found, decimal_found}
+use Rattle.markdown_scanners_tree.proofs.scanners.entities.ReferenceUnique.{one_reference}
 use Rattle.std.proofs.lemmas.List.{take_rest}
 use Rattle.std.proofs.lemmas.Bool.{false≢true}
 use Rattle.markdown_scanners_tree.proofs.scanners.entities.scan_entity.Goals as goal
 use Rattle.markdown_scanners_tree.proofs.scanners.entities.scan_entity.Goals.{else-bytes-gt2-via-then-bytes-gt2+else-is_hexadecimal_mark, else-bytes-gt2-via-else-bytes-gt2}
+
+-- no other reference is an answer than the one that is answered
+only_reference : (known : Lookup) (bytes : List ℕ) (n : ℕ) (text : Option CowStr) → IsReferenceAnswer known bytes n text
+    → IsOnly (λ (r : ℕ × List ℕ). StartsWithReference known bytes r.0 r.1) (option_map (λ t. (n, cow_text t)) text)
+only_reference known bytes n None none = tt
+only_reference known bytes n (Some text) found = λ other is.
+    one_reference known bytes other (n, cow_text text) is found
+
+pub returns-then-bytes-lt2-clause-only : goal.returns-then-bytes-lt2-clause-only
+returns-then-bytes-lt2-clause-only g c =
+    only_reference (g.E.Entities.known c.args.entities.now) c.args.bytes.now c.scan_named.result.0 c.scan_named.result.1
+    c.scan_named.ensures.found
 
 pub returns-in_default-clause-found : goal.returns-in_default-clause-found
 returns-in_default-clause-found g c =
@@ -47,3 +64,12 @@ returns-clause-found g c =
     (decimal_found (g.E.Entities.known c.args.entities.now) c.args.bytes.now r.n r.number c.if-bytes-lt2.false
     c.if-bytes-ne35.false
     (subst (λ bs. StartsWithNumber 10 7 bs r.n r.number) (take_rest c.args.bytes.now 2) r.ensures))
+
+pub returns-then-is_hexadecimal_mark-clause-only : goal.returns-then-is_hexadecimal_mark-clause-only
+returns-then-is_hexadecimal_mark-clause-only g c = λ other is.
+    one_reference (g.E.Entities.known c.args.entities.now) c.args.bytes.now other _ is
+    (returns-then-is_hexadecimal_mark-clause-found g c)
+
+pub returns-clause-only : goal.returns-clause-only
+returns-clause-only g c = λ other is.
+    one_reference (g.E.Entities.known c.args.entities.now) c.args.bytes.now other _ is (returns-clause-found g c)

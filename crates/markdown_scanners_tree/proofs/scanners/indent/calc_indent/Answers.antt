@@ -1,7 +1,8 @@
-use Rattle.std.proofs.Common.{◌≡◌, ◌≤◌, ◌+◌, true, false, get_or, take, ap, sym, subst, ◌∙◌, arith}
+use Rattle.std.proofs.Common.{◌≡◌, ◌≤◌, ◌+◌, true, false, [], get_or, take, refl, ap, sym, subst, ◌∙◌, arith, append-nil}
+use Rattle.std.proofs.lemmas.List.{take_all}
 use Rattle.markdown_scanners_tree.specs.Columns.{column_after, column_past}
-use Rattle.markdown_scanners_tree.specs.scanners.Indent.{goes_on, IsIndent}
-use Rattle.markdown_scanners_tree.proofs.scanners.indent.IndentLemmas.{column_past-more, all_go_on-more, space_goes, space_stops, tab_goes, tab_stops, other_stops, stopped-space, stopped-other}
+use Rattle.markdown_scanners_tree.specs.scanners.Indent.{goes_on, all_go_on, IsIndent}
+use Rattle.markdown_scanners_tree.proofs.scanners.indent.IndentLemmas.{one_indent, column_past-more, all_go_on-more, space_goes, space_stops, tab_goes, tab_stops, other_stops, stopped-space, stopped-other}
 use Rattle.markdown_scanners_tree.proofs.scanners.indent.calc_indent.Goals.{in-32-2, in-9}
 use Rattle.markdown_scanners_tree.proofs.scanners.indent.calc_indent.Goals as goal
 
@@ -28,6 +29,37 @@ returns-in_default-2-clause-indent c =
     let no_tab : ¬ (get_or c.args.text.now c.loop-i.i 0 ≡ 9) = omega arith in
     stopped-other c.args.text.now c.args.max c.loop-i.i c.loop-i.column c.loop-i-test.true before.1 before.2
     (other_stops c.args.max c.loop-i.column _ no_space no_tab) no_space
+
+pub returns-in-32-clause-only : goal.returns-in-32-clause-only
+returns-in-32-clause-only c = λ other is.
+    one_indent c.args.text.now c.args.max other _ is (returns-in-32-clause-indent c)
+
+pub returns-in_default-clause-only : goal.returns-in_default-clause-only
+returns-in_default-clause-only c = λ other is.
+    one_indent c.args.text.now c.args.max other _ is (returns-in_default-clause-indent c)
+
+pub returns-in_default-2-clause-only : goal.returns-in_default-2-clause-only
+returns-in_default-2-clause-only c = λ other is.
+    one_indent c.args.text.now c.args.max other _ is (returns-in_default-2-clause-indent c)
+
+pub returns-clause-indent : goal.returns-clause-indent
+returns-clause-indent c =
+    let before = c.loop-i.invariant in
+    let text = c.args.text.now in
+    let whole : take c.loop-i.i text ≡ text = take_all c.loop-i.i text c.loop-i-test.false in
+    record {
+      prefix = text;
+      rest = [];
+      parts = sym (append-nil text);
+      passed = ap (all_go_on c.args.max 0) (sym whole) ∙ before.2;
+      stopped = refl;
+      last_place = omega (arith, before.3);
+      counted = omega (arith, before.1 ∙ ap (column_past 0) whole);
+    }
+
+pub returns-clause-only : goal.returns-clause-only
+returns-clause-only c = λ other is.
+    one_indent c.args.text.now c.args.max other _ is (returns-clause-indent c)
 
 pub loop-i-preserved : goal.loop-i-preserved
 loop-i-preserved c =

@@ -1,8 +1,10 @@
-use Rattle.std.proofs.Common.{◌≡◌, ℕ, List, sym, ap, subst, take, drop, length, ◌∙◌}
+use Rattle.std.proofs.Common.{◌≡◌, ℕ, List, sym, ap, subst, take, drop, length, ◌∙◌, arith}
 use Rattle.std.proofs.Math.Seq.{take-append_seam}
+use Rattle.std.proofs.lemmas.List.{take-append-drop, length-take-le}
 use Rattle.markdown_scanners_tree.specs.scanners.list_items.ListItem.{IsListMarker, IsItemSpace}
 use Rattle.markdown_scanners_tree.proofs.PrefixLemmas.{from_place}
 use Rattle.markdown_scanners_tree.proofs.scanners.list_items.ListItemLemmas.{item-rest}
+use Rattle.markdown_scanners_tree.proofs.scanners.list_items.OneItem.{one_item}
 use Rattle.markdown_scanners_tree.proofs.scanners.list_items.scan_listitem.Goals as goal
 
 pub returns-in_err-width-clause-found : goal.returns-in_err-width-clause-found
@@ -12,6 +14,9 @@ returns-in_err-width-clause-found c =
     ap (take (length item.marker)) item.parts ∙ take-append_seam item.marker item.rest in
     c.in_err-width.ensures.found (length item.marker, r.1, r.2)
     (subst (λ (marker : List ℕ). IsListMarker marker r.1 r.2) (sym whole) item.is_marker))
+
+pub returns-in_err-width-clause-only : goal.returns-in_err-width-clause-only
+returns-in_err-width-clause-only c = rw c.from_residual.ensures tt
 
 pub returns-in_err-place-clause-found : goal.returns-in_err-place-clause-found
 returns-in_err-place-clause-found c =
@@ -23,3 +28,28 @@ returns-in_err-place-clause-found c =
     c.in_err-place.ensures.found (item.place, item.space)
     (subst (λ (rest : List ℕ). IsItemSpace rest item.place item.space) (rest
     ∙ sym (from_place c.args.bytes.now width)) item.is_space))
+
+pub returns-in_err-place-clause-only : goal.returns-in_err-place-clause-only
+returns-in_err-place-clause-only c = rw c.from_residual-in_err-place.ensures tt
+
+pub returns-clause-found : goal.returns-clause-found
+returns-clause-found c =
+    let bytes = c.args.bytes.now in
+    let width = c.in_ok-width.width in
+    let taken : length (take width bytes) ≡ width = length-take-le width bytes c.in_ok-width.ensures.within in
+    record {
+      marker = take width bytes;
+      rest = drop width bytes;
+      place = c.in_ok-place.place;
+      space = c.in_ok-place.space;
+      parts = sym (take-append-drop width bytes);
+      is_marker = c.in_ok-width.ensures.found;
+      is_space =
+          subst (λ (rest : List ℕ). IsItemSpace rest c.in_ok-place.place c.in_ok-place.space) (from_place bytes width)
+          c.in_ok-place.ensures.found;
+      counted = omega (arith, taken);
+      columns_are = omega (arith, taken);
+    }
+
+pub returns-clause-only : goal.returns-clause-only
+returns-clause-only c = λ other item. one_item c.args.bytes.now other _ item (returns-clause-found c)
