@@ -73,7 +73,7 @@ def say_of_row(crate, row):
 
 def say_of_lemmas(text, rows):
     """Lemmas for callers that no row of their section names."""
-    heads = {name for row in rows for name in row[1]}
+    heads = {name for row in rows for name in row[1]} | set(re.findall(r"(?m)^\|.*, `(\w+)` \|$", text))
     sections = re.findall(r"(?m)^## .*`(\w+)::proofs::ForCallers`", text)
     if not sections:
         yield "no section of lemmas was found"
@@ -82,12 +82,24 @@ def say_of_lemmas(text, rows):
             yield from [f"no row names the lemma {it.strip()}" for it in line.split(",") if it.strip() not in heads]
 
 
+def say_of_answers(text):
+    """What is wrong in the table of what makes an answer the only one."""
+    rows = re.findall(r"(?m)^\| `(\w+)` \| `(\w+)`, `(\w+)` \|$", text)
+    calls = {it.name: it for it in public_items("markdown_scanners_tree") if it.kind == "fn"}
+    named = {call for call, _, _ in rows}
+    for call, clause, lemma in rows:
+        if call not in calls or clause not in calls[call].clauses or not is_lemma(lemma):
+            yield f"one answer: {call} has no clause {clause}, or there is no lemma {lemma}"
+    yield from [f"one answer: lacks {it.name}" for it in calls.values() if "only" in it.clauses and it.name not in named]
+
+
 def say_of_rows(text):
     """What the rows lack, and what they name that is not so."""
     rows, ours = rows_of(text), set(crates())
     if not rows:
         yield "no row was found"
     yield from say_of_lemmas(text, rows)
+    yield from say_of_answers(text)
     said = {}
     for crate, heads, body, title in rows:
         yield from say_of_row(crate, (heads, body, title))

@@ -1,5 +1,11 @@
 -- One step over the source, by what stands next in it: where the scan is then (`IsAt`), what its
 -- tally tells, where no label can come, and where the source may be cut.
+--
+-- A label is read in two passes. The first takes no memory: it finds the closing bracket, whether
+-- the text stands in the source as it is, and else its length. The second writes it into memory of
+-- that length, and is proved to need no more (`fits` of `write_label`). Both take the same steps
+-- over the source (`SourceSteps`): what is left at a place makes a label with what was read exactly
+-- where the source has it.
 use Rattle.std.proofs.Common.{ℕ, suc, Bool, true, false, ◌||◌, ◌&&◌, ◌==◌, not, List, [], ◌∷◌, ◌++◌, ◌≡◌, ◌+◌, ◌≤◌, ◌<◌, ◌-◌, Option}
 use Rattle.std.proofs.Common.{Some, None, refl, sym, ◌∙◌, ap, subst, cond, arith, drop, take, get_or, length, true≢false, eqb-true}
 use Rattle.std.proofs.Math.Bool.{and-false}

@@ -1,4 +1,9 @@
 -- The fields of a run stay those of a run over a step that is not refused.
+--
+-- The search budget is proved in two steps. Over the definitions alone, a step that is not refused
+-- keeps it (`run_step-budget`): searches that are closed do not overlap, and one that is not closed
+-- shuts its kind. And each step of the code is that step (`GuardsStay`): its guard is true wherever
+-- a step may come, and stops exactly the shut kinds there.
 use Rattle.std.proofs.Common.{◌≡◌, ℕ, ◌+◌, ◌≤◌, ◌<◌, Bool, true, false, List, length, refl, sym, ap, subst, ◌∙◌, arith, ⊎_elim, ◌⊎◌, inl, inr, Option, Some, None, cond}
 use Rattle.std.specs.Prelude.{IfSome, unwrap_or, option_map, ◌≢◌, nat_lt, nat_le}
 use Rattle.std.proofs.lemmas.Bool.{cases_eq, cases_lt, lt-ltb, le-ltb, le-leb, lt-leb, eq-eqb, eqb-true, and_parts, ne_eqb, and_from, and_right}

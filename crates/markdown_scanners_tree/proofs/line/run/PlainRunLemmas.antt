@@ -1,4 +1,9 @@
 -- A state on a line, and the column of the written out line that it stands for.
+--
+-- The tab law is proved in three steps. Each call moves the state by as many columns as its plain
+-- step takes bytes (`StepLemmas`, `ItemLemmas`). Moving keeps the tie of state and column
+-- (`tied_next`). At a tied state a byte stands at the column exactly where nothing is pending
+-- (`tied_on`), so the run and the plain run stop alike.
 use Rattle.std.proofs.Common.{ℕ, Option, subst, Some, None, ◌≡◌, refl, sym, ◌∙◌, ap, ◌==◌, List, [], ◌∷◌, ◌++◌, ◌+◌, ◌-◌, ◌<◌, ◌≤◌, length, take, drop, arith, append_assoc}
 use Rattle.std.proofs.lemmas.Bool.Decides.{nat_tests}
 use Rattle.std.proofs.lemmas.List.{drop-drop, append-nil}

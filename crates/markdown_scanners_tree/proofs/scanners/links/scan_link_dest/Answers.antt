@@ -91,10 +91,11 @@ returns-then-bytes-eq60-clause-boundary c =
     (omega (arith, c.in_ok-n.ensures.cut)))
 
 pub returns-then-bytes-eq60-clause-only : goal.returns-then-bytes-eq60-clause-only
-returns-then-bytes-eq60-clause-only c = λ other is.
-    one_destination (c.args.max_next + 1) (drop c.args.start c.args.text.now) other _ is
+returns-then-bytes-eq60-clause-only c =
+    λ other is. one_destination (c.args.max_next + 1) (drop c.args.start c.args.text.now) other.0 other.1 _ _ is
     (returns-then-bytes-eq60-clause-found c)
 
 pub returns-clause-only : goal.returns-clause-only
-returns-clause-only c = λ other is.
-    one_destination (c.args.max_next + 1) (drop c.args.start c.args.text.now) other _ is (returns-clause-found c)
+returns-clause-only c =
+    λ other is. one_destination (c.args.max_next + 1) (drop c.args.start c.args.text.now) other.0 other.1 _ _ is
+    (returns-clause-found c)
