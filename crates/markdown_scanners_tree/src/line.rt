@@ -1,9 +1,8 @@
 //! A place in a line that is read column by column, with tab stops of four.
 //! (CommonMark 0.31.2, section 2.2, tabs)
-ghost use Rattle.std.specs.Prelude.{ℕ, ◌≡◌, ◌+◌, ◌-◌, ◌%◌, ◌<◌, ◌≤◌, ◌↔◌, ◌==◌, true, false, [], ◌∷◌, ◌++◌, length, take, drop, replicate, IsTrue, IfOk, IfSome, IfNone, ⊤};
-ghost use Rattle.markdown_scanners_tree.specs.Ascii.{space, greater_than_sign};
-ghost use Rattle.markdown_scanners_tree.specs.Bytes.{begins_with, is_line_ending, is_at_line_end};
-ghost use Rattle.markdown_scanners_tree.specs.Columns.{column_after, written_byte};
+ghost use Rattle.std.specs.Prelude.{ℕ, ◌≡◌, ◌+◌, ◌-◌, ◌*◌, ◌%◌, ◌<◌, ◌≤◌, ◌↔◌, ◌==◌, true, false, [], ◌∷◌, length, take, drop, IsTrue, IfOk, IfSome, IfNone, ⊤};
+ghost use Rattle.markdown_scanners_tree.specs.Ascii.{greater_than_sign};
+ghost use Rattle.markdown_scanners_tree.specs.Bytes.{begins_with, is_space_or_tab, is_line_ending, is_at_line_end};
 ghost use Rattle.markdown_scanners_tree.specs.line.State.{LineState, unscanned, rest_of, leading_spaces, space_within, after_space, bytes_further};
 ghost use Rattle.markdown_scanners_tree.specs.scanners.list_items.ListItem.{IsListMarker};
 ghost use Rattle.markdown_scanners_tree.specs.scanners.list_items.ListMarker.{list_marker};
@@ -13,8 +12,10 @@ ghost use Rattle.markdown_scanners_tree.specs.line.Outcome.{after_all_space, aft
 
 mod alerts;
 mod run;
+mod tabs;
 
 use crate::line::alerts::scan_alert;
+use crate::line::tabs::{push_byte, push_spaces, tab_width};
 use crate::scanners::{
     is_ascii_whitespace, is_ascii_whitespace_no_nl, is_line_ending, scan_blank_line, scan_hrule,
     scan_marker, scan_spaces_and_tabs,
@@ -31,9 +32,9 @@ use std::marker::Model;
 #[derive(Drop)]
 pub struct LineStart<'a> {
     bytes: &'a [u8],
+    // Four columns a byte may be more than a `usize` holds.
+    column: u128,
     place: usize,
-    // Counted modulo 2^64: tab stops ask for its remainder modulo four alone.
-    column: usize,
     pending: usize,
     // No thematic break begins at a place from the present one up to this one.
     no_break_before: usize,
@@ -49,6 +50,7 @@ impl<'a> Model for LineStart<'a> {
 
     ghost invariant = { λ s.
         (s.place ≤ length s.bytes.now)
+        × (s.column ≤ 4 * s.place)
         × (s.pending < 4)
         × ((k : ℕ) → s.place ≤ k → k < s.no_break_before
         → is_thematic_break (drop k s.bytes.now) ≡ false)
@@ -72,8 +74,8 @@ impl<'a> LineStart<'a> {
     {
         LineStart {
             bytes,
-            place: 0,
             column: 0,
+            place: 0,
             pending: 0,
             no_break_before: 0,
             known_break: None,
@@ -102,8 +104,8 @@ impl<'a> LineStart<'a> {
     {
         LineStart {
             bytes: self.bytes,
-            place: self.place,
             column: self.column,
+            place: self.place,
             pending: self.pending,
             no_break_before: self.no_break_before,
             known_break: self.known_break,
@@ -121,13 +123,20 @@ impl<'a> LineStart<'a> {
         self.bytes.get(self.place).copied()
     }
 
+    // Whether a space or a tab stands at the place.
+    fn is_at_space(&self) -> bool
+        ensures { result ≡ begins_with is_space_or_tab (unscanned self.now) }
+    {
+        matches!(self.next_byte(), Some(b' ' | b'\t'))
+    }
+
     // Passes bytes as one column each.
     fn pass_bytes(&mut self, count: usize)
         requires { self.old.place + count ≤ length self.old.bytes }
         ensures { self.new ≡ bytes_further count self.old }
     {
         self.place += count;
-        self.column = self.column.wrapping_add(count);
+        self.column += count as u128;
     }
 
     // Passes the byte at the place as one column.
@@ -136,7 +145,7 @@ impl<'a> LineStart<'a> {
         ensures { self.new ≡ bytes_further 1 self.old }
     {
         self.place += 1;
-        self.column = self.column.wrapping_add(1);
+        self.column += 1;
     }
 
     /// Whether a line ending, or the end of the bytes, stands at the place. Pending columns are
@@ -157,6 +166,10 @@ impl<'a> LineStart<'a> {
         ensures bytes { self.new.bytes ≡ self.old.bytes }
         ensures step { IsPlainStep (LineCall.Upto n) (LineAnswer.Count result) self.old self.new }
     {
+        // Most often there is none.
+        if self.pending == 0 && !self.is_at_space() {
+            return 0;
+        }
         let from_pending = n.min(self.pending);
         self.pending -= from_pending;
         let mut left = n - from_pending;
@@ -164,14 +177,14 @@ impl<'a> LineStart<'a> {
             match self.bytes[self.place] {
                 b' ' => {
                     self.place += 1;
-                    self.column = self.column.wrapping_add(1);
+                    self.column += 1;
                     left -= 1;
                 }
                 b'\t' => {
-                    let width = 4 - self.column % 4;
-                    let taken = left.min(width);
+                    let width = tab_width(self.column);
                     self.place += 1;
-                    self.column = self.column.wrapping_add(width);
+                    self.column += width as u128;
+                    let taken = left.min(width);
                     self.pending = width - taken;
                     left -= taken;
                 }
@@ -190,6 +203,36 @@ impl<'a> LineStart<'a> {
         ensures step { IsPlainStep (LineCall.Space n) (LineAnswer.Flag result) self.old self.new }
     {
         self.scan_space_upto(n) == n
+    }
+
+    // Takes one column of space, as `scan_space_upto(1)` does. Answers whether there was one.
+    fn scan_column(&mut self) -> bool
+        ensures answer { IsTrue result ↔ (space_within 1 self.old ≡ 1) }
+        ensures state { self.new ≡ after_space 1 self.old }
+        ensures rest { rest_of self.new ≡ drop (space_within 1 self.old) (rest_of self.old) }
+    {
+        if self.pending > 0 {
+            self.pending -= 1;
+            return true;
+        }
+        if self.place >= self.bytes.len() {
+            return false;
+        }
+        match self.bytes[self.place] {
+            b' ' => {
+                self.place += 1;
+                self.column += 1;
+                true
+            }
+            b'\t' => {
+                let width = tab_width(self.column);
+                self.place += 1;
+                self.column += width as u128;
+                self.pending = width - 1;
+                true
+            }
+            _ => false,
+        }
     }
 
     /// Drops the pending columns and passes all spaces and tabs at the place.
@@ -222,7 +265,7 @@ impl<'a> LineStart<'a> {
             return false;
         }
         self.pass_byte();
-        self.scan_space(1);
+        self.scan_column();
         true
     }
 
@@ -350,7 +393,7 @@ impl<'a> LineStart<'a> {
         ensures state { self.new ≡ after_space 1 self.old }
         ensures rest { rest_of self.new ≡ drop (space_within 1 self.old) (rest_of self.old) }
     {
-        self.scan_space(1) || self.is_at_eol()
+        self.scan_column() || self.is_at_eol()
     }
 
     // The space that belongs to a definition's marker: one column where five or more stand, else
@@ -377,12 +420,13 @@ impl<'a> LineStart<'a> {
         ensures state { self.new ≡ after_space result self.old }
         ensures rest { rest_of self.new ≡ drop result (rest_of self.old) }
     {
-        if scan_blank_line(&self.bytes[self.place..]).is_some() {
-            return 0;
-        }
+        let rest = &self.bytes[self.place..];
         let before = self.copy();
         let columns = self.scan_space_upto(4);
-        if columns == 4 {
+        if columns == 0 {
+            return 0;
+        }
+        if columns == 4 || scan_blank_line(rest).is_some() {
             *self = before;
             return 0;
         }
@@ -429,7 +473,7 @@ impl<'a> LineStart<'a> {
     {
         let mut rest = Vec::new(alloc);
         push_spaces(&mut rest, self.pending)?;
-        let mut phase = self.column % 4;
+        let mut phase = (self.column % 4) as usize;
         let unscanned = &self.bytes[self.place..];
         for (index, byte) in unscanned.iter().enumerate() {
             if is_line_ending(*byte) {
@@ -454,31 +498,5 @@ fn task_box(bytes: &[u8]) -> Option<bool>
             _ => None,
         },
         _ => None,
-    }
-}
-
-// Adds spaces at the end.
-fn push_spaces(rest: &mut Vec<u8>, count: usize) -> Result<(), AllocError>
-    ensures { IfOk result (λ _. rest.new.items ≡ rest.old.items ++ replicate count space) }
-{
-    for _ in 0..count {
-        rest.push(b' ')?;
-    }
-    Ok(())
-}
-
-// Adds a byte at a column, a tab as spaces; answers the column of what follows it, modulo four.
-fn push_byte(rest: &mut Vec<u8>, phase: usize, byte: u8) -> Result<usize, AllocError>
-    requires { phase < 4 }
-    ensures items { IfOk result (λ _.
-        rest.new.items ≡ rest.old.items ++ written_byte phase byte) }
-    ensures phase { IfOk result (λ next. next ≡ column_after phase byte % 4) }
-{
-    if byte == b'\t' {
-        push_spaces(rest, 4 - phase)?;
-        Ok(0)
-    } else {
-        rest.push(byte)?;
-        Ok((phase + 1) % 4)
     }
 }

@@ -1,14 +1,14 @@
 -- Columns of space taken from a state.
-use Rattle.std.specs.Prelude.{ℕ, zero, suc, false, ◌≡◌, refl, ◌⊎◌, List, ◌∷◌, ◌++◌, ◌+◌, ◌-◌, ◌*◌, ◌/◌, ◌%◌, ◌<◌, ◌≤◌, replicate, length, min, get_or, take, drop}
+use Rattle.std.specs.Prelude.{ℕ, zero, suc, true, false, ◌≡◌, refl, ◌⊎◌, List, [], ◌∷◌, ◌++◌, ◌+◌, ◌-◌, ◌*◌, ◌/◌, ◌%◌, ◌<◌, ◌≤◌, replicate, length, min, get_or, take, drop}
 use Rattle.std.proofs.Common.{sym, ◌∙◌, ap, inl, inr, eqb, arith, append_assoc, add-zero}
 use Rattle.std.proofs.lemmas.List.{length-replicate, replicate-append-replicate, drop-append-le, drop-replicate, drop_more}
 use Rattle.std.proofs.lemmas.Bool.{cases_lt}
 use Rattle.std.proofs.lemmas.Bool.Decides.{nat_tests}
 use Rattle.std.proofs.Math.ListN.{drop_of_length-le}
-use Rattle.markdown_scanners_tree.specs.Bytes.{is_line_ending}
+use Rattle.markdown_scanners_tree.specs.Bytes.{begins_with, is_space_or_tab, is_line_ending}
 use Rattle.markdown_scanners_tree.specs.Columns.{column_after, column_past, bytes_below, written_byte, written_out}
 use Rattle.markdown_scanners_tree.specs.line.State.{LineState, rest_of, leading_spaces, columns_further, space_within, after_space}
-use Rattle.markdown_scanners_tree.proofs.line.ColumnLemmas.{after-more, bool_cases, written-end, written-cons, none_below, below-shift, column_past-shift, written_out-shift, Reach, reach_byte}
+use Rattle.markdown_scanners_tree.proofs.line.ColumnLemmas.{after-more, bool_cases, written-end, written-cons, none_below, below-shift, column_past-shift, written_out-shift, Reach, reach_none, reach_byte}
 
 -- n spaces
 abbrev pub spaces : ℕ → List ℕ
@@ -120,20 +120,20 @@ module _ (bytes : List ℕ) (place c₀ p n place' c p' left : ℕ)
       let sum : p + (c - c₀) ≡ (n - left) + p' = omega arith in
       rw (written_out-phase bs c₀, reach.written, spaces-join p (c - c₀) w, sum) refl
 
-  pub rest_dropped : rest_of (state_of bytes place' p' c) ≡ drop (n - left) (rest_of (state_of bytes place p c₀))
+  rest_dropped : rest_of (state_of bytes place' p' c) ≡ drop (n - left) (rest_of (state_of bytes place p c₀))
   rest_dropped =
       let w = written_out c (drop place' bytes) in
       rw (written_out-phase (drop place' bytes) c, all_spaces) (sym (drop-spaces (n - left) p' w))
 
   module _ (ended : (left ≡ 0) ⊎ ((p' ≡ 0) × (leading_spaces (written_out c (drop place' bytes)) ≡ 0))) where
-    pub taken_all : n - left ≡ space_within n (state_of bytes place p c₀)
+    taken_all : n - left ≡ space_within n (state_of bytes place p c₀)
     taken_all =
         let w = written_out c (drop place' bytes) in
         let lead : leading_spaces (rest_of (state_of bytes place p c₀)) ≡ (n - left) + p' + leading_spaces w =
         ap leading_spaces all_spaces ∙ leading-spaces ((n - left) + p') w in
         rw lead (elim ended [ inl none ↦ omega arith | inr e ↦ omega arith ])
 
-    pub state_after : state_of bytes place' p' c ≡ after_space n (state_of bytes place p c₀)
+    state_after : state_of bytes place' p' c ≡ after_space n (state_of bytes place p c₀)
     state_after = further ∙ ap (λ t. columns_further t (state_of bytes place p c₀)) taken_all
 
 -- no space stands at the front of what is written out where no byte, or another one than a space or a tab, stands
@@ -154,6 +154,14 @@ pub none_at_byte : (bytes : List ℕ) (place c : ℕ) → place < length bytes �
     → leading_spaces (written_out c (drop place bytes)) ≡ 0
 none_at_byte bytes place c inside space tab =
     rw (drop_more bytes place 0 inside) (none_at c (get_or bytes place 0) (drop (place + 1) bytes) space tab)
+
+pub none_at_front : (bs : List ℕ) (c : ℕ) → begins_with is_space_or_tab bs ≡ false
+    → leading_spaces (written_out c bs) ≡ 0
+none_at_front [] c other = refl
+none_at_front (b ∷ bs) c other =
+    none_at c b bs
+    (λ space. let e : is_space_or_tab b ≡ true = rw space refl in cc)
+    (λ tab. let e : is_space_or_tab b ≡ true = rw tab refl in cc)
 
 -- the same over a line and its places
 reach_next : (bytes : List ℕ) (place₀ c₀ place c pending b c' pending' : ℕ)
@@ -205,6 +213,72 @@ taking_next {bytes} {place₀} {c₀} {p₀} {n} {place} {c} {p} {left} b {c'} {
       small = omega arith;
       whole = omega arith;
     }
+
+-- none are taken yet
+taking_none : (bytes : List ℕ) (place c p n : ℕ) → place ≤ length bytes → p < 4 → min p n ≡ 0
+    → IsTaking bytes place c p n place c p n
+taking_none bytes place c p n inside small whole =
+    let no_column : c - c ≡ 0 = omega arith in
+    let no_byte : place - place ≡ 0 = omega arith in
+    record {
+      reach = rw (no_column, no_byte) (reach_none c p (drop place bytes));
+      kept = refl;
+      on = omega arith;
+      further = omega arith;
+      within = omega arith;
+      inside = inside;
+      small = small;
+      whole = whole;
+    }
+
+-- how many of n columns asked for are taken, and what is left then
+pub record IsTaken (n taken : ℕ) (old new : LineState) : Type 0 where
+  pub answer : taken ≡ space_within n old
+  pub state : new ≡ after_space n old
+  pub rest : rest_of new ≡ drop taken (rest_of old)
+
+-- Columns are taken until no more are left to take, or there is no more space: n of them with those
+-- that were taken of the p₀ pending ones before.
+pub taken_from : {bytes : List ℕ} {place₀ c₀ p₁ n₁ place c p left : ℕ} (p₀ n taken : ℕ)
+    → IsTaking bytes place₀ c₀ p₁ n₁ place c p left → n₁ ≤ n → n₁ + p₀ ≡ n + p₁ → taken + left ≡ n
+    → (left ≡ 0) ⊎ ((p ≡ 0) × (leading_spaces (written_out c (drop place bytes)) ≡ 0))
+    → IsTaken n taken (state_of bytes place₀ p₀ c₀) (state_of bytes place p c)
+taken_from {bytes} {place₀} {c₀} {p₁} {n₁} {place} {c} {p} {left} p₀ n taken t fewer from_pending sum ended =
+    let within : left ≤ n = omega arith in
+    let count : n - left ≡ taken = omega arith in
+    let kept : c + left + p₀ ≡ c₀ + n + p = omega (arith, t.kept) in
+    record {
+      answer = sym count ∙ taken_all bytes place₀ c₀ p₀ n place c p left t.reach t.on t.further within kept ended;
+      state = state_after bytes place₀ c₀ p₀ n place c p left t.reach t.on t.further within kept ended;
+      rest = rw count at (rest_dropped bytes place₀ c₀ p₀ n place c p left t.reach t.on t.further within kept);
+    }
+
+-- one column: a pending one, one of a byte, and none
+pub one_pending : (bytes : List ℕ) (place c p : ℕ) → place ≤ length bytes → p < 4 → 0 < p
+    → IsTaken 1 1 (state_of bytes place p c) (state_of bytes place (p - 1) c)
+one_pending bytes place c p inside small some =
+    let left : IsTaking bytes place c (p - 1) 0 place c (p - 1) 0 =
+    taking_none bytes place c (p - 1) 0 inside (omega arith) (omega arith) in
+    taken_from p 1 1 left (omega arith) (omega arith) refl (inl refl)
+
+pub one_of_byte : (bytes : List ℕ) (place c p b width p' : ℕ) → p ≡ 0 → place < length bytes
+    → get_or bytes place 0 ≡ b → (b ≡ 32) ⊎ (b ≡ 9) → c + width ≡ column_after c b → p' + 1 ≡ width
+    → IsTaken 1 1 (state_of bytes place p c) (state_of bytes (place + 1) p' (c + width))
+one_of_byte bytes place c p b width p' none inside read kind next others =
+    let more : c < column_after c b = after-more c b in
+    let before : IsTaking bytes place c p 1 place c p 1 =
+    taking_none bytes place c p 1 (omega arith) (omega arith) (omega arith) in
+    let after : IsTaking bytes place c p 1 (place + 1) (c + width) p' 0 =
+    taking_next b before (omega arith) inside read kind next (omega arith) (omega arith) in
+    taken_from p 1 1 after (omega arith) refl refl (inl refl)
+
+pub none_of_byte : (bytes : List ℕ) (place c p n : ℕ) → p ≡ 0 → place ≤ length bytes
+    → leading_spaces (written_out c (drop place bytes)) ≡ 0
+    → IsTaken n 0 (state_of bytes place p c) (state_of bytes place p c)
+none_of_byte bytes place c p n none inside front =
+    let before : IsTaking bytes place c p n place c p n =
+    taking_none bytes place c p n inside (omega arith) (omega arith) in
+    taken_from p n 0 before (omega arith) refl (omega arith) (inr (none, front))
 
 -- one byte more is written out, and its phase counts alone
 pub written_step : (bytes : List ℕ) (i phase : ℕ) → i < length bytes → is_line_ending (get_or bytes i 0) ≡ false →

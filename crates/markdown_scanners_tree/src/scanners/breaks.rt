@@ -1,5 +1,5 @@
 //! Thematic breaks.
-ghost use Rattle.std.specs.Prelude.{◌≡◌, ◌≤◌, ◌==◌, length, count_by, false, IsTrue, IfOk, IfErr, MatchResult};
+ghost use Rattle.std.specs.Prelude.{◌≡◌, ◌≤◌, ◌==◌, nat_le, length, count_by, false, IsTrue, IfOk, IfErr, MatchResult};
 ghost use Rattle.std.specs.List.{prefix_len};
 ghost use Rattle.markdown_scanners_tree.specs.Bytes.{begins_with};
 ghost use Rattle.markdown_scanners_tree.specs.scanners.Breaks.{is_break_marker, is_break_byte, IsThematicBreak, is_thematic_break, IsThematicBreakLine, NoBreakBefore, break_length};
@@ -44,11 +44,20 @@ fn scan_break_bytes(bytes: &[u8], marker: u8) -> usize
         .count()
 }
 
-// How many of the bytes are this one.
-fn count_of(bytes: &[u8], byte: u8) -> usize
-    ensures { result ≡ count_by (λ b. b == byte) bytes.now }
+// Whether at least three of the bytes are this one; no more are read than tell it.
+fn has_three(bytes: &[u8], byte: u8) -> bool
+    ensures { result ≡ nat_le 3 (count_by (λ b. b == byte) bytes.now) }
 {
-    bytes.iter().filter(|b| **b == byte).count()
+    let mut found: usize = 0;
+    for b in bytes {
+        if *b == byte {
+            found += 1;
+            if found == 3 {
+                return true;
+            }
+        }
+    }
+    false
 }
 
 // The same as `scan_hrule`, where the first byte is known.
@@ -67,7 +76,7 @@ fn scan_break_of(bytes: &[u8], marker: u8) -> Result<usize, usize>
     let Some(ending) = scan_eol(&bytes[run..]) else {
         return Err(run);
     };
-    if count_of(&bytes[..run], marker) >= 3 {
+    if has_three(&bytes[..run], marker) {
         Ok(run + ending)
     } else {
         Err(run + ending)

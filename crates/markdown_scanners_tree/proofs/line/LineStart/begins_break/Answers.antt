@@ -8,7 +8,7 @@ pub invariant_of-self : goal.invariant_of-self
 invariant_of-self c =
     let s = c.self.inside in
     let i = c.self.invariant in
-    (i.0, i.1, i.2, ap is_thematic_break (sym (from_place s.bytes.now s.place)) ∙ c.in-Ok.ensures.found.0)
+    (i.0, i.1, i.2, i.3, ap is_thematic_break (sym (from_place s.bytes.now s.place)) ∙ c.in-Ok.ensures.found.0)
 
 pub invariant_of-self-in-Err : goal.invariant_of-self-in-Err
 invariant_of-self-in-Err c =
@@ -16,6 +16,7 @@ invariant_of-self-in-Err c =
     let i = c.self.invariant in (
       i.0,
       i.1,
+      i.2,
       λ k from before.
           let rest = from_place s.bytes.now s.place in
           let at : drop (k - s.place) (drop s.place s.bytes.now) ≡ drop k s.bytes.now =
@@ -23,5 +24,5 @@ invariant_of-self-in-Err c =
           drop-drop (k - s.place) s.place s.bytes.now ∙ ap (λ n. drop n s.bytes.now) sum) in
           ap is_thematic_break (sym (ap (drop (k - s.place)) rest ∙ at))
           ∙ c.in-Err.ensures.none_before (k - s.place) (omega arith),
-      i.3,
+      i.4,
     )

@@ -1,4 +1,4 @@
-use Rattle.std.proofs.Common.{ℕ, ◌≡◌, ◌%◌}
+use Rattle.std.proofs.Common.{◌≡◌, ◌≤◌, ◌*◌}
 use Rattle.markdown_scanners_tree.proofs.line.SpaceLemmas.{IsTaking}
 use Rattle.markdown_scanners_tree.proofs.line.LineStart.scan_space_upto.Given as goal
 
@@ -10,10 +10,9 @@ invariant-loop-left l =
       same : now.bytes ≡ old.bytes;
       none_before : now.no_break_before ≡ old.no_break_before;
       known : now.known_break ≡ old.known_break;
-      column : ℕ;
-      same_phase : column % 4 ≡ now.column % 4;
+      bound : now.column ≤ 4 * now.place;
       taking : IsTaking old.bytes.now old.place old.column old.pending l.initial.left now.place
-          column now.pending l.left;
+          now.column now.pending l.left;
     }
 
 -- proposed from the loop's first test

@@ -1,4 +1,5 @@
-use Rattle.std.proofs.Common.{refl}
+use Rattle.std.proofs.Common.{refl, sym, ◌∙◌}
+use Rattle.std.proofs.lemmas.Bool.{leb-true, leb-false}
 use Rattle.markdown_scanners_tree.proofs.scanners.breaks.BreakScan.{scanned_none, scanned_few, scanned_break}
 use Rattle.markdown_scanners_tree.proofs.scanners.breaks.scan_break_of.Goals as goal
 
@@ -10,14 +11,17 @@ pub returns-in_default-clause-none_before : goal.returns-in_default-clause-none_
 returns-in_default-clause-none_before c = (scanned_none _ _ _ c.requires.is_marker c.requires.begins
     c.scan_break_bytes-run.ensures.run _ refl c.in_default.ensures.ending).1
 
-pub returns-then-count_of-ge3-clause-found : goal.returns-then-count_of-ge3-clause-found
-returns-then-count_of-ge3-clause-found c = scanned_break _ _ _ c.requires.is_marker c.requires.begins
-    c.scan_break_bytes-run.ensures.run _ c.count_of.ensures _ c.in-Some.ensures.ending c.if-count_of-ge3.true
+pub returns-then-has_three-clause-found : goal.returns-then-has_three-clause-found
+returns-then-has_three-clause-found c = scanned_break _ _ _ c.requires.is_marker c.requires.begins
+    c.scan_break_bytes-run.ensures.run _ refl _ c.in-Some.ensures.ending
+    (leb-true 3 _ (sym c.has_three.ensures ∙ c.if-has_three.true))
 
-pub returns-else-count_of-ge3-clause-none : goal.returns-else-count_of-ge3-clause-none
-returns-else-count_of-ge3-clause-none c = (scanned_few _ _ _ c.requires.is_marker c.requires.begins
-    c.scan_break_bytes-run.ensures.run _ c.count_of.ensures _ c.in-Some.ensures.ending c.if-count_of-ge3.false).0
+pub returns-else-has_three-clause-none : goal.returns-else-has_three-clause-none
+returns-else-has_three-clause-none c = (scanned_few _ _ _ c.requires.is_marker c.requires.begins
+    c.scan_break_bytes-run.ensures.run _ refl _ c.in-Some.ensures.ending
+    (leb-false 3 _ (sym c.has_three.ensures ∙ c.if-has_three.false))).0
 
-pub returns-else-count_of-ge3-clause-none_before : goal.returns-else-count_of-ge3-clause-none_before
-returns-else-count_of-ge3-clause-none_before c = (scanned_few _ _ _ c.requires.is_marker c.requires.begins
-    c.scan_break_bytes-run.ensures.run _ c.count_of.ensures _ c.in-Some.ensures.ending c.if-count_of-ge3.false).1
+pub returns-else-has_three-clause-none_before : goal.returns-else-has_three-clause-none_before
+returns-else-has_three-clause-none_before c = (scanned_few _ _ _ c.requires.is_marker c.requires.begins
+    c.scan_break_bytes-run.ensures.run _ refl _ c.in-Some.ensures.ending
+    (leb-false 3 _ (sym c.has_three.ensures ∙ c.if-has_three.false))).1
