@@ -158,8 +158,7 @@ impl<'a> LineStart<'a> {
         self.next_byte().is_none_or(is_line_ending)
     }
 
-    /// Takes up to `n` columns of space, the pending ones first and then those of spaces and tabs.
-    /// Answers how many.
+    /// Takes up to `n` columns of space, pending ones first, then spaces and tabs. Answers how many.
     pub fn scan_space_upto(&mut self, n: usize) -> usize
         ensures answer { result ≡ space_within n self.old }
         ensures state { self.new ≡ after_space n self.old }
@@ -194,8 +193,7 @@ impl<'a> LineStart<'a> {
         n - left
     }
 
-    /// Takes up to `n` columns of space as `scan_space_upto` does. Answers whether there were so
-    /// many.
+    /// Takes up to `n` columns of space as `scan_space_upto` does. Answers whether there were n.
     pub fn scan_space(&mut self, n: usize) -> bool
         ensures answer { IsTrue result ↔ (space_within n self.old ≡ n) }
         ensures state { self.new ≡ after_space n self.old }
@@ -249,8 +247,7 @@ impl<'a> LineStart<'a> {
 
     /// Passes a block quote marker: `>` at the place, and at most one column of space after it.
     /// Answers whether there was one. Pending columns are looked past, and one of them is that
-    /// space.
-    /// (CommonMark 0.31.2, section 5.1)
+    /// space. (CommonMark 0.31.2, section 5.1)
     pub fn scan_blockquote_marker(&mut self) -> bool
         ensures answer { IsTrue result ↔
             (begins_with (λ b. b == greater_than_sign) (unscanned self.old) ≡ true) }
