@@ -158,7 +158,7 @@ impl<'a> LineStart<'a> {
         self.next_byte().is_none_or(is_line_ending)
     }
 
-    /// Takes up to `n` columns of space, pending ones first, then spaces and tabs. Answers how many.
+    /// Takes up to `n` columns, pending ones first, then those of spaces and tabs. Answers how many.
     pub fn scan_space_upto(&mut self, n: usize) -> usize
         ensures answer { result ≡ space_within n self.old }
         ensures state { self.new ≡ after_space n self.old }
