@@ -7,6 +7,7 @@ function that has no edit is refused for itself shows nothing.
 """
 import re
 import sys
+from functools import cache
 
 from edits import TOP, crate_of, edited
 
@@ -50,19 +51,37 @@ def key_of(item):
     return (item.of_type or item.module.split("/")[-1], item.short)
 
 
+@cache
+def callers(crate):
+    """The functions of a crate that seem to call each of its functions, by their keys."""
+    functions = [it for it in items_of(crate) if it.kind == "fn"]
+    called = {key_of(it): set(re.findall(r"(\w+)\(", it.body)) for it in functions}
+    return {key: {it for it in called if key[1] in called[it]} - {key} for key in called}
+
+
+def waiting_for(crate, key):
+    """How many functions of the crate rest on this one, near or far. All of them are looked at again where it is not proved."""
+    found, new = set(), {key}
+    while new:
+        found |= new
+        new = set().union(*(callers(crate)[it] for it in new)) - found
+    return len(found)
+
+
 def groups_of(edits):
-    """Groups of edits, no two in functions of one key, as dicts of edits and changed lines by key."""
-    groups = []
+    """Groups of edits, no two in functions of one key, as dicts of edits and changed lines by key. Functions on which many rest
+    are in one group, so that few groups have the prover look at many functions."""
+    found, groups = [], []
     for edit in edits:
         lines = changed_lines(edit)
-        item = function_of(edit, lines)
-        if item:
-            key = key_of(item)
-            group = next((it for it in groups if key not in it and len(it) < MOST), None)
-            if group is None:
-                group = {}
-                groups.append(group)
-            group[key] = edit, lines
+        if item := function_of(edit, lines):
+            found.append((key_of(item), (edit, lines)))
+    for key, change in sorted(found, key=lambda it: -waiting_for(crate_of(it[1][0]), it[0])):
+        group = next((it for it in groups if key not in it and len(it) < MOST), None)
+        if group is None:
+            group = {}
+            groups.append(group)
+        group[key] = change
     return [it for it in groups if len(it) > 1]
 
 
