@@ -1,4 +1,5 @@
 """The wrong bodies of the tree: where they stand, how many there must be, and the texts that each makes."""
+import re
 import shutil
 from pathlib import Path
 
@@ -23,6 +24,11 @@ def planted(crate):
 def crate_of(edit):
     """The name of the crate whose body an edit changes."""
     return edit.parent.parent.name if edit.parent.name == "must-fail" else edit.parent.name
+
+
+def free_memory():
+    """The memory that is free, in kilobytes."""
+    return int(re.search(r"MemAvailable:\s+(\d+)", Path("/proc/meminfo").read_text())[1])
 
 
 class BadEdit(Exception):

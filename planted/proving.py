@@ -8,12 +8,14 @@ import shutil
 import subprocess
 import sys
 import tempfile
+import threading
+import time
 from concurrent.futures import ThreadPoolExecutor
 from importlib.machinery import SourceFileLoader
 from importlib.util import module_from_spec, spec_from_loader
 from pathlib import Path
 
-from edits import TOP, crate_of
+from edits import TOP, crate_of, free_memory
 from grouping import groups_of, refused_in, texts_of
 
 ONE_JOB = ["--jobs", "1"]
@@ -37,6 +39,31 @@ def build_libraries():
             raise SystemExit(f"planted: {crate} is not proved as it stands, so its edits say nothing")
 
 
+class Room:
+    """Lets a check begin where there is memory for it, and for what others may come to take; one at least goes on."""
+
+    # In kilobytes: what must be free, beside what the checks that began in the last minute may yet take.
+    FREE, EACH, GROWS = 9_000_000, 3_500_000, 60
+
+    def __init__(self):
+        self.lock, self.begun = threading.Lock(), {}
+
+    def is_free(self):
+        young = sum(time.monotonic() - since < self.GROWS for since in list(self.begun.values()))
+        return not self.begun or free_memory() - young * self.EACH >= self.FREE
+
+    def run(self, check):
+        """What the check answers."""
+        with self.lock:
+            while not self.is_free():
+                time.sleep(2)
+            self.begun[check] = time.monotonic()
+        try:
+            return check()
+        finally:
+            del self.begun[check]
+
+
 def shown(rt, crate, group, kept):
     """The edits of a group that one check shows to be refused."""
     texts = texts_of(group)
@@ -44,30 +71,35 @@ def shown(rt, crate, group, kept):
     return [] if any(rt.unread(line, texts) for line in said.split("\n")) else refused_in(group, said)
 
 
-def refused_in_groups(rt, crate, edits, pool, kept):
-    """The edits that groups show to be refused. Those that waited for others are grouped again."""
-    refused = set()
-    while groups := groups_of([it for it in edits if it not in refused]):
-        found = {edit for refusals in pool.map(lambda it: shown(rt, crate, it, kept), groups) for edit in refusals}
-        if not found:
-            break
-        refused |= found
-    return refused
+def tried_over(rt, crate, edits, lanes, kept):
+    """The edits that groups show to be refused, and what rt says of each other one, alone. What waited in a group is grouped
+    once more."""
+    room = Room()
+    with ThreadPoolExecutor(lanes) as pool:
+        alone = lambda edit: pool.submit(room.run, lambda: rt.must_fail(crate, str(edit), ONE_JOB, kept))
+        begin = lambda group: pool.submit(room.run, lambda: shown(rt, crate, group, kept))
+        first = groups_of(edits)
+        found = [begin(group) for group in first]
+        in_groups = {edit for group in first for edit, _ in group.values()}
+        said = {edit: alone(edit) for edit in edits if edit not in in_groups}
+        refused = {edit for it in found for edit in it.result()}
+        found = [begin(group) for group in groups_of([it for it in edits if it in in_groups - refused])]
+        refused |= {edit for it in found for edit in it.result()}
+        said |= {edit: alone(edit) for edit in edits if edit in in_groups - refused}
+        return refused, {edit: it.result() for edit, it in said.items()}
 
 
 def tried(rt, crate, edits, lanes):
     """Whether each edit is refused, and what rt says of it where it was tried alone. That the crate is proved as it stands is
     seen before and after."""
-    with tempfile.TemporaryDirectory(prefix="planted-") as kept, ThreadPoolExecutor(lanes) as pool:
+    with tempfile.TemporaryDirectory(prefix="planted-") as kept:
         is_proved = lambda jobs: not rt.checked(crate, {}, jobs, kept).returncode
         if not is_proved(["--jobs", str(lanes)]):
             raise SystemExit(f"planted: {crate.name} is not proved as it stands, so its edits say nothing")
-        refused = refused_in_groups(rt, crate, edits, pool, kept)
-        alone = [it for it in edits if it not in refused]
-        said = dict(zip(alone, pool.map(lambda edit: rt.must_fail(crate, str(edit), ONE_JOB, kept), alone)))
+        refused, said = tried_over(rt, crate, edits, lanes, kept)
         if not is_proved(ONE_JOB):
             raise SystemExit(f"planted: {crate.name} is not proved over what its edits left, so they say nothing")
-    print(f"{crate.name}: {len(refused)} tried in groups, {len(alone)} alone", flush=True)
+    print(f"{crate.name}: {len(refused)} tried in groups, {len(said)} alone", flush=True)
     return [(True, "") if it in refused else said[it] for it in edits]
 
 
