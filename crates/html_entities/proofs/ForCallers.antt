@@ -34,7 +34,7 @@ rises-at (a ∷ b ∷ texts) ok (suc k) less = rises-at (b ∷ texts) (and_parts
 -- The names rise.
 pub names_rise : IsRising (names_of html_rows)
 unfolding the_rows rises precedes
-names_rise = rises-at _ refl
+names_rise = rises-at (names_of html_rows) refl
 
 short : List Row → Bool
 short [] = true

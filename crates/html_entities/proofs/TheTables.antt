@@ -8,4 +8,4 @@ use Rattle.html_entities.proofs.RowFacts.{the_rows}
 
 pub tables_lead : LeadToRows SEEDS PLACES (names_of html_rows)
 unfolding the_rows below_ok leads_ok hash_of row_of
-tables_lead = LeadToRows-from_ok SEEDS PLACES _ refl refl refl refl
+tables_lead = LeadToRows-from_ok SEEDS PLACES (names_of html_rows) refl refl refl refl
