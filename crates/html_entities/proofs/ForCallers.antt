@@ -1,8 +1,8 @@
 -- Lemmas that other crates cite.
-use Rattle.std.proofs.Common.{◌≡◌, ℕ, zero, suc, ◌<◌, Bool, true, false, ◌&&◌, ◌||◌, ◌==◌, List, [], ◌∷◌, length, get_or, Some, ◌⊎◌, inl, inr, refl, sym, ap, ◌∙◌, arith, eqb-true, le_of_suc-le-suc, not-suc-le-zero}
-use Rattle.std.specs.Ordering.{Ordering, Less, Equal, Greater, is_lt, nat_cmp}
+use Rattle.std.proofs.Common.{◌≡◌, ℕ, zero, suc, ◌<◌, Bool, true, ◌&&◌, ◌||◌, ◌==◌, List, [], ◌∷◌, length, get_or, Some, ◌⊎◌, inl, inr, refl, sym, ap, ◌∙◌, arith, eqb-true, le_of_suc-le-suc, not-suc-le-zero}
+use Rattle.std.specs.Ordering.{is_lt, nat_cmp}
 use Rattle.std.specs.Cmp.Lexicographic.{slice_cmp}
-use Rattle.std.proofs.lemmas.Bool.{false≢true, and_parts, or_cases}
+use Rattle.std.proofs.lemmas.Bool.{and_parts, or_cases}
 use Rattle.html_entities.specs.Row.{Row}
 use Rattle.html_entities.specs.declared.places.TheConstants.{SEEDS, PLACES}
 use Rattle.html_entities.specs.Places.{row_of}
@@ -19,16 +19,11 @@ rises : List (List ℕ) → Bool
 rises [] = true
 rises (a ∷ texts) = precedes a texts && rises texts
 
-less_from_is_lt : (o : Ordering) → is_lt o ≡ true → o ≡ Less
-less_from_is_lt Less e = refl
-less_from_is_lt Equal e = absurd (false≢true e)
-less_from_is_lt Greater e = absurd (false≢true e)
-
 rises-at : (texts : List (List ℕ)) → rises texts ≡ true → IsRising texts
 unfolding rises precedes
 rises-at [] ok k less = absurd (not-suc-le-zero less)
 rises-at (a ∷ []) ok k less = absurd (not-suc-le-zero (le_of_suc-le-suc less))
-rises-at (a ∷ b ∷ texts) ok zero less = less_from_is_lt _ (and_parts (is_lt (slice_cmp nat_cmp a b)) (rises (b ∷ texts)) ok).0
+rises-at (a ∷ b ∷ texts) ok zero less = (and_parts (is_lt (slice_cmp nat_cmp a b)) (rises (b ∷ texts)) ok).0
 rises-at (a ∷ b ∷ texts) ok (suc k) less = rises-at (b ∷ texts) (and_parts (is_lt (slice_cmp nat_cmp a b)) (rises (b ∷ texts)) ok).1 k (le_of_suc-le-suc less)
 
 -- The names rise.

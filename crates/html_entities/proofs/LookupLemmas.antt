@@ -27,9 +27,9 @@ looked_up (row ∷ rows) name =
     elim (cases_Bool (bytes_eq (codes row.0) name)) [
       | inl same ↦ inr (0, (omega arith, (bytes_eq-Decides (codes row.0) name).0 same, cond-true _ _ _ same))
       | inr other ↦ elim (looked_up rows name) [
-          | inl none ↦ inl (cond-false _ _ _ other ∙ none.0, not_here (codes row.0) (names_of rows) name (length rows) other none.1)
-          | inr some ↦ inr (suc some.0, (omega (arith, some.1.0), some.1.1, cond-false _ _ _ other ∙ some.1.2))
-        ]
+        | inl none ↦ inl (cond-false _ _ _ other ∙ none.0, not_here (codes row.0) (names_of rows) name (length rows) other none.1)
+        | inr some ↦ inr (suc some.0, (omega (arith, some.1.0), some.1.1, cond-false _ _ _ other ∙ some.1.2))
+      ]
     ]
 
 module _ (rows : List Row) (name : List ℕ) (r : ℕ) (only : (k : ℕ) → k < length rows → get_or (names_of rows) k [] ≡ name → r ≡ k) where
@@ -51,7 +51,7 @@ pub row_of_meaning : (rows : List Row) (name meaning : List ℕ) → meaning_in 
     → (k : ℕ) × (k < length rows) × (get_or (names_of rows) k [] ≡ name) × (get_or (meanings_of rows) k [] ≡ meaning)
 row_of_meaning rows name meaning has =
     elim (looked_up rows name) [
-      | inl none ↦ let differ : None {A = List ℕ} ≡ Some meaning = sym none.0 ∙ has in cc
+      | inl none ↦ let differ = sym none.0 ∙ has in cc
       | inr some ↦ let same : Some (get_or (meanings_of rows) some.0 []) ≡ Some meaning = sym some.1.2 ∙ has in
           (some.0, some.1.0, some.1.1, cc)
     ]

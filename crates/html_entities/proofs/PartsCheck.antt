@@ -1,5 +1,5 @@
 -- A test that parts stand one behind another in a text. It reads the text once.
-use Rattle.std.proofs.Common.{◌≡◌, ℕ, zero, suc, ◌+◌, ◌-◌, ◌<◌, ◌≤◌, Bool, true, false, ◌&&◌, ◌||◌, ◌==◌, nat_lt, nat_le, List, [], ◌∷◌, length, take, drop, get_or, slice_index, bytes_eq, inl, inr, refl, sym, ap, ◌∙◌, arith, ltb-true, leb-true, eqb-true, add-one, get_or-drop, drop-drop, le_of_suc-le-suc, not-suc-le-zero}
+use Rattle.std.proofs.Common.{◌≡◌, ℕ, zero, suc, ◌+◌, ◌-◌, ◌<◌, ◌≤◌, Bool, true, false, ◌&&◌, ◌||◌, ◌==◌, nat_lt, nat_le, List, [], ◌∷◌, length, take, drop, get_or, slice_index, bytes_eq, inl, inr, refl, ap, ◌∙◌, arith, ltb-true, leb-true, eqb-true, add-one, get_or-drop, drop-drop, le_of_suc-le-suc, not-suc-le-zero}
 use Rattle.std.specs.Str.{IsCharBoundary}
 use Rattle.std.proofs.lemmas.Bool.{false≢true, and_parts, or_cases}
 use Rattle.std.proofs.lemmas.Slice.Eq.{bytes_eq-Decides}
@@ -25,11 +25,13 @@ module _ (text : List ℕ) where
   boundary rest at behind ok inside =
       let first : slice_index rest 0 ≡ slice_index text (at + 0) = ap (λ l. slice_index l 0) behind ∙ get_or-drop at text 0 0 in
       let here : at + 0 ≡ at = omega arith in
-      let same : slice_index rest 0 ≡ slice_index text at = first ∙ ap (slice_index text) here in
-      (inside, λ less high. elim (or_cases (nat_lt (slice_index rest 0) 128) (nat_le 192 (slice_index rest 0)) ok) [
-        | inl low ↦ let below = ltb-true (slice_index rest 0) 128 low in omega arith
-        | inr lead ↦ let above = leb-true 192 (slice_index rest 0) lead in omega arith
-      ])
+      let same : slice_index rest 0 ≡ slice_index text at = first ∙ ap (slice_index text) here in (
+        inside,
+        λ less high. elim (or_cases (nat_lt (slice_index rest 0) 128) (nat_le 192 (slice_index rest 0)) ok) [
+          | inl low ↦ let below = ltb-true (slice_index rest 0) 128 low in omega arith
+          | inr lead ↦ let above = leb-true 192 (slice_index rest 0) lead in omega arith
+        ],
+      )
 
   first_part : (at n start next : ℕ) (rest part : List ℕ) → rest ≡ drop at text → n ≡ length part → start ≡ at → next ≡ at + n
       → at + n ≤ length text → begins rest ≡ true → begins (drop n rest) ≡ true → take n rest ≡ part → IsPart text start next part

@@ -1,7 +1,7 @@
 -- A test that the tables lead from each name to its number.
-use Rattle.std.proofs.Common.{◌≡◌, ℕ, zero, suc, ◌+◌, ◌/◌, ◌%◌, ◌<◌, Bool, true, ◌&&◌, ◌==◌, nat_lt, List, [], ◌∷◌, length, get_or, slice_index, refl, ◌∙◌, arith, ltb-true, eqb-true, le_of_suc-le-suc, not-suc-le-zero}
+use Rattle.std.proofs.Common.{◌≡◌, ℕ, zero, suc, ◌+◌, ◌<◌, Bool, true, ◌&&◌, ◌==◌, nat_lt, List, [], ◌∷◌, length, get_or, slice_index, arith, ltb-true, eqb-true, le_of_suc-le-suc, not-suc-le-zero}
 use Rattle.std.proofs.lemmas.Bool.{and_parts}
-use Rattle.html_entities.specs.Places.{row_of, LeadToRows, hash_of}
+use Rattle.html_entities.specs.Places.{row_of, LeadToRows}
 
 -- each number is below n
 unfoldable pub below_ok : ℕ → List ℕ → Bool

@@ -1,5 +1,6 @@
 -- How many rows there are.
-use Rattle.std.proofs.Common.{◌≡◌, length, codes, refl, ◌∙◌, length-map}
+use Rattle.std.proofs.Common.{◌≡◌, length, codes, refl, ◌∙◌}
+use Rattle.std.proofs.lemmas.List.{length-map}
 use Rattle.std.specs.Str.{encode_utf8_all}
 use Rattle.html_entities.specs.Rows1.{rows_1}
 use Rattle.html_entities.specs.Rows2.{rows_2}

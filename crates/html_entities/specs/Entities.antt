@@ -1,7 +1,7 @@
 -- The entities of HTML. (CommonMark 0.31.2, section 2.5, entity references)
-use Rattle.std.specs.Prelude.{◌≡◌, ℕ, suc, ◌<◌, List, [], ◌∷◌, ◌++◌, map, length, get_or, Option, Some, None, codes, if◌then◌else◌}
+use Rattle.std.specs.Prelude.{ℕ, suc, ◌<◌, IsTrue, List, [], ◌∷◌, ◌++◌, map, length, get_or, Option, Some, None, codes, if◌then◌else◌}
 use Rattle.std.specs.Str.{bytes_eq, encode_utf8_all}
-use Rattle.std.specs.Ordering.{Less, nat_cmp}
+use Rattle.std.specs.Ordering.{is_lt, nat_cmp}
 use Rattle.std.specs.Cmp.Lexicographic.{slice_cmp}
 use Rattle.html_entities.specs.Row.{Row}
 use Rattle.html_entities.specs.Rows1.{rows_1}
@@ -35,4 +35,4 @@ html_entity name = meaning_in html_rows name
 abbrev pub IsRising : List (List ℕ) → Type 0
 IsRising texts =
     (k : ℕ) → suc k < length texts
-    → slice_cmp nat_cmp (get_or texts k []) (get_or texts (suc k) []) ≡ Less
+    → IsTrue (is_lt (slice_cmp nat_cmp (get_or texts k []) (get_or texts (suc k) [])))

@@ -13,4 +13,4 @@ pub record IsPart (text : List ℕ) (start end : ℕ) (part : List ℕ) : Type 0
 pub record AreParts (text starts : List ℕ) (parts : List (List ℕ)) : Type 0 where
   pub enough : length parts < length starts
   pub each : (k : ℕ) → k < length parts
-    → IsPart text (slice_index starts k) (slice_index starts (k + 1)) (get_or parts k [])
+      → IsPart text (slice_index starts k) (slice_index starts (k + 1)) (get_or parts k [])

@@ -1,5 +1,6 @@
 //! The entities of HTML by their names, for the scanners that take a table of entities.
 #![tactic(auto)]
+
 ghost use Rattle.html_entities.specs.Entities.{html_entity};
 
 mod lookup;

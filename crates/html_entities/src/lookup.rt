@@ -5,7 +5,7 @@ ghost use Rattle.html_entities.specs.Entities.{html_entity, html_rows, names_of,
 ghost use Rattle.html_entities.specs.Parts.{AreParts};
 ghost use Rattle.html_entities.specs.Places.{LeadToRows, hash_of, row_of};
 
-use crate::meaning_text::{MEANINGS, MEANING_STARTS};
+use crate::meaning_text::{MEANING_STARTS, MEANINGS};
 use crate::name_text::{NAME_STARTS, NAMES};
 use crate::places::{PLACES, SEEDS};
 

@@ -1,4 +1,4 @@
-use Rattle.std.proofs.Common.{sym, ap, ◌∙◌, arith}
+use Rattle.std.proofs.Common.{sym, ap, ◌∙◌}
 use Rattle.html_entities.specs.Places.{row_of}
 use Rattle.html_entities.proofs.RowFacts.{name_count}
 use Rattle.html_entities.proofs.lookup.number_of_row.Goals as goal
