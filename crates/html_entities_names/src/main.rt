@@ -7,7 +7,7 @@ use html_entities::HtmlEntities;
 use markdown_scanners_tree::scanners::{Entities, unescape};
 use markdown_values::strings::CowStr;
 use std::alloc::Global;
-use std::io::{BufReader, Read, Write};
+use std::io::{BufRead, BufReader, Read, Write};
 use std::process::ExitCode;
 use std::str::from_utf8;
 
@@ -35,7 +35,9 @@ fn answer_lines<R: Read, W: Write>(
             return Ok(());
         }
         let answer = answer(alloc, line.strip_suffix(b"\n").unwrap_or(&line))?;
-        output.write_all(answer.as_str().as_bytes()).map_err(|_| Stop)?;
+        output
+            .write_all(answer.as_str().as_bytes())
+            .map_err(|_| Stop)?;
         output.write_all(b"\n").map_err(|_| Stop)?;
     }
     Err(Stop)
