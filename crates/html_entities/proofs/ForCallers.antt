@@ -35,7 +35,8 @@ short : List Row → Bool
 short [] = true
 short (row ∷ rows) = ((length row.1 == 1) || (length row.1 == 2)) && short rows
 
-short-at : (rows : List Row) → short rows ≡ true → (k : ℕ) (row : Row) → k < length rows → (length (get_or rows k row).1 ≡ 1) ⊎ (length (get_or rows k row).1 ≡ 2)
+short-at : (rows : List Row) → short rows ≡ true → (k : ℕ) (row : Row) → k < length rows
+    → (length (get_or rows k row).1 ≡ 1) ⊎ (length (get_or rows k row).1 ≡ 2)
 unfolding short
 short-at [] ok k row less = absurd (not-suc-le-zero less)
 short-at (first ∷ rows) ok zero row less =
@@ -43,10 +44,12 @@ short-at (first ∷ rows) ok zero row less =
       | inl one ↦ inl (eqb-true (length first.1) 1 one)
       | inr two ↦ inr (eqb-true (length first.1) 2 two)
     ]
-short-at (first ∷ rows) ok (suc k) row less = short-at rows (and_parts ((length first.1 == 1) || (length first.1 == 2)) (short rows) ok).1 k row (le_of_suc-le-suc less)
+short-at (first ∷ rows) ok (suc k) row less =
+    short-at rows (and_parts ((length first.1 == 1) || (length first.1 == 2)) (short rows) ok).1 k row (le_of_suc-le-suc less)
 
 -- Each meaning has one or two characters.
-pub one_or_two_characters : (k : ℕ) (row : Row) → k < length html_rows → (length (get_or html_rows k row).1 ≡ 1) ⊎ (length (get_or html_rows k row).1 ≡ 2)
+pub one_or_two_characters : (k : ℕ) (row : Row) → k < length html_rows
+    → (length (get_or html_rows k row).1 ≡ 1) ⊎ (length (get_or html_rows k row).1 ≡ 2)
 unfolding the_rows short
 one_or_two_characters = short-at html_rows refl
 

@@ -72,7 +72,8 @@ fn part_at<'a>(text: &'a str, starts: &[u16], number: usize) -> &'a str
     requires in_order { slice_index starts.now number ≤ slice_index starts.now (number + 1) }
     requires starts { IsCharBoundary text.now (slice_index starts.now number) }
     requires ends { IsCharBoundary text.now (slice_index starts.now (number + 1)) }
-    ensures { result.now ≡ take (slice_index starts.now (number + 1) - slice_index starts.now number)
+    ensures { result.now ≡
+        take (slice_index starts.now (number + 1) - slice_index starts.now number)
         (drop (slice_index starts.now number) text.now) }
 {
     let start = starts[number] as usize;
