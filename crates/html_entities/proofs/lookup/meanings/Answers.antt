@@ -1,0 +1,9 @@
+use Rattle.std.proofs.Common.{refl}
+use lib.Utf8.{encode}
+use Rattle.html_entities.proofs.PartsCheck.{AreParts-from_ok, parts_ok}
+use Rattle.html_entities.proofs.RowFacts.{the_rows}
+use Rattle.html_entities.proofs.lookup.meanings.Goals as goal
+
+pub returns : goal.returns
+unfolding the_rows encode parts_ok
+returns c = AreParts-from_ok _ _ _ refl

@@ -1,0 +1,9 @@
+pub mod Entities
+pub mod Parts
+pub mod Places
+pub mod Row
+pub mod Rows1
+pub mod Rows2
+pub mod Rows3
+pub mod Rows4
+pub mod Rows5
