@@ -1,19 +1,8 @@
 """What cmark_scan is run on: its words, its input, and what it then prints and answers with ample memory."""
+from running import Scan
 
 # How many reads and writes a run on a long input makes at least.
 MANY = 100
-
-
-class Scan:
-    """Words and input of a run, and what it prints and answers with ample memory."""
-
-    def __init__(self, name, words, given, out, status=0, err=b""):
-        self.name, self.words, self.given = name, words.split(), given
-        self.out, self.status, self.err = out, status, err
-
-    def is_answered(self, run):
-        return (run.out, run.err, run.status) == (self.out, self.err, self.status)
-
 
 LIST_LINES = b"quote true\nupto 2\nlist - 0 4\nscanned 4\nrest 78\n"
 HTML_LINES = b"2 none\n7 9\n12 none\n17 28\npassed 42 of 144\n"

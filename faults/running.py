@@ -31,6 +31,17 @@ class Run:
         return f"status {self.status}, output {out}, errors {self.err[:120]!r}, {self.told}"
 
 
+class Scan:
+    """Words and input of a run of cmark_scan, and what it prints and answers with ample memory."""
+
+    def __init__(self, name, words, given, out, status=0, err=b""):
+        self.name, self.words, self.given = name, words.split(), given
+        self.out, self.status, self.err = out, status, err
+
+    def is_answered(self, run):
+        return run.same_as(self)
+
+
 def read_to_end(file):
     with os.fdopen(file, "rb") as it:
         return it.read().decode()

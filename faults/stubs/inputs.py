@@ -1,16 +1,7 @@
 """What the stub of cmark_scan is run on: it prints its input. This stands for faults/inputs.py in the tests of faults/run."""
+from running import Scan
 
 MANY = 5
-
-
-class Scan:
-    def __init__(self, name, words, given, out, status=0, err=b""):
-        self.name, self.words, self.given = name, words.split(), given
-        self.out, self.status, self.err = out, status, err
-
-    def is_answered(self, run):
-        return (run.out, run.err, run.status) == (self.out, self.err, self.status)
-
 
 A_TEXT = Scan("a text", "unescape", b"some text", b"some text")
 PLAIN = [A_TEXT]
