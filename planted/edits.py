@@ -64,8 +64,8 @@ def edited(edit):
     return texts
 
 
-def copied(room, built=TOP):
-    """Copies what proofs and builds read of the tree into a folder, with the libraries that are built, here or in a copy."""
+def copied(room):
+    """Copies what proofs and builds read of the tree into a folder, with the libraries that are built."""
     for name in ("crates.txt", "HANDLES", "README.md"):
         shutil.copy(TOP / name, room)
     shutil.copytree(TOP / "c", room / "c")
@@ -73,7 +73,7 @@ def copied(room, built=TOP):
         for part in ("src", "specs", "proofs"):
             if (crate / part).is_dir():
                 shutil.copytree(crate / part, room / "crates" / crate.name / part)
-        library = built / "crates" / crate.name / "out/rlib"
+        library = crate / "out/rlib"
         if (library / "stamp").is_file():
             shutil.copytree(library, room / "crates" / crate.name / "out/rlib")
         for part in ("stdin", "stdout", "args"):

@@ -1,5 +1,7 @@
 -- A test that parts stand one behind another in a text. It reads the text once.
-use Rattle.std.proofs.Common.{◌≡◌, ℕ, zero, suc, ◌+◌, ◌-◌, ◌<◌, ◌≤◌, Bool, true, false, ◌&&◌, ◌||◌, ◌==◌, nat_lt, nat_le, List, [], ◌∷◌, length, take, drop, get_or, slice_index, bytes_eq, inl, inr, refl, ap, ◌∙◌, arith, ltb-true, leb-true, eqb-true, add-one, get_or-drop, drop-drop, le_of_suc-le-suc, not-suc-le-zero}
+use Rattle.std.proofs.Common.{◌≡◌, ℕ, zero, suc, ◌+◌, ◌-◌, ◌<◌, ◌≤◌, Bool, true, false, ◌&&◌, ◌||◌, ◌==◌, nat_lt, nat_le, List, [], ◌∷◌, length, take}
+use Rattle.std.proofs.Common.{drop, get_or, slice_index, bytes_eq, inl, inr, refl, ap, ◌∙◌, arith, ltb-true, leb-true, eqb-true, add-one, get_or-drop}
+use Rattle.std.proofs.Common.{drop-drop, le_of_suc-le-suc, not-suc-le-zero}
 use Rattle.std.specs.Str.{IsCharBoundary}
 use Rattle.std.proofs.lemmas.Bool.{false≢true, and_parts, or_cases}
 use Rattle.std.proofs.lemmas.Slice.Eq.{bytes_eq-Decides}
