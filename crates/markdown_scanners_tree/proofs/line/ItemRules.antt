@@ -1,5 +1,6 @@
 -- Where the two calls that look for a list item agree.
-use Rattle.std.specs.Prelude.{ℕ, not, is_some, Bool, true, false, ◌≡◌, ◌↔◌, refl, ◌==◌, ◌||◌, ◌&&◌, nat_le, List, [], ◌∷◌, ◌++◌, ◌+◌, ◌%◌, ◌≤◌, count_by, length, take, drop, Option, Some, None}
+use Rattle.std.specs.Prelude.{ℕ, not, is_some, Bool, true, false, ◌≡◌, ◌↔◌, refl, ◌==◌, ◌||◌, ◌&&◌, nat_le, List, [], ◌∷◌, ◌++◌, ◌+◌, ◌%◌, ◌≤◌}
+use Rattle.std.specs.Prelude.{count_by, length, take, drop, Option, Some, None}
 use Rattle.std.proofs.Common.{cond, subst, sym, ◌∙◌, ap, arith, append_assoc, length-append, zero-add}
 use Rattle.std.specs.List.{list_all, prefix_len}
 use Rattle.std.specs.Option.{option_map}
@@ -12,7 +13,8 @@ use Rattle.std.proofs.lemmas.List.Sums.{sum_by-cons}
 use Rattle.std.proofs.Math.Seq.{take-append_seam, drop-append_seam}
 use Rattle.markdown_scanners_tree.specs.SomeExactly.{SomeExactly}
 use Rattle.markdown_scanners_tree.specs.Bytes.{begins_with, is_between, is_blank, is_digit, is_line_ending, is_space_or_tab, is_white_space_in_line, line_head}
-use Rattle.markdown_scanners_tree.specs.line.ItemRules.{start_of, item_at_start, HasItem, HasMarker, AgreeOnItems, is_blank_from_vertical, is_before_vertical, is_break_like_item, is_item_alone}
+use Rattle.markdown_scanners_tree.specs.line.ItemRules.{start_of, item_at_start, HasItem, HasMarker, AgreeOnItems, is_blank_from_vertical}
+use Rattle.markdown_scanners_tree.specs.line.ItemRules.{is_before_vertical, is_break_like_item, is_item_alone}
 use Rattle.markdown_scanners_tree.specs.line.Outcome.{Outcome, further_spaces, item_outcome, item_outcome_by, item_outcome_after, not_found, space_or_end_follows}
 use Rattle.markdown_scanners_tree.specs.line.State.{LineState, bytes_further, after_space}
 use Rattle.markdown_scanners_tree.specs.scanners.Breaks.{is_break_marker, is_break_byte, is_break_head, is_thematic_break}
@@ -21,7 +23,8 @@ use Rattle.markdown_scanners_tree.specs.scanners.list_items.ListMarker.{Marker, 
 use Rattle.markdown_scanners_tree.proofs.PrefixLemmas.{both_true, list_all-prefix, prefix_len-parts}
 use Rattle.markdown_scanners_tree.proofs.line.ColumnLemmas.{bool_cases}
 use Rattle.markdown_scanners_tree.proofs.line.ItemLemmas.{marker-is, item-found}
-use Rattle.markdown_scanners_tree.proofs.line.ItemSpaces.{is_item_rest, is_marker_rest, item_space-found, item_space-only, marker_rest-written, marker_rest-item, item_rest-marker, vertical_no_marker, or_true}
+use Rattle.markdown_scanners_tree.proofs.line.ItemSpaces.{is_item_rest, is_marker_rest, item_space-found, item_space-only, marker_rest-written}
+use Rattle.markdown_scanners_tree.proofs.line.ItemSpaces.{marker_rest-item, item_rest-marker, vertical_no_marker, or_true}
 use Rattle.markdown_scanners_tree.proofs.line.WrittenLemmas.{head-cons, marker_of, pick}
 use Rattle.markdown_scanners_tree.proofs.scanners.breaks.BreakLemmas.{join_three, split_three}
 

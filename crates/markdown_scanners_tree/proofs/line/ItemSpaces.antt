@@ -4,7 +4,8 @@ use Rattle.std.proofs.Common.{sym, ◌∙◌, ap, inl, inr, arith}
 use Rattle.std.specs.List.{list_all}
 use Rattle.std.proofs.lemmas.Bool.{lt-ltb, cases_lt}
 use Rattle.std.proofs.lemmas.Bool.Decides.{nat_tests}
-use Rattle.markdown_scanners_tree.specs.Bytes.{begins_with, ends_or_begins_with, is_between, is_space_or_tab, is_white_space_in_line, is_line_ending, is_at_line_end, line_head, line_length, IsBlankLine, is_blank}
+use Rattle.markdown_scanners_tree.specs.Bytes.{begins_with, ends_or_begins_with, is_between, is_space_or_tab, is_white_space_in_line, is_line_ending}
+use Rattle.markdown_scanners_tree.specs.Bytes.{is_at_line_end, line_head, line_length, IsBlankLine, is_blank}
 use Rattle.markdown_scanners_tree.specs.Columns.{column_after, column_past, written_out}
 use Rattle.markdown_scanners_tree.specs.line.ItemRules.{is_blank_from_vertical}
 use Rattle.markdown_scanners_tree.specs.line.State.{leading_spaces}

@@ -8,7 +8,8 @@ use Rattle.std.proofs.Math.ListN.{drop_of_length-le}
 use Rattle.markdown_scanners_tree.specs.Bytes.{begins_with, is_space_or_tab, is_line_ending}
 use Rattle.markdown_scanners_tree.specs.Columns.{column_after, column_past, bytes_below, written_byte, written_out}
 use Rattle.markdown_scanners_tree.specs.line.State.{LineState, rest_of, leading_spaces, columns_further, space_within, after_space}
-use Rattle.markdown_scanners_tree.proofs.line.ColumnLemmas.{after-more, bool_cases, written-end, written-cons, none_below, below-shift, column_past-shift, written_out-shift, Reach, reach_none, reach_byte}
+use Rattle.markdown_scanners_tree.proofs.line.ColumnLemmas.{after-more, bool_cases, written-end, written-cons, none_below, below-shift}
+use Rattle.markdown_scanners_tree.proofs.line.ColumnLemmas.{column_past-shift, written_out-shift, Reach, reach_none, reach_byte}
 
 -- n spaces
 abbrev pub spaces : ℕ → List ℕ

@@ -1,5 +1,6 @@
 -- A text begins with one character reference at most, and that has one meaning.
-use Rattle.std.proofs.Common.{◌≡◌, ℕ, ◌<◌, ◌≤◌, Bool, true, not, List, [], ◌∷◌, ◌++◌, length, take, drop, refl, ap, ◌∙◌, sym, subst, arith, inl, inr, Some, append_assoc, ◌==◌, ◌⊎◌, encode_utf8}
+use Rattle.std.proofs.Common.{◌≡◌, ℕ, ◌<◌, ◌≤◌, Bool, true, not, List, [], ◌∷◌, ◌++◌, length, take, drop, refl, ap, ◌∙◌, sym, subst, arith, inl, inr}
+use Rattle.std.proofs.Common.{Some, append_assoc, ◌==◌, ◌⊎◌, encode_utf8}
 use Rattle.std.specs.List.{prefix_len, list_all}
 use Rattle.std.specs.Char.{digit_value}
 use Rattle.std.specs.Str.Parse.{AllDigits, digits_value}
@@ -7,7 +8,9 @@ use Rattle.std.proofs.lemmas.Bool.{false≢true, ne_eqb}
 use Rattle.std.proofs.lemmas.List.{append_cancel_right, append-nil, take_at, length-append}
 use Rattle.markdown_scanners_tree.specs.Ascii.{number_sign, semicolon}
 use Rattle.markdown_scanners_tree.specs.Bytes.{is_alphanumeric}
-use Rattle.markdown_scanners_tree.specs.scanners.entities.CharacterReference.{Lookup, referenced_char, marks_hexadecimal, IsReference, IsDecimalReference, IsHexadecimalReference, IsEntityReference, StartsWithReference}
+use Rattle.markdown_scanners_tree.specs.scanners.entities.CharacterReference.{Lookup, referenced_char, marks_hexadecimal, IsReference}
+use Rattle.markdown_scanners_tree.specs.scanners.entities.CharacterReference.{IsDecimalReference, IsHexadecimalReference, IsEntityReference}
+use Rattle.markdown_scanners_tree.specs.scanners.entities.CharacterReference.{StartsWithReference}
 use Rattle.markdown_scanners_tree.proofs.PrefixLemmas.{both_true, prefix_len-parts}
 use Rattle.markdown_scanners_tree.proofs.scanners.entities.ReferenceLemmas.{decimal_at, hexadecimal_at, entity_at, entity_no_mark, decimal_no_letter}
 

@@ -1,6 +1,7 @@
 -- Delimiter rows of tables: a row's indent, its first pipe and its cells are determined, the scan of a table's head
 -- answers by them, and a row has a length and a column.
-use Rattle.std.proofs.Common.{◌≡◌, ℕ, ◌+◌, ◌-◌, ◌≤◌, ◌<◌, Bool, true, false, not, cond, ◌&&◌, ◌||◌, ◌==◌, List, [], ◌∷◌, ◌++◌, map, length, take, drop, refl, sym, ap, ◌∙◌, arith, inl, inr, append_assoc}
+use Rattle.std.proofs.Common.{◌≡◌, ℕ, ◌+◌, ◌-◌, ◌≤◌, ◌<◌, Bool, true, false, not, cond, ◌&&◌, ◌||◌, ◌==◌, List, [], ◌∷◌, ◌++◌, map, length, take}
+use Rattle.std.proofs.Common.{drop, refl, sym, ap, ◌∙◌, arith, inl, inr, append_assoc}
 use Rattle.std.specs.List.{prefix_len, list_all, list_any, flat_map}
 use Rattle.std.proofs.lemmas.List.{take-append-drop, length-drop, length-take, drop-drop, length-replicate, length-append, length-map}
 use Rattle.std.proofs.lemmas.List.Folds.{length-prefix_len, list_any-append}
@@ -10,7 +11,8 @@ use Rattle.std.proofs.Math.ListN.{replicate}
 use Rattle.markdown_values.specs.declared.values.Alignment.{Alignment}
 use Rattle.markdown_scanners_tree.specs.Ascii.{vertical_line}
 use Rattle.markdown_scanners_tree.specs.Bytes.{begins_with}
-use Rattle.markdown_scanners_tree.specs.scanners.tables.DelimiterRow.{is_cell_byte, is_cell, alignment, ended_cell, delimiter_row, counted_cells, is_empty, IsDelimiterRow, NoDelimiterRow, is_space, is_hyphen, is_pipe}
+use Rattle.markdown_scanners_tree.specs.scanners.tables.DelimiterRow.{is_cell_byte, is_cell, alignment, ended_cell, delimiter_row, counted_cells}
+use Rattle.markdown_scanners_tree.specs.scanners.tables.DelimiterRow.{is_empty, IsDelimiterRow, NoDelimiterRow, is_space, is_hyphen, is_pipe}
 use Rattle.markdown_scanners_tree.specs.scanners.tables.private.ScannedCells.{AreCells, NoCells, AreScannedCells}
 use Rattle.markdown_scanners_tree.proofs.PrefixLemmas.{from_place, both_true, list_all-prefix, begins_with-after_prefix, prefix_len-parts}
 use Rattle.markdown_scanners_tree.proofs.scanners.lines.BlankLemmas.{first-line_ending}

@@ -2,7 +2,8 @@ use Rattle.std.proofs.Common.{◌≡◌, ◌≤◌, ◌+◌, true, false, [], ge
 use Rattle.std.proofs.lemmas.List.{take_all}
 use Rattle.markdown_scanners_tree.specs.Columns.{column_after, column_past}
 use Rattle.markdown_scanners_tree.specs.scanners.Indent.{goes_on, all_go_on, IsIndent}
-use Rattle.markdown_scanners_tree.proofs.scanners.indent.IndentLemmas.{one_indent, column_past-more, all_go_on-more, space_goes, space_stops, tab_goes, tab_stops, other_stops, stopped-space, stopped-other}
+use Rattle.markdown_scanners_tree.proofs.scanners.indent.IndentLemmas.{one_indent, column_past-more, all_go_on-more, space_goes, space_stops}
+use Rattle.markdown_scanners_tree.proofs.scanners.indent.IndentLemmas.{tab_goes, tab_stops, other_stops, stopped-space, stopped-other}
 use Rattle.markdown_scanners_tree.proofs.scanners.indent.calc_indent.Goals.{in-32-2, in-9}
 use Rattle.markdown_scanners_tree.proofs.scanners.indent.calc_indent.Goals as goal
 
