@@ -5,6 +5,7 @@ use markdown_scanners_tree::inline_html::{
     scan_inline_html_processing_counted,
 };
 use std::alloc::Global;
+use std::mem::size_of;
 use std::process::Abort;
 use std::test::Fail;
 
@@ -22,6 +23,14 @@ fn find_at(text: &[u8], place: usize, guard: &mut HtmlScanGuard) -> Option<usize
 
 fn find_with_new_guard(text: &[u8], place: usize) -> Option<usize> {
     find_at(text, place, &mut HtmlScanGuard::new())
+}
+
+// A counted text of a slice and a `u128`, a guard of four numbers, and three numbers more: a second
+// slice, whose bytes could be searched uncounted, has no room.
+#[test]
+fn a_run_has_room_for_its_fields_alone(rt: HostRuntime) {
+    assert_eq!(rt; size_of::<CountedText>(), 32);
+    assert_eq!(rt; size_of::<InlineHtmlRun>(), 32 + 4 * 8 + 3 * 8 + 8);
 }
 
 #[test]

@@ -1,5 +1,5 @@
-//! Worked rows and hostile texts, run through the public calls of `markdown_scanners_tree`: one
-//! file per construct; and its derives, by their bounds.
+//! Worked rows and hostile texts, run through the calls on line starts, inline HTML and link labels
+//! of `markdown_scanners_tree`; and its derives, by their bounds.
 #![tactic(auto)]
 
 #[cfg(test)]
@@ -12,5 +12,3 @@ mod inline_html;
 mod line;
 #[cfg(test)]
 mod linklabel;
-#[cfg(test)]
-mod scanners;

@@ -1,5 +1,6 @@
 //! Calls on the start of a line.
 mod items;
+mod resumed;
 mod run;
 
 use markdown_scanners_tree::line::LineStart;

@@ -1,27 +1,11 @@
 //! Character references.
-ghost use Rattle.std.specs.Prelude.{find};
-ghost use Rattle.std.specs.Option.{option_map};
-ghost use Rattle.std.specs.Str.{bytes_eq};
-
-use markdown_scanners_tree::scanners::{Entities, scan_entity};
+use markdown_scanners_tree::scanners::{Entities, EntityTable, scan_entity};
 use markdown_values::strings::CowStr;
 use std::alloc::{AllocError, Global};
 use std::test::Fail;
 
-/// A few entities, by name.
-pub(crate) struct Table {
-    rows: &'static [(&'static [u8], &'static str)],
-}
-
-impl Entities for Table {
-    ghost known = { λ table name. option_map (λ row. row.1.now) (find (λ row. bytes_eq row.0.now name) table.rows.now) };
-
-    fn get(&self, name: &[u8]) -> Option<&'static str> {
-        self.rows.iter().find(|row| row.0 == name).map(|row| row.1)
-    }
-}
-
-pub(crate) const KNOWN: Table = Table {
+/// A few entities.
+pub(crate) const KNOWN: EntityTable = EntityTable {
     rows: &[(b"amp", "&"), (b"lt", "<")],
 };
 
@@ -80,4 +64,16 @@ fn resolves_references_by_name(rt: HostRuntime) {
     assert_eq!(rt; scan_entity(b"&amp;", &KNOWN), (5, Some(CowStr::from("&"))));
     assert_eq!(rt; scan_entity(b"&amp", &KNOWN), (0, None));
     assert_eq!(rt; scan_entity(b"&nbsp;", &KNOWN), (0, None));
+}
+
+#[test]
+fn a_table_has_the_text_of_the_first_row(rt: HostRuntime) {
+    let table = EntityTable {
+        rows: &[(b"lt", "<"), (b"gt", ">"), (b"lt", "less")],
+    };
+    assert_eq!(rt; table.get(b"lt"), Some("<"));
+    assert_eq!(rt; table.get(b"gt"), Some(">"));
+    assert_eq!(rt; table.get(b"Lt"), None);
+    assert_eq!(rt; table.get(b"l"), None);
+    assert_eq!(rt; table.get(b""), None);
 }

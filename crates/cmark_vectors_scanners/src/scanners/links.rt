@@ -1,5 +1,8 @@
 //! Link destinations, autolinks and pipes of wikilinks.
-use markdown_scanners_tree::scanners::{scan_autolink, scan_link_dest, scan_wikilink_pipe};
+use markdown_scanners_tree::scanners::{
+    scan_autolink, scan_autolink_bytes, scan_link_dest, scan_link_dest_bytes, scan_wikilink_pipe,
+    scan_wikilink_pipe_bytes,
+};
 use markdown_values::strings::CowStr;
 use markdown_values::values::LinkType;
 use std::process::Abort;
@@ -97,4 +100,52 @@ fn looks_for_pipes_in_the_bytes_asked_for(rt: HostRuntime) {
     assert_eq!(rt; wikilink_pipe(&rt, "a|b]]", 0, 3), Some((2, "a")));
     assert_eq!(rt; wikilink_pipe(&rt, "a|b]]", 0, 1), None);
     assert_eq!(rt; wikilink_pipe(&rt, "a|b]]", 2, usize::MAX), None);
+}
+
+#[test]
+fn reads_link_destinations_of_bytes(rt: HostRuntime) {
+    assert_eq!(rt;
+        scan_link_dest_bytes(b"foo(and(bar)))", 31),
+        Some((13, 0..13))
+    );
+    assert_eq!(rt;
+        scan_link_dest_bytes(b"<foo(and(bar)>)", 31),
+        Some((14, 1..13))
+    );
+    assert_eq!(rt; scan_link_dest_bytes(b"foo\\)\\:)", 31), Some((7, 0..7)));
+    assert_eq!(rt; scan_link_dest_bytes(b"<>)", 31), Some((2, 1..1)));
+    assert_eq!(rt; scan_link_dest_bytes(b"", 31), Some((0, 0..0)));
+    assert_eq!(rt; scan_link_dest_bytes(b"<foo\nbar>", 31), None);
+    assert_eq!(rt; scan_link_dest_bytes(b"<foo\\>)", 31), None);
+    assert_eq!(rt; scan_link_dest_bytes(b"((a))", 0), None);
+    assert_eq!(rt; scan_link_dest_bytes(b"((a))", usize::MAX), Some((5, 0..5)));
+}
+
+#[test]
+fn reads_uris_of_bytes(rt: HostRuntime) {
+    assert_eq!(rt; scan_autolink_bytes(b"made-up-scheme://foo,bar>"), Some(24));
+    assert_eq!(rt; scan_autolink_bytes(b"ab:>"), Some(3));
+    assert_eq!(rt; scan_autolink_bytes(b"m:abc>"), None);
+    assert_eq!(rt; scan_autolink_bytes(b"https://foo.bar/baz bim>"), None);
+    assert_eq!(rt; scan_autolink_bytes(b"ab:c"), None);
+    assert_eq!(rt; scan_autolink_bytes(b""), None);
+}
+
+#[test]
+fn looks_for_pipes_in_bytes(rt: HostRuntime) {
+    assert_eq!(rt; scan_wikilink_pipe_bytes(b"a|b|", 3), Some(1));
+    assert_eq!(rt; scan_wikilink_pipe_bytes(b"a|b|", 1), None);
+    assert_eq!(rt; scan_wikilink_pipe_bytes(b"a|", usize::MAX), Some(1));
+    assert_eq!(rt; scan_wikilink_pipe_bytes(b"", 1), None);
+}
+
+#[test]
+fn takes_bytes_that_are_no_text(rt: HostRuntime) {
+    assert_eq!(rt;
+        scan_link_dest_bytes(b"\x80(\xff) \xff", 0),
+        Some((4, 0..4))
+    );
+    assert_eq!(rt; scan_link_dest_bytes(b"<\xc3>", 0), Some((3, 1..2)));
+    assert_eq!(rt; scan_autolink_bytes(b"ab:\xff>\xff"), Some(4));
+    assert_eq!(rt; scan_wikilink_pipe_bytes(b"\xe2|", 2), Some(1));
 }
