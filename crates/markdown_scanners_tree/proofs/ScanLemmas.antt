@@ -22,7 +22,7 @@ module _ (p : ℕ → Bool) where
             (prefix_len-first bytes k (omega (arith, inside)) here (λ j lt. before (suc j) (omega (arith, lt)))))
       ]
 
-  prefix_len-all : (bytes : List ℕ) → ((j : ℕ) → j < length bytes → ¬ (p (slice_index bytes j) ≡ true))
+  pub prefix_len-all : (bytes : List ℕ) → ((j : ℕ) → j < length bytes → ¬ (p (slice_index bytes j) ≡ true))
       → prefix_len (λ b. not (p b)) bytes ≡ length bytes
   prefix_len-all [] none = refl
   prefix_len-all (b ∷ bytes) none =

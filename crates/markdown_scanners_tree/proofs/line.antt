@@ -4,6 +4,7 @@ pub mod ItemIndents
 pub mod ItemLemmas
 pub mod ItemRules
 pub mod ItemSpaces
+pub mod PlaceLemmas
 pub mod Rows
 pub mod SpaceLemmas
 pub mod StepLemmas

@@ -76,7 +76,7 @@ abbrev pub length_with_ending : List ℕ → List ℕ → ℕ
 length_with_ending prefix bytes =
     length prefix + unwrap_or (line_ending (drop (length prefix) bytes)) 0
 
--- the length of the first line with its line ending
+-- the length of the first line: the bytes before the first line ending, and that ending, if there is one
 abbrev pub line_length : List ℕ → ℕ
 line_length bytes = length_with_ending (line_head bytes) bytes
 

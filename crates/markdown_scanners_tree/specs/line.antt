@@ -1,4 +1,5 @@
 pub mod ItemRules
+pub mod KnownBreaks
 pub mod Outcome
 pub mod PlainStep
 pub mod State

@@ -1,25 +1,25 @@
 //! A place in a line that is read column by column, with tab stops of four.
 //! (CommonMark 0.31.2, section 2.2, tabs)
-ghost use Rattle.std.specs.Prelude.{ℕ, ◌≡◌, ◌+◌, ◌-◌, ◌*◌, ◌%◌, ◌<◌, ◌≤◌, ◌↔◌, ◌==◌, true, false, [], ◌∷◌, length, take, drop, IsTrue, IfOk, IfSome, IfNone, ⊤};
+ghost use Rattle.std.specs.Prelude.{ℕ, ◌≡◌, ◌+◌, ◌-◌, ◌*◌, ◌%◌, ◌<◌, ◌≤◌, ◌↔◌, ◌==◌, true, [], ◌∷◌, length, drop, IsTrue, IfOk, IfSome, IfNone, ⊤};
 ghost use Rattle.markdown_scanners_tree.specs.Ascii.{greater_than_sign};
-ghost use Rattle.markdown_scanners_tree.specs.Bytes.{begins_with, is_space_or_tab, is_line_ending, is_at_line_end};
-ghost use Rattle.markdown_scanners_tree.specs.line.State.{LineState, unscanned, rest_of, leading_spaces, space_within, after_space, bytes_further};
-ghost use Rattle.markdown_scanners_tree.specs.scanners.list_items.ListItem.{IsListMarker};
-ghost use Rattle.markdown_scanners_tree.specs.scanners.list_items.ListMarker.{list_marker};
-ghost use Rattle.markdown_scanners_tree.specs.scanners.Breaks.{is_thematic_break};
-ghost use Rattle.markdown_scanners_tree.specs.line.PlainStep.{IsPlainStep, definition_spaces};
-ghost use Rattle.markdown_scanners_tree.specs.line.Outcome.{after_all_space, after_quote, further_spaces, item_outcome, definition_outcome, space_or_end_follows, task_box, task_outcome, alert_outcome};
+ghost use Rattle.markdown_scanners_tree.specs.Bytes.{begins_with, is_space_or_tab, is_at_line_end};
+ghost use Rattle.markdown_scanners_tree.specs.line.KnownBreaks.{AreTrueBreaks};
+ghost use Rattle.markdown_scanners_tree.specs.line.Outcome.{after_all_space, after_quote, task_box, task_outcome, alert_outcome};
+ghost use Rattle.markdown_scanners_tree.specs.line.PlainStep.{IsPlainStep};
+ghost use Rattle.markdown_scanners_tree.specs.line.State.{LineState, IsLineState, unscanned, rest_of, space_within, after_space, bytes_further};
 
 mod alerts;
+mod known_breaks;
+mod markers;
 mod run;
 mod tabs;
 
 use crate::line::alerts::scan_alert;
 use crate::line::tabs::{push_byte, push_spaces, tab_width};
 use crate::scanners::{
-    is_ascii_whitespace, is_ascii_whitespace_no_nl, is_line_ending, scan_blank_line, scan_hrule,
-    scan_marker, scan_spaces_and_tabs,
+    is_ascii_whitespace, is_ascii_whitespace_no_nl, is_line_ending, scan_spaces_and_tabs,
 };
+pub use known_breaks::KnownBreaks;
 use markdown_values::values::BlockQuoteKind;
 pub use run::{LineAnswer, LineCall, LineRun, LineStop, run_line};
 use std::alloc::{AllocError, Global};
@@ -36,10 +36,7 @@ pub struct LineStart<'a> {
     column: u128,
     place: usize,
     pending: usize,
-    // No thematic break begins at a place from the present one up to this one.
-    no_break_before: usize,
-    // A thematic break begins at this place.
-    known_break: Option<usize>,
+    breaks: KnownBreaks,
 }
 
 impl<'a> Model for LineStart<'a> {
@@ -50,11 +47,9 @@ impl<'a> Model for LineStart<'a> {
 
     ghost invariant = { λ s.
         (s.place ≤ length s.bytes.now)
-        × (s.column ≤ 4 * s.place)
+        × (s.column ≤ 4 * s.place + 3)
         × (s.pending < 4)
-        × ((k : ℕ) → s.place ≤ k → k < s.no_break_before
-        → is_thematic_break (drop k s.bytes.now) ≡ false)
-        × IfSome s.known_break (λ k. is_thematic_break (drop k s.bytes.now) ≡ true) };
+        × AreTrueBreaks s.bytes.now s.breaks s.place };
 }
 
 impl Clone for LineStart<'_> {
@@ -77,9 +72,35 @@ impl<'a> LineStart<'a> {
             column: 0,
             place: 0,
             pending: 0,
-            no_break_before: 0,
-            known_break: None,
+            breaks: KnownBreaks::new(),
         }
+    }
+
+    /// The line start at a place of the bytes with these columns pending, where the column of the
+    /// place modulo four is `phase`: as `bytes_scanned`, `remaining_space` and `phase` have told
+    /// them. None where no line start has such numbers.
+    pub fn resumed(
+        bytes: &'a [u8],
+        place: usize,
+        pending: usize,
+        phase: usize,
+    ) -> Option<LineStart<'a>>
+        ensures state { IfSome result (λ start. start
+            ≡ record { bytes = bytes.now; place = place; pending = pending; phase = phase }) }
+        ensures is_state { IfSome result (λ start. IsLineState start) }
+        ensures none { IfNone result (¬ IsLineState
+            (record { bytes = bytes.now; place = place; pending = pending; phase = phase })) }
+    {
+        if place > bytes.len() || pending > 3 || phase > 3 {
+            return None;
+        }
+        Some(LineStart {
+            bytes,
+            column: phase as u128,
+            place,
+            pending,
+            breaks: KnownBreaks::new(),
+        })
     }
 
     /// The place: how many bytes have been passed.
@@ -98,6 +119,14 @@ impl<'a> LineStart<'a> {
         self.pending
     }
 
+    /// The column of the place modulo four.
+    pub fn phase(&self) -> usize
+        ensures phase { result ≡ self.now.phase }
+        ensures within { result < 4 }
+    {
+        (self.column % 4) as usize
+    }
+
     // The same place again.
     fn copy(&self) -> LineStart<'a>
         ensures { result ≡ self.now }
@@ -107,8 +136,7 @@ impl<'a> LineStart<'a> {
             column: self.column,
             place: self.place,
             pending: self.pending,
-            no_break_before: self.no_break_before,
-            known_break: self.known_break,
+            breaks: self.breaks,
         }
     }
 
@@ -264,170 +292,6 @@ impl<'a> LineStart<'a> {
         self.pass_byte();
         self.scan_column();
         true
-    }
-
-    /// Passes a list item's marker and the space that belongs to it, at an indent in columns.
-    /// Answers the bullet or the delimiter, the start number (0 for a bullet), and the indent of
-    /// the item's content.
-    ///
-    /// One column of space, or a line ending, has to follow the marker. Of further space fewer
-    /// than four columns are taken, unless the rest of the line is blank.
-    /// (CommonMark 0.31.2, section 5.2)
-    ///
-    /// A parser that begins its items by this call asks it too, on a clone, whether one ends a
-    /// paragraph: `scan_listitem` takes two kinds for items that this call does not, a thematic
-    /// break such as `- - -`, and a marker before a blank rest that begins with a vertical tab or a
-    /// form feed.
-    ///
-    /// `indent` is at most `usize::MAX - 16`, so that the columns of the marker can be added.
-    pub fn scan_list_marker_with_indent(&mut self, indent: usize) -> Option<(u8, u64, usize)>
-        requires { indent ≤ usize.MAX - 16 }
-
-        ensures answer { result ≡ (item_outcome indent self.old).answer }
-        ensures width { IfSome result (λ r. r.2 ≤ indent + 14) }
-
-        // The place after the call; it stays where no item's marker stands.
-        ensures state { self.new ≡ (item_outcome indent self.old).state }
-        ensures bytes { self.new.bytes ≡ self.old.bytes }
-        ensures unchanged { IfNone result (self.new ≡ self.old) }
-
-        // With nothing pending the call is one on the line with its tabs written out.
-        ensures step { self.old.pending ≡ 0 →
-            IsPlainStep (LineCall.List indent) (LineAnswer.List result) self.old self.new }
-    {
-        let (width, delimiter, start) = self.list_marker()?;
-        let before = self.copy();
-        self.pass_bytes(width);
-        if !self.scan_space_or_end() {
-            *self = before;
-            return None;
-        }
-        let further = self.scan_marker_space();
-        Some((delimiter, start, indent + width + 1 + further))
-    }
-
-    /// Passes a definition's marker, `:` and the space that belongs to it, at an indent in columns.
-    /// Answers the indent of the definition's content.
-    ///
-    /// Up to four columns of space are taken, and one alone where there are more. `indent` is at
-    /// most `usize::MAX - 16`, so that the columns of the marker can be added.
-    pub fn scan_definition_list_definition_marker_with_indent(
-        &mut self,
-        indent: usize,
-    ) -> Option<usize>
-        requires { indent ≤ usize.MAX - 16 }
-
-        ensures answer { result ≡ (definition_outcome indent self.old).answer }
-        ensures width { IfSome result (λ width. width ≤ indent + 5) }
-
-        // The place after the call; it stays where no definition's marker stands.
-        ensures state { self.new ≡ (definition_outcome indent self.old).state }
-        ensures bytes { self.new.bytes ≡ self.old.bytes }
-        ensures unchanged { IfNone result (self.new ≡ self.old) }
-
-        // With nothing pending the call is one on the line with its tabs written out.
-        ensures step { self.old.pending ≡ 0 →
-            IsPlainStep (LineCall.Definition indent) (LineAnswer.Definition result)
-            self.old self.new }
-    {
-        if self.next_byte() != Some(b':') {
-            return None;
-        }
-        self.pass_byte();
-        let columns = self.scan_definition_space();
-        Some(indent + 1 + columns)
-    }
-
-    // The list marker at the place, if one stands there: its width, its bullet or delimiter, and
-    // its start number.
-    fn list_marker(&mut self) -> Option<(usize, u8, u64)>
-        ensures found { IfSome result (λ r. list_marker (unscanned self.old)
-            ≡ Some (record { width = r.0; delimiter = r.1; start = r.2 })) }
-        ensures marker { IfSome result (λ r. IsListMarker (take r.0 (unscanned self.old)) r.1 r.2) }
-        ensures inside { IfSome result (λ r. self.old.place + r.0 ≤ length self.old.bytes) }
-        ensures width { IfSome result (λ r. r.0 ≤ 10) }
-        ensures none { IfNone result (list_marker (unscanned self.old) ≡ None) }
-
-        // Nothing that is seen of the place changes.
-        ensures state { self.new ≡ self.old }
-        ensures phase { self.old.phase < 4 }
-    {
-        let (width, delimiter, start) = scan_marker(&self.bytes[self.place..])?;
-        // A bullet alone is one byte wide.
-        if width == 1 && self.begins_break() {
-            return None;
-        }
-        Some((width, delimiter, start as u64))
-    }
-
-    // Whether a thematic break begins at the place. The bytes that were read to tell are not read
-    // again: where one begins its place is kept, and where none does, how far they reach.
-    fn begins_break(&mut self) -> bool
-        ensures answer { result ≡ is_thematic_break (unscanned self.old) }
-        ensures state { self.new ≡ self.old }
-    {
-        if self.place < self.no_break_before {
-            return false;
-        }
-        if self.known_break == Some(self.place) {
-            return true;
-        }
-        match scan_hrule(&self.bytes[self.place..]) {
-            Ok(_) => {
-                self.known_break = Some(self.place);
-                true
-            }
-            Err(length) => {
-                self.no_break_before = self.place + length;
-                false
-            }
-        }
-    }
-
-    // Takes one column of space. Answers whether there was one, or else the line ends at the place.
-    fn scan_space_or_end(&mut self) -> bool
-        ensures answer { result ≡ space_or_end_follows self.old }
-        ensures state { self.new ≡ after_space 1 self.old }
-        ensures rest { rest_of self.new ≡ drop (space_within 1 self.old) (rest_of self.old) }
-    {
-        self.scan_column() || self.is_at_eol()
-    }
-
-    // The space that belongs to a definition's marker: one column where five or more stand, else
-    // all.
-    fn scan_definition_space(&mut self) -> usize
-        ensures columns { result ≡ definition_spaces (leading_spaces (rest_of self.old)) }
-        ensures state { self.new ≡ after_space result self.old }
-        ensures rest { rest_of self.new ≡ drop result (rest_of self.old) }
-    {
-        let before = self.copy();
-        let columns = self.scan_space_upto(5);
-        if columns < 5 {
-            return columns;
-        }
-        *self = before;
-        self.scan_space_upto(1);
-        1
-    }
-
-    // The further space that belongs to a list marker whose one column has been taken: none on a
-    // blank line, none where four columns or more stand, else all.
-    fn scan_marker_space(&mut self) -> usize
-        ensures columns { result ≡ further_spaces self.old }
-        ensures state { self.new ≡ after_space result self.old }
-        ensures rest { rest_of self.new ≡ drop result (rest_of self.old) }
-    {
-        let rest = &self.bytes[self.place..];
-        let before = self.copy();
-        let columns = self.scan_space_upto(4);
-        if columns == 0 {
-            return 0;
-        }
-        if columns == 4 || scan_blank_line(rest).is_some() {
-            *self = before;
-            return 0;
-        }
-        columns
     }
 
     /// Passes a task list item's box: up to three columns of space, `[`, white space or `x` or `X`,

@@ -2,6 +2,7 @@
 mod breaks;
 mod classes;
 mod entities;
+mod entity_table;
 mod escapes;
 mod fences;
 mod headings;
@@ -22,13 +23,17 @@ pub use breaks::scan_hrule;
 pub(crate) use classes::is_line_ending;
 pub use classes::{is_ascii_punctuation, is_ascii_whitespace, is_ascii_whitespace_no_nl};
 pub use entities::{Entities, scan_entity};
+pub use entity_table::EntityTable;
 pub use fences::{scan_closing_code_fence, scan_code_fence};
 pub use headings::{scan_atx_heading, scan_setext_heading};
 pub use html_block::starts_html_block_type_6;
 pub use html_tag::{scan_html_block_inner, scan_html_type_7};
 pub use indent::calc_indent;
-pub use lines::{scan_blank_line, scan_blockquote_start, scan_eol, scan_nextline};
-pub use links::{scan_autolink, scan_link_dest, scan_wikilink_pipe};
+pub use lines::{scan_blank_line, scan_blockquote_start, scan_eol, scan_line, scan_nextline};
+pub use links::{
+    scan_autolink, scan_autolink_bytes, scan_link_dest, scan_link_dest_bytes, scan_wikilink_pipe,
+    scan_wikilink_pipe_bytes,
+};
 pub use list_items::scan_listitem;
 pub(crate) use list_items::scan_marker;
 pub use metadata::{scan_closing_metadata_block, scan_metadata_block};

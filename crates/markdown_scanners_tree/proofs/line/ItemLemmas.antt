@@ -103,6 +103,27 @@ marker-none bytes absent =
         rw count other in
         rw fails refl
 
+-- nor is a bullet one that begins a thematic break
+no_bullet : (marker rest : List ℕ) (delimiter start : ℕ) → IsListMarker marker delimiter start → length marker ≡ 1
+    → is_thematic_break (marker ++ rest) ≡ true → list_marker (marker ++ rest) ≡ None
+no_bullet marker rest delimiter start (bullet b is) one breaks =
+    let test : (is_bullet b && not (is_thematic_break (b ∷ rest))) ≡ false =
+    ap (λ t. is_bullet b && not t) breaks ∙ rw is refl in
+    let other : is_digit b ≡ false = grind (arith, nat_tests) in
+    let none : ordered_marker (b ∷ rest) ≡ None = rw other refl in
+    ap (λ o. pick o (ordered_marker (b ∷ rest)))
+    (ap (λ t. cond t (Some (record { width = 1; delimiter = b; start = 0 })) None) test) ∙ none
+no_bullet marker rest delimiter start (ordered digits d low few all is) one breaks =
+    absurd (omega (arith, length-append digits (d ∷ [])))
+
+pub marker-break : (bytes : List ℕ) (width delimiter start : ℕ) → IsListMarker (take width bytes) delimiter start
+    → width ≤ length bytes → width ≡ 1 → is_thematic_break bytes ≡ true → list_marker bytes ≡ None
+marker-break bytes width delimiter start is inside one breaks =
+    let whole : take width bytes ++ drop width bytes ≡ bytes = take-append-drop width bytes in
+    let count : length (take width bytes) ≡ 1 = length-take-le width bytes inside ∙ one in
+    ap list_marker (sym whole)
+    ∙ no_bullet (take width bytes) (drop width bytes) delimiter start is count (ap is_thematic_break whole ∙ breaks)
+
 -- a marker has at most ten bytes
 pub marker-width : (marker : List ℕ) (delimiter start : ℕ) → IsListMarker marker delimiter start → length marker ≤ 10
 marker-width marker delimiter start (bullet b is) = omega arith
@@ -131,6 +152,21 @@ follows-end s r few answer =
     answer ∙ ap is_at_line_end (none_after s none) ∙ rw none refl
 
 -- a list item's marker, in every state
+pub item-passed : (indent further : ℕ) (s : LineState) (m : Marker)
+    → space_or_end_follows (bytes_further m.width s) ≡ true
+    → further ≡ (if is_blank (unscanned (after_space 1 (bytes_further m.width s))) then 0 else marker_spaces
+    (leading_spaces (rest_of (after_space 1 (bytes_further m.width s)))))
+    → item_outcome_by indent s (Some m) ≡ record {
+      answer = Some (m.delimiter, m.start, indent + m.width + 1 + further);
+      state = after_space further (after_space 1 (bytes_further m.width s));
+    }
+item-passed indent further s m ends counted =
+    let marked = bytes_further m.width s in
+    let after = after_space 1 marked in
+    ap (λ t. cond t (item_outcome_after indent m after) (not_found s)) ends
+    ∙ ap (λ f. record { answer = Some (m.delimiter, m.start, indent + m.width + 1 + f); state = after_space f after })
+    (sym counted)
+
 pub item-found : (indent further : ℕ) (s : LineState) (m : Marker) → list_marker (unscanned s) ≡ Some m
     → space_or_end_follows (bytes_further m.width s) ≡ true
     → further ≡ (if is_blank (unscanned (after_space 1 (bytes_further m.width s))) then 0 else marker_spaces
@@ -140,11 +176,14 @@ pub item-found : (indent further : ℕ) (s : LineState) (m : Marker) → list_ma
       state = after_space further (after_space 1 (bytes_further m.width s));
     }
 item-found indent further s m found ends counted =
-    let marked = bytes_further m.width s in
-    let after = after_space 1 marked in
-    ap (item_outcome_by indent s) found ∙ ap (λ t. cond t (item_outcome_after indent m after) (not_found s)) ends
-    ∙ ap (λ f. record { answer = Some (m.delimiter, m.start, indent + m.width + 1 + f); state = after_space f after })
-    (sym counted)
+    ap (item_outcome_by indent s) found ∙ item-passed indent further s m ends counted
+
+-- and where neither a space nor the line's end follows it
+pub item-kept : (indent : ℕ) (s : LineState) (m : Marker) → space_or_end_follows (bytes_further m.width s) ≡ false
+    → item_outcome_by indent s (Some m) ≡ not_found s
+item-kept indent s m bare =
+    let after = after_space 1 (bytes_further m.width s) in
+    ap (λ t. cond t (item_outcome_after indent m after) (not_found s)) bare
 
 -- in what is left, with nothing pending, the same follows
 follows-written : (bs : List ℕ) (c : ℕ)

@@ -2,3 +2,4 @@ pub mod DigitLemmas
 pub mod ReferenceLemmas
 pub mod ReferenceUnique
 pub mod Rows
+pub mod TableLemmas

@@ -1,3 +1,4 @@
 pub mod BlankLemmas
+pub mod LineLemmas
 pub mod OneQuoteStart
 pub mod Rows

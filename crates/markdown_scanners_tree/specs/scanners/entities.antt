@@ -1,2 +1,3 @@
 pub mod CharacterReference
+pub mod TableText
 pub mod private

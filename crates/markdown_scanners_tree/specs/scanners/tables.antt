@@ -1,2 +1,3 @@
+pub mod BegunRow
 pub mod DelimiterRow
 pub mod private

@@ -1,5 +1,5 @@
 //! Runs of scans of inline HTML over rising places of one text.
-ghost use Rattle.std.specs.Prelude.{◌≡◌, ◌≤◌, ◌<◌, ◌+◌, ◌*◌, ◌^◌, length, take, IfOk, IfSome, Some};
+ghost use Rattle.std.specs.Prelude.{◌≡◌, ◌≤◌, ◌<◌, ◌+◌, ◌*◌, ◌^◌, length, take, IfOk, OnErr, IfSome, Some};
 ghost use Rattle.markdown_scanners_tree.specs.inline_html.InlineHtml.{opener_before, opening_at};
 ghost use Rattle.markdown_scanners_tree.specs.inline_html.Guard.{answer_of_scan, guard_after_scan, text_after_scan, IsTrueGuard, IsTrueScan};
 ghost use Rattle.markdown_scanners_tree.specs.inline_html.run.Passed.{bytes_passed};
@@ -149,6 +149,7 @@ pub fn run_inline_html(alloc: Global, bytes: &[u8], places: &[usize]) -> Result<
     ensures stop { IfOk result (λ run. run.stop ≡ run_stop (new_run bytes.now) 0 places.now) }
     ensures budget { IfOk result (λ run.
         run.passed ≤ 4 * length bytes.now + 8 * length run.answers.items) }
+    ensures asked { OnErr result (0 < length (run_answers (new_run bytes.now) places.now)) }
 {
     let mut run = InlineHtmlRun::new(bytes);
     let mut answers = Vec::new(alloc);
@@ -169,28 +170,4 @@ pub fn run_inline_html(alloc: Global, bytes: &[u8], places: &[usize]) -> Result<
         passed: run.passed(),
         stop: None,
     })
-}
-
-#[cfg(test)]
-mod tests {
-    use super::*;
-    use std::test::Fail;
-
-    #[test]
-    fn a_run_has_these_fields_and_no_other(rt: HostRuntime) -> Result<(), Fail> {
-        let run = InlineHtmlRun::new(b"<!a>");
-        let InlineHtmlRun {
-            text,
-            guard,
-            last,
-            find_end,
-            steps,
-        } = run;
-        let counted: CountedText = text;
-        let stops: HtmlScanGuard = guard;
-        let _numbers: (usize, usize, usize) = (last, find_end, steps);
-        assert_eq!(rt; counted.passed(), 0);
-        assert_eq!(rt; stops.comment, 0);
-        Ok(())
-    }
 }

@@ -96,36 +96,3 @@ pub(in crate::scanners) fn is_unquoted_byte(c: u8) -> bool
 {
     classes_of(c) & UNQUOTED != 0
 }
-
-#[cfg(test)]
-mod tests {
-    use super::*;
-
-    #[test]
-    fn named_rows(rt: HostRuntime) {
-        let rows = [
-            (0x00, 32),
-            (b'\t', 35),
-            (b'\n', 1),
-            (0x0b, 35),
-            (b'\r', 1),
-            (b' ', 3),
-            (b'-', 36),
-            (b'0', 48),
-            (b'<', 4),
-            (b'A', 40),
-            (0xff, 32),
-        ];
-        for (byte, bits) in rows {
-            assert_eq!(rt; CLASSES[usize::from(byte)], bits, "at {byte}");
-        }
-    }
-
-    #[test]
-    fn counts_of_the_classes(rt: HostRuntime) {
-        for (bit, count) in [(1, 6), (2, 4), (4, 32), (8, 52), (16, 10), (32, 247)] {
-            let in_class = CLASSES.iter().filter(|row| **row & bit != 0).count();
-            assert_eq!(rt; in_class, count, "of bit {bit}");
-        }
-    }
-}

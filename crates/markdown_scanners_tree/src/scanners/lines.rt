@@ -1,11 +1,11 @@
 //! Line endings, blank lines and the marks at the front of a line.
-ghost use Rattle.std.specs.Prelude.{◌≡◌, ◌≤◌, length, IfSome};
+ghost use Rattle.std.specs.Prelude.{◌≡◌, ◌<◌, ◌≤◌, length, IfSome};
 ghost use Rattle.markdown_scanners_tree.specs.SomeExactly.{SomeExactly, IsOnly};
-ghost use Rattle.markdown_scanners_tree.specs.Bytes.{line_ending, IsBlankLine, blank_line};
+ghost use Rattle.markdown_scanners_tree.specs.Bytes.{line_ending, line_length, IsBlankLine, blank_line};
 ghost use Rattle.markdown_scanners_tree.specs.scanners.Lines.{next_line, IsBlockQuoteStart};
 
 use crate::scanners::runs::scan_whitespace_no_nl;
-use memchr::memchr;
+use memchr::{memchr, memchr2};
 
 /// The length in bytes of the line ending at the front: LF, CR LF, or a CR alone.
 ///
@@ -36,7 +36,23 @@ pub fn scan_blank_line(bytes: &[u8]) -> Option<usize>
     Some(i + n)
 }
 
-/// The place after the first LF, or the length where there is none. A CR ends no line here.
+/// The length in bytes of the line at the front, with its line ending: LF, CR LF, or a CR alone.
+///
+/// The last line of a text may have no ending, and is then all that is left. Of no bytes it is 0,
+/// so lines are read until nothing is left. (CommonMark 0.31.2, section 2.1.)
+pub fn scan_line(bytes: &[u8]) -> usize
+    ensures line { result ≡ line_length bytes.now }
+    ensures within { result ≤ length bytes.now }
+    ensures rises { 0 < length bytes.now → 0 < result }
+{
+    match memchr2(b'\n', b'\r', bytes) {
+        Some(end) => end + scan_eol(&bytes[end..]).unwrap_or(0),
+        None => bytes.len(),
+    }
+}
+
+/// The place after the first LF, or the length where there is none. LF alone ends a line here;
+/// `scan_line` knows CR too.
 pub fn scan_nextline(bytes: &[u8]) -> usize
     ensures next { result ≡ next_line bytes.now }
     ensures within { result ≤ length bytes.now }

@@ -2,12 +2,12 @@
 ghost use Rattle.std.specs.Prelude.{ℕ, List, ◌≡◌, ◌+◌, ◌-◌, ◌<◌, ◌≤◌, ◌==◌, ◌||◌, IfSome, length, drop, take, slice_range, slice_index, position};
 ghost use Rattle.std.specs.List.{prefix_len};
 ghost use Rattle.std.specs.Option.{option_map};
-ghost use Rattle.std.specs.Str.{IsCharBoundary};
+ghost use Rattle.std.specs.Str.{IsUtf8, IsCharBoundary};
 ghost use Rattle.markdown_values.specs.strings.Text.{cow_text, IsBorrowed};
 ghost use Rattle.markdown_scanners_tree.specs.Ascii.{vertical_line, less_than_sign, greater_than_sign};
 ghost use Rattle.markdown_scanners_tree.specs.Bytes.{is_line_ending};
 ghost use Rattle.markdown_scanners_tree.specs.SomeExactly.{SomeExactly, IsOnly};
-ghost use Rattle.markdown_scanners_tree.specs.scanners.links.LinkDestination.{IsLinkDestination, IsBareFrom, IsPointedFrom};
+ghost use Rattle.markdown_scanners_tree.specs.scanners.links.LinkDestination.{IsLinkDestination, IsBareFrom, IsPointedFrom, StandsInside};
 ghost use Rattle.markdown_scanners_tree.specs.scanners.links.Autolink.{IsUriAutolink, StartsWithScheme, is_scheme_byte, is_uri_byte};
 
 use crate::scanners::classes::{is_ascii_alphanumeric, is_ascii_letter, is_line_ending};
@@ -16,9 +16,25 @@ use crate::scanners::runs::first_bytes;
 use markdown_values::strings::CowStr;
 use markdown_values::values::LinkType;
 use memchr::memchr;
+use std::ops::Range;
 
 // How many bytes a scheme may have.
 const MOST_SCHEME_BYTES: usize = 32;
+
+/// The place of the first pipe among the first `len` bytes, or among all where there are fewer.
+///
+/// The form of `scan_wikilink_pipe` for bytes, which need not be UTF-8.
+pub fn scan_wikilink_pipe_bytes(bytes: &[u8], len: usize) -> Option<usize>
+    ensures found { result ≡ position (λ b. b == vertical_line) (take len bytes.now) }
+    ensures within { IfSome result (λ n. n < length bytes.now) }
+    ensures cut { IfSome result (λ n. slice_index bytes.now n ≡ vertical_line) }
+
+    // A text may be cut before the pipe and behind it.
+    ensures before { IfSome result (λ n. IsUtf8 bytes.now → IsCharBoundary bytes.now n) }
+    ensures behind { IfSome result (λ n. IsUtf8 bytes.now → IsCharBoundary bytes.now (n + 1)) }
+{
+    memchr(b'|', first_bytes(bytes, len))
+}
 
 /// The first pipe in the `len` bytes from `start` on, cut at the text's end: the place after the
 /// pipe, and the text before it. `start` is a place between two characters.
@@ -30,10 +46,40 @@ pub fn scan_wikilink_pipe(text: &str, start: usize, len: usize) -> Option<(usize
     ensures slice { IfSome result (λ r. r.1.now ≡ slice_range text.now start (r.0 - 1)) }
     ensures boundary { IfSome result (λ r. IsCharBoundary text.now r.0) }
 {
-    let rest = &text.as_bytes()[start..];
-    let window = &rest[..len.min(rest.len())];
-    let n = memchr(b'|', window)?;
+    let n = scan_wikilink_pipe_bytes(&text.as_bytes()[start..], len)?;
     Some((start + n + 1, &text[start..start + n]))
+}
+
+/// The link destination at the front of the bytes: how many it takes, angle brackets among them,
+/// and where its raw text stands. Parentheses nest at most `max_next + 1` deep.
+///
+/// The form of `scan_link_dest` for bytes, which need not be UTF-8. (CommonMark 0.31.2, section
+/// 6.3.)
+pub fn scan_link_dest_bytes(bytes: &[u8], max_next: usize) -> Option<(usize, Range<usize>)>
+    // The one destination that stands there is answered.
+    ensures found { SomeExactly
+        (λ (r : ℕ × List ℕ). IsLinkDestination (max_next + 1) bytes.now r.0 r.1)
+        (option_map (λ r. (r.0, slice_range bytes.now r.1.start r.1.end)) result) }
+    ensures only { IsOnly
+        (λ (r : ℕ × List ℕ). IsLinkDestination (max_next + 1) bytes.now r.0 r.1)
+        (option_map (λ r. (r.0, slice_range bytes.now r.1.start r.1.end)) result) }
+
+    // Its raw text is all that it takes, or stands between brackets.
+    ensures place { IfSome result (λ r. StandsInside r.0 r.1.start r.1.end) }
+    ensures ordered { IfSome result (λ r. (r.1.start ≤ r.1.end) × (r.1.end ≤ r.0)) }
+    ensures within { IfSome result (λ r. r.0 ≤ length bytes.now) }
+
+    // A text may be cut where its raw text begins and ends, and behind all that it takes.
+    ensures begins { IfSome result (λ r. IsUtf8 bytes.now → IsCharBoundary bytes.now r.1.start) }
+    ensures ends { IfSome result (λ r. IsUtf8 bytes.now → IsCharBoundary bytes.now r.1.end) }
+    ensures behind { IfSome result (λ r. IsUtf8 bytes.now → IsCharBoundary bytes.now r.0) }
+{
+    if !bytes.is_empty() && bytes[0] == b'<' {
+        let n = pointed_len(&bytes[1..])?;
+        return Some((n + 2, 1..n + 1));
+    }
+    let n = bare_len(bytes, max_next)?;
+    Some((n, 0..n))
 }
 
 /// The link destination from `start` on: how many bytes it takes, angle brackets among them, and
@@ -51,13 +97,8 @@ pub fn scan_link_dest(text: &str, start: usize, max_next: usize) -> Option<(usiz
         → other ≡ (r.0, r.1.now)) }
     ensures boundary { IfSome result (λ r. IsCharBoundary text.now (start + r.0)) }
 {
-    let bytes = &text.as_bytes()[start..];
-    if !bytes.is_empty() && bytes[0] == b'<' {
-        let n = pointed_len(&bytes[1..])?;
-        return Some((n + 2, &text[start + 1..start + 1 + n]));
-    }
-    let n = bare_len(bytes, max_next)?;
-    Some((n, &text[start..start + n]))
+    let (taken, raw) = scan_link_dest_bytes(&text.as_bytes()[start..], max_next)?;
+    Some((taken, &text[start + raw.start..start + raw.end]))
 }
 
 // How many bytes stand before the first unescaped `>`, behind the `<`.
@@ -110,6 +151,32 @@ fn bare_len(bytes: &[u8], max_next: usize) -> Option<usize>
     if depth == 0 { Some(i) } else { None }
 }
 
+/// The length of the absolute URI at the front of the bytes, behind which stands its `>`.
+///
+/// The form of `scan_autolink` for bytes, which need not be UTF-8. (CommonMark 0.31.2, section
+/// 6.5.)
+pub fn scan_autolink_bytes(bytes: &[u8]) -> Option<usize>
+    // The one URI that stands there is answered.
+    ensures found { SomeExactly (IsUriAutolink bytes.now)
+        (option_map (λ n. take n bytes.now) result) }
+    ensures only { IsOnly (IsUriAutolink bytes.now)
+        (option_map (λ n. take n bytes.now) result) }
+
+    // A `>` is behind it, and a text may be cut on both sides of that.
+    ensures within { IfSome result (λ n. n < length bytes.now) }
+    ensures cut { IfSome result (λ n. slice_index bytes.now n ≡ greater_than_sign) }
+    ensures before { IfSome result (λ n. IsUtf8 bytes.now → IsCharBoundary bytes.now n) }
+    ensures behind { IfSome result (λ n. IsUtf8 bytes.now → IsCharBoundary bytes.now (n + 1)) }
+{
+    let scheme = scheme_len(bytes)?;
+    let end = scheme + 1 + address_prefix_len(&bytes[scheme + 1..]);
+    if end < bytes.len() && bytes[end] == b'>' {
+        Some(end)
+    } else {
+        None
+    }
+}
+
 /// The absolute URI from `start` on that `>` ends: the place after the `>`, and the text before it.
 /// `start` is a place between two characters.
 ///
@@ -130,24 +197,9 @@ pub fn scan_autolink<'a>(text: &'a str, start: usize) -> Option<(usize, CowStr<'
     ensures borrowed { IfSome result (λ r. IsBorrowed r.1) }
     ensures kind { IfSome result (λ r. r.2 ≡ LinkType.Autolink) }
 {
-    let n = uri_len(&text.as_bytes()[start..])?;
+    let n = scan_autolink_bytes(&text.as_bytes()[start..])?;
     let end = start + n;
     Some((end + 1, CowStr::from(&text[start..end]), LinkType::Autolink))
-}
-
-// The length of the absolute URI at the front, which `>` ends.
-fn uri_len(bytes: &[u8]) -> Option<usize>
-    ensures found { SomeExactly (λ n. IsUriAutolink bytes.now (take n bytes.now)) result }
-    ensures within { IfSome result (λ n. n < length bytes.now) }
-    ensures cut { IfSome result (λ n. slice_index bytes.now n ≡ greater_than_sign) }
-{
-    let scheme = scheme_len(bytes)?;
-    let end = scheme + 1 + address_prefix_len(&bytes[scheme + 1..]);
-    if end < bytes.len() && bytes[end] == b'>' {
-        Some(end)
-    } else {
-        None
-    }
 }
 
 // The length of the scheme at the front, which a colon ends.

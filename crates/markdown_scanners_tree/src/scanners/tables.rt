@@ -1,9 +1,10 @@
 //! The delimiter row of a table.
-ghost use Rattle.std.specs.Prelude.{◌≡◌, ◌+◌, ◌<◌, ◌≤◌, ◌==◌, ℕ, List, [], length, drop, ◌++◌, map, IsTrue, false, not, ◌||◌, ◌&&◌, OnOk, IfSome, IfNone, IfOk};
+ghost use Rattle.std.specs.Prelude.{◌≡◌, ◌+◌, ◌<◌, ◌≤◌, ◌==◌, ℕ, List, [], length, drop, ◌++◌, map, IsTrue, false, not, ◌||◌, ◌&&◌, OnOk, OnErr, IfSome, IfNone, IfOk};
 ghost use Rattle.std.specs.List.{prefix_len, list_any};
 ghost use Rattle.markdown_scanners_tree.specs.Bytes.{begins_with};
 ghost use Rattle.markdown_scanners_tree.specs.scanners.tables.DelimiterRow.{is_cell_byte, alignment, alignment_by, counted_last_cell, is_space, is_hyphen, is_colon, is_pipe, IsDelimiterRow, NoDelimiterRow};
-ghost use Rattle.markdown_scanners_tree.specs.scanners.tables.private.ScannedCells.{is_row_byte, may_be_row, after_cell, NoCells, AreScannedCells};
+ghost use Rattle.markdown_scanners_tree.specs.scanners.tables.BegunRow.{is_row_byte, may_be_row, begins_with_cell, begins_row};
+ghost use Rattle.markdown_scanners_tree.specs.scanners.tables.private.ScannedCells.{after_cell, NoCells, AreScannedCells};
 
 use crate::scanners::lines::scan_eol;
 use crate::scanners::runs::{has_byte, scan_ch, scan_ch_repeat};
@@ -20,7 +21,8 @@ const MOST_SPACES: usize = 3;
 ///
 /// # Errors
 ///
-/// `AllocError` where memory for the alignments is refused.
+/// `AllocError` where memory for the alignments is refused. It is asked for once a first cell is
+/// read.
 pub fn scan_table_head(alloc: Global, bytes: &[u8]) -> Result<(usize, Vec<Alignment>), AllocError>
     // A row is there, or none.
     ensures found { IfOk result (λ r. 0 < r.0 → IsDelimiterRow bytes.now r.0 r.1.items) }
@@ -32,6 +34,9 @@ pub fn scan_table_head(alloc: Global, bytes: &[u8]) -> Result<(usize, Vec<Alignm
     ensures empty { IfOk result (λ r. r.0 ≡ 0 → r.1.items ≡ []) }
     ensures some_alignment { IfOk result (λ r. 0 < r.0 → 0 < length r.1.items) }
     ensures within { IfOk result (λ r. r.0 ≤ length bytes.now) }
+
+    // Memory is asked for where the first cell of a row is read.
+    ensures asked { OnErr result (IsTrue (begins_row bytes.now)) }
 {
     let indent = scan_ch_repeat(bytes, b' ');
     if indent > MOST_SPACES {
@@ -98,6 +103,7 @@ fn scan_cells(alloc: Global, bytes: &[u8]) -> Result<Option<Cells>, AllocError>
     ensures none { IfOk result (λ r. IfNone r (NoCells bytes.now)) }
 
     ensures within { IfOk result (λ r. IfSome r (λ cells. cells.length ≤ length bytes.now)) }
+    ensures asked { OnErr result (IsTrue (begins_with_cell bytes.now)) }
 {
     let mut alignments = Vec::new(alloc);
     let mut i = 0;
@@ -137,8 +143,9 @@ fn has_hyphen(cell: &[u8]) -> bool
 
 // Adds the alignment of a last cell that counts.
 fn push_last(alignments: &mut Vec<Alignment>, last: &[u8]) -> Result<(), AllocError>
-    ensures { OnOk result (alignments.new.items
+    ensures pushed { OnOk result (alignments.new.items
         ≡ alignments.old.items ++ map alignment (counted_last_cell last.now)) }
+    ensures asked { OnErr result (IsTrue (list_any (λ b. not (is_space b)) last.now)) }
 {
     if counts(last) {
         alignments.push(alignment_of(last))?;

@@ -1,13 +1,13 @@
 -- Pipes of wikilinks, and absolute URIs in angle brackets.
-use Rattle.std.proofs.Common.{◌≡◌, ℕ, suc, ◌+◌, ◌-◌, ◌<◌, ◌≤◌, true, ◌==◌, min, List, [], ◌∷◌, ◌++◌, length, take, drop, get_or}
-use Rattle.std.proofs.Common.{refl, sym, ap, ◌∙◌, subst, arith, inl, inr, Option, Some, None, append_assoc, one-add}
+use Rattle.std.proofs.Common.{◌≡◌, ℕ, suc, ◌+◌, ◌-◌, ◌<◌, ◌≤◌, true, ◌==◌, List, [], ◌∷◌, ◌++◌, length, take, drop, get_or}
+use Rattle.std.proofs.Common.{refl, sym, ap, ◌∙◌, subst, arith, inl, inr, Option, Some, None, IfSome, append_assoc, one-add}
 use Rattle.std.specs.Prelude.{position}
 use Rattle.std.specs.List.{prefix_len}
 use Rattle.std.proofs.lemmas.Bool.{lt-ltb, le-ltb, cases_lt, eqb-true}
-use Rattle.std.proofs.lemmas.List.{length-append, take_all, take_rest, take_at, drop_at, get_or_at, get_or-drop, length-drop, length-take, get_or-take}
+use Rattle.std.proofs.lemmas.List.{length-append, take_rest, take_at, drop_at, get_or_at, get_or-drop, drop-drop, length-drop, length-take, get_or-take}
 use Rattle.std.proofs.lemmas.List.Folds.{length-prefix_len}
 use Rattle.std.specs.Str.{IsUtf8, IsCharBoundary}
-use Rattle.std.proofs.lemmas.Str.{IsCharBoundary-after_ascii}
+use Rattle.std.proofs.lemmas.Str.{IsUtf8-drop, IsCharBoundary-start, IsCharBoundary-before_ascii, IsCharBoundary-after_ascii, IsCharBoundary-from_rest}
 use Rattle.memchr.specs.Find.{IsFirstByte, is_byte}
 use Rattle.markdown_scanners_tree.specs.Ascii.{colon, less_than_sign, greater_than_sign}
 use Rattle.markdown_scanners_tree.specs.Bytes.{is_letter}
@@ -28,20 +28,6 @@ position-searched byte bytes (Some k) first =
 pub slice_is_rest : (bytes text : List ℕ) (start : ℕ) → bytes ≡ text
     → take (length bytes - start) (drop start bytes) ≡ drop start text
 slice_is_rest bytes text start same = take_rest bytes start ∙ ap (drop start) same
-
--- the first n bytes from a place, cut at the end of the text, as two slices of its bytes
-pub window_is : (bytes text : List ℕ) (start n m : ℕ) → bytes ≡ text
-    → m ≡ min n (length (take (length bytes - start) (drop start bytes)))
-    → take m (take (length bytes - start) (drop start bytes)) ≡ take n (drop start text)
-window_is bytes text start n m same least =
-    let rest = take (length bytes - start) (drop start bytes) in
-    ap (λ k. take k rest) least ∙ (cut n rest ∙ ap (take n) (slice_is_rest bytes text start same))
-  where
-    cut : (n : ℕ) (xs : List ℕ) → take (min n (length xs)) xs ≡ take n xs
-    cut n xs = elim (cases_lt n (length xs)) [
-      | inl less ↦ ap (λ k. take k xs) (omega (arith, less))
-      | inr more ↦ take_all (min n (length xs)) xs (omega (arith, more)) ∙ sym (take_all n xs more)
-    ]
 
 -- a letter, then the longest run of scheme bytes, and a colon
 pub scheme_found : (bytes : List ℕ) (n : ℕ) → 0 < length bytes → is_letter (get_or bytes 0 0) ≡ true
@@ -207,20 +193,77 @@ pub opened_by : (text : List ℕ) → get_or text 0 0 ≡ less_than_sign → tex
 opened_by [] first = absurd (omega (arith, first))
 opened_by (b ∷ text) first = ap (λ x. x ∷ text) first
 
--- the text may be cut behind an ASCII byte of what stands from a place on
-pub cut_behind : (bytes text : List ℕ) (start n : ℕ) → bytes ≡ drop start text → IsUtf8 text → n < length bytes
-    → get_or bytes n 0 < 128 → IsCharBoundary text (start + n + 1)
-cut_behind bytes text start n same utf8 inside ascii =
-    IsCharBoundary-after_ascii text (start + n) utf8 (omega (arith, inside, ap length same, length-drop start text))
-    (subst (λ b. b < 128) (ap (λ t. get_or t n 0) same ∙ get_or-drop start text n 0) ascii)
+-- a text may be cut on both sides of an ASCII byte
+pub cut_before : (bytes : List ℕ) (n place : ℕ) → n ≡ place → n < length bytes → get_or bytes n 0 < 128
+    → IsCharBoundary bytes place
+cut_before bytes n place at inside ascii =
+    subst (IsCharBoundary bytes) at (IsCharBoundary-before_ascii bytes n inside ascii)
 
--- and behind a byte that was found among the first k of them
-pub cut_behind_first : (bytes text : List ℕ) (start k n byte : ℕ) → bytes ≡ take k (drop start text) → IsUtf8 text
-    → n < length bytes → is_byte byte (get_or bytes n 0) ≡ true → byte < 128
-    → IsCharBoundary text (start + n + 1)
-cut_behind_first bytes text start k n byte same utf8 inside here ascii =
-    let few : n < k = omega (arith, inside, ap length same, length-take k (drop start text)) in
-    let at : get_or (drop start text) n 0 ≡ byte = sym (get_or-take k (drop start text) n 0 few)
-    ∙ (ap (λ t. get_or t n 0) (sym same) ∙ eqb-true (get_or bytes n 0) byte here) in
-    cut_behind (drop start text) text start n refl utf8
-    (omega (arith, inside, ap length same, length-take k (drop start text))) (omega (arith, at, ascii))
+pub cut_behind : (bytes : List ℕ) (n place : ℕ) → n + 1 ≡ place → IsUtf8 bytes → n < length bytes
+    → get_or bytes n 0 < 128 → IsCharBoundary bytes place
+cut_behind bytes n place at utf8 inside ascii =
+    subst (IsCharBoundary bytes) at (IsCharBoundary-after_ascii bytes n utf8 inside ascii)
+
+-- and at a place that is its end or before one
+pub cut_at_end : (bytes : List ℕ) (n : ℕ) → n ≤ length bytes → (n < length bytes → get_or bytes n 0 < 128)
+    → IsCharBoundary bytes n
+cut_at_end bytes n within ascii = (within, λ inside high. absurd (omega (arith, ascii inside, high)))
+
+-- a byte of what stands behind the first byte
+pub byte_behind : (bytes : List ℕ) (n byte : ℕ) → n < length (take (length bytes - 1) (drop 1 bytes))
+    → get_or (take (length bytes - 1) (drop 1 bytes)) n 0 ≡ byte
+    → (1 + n < length bytes) × (get_or bytes (1 + n) 0 ≡ byte)
+byte_behind bytes n byte inside here =
+    let rest : take (length bytes - 1) (drop 1 bytes) ≡ drop 1 bytes = take_rest bytes 1 in (
+      omega (arith, inside, ap length rest, length-drop 1 bytes),
+      sym (get_or-drop 1 bytes n 0) ∙ (ap (λ t. get_or t n 0) (sym rest) ∙ here),
+    )
+
+-- What a search for an ASCII byte among the first bytes tells of the one that it finds.
+pub record IsFoundByte (byte : ℕ) (bytes : List ℕ) (found : Option ℕ) : Type 0 where
+  pub within : IfSome found (λ n. n < length bytes)
+  pub cut : IfSome found (λ n. get_or bytes n 0 ≡ byte)
+  pub before : IfSome found (λ n. IsUtf8 bytes → IsCharBoundary bytes n)
+  pub behind : IfSome found (λ n. IsUtf8 bytes → IsCharBoundary bytes (n + 1))
+
+pub searched_first : (byte k : ℕ) (bytes front : List ℕ) (found : Option ℕ) → front ≡ take k bytes
+    → IsFirstByte (is_byte byte) front found → byte < 128 → IsFoundByte byte bytes found
+searched_first byte k bytes front None first none ascii =
+    record { within = tt; cut = tt; before = tt; behind = tt }
+searched_first byte k bytes front (Some n) first (at, here) ascii =
+    let few : n < k = omega (arith, at.high, ap length first, length-take k bytes) in
+    let inside : n < length bytes = omega (arith, at.high, ap length first, length-take k bytes) in
+    let is : get_or bytes n 0 ≡ byte = sym (get_or-take k bytes n 0 few)
+    ∙ (ap (λ t. get_or t n 0) (sym first) ∙ eqb-true (get_or front n 0) byte here) in
+    record {
+      within = inside;
+      cut = is;
+      before = λ utf8. cut_before bytes n n refl inside (omega (arith, is, ascii));
+      behind = λ utf8. cut_behind bytes n (n + 1) refl utf8 inside (omega (arith, is, ascii));
+    }
+
+-- a part of what stands from a place of a text on, as a part of the text
+pub part_of_rest : (bytes text part : List ℕ) (start from to : ℕ) → bytes ≡ drop start text
+    → part ≡ take (start + to - (start + from)) (drop (start + from) text)
+    → part ≡ take (to - from) (drop from bytes)
+part_of_rest bytes text part start from to same is =
+    is ∙ (ap (λ k. take k (drop (start + from) text)) (omega arith)
+    ∙ ap (take (to - from)) (sym (ap (drop from) same ∙ drop-drop from start text)))
+
+pub destination_of_rest : (most : ℕ) (bytes text : List ℕ) (taken : ℕ) (raw part : List ℕ) → bytes ≡ text → part ≡ raw
+    → IsLinkDestination most bytes taken raw → IsLinkDestination most text taken part
+destination_of_rest most bytes text taken raw part same is found =
+    subst (λ t. IsLinkDestination most t taken part) same
+    (subst (IsLinkDestination most bytes taken) (sym is) found)
+
+-- a place in it between two characters, as a place in the text
+pub place_of_rest : (bytes text : List ℕ) (start n : ℕ) → bytes ≡ drop start text → IsUtf8 text
+    → (0 < start → IsCharBoundary text start) → (IsUtf8 bytes → IsCharBoundary bytes n)
+    → IsCharBoundary text (start + n)
+place_of_rest bytes text start n same utf8 at_start at =
+    let begins : IsCharBoundary text start = elim (cases_lt 0 start) [
+      | inl some ↦ at_start some
+      | inr none ↦ subst (IsCharBoundary text) (omega (arith, none)) (IsCharBoundary-start text utf8)
+    ] in
+    let rest : IsUtf8 bytes = subst IsUtf8 (sym same) (IsUtf8-drop text start utf8 begins) in
+    IsCharBoundary-from_rest text start n begins.0 (subst (λ t. IsCharBoundary t n) same (at rest))

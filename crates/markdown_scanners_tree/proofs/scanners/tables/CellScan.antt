@@ -1,5 +1,6 @@
 -- The scan of a delimiter row's cells: what its turns keep, and what it answers at the row's end.
-use Rattle.std.proofs.Common.{◌≡◌, ℕ, suc, ◌+◌, ◌-◌, ◌≤◌, ◌<◌, Bool, true, false, not, ◌==◌, List, [], ◌∷◌, ◌++◌, map, length, take, drop, refl, sym, ap, ◌∙◌, arith, Some, None, append_assoc}
+use Rattle.std.proofs.Common.{◌≡◌, ℕ, suc, ◌+◌, ◌-◌, ◌≤◌, ◌<◌, Bool, true, false, not, ◌==◌, ◌⊎◌, inl, inr, List, [], ◌∷◌, ◌++◌, map, length}
+use Rattle.std.proofs.Common.{take, drop, refl, sym, ap, ◌∙◌, arith, Some, None, append_assoc}
 use Rattle.std.specs.List.{prefix_len, list_all, list_any}
 use Rattle.std.proofs.lemmas.List.{take-append-drop, length-drop, length-take, drop-drop, append-nil, map-append}
 use Rattle.std.proofs.lemmas.Bool.{eqb-true}
@@ -8,6 +9,7 @@ use Rattle.markdown_values.specs.declared.values.Alignment.{Alignment}
 use Rattle.markdown_scanners_tree.specs.Ascii.{vertical_line}
 use Rattle.markdown_scanners_tree.specs.Bytes.{begins_with, line_ending}
 use Rattle.markdown_scanners_tree.specs.scanners.tables.DelimiterRow.{is_cell_byte, is_cell, alignment, counted_last_cell, is_empty, is_space, is_hyphen, is_pipe}
+use Rattle.markdown_scanners_tree.specs.scanners.tables.BegunRow.{begins_with_cell}
 use Rattle.markdown_scanners_tree.specs.scanners.tables.private.ScannedCells.{AreCells, NoCells, AreScannedCells}
 use Rattle.markdown_scanners_tree.proofs.PrefixLemmas.{from_place, both_true, list_all-prefix, begins_with-after_prefix}
 use Rattle.markdown_scanners_tree.proofs.scanners.tables.CellLemmas.{AreCells-tail, AreCells-cons, AreCells-last}
@@ -180,3 +182,37 @@ module _ (bytes : List ℕ) (done : List (List ℕ)) (i n : ℕ) (alignments : L
 pub push_none : (alignments : List Alignment) (last : List ℕ) → list_any (λ b. not (is_space b)) last ≡ false
     → alignments ≡ alignments ++ map alignment (counted_last_cell last)
 push_none alignments last none = rw none (sym (append-nil alignments))
+
+-- A first cell is read where a cell is: this one, or one before it.
+module _ (bytes : List ℕ) (i n : ℕ) (before : (i ≡ 0) ⊎ (begins_with_cell bytes ≡ true))
+    (run : n ≡ prefix_len is_cell_byte (take (length bytes - i) (drop i bytes))) where
+  at_front : (first : i ≡ 0) → n ≡ prefix_len is_cell_byte bytes
+  at_front first = rw (from_place bytes i, first) at run
+
+  pub begun_by_ended : begins_with is_pipe (drop n (take (length bytes - i) (drop i bytes))) ≡ true → (hyphen : Bool)
+      → hyphen ≡ list_any is_hyphen (take (i + n - i) (drop i bytes)) → hyphen ≡ true → begins_with_cell bytes ≡ true
+  begun_by_ended pipe hyphen has is =
+      elim before [
+        | inr begun ↦ begun
+        | inl first ↦ (
+            let piped : begins_with is_pipe (drop n bytes) ≡ true = rw (from_place bytes i, first) at pipe in
+            let some : list_any is_hyphen (take n bytes) ≡ true = rw (cell_slice bytes i n, first) at (sym has ∙ is) in
+            rw (← at_front first, piped, some) refl
+            )
+      ]
+
+  pub begun_by_last :
+      begins_with is_pipe (drop (prefix_len is_cell_byte (take (length bytes - i) (drop i bytes)))
+      (take (length bytes - i) (drop i bytes))) ≡ false
+      → list_any (λ b. not (is_space b)) (take (i + n - i) (drop i bytes)) ≡ true → begins_with_cell bytes ≡ true
+  begun_by_last no_pipe counts =
+      elim before [
+        | inr begun ↦ begun
+        | inl first ↦ (
+            let none : begins_with is_pipe (drop n bytes) ≡ false =
+            rw (← run, from_place bytes i, first) at no_pipe in
+            let some : list_any (λ b. not (is_space b)) (take n bytes) ≡ true =
+            rw (cell_slice bytes i n, first) at counts in
+            rw (← at_front first, none, some) refl
+            )
+      ]

@@ -10,7 +10,8 @@ use Rattle.markdown_scanners_tree.specs.Ascii.{vertical_line}
 use Rattle.markdown_scanners_tree.specs.Bytes.{begins_with, line_ending}
 use Rattle.markdown_values.specs.declared.values.Alignment.{Alignment}
 use Rattle.markdown_scanners_tree.specs.scanners.tables.DelimiterRow.{is_cell_byte, is_cell, is_pipe, is_space, is_empty, ended_cell, delimiter_row, NoDelimiterRow}
-use Rattle.markdown_scanners_tree.specs.scanners.tables.private.ScannedCells.{is_row_byte, may_be_row, AreCells, AreScannedCells}
+use Rattle.markdown_scanners_tree.specs.scanners.tables.BegunRow.{is_row_byte, may_be_row}
+use Rattle.markdown_scanners_tree.specs.scanners.tables.private.ScannedCells.{AreCells, AreScannedCells}
 use Rattle.markdown_scanners_tree.proofs.PrefixLemmas.{from_place, both_true, prefix_len-parts}
 use Rattle.markdown_scanners_tree.proofs.scanners.lines.BlankLemmas.{first-line_ending}
 use Rattle.markdown_scanners_tree.proofs.scanners.tables.CellLemmas.{cell_byte_no_pipe}

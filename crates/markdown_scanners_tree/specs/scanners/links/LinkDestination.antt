@@ -87,3 +87,8 @@ pub record IsBareDestination (most : ℕ) (text : List ℕ)
 abbrev pub IsLinkDestination : ℕ → List ℕ → ℕ → List ℕ → Type 0
 IsLinkDestination most text taken destination =
     IsPointedDestination text taken destination ⊎ IsBareDestination most text taken destination
+
+-- The places of its own bytes among those that it takes: all of them, or all but the two brackets.
+abbrev pub StandsInside : ℕ → ℕ → ℕ → Type 0
+StandsInside taken start end =
+    ((start ≡ 0) × (end ≡ taken)) ⊎ ((start ≡ 1) × (end + 1 ≡ taken))

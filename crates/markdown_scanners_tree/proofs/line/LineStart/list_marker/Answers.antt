@@ -1,51 +1,17 @@
-use Rattle.std.proofs.Common.{◌≡◌, ◌-◌, ◌≤◌, false, sym, ap, ◌∙◌, take, drop, length, arith}
-use Rattle.std.proofs.lemmas.List.{length-drop, length-take-le}
+use Rattle.std.proofs.Common.{◌≡◌, Some, IfSome, ap, subst, drop, arith}
 use Rattle.markdown_scanners_tree.specs.line.State.{unscanned}
-use Rattle.markdown_scanners_tree.specs.scanners.Breaks.{is_thematic_break}
-use Rattle.markdown_scanners_tree.proofs.PrefixLemmas.{from_place}
-use Rattle.markdown_scanners_tree.proofs.line.ItemLemmas.{marker-found, marker-none, marker-width}
+use Rattle.markdown_scanners_tree.specs.scanners.list_items.ListMarker.{list_marker}
 use Rattle.markdown_scanners_tree.proofs.line.LineStart.list_marker.Goals as goal
-use Rattle.markdown_scanners_tree.proofs.line.LineStart.list_marker.Goals.{else-width-eq1-via-then-width-eq1+else-begins_break, else-width-eq1-via-else-width-eq1}
+
+pub invariant_of-self : goal.invariant_of-self
+invariant_of-self c =
+    let i = c.self.invariant in
+    (i.0, i.1, i.2, c.marker_at.ensures.truth i.3 c.self.inside.place (omega arith))
 
 pub returns-clause-found : goal.returns-clause-found
 returns-clause-found c =
     let s = c.self.inside in
-    let bytes = take (length s.bytes.now - s.place) (drop s.place s.bytes.now) in
-    let same : bytes ≡ unscanned c.args.self.now = from_place s.bytes.now s.place ∙ ap unscanned c.self.view_is in
-    let width = c.in_ok-width.width in
-    let no_break : width ≡ 1 → is_thematic_break bytes ≡ false = elim c.else-width-eq1.branch [
-      | else-width-eq1-via-then-width-eq1+else-begins_break w ↦
-          (λ one. ap is_thematic_break same ∙ sym w.begins_break.ensures.answer ∙ w.if-begins_break.false)
-      | else-width-eq1-via-else-width-eq1 w ↦ (λ one. absurd (w.if-width-eq1.false one))
-    ] in
-    rw same at (marker-found bytes width c.in_ok-width.delimiter c.in_ok-width.start c.in_ok-width.ensures.found
-    c.in_ok-width.ensures.within no_break)
-
-pub returns-in_err-width-clause-none : goal.returns-in_err-width-clause-none
-returns-in_err-width-clause-none c =
-    let s = c.self.inside in
-    let bytes = take (length s.bytes.now - s.place) (drop s.place s.bytes.now) in
-    let same : bytes ≡ unscanned c.args.self.now = from_place s.bytes.now s.place ∙ ap unscanned c.self.view_is in
-    rw c.from_residual.ensures
-    (rw same at (marker-none bytes (λ n delimiter start. c.in_err-width.ensures.found (n, delimiter, start))))
-
-pub returns-clause-inside : goal.returns-clause-inside
-returns-clause-inside c =
-    let s = c.self.inside in
-    let inside : c.in_ok-width.width ≤ length s.bytes.now - s.place =
-    omega (
-      arith,
-      ap length (from_place s.bytes.now s.place),
-      length-drop s.place s.bytes.now,
-      c.in_ok-width.ensures.within,
-    ) in
-    rw (← c.self.view_is) (omega arith)
-
-pub returns-clause-width : goal.returns-clause-width
-returns-clause-width c =
-    let s = c.self.inside in
-    let bytes = take (length s.bytes.now - s.place) (drop s.place s.bytes.now) in
-    let short = marker-width
-    (take c.in_ok-width.width bytes) c.in_ok-width.delimiter c.in_ok-width.start c.in_ok-width.ensures.found in
-    let count = length-take-le c.in_ok-width.width bytes c.in_ok-width.ensures.within in
-    omega arith
+    let same : drop s.place s.bytes.now ≡ unscanned c.args.self.now = ap unscanned c.self.view_is in
+    subst (λ bytes. IfSome c.marker_at.result (λ r.
+    list_marker bytes ≡ Some (record { width = r.0; delimiter = r.1; start = r.2 }))) same
+    (c.marker_at.ensures.found c.self.invariant.3)

@@ -1,4 +1,4 @@
-use Rattle.std.proofs.Common.{◌≡◌, ◌≤◌, ◌*◌}
+use Rattle.std.proofs.Common.{◌≡◌, ◌≤◌, ◌+◌, ◌*◌}
 use Rattle.markdown_scanners_tree.proofs.line.SpaceLemmas.{IsTaking}
 use Rattle.markdown_scanners_tree.proofs.line.LineStart.scan_space_upto.Given as goal
 
@@ -8,9 +8,9 @@ invariant-loop-left l =
     let old = l.initial.self-inside in
     record {
       same : now.bytes ≡ old.bytes;
-      none_before : now.no_break_before ≡ old.no_break_before;
-      known : now.known_break ≡ old.known_break;
-      bound : now.column ≤ 4 * now.place;
+      none_before : now.breaks.none_before ≡ old.breaks.none_before;
+      behind_break : now.breaks.behind_break ≡ old.breaks.behind_break;
+      bound : now.column ≤ 4 * now.place + 3;
       taking : IsTaking old.bytes.now old.place old.column old.pending l.initial.left now.place
           now.column now.pending l.left;
     }

@@ -1,11 +1,13 @@
-use Rattle.std.proofs.Common.{arith, rules, ap, sym, ◌∙◌, ◌-◌, length, take, drop}
+use Rattle.std.proofs.Common.{◌≡◌, true, nat_le, arith, rules, ap, sym, ◌∙◌, ◌-◌, length, take, drop}
 use Rattle.std.specs.List.{prefix_len}
 use Rattle.std.proofs.lemmas.Bool.{and_right}
+use Rattle.std.proofs.lemmas.Bool.Decides.{nat_tests}
 use Rattle.markdown_scanners_tree.specs.scanners.tables.DelimiterRow.{is_space}
-use Rattle.markdown_scanners_tree.specs.scanners.tables.private.ScannedCells.{may_be_row}
+use Rattle.markdown_scanners_tree.specs.scanners.tables.BegunRow.{may_be_row, begins_row}
 use Rattle.markdown_scanners_tree.proofs.PrefixLemmas.{from_place}
 use Rattle.markdown_scanners_tree.proofs.scanners.tables.RowLemmas.{no_row, row_tests}
-use Rattle.markdown_scanners_tree.proofs.scanners.tables.DelimiterRowLemmas.{delimiter_row-too_far, no_cells, delimiter_row-found, delimiter_row-refused, IsDelimiterRow-some, IsDelimiterRow-some_alignment}
+use Rattle.markdown_scanners_tree.proofs.scanners.tables.DelimiterRowLemmas.{delimiter_row-too_far, cells_start, no_cells, delimiter_row-found}
+use Rattle.markdown_scanners_tree.proofs.scanners.tables.DelimiterRowLemmas.{delimiter_row-refused, IsDelimiterRow-some, IsDelimiterRow-some_alignment}
 use Rattle.markdown_scanners_tree.proofs.scanners.tables.OneRow.{one_row}
 use Rattle.markdown_scanners_tree.proofs.scanners.tables.scan_table_head.Goals as goal
 
@@ -46,6 +48,7 @@ returns-then-has_hyphens c =
       some_alignment = λ _.
           IsDelimiterRow-some_alignment _ _ _ row;
       within = search rules;
+      asked = search rules;
     }
 
 pub returns-else-has_hyphens-clause-none : goal.returns-else-has_hyphens-clause-none
@@ -54,3 +57,15 @@ returns-else-has_hyphens-clause-none c _ =
     delimiter_row-refused c.args.bytes.now c.scan_ch_repeat-indent.result c.scan_ch-piped.result
     c.scan_ch_repeat-indent.ensures.run c.scan_ch-piped.ensures.first _ _ _ _ scanned
     (and_right _ _ (sym c.has_hyphens.ensures ∙ c.if-has_hyphens.false))
+
+pub returns-in_err-cells-clause-asked : goal.returns-in_err-cells-clause-asked
+returns-in_err-cells-clause-asked c =
+    let bytes = c.args.bytes.now in
+    let run = c.scan_ch_repeat-indent.ensures.run in
+    let few : nat_le (prefix_len is_space bytes) 3 ≡ true = grind (arith, nat_tests) in
+    let may : may_be_row (drop (prefix_len is_space bytes) bytes) ≡ true =
+    rw (from_place bytes c.scan_ch_repeat-indent.result, run) at (sym c.may_be_row.ensures ∙ c.if-not-may_be_row.false) in
+    let first =
+    rw (cells_start bytes c.scan_ch_repeat-indent.result c.scan_ch-piped.result run c.scan_ch-piped.ensures.first)
+    at c.in_err-cells.ensures.asked in
+    let begun : begins_row bytes ≡ true = rw (few, may) first in search (rules, begun)

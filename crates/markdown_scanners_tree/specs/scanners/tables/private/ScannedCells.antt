@@ -1,19 +1,9 @@
 -- What the scan of a delimiter row tells of its bytes, step by step.
-use Rattle.std.specs.Prelude.{ℕ, Bool, not, List, ◌++◌, ◌≡◌, ◌||◌, ◌&&◌, ◌+◌, length, take, drop, is_some, Some, IsTrue, flat_map, map}
+use Rattle.std.specs.Prelude.{ℕ, Bool, not, List, ◌++◌, ◌≡◌, ◌+◌, length, drop, Some, IsTrue, flat_map, map}
 use Rattle.std.specs.List.{prefix_len, list_all, list_any}
 use Rattle.markdown_values.specs.declared.values.Alignment.{Alignment}
 use Rattle.markdown_scanners_tree.specs.Bytes.{line_ending}
-use Rattle.markdown_scanners_tree.specs.scanners.tables.DelimiterRow.{is_hyphen, is_pipe, is_cell_byte, is_cell, alignment, ended_cell, counted_cells, is_empty}
-
--- a byte of a delimiter row: of a cell, or a pipe
-abbrev pub is_row_byte : ℕ → Bool
-is_row_byte b = is_cell_byte b || is_pipe b
-
--- A pipe stands in the longest prefix of bytes of a delimiter row, and the line ends behind it.
-abbrev pub may_be_row : List ℕ → Bool
-may_be_row bytes =
-    is_some (line_ending (drop (prefix_len is_row_byte bytes) bytes))
-    && list_any is_pipe (take (prefix_len is_row_byte bytes) bytes)
+use Rattle.markdown_scanners_tree.specs.scanners.tables.DelimiterRow.{is_hyphen, is_cell_byte, is_cell, alignment, ended_cell, counted_cells, is_empty}
 
 -- what follows the longest prefix of bytes of a cell
 abbrev pub after_cell : List ℕ → List ℕ
