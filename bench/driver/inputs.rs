@@ -36,6 +36,8 @@ pub const CALLS: &[(&str, &str)] = &[
     ("while", "scan_while"),
     ("rev_while", "scan_rev_while"),
     ("entity", "scan_entity"),
+    ("entity_name", "HtmlEntities::get, each name"),
+    ("no_entity_name", "HtmlEntities::get, other names"),
     ("unescape", "unescape, a line"),
     ("unescape_table", "unescape, a line in a table"),
     ("link_dest", "scan_link_dest, 32 parentheses"),

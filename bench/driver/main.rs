@@ -9,6 +9,7 @@ use std::ffi::{CStr, CString, c_char, c_int, c_ulong, c_void};
 use std::hint::black_box;
 use std::time::Instant;
 
+mod entities;
 mod inputs;
 use inputs::Input;
 
@@ -48,6 +49,9 @@ impl Side {
     }
 
     fn function(&self, call: &str) -> Option<Function> {
+        if self.name == "reference" && entities::names(call).is_some() {
+            return Some(entities::by_halves);
+        }
         let name = CString::new(format!("{}_{call}", self.name)).expect("a name without a NUL");
         let found = unsafe { dlsym(self.library, name.as_ptr()) };
         (!found.is_null()).then(|| unsafe { std::mem::transmute::<*mut c_void, Function>(found) })
@@ -151,7 +155,9 @@ fn main() {
     if is_real {
         let text = std::fs::read(&words[3]).expect("the text");
         for (call, _) in inputs::CALLS.iter().filter(|(call, _)| is_wanted(call)) {
-            if let Some(input) = inputs::real(call, &text) {
+            if let Some(input) = entities::names(call) {
+                report(mode, "names", call, &input, &sides);
+            } else if let Some(input) = inputs::real(call, &text) {
                 report(mode, "real", call, &input, &sides);
             }
         }

@@ -1,34 +1,15 @@
 //! Entities, unescaping, link destinations, autolinks and wikilinks.
-ghost use Rattle.std.specs.Prelude.{◌≡◌, List, None, ℕ};
 
-use crate::loops::{bit, each_place, each_rest, each_stretch, two};
+use crate::loops::{bit, count, each_place, each_rest, each_stretch, two};
+use html_entities::HtmlEntities;
 use markdown_scanners_tree::scanners::*;
 use markdown_values::strings::CowStr;
 use std::alloc::Global;
 
 // The entities that both sides know.
-#[derive(Clone, Copy)]
-struct Known;
-
-impl Entities for Known {
-    ghost use Rattle.cmark_bench.specs.EntityTexts.{entity_text};
-
-    ghost known = { λ _ name. entity_text name };
-
-    fn get(&self, name: &[u8]) -> Option<&'static str> {
-        if name == b"amp".as_slice() {
-            Some("&")
-        } else if name == b"lt".as_slice() {
-            Some("<")
-        } else if name == b"gt".as_slice() {
-            Some(">")
-        } else if name == b"quot".as_slice() {
-            Some("\"")
-        } else {
-            None
-        }
-    }
-}
+const KNOWN: EntityTable = EntityTable {
+    rows: &[(b"amp", "&"), (b"lt", "<"), (b"gt", ">"), (b"quot", "\"")],
+};
 
 #[unsafe(no_mangle)]
 pub extern "C" fn ours_entity(text: &[u8], at: &[usize], rounds: usize) -> u64 {
@@ -36,7 +17,7 @@ pub extern "C" fn ours_entity(text: &[u8], at: &[usize], rounds: usize) -> u64 {
         if b.is_empty() {
             return 0;
         }
-        let (n, text) = scan_entity(b, &Known);
+        let (n, text) = scan_entity(b, &KNOWN);
         match text {
             Some(text) => two(n, text.as_str().len() as u64),
             None => 0,
@@ -45,8 +26,21 @@ pub extern "C" fn ours_entity(text: &[u8], at: &[usize], rounds: usize) -> u64 {
     each_rest(text, at, rounds, &call)
 }
 
+#[unsafe(no_mangle)]
+pub extern "C" fn ours_entity_name(text: &[u8], at: &[usize], rounds: usize) -> u64 {
+    let call = |name: &str| -> u64 {
+        count(HtmlEntities.get(name.as_bytes()).map(|text| text.len()))
+    };
+    each_stretch(text, at, rounds, &call)
+}
+
+#[unsafe(no_mangle)]
+pub extern "C" fn ours_no_entity_name(text: &[u8], at: &[usize], rounds: usize) -> u64 {
+    ours_entity_name(text, at, rounds)
+}
+
 fn unescaped(alloc: Global, text: &str, is_in_table: bool) -> u64 {
-    match unescape(alloc, CowStr::from(text), is_in_table, &Known) {
+    match unescape(alloc, CowStr::from(text), is_in_table, &KNOWN) {
         Ok(out) => two(out.as_str().len(), bit(matches!(&out, CowStr::Borrowed(_)))),
         Err(_) => 0,
     }

@@ -2,32 +2,18 @@
 use crate::stop::Stop;
 use crate::telling::tell_call;
 use crate::texts::Text;
-use markdown_scanners_tree::scanners::{Entities, unescape};
+use markdown_scanners_tree::scanners::{EntityTable, unescape};
 use markdown_values::strings::CowStr;
 use std::alloc::{AllocError, Global};
 use std::io::Write;
 
 /// Knows `amp` alone.
-#[derive(Clone, Copy)]
-pub(crate) struct Ampersand;
-
-impl Entities for Ampersand {
-    ghost use Rattle.std.specs.Prelude.{Some, None, codes, if◌then◌else◌};
-    ghost use Rattle.std.specs.Str.{bytes_eq};
-
-    ghost known = { λ _ name. if bytes_eq name (codes "amp") then Some (codes "&") else None };
-
-    fn get(&self, name: &[u8]) -> Option<&'static str> {
-        if name == b"amp".as_slice() {
-            Some("&")
-        } else {
-            None
-        }
-    }
-}
+pub(crate) const AMPERSAND: EntityTable = EntityTable {
+    rows: &[(b"amp", "&")],
+};
 
 fn unescaped(alloc: Global, text: &str) -> Result<Text<'_>, AllocError> {
-    unescape(alloc, CowStr::from(text), false, &Ampersand).map(Text)
+    unescape(alloc, CowStr::from(text), false, &AMPERSAND).map(Text)
 }
 
 /// An escape, a reference and a line ending of two bytes.

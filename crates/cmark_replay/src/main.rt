@@ -9,8 +9,6 @@ mod printing;
 pub mod replay;
 mod skips;
 mod stop;
-#[cfg(test)]
-mod tests;
 
 use replay::replay_cases;
 use std::process::ExitCode;

@@ -10,7 +10,7 @@ ghost use Rattle.markdown_scanners_tree.specs.scanners.links.LinkDestination.{Is
 ghost use Rattle.markdown_scanners_tree.specs.scanners.unescaping.Unescaping.{Piece, ArePieces, ForPieces, joined_meanings};
 
 use markdown_scanners_tree::scanners::{
-    Entities, scan_autolink, scan_entity, scan_link_dest, unescape,
+    Entities, EntityTable, scan_autolink, scan_entity, scan_link_dest, unescape,
 };
 use markdown_values::strings::CowStr;
 use std::alloc::{AllocError, Global};
@@ -19,19 +19,9 @@ use std::alloc::{AllocError, Global};
 const DEPTH: usize = 31;
 
 /// The entities of a program that needs few of them.
-pub struct FewEntities;
-
-impl Entities for FewEntities {
-    ghost known = { λ _ name. if bytes_eq name (codes "amp") then Some (codes "&") else None };
-
-    fn get(&self, name: &[u8]) -> Option<&'static str> {
-        if name == b"amp".as_slice() {
-            Some("&")
-        } else {
-            None
-        }
-    }
-}
+pub const FEW_ENTITIES: EntityTable = EntityTable {
+    rows: &[(b"amp", "&"), (b"quot", "\"")],
+};
 
 /// The link destination from `start` on: how many bytes it takes, and how it is written. `start` is a place between two
 /// characters.
@@ -131,19 +121,20 @@ pub fn referenced<E: Entities>(text: &[u8], entities: &E) -> Option<CowStr<'stat
 #[cfg(test)]
 mod tests {
     use super::*;
+    use html_entities::HtmlEntities;
     use std::test::Fail;
 
     #[test]
     fn a_destination_is_resolved(rt: HostRuntime) -> Result<(), Fail> {
-        let target = link_target(rt.alloc(), "[a](/b?c&amp;d\\*)", 4, &FewEntities)?;
+        let target = link_target(rt.alloc(), "[a](/b?c&amp;d\\*&auml;)", 4, &HtmlEntities)?;
         let Some(target) = target else {
             return Err(Fail::from("no destination"));
         };
-        assert_eq!(rt; target.as_str(), "/b?c&d*");
+        assert_eq!(rt; target.as_str(), "/b?c&d*\u{e4}");
         assert_eq!(rt; raw_destination("[a](<b c>)", 4), Some((5, "b c")));
         assert_eq!(rt; raw_destination("[a](<b", 4), None);
         assert_eq!(rt; leading_destination("/b (title)"), Some((2, "/b")));
-        let title = link_title(rt.alloc(), "Q&amp;A", &FewEntities)?;
+        let title = link_title(rt.alloc(), "Q&amp;A", &FEW_ENTITIES)?;
         assert_eq!(rt; title.as_str(), "Q&A");
         Ok(())
     }
@@ -160,11 +151,11 @@ mod tests {
 
     #[test]
     fn a_reference_means_a_character(rt: HostRuntime) -> Result<(), Fail> {
-        let Some(meaning) = referenced(b"&#35; one", &FewEntities) else {
+        let Some(meaning) = referenced(b"&#35; one", &FEW_ENTITIES) else {
             return Err(Fail::from("no reference"));
         };
         assert_eq!(rt; meaning.as_str(), "#");
-        assert!(rt; referenced(b"&nosuch;", &FewEntities).is_none());
+        assert!(rt; referenced(b"&nosuch;", &FEW_ENTITIES).is_none());
         Ok(())
     }
 }

@@ -6,10 +6,11 @@ use crate::labels::label;
 use crate::stop::Stop;
 use crate::telling::{tell, tell_made, tell_ready};
 use crate::texts::Text;
-use crate::unescaping::Ampersand;
+use crate::unescaping::AMPERSAND;
 use markdown_scanners_tree::scanners::{
-    scan_autolink, scan_entity, scan_html_block_inner, scan_html_type_7, scan_link_dest,
-    scan_table_head, scan_wikilink_pipe, starts_html_block_type_6, unescape,
+    scan_autolink, scan_autolink_bytes, scan_entity, scan_html_block_inner, scan_html_type_7,
+    scan_link_dest, scan_link_dest_bytes, scan_table_head, scan_wikilink_pipe,
+    scan_wikilink_pipe_bytes, starts_html_block_type_6, unescape,
 };
 use markdown_values::strings::CowStr;
 use std::alloc::Global;
@@ -19,6 +20,7 @@ pub(crate) fn run<W: Write>(alloc: Global, output: &mut W) -> Result<(), Stop> {
     tell_ready(output)?;
     references(output)?;
     links(output)?;
+    links_of_bytes(output)?;
     tags(alloc, output)?;
     unchanged(alloc, output)?;
     labels(alloc, output)
@@ -33,7 +35,7 @@ fn references<W: Write>(output: &mut W) -> Result<(), Stop> {
 fn tell_reference<W: Write>(output: &mut W, bytes: &[u8]) -> Result<(), Stop>
     requires { 0 < length bytes.now }
 {
-    let (length, text) = scan_entity(bytes, &Ampersand);
+    let (length, text) = scan_entity(bytes, &AMPERSAND);
     tell(output, (length, text.map(Text)))
 }
 
@@ -42,6 +44,12 @@ fn links<W: Write>(output: &mut W) -> Result<(), Stop> {
     tell(output, scan_link_dest("((a))", 0, 1))?;
     tell(output, scan_link_dest("(((a)))", 0, 1))?;
     tell(output, scan_autolink("https://a.b>", 0))
+}
+
+fn links_of_bytes<W: Write>(output: &mut W) -> Result<(), Stop> {
+    tell(output, scan_wikilink_pipe_bytes(b"a|b]]", 3))?;
+    tell(output, scan_link_dest_bytes(b"((a)) b", 1))?;
+    tell(output, scan_autolink_bytes(b"https://a.b>"))
 }
 
 fn tags<W: Write>(alloc: Global, output: &mut W) -> Result<(), Stop> {
@@ -62,7 +70,7 @@ fn tags<W: Write>(alloc: Global, output: &mut W) -> Result<(), Stop> {
 
 fn unchanged<W: Write>(alloc: Global, output: &mut W) -> Result<(), Stop> {
     let text = CowStr::from("plain & simple");
-    tell_made(output, unescape(alloc, text, true, &Ampersand).map(Text))?;
+    tell_made(output, unescape(alloc, text, true, &AMPERSAND).map(Text))?;
     tell_made(output, scan_table_head(alloc, b"| a |"))
 }
 

@@ -1,7 +1,7 @@
 //! The start of a line.
 use crate::stop::Stop;
 use crate::telling::{tell, tell_ready};
-use markdown_scanners_tree::line::LineStart;
+use markdown_scanners_tree::line::{KnownBreaks, LineStart};
 use std::io::Write;
 
 pub(crate) fn run<W: Write>(output: &mut W) -> Result<(), Stop> {
@@ -9,7 +9,8 @@ pub(crate) fn run<W: Write>(output: &mut W) -> Result<(), Stop> {
     spaces(output)?;
     markers(output)?;
     definitions(output)?;
-    tags(output)
+    tags(output)?;
+    resumed(output)
 }
 
 fn place(start: &LineStart<'_>) -> (usize, usize) {
@@ -49,5 +50,17 @@ fn tags<W: Write>(output: &mut W) -> Result<(), Stop> {
     tell(output, place(&start))?;
     let mut start = LineStart::new(b"[!Note]  \nx");
     tell(output, start.scan_blockquote_tag())?;
+    tell(output, place(&start))
+}
+
+// Behind the quote's marker in `>\t- x`.
+fn resumed<W: Write>(output: &mut W) -> Result<(), Stop> {
+    let mut breaks = KnownBreaks::new();
+    tell(output, breaks.begins_break(b">\t- x", 2))?;
+    let Some(mut start) = LineStart::resumed(b">\t- x", 2, 2, 0) else {
+        return Ok(());
+    };
+    tell(output, (start.phase(), start.scan_space_upto(9)))?;
+    tell(output, start.scan_list_marker_with_breaks(1, &mut breaks))?;
     tell(output, place(&start))
 }
