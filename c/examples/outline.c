@@ -1,10 +1,6 @@
-/* Prints the outline of a Markdown file: its headings, its link reference definitions, and each full reference, as
- * [text][label], whose label no definition has. Build it with
- *
- *     cc -Ic/include c/examples/outline.c out/libmarkdown_scanners.a -o outline
- */
+/* Prints the outline of a Markdown file. cc -Ic/include c/examples/outline.c out/libmarkdown_scanners.a -o outline */
 #include "markdown_scanners.h"
-
+#include <ctype.h>
 #include <errno.h>
 #include <stdio.h>
 #include <stdlib.h>
@@ -12,15 +8,12 @@
 
 static const char help[] =
     "usage: outline [FILE]\n"
+    "Prints the outline of a Markdown file, or of standard input: a line for each ATX and setext heading, for each\n"
+    "link reference definition with its normalised label, and for each full reference, as [text][label], whose label\n"
+    "no definition has, those in block quotes and lists too. Each line begins with the number of a line of the file.\n"
     "\n"
-    "Prints the outline of a Markdown file, or of standard input: a line for each ATX and setext heading, for each link\n"
-    "reference definition with its normalised label, and for each full reference, as [text][label], whose label no\n"
-    "definition has. Each line begins with the number of a line of the file.\n"
-    "\n"
-    "It reads line by line and is no full CommonMark parser: of block quotes and lists it looks into each line by itself,\n"
-    "without headings and definitions; a definition has to stand in one line; HTML is passed over as far as inline HTML\n"
-    "and blocks with well-known names go.\n"
-    "\n"
+    "It is no full CommonMark parser: an HTML block of `<script>`, `<pre>`, `<style>` or `<textarea>` ends at a blank\n"
+    "line, as of other tags; and all brackets before a label make a full reference, those with a link in them too.\n"
     "The status is 0; 1 where a label has no definition; 2 where the outline can't be had.\n";
 
 struct text {
@@ -28,29 +21,28 @@ struct text {
     size_t length;
 };
 
-/* A heading with its level, a definition with its destination, or a reference. */
+/* A definition, or a reference, which has no target; `key` is that of its label. */
 struct entry {
     size_t line;
-    uint32_t level;
-    struct text text, target;
+    struct text label, key, target;
 };
 
 struct entries {
     struct entry *items;
-    size_t count, room;
+    size_t count;
 };
 
-struct outline {
-    struct entries headings, definitions, references;
-};
-
-/* Where the reader is: the lines before `line` have been read. */
 struct reader {
-    struct text page;
-    size_t place, line;      /* of the line that is read */
-    size_t begin, begun_at;  /* of the paragraph's text, where there is one: its place and its line */
-    bool in_paragraph, in_container;
-    struct mds_fence fence;  /* the open code fence; its length is MDS_NONE where there is none */
+    struct entries definitions, references;
+    struct text line;         /* the line that is read, */
+    struct mds_line_start at; /* the place in it, */
+    size_t number;            /* and its number */
+    size_t *open, depth;      /* of each open list item the columns of its lines' indent; 0 of a block quote */
+    size_t blank_end;         /* where the innermost item has only a marker, the line that ends it if that is blank */
+    uint8_t *paragraph;       /* the lines of the open paragraph, without markers and indent, each with LF */
+    size_t length, begun_at;  /* how many bytes it has, and the number of its first line */
+    struct mds_fence fence; /* of the open code block; its length is MDS_NONE where there is none */
+    const char *html;       /* what ends the open HTML block, "" for a blank line; null where there is none */
 };
 
 static void fail(const char *what, const char *why) {
@@ -59,28 +51,24 @@ static void fail(const char *what, const char *why) {
 }
 
 static void *grown(void *old, size_t bytes) {
-    void *memory = realloc(old, bytes ? bytes : 1);
+    void *memory = realloc(old, bytes + 1);
     if (!memory)
         fail("memory", "refused");
     return memory;
 }
 
-static struct entry *add(struct entries *to, size_t line, struct text text) {
-    if (to->count == to->room) {
-        to->room = to->room ? 2 * to->room : 16;
-        to->items = grown(to->items, to->room * sizeof(*to->items));
-    }
-    struct entry *added = &to->items[to->count++];
-    *added = (struct entry){.line = line, .text = text};
-    return added;
+static void add(struct entries *to, struct entry entry) {
+    if ((to->count & (to->count - 1)) == 0)
+        to->items = grown(to->items, (2 * to->count + 1) * sizeof(entry));
+    to->items[to->count++] = entry;
 }
 
 static struct text rest_of(struct text text, size_t from) {
     return (struct text){text.bytes + from, text.length - from};
 }
 
-static bool begins_with(struct text text, char byte) {
-    return text.length > 0 && text.bytes[0] == (uint8_t)byte;
+static bool begins_with(struct text text, const char *word) {
+    return text.length >= strlen(word) && memcmp(text.bytes, word, strlen(word)) == 0;
 }
 
 static struct text trimmed(struct text text) {
@@ -90,362 +78,322 @@ static struct text trimmed(struct text text) {
     return text;
 }
 
-/* The normalised label whose opening bracket stands before the text, and in `taken` how many bytes it takes, or 0. */
-static struct text label_of(struct text text, size_t *taken) {
-    struct text label = {NULL, 0};
-    struct mds_text found = mds_scan_link_label(text.bytes, text.length, false, NULL, 0);
-    *taken = 0;
-    if (found.status == MDS_TOO_SHORT) {
-        uint8_t *buffer = grown(NULL, found.length);
-        found = mds_scan_link_label(text.bytes, text.length, false, buffer, found.length);
-        label = (struct text){buffer, found.length};
-        *taken = found.taken;
-    }
-    if (found.status == MDS_NO_MEMORY)
-        fail("memory", "refused");
-    return label;
+/* The place of the first of the two bytes that no backslash stands before, or one behind the text. (2.4) */
+static size_t find(struct text text, size_t from, char one, char other) {
+    while (from < text.length && text.bytes[from] != one && text.bytes[from] != other)
+        from += text.bytes[from] == '\\' ? 2 : 1;
+    return from;
 }
 
-static struct text unescaped(struct text text) {
-    struct mds_text found = mds_unescape(text.bytes, text.length, false, NULL, 0);
-    uint8_t *buffer = grown(NULL, found.length);
-    found = mds_unescape(text.bytes, text.length, false, buffer, found.length);
+static struct text made(const uint8_t *buffer, struct mds_text found) {
     if (found.status == MDS_NO_MEMORY)
         fail("memory", "refused");
     return (struct text){buffer, found.length};
 }
 
-/* Whether nothing follows, or white space and a title, up to the end of the line. (CommonMark 0.31.2, 4.7, 6.3) */
-static bool ends_definition(struct text rest) {
-    size_t space = mds_scan_whitespace_in_line(rest.bytes, rest.length);
-    struct text title = trimmed(rest_of(rest, space));
-    if (title.length == 0)
-        return true;
-    uint8_t opens = title.bytes[0], closes = opens == '(' ? ')' : opens;
-    if (space == 0 || (opens != '"' && opens != '\'' && opens != '('))
-        return false;
-    size_t i = 1;
-    while (i < title.length && title.bytes[i] != closes) {
-        if (opens == '(' && title.bytes[i] == '(')
-            return false;
-        i += title.bytes[i] == '\\' && i + 1 < title.length ? 2 : 1;
-    }
-    return i + 1 == title.length;
-}
-
-/* The link reference definition that a line is, if it is one. (4.7) */
-static bool define(struct outline *outline, size_t line, struct text text) {
-    size_t taken;
-    if (!begins_with(text, '['))
-        return false;
-    struct text label = label_of(rest_of(text, 1), &taken);
-    size_t colon = 1 + taken;
-    if (taken == 0 || !begins_with(rest_of(text, colon), ':'))
-        return false;
-    struct text after = rest_of(text, colon + 1);
-    size_t space = mds_scan_whitespace_in_line(after.bytes, after.length);
-    struct mds_part part = mds_scan_link_dest(after.bytes, after.length, space, 31);
-    if (part.status != MDS_OK || part.end == space || !ends_definition(rest_of(after, part.end)))
-        return false;
-    add(&outline->definitions, line, label)->target = unescaped((struct text){after.bytes + part.start, part.length});
-    return true;
-}
-
-/* How many bytes the code span, autolink or HTML at the front takes, whose brackets are none; else 0. (6.1, 6.5, 6.6) */
-static size_t passed_over(struct text text) {
-    if (begins_with(text, '\\'))
-        return text.length > 1 && mds_is_punctuation(text.bytes[1]) ? 2 : 1;
-    if (begins_with(text, '`')) {
-        size_t run = 0, end = 0;
-        while (run < text.length && text.bytes[run] == '`')
-            run++;
-        for (size_t i = run; i < text.length; i++) {
-            end = text.bytes[i] == '`' ? end + 1 : 0;
-            if (end == run && (i + 1 == text.length || text.bytes[i + 1] != '`'))
-                return i + 1;
-        }
-        return run;
-    }
-    if (!begins_with(text, '<'))
+/* Reads the label in brackets at the front, and answers how many bytes it takes, or 0. (CommonMark 0.31.2, 6.3) */
+static size_t read_label(struct text text, struct entry *entry) {
+    size_t end = find(text, 1, '[', ']'); /* the call goes through all that it is given, so it gets no more */
+    if (!begins_with(text, "[") || end >= text.length)
         return 0;
-    struct mds_part uri = mds_scan_autolink(text.bytes, text.length, 1);
-    if (uri.status == MDS_OK)
-        return uri.end;
-    size_t tag = mds_scan_html_tag(text.bytes, text.length);
-    struct mds_end html = mds_scan_inline_html(text.bytes, text.length, 2);
-    return tag != MDS_NONE ? tag : html.status == MDS_OK ? html.end : 0;
+    uint8_t *label = grown(NULL, 4 * end), *key = label + end;
+    struct mds_label found = mds_scan_link_label(text.bytes + 1, end, false, NULL, 0, label, end);
+    entry->label = made(label, (struct mds_text){found.status, found.taken, found.length});
+    entry->key = made(key, mds_label_key(label, found.length, key, 3 * end));
+    return found.status == MDS_OK ? 1 + found.taken : 0;
 }
 
-/* The full references of a text that begins in this line. (6.3) */
-static void refer(struct outline *outline, size_t line, struct text text) {
-    size_t depth = 0;
-    while (text.length > 0) {
-        size_t taken = passed_over(text), label_taken;
-        if (taken == 0) {
-            taken = 1;
-            if (begins_with(text, '['))
-                depth++;
-            if (begins_with(text, ']') && depth > 0) {
-                depth--;
-                if (begins_with(rest_of(text, 1), '[')) {
-                    struct text label = label_of(rest_of(text, 2), &label_taken);
-                    if (label_taken > 0) {
-                        add(&outline->references, line, label);
-                        taken = 2 + label_taken;
-                    }
-                }
-            }
-        }
-        for (size_t i = 0; i < taken; i++)
-            line += text.bytes[i] == '\n' || (text.bytes[i] == '\r' && !(i + 1 < text.length && text.bytes[i + 1] == '\n'));
-        text = rest_of(text, taken);
+/* White space with at most one line ending. */
+static size_t space_length(struct text text) {
+    size_t space = mds_scan_whitespace_in_line(text.bytes, text.length);
+    return space + begins_with(rest_of(text, space), "\n");
+}
+
+/* How many bytes of a definition stand behind its destination: a title, or none, and the line ending; or 0. (4.7) */
+static size_t definition_end(struct text text) {
+    size_t space = space_length(text);
+    struct text title = rest_of(text, space);
+    char opens = title.length > 0 ? (char)title.bytes[0] : ' ', closes = opens == '(' ? ')' : opens;
+    size_t end = find(title, 1, opens, closes);
+    bool is_title = space > 0 && (opens == '"' || opens == '\'' || opens == '(') && end < title.length;
+    if (is_title && title.bytes[end] == (uint8_t)closes && begins_with(rest_of(title, end + 1), "\n"))
+        return space + end + 2;
+    return space > 0 && text.bytes[space - 1] == '\n' ? space : 0;
+}
+
+/* Adds the definition at the front of a paragraph, and answers how many bytes it takes, or 0. (4.7) */
+static size_t define(struct reader *reader, struct text text) {
+    struct entry entry = {.line = reader->begun_at};
+    size_t label = read_label(text, &entry);
+    if (label == 0 || !begins_with(rest_of(text, label), ":"))
+        return 0;
+    size_t start = label + 1 + space_length(rest_of(text, label + 1));
+    struct mds_part part = mds_scan_link_dest(text.bytes, text.length, start, 31);
+    size_t end = part.status == MDS_OK && part.end > start ? definition_end(rest_of(text, part.end)) : 0;
+    if (end == 0)
+        return 0;
+    size_t room = part.length + part.length / 5;
+    uint8_t *target = grown(NULL, room);
+    entry.target = made(target, mds_unescape(text.bytes + part.start, part.length, false, target, room));
+    add(&reader->definitions, entry);
+    return part.end + end;
+}
+
+/* How many bytes the code span at the front takes, or its backticks where nothing closes it. (6.1) */
+static size_t code_length(struct text text) {
+    size_t run = 0, count = 0, end;
+    while (begins_with(rest_of(text, run), "`"))
+        run++;
+    for (end = run; end < text.length && (count != run || text.bytes[end] == '`'); end++)
+        count = text.bytes[end] == '`' ? count + 1 : 0;
+    return count == run ? end : run;
+}
+
+/* How many bytes the escape, code span, autolink or HTML at the place takes; else 1. (2.4, 6.1, 6.5, 6.6) */
+static size_t inline_length(struct text text, size_t place, struct mds_html_guard *guard) {
+    struct text rest = rest_of(text, place);
+    if (begins_with(rest, "\\"))
+        return rest.length > 1 && mds_is_punctuation(rest.bytes[1]) ? 2 : 1;
+    if (!begins_with(rest, "<"))
+        return begins_with(rest, "`") ? code_length(rest) : 1;
+    struct mds_part uri = mds_scan_autolink(text.bytes, text.length, place + 1);
+    struct mds_text tag = mds_scan_html_tag_over_lines(rest.bytes, rest.length, NULL, 0, NULL, 0);
+    struct mds_end html = mds_scan_inline_html(text.bytes, text.length, place + 2, guard);
+    size_t other = html.status == MDS_OK ? html.end - place : 1;
+    return uri.status == MDS_OK ? uri.end - place : tag.status == MDS_OK ? tag.taken : other;
+}
+
+static void write_text(struct text text, const char *behind) {
+    for (size_t i = 0; i < text.length; i++)
+        putchar(text.bytes[i] == '\n' ? ' ' : text.bytes[i]);
+    fputs(behind, stdout);
+}
+
+/* Adds the full references of a text that begins in this line; where a level is given it is a heading. (6.3) */
+static void read_text(struct reader *reader, size_t line, uint32_t level, struct text text) {
+    if (level > 0) {
+        printf("%zu: %s", line, &"###### "[6 - level]);
+        write_text(text, "\n");
+    }
+    struct mds_html_guard guard = {0, 0, 0, 0};
+    for (size_t place = 0, taken, depth = 0; place < text.length; place += taken) {
+        struct entry entry = {.line = line};
+        bool closes = text.bytes[place] == ']' && depth > 0;
+        size_t label = closes ? read_label(rest_of(text, place + 1), &entry) : 0;
+        if (label > 0)
+            add(&reader->references, entry);
+        taken = inline_length(text, place, &guard) + label;
+        depth = depth + (text.bytes[place] == '[') - closes;
+        for (size_t i = place; i < place + taken; i++)
+            line += text.bytes[i] == '\n';
     }
 }
 
-static void end_paragraph(struct reader *reader, struct outline *outline) {
-    if (reader->in_paragraph) {
-        struct text text = {reader->page.bytes + reader->begin, reader->place - reader->begin};
-        refer(outline, reader->begun_at, text);
+/* Ends the paragraph, or heading of this level, and answers whether it is more than definitions. (4.3, 4.7) */
+static bool end_paragraph(struct reader *reader, uint32_t level) {
+    struct text text = {reader->paragraph, reader->length};
+    for (size_t taken = define(reader, text); taken > 0; taken = define(reader, text)) {
+        for (; taken > 0; taken--, text = rest_of(text, 1))
+            reader->begun_at += text.bytes[0] == '\n';
     }
-    reader->in_paragraph = reader->in_container = false;
+    read_text(reader, reader->begun_at, text.length > 0 ? level : 0, trimmed(text));
+    reader->length = 0;
+    return text.length > 0;
+}
+
+/* Closes what is open beyond so many containers. A paragraph may then begin in this line. */
+static void close_beyond(struct reader *reader, size_t depth) {
+    end_paragraph(reader, 0);
+    reader->begun_at = reader->number;
+    reader->depth = depth;
+    reader->fence.length = MDS_NONE;
+    reader->html = NULL;
+}
+
+static struct text rest_of_line(const struct reader *reader) {
+    return rest_of(reader->line, reader->at.place);
+}
+
+static bool is_blank(const struct reader *reader) {
+    struct text rest = rest_of_line(reader);
+    return mds_scan_blank_line(rest.bytes, rest.length) != MDS_NONE;
+}
+
+/* Takes at most `count` columns of space. */
+static size_t take_space(struct reader *reader, size_t count) {
+    return mds_line_upto(reader->line.bytes, reader->line.length, &reader->at, count).columns;
+}
+
+/* Whether the line goes on the container behind so many others, whose marker or indent is then taken. (5.1, 5.2) */
+static bool goes_on(struct reader *reader, size_t depth) {
+    struct mds_line_start before = reader->at;
+    size_t indent = reader->open[depth], space = take_space(reader, indent == 0 ? 4 : indent);
+    bool ended = depth + 1 == reader->depth && reader->blank_end == reader->number && is_blank(reader);
+    bool on = space == indent || is_blank(reader);
+    if (indent == 0)
+        on = space < 4 && mds_line_quote(reader->line.bytes, reader->line.length, &reader->at) == MDS_OK;
+    reader->at = on && !ended ? reader->at : before;
+    return on && !ended;
+}
+
+/* Opens the container that begins here. An item that ends a paragraph has a text, and the number 1. (5.1, 5.2) */
+static bool opens_container(struct reader *reader, size_t depth) {
+    struct mds_line_start before = reader->at;
+    size_t space = take_space(reader, 4);
+    bool is_quote = space < 4 && mds_line_quote(reader->line.bytes, reader->line.length, &reader->at) == MDS_OK;
+    bool ends_paragraph = reader->length > 0 && depth == reader->depth && !is_quote;
+    struct mds_line_item item = {MDS_OK, 0, 0, 0};
+    if (!is_quote)
+        item = mds_line_list(reader->line.bytes, reader->line.length, &reader->at, space);
+    bool counts_on = item.start != 1 && (item.delimiter == '.' || item.delimiter == ')');
+    if (space == 4 || item.status != MDS_OK || (ends_paragraph && (counts_on || is_blank(reader)))) {
+        reader->at = before;
+        return false;
+    }
+    close_beyond(reader, depth);
+    reader->open[reader->depth++] = item.indent;
+    reader->blank_end = is_blank(reader) ? reader->number + 1 : 0;
+    return true;
 }
 
 /* The text of an ATX heading, without its opening and its closing sequence. (4.2) */
 static struct text atx_text(struct text line, uint32_t level) {
-    struct text text = trimmed(rest_of(line, level));
-    size_t end = text.length;
-    while (end > 0 && text.bytes[end - 1] == '#')
-        end--;
-    if (end == 0 || mds_is_whitespace_in_line(text.bytes[end - 1]))
-        text.length = end;
-    return trimmed(text);
+    struct text text = trimmed(rest_of(line, level)), front = text;
+    while (front.length > 0 && front.bytes[front.length - 1] == '#')
+        front.length--;
+    return front.length == 0 || mds_is_whitespace_in_line(front.bytes[front.length - 1]) ? trimmed(front) : text;
 }
 
-/* The text of the paragraph before the line, as one line. */
-static struct text joined_lines(struct text text) {
-    uint8_t *buffer = grown(NULL, text.length);
-    size_t length = 0;
-    while (text.length > 0) {
-        size_t next = 0;
-        while (next < text.length && mds_scan_eol(text.bytes + next, 1) == MDS_NONE)
-            next++;
-        struct text line = trimmed((struct text){text.bytes, next});
-        if (length > 0 && line.length > 0)
-            buffer[length++] = ' ';
-        if (line.length > 0)
-            memcpy(buffer + length, line.bytes, line.length);
-        length += line.length;
-        text = rest_of(text, next < text.length ? next + 1 : next);
-    }
-    return (struct text){buffer, length};
+/* What ends the HTML block that begins at the front, "" for a blank line; null where none begins. (4.6) */
+static const char *html_end(struct text text, bool in_paragraph) {
+    bool declares = begins_with(text, "<!") && text.length > 2 && isalpha(text.bytes[2]);
+    bool named = begins_with(text, "<") && mds_starts_html_block_type_6(text.bytes + 1, text.length - 1);
+    bool alone = !in_paragraph && mds_scan_html_type_7(text.bytes, text.length) != MDS_NONE;
+    const char *marked = begins_with(text, "<!--") ? "-->" : begins_with(text, "<?") ? "?>" : declares ? ">" : NULL;
+    return begins_with(text, "<![CDATA[") ? "]]>" : marked ? marked : named || alone ? "" : NULL;
 }
 
-/* What stands behind the markers of block quotes and list items. (5.1, 5.2) */
-static struct text without_markers(struct text line) {
-    for (;;) {
-        struct text rest = rest_of(line, mds_scan_whitespace_in_line(line.bytes, line.length));
-        size_t quote = mds_scan_blockquote_start(rest.bytes, rest.length);
-        size_t item = mds_scan_listitem(rest.bytes, rest.length).length;
-        if (quote == MDS_NONE && (item == MDS_NONE || mds_scan_hrule(rest.bytes, rest.length) != MDS_NONE))
-            return rest;
-        line = rest_of(rest, quote != MDS_NONE ? quote : item);
-    }
+/* A line of the open HTML block, which it may end. */
+static void read_html(struct reader *reader) {
+    struct text rest = rest_of_line(reader);
+    bool ends = *reader->html == '\0' && is_blank(reader);
+    for (; *reader->html != '\0' && !ends && rest.length > 0; rest = rest_of(rest, 1))
+        ends = begins_with(rest, reader->html);
+    reader->html = ends ? NULL : reader->html;
 }
 
-/* Whether a block quote or a list item begins here; in a paragraph only an item with a text, and of the number 1. (5.2) */
-static bool begins_container(const struct reader *reader, struct text rest) {
-    if (mds_scan_blockquote_start(rest.bytes, rest.length) != MDS_NONE)
+/* Whether the rest of a line makes a heading, is a thematic break, or begins code or HTML. (4.1 to 4.3, 4.5, 4.6) */
+static bool read_block(struct reader *reader, struct text rest, size_t depth) {
+    uint32_t level = mds_scan_atx_heading(rest.bytes, rest.length);
+    struct mds_underline underline = mds_scan_setext_heading(rest.bytes, rest.length);
+    struct mds_fence fence = mds_scan_code_fence(rest.bytes, rest.length);
+    const char *html = html_end(rest, reader->length > 0);
+    bool underlines = underline.length != MDS_NONE && reader->length > 0 && depth == reader->depth;
+    if (underlines && end_paragraph(reader, underline.level))
         return true;
-    struct mds_list_item item = mds_scan_listitem(rest.bytes, rest.length);
-    if (item.length == MDS_NONE || !reader->in_paragraph)
-        return item.length != MDS_NONE;
-    struct text text = rest_of(rest, item.length);
-    return item.start <= 1 && mds_scan_blank_line(text.bytes, text.length) == MDS_NONE;
-}
-
-/* The end of the HTML block that begins here, as a place in the rest; 0 where none does. (4.6) */
-static size_t html_block_end(const struct reader *reader, struct text rest) {
-    struct mds_end end = mds_scan_inline_html(rest.bytes, rest.length, 2);
-    bool named = begins_with(rest, '<') && mds_starts_html_block_type_6(rest.bytes + 1, rest.length - 1);
-    if (end.status == MDS_OK)
-        return end.end;
-    if (!named && (reader->in_paragraph || mds_scan_html_type_7(rest.bytes, rest.length) == MDS_NONE))
-        return 0;
-    size_t place = 0;
-    while (place < rest.length && mds_scan_blank_line(rest.bytes + place, rest.length - place) == MDS_NONE)
-        place += mds_scan_nextline(rest.bytes + place, rest.length - place);
-    return place;
-}
-
-/* The heading that a line is, or that it makes of the paragraph before it. (4.2, 4.3) */
-static bool read_heading(struct reader *reader, struct outline *outline, struct text content) {
-    uint32_t level = mds_scan_atx_heading(content.bytes, content.length);
-    if (level > 0) {
-        end_paragraph(reader, outline);
-        struct text text = atx_text(content, level);
-        add(&outline->headings, reader->line, text)->level = level;
-        refer(outline, reader->line, text);
-        return true;
-    }
-    struct mds_underline underline = mds_scan_setext_heading(content.bytes, content.length);
-    if (!reader->in_paragraph || underline.length == MDS_NONE)
+    if (level == 0 && fence.length == MDS_NONE && !html && mds_scan_hrule(rest.bytes, rest.length).length == MDS_NONE)
         return false;
-    struct text text = {reader->page.bytes + reader->begin, reader->place - reader->begin};
-    add(&outline->headings, reader->begun_at, joined_lines(text))->level = underline.level;
-    end_paragraph(reader, outline);
+    close_beyond(reader, depth);
+    reader->fence = fence;
+    reader->html = html;
+    if (level > 0)
+        read_text(reader, reader->number, level, atx_text(rest, level));
     return true;
 }
 
-/* A line of a block quote or a list, which is read by itself. */
-static void read_contained(struct reader *reader, struct outline *outline, struct text content) {
-    struct text text = without_markers(content);
-    reader->in_container = true;
-    reader->fence = mds_scan_code_fence(text.bytes, text.length);
-    if (reader->fence.length == MDS_NONE)
-        refer(outline, reader->line, text);
+/* What stands behind the containers of a line. A paragraph goes on without those that are not there. (4.8, 5.1) */
+static void read_leaf(struct reader *reader, size_t depth) {
+    bool indented = take_space(reader, 4) == 4, is_code = indented && reader->length == 0;
+    struct text rest = rest_of_line(reader), text = trimmed(rest);
+    if (is_code || is_blank(reader))
+        close_beyond(reader, depth);
+    else if (indented || !read_block(reader, rest, depth)) {
+        if (reader->length == 0)
+            close_beyond(reader, depth);
+        memcpy(reader->paragraph + reader->length, text.bytes, text.length);
+        reader->length += text.length;
+        reader->paragraph[reader->length++] = '\n';
+    }
 }
 
-/* A line within a code fence, which it may close. (4.5) */
-static void read_code(struct reader *reader, struct text content, bool indented) {
-    struct text text = reader->in_container ? without_markers(content) : content;
-    if (indented && !reader->in_container)
-        return;
-    if (mds_scan_closing_code_fence(text.bytes, text.length, reader->fence.byte, reader->fence.length) != MDS_NONE)
-        reader->fence.length = MDS_NONE;
-}
-
-/* Reads the line, and answers how many bytes were read: with an HTML block those of all its lines. */
-static size_t read_line(struct reader *reader, struct outline *outline, struct text line) {
-    bool indented = mds_calc_indent(line.bytes, line.length, 4).columns >= 4;
-    size_t space = mds_scan_whitespace_in_line(line.bytes, line.length);
-    struct text content = rest_of(line, space);
+static void read_line(struct reader *reader) {
+    size_t depth = 0;
+    reader->at = (struct mds_line_start){0};
+    while (depth < reader->depth && goes_on(reader, depth))
+        depth++;
+    if (depth < reader->depth && (reader->html || reader->fence.length != MDS_NONE))
+        close_beyond(reader, depth);
     if (reader->fence.length != MDS_NONE) {
-        read_code(reader, content, indented);
-    } else if (mds_scan_blank_line(content.bytes, content.length) != MDS_NONE) {
-        end_paragraph(reader, outline);
-    } else if (indented) {
-        if (reader->in_container)
-            read_contained(reader, outline, content);
-    } else if (!read_heading(reader, outline, content)) {
-        struct text rest = rest_of(reader->page, reader->place + space);
-        size_t html = html_block_end(reader, rest);
-        struct mds_fence fence = mds_scan_code_fence(content.bytes, content.length);
-        if (html > 0 || fence.length != MDS_NONE || mds_scan_hrule(content.bytes, content.length) != MDS_NONE) {
-            end_paragraph(reader, outline);
-            reader->fence = fence;
-            return html > line.length - space ? space + html : line.length;
-        }
-        if (begins_container(reader, content)) {
-            end_paragraph(reader, outline);
-            read_contained(reader, outline, content);
-        } else if (reader->in_container) {
-            read_contained(reader, outline, content);
-        } else if (!reader->in_paragraph && !define(outline, reader->line, trimmed(content))) {
-            reader->in_paragraph = true;
-            reader->begin = reader->place;
-            reader->begun_at = reader->line;
-        }
+        size_t indent = take_space(reader, 4), count = reader->fence.length;
+        struct text rest = rest_of_line(reader);
+        if (indent < 4 && mds_scan_closing_code_fence(rest.bytes, rest.length, reader->fence.byte, count) != MDS_NONE)
+            reader->fence.length = MDS_NONE;
+    } else if (!reader->html) {
+        while (opens_container(reader, depth))
+            depth = reader->depth;
+        read_leaf(reader, depth);
     }
-    return line.length;
+    if (reader->html)
+        read_html(reader);
 }
 
-/* How many bytes the first line has with its ending. */
-static size_t line_length(struct text text) {
-    size_t end = 0;
-    while (end < text.length && text.bytes[end] != '\n' && text.bytes[end] != '\r')
-        end++;
-    return end + mds_scan_eol(text.bytes + end, text.length - end);
+static int by_key(const void *one, const void *other) {
+    struct text a = ((const struct entry *)one)->key, b = ((const struct entry *)other)->key;
+    int order = (a.length > b.length) - (a.length < b.length);
+    return order ? order : memcmp(a.bytes, b.bytes, a.length);
 }
 
-static void read_page(struct text page, struct outline *outline) {
-    struct reader reader = {.page = page, .line = 1, .fence = {MDS_NONE, 0}};
-    while (reader.place < page.length) {
-        struct text rest = rest_of(page, reader.place);
-        size_t taken = read_line(&reader, outline, (struct text){rest.bytes, line_length(rest)});
-        for (size_t end = reader.place + taken; reader.place < end; reader.line++)
-            reader.place += line_length(rest_of(page, reader.place));
-    }
-    end_paragraph(&reader, outline);
-}
-
-static bool is_defined(const struct outline *outline, struct text label) {
-    for (size_t i = 0; i < outline->definitions.count; i++) {
-        struct text other = outline->definitions.items[i].text;
-        if (mds_labels_match(label.bytes, label.length, other.bytes, other.length) == MDS_OK)
-            return true;
-    }
-    return false;
-}
-
-static void write_text(struct text text) {
-    fwrite(text.bytes, 1, text.length, stdout);
-}
-
-/* Prints what was found, and answers how many labels have no definition. */
-static size_t print(const struct outline *outline) {
-    size_t missing = 0;
-    for (size_t i = 0; i < outline->headings.count; i++) {
-        struct entry *heading = &outline->headings.items[i];
-        printf("%zu: %.*s ", heading->line, (int)heading->level, "######");
-        write_text(heading->text);
-        puts("");
-    }
-    for (size_t i = 0; i < outline->definitions.count; i++) {
-        struct entry *definition = &outline->definitions.items[i];
-        printf("%zu: [", definition->line);
-        write_text(definition->text);
-        fputs("]: ", stdout);
-        write_text(definition->target);
-        puts("");
-    }
-    for (size_t i = 0; i < outline->references.count; i++) {
-        struct entry *reference = &outline->references.items[i];
-        if (is_defined(outline, reference->text))
+/* Prints each entry whose key is not among the known ones, and answers how many they are. */
+static size_t print(struct entries entries, struct entries known, const char *behind) {
+    size_t printed = 0;
+    for (size_t i = 0; i < entries.count; i++) {
+        struct entry *entry = &entries.items[i];
+        if (known.count > 0 && bsearch(entry, known.items, known.count, sizeof(*entry), by_key))
             continue;
-        missing++;
-        printf("%zu: [", reference->line);
-        write_text(reference->text);
-        puts("] has no definition");
+        printf("%zu: [", entry->line);
+        write_text(entry->label, behind);
+        write_text(entry->target, "\n");
+        printed++;
     }
-    return missing;
+    return printed;
 }
 
 static struct text read_all(FILE *file, const char *name) {
-    struct text page = {NULL, 0};
     uint8_t *bytes = NULL;
-    size_t room = 0, got = 1;
-    while (got > 0) {
-        if (page.length == room) {
-            room = room ? 2 * room : 4096;
-            bytes = grown(bytes, room);
-        }
-        errno = 0;
-        got = fread(bytes + page.length, 1, room - page.length, file);
-        page.length += got;
+    size_t length = 0, got = 1;
+    for (errno = 0; got > 0; length += got) {
+        bytes = grown(bytes, 2 * length + 4096);
+        got = fread(bytes + length, 1, length + 4096, file);
     }
     if (ferror(file))
         fail(name, strerror(errno));
-    page.bytes = bytes;
-    return page;
+    return (struct text){bytes, length};
 }
 
 int main(int count, char **words) {
-    if (count == 2 && strcmp(words[1], "--help") == 0)
-        return fputs(help, stdout) < 0 || fflush(stdout) ? 2 : 0;
-    if (count > 2) {
-        fputs(help, stderr);
-        return 2;
-    }
+    bool asked = count == 2 && strcmp(words[1], "--help") == 0;
+    if (asked || count > 2)
+        return fputs(help, asked ? stdout : stderr) < 0 || fflush(stdout) || !asked ? 2 : 0;
     const char *name = count == 2 ? words[1] : "standard input";
     FILE *file = count == 2 ? fopen(name, "rb") : stdin;
     if (!file)
         fail(name, strerror(errno));
     struct text page = read_all(file, name);
-    if (mds_scan_wikilink_pipe(page.bytes, page.length, 0, 0).status == MDS_NOT_UTF8)
+    if (!mds_is_utf8(page.bytes, page.length))
         fail(name, "not UTF-8");
-    struct outline outline = {0};
-    read_page(page, &outline);
-    size_t missing = print(&outline);
+    struct reader reader = {.paragraph = grown(NULL, page.length), .fence = {MDS_NONE, 0}};
+    reader.open = grown(NULL, page.length * sizeof(*reader.open)); /* each has a byte of its own in the page */
+    for (size_t place = 0; place < page.length; place += reader.line.length) {
+        reader.line = rest_of(page, place);
+        reader.line.length = mds_scan_line(reader.line.bytes, reader.line.length);
+        reader.number++;
+        read_line(&reader);
+    }
+    close_beyond(&reader, 0);
+    print(reader.definitions, (struct entries){NULL, 0}, "]: ");
+    if (reader.definitions.count > 0)
+        qsort(reader.definitions.items, reader.definitions.count, sizeof(struct entry), by_key);
+    size_t missing = print(reader.references, reader.definitions, "] has no definition");
     if (fflush(stdout) || ferror(stdout))
         fail("standard output", strerror(errno));
     return missing > 0;

@@ -1,73 +1,61 @@
 #!/usr/bin/env python3
-"""Prints the outline of a Markdown file: its headings, its link reference definitions, and each full reference, as
-[text][label], whose label no definition has. It calls the C functions of markdown_scanners.h by ctypes, over the shared
-library that c/run makes, or that these lines make in the top folder of the repository:
+"""Prints the outline of a Markdown file, as outline.c does. It calls the C functions of markdown_scanners.h by ctypes,
+over the shared library that c/run makes, or that these lines make in the top folder of the repository:
 
     cc -shared -Wl,--whole-archive out/libmarkdown_scanners.a -Wl,--no-whole-archive -o out/libmarkdown_scanners.so
     c/examples/outline.py README.md
 
 MARKDOWN_SCANNERS may name the library where it stands elsewhere.
 """
+import copy
 import ctypes
 import os
 import sys
 from pathlib import Path
 
 HELP = """usage: outline.py [FILE]
+Prints the outline of a Markdown file, or of standard input: a line for each ATX and setext heading, for each
+link reference definition with its normalised label, and for each full reference, as [text][label], whose label
+no definition has, those in block quotes and lists too. Each line begins with the number of a line of the file.
 
-Prints the outline of a Markdown file, or of standard input: a line for each ATX and setext heading, for each link
-reference definition with its normalised label, and for each full reference, as [text][label], whose label no
-definition has. Each line begins with the number of a line of the file.
-
-It reads line by line and is no full CommonMark parser: of block quotes and lists it looks into each line by itself,
-without headings and definitions; a definition has to stand in one line; HTML is passed over as far as inline HTML
-and blocks with well-known names go.
-
+It is no full CommonMark parser: an HTML block of `<script>`, `<pre>`, `<style>` or `<textarea>` ends at a blank
+line, as of other tags; and all brackets before a label make a full reference, those with a link in them too.
 The status is 0; 1 where a label has no definition; 2 where the outline can't be had.
 """
 NONE = ctypes.c_size_t(-1).value
-OK, NOTHING, NOT_UTF8, TOO_SHORT, NO_MEMORY = 0, 1, 2, 7, 8
+OK, NO_MEMORY = 0, 8
+SPACE = b" \t\v\f"
 size, byte, status = ctypes.c_size_t, ctypes.c_uint8, ctypes.c_uint32
 
 
-class ListItem(ctypes.Structure):
-    _fields_ = [("length", size), ("start", size), ("indent", size), ("delimiter", byte)]
+def struct(name, **fields):
+    return type(name, (ctypes.Structure,), {"_fields_": list(fields.items())})
 
 
-class Indent(ctypes.Structure):
-    _fields_ = [("status", status), ("place", size), ("columns", size)]
-
-
-class Underline(ctypes.Structure):
-    _fields_ = [("length", size), ("level", status)]
-
-
-class Fence(ctypes.Structure):
-    _fields_ = [("length", size), ("byte", byte)]
-
-
-class Part(ctypes.Structure):
-    _fields_ = [("status", status), ("end", size), ("start", size), ("length", size)]
-
-
-class End(ctypes.Structure):
-    _fields_ = [("status", status), ("end", size)]
-
-
-class Text(ctypes.Structure):
-    _fields_ = [("status", status), ("taken", size), ("length", size)]
-
+LineStart = struct("LineStart", place=size, pending=size, phase=size, none_before=size, behind_break=size)
+Columns = struct("Columns", status=status, columns=size)
+LineItem = struct("LineItem", status=status, delimiter=byte, start=ctypes.c_uint64, indent=size)
+Break = struct("Break", length=size, none_before=size)
+Underline = struct("Underline", length=size, level=status)
+Fence = struct("Fence", length=size, byte=byte)
+Part = struct("Part", status=status, end=size, start=size, length=size)
+Guard = struct("Guard", comment=size, cdata=size, declaration=size, processing=size)
+End = struct("End", status=status, end=size, passed=size)
+Text = struct("Text", status=status, taken=size, length=size)
+Label = struct("Label", status=status, taken=size, length=size, start=size)
 
 # What each function answers, and what it takes behind its bytes and their length.
+START = ctypes.POINTER(LineStart)
+BUFFER = [ctypes.c_char_p, size]
 FUNCTIONS = {
+    "is_utf8": (ctypes.c_bool, []),
     "scan_whitespace_in_line": (size, []),
-    "scan_eol": (size, []),
-    "scan_nextline": (size, []),
+    "scan_line": (size, []),
     "scan_blank_line": (size, []),
-    "scan_blockquote_start": (size, []),
-    "scan_listitem": (ListItem, []),
-    "calc_indent": (Indent, [size]),
-    "scan_hrule": (size, []),
+    "line_upto": (Columns, [START, size]),
+    "line_quote": (status, [START]),
+    "line_list": (LineItem, [START, size]),
+    "scan_hrule": (Break, []),
     "scan_atx_heading": (status, []),
     "scan_setext_heading": (Underline, []),
     "scan_code_fence": (Fence, []),
@@ -76,11 +64,11 @@ FUNCTIONS = {
     "scan_autolink": (Part, [size]),
     "starts_html_block_type_6": (ctypes.c_bool, []),
     "scan_html_type_7": (size, []),
-    "scan_html_tag": (size, []),
-    "scan_inline_html": (End, [size]),
-    "unescape": (Text, [ctypes.c_bool, ctypes.c_char_p, size]),
-    "scan_link_label": (Text, [ctypes.c_bool, ctypes.c_char_p, size]),
-    "labels_match": (status, [ctypes.c_char_p, size]),
+    "scan_html_tag_over_lines": (Text, [ctypes.c_void_p, size, *BUFFER]),
+    "scan_inline_html": (End, [size, ctypes.POINTER(Guard)]),
+    "unescape": (Text, [ctypes.c_bool, *BUFFER]),
+    "scan_link_label": (Label, [ctypes.c_bool, ctypes.c_void_p, size, *BUFFER]),
+    "label_key": (Text, BUFFER),
 }
 
 
@@ -90,7 +78,8 @@ def fail(what, why):
 
 
 class Scanners:
-    """The functions of the library, called by their names without `mds_`, each with bytes and what it takes besides."""
+    """The functions of the library, called by their names without `mds_`, each with bytes, of which none are copied,
+    from the place `at` on, and with what it takes besides."""
 
     def __init__(self, path):
         try:
@@ -99,258 +88,274 @@ class Scanners:
             fail("library", error)
         for name, (answer, others) in FUNCTIONS.items():
             function = getattr(library, f"mds_{name}")
-            function.restype, function.argtypes = answer, [ctypes.c_char_p, size, *others]
-            setattr(self, name, lambda text, *rest, call=function: call(text, len(text), *rest))
+            function.restype, function.argtypes = answer, [ctypes.c_void_p, size, *others]
+            setattr(self, name, lambda *given, call=function, **at: self.called(call, *given, **at))
 
-    def made(self, call, text):
-        """The text that a call makes of a text, and how many bytes it takes; None and 0 where it makes none."""
-        found = call(text, False, None, 0)
-        if found.status == NOTHING:
-            return None, 0
-        buffer = ctypes.create_string_buffer(max(found.length, 1))
-        found = call(text, False, buffer, found.length)
+    def called(self, call, text, *others, at=0):
+        address = ctypes.cast(ctypes.c_char_p(text), ctypes.c_void_p).value
+        return call(address + at, len(text) - at, *others)
+
+    def made(self, call, text, room, *others):
+        """The text that a call makes of a text, which the room is enough for, and how many bytes it takes, or 0."""
+        buffer = ctypes.create_string_buffer(room + 1)
+        found = call(text, *others, buffer, room)
         if found.status == NO_MEMORY:
             fail("memory", "refused")
-        return buffer.raw[: found.length], found.taken
+        return buffer.raw[: found.length], found.taken if found.status == OK else 0
+
+
+def find(text, place, closers):
+    """The place of the first of these bytes that no backslash stands before, or one behind the text. (2.4)"""
+    while place < len(text) and text[place] not in closers:
+        place += 2 if text[place] == ord("\\") else 1
+    return place
 
 
 class Outline:
-    """What is found, each with its line."""
+    """What is found: headings are printed, and definitions and references kept, each with its line, label and key."""
 
-    def __init__(self, scanners):
-        self.mds, self.headings, self.definitions, self.references = scanners, [], [], []
+    def __init__(self, scanners, output):
+        self.mds, self.output, self.definitions, self.references = scanners, output, [], []
 
-    def define(self, line, text):
-        """Whether the line is a link reference definition. (CommonMark 0.31.2, 4.7)"""
-        if not text.startswith(b"["):
-            return False
-        label, taken = self.mds.made(self.mds.scan_link_label, text[1:])
-        if label is None or text[1 + taken : 2 + taken] != b":":
-            return False
-        after = text[2 + taken :]
-        space = self.mds.scan_whitespace_in_line(after)
-        part = self.mds.scan_link_dest(after, space, 31)
-        if part.status != OK or part.end == space or not self.ends_definition(after[part.end :]):
-            return False
-        target, _ = self.mds.made(self.mds.unescape, after[part.start : part.start + part.length])
-        self.definitions.append((line, label, target))
-        return True
+    def read_label(self, text, place):
+        """The label in brackets at the place, its key, and how many bytes it takes, or 0. (CommonMark 0.31.2, 6.3)"""
+        end = find(text, place + 1, b"[]")
+        if text[place : place + 1] != b"[" or end >= len(text):
+            return b"", b"", 0
+        inner = text[place + 1 : end + 1]  # the call goes through all that it is given, so it gets no more
+        label, taken = self.mds.made(self.mds.scan_link_label, inner, len(inner), False, None, 0)
+        key, _ = self.mds.made(self.mds.label_key, label, 3 * len(label))
+        return label, key, 1 + taken if taken else 0
 
-    def ends_definition(self, rest):
-        """Whether nothing follows, or white space and a title, up to the end of the line. (4.7, 6.3)"""
-        space = self.mds.scan_whitespace_in_line(rest)
-        title = rest.strip(b" \t\n\v\f\r")
-        if not title:
-            return True
-        opens = title[:1]
+    def space_end(self, text, place):
+        """The end of white space with at most one line ending."""
+        place += self.mds.scan_whitespace_in_line(text, at=place)
+        return place + (text[place : place + 1] == b"\n")
+
+    def definition_end(self, text, place):
+        """The end of the definition whose destination ends at the place, with a title or without; or 0. (4.7)"""
+        start = self.space_end(text, place)
+        opens = text[start : start + 1]
         closes = b")" if opens == b"(" else opens
-        if space == 0 or opens not in (b'"', b"'", b"("):
-            return False
-        i = 1
-        while i < len(title) and title[i : i + 1] != closes:
-            if opens == b"(" and title[i : i + 1] == b"(":
-                return False
-            i += 2 if title[i : i + 1] == b"\\" and i + 1 < len(title) else 1
-        return i + 1 == len(title)
+        if start > place and opens in (b'"', b"'", b"("):
+            end = find(text, start + 1, opens + closes)
+            if text[end : end + 2] == closes + b"\n":
+                return end + 2
+        return start if text[place:start].endswith(b"\n") else 0
 
-    def passed_over(self, text):
-        """How many bytes the escape, code span, autolink or HTML at the front takes; else 0. (2.4, 6.1, 6.5, 6.6)"""
-        if text.startswith(b"\\"):
-            return 2 if text[1:2] and text[1:2] in b"!\"#$%&'()*+,-./:;<=>?@[\\]^_`{|}~" else 1
-        if text.startswith(b"`"):
-            run = len(text) - len(text.lstrip(b"`"))
-            i = run
-            while (i := text.find(b"`" * run, i)) >= 0:
-                end = i
-                while text[end : end + 1] == b"`":
-                    end += 1
-                if end - i == run:
-                    return end
-                i = end
-            return run
-        if not text.startswith(b"<"):
+    def define(self, line, text, place):
+        """Adds the definition at the place in a paragraph, and answers its end, or 0. (4.7)"""
+        label, key, taken = self.read_label(text, place)
+        if not taken or text[place + taken : place + taken + 1] != b":":
             return 0
-        uri, tag, html = self.mds.scan_autolink(text, 1), self.mds.scan_html_tag(text), self.mds.scan_inline_html(text, 2)
-        if uri.status == OK:
-            return uri.end
-        return tag if tag != NONE else html.end if html.status == OK else 0
+        start = self.space_end(text, place + taken + 1)
+        part = self.mds.scan_link_dest(text, start, 31)
+        end = self.definition_end(text, part.end) if part.status == OK and part.end > start else 0
+        if end:
+            target = text[part.start : part.start + part.length]
+            target, _ = self.mds.made(self.mds.unescape, target, len(target) + len(target) // 5, False)
+            self.definitions.append((line, label, key, target))
+        return end
 
-    def refer(self, line, text):
-        """The full references of a text that begins in this line. (6.3)"""
-        depth = i = 0
-        while i < len(text):
-            taken = self.passed_over(text[i:]) if text[i : i + 1] in (b"\\", b"`", b"<") else 0
-            if taken == 0:
-                taken = 1
-                if text[i : i + 1] == b"[":
-                    depth += 1
-                if text[i : i + 1] == b"]" and depth > 0:
-                    depth -= 1
-                    if text[i + 1 : i + 2] == b"[":
-                        label, label_taken = self.mds.made(self.mds.scan_link_label, text[i + 2 :])
-                        if label is not None:
-                            self.references.append((line, label))
-                            taken = 2 + label_taken
-            ends = text[i : i + taken].replace(b"\r\n", b"\n").replace(b"\r", b"\n").count(b"\n")
-            cut = text[i + taken - 1 : i + taken + 1] == b"\r\n"
-            line += ends - 1 if cut else ends
-            i += taken
+    def code_length(self, text, place):
+        """How many bytes the code span at the place takes, or its backticks where nothing closes it. (6.1)"""
+        end = place
+        while text[end : end + 1] == b"`":
+            end += 1
+        run, count, begin = end - place, 0, end
+        while end < len(text) and (count != run or text[end] == ord("`")):
+            count = count + 1 if text[end] == ord("`") else 0
+            end += 1
+        return end - place if count == run else begin - place
+
+    def inline_length(self, text, place, guard):
+        """How many bytes the escape, code span, autolink or HTML at the place takes; else 1. (2.4, 6.1, 6.5, 6.6)"""
+        if text[place] == ord("\\"):
+            return 2 if text[place + 1 : place + 2] and text[place + 1] in b"!\"#$%&'()*+,-./:;<=>?@[\\]^_`{|}~" else 1
+        if text[place] != ord("<"):
+            return self.code_length(text, place) if text[place] == ord("`") else 1
+        uri = self.mds.scan_autolink(text, place + 1)
+        tag = self.mds.scan_html_tag_over_lines(text, None, 0, None, 0, at=place)
+        html = self.mds.scan_inline_html(text, place + 2, guard)
+        other = html.end - place if html.status == OK else 1
+        return uri.end - place if uri.status == OK else tag.taken if tag.status == OK else other
+
+    def read_text(self, line, level, text):
+        """Adds the full references of a text that begins in this line; where a level is given it is a heading. (6.3)"""
+        if level:
+            self.output.append(b"%d: %b %b\n" % (line, b"#" * level, text.replace(b"\n", b" ")))
+        guard = Guard()
+        place = depth = 0
+        while place < len(text):
+            closes = text[place] == ord("]") and depth > 0
+            label, key, taken = self.read_label(text, place + 1) if closes else (b"", b"", 0)
+            if taken:
+                self.references.append((line, label, key))
+            taken += self.inline_length(text, place, guard) if text[place] in b"\\`<" else 1
+            depth += (text[place] == ord("[")) - closes
+            line += text.count(b"\n", place, place + taken)
+            place += taken
 
     def report(self):
-        """The lines that are printed, and how many labels have no definition."""
-        lines = [b"%d: %b %b" % (line, b"#" * level, text) for line, level, text in self.headings]
-        lines += [b"%d: [%b]: %b" % definition for definition in self.definitions]
-        missing = [it for it in self.references if not self.is_defined(it[1])]
-        lines += [b"%d: [%b] has no definition" % it for it in missing]
-        return b"".join(line + b"\n" for line in lines), len(missing)
-
-    def is_defined(self, label):
-        return any(self.mds.labels_match(label, other, len(other)) == OK for _, other, _ in self.definitions)
+        """All that is printed, and how many labels have no definition."""
+        known = {key for _, _, key, _ in self.definitions}
+        missing = [it for it in self.references if it[2] not in known]
+        for line, label, _, target in self.definitions:
+            self.output.append(b"%d: [%b]: %b\n" % (line, label, target.replace(b"\n", b" ")))
+        self.output += [b"%d: [%b] has no definition\n" % (line, label) for line, label, _ in missing]
+        return b"".join(self.output), len(missing)
 
 
 class Reader:
-    """Goes through a page line by line. `begin` is the place of the paragraph that is read, or None; `fence` is the open
-    code fence, or None."""
+    """Goes through a page line by line: `open` has the columns by which the lines of each open list item are indented,
+    0 of a block quote; `paragraph` the lines of the open paragraph, without markers and indent; `fence` is that of the
+    open code block, and `html` what ends the open HTML block, b"" for a blank line; or None. Where the innermost item
+    has only a marker, the line `blank_end` ends it if that is blank."""
 
-    def __init__(self, scanners, page):
-        self.mds, self.page, self.outline = scanners, page, Outline(scanners)
-        self.place, self.line, self.begin, self.begun_at = 0, 1, None, 0
-        self.in_container, self.fence = False, None
+    def __init__(self, scanners):
+        self.mds, self.outline = scanners, Outline(scanners, [])
+        self.line, self.at, self.number, self.begun_at = b"", LineStart(), 0, 0
+        self.open, self.blank_end, self.paragraph, self.fence, self.html = [], 0, [], None, None
 
-    def line_length(self, place):
-        """How many bytes the line at the place has with its ending."""
-        ends = [it for it in (self.page.find(b"\n", place), self.page.find(b"\r", place)) if it >= 0]
-        end = min(ends, default=len(self.page))
-        return end + self.mds.scan_eol(self.page[end : end + 2]) - place
+    def read(self, page):
+        place = 0
+        while place < len(page):
+            self.line = page[place : place + self.mds.scan_line(page, at=place)]
+            self.number += 1
+            self.read_line()
+            place += len(self.line)
+        self.close_beyond(0)
+        return self.outline.report()
 
-    def read(self):
-        while self.place < len(self.page):
-            taken = self.read_line(self.page[self.place : self.place + self.line_length(self.place)])
-            end = self.place + taken
-            while self.place < end:
-                self.place += self.line_length(self.place)
-                self.line += 1
-        self.end_paragraph()
-        return self.outline
+    def end_paragraph(self, level):
+        """Ends the paragraph, or heading of this level, and answers whether it is more than definitions. (4.3, 4.7)"""
+        text = b"".join(line + b"\n" for line in self.paragraph)
+        place = 0
+        while end := self.outline.define(self.begun_at, text, place):
+            self.begun_at += text.count(b"\n", place, end)
+            place = end
+        text = text[place:]
+        self.outline.read_text(self.begun_at, level if text else 0, text.removesuffix(b"\n"))
+        self.paragraph = []
+        return bool(text)
 
-    def end_paragraph(self):
-        if self.begin is not None:
-            self.outline.refer(self.begun_at, self.page[self.begin : self.place])
-        self.begin, self.in_container = None, False
+    def close_beyond(self, depth):
+        """Closes what is open beyond so many containers. A paragraph may then begin in this line."""
+        self.end_paragraph(0)
+        self.begun_at = self.number
+        del self.open[depth:]
+        self.fence = self.html = None
 
-    def read_line(self, line):
-        """Reads the line, and answers how many bytes were read: with an HTML block those of all its lines."""
-        indented = self.mds.calc_indent(line, 4).columns >= 4
-        space = self.mds.scan_whitespace_in_line(line)
-        content = line[space:]
-        if self.fence is not None:
-            self.read_code(content, indented)
-        elif self.mds.scan_blank_line(content) != NONE:
-            self.end_paragraph()
-        elif indented:
-            if self.in_container:
-                self.read_contained(content)
-        elif not self.read_heading(content):
-            return self.read_block(line, space, content)
-        return len(line)
+    def is_blank(self):
+        return self.mds.scan_blank_line(self.line, at=self.at.place) != NONE
 
-    def read_block(self, line, space, content):
-        html = self.html_block_end(self.place + space)
-        fence = self.mds.scan_code_fence(content)
-        if html or fence.length != NONE or self.mds.scan_hrule(content) != NONE:
-            self.end_paragraph()
-            self.fence = fence if fence.length != NONE else None
-            return max(space + html, len(line))
-        if self.begins_container(content):
-            self.end_paragraph()
-            self.read_contained(content)
-        elif self.in_container:
-            self.read_contained(content)
-        elif self.begin is None and not self.outline.define(self.line, content.strip(b" \t\n\v\f\r")):
-            self.begin, self.begun_at = self.place, self.line
-        return len(line)
+    def take_space(self, count):
+        return self.mds.line_upto(self.line, self.at, count).columns
 
-    def read_heading(self, content):
-        """Whether the line is a heading, or makes one of the paragraph before it. (4.2, 4.3)"""
-        level = self.mds.scan_atx_heading(content)
-        if level:
-            self.end_paragraph()
-            text = content[level:].strip(b" \t\n\v\f\r")
-            bare = text.rstrip(b"#")
-            if not bare or bare[-1:] in b" \t\v\f":
-                text = bare.rstrip(b" \t\v\f")
-            self.outline.headings.append((self.line, level, text))
-            self.outline.refer(self.line, text)
-            return True
-        underline = self.mds.scan_setext_heading(content)
-        if self.begin is None or underline.length == NONE:
-            return False
-        lines = self.page[self.begin : self.place].replace(b"\r", b"\n").split(b"\n")
-        text = b" ".join(it for it in (line.strip(b" \t\v\f") for line in lines) if it)
-        self.outline.headings.append((self.begun_at, underline.level, text))
-        self.end_paragraph()
+    def goes_on(self, depth):
+        """Whether the line goes on this container, whose marker or indent is then taken. (5.1, 5.2)"""
+        before, indent = copy.copy(self.at), self.open[depth]
+        space = self.take_space(indent or 4)
+        ended = depth + 1 == len(self.open) and self.blank_end == self.number and self.is_blank()
+        on = space == indent or self.is_blank()
+        if indent == 0:
+            on = space < 4 and self.mds.line_quote(self.line, self.at) == OK
+        if ended or not on:
+            self.at = before
+        return on and not ended
+
+    def opens_container(self, depth):
+        """Opens what container begins here. An item that ends a paragraph has a text, and the number 1. (5.2)"""
+        before, space = copy.copy(self.at), self.take_space(4)
+        indent = 0
+        if space == 4 or self.mds.line_quote(self.line, self.at) != OK:
+            item = self.mds.line_list(self.line, self.at, space)
+            counts_on = item.start != 1 and item.delimiter in b".)"
+            ends_paragraph = self.paragraph and depth == len(self.open)
+            if space == 4 or item.status != OK or (ends_paragraph and (counts_on or self.is_blank())):
+                self.at = before
+                return False
+            indent = item.indent
+        self.close_beyond(depth)
+        self.open.append(indent)
+        self.blank_end = self.number + 1 if self.is_blank() else 0
         return True
 
-    def read_contained(self, content):
-        """A line of a block quote or a list, which is read by itself."""
-        text = self.without_markers(content)
-        self.in_container = True
-        fence = self.mds.scan_code_fence(text)
-        self.fence = fence if fence.length != NONE else None
-        if self.fence is None:
-            self.outline.refer(self.line, text)
+    def atx_text(self, line, level):
+        """The text of an ATX heading, without its opening and its closing sequence. (4.2)"""
+        text = line[level:].strip(SPACE + b"\r\n")
+        front = text.rstrip(b"#")
+        return front.rstrip(SPACE) if not front or front[-1] in SPACE else text
 
-    def read_code(self, content, indented):
-        """A line within a code fence, which it may close. (4.5)"""
-        text = self.without_markers(content) if self.in_container else content
-        if indented and not self.in_container:
-            return
-        if self.mds.scan_closing_code_fence(text, self.fence.byte, self.fence.length) != NONE:
-            self.fence = None
+    def html_end(self, text):
+        """What ends the HTML block that begins at the front, b"" for a blank line; None where none begins. (4.6)"""
+        for begins, ends in ((b"<!--", b"-->"), (b"<?", b"?>"), (b"<![CDATA[", b"]]>")):
+            if text.startswith(begins):
+                return ends
+        if text.startswith(b"<!") and text[2:3].isalpha():
+            return b">"
+        named = text.startswith(b"<") and self.mds.starts_html_block_type_6(text, at=1)
+        return b"" if named or (not self.paragraph and self.mds.scan_html_type_7(text) != NONE) else None
 
-    def without_markers(self, line):
-        """What stands behind the markers of block quotes and list items. (5.1, 5.2)"""
-        while True:
-            rest = line[self.mds.scan_whitespace_in_line(line) :]
-            quote, item = self.mds.scan_blockquote_start(rest), self.mds.scan_listitem(rest).length
-            if quote == NONE and (item == NONE or self.mds.scan_hrule(rest) != NONE):
-                return rest
-            line = rest[quote if quote != NONE else item :]
+    def read_html(self):
+        """A line of the open HTML block, which it may end."""
+        rest = self.line[self.at.place :]
+        if self.html in rest if self.html else self.is_blank():
+            self.html = None
 
-    def begins_container(self, rest):
-        """Whether a block quote or a list item begins here; in a paragraph only an item with a text, of the number 1. (5.2)"""
-        if self.mds.scan_blockquote_start(rest) != NONE:
+    def read_block(self, rest, depth):
+        """Whether the rest of a line makes a heading, is a thematic break, or begins code or HTML. (4.1 to 4.6)"""
+        level, underline = self.mds.scan_atx_heading(rest), self.mds.scan_setext_heading(rest)
+        fence, html = self.mds.scan_code_fence(rest), self.html_end(rest)
+        underlines = underline.length != NONE and self.paragraph and depth == len(self.open)
+        if underlines and self.end_paragraph(underline.level):
             return True
-        item = self.mds.scan_listitem(rest)
-        if item.length == NONE or self.begin is None:
-            return item.length != NONE
-        return item.start <= 1 and self.mds.scan_blank_line(rest[item.length :]) == NONE
+        if not level and fence.length == NONE and html is None and self.mds.scan_hrule(rest).length == NONE:
+            return False
+        self.close_beyond(depth)
+        self.fence, self.html = fence if fence.length != NONE else None, html
+        if level:
+            self.outline.read_text(self.number, level, self.atx_text(rest, level))
+        return True
 
-    def html_block_end(self, place):
-        """How many bytes the HTML block at the place has; 0 where none begins. (4.6)"""
-        if self.page[place : place + 1] != b"<":
-            return 0
-        rest = self.page[place:]
-        end = self.mds.scan_inline_html(rest, 2)
-        if end.status == OK:
-            return end.end
-        named = self.mds.starts_html_block_type_6(rest[1:])
-        if not named and (self.begin is not None or self.mds.scan_html_type_7(rest) == NONE):
-            return 0
-        taken = 0
-        while taken < len(rest) and self.mds.scan_blank_line(rest[taken:]) == NONE:
-            taken += self.mds.scan_nextline(rest[taken:])
-        return taken
+    def read_leaf(self, depth):
+        """What stands behind a line's containers. A paragraph goes on without those that are not there. (4.8, 5.1)"""
+        indented = self.take_space(4) == 4
+        rest = self.line[self.at.place :]
+        if self.is_blank() or (indented and not self.paragraph):
+            self.close_beyond(depth)
+        elif indented or not self.read_block(rest, depth):
+            if not self.paragraph:
+                self.close_beyond(depth)
+            self.paragraph.append(rest.lstrip(SPACE).rstrip(SPACE + b"\r\n"))
+
+    def read_line(self):
+        self.at = LineStart()
+        depth = 0
+        while depth < len(self.open) and self.goes_on(depth):
+            depth += 1
+        if depth < len(self.open) and (self.html is not None or self.fence):
+            self.close_beyond(depth)
+        if self.fence:
+            indented = self.take_space(4) == 4
+            rest = self.line[self.at.place :]
+            if not indented and self.mds.scan_closing_code_fence(rest, self.fence.byte, self.fence.length) != NONE:
+                self.fence = None
+        elif self.html is None:
+            while self.opens_container(depth):
+                depth = len(self.open)
+            self.read_leaf(depth)
+        if self.html is not None:
+            self.read_html()
 
 
-def read_page(words):
+def read_page(words, scanners):
     name = words[0] if words else "standard input"
     try:
         page = Path(name).read_bytes() if words else sys.stdin.buffer.read()
-        page.decode()
     except OSError as error:
         fail(name, error.strerror)
-    except UnicodeDecodeError:
+    if not scanners.is_utf8(page):
         fail(name, "not UTF-8")
     return page
 
@@ -362,9 +367,9 @@ def main(words):
     if len(words) > 1:
         sys.stderr.write(HELP)
         return 2
-    page = read_page(words)
     made = Path(__file__).resolve().parents[2] / "out/libmarkdown_scanners.so"
-    report, missing = Reader(Scanners(os.environ.get("MARKDOWN_SCANNERS", made)), page).read().report()
+    scanners = Scanners(os.environ.get("MARKDOWN_SCANNERS", made))
+    report, missing = Reader(scanners).read(read_page(words, scanners))
     try:
         sys.stdout.buffer.write(report)
         sys.stdout.buffer.flush()

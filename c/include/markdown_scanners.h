@@ -2,13 +2,14 @@
  *
  * They stand over the library `markdown_scanners_tree`, and each is proved to answer what that library's definitions
  * say, after CommonMark 0.31.2 (https://spec.commonmark.org/0.31.2/), whose sections stand in brackets below. They are
- * scanners: each reads from the front of the bytes that it is given, or from a place in a text, and says what begins
+ * scanners: each reads from the front of the bytes that it is given, or from a place in them, and says what begins
  * there. None looks for the next construct, so a caller goes through its document and asks.
  *
  * Bytes and texts. A pointer and a length go together; nothing has to end in a zero byte, and zero bytes are read as
- * any other. The pointer may be null where the length is 0. What is given is read during the call alone, and nothing is
- * written but in a buffer. What is named `bytes` may be any bytes; what is named `text`, `one` or `other` must be
- * UTF-8. Each call looks through all of it, and refuses it where it is not.
+ * any other. What is read may be of any type of bytes, as `char` or `uint8_t`. The pointer may be null where the length
+ * is 0. What is given is read during the call alone, and nothing is written but in a buffer, a line start or a guard.
+ * What is named `bytes` may be any bytes; what is named `text`, `one` or `other` must be UTF-8. Each call looks through
+ * all of it, and refuses it where it is not.
  *
  * Duties. No buffer may overlap another buffer or anything else that the call is given. A length or capacity is that of
  * memory which is there, and its size in bytes is at most PTRDIFF_MAX. An array is aligned for its type.
@@ -21,13 +22,21 @@
  * an answer, `MDS_NOTHING` where nothing of the kind stands there, and else why they refused. The other fields mean
  * something where the comment of the struct says so, and are 0 otherwise.
  *
- * Memory and threads. Texts that are made go into the caller's buffer. Where it is too short it is left as it was, and
- * `length` says how many bytes it needs; so a first call with no buffer (null and 0) asks for the length. No call keeps
- * memory or a pointer, or has state, so calls may run in any threads at once. Those that ask the C library for memory
- * within the call say so, free it before they return, and answer `MDS_NO_MEMORY` where they can't do without what was
- * refused. They must not be called in a signal handler, or in the forked child of a process with threads; and `malloc`,
- * `realloc` and `free` must be of one allocator, which aligns a block to each power of two up to 16 that divides its
- * size.
+ * Buffers. Texts that are made go into the caller's buffer. Each call says how much room is enough, whatever it is
+ * given: with so much one call does. Where a buffer is too short it is left as it was, and `length` says how many bytes
+ * are needed; so a call with no buffer (null and 0) asks for the length.
+ *
+ * Memory and threads. No call keeps memory or a pointer, or has state, so calls may run in any threads at once. Those
+ * that ask the C library for memory within the call say so, free it before they return, and answer `MDS_NO_MEMORY`
+ * where they can't do without what was refused. They must not be called in a signal handler, or in the forked child of
+ * a process with threads; and `malloc`, `realloc` and `free` must be of one allocator, which aligns a block to each
+ * power of two up to 16 that divides its size.
+ *
+ * Cost. Each call takes time in proportion to all that it is given, at most. Of a text it reads all, since it looks
+ * whether it is UTF-8; of bytes no more than it has to, most often up to the end of the line. Only a call that looks
+ * for what closes or ends something goes through all of them where nothing does.
+ *
+ * Machines. The archive is for x86-64 processors of level 2 (x86-64-v2) and above.
  */
 #ifndef MARKDOWN_SCANNERS_H
 #define MARKDOWN_SCANNERS_H
@@ -44,6 +53,11 @@
 extern "C" {
 #endif
 
+/* The version of this header, 0.1.0. */
+#define MDS_VERSION_MAJOR 0
+#define MDS_VERSION_MINOR 1
+#define MDS_VERSION_PATCH 0
+
 /* In place of a length or a place, where nothing is found. */
 #define MDS_NONE SIZE_MAX
 
@@ -52,8 +66,8 @@ enum mds_status {
     MDS_OK = 0,             /* an answer */
     MDS_NOTHING = 1,        /* nothing of the kind stands there */
     MDS_NOT_UTF8 = 2,       /* the text is not UTF-8 */
-    MDS_PAST_END = 3,       /* the place is past the end of the text */
-    MDS_NOT_BOUNDARY = 4,   /* the place is inside a character */
+    MDS_PAST_END = 3,       /* the place is past the end of the bytes */
+    MDS_BAD_SKIPS = 4,      /* the table of what is left out is none of the text */
     MDS_TOO_LARGE = 5,      /* a limit or an indent is so large that columns can't be added to it */
     MDS_EMPTY = 6,          /* there are no bytes */
     MDS_TOO_SHORT = 7,      /* the buffer is too short */
@@ -62,8 +76,31 @@ enum mds_status {
     MDS_NOT_RISING = 10,    /* the place is not above the one before it */
     MDS_INSIDE_FIND = 11,   /* the place is inside what was found before it */
     MDS_SPACE_PENDING = 12, /* columns of a tab are pending, and the call is not one that takes space */
-    MDS_BAD_KIND = 13       /* a call has no known kind */
+    MDS_BAD_KIND = 13,      /* a call has no known kind */
+    MDS_BAD_STATE = 14      /* a line start has numbers that none has on these bytes */
 };
+
+/* The name of a status, as "MDS_OK"; "unknown" of a number that is none. */
+static inline const char *mds_status_name(uint32_t status) {
+    switch (status) {
+    case MDS_OK: return "MDS_OK";
+    case MDS_NOTHING: return "MDS_NOTHING";
+    case MDS_NOT_UTF8: return "MDS_NOT_UTF8";
+    case MDS_PAST_END: return "MDS_PAST_END";
+    case MDS_BAD_SKIPS: return "MDS_BAD_SKIPS";
+    case MDS_TOO_LARGE: return "MDS_TOO_LARGE";
+    case MDS_EMPTY: return "MDS_EMPTY";
+    case MDS_TOO_SHORT: return "MDS_TOO_SHORT";
+    case MDS_NO_MEMORY: return "MDS_NO_MEMORY";
+    case MDS_NO_OPENER: return "MDS_NO_OPENER";
+    case MDS_NOT_RISING: return "MDS_NOT_RISING";
+    case MDS_INSIDE_FIND: return "MDS_INSIDE_FIND";
+    case MDS_SPACE_PENDING: return "MDS_SPACE_PENDING";
+    case MDS_BAD_KIND: return "MDS_BAD_KIND";
+    case MDS_BAD_STATE: return "MDS_BAD_STATE";
+    default: return "unknown";
+    }
+}
 
 /* A text for the caller's buffer, where the status is MDS_OK, and at its front; where it is MDS_TOO_SHORT the buffer is
  * as it was, and `taken` and `length` are told all the same. */
@@ -84,22 +121,36 @@ bool mds_is_whitespace_in_line(uint8_t byte);
 /* An ASCII punctuation character. (2.1) */
 bool mds_is_punctuation(uint8_t byte);
 
+/* Whether the bytes are UTF-8. */
+bool mds_is_utf8(const void *bytes, size_t length);
+
+/* 1 where the first byte is this one, else 0. */
+size_t mds_scan_ch(const void *bytes, size_t length, uint8_t byte);
+
+/* How many of this byte stand at the front. */
+size_t mds_scan_ch_repeat(const void *bytes, size_t length, uint8_t byte);
+
 /* How many bytes of white space that ends no line stand at the front. */
-size_t mds_scan_whitespace_in_line(const uint8_t *bytes, size_t length);
+size_t mds_scan_whitespace_in_line(const void *bytes, size_t length);
 
 /* The length of the line ending at the front: 1 for LF or CR, 2 for CR LF, 0 at the end of the bytes; else MDS_NONE.
  * (2.1) */
-size_t mds_scan_eol(const uint8_t *bytes, size_t length);
+size_t mds_scan_eol(const void *bytes, size_t length);
 
-/* The place behind the first LF, or the length where there is none. */
-size_t mds_scan_nextline(const uint8_t *bytes, size_t length);
+/* The length of the line at the front with its ending, LF, CR LF or CR; all bytes where there is none. It is 0 only
+ * of no bytes. (2.1) */
+size_t mds_scan_line(const void *bytes, size_t length);
+
+/* The place behind the first LF, or the length where there is none. It knows LF alone: where lines may end in CR, ask
+ * mds_scan_line. */
+size_t mds_scan_nextline(const void *bytes, size_t length);
 
 /* The length of the blank line at the front with its ending, or MDS_NONE where the line is not blank. Of no bytes it
  * is 0. (4.9) */
-size_t mds_scan_blank_line(const uint8_t *bytes, size_t length);
+size_t mds_scan_blank_line(const void *bytes, size_t length);
 
 /* The length of the block quote marker at the front, `>` and at most one space: 1 or 2, or MDS_NONE. (5.1) */
-size_t mds_scan_blockquote_start(const uint8_t *bytes, size_t length);
+size_t mds_scan_blockquote_start(const void *bytes, size_t length);
 
 /* A list item. Where there is none `length` is MDS_NONE. */
 struct mds_list_item {
@@ -113,7 +164,7 @@ struct mds_list_item {
  * are none to MDS_LIST below: a thematic break such as `- - -`, and a marker before a blank rest that begins with a
  * vertical tab or a form feed. A parser that ends a paragraph by this call and begins the item by MDS_LIST loses the
  * second kind, so it asks MDS_LIST both times. */
-struct mds_list_item mds_scan_listitem(const uint8_t *bytes, size_t length);
+struct mds_list_item mds_scan_listitem(const void *bytes, size_t length);
 
 /* An indent, where the status is MDS_OK; else it is MDS_TOO_LARGE. */
 struct mds_indent {
@@ -125,7 +176,7 @@ struct mds_indent {
 /* The columns of the spaces and tabs at the front. A space that fills `max` columns is counted and ends the scan; a tab
  * that would go past `max` ends it uncounted, as each other byte does. So spaces are counted on where `max` is 0, and
  * behind a tab that fills it. `max` is SIZE_MAX / 4 at most. (2.2) */
-struct mds_indent mds_calc_indent(const uint8_t *bytes, size_t length, size_t max);
+struct mds_indent mds_calc_indent(const void *bytes, size_t length, size_t max);
 
 /* ---- Runs of calls on the start of a line ---- */
 
@@ -164,19 +215,127 @@ struct mds_line_run {
  * first call that is refused: MDS_SPACE_PENDING where a tab is taken in part and the call takes no space, MDS_TOO_LARGE
  * where an indent is too large; else the status is MDS_OK. In all these cases the answers stand at the front of
  * `answers`, and what is left of the line, its tabs before the line ending written out, at the front of `rest`. Where
- * one of these has no room nothing is written, and the status is MDS_TOO_SHORT. Where some call has no known kind none
- * is made: MDS_BAD_KIND. Memory is asked for: MDS_NO_MEMORY. (2.2) */
+ * one of these has no room nothing is written, and the status is MDS_TOO_SHORT; as many answers as calls are enough,
+ * and four times `length` bytes for `rest`. Where some call has no known kind none is made: MDS_BAD_KIND. Memory is
+ * asked for, some for each call and each byte of what is left: MDS_NO_MEMORY. (2.2) */
 struct mds_line_run mds_run_line(
-    const uint8_t *bytes, size_t length, const struct mds_line_call *calls, size_t call_count,
+    const void *bytes, size_t length, const struct mds_line_call *calls, size_t call_count,
     struct mds_line_answer *answers, size_t capacity, uint8_t *rest, size_t rest_capacity);
+
+/* ---- Line starts ---- */
+
+/* A place in a line that is read column by column. It is the caller's: all 0 at the front of a line, `{0}`, and then
+ * moved by the calls below. It belongs to the bytes of one line, from the line's front on; they may go on behind it, up
+ * to the end of the text, and are passed whole to each call, from their front. A copy of the struct goes on by itself.
+ *
+ * `none_before` and `behind_break` are what is known of the thematic breaks in the line, of which a bullet may be the
+ * first byte. Keep them, or the bytes behind each bullet are read once more.
+ *
+ * Whatever the numbers are the calls are safe, and read none but the bytes that are passed. They answer MDS_BAD_STATE
+ * where `place` is above the length, or `pending` or `phase` is above 3; then the struct is left as it was. Else a
+ * call leaves a place that is not before the old one, and numbers that are not refused. Numbers that no call has left
+ * there have an answer too, as from that place; only that of mds_line_list may then be a wrong one, where
+ * `none_before` and `behind_break` are not true of the line. */
+struct mds_line_start {
+    size_t place;        /* how many bytes have been passed */
+    size_t pending;      /* columns of the last tab that have not been taken: 3 at most */
+    size_t phase;        /* the column of the place modulo four, or 0 to 3 */
+    size_t none_before;  /* no thematic break begins at a place from the present one up to this one */
+    size_t behind_break; /* a thematic break begins just before this place, where it is not 0 */
+};
+
+/* Columns, where the status is MDS_OK. */
+struct mds_columns {
+    uint32_t status;
+    size_t columns;
+};
+
+/* Takes `count` columns of space, or fewer where there are fewer: pending ones first, then those of spaces and tabs.
+ * MDS_OK where there were as many, MDS_NOTHING where there were fewer, or MDS_BAD_STATE. It reads what it takes.
+ * (2.2) */
+uint32_t mds_line_space(const void *bytes, size_t length, struct mds_line_start *start, size_t count);
+
+/* The same, and how many it took, 0 too: MDS_OK or MDS_BAD_STATE. */
+struct mds_columns mds_line_upto(const void *bytes, size_t length, struct mds_line_start *start, size_t count);
+
+/* Drops pending columns, and passes all spaces and tabs, each as one column, so that columns are not those of the line
+ * from then on: MDS_OK or MDS_BAD_STATE. */
+uint32_t mds_line_all_space(const void *bytes, size_t length, struct mds_line_start *start);
+
+/* Whether LF, CR or the end of the bytes stands at the place; pending columns are looked past. MDS_OK, MDS_NOTHING or
+ * MDS_BAD_STATE. It reads one byte. */
+uint32_t mds_line_eol(const void *bytes, size_t length, const struct mds_line_start *start);
+
+/* Passes a block quote marker, `>` and at most one column of space; pending columns are looked past, and one of them
+ * is that space. MDS_OK, MDS_NOTHING or MDS_BAD_STATE. It reads two bytes. (5.1) */
+uint32_t mds_line_quote(const void *bytes, size_t length, struct mds_line_start *start);
+
+/* A list item's marker, where the status is MDS_OK. */
+struct mds_line_item {
+    uint32_t status;
+    uint8_t delimiter; /* `-`, `+` or `*`; `.` or `)` of an ordered item */
+    uint64_t start;    /* the number of an ordered item, else 0 */
+    size_t indent;     /* columns of what the item holds: `indent`, the marker and the space that belongs to it */
+};
+
+/* Passes a list item's marker and the columns that belong to it, at an indent of `indent` columns, SIZE_MAX - 16 at
+ * most. MDS_OK; MDS_NOTHING where there is none, or where a thematic break begins, and the place stays;
+ * MDS_TOO_LARGE; MDS_BAD_STATE. Pending columns are looked past, so take up to four columns first: where there are
+ * four, no item begins there, as no block quote does. mds_scan_listitem finds two kinds more. It reads the marker,
+ * the space behind it and a blank rest of the line; and of a bullet the line's bytes up to the first that stands in
+ * no thematic break, once as long as the numbers are kept. (5.2) */
+struct mds_line_item mds_line_list(const void *bytes, size_t length, struct mds_line_start *start, size_t indent);
+
+/* Passes a definition's marker, `:` and the columns that belong to it, at an indent of `indent` columns, SIZE_MAX - 16
+ * at most; the columns are the indent of what the definition holds. MDS_OK, MDS_NOTHING where there is none and the
+ * place stays, MDS_TOO_LARGE, MDS_BAD_STATE. It reads six bytes. (An extension of pulldown-cmark) */
+struct mds_columns mds_line_definition(const void *bytes, size_t length, struct mds_line_start *start, size_t indent);
+
+/* The box of a task, where the status is MDS_OK. */
+struct mds_task {
+    uint32_t status;
+    bool checked;
+};
+
+/* Passes up to three columns of space and a task list item's box, `[ ]`, `[x]` or `[X]`, behind which white space
+ * stands and is not taken. MDS_OK; MDS_NOTHING where there is none, and the place stays; MDS_BAD_STATE. It reads seven
+ * bytes. (GitHub Flavored Markdown 0.29, 5.3) */
+struct mds_task mds_line_task(const void *bytes, size_t length, struct mds_line_start *start);
+
+/* The kinds of alerts. */
+enum mds_alert_kind {
+    MDS_ALERT_NOTE = 1,
+    MDS_ALERT_TIP = 2,
+    MDS_ALERT_IMPORTANT = 3,
+    MDS_ALERT_WARNING = 4,
+    MDS_ALERT_CAUTION = 5
+};
+
+/* An alert, where the status is MDS_OK. */
+struct mds_alert {
+    uint32_t status;
+    uint32_t kind; /* of enum mds_alert_kind */
+};
+
+/* Passes the line of an alert, `[!NOTE]` or another of the names in any case, with the blank rest of its line and the
+ * line ending. MDS_OK; MDS_NOTHING where there is none, and the place stays; MDS_BAD_STATE. It reads those bytes. (An
+ * extension of GitHub) */
+struct mds_alert mds_line_alert(const void *bytes, size_t length, struct mds_line_start *start);
 
 /* ---- Blocks ---- */
 
-/* The length of the thematic break's line at the front with its ending, or MDS_NONE. (4.1) */
-size_t mds_scan_hrule(const uint8_t *bytes, size_t length);
+/* A thematic break. Where there is none `length` is MDS_NONE. */
+struct mds_break {
+    size_t length;      /* bytes of its line, with the ending */
+    size_t none_before; /* of none: no thematic break begins at a place before this one; 0 of a break */
+};
+
+/* The thematic break at the front. Of a line such as `* * * a` each bullet could begin one, and none does: who keeps
+ * `none_before` need not ask again below it, and so reads a line of bullets once. (4.1) */
+struct mds_break mds_scan_hrule(const void *bytes, size_t length);
 
 /* The level, 1 to 6, of the ATX heading at the front, which has as many `#`; 0 where there is none. (4.2) */
-uint32_t mds_scan_atx_heading(const uint8_t *bytes, size_t length);
+uint32_t mds_scan_atx_heading(const void *bytes, size_t length);
 
 /* A setext heading's underline. Where there is none `length` is MDS_NONE. */
 struct mds_underline {
@@ -185,7 +344,7 @@ struct mds_underline {
 };
 
 /* The setext heading underline at the front. (4.3) */
-struct mds_underline mds_scan_setext_heading(const uint8_t *bytes, size_t length);
+struct mds_underline mds_scan_setext_heading(const void *bytes, size_t length);
 
 /* A fence, of code or of metadata. Where there is none `length` is MDS_NONE. */
 struct mds_fence {
@@ -194,75 +353,112 @@ struct mds_fence {
 };
 
 /* The opening code fence at the front; its info string is not taken. (4.5) */
-struct mds_fence mds_scan_code_fence(const uint8_t *bytes, size_t length);
+struct mds_fence mds_scan_code_fence(const void *bytes, size_t length);
 
 /* The length of the closing code fence at the front, with the spaces and tabs behind it and without its line ending, of
  * a fence that was opened by `count` of the byte `fence`; or MDS_NONE. Of no bytes it is 0: the end closes a fence too.
  * (4.5) */
-size_t mds_scan_closing_code_fence(const uint8_t *bytes, size_t length, uint8_t fence, size_t count);
+size_t mds_scan_closing_code_fence(const void *bytes, size_t length, uint8_t fence, size_t count);
 
 /* The opening line of a metadata block, of `---` where `yaml` is true and of `+++` where `pluses` is. Its next line is
  * neither blank nor closes it, and a later one does; they end at LF. (An extension of pulldown-cmark) */
-struct mds_fence mds_scan_metadata_block(const uint8_t *bytes, size_t length, bool yaml, bool pluses);
+struct mds_fence mds_scan_metadata_block(const void *bytes, size_t length, bool yaml, bool pluses);
 
 /* The length of the line at the front that closes a metadata block opened by the byte `fence`, without its line
  * ending, or MDS_NONE. */
-size_t mds_scan_closing_metadata_block(const uint8_t *bytes, size_t length, uint8_t fence);
+size_t mds_scan_closing_metadata_block(const void *bytes, size_t length, uint8_t fence);
 
 /* How a column of a table is aligned. */
 enum mds_alignment { MDS_ALIGN_NONE = 0, MDS_ALIGN_LEFT = 1, MDS_ALIGN_CENTER = 2, MDS_ALIGN_RIGHT = 3 };
 
 /* The delimiter row of a table at the front: `taken` is its length with the line ending, `length` how many columns it
- * has, whose alignments, each a number of enum mds_alignment, stand at the front of the buffer. MDS_NOTHING where there
- * is none. Memory is asked for, where there is one and elsewhere: MDS_NO_MEMORY. (GitHub Flavored Markdown 0.29, 4.10) */
-struct mds_text mds_scan_table_head(const uint8_t *bytes, size_t length, uint8_t *alignments, size_t capacity);
+ * has, whose alignments, each a number of enum mds_alignment, stand at the front of the buffer; `length` bytes are
+ * enough for them. MDS_NOTHING where there is none. Memory is asked for where there is one, or where the line has
+ * nothing but bytes of one, a pipe among them, and its first cell is one: MDS_NO_MEMORY. (GitHub Flavored Markdown
+ * 0.29, 4.10) */
+struct mds_text mds_scan_table_head(const void *bytes, size_t length, uint8_t *alignments, size_t capacity);
 
 /* ---- Parts of inline text ---- */
 
-/* A part of a text, where the status is MDS_OK. It is MDS_NOTHING where there is none; where the text or the place was
- * refused it is the first that holds of MDS_PAST_END, MDS_NOT_UTF8 and MDS_NOT_BOUNDARY. */
+/* A part of the bytes, where the status is MDS_OK. It is MDS_NOTHING where there is none, and MDS_PAST_END where the
+ * place is past the end of the bytes. The bytes need not be UTF-8, and are not tested: each of these calls reads from
+ * its place on, and no byte behind the one that decides. Where they are UTF-8 and the place is between two
+ * characters, so are all places that are told. */
 struct mds_part {
     uint32_t status;
     size_t end;    /* the place behind all that belongs to it */
-    size_t start;  /* the place of its own text */
-    size_t length; /* bytes of its own text */
+    size_t start;  /* the place of its own bytes */
+    size_t length; /* how many they are */
 };
 
-/* The link destination that begins at the place `start`, with or without angle brackets; they are no part of its own
- * text. Parentheses may stand in each other `max_next` + 1 deep. An empty destination without brackets is one too.
+/* The link destination that begins at the place `start`, with or without angle brackets; they are not among its own
+ * bytes. Parentheses may stand in each other `max_next` + 1 deep. An empty destination without brackets is one too.
  * (6.3) */
-struct mds_part mds_scan_link_dest(const uint8_t *text, size_t length, size_t start, size_t max_next);
+struct mds_part mds_scan_link_dest(const void *bytes, size_t length, size_t start, size_t max_next);
 
 /* The absolute URI of the autolink whose `<`, at which the call doesn't look, stands just before the place `start`; the
  * end is behind its `>`. (6.5) */
-struct mds_part mds_scan_autolink(const uint8_t *text, size_t length, size_t start);
+struct mds_part mds_scan_autolink(const void *bytes, size_t length, size_t start);
 
 /* What stands before the first pipe of the `count` bytes from the place `start` on, or of as many as there are; the end
- * is behind the pipe. (An extension of pulldown-cmark) */
-struct mds_part mds_scan_wikilink_pipe(const uint8_t *text, size_t length, size_t start, size_t count);
+ * is behind the pipe. It may read all of these bytes. (An extension of pulldown-cmark) */
+struct mds_part mds_scan_wikilink_pipe(const void *bytes, size_t length, size_t start, size_t count);
+
+/* ---- Texts over lines ---- */
+
+/* What is left out of a text: of a tag or a label that goes on over the lines of a container, the container's markers
+ * and its indent, which are no part of it (5.1, 5.2). At `place`, that of the first byte of a line, behind the line
+ * ending, `length` bytes are left out. A table of skips is an array of them in order of their places. Each stands at a
+ * place of its own, and ends in the text, and where the next one begins or before; a length may be 0. Otherwise the
+ * table is MDS_BAD_SKIPS, and nothing else is told.
+ *
+ * At a line that no skip names nothing is left out, and a skip that stands elsewhere than at the front of a line of
+ * the tag or label says nothing. Places count from the front of what the call is given. No table (null and 0) is for a
+ * text outside of containers. Each call goes through the whole table, so pass the skips of the lines that matter. */
+struct mds_skip {
+    size_t place, length;
+};
 
 /* ---- HTML ---- */
 
 /* Whether an HTML block that one of the names of start condition 6 opens begins here; the bytes are those behind the
  * `<`. (4.6) */
-bool mds_starts_html_block_type_6(const uint8_t *bytes, size_t length);
+bool mds_starts_html_block_type_6(const void *bytes, size_t length);
 
 /* The length of the open or closing tag at the front that stands alone in its line, whatever its name; or MDS_NONE.
  * (4.6, start condition 7) */
-size_t mds_scan_html_type_7(const uint8_t *bytes, size_t length);
+size_t mds_scan_html_type_7(const void *bytes, size_t length);
 
 /* The length of the open or closing tag at the front, which holds no line ending; or MDS_NONE. (6.6) */
-size_t mds_scan_html_tag(const uint8_t *bytes, size_t length);
+size_t mds_scan_html_tag(const void *bytes, size_t length);
+
+/* The open or closing tag at the front, over lines of which the skips are left out; `taken` is its length in the bytes,
+ * MDS_NOTHING where there is none, and MDS_BAD_SKIPS. A closing tag holds at most one line ending. Where bytes inside
+ * it are left out its text, without them, is written, and memory is asked for: MDS_NO_MEMORY. Else `length` is 0: its
+ * text is the first `taken` bytes, and no memory is asked for. `length` is `taken` at most, so a buffer as long as the
+ * input is always enough. A line takes a search in the table: as many steps as `skip_count` has binary digits. (6.6) */
+struct mds_text mds_scan_html_tag_over_lines(
+    const void *bytes, size_t length, const struct mds_skip *skips, size_t skip_count, uint8_t *buffer,
+    size_t capacity);
+
+/* What the scans of one text have searched in vain, so that none of them searches it again. All 0 at first; each call
+ * changes it. Other numbers are safe, but what is there may then be missed. The pointer to it is not null. */
+struct mds_html_guard {
+    size_t comment, cdata, declaration, processing;
+};
 
 /* An end, where the status is MDS_OK. It is MDS_NOTHING where there is none, or MDS_NO_OPENER. */
 struct mds_end {
     uint32_t status;
-    size_t end; /* the place behind the closer */
+    size_t end;    /* the place behind the closer */
+    size_t passed; /* how many bytes were passed over, whether or not there is one */
 };
 
-/* The end of the comment, CDATA section, declaration or processing instruction whose `<!` or `<?` ends at `place`.
- * (6.6) */
-struct mds_end mds_scan_inline_html(const uint8_t *bytes, size_t length, size_t place);
+/* The end of the comment, CDATA section, declaration or processing instruction whose `<!` or `<?` ends at `place`,
+ * under a guard. A guard that is all 0, or that calls with the same bytes at lower places have left, each at or behind
+ * the end that was found before it, misses nothing. k such calls for n bytes pass over 4n + 8k bytes at most, whatever
+ * the bytes, and each n + 8 at most. MDS_NO_OPENER leaves the guard as it was. (6.6) */
+struct mds_end mds_scan_inline_html(const void *bytes, size_t length, size_t place, struct mds_html_guard *guard);
 
 /* What a run found. `count` is at how many places it scanned before it stopped, or 0 where memory was refused. */
 struct mds_html_run {
@@ -270,37 +466,54 @@ struct mds_html_run {
     size_t count;
 };
 
-/* The ends of what begins at each of the places in turn, as mds_scan_inline_html finds them, MDS_NONE where nothing does
- * or where it isn't closed. The scans at k places of a text of n bytes pass over 4n + 8k bytes at most, whatever the
- * text. The run stops before the first place that is refused, for the first reason that holds: MDS_NO_OPENER,
- * MDS_NOT_RISING, or MDS_INSIDE_FIND where it is below the last end; else the status is MDS_OK. In all these cases the
- * ends stand at the front of `ends`; where it has no room for them, for which as many as there are places is enough,
- * nothing is written, and the status is MDS_TOO_SHORT. Memory is asked for: MDS_NO_MEMORY. (6.6) */
+/* The ends of what begins at each of the places in turn, as mds_scan_inline_html finds them, MDS_NONE where nothing
+ * does or where it isn't closed. The scans at k places of a text of n bytes pass over 4n + 8k bytes at most, whatever
+ * the text. The run stops before the first place that is refused, for the first reason that holds: MDS_NO_OPENER,
+ * MDS_NOT_RISING, or MDS_INSIDE_FIND where it is below the last end; else the status is MDS_OK. In all these cases
+ * the ends stand at the front of `ends`; where it has no room for them, for which as many as there are places is
+ * enough, nothing is written, and the status is MDS_TOO_SHORT. Memory is asked for where the first place is not
+ * refused, some for each place: MDS_NO_MEMORY. (6.6) */
 struct mds_html_run mds_run_inline_html(
-    const uint8_t *bytes, size_t length, const size_t *places, size_t place_count, size_t *ends, size_t capacity);
+    const void *bytes, size_t length, const size_t *places, size_t place_count, size_t *ends, size_t capacity);
 
 /* ---- Texts that are made ---- */
 
-/* What the character reference at the front stands for: a decimal or hexadecimal one, or one of the entities `amp`,
- * `lt`, `gt` and `quot`. The first byte is taken for its `&`, whatever it is. Others are MDS_NOTHING. MDS_EMPTY where
- * there are no bytes. (2.5) */
-struct mds_text mds_scan_entity(const uint8_t *bytes, size_t length, uint8_t *buffer, size_t capacity);
+/* What the character reference at the front stands for: a decimal or hexadecimal one, or one of the 2,125 entities of
+ * HTML whose names end in `;`, in the case in which HTML writes them. The first byte is taken for its `&`, whatever it
+ * is. 6 bytes are room enough. Others are MDS_NOTHING. MDS_EMPTY where there are no bytes. (2.5) */
+struct mds_text mds_scan_entity(const void *bytes, size_t length, uint8_t *buffer, size_t capacity);
 
 /* The text with its backslash escapes and the character references of mds_scan_entity resolved; CR are left out. In a
  * cell of a table (`in_table`) two backslashes and a pipe stand for the pipe, where the first of them is not itself
- * escaped: both `\\|` and `\|` give `|`, and `\\\|` gives `\|`. MDS_NOT_UTF8. Memory is asked for where the text
- * changes: MDS_NO_MEMORY. (2.4, 2.5) */
-struct mds_text mds_unescape(const uint8_t *text, size_t length, bool in_table, uint8_t *buffer, size_t capacity);
+ * escaped: both `\\|` and `\|` give `|`, and `\\\|` gives `\|`. `length + length / 5` bytes are room enough, as
+ * `&nGt;` stands for 6. MDS_NOT_UTF8. Memory is asked for where the text changes, as much as it then has:
+ * MDS_NO_MEMORY. (2.4, 2.5) */
+struct mds_text mds_unescape(const void *text, size_t length, bool in_table, uint8_t *buffer, size_t capacity);
 
-/* The link label whose opening bracket stands just before the text: its words, joined by one space; `taken` counts its
- * closing bracket. MDS_NOTHING where there is none, MDS_NOT_UTF8. Labels may go on over lines, of which nothing is
- * left out. In a cell of a table (`in_table`) a pipe loses the backslash just before it. Memory is asked for where the
- * label is not in the text as it is: MDS_NO_MEMORY. (6.3) */
-struct mds_text mds_scan_link_label(const uint8_t *text, size_t length, bool in_table, uint8_t *buffer, size_t capacity);
+/* A label's text for the caller's buffer, as of struct mds_text. */
+struct mds_label {
+    uint32_t status;
+    size_t taken;  /* bytes of the input with the closing bracket */
+    size_t length; /* bytes that it has or needs in the buffer */
+    size_t start;  /* the place in the input where its text stands as it is; MDS_NONE where it stands at none */
+};
+
+/* The link label whose opening bracket stands just before the text: its words, joined by one space. Labels may go on
+ * over lines, of which the skips are left out. MDS_BAD_SKIPS, also where a skip leaves out other bytes than ASCII;
+ * MDS_NOT_UTF8; MDS_NOTHING where there is no label. In a cell of a table (`in_table`) a pipe loses the backslash just
+ * before it. Memory is asked for where `start` is MDS_NONE: MDS_NO_MEMORY. (6.3) */
+struct mds_label mds_scan_link_label(
+    const void *text, size_t length, bool in_table, const struct mds_skip *skips, size_t skip_count, uint8_t *buffer,
+    size_t capacity);
 
 /* Whether two labels, as mds_scan_link_label writes them, match, so that the one refers to what the other defines:
  * MDS_OK or MDS_NOTHING. They do where their full case foldings are equal. MDS_NOT_UTF8. (6.3) */
-uint32_t mds_labels_match(const uint8_t *one, size_t one_length, const uint8_t *other, size_t other_length);
+uint32_t mds_labels_match(const void *one, size_t one_length, const void *other, size_t other_length);
+
+/* The key of a label, its full case folding: two labels match exactly where their keys are the same bytes, so a table
+ * of definitions may be one of keys. `taken` is the label's length. A buffer of three times the label is always enough.
+ * MDS_NOT_UTF8. Memory is asked for: MDS_NO_MEMORY. (6.3) */
+struct mds_text mds_label_key(const void *text, size_t length, uint8_t *buffer, size_t capacity);
 
 #ifdef __cplusplus
 }

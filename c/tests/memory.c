@@ -1,6 +1,6 @@
-/* Memory refused. Five functions may answer MDS_NO_MEMORY: on each of their inputs here the first, second, .. request is refused
+/* Memory refused. Seven functions may answer MDS_NO_MEMORY: on each of their inputs here the first, second, .. request is refused
  * until none is left. The call then answers MDS_NO_MEMORY, tells nothing more and writes nothing, or it has the same answer as
- * with ample memory; and it frees what it was given. The other functions make no request, and neither do these five where the
+ * with ample memory; and it frees what it was given. The other functions make no request, and neither do these seven where the
  * header says so. The linker puts the functions __wrap_.. in the place of the C library's (--wrap). */
 #include "checks.h"
 
@@ -69,18 +69,53 @@ static struct told long_escape(size_t room) {
     return of_text(mds_unescape(given(BYTES, text, LONG), LONG, false, writable(BUFFER, room), room));
 }
 
+static struct told of_label(struct mds_label label) {
+    return (struct told){label.status, {label.taken, label.length, label.start}};
+}
+
 static struct told label(size_t room) {
-    return of_text(mds_scan_link_label(OF("a  b]"), false, writable(BUFFER, room), room));
+    return of_label(mds_scan_link_label(OF("a  b]"), false, NULL, 0, writable(BUFFER, room), room));
 }
 
 static struct told label_in_cell(size_t room) {
-    return of_text(mds_scan_link_label(OF("a\\|b]"), true, writable(BUFFER, room), room));
+    return of_label(mds_scan_link_label(OF("a\\|b]"), true, NULL, 0, writable(BUFFER, room), room));
 }
 
 static struct told long_label(size_t room) {
     static char text[LONG];
     memset(text, 'a', LONG), text[1] = text[2] = ' ', text[LONG - 1] = ']';
-    return of_text(mds_scan_link_label(given(BYTES, text, LONG), LONG, false, writable(BUFFER, room), room));
+    return of_label(
+        mds_scan_link_label(given(BYTES, text, LONG), LONG, false, NULL, 0, writable(BUFFER, room), room));
+}
+
+/* A label over lines, of which one leaves something out. */
+static struct told label_over_lines(size_t room) {
+    static const struct mds_skip skips[] = {{2, 2}};
+    return of_label(mds_scan_link_label(OF("a\n> b]"), false, skips, 1, writable(BUFFER, room), room));
+}
+
+/* A tag over lines, of which one leaves something out. */
+static struct told tag(size_t room) {
+    static const struct mds_skip skips[] = {{5, 2}};
+    return of_text(mds_scan_html_tag_over_lines(OF("<foo\n> bar>"), skips, 1, writable(BUFFER, room), room));
+}
+
+static struct told long_tag(size_t room) {
+    static const struct mds_skip skips[] = {{3, 2}};
+    static char text[LONG];
+    memset(text, ' ', LONG), memcpy(text, "<a\n>", 4), text[LONG - 1] = '>';
+    return of_text(
+        mds_scan_html_tag_over_lines(given(BYTES, text, LONG), LONG, skips, 1, writable(BUFFER, room), room));
+}
+
+static struct told key(size_t room) {
+    return of_text(mds_label_key(OF("A \xe1\xba\x9e"), writable(BUFFER, room), room));
+}
+
+static struct told long_key(size_t room) {
+    static char text[LONG];
+    memset(text, 'A', LONG);
+    return of_text(mds_label_key(given(BYTES, text, LONG), LONG, writable(BUFFER, room), room));
 }
 
 static struct told table(size_t room) {
@@ -194,21 +229,34 @@ static void refuse_each(int line, call_with *call, size_t room, bool exact) {
 
 static void asking(void) {
     ASKS_ONCE(escape), ASKS_ONCE(escape_in_cell), ASKS_ONCE(long_escape);
-    ASKS_ONCE(label), ASKS_ONCE(label_in_cell), ASKS_ONCE(long_label);
+    ASKS_ONCE(label), ASKS_ONCE(label_in_cell), ASKS_ONCE(long_label), ASKS_ONCE(label_over_lines);
+    ASKS_ONCE(tag), ASKS_ONCE(long_tag);
+    ASKS(key), ASKS(long_key);
     ASKS(table), ASKS(wide_table);
     ASKS(html_run), ASKS(long_html_run);
     ASKS(line_run), ASKS(long_line_run);
 }
 
-/* What these five need no memory for. */
+/* What these seven need no memory for. */
 static void sparing(void) {
     ASKS_NOT(mds_unescape(OF("plain"), false, NULL, 0).status, MDS_TOO_SHORT);
     ASKS_NOT(mds_unescape(OF("\xff"), false, NULL, 0).status, MDS_NOT_UTF8);
-    ASKS_NOT(mds_scan_link_label(OF("a b]"), false, NULL, 0).status, MDS_TOO_SHORT);
-    ASKS_NOT(mds_scan_link_label(OF("a  b"), false, NULL, 0).status, MDS_NOTHING);
-    ASKS_NOT(mds_scan_link_label(OF("a  b]\xff"), false, NULL, 0).status, MDS_NOT_UTF8);
+    ASKS_NOT(mds_scan_link_label(OF("a b]"), false, NULL, 0, NULL, 0).status, MDS_TOO_SHORT);
+    ASKS_NOT(mds_scan_link_label(OF("a  b"), false, NULL, 0, NULL, 0).status, MDS_NOTHING);
+    ASKS_NOT(mds_scan_link_label(OF("a  b]\xff"), false, NULL, 0, NULL, 0).status, MDS_NOT_UTF8);
+    ASKS_NOT(mds_scan_link_label(OF("a  b]"), false, (const struct mds_skip[]){{6, 0}}, 1, NULL, 0).status, MDS_BAD_SKIPS);
+    ASKS_NOT(mds_scan_html_tag_over_lines(OF("<a\nb>"), NULL, 0, NULL, 0).status, MDS_OK);
+    ASKS_NOT(mds_scan_html_tag_over_lines(OF("<a\n> b"), (const struct mds_skip[]){{3, 2}}, 1, NULL, 0).status, MDS_NOTHING);
+    ASKS_NOT(mds_scan_html_tag_over_lines(OF("<a\n> b>"), (const struct mds_skip[]){{3, 9}}, 1, NULL, 0).status, MDS_BAD_SKIPS);
+    ASKS_NOT(mds_label_key(OF("\xff"), NULL, 0).status, MDS_NOT_UTF8);
     ASKS_NOT(mds_scan_table_head(OF("a | b"), NULL, 0).status, MDS_NOTHING);
     ASKS_NOT(mds_scan_table_head(OF("- - -"), NULL, 0).status, MDS_NOTHING);
+    ASKS_NOT(mds_scan_table_head(OF("    |-|-|"), NULL, 0).status, MDS_NOTHING);
+    ASKS_NOT(mds_scan_table_head(OF("|-|-| a"), NULL, 0).status, MDS_NOTHING);
+    ASKS_NOT(mds_scan_table_head(OF("|:|-|"), NULL, 0).status, MDS_NOTHING);
+    ASKS_NOT(mds_scan_table_head(OF("||-|"), NULL, 0).status, MDS_NOTHING);
+    ASKS_NOT(mds_run_inline_html(OF("<!a>"), NULL, 0, NULL, 0).status, MDS_OK);
+    ASKS_NOT(mds_run_inline_html(OF("<!a>"), (const size_t[]){1, 2}, 2, NULL, 0).status, MDS_NO_OPENER);
     ASKS_NOT(mds_run_line(OF("x"), (const struct mds_line_call[]){{6, 0}}, 1, NULL, 0, NULL, 0).status, MDS_BAD_KIND);
 }
 
@@ -216,20 +264,38 @@ static void others_on_lines(void) {
     ASKS_NOT(mds_is_whitespace(' '), true);
     ASKS_NOT(mds_is_whitespace_in_line(' '), true);
     ASKS_NOT(mds_is_punctuation('!'), true);
+    ASKS_NOT(mds_is_utf8(OF("\xc3\xa9")), true);
+    ASKS_NOT(mds_scan_ch(OF("#x"), '#'), 1);
+    ASKS_NOT(mds_scan_ch_repeat(OF("##x"), '#'), 2);
     ASKS_NOT(mds_scan_whitespace_in_line(OF("  x")), 2);
     ASKS_NOT(mds_scan_eol(OF("\r\n")), 2);
+    ASKS_NOT(mds_scan_line(OF("a\r\nb")), 3);
     ASKS_NOT(mds_scan_nextline(OF("a\nb")), 2);
     ASKS_NOT(mds_scan_blank_line(OF(" \n")), 2);
     ASKS_NOT(mds_scan_blockquote_start(OF("> a")), 2);
     ASKS_NOT(mds_scan_listitem(OF("- a")).length, 2);
     ASKS_NOT(mds_calc_indent(OF("  a"), 4).columns, 2);
-    ASKS_NOT(mds_scan_hrule(OF("***\n")), 4);
+    ASKS_NOT(mds_scan_hrule(OF("***\n")).length, 4);
     ASKS_NOT(mds_scan_atx_heading(OF("## a")), 2);
     ASKS_NOT(mds_scan_setext_heading(OF("==\n")).length, 3);
     ASKS_NOT(mds_scan_code_fence(OF("```\n")).length, 3);
     ASKS_NOT(mds_scan_closing_code_fence(OF("```\n"), '`', 3), 3);
     ASKS_NOT(mds_scan_metadata_block(OF("---\na\n---\n"), true, false).length, 3);
     ASKS_NOT(mds_scan_closing_metadata_block(OF("---\n"), '-'), 3);
+}
+
+static void others_on_line_starts(void) {
+    struct mds_line_start start = {0};
+    ASKS_NOT(mds_line_quote(OF("> - [x] a"), &start), MDS_OK);
+    ASKS_NOT(mds_line_list(OF("> - [x] a"), &start, 2).indent, 4);
+    ASKS_NOT(mds_line_task(OF("> - [x] a"), &start).checked, true);
+    ASKS_NOT(mds_line_space(OF("> - [x] a"), &start, 1), MDS_OK);
+    ASKS_NOT(mds_line_upto(OF("> - [x] a"), &start, 1).status, MDS_OK);
+    ASKS_NOT(mds_line_all_space(OF("> - [x] a"), &start), MDS_OK);
+    ASKS_NOT(mds_line_eol(OF("> - [x] a"), &start), MDS_NOTHING);
+    start = (struct mds_line_start){0};
+    ASKS_NOT(mds_line_definition(OF(": a"), &start, 0).columns, 2);
+    ASKS_NOT(mds_line_alert(OF(": [!TIP]"), &start).kind, MDS_ALERT_TIP);
 }
 
 static void others_on_texts(void) {
@@ -239,7 +305,8 @@ static void others_on_texts(void) {
     ASKS_NOT(mds_starts_html_block_type_6(OF("div>")), true);
     ASKS_NOT(mds_scan_html_type_7(OF("<a b='c'>\n")), 9);
     ASKS_NOT(mds_scan_html_tag(OF("<a b='c'>")), 9);
-    ASKS_NOT(mds_scan_inline_html(OF("<!-- a -->"), 2).end, 10);
+    struct mds_html_guard guard = {0, 0, 0, 0};
+    ASKS_NOT(mds_scan_inline_html(OF("<!-- a -->"), 2, &guard).end, 10);
     ASKS_NOT(mds_scan_entity(OF("&#x1F354;"), writable(BUFFER, 4), 4).status, MDS_OK);
     ASKS_NOT(mds_labels_match(OF("A b"), OTHER("a B")), MDS_OK);
     ASKS_NOT(mds_labels_match(OF("\xe1\xba\x9e"), OTHER("SS")), MDS_OK);
@@ -247,6 +314,6 @@ static void others_on_texts(void) {
 
 int main(void) {
     asking(), sparing();
-    others_on_lines(), others_on_texts();
+    others_on_lines(), others_on_line_starts(), others_on_texts();
     return report("memory");
 }

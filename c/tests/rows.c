@@ -1,11 +1,22 @@
-/* Each function on worked rows, and on hostile input: no bytes, null pointers, what is not UTF-8, places past the end or
- * inside a character, buffers that are too short. The expected values are worked out by hand from CommonMark 0.31.2 and
- * from what the header says. The runs have a file of their own, runs.c.
+/* Each function on worked rows, and on hostile input: no bytes, null pointers, what is not UTF-8, places past the end,
+ * buffers that are too short. The expected values are worked out by hand from CommonMark 0.31.2 and from what the header
+ * says. The runs have a file of their own, runs.c, and so has what is told of any bytes by places in them, bytes.c.
  *
  * All rows are checked twice, with what they are given at the one edge of its room and at the other. */
 #include "checks.h"
 
 #include <string.h>
+
+/* Each status has its name, and no other number has one. */
+static void status_names(void) {
+    static const char *const names[] = {"MDS_OK", "MDS_NOTHING", "MDS_NOT_UTF8", "MDS_PAST_END", "MDS_BAD_SKIPS",
+        "MDS_TOO_LARGE", "MDS_EMPTY", "MDS_TOO_SHORT", "MDS_NO_MEMORY", "MDS_NO_OPENER", "MDS_NOT_RISING",
+        "MDS_INSIDE_FIND", "MDS_SPACE_PENDING", "MDS_BAD_KIND", "MDS_BAD_STATE"};
+    for (uint32_t status = MDS_OK; status <= MDS_BAD_STATE; status++)
+        SAME(strcmp(mds_status_name(status), names[status]), 0);
+    SAME(strcmp(mds_status_name(MDS_BAD_STATE + 1), "unknown"), 0);
+    SAME(strcmp(mds_status_name(UINT32_MAX), "unknown"), 0);
+}
 
 static void byte_classes(void) {
     for (int byte = 0; byte < 256; byte++) {
@@ -17,6 +28,12 @@ static void byte_classes(void) {
 }
 
 static void lines(void) {
+    SAME(mds_scan_ch(OF("##a"), '#'), 1);
+    SAME(mds_scan_ch(OF("a#"), '#'), 0);
+    SAME(mds_scan_ch(NULL, 0, '#'), 0);
+    SAME(mds_scan_ch_repeat(OF("##a#"), '#'), 2);
+    SAME(mds_scan_ch_repeat(OF("a##"), '#'), 0);
+    SAME(mds_scan_ch_repeat(NULL, 0, 0), 0);
     SAME(mds_scan_whitespace_in_line(OF(" \t\v\fx")), 4);
     SAME(mds_scan_whitespace_in_line(OF(" \n")), 1);
     SAME(mds_scan_whitespace_in_line(NULL, 0), 0);
@@ -79,11 +96,7 @@ static void indents(void) {
     SAME(indent.status, MDS_OK), SAME(indent.place, 0), SAME(indent.columns, 0);
 }
 
-static void breaks_and_headings(void) {
-    SAME(mds_scan_hrule(OF("* * *\n")), 6);
-    SAME(mds_scan_hrule(OF("--")), MDS_NONE);
-    SAME(mds_scan_hrule(OF("- -x-")), MDS_NONE);
-    SAME(mds_scan_hrule(NULL, 0), MDS_NONE);
+static void headings(void) {
     SAME(mds_scan_atx_heading(OF("###")), 3);
     SAME(mds_scan_atx_heading(OF("# a")), 1);
     SAME(mds_scan_atx_heading(OF("#######")), 0);
@@ -134,59 +147,6 @@ static void metadata(void) {
     SAME(mds_scan_closing_metadata_block(NULL, 0, '-'), MDS_NONE);
 }
 
-static void part_is(int line, struct mds_part part, size_t end, size_t start, size_t length) {
-    same(line, "status", part.status, MDS_OK);
-    same(line, "end", part.end, end);
-    same(line, "start", part.start, start);
-    same(line, "length", part.length, length);
-}
-
-static void no_part(int line, struct mds_part part, uint32_t status) {
-    same(line, "status", part.status, status);
-    same(line, "end", part.end, 0);
-    same(line, "start", part.start, 0);
-    same(line, "length", part.length, 0);
-}
-
-#define PART(part, end, start, length) part_is(__LINE__, part, end, start, length)
-#define NO_PART(part, status) no_part(__LINE__, part, status)
-
-static void destinations(void) {
-    PART(mds_scan_link_dest(OF("((a))"), 0, 1), 5, 0, 5);
-    NO_PART(mds_scan_link_dest(OF("(((a)))"), 0, 1), MDS_NOTHING);
-    PART(mds_scan_link_dest(OF("<a\\>b>c"), 0, 9), 6, 1, 4);
-    PART(mds_scan_link_dest(OF("(u)"), 1, 9), 2, 1, 1);
-    PART(mds_scan_link_dest(OF("(a)"), 0, SIZE_MAX), 3, 0, 3);
-    PART(mds_scan_link_dest(OF("[a](<b c>)"), 4, 31), 9, 5, 3);
-    NO_PART(mds_scan_link_dest(OF("<a"), 0, 9), MDS_NOTHING);
-    PART(mds_scan_link_dest(NULL, 0, 0, 9), 0, 0, 0);
-    NO_PART(mds_scan_link_dest(NULL, 0, 1, 9), MDS_PAST_END);
-    NO_PART(mds_scan_link_dest(OF("a"), SIZE_MAX, 9), MDS_PAST_END);
-    NO_PART(mds_scan_link_dest(OF("a\xff"), 0, 9), MDS_NOT_UTF8);
-    NO_PART(mds_scan_link_dest(OF("\xc3\xa9"), 1, 9), MDS_NOT_BOUNDARY);
-    NO_PART(mds_scan_link_dest(OF("\xc3\xa9\xff"), 1, 9), MDS_NOT_UTF8);
-    NO_PART(mds_scan_link_dest(OF("\xff"), 2, 9), MDS_PAST_END);
-    PART(mds_scan_link_dest(OF("\xc3\xa9"), 2, 9), 2, 2, 0);
-}
-
-static void autolinks_and_pipes(void) {
-    PART(mds_scan_autolink(OF("<https://a.b>"), 1), 13, 1, 11);
-    PART(mds_scan_autolink(OF("<ab:>"), 1), 5, 1, 3);
-    NO_PART(mds_scan_autolink(OF("<a:b>"), 1), MDS_NOTHING);
-    NO_PART(mds_scan_autolink(OF("<ab:c d>"), 1), MDS_NOTHING);
-    NO_PART(mds_scan_autolink(NULL, 0, 0), MDS_NOTHING);
-    NO_PART(mds_scan_autolink(OF("<ab:>"), 6), MDS_PAST_END);
-    NO_PART(mds_scan_autolink(OF("ab:\xff>"), 0), MDS_NOT_UTF8);
-    NO_PART(mds_scan_autolink(OF("\xf0\x9f\x8d\x94"), 3), MDS_NOT_BOUNDARY);
-    PART(mds_scan_wikilink_pipe(OF("a|b]]"), 0, 3), 2, 0, 1);
-    PART(mds_scan_wikilink_pipe(OF("[a|b]]"), 1, SIZE_MAX), 3, 1, 1);
-    NO_PART(mds_scan_wikilink_pipe(OF("a|b]]"), 0, 1), MDS_NOTHING);
-    NO_PART(mds_scan_wikilink_pipe(NULL, 0, 0, 9), MDS_NOTHING);
-    NO_PART(mds_scan_wikilink_pipe(OF("a|"), 3, 9), MDS_PAST_END);
-    NO_PART(mds_scan_wikilink_pipe(OF("\x80|"), 0, 9), MDS_NOT_UTF8);
-    NO_PART(mds_scan_wikilink_pipe(OF("\xe2\x82\xac|"), 2, 9), MDS_NOT_BOUNDARY);
-}
-
 static void html(void) {
     SAME(mds_starts_html_block_type_6(OF("DIV>")), true);
     SAME(mds_starts_html_block_type_6(OF("/p/>")), true);
@@ -212,22 +172,28 @@ static void end_is(int line, struct mds_end found, uint32_t status, size_t end) 
 
 #define END(found, status, end) end_is(__LINE__, found, status, end)
 
+/* The end under a guard that is all 0. */
+static struct mds_end first_end(const uint8_t *bytes, size_t length, size_t place) {
+    struct mds_html_guard guard = {0, 0, 0, 0};
+    return mds_scan_inline_html(bytes, length, place, &guard);
+}
+
 static void inline_html(void) {
-    END(mds_scan_inline_html(OF("<!DOCTYPE html>"), 2), MDS_OK, 15);
-    END(mds_scan_inline_html(OF("<![CDATA[a]>b]]>"), 2), MDS_OK, 16);
-    END(mds_scan_inline_html(OF("<!-->"), 2), MDS_OK, 5);
-    END(mds_scan_inline_html(OF("a <?b?>"), 4), MDS_OK, 7);
-    END(mds_scan_inline_html(OF("<!->"), 2), MDS_NOTHING, 0);
-    END(mds_scan_inline_html(OF("<?>"), 2), MDS_NOTHING, 0);
-    END(mds_scan_inline_html(OF("<!"), 1), MDS_NO_OPENER, 0);
-    END(mds_scan_inline_html(OF("<!"), 3), MDS_NO_OPENER, 0);
-    END(mds_scan_inline_html(OF("<!"), SIZE_MAX), MDS_NO_OPENER, 0);
-    END(mds_scan_inline_html(NULL, 0, 0), MDS_NO_OPENER, 0);
-    END(mds_scan_inline_html(NULL, 0, 2), MDS_NO_OPENER, 0);
+    END(first_end(OF("<!DOCTYPE html>"), 2), MDS_OK, 15);
+    END(first_end(OF("<![CDATA[a]>b]]>"), 2), MDS_OK, 16);
+    END(first_end(OF("<!-->"), 2), MDS_OK, 5);
+    END(first_end(OF("a <?b?>"), 4), MDS_OK, 7);
+    END(first_end(OF("<!->"), 2), MDS_NOTHING, 0);
+    END(first_end(OF("<?>"), 2), MDS_NOTHING, 0);
+    END(first_end(OF("<!"), 1), MDS_NO_OPENER, 0);
+    END(first_end(OF("<!"), 3), MDS_NO_OPENER, 0);
+    END(first_end(OF("<!"), SIZE_MAX), MDS_NO_OPENER, 0);
+    END(first_end(NULL, 0, 0), MDS_NO_OPENER, 0);
+    END(first_end(NULL, 0, 2), MDS_NO_OPENER, 0);
 }
 
 /* A call that makes a text, with its input at hand. */
-typedef struct mds_text making(const uint8_t *bytes, size_t length, uint8_t *buffer, size_t capacity);
+typedef struct mds_text making(const void *bytes, size_t length, uint8_t *buffer, size_t capacity);
 
 /* The text is made in a buffer that has room for it, in one with more room, and in none that is shorter. */
 static void makes(
@@ -261,20 +227,24 @@ static void refuses(int line, making *call, const char *input, size_t input_leng
     makes(__LINE__, call, input, sizeof(input) - 1, taken, wanted, sizeof(wanted) - 1)
 #define REFUSES(call, input, status) refuses(__LINE__, call, input, sizeof(input) - 1, status)
 
-static struct mds_text unescape(const uint8_t *bytes, size_t length, uint8_t *buffer, size_t capacity) {
+static struct mds_text unescape(const void *bytes, size_t length, uint8_t *buffer, size_t capacity) {
     return mds_unescape(bytes, length, false, buffer, capacity);
 }
 
-static struct mds_text unescape_cell(const uint8_t *bytes, size_t length, uint8_t *buffer, size_t capacity) {
+static struct mds_text unescape_cell(const void *bytes, size_t length, uint8_t *buffer, size_t capacity) {
     return mds_unescape(bytes, length, true, buffer, capacity);
 }
 
-static struct mds_text label(const uint8_t *bytes, size_t length, uint8_t *buffer, size_t capacity) {
-    return mds_scan_link_label(bytes, length, false, buffer, capacity);
+static struct mds_text of_label(struct mds_label found) {
+    return (struct mds_text){found.status, found.taken, found.length};
 }
 
-static struct mds_text label_in_cell(const uint8_t *bytes, size_t length, uint8_t *buffer, size_t capacity) {
-    return mds_scan_link_label(bytes, length, true, buffer, capacity);
+static struct mds_text label(const void *bytes, size_t length, uint8_t *buffer, size_t capacity) {
+    return of_label(mds_scan_link_label(bytes, length, false, NULL, 0, buffer, capacity));
+}
+
+static struct mds_text label_in_cell(const void *bytes, size_t length, uint8_t *buffer, size_t capacity) {
+    return of_label(mds_scan_link_label(bytes, length, true, NULL, 0, buffer, capacity));
 }
 
 static void references(void) {
@@ -287,8 +257,23 @@ static void references(void) {
     MAKES(mds_scan_entity, "&#x1F354;", 9, "\xf0\x9f\x8d\x94");
     MAKES(mds_scan_entity, "x#65;", 5, "A");
     REFUSES(mds_scan_entity, "&#12345678;", MDS_NOTHING);
-    REFUSES(mds_scan_entity, "&copy;", MDS_NOTHING);
+    MAKES(mds_scan_entity, "&copy;", 6, "\xc2\xa9");
+    MAKES(mds_scan_entity, "&nGt;", 5, "\xe2\x89\xab\xe2\x83\x92");
+    MAKES(mds_scan_entity, "&fjlig;", 7, "fj");
+    MAKES(mds_scan_entity, "&NewLine;", 9, "\n");
+    MAKES(mds_scan_entity, "&CounterClockwiseContourIntegral;", 33, "\xe2\x88\xb3");
+    MAKES(mds_scan_entity, "&AMP;", 5, "&");
+    MAKES(mds_scan_entity, "&auml;&", 6, "\xc3\xa4");
+    MAKES(mds_scan_entity, "&Auml;", 6, "\xc3\x84");
+    MAKES(mds_scan_entity, "&sube;", 6, "\xe2\x8a\x86");
+    MAKES(mds_scan_entity, "&sub;e", 5, "\xe2\x8a\x82");
+    REFUSES(mds_scan_entity, "&Amp;", MDS_NOTHING);
+    REFUSES(mds_scan_entity, "&aUml;", MDS_NOTHING);
+    REFUSES(mds_scan_entity, "&am;", MDS_NOTHING);
+    REFUSES(mds_scan_entity, "&amps;", MDS_NOTHING);
+    REFUSES(mds_scan_entity, "&;", MDS_NOTHING);
     REFUSES(mds_scan_entity, "&amp", MDS_NOTHING);
+    REFUSES(mds_scan_entity, "&copy", MDS_NOTHING);
     REFUSES(mds_scan_entity, "\xff", MDS_NOTHING);
     REFUSES(mds_scan_entity, "", MDS_EMPTY);
     refuses(__LINE__, mds_scan_entity, NULL, 0, MDS_EMPTY);
@@ -297,7 +282,10 @@ static void references(void) {
 static void tables(void) {
     MAKES(mds_scan_table_head, "--|:--:|--:\n", 12, "\0\2\3");
     MAKES(mds_scan_table_head, "|-|:", 4, "\0\1");
+    MAKES(mds_scan_table_head, "-|", 2, "\0");
     REFUSES(mds_scan_table_head, "||-|", MDS_NOTHING);
+    REFUSES(mds_scan_table_head, "|-|:|", MDS_NOTHING);
+    REFUSES(mds_scan_table_head, "|:", MDS_NOTHING);
     REFUSES(mds_scan_table_head, "    -|-", MDS_NOTHING);
     REFUSES(mds_scan_table_head, "", MDS_NOTHING);
     refuses(__LINE__, mds_scan_table_head, NULL, 0, MDS_NOTHING);
@@ -307,6 +295,8 @@ static void unescaping(void) {
     MAKES(unescape, "&amp;lt;", 8, "&lt;");
     MAKES(unescape, "&lt;a&gt; \\*b", 13, "<a> *b");
     MAKES(unescape, "plain", 5, "plain");
+    MAKES(unescape, "&nGt;&nLt;", 10, "\xe2\x89\xab\xe2\x83\x92\xe2\x89\xaa\xe2\x83\x92");
+    MAKES(unescape, "\\&copy; &amp;copy;", 18, "&copy; &copy;");
     MAKES(unescape, "a\r\nb", 4, "a\nb");
     MAKES(unescape, "\\\\|", 3, "\\|");
     MAKES(unescape_cell, "\\\\|", 3, "|");
@@ -319,6 +309,15 @@ static void unescaping(void) {
     REFUSES(unescape, "\xff", MDS_NOT_UTF8);
     REFUSES(unescape, "a\xc3", MDS_NOT_UTF8);
     REFUSES(unescape_cell, "\xed\xa0\x80", MDS_NOT_UTF8);
+}
+
+/* Examples 25 and 28 of CommonMark 0.31.2. */
+static void entities(void) {
+    MAKES(unescape,
+        "&nbsp; &amp; &copy; &AElig; &Dcaron;\n&frac34; &HilbertSpace; &DifferentialD;\n&ClockwiseContourIntegral; &ngE;", 109,
+        "\xc2\xa0 & \xc2\xa9 \xc3\x86 \xc4\x8e\n\xc2\xbe \xe2\x84\x8b \xe2\x85\x86\n\xe2\x88\xb2 \xe2\x89\xa7\xcc\xb8");
+    MAKES(unescape, "&nbsp &x; &#; &#x;\n&#87654321;\n&#abcdef0;\n&ThisIsNotDefined; &hi?;", 66,
+        "&nbsp &x; &#; &#x;\n&#87654321;\n&#abcdef0;\n&ThisIsNotDefined; &hi?;");
 }
 
 static void labels(void) {
@@ -365,14 +364,14 @@ static void matches(void) {
 static void scanners(void) {
     check_rooms();
     lines(), items(), indents();
-    breaks_and_headings(), fences(), metadata();
-    destinations(), autolinks_and_pipes();
+    headings(), fences(), metadata();
     html(), inline_html(), tables();
-    references(), unescaping();
+    references(), entities(), unescaping();
     labels(), long_labels(), matches();
 }
 
 int main(void) {
+    status_names();
     byte_classes();
     scanners();
     at_front = true;

@@ -115,6 +115,7 @@ static void line_runs(void) {
     LINE_RUN("- x", CALLS({MDS_EOL, 0}, {MDS_DEFINITION, SIZE_MAX - 15}), MDS_TOO_LARGE, 0, "- x", ANSWERS({false, 0, 0, 0}));
     LINE_RUN("- x", CALLS({MDS_LIST, SIZE_MAX - 16}), MDS_OK, 2, "x", ANSWERS({true, '-', 0, SIZE_MAX - 14}));
     LINE_RUN("", CALLS({MDS_EOL, 0}), MDS_OK, 0, "", ANSWERS({true, 0, 0, 0}));
+    LINE_RUN("\t\t\t", NONE_OF(struct mds_line_call), MDS_OK, 0, "            ", NONE_OF(struct mds_line_answer));
     LINE_RUN("  x", CALLS({MDS_UPTO, 2}, {MDS_EOL, 0}), MDS_OK, 2, "x", ANSWERS({true, 0, 0, 2}, {false, 0, 0, 0}));
     LINE_RUN("x", CALLS({MDS_EOL, 0}, {6, 0}), MDS_BAD_KIND, 0, "", NONE_OF(struct mds_line_answer));
     LINE_RUN("x", NONE_OF(struct mds_line_call), MDS_OK, 0, "x", NONE_OF(struct mds_line_answer));

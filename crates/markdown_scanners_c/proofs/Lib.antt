@@ -1,1 +1,9 @@
-pub mod Destinations
+pub mod HtmlScans
+pub mod KeyLemmas
+pub mod LabelLemmas
+pub mod Meanings
+pub mod Parts
+pub mod Rests
+pub mod Rows
+pub mod SkipLemmas
+pub mod TagLemmas

@@ -1,5 +1,5 @@
 -- How C is told whether something was found.
-use Rattle.std.specs.Prelude.{ℕ, ◌≡◌, ◌<◌, ◌-◌, ◌^◌, ◌⊎◌}
+use Rattle.std.specs.Prelude.{ℕ, List, ◌≡◌, ◌≤◌, ◌<◌, ◌-◌, ◌^◌, ◌⊎◌, length}
 use Rattle.markdown_values.specs.values.Headings.{heading_number}
 use Rattle.markdown_values.specs.declared.values.HeadingLevel.{HeadingLevel}
 
@@ -11,6 +11,10 @@ none = 2 ^ 64 - 1
 abbrev pub FoundExactly : {A : Type 0} → (A → Type 0) → ℕ → A → Type 0
 FoundExactly P length answer =
     ((length < none) × P answer) ⊎ ((length ≡ none) × ((other : _) → ¬ P other))
+
+-- `MDS_NONE`, or a length or place that the bytes have.
+abbrev pub IsWithin : List ℕ → ℕ → Type 0
+IsWithin bytes found = (found ≡ none) ⊎ (found ≤ length bytes)
 
 -- A number of a level that has the property, or 0 where no level has it.
 abbrev pub FoundLevel : (HeadingLevel → Type 0) → ℕ → Type 0

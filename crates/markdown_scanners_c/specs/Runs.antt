@@ -30,10 +30,11 @@ AreNumbersWritten numbers old new done status =
     ((status ≡ done) × (length numbers ≤ length old) × (new ≡ numbers ++ drop (length numbers) old))
     ⊎ ((status ≡ too_short) × (length old < length numbers) × (new ≡ old))
 
--- The ends of a run are written and counted, with the reason of its stop; or memory was refused.
+-- The ends of a run are written and counted, with the reason of its stop; or memory for some was refused.
 abbrev pub IsHtmlRun : List ℕ → List ℕ → List ℕ → List ℕ → HtmlEnds → Type 0
 IsHtmlRun bytes places old new run =
-    ((run.status ≡ no_memory) × (run.count ≡ 0) × (new ≡ old))
+    ((run.status ≡ no_memory) × (run.count ≡ 0) × (new ≡ old)
+    × (0 < length (run_ends bytes places)))
     ⊎ ((run.count ≡ length (run_ends bytes places))
     × AreNumbersWritten (run_ends bytes places) old new
     (stop_status (run_stop (new_run bytes) 0 places)) run.status)

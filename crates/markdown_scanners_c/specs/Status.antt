@@ -13,13 +13,13 @@ nothing = 1
 abbrev pub not_utf8 : ℕ
 not_utf8 = 2
 
--- the place is past the end of the text
+-- the place is past the end of the bytes
 abbrev pub past_end : ℕ
 past_end = 3
 
--- the place is inside a character
-abbrev pub not_boundary : ℕ
-not_boundary = 4
+-- the table of what is left out is none of the text
+abbrev pub bad_skips : ℕ
+bad_skips = 4
 
 -- a number is so large that others can't be added to it
 abbrev pub too_large : ℕ
@@ -56,3 +56,7 @@ space_pending = 12
 -- a call of no known kind
 abbrev pub bad_kind : ℕ
 bad_kind = 13
+
+-- the numbers are those of no line start on these bytes
+abbrev pub bad_state : ℕ
+bad_state = 14

@@ -1,7 +1,8 @@
 -- Delimiter rows of tables. (GitHub Flavored Markdown 0.29, section 4.10, tables)
-use Rattle.std.specs.Prelude.{ℕ, List, ◌≡◌, ◌⊎◌, map}
+use Rattle.std.specs.Prelude.{ℕ, List, ◌≡◌, ◌⊎◌, map, IsTrue}
 use Rattle.markdown_values.specs.declared.values.Alignment.{Alignment}
 use Rattle.markdown_values.specs.declared.values.Alignment.TheVariants as Aligned
+use Rattle.markdown_scanners_tree.specs.scanners.tables.BegunRow.{begins_row}
 use Rattle.markdown_scanners_tree.specs.scanners.tables.DelimiterRow.{IsDelimiterRow, NoDelimiterRow}
 use Rattle.markdown_scanners_c.specs.Buffer.{IsWritten}
 use Rattle.markdown_scanners_c.specs.Status.{nothing, no_memory}
@@ -15,10 +16,14 @@ alignment_number Aligned.Left = 1
 alignment_number Aligned.Center = 2
 alignment_number Aligned.Right = 3
 
--- No delimiter row at the front; or one, whose alignments are written; or memory was refused.
+-- Memory is asked for: a row stands at the front, or the first cell of what begins as one does.
+abbrev pub AsksMemory : List ℕ → Type 0
+AsksMemory bytes = ¬ (NoDelimiterRow bytes) ⊎ IsTrue (begins_row bytes)
+
+-- No delimiter row at the front; or one, whose alignments are written; or the memory that is asked for was refused.
 unfoldable pub IsTableHead : List ℕ → List ℕ → List ℕ → Text → Type 0
 IsTableHead bytes old new head =
     (IsNoText nothing head × (new ≡ old) × NoDelimiterRow bytes)
-    ⊎ (IsNoText no_memory head × (new ≡ old))
+    ⊎ (IsNoText no_memory head × (new ≡ old) × AsksMemory bytes)
     ⊎ ((alignments : List Alignment) × IsDelimiterRow bytes head.taken alignments
     × IsWritten (map alignment_number alignments) old new head.status head.length)

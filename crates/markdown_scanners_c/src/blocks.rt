@@ -1,10 +1,10 @@
 //! Thematic breaks, headings, code fences and metadata blocks.
-ghost use Rattle.std.specs.Prelude.{◌≡◌, ◌⊎◌, ℕ};
-ghost use Rattle.markdown_scanners_tree.specs.scanners.Breaks.{IsThematicBreakLine};
+ghost use Rattle.std.specs.Prelude.{◌≡◌, ◌≢◌, ◌≤◌, ◌⊎◌, ℕ, length};
+ghost use Rattle.markdown_scanners_tree.specs.scanners.Breaks.{IsThematicBreakLine, NoBreakBefore, break_length};
 ghost use Rattle.markdown_scanners_tree.specs.scanners.Fences.{IsCodeFence, IsClosingCodeFence};
 ghost use Rattle.markdown_scanners_tree.specs.scanners.Headings.{IsAtxHeading, IsSetextUnderline};
 ghost use Rattle.markdown_scanners_tree.specs.scanners.Metadata.{IsMetadataBlock, IsClosingMetadataBlock};
-ghost use Rattle.markdown_scanners_c.specs.Answers.{none, FoundExactly, FoundLevel, FoundWithLevel};
+ghost use Rattle.markdown_scanners_c.specs.Answers.{none, FoundExactly, FoundLevel, FoundWithLevel, IsWithin};
 
 use crate::status::NONE;
 use markdown_scanners_tree::scanners::{
@@ -12,13 +12,33 @@ use markdown_scanners_tree::scanners::{
     scan_hrule, scan_metadata_block, scan_setext_heading,
 };
 
-/// The length of the thematic break's line at the front, or `NONE`. (CommonMark 0.31.2, section
-/// 4.1)
+/// `struct mds_break` of C: the bytes of a thematic break's line, or `NONE`, and a place before
+/// which none begins.
+#[repr(C)]
+pub struct Break {
+    pub length: usize,
+    pub none_before: usize,
+}
+
+/// The thematic break at the front. (CommonMark 0.31.2, section 4.1)
 #[unsafe(no_mangle)]
-pub extern "C" fn mds_scan_hrule(bytes: &[u8]) -> usize
-    ensures { FoundExactly (IsThematicBreakLine bytes.now) result result }
+pub extern "C" fn mds_scan_hrule(bytes: &[u8]) -> Break
+    ensures found { FoundExactly (IsThematicBreakLine bytes.now) result.length result.length }
+    ensures zero { result.length ≢ none → result.none_before ≡ 0 }
+
+    // Of no break: where the scan stopped. No break begins before that place.
+    ensures stopped { result.length ≡ none → result.none_before ≡ break_length bytes.now }
+    ensures none_before { NoBreakBefore bytes.now result.none_before }
+    ensures within { result.none_before ≤ length bytes.now }
 {
-    scan_hrule(bytes).unwrap_or(NONE)
+    let (length, none_before) = match scan_hrule(bytes) {
+        Ok(length) => (length, 0),
+        Err(place) => (NONE, place),
+    };
+    Break {
+        length,
+        none_before,
+    }
 }
 
 /// The level of the ATX heading at the front, or 0. (CommonMark 0.31.2, section 4.2)
@@ -43,6 +63,7 @@ pub struct Underline {
 #[unsafe(no_mangle)]
 pub extern "C" fn mds_scan_setext_heading(bytes: &[u8]) -> Underline
     ensures found { FoundWithLevel (IsSetextUnderline bytes.now) result.length result.level }
+    ensures within { IsWithin bytes.now result.length }
     ensures zero { result.length ≡ none → result.level ≡ 0 }
 {
     match scan_setext_heading(bytes) {
@@ -69,6 +90,7 @@ pub struct Fence {
 pub extern "C" fn mds_scan_code_fence(bytes: &[u8]) -> Fence
     ensures found { FoundExactly (λ (r : ℕ × ℕ). IsCodeFence bytes.now r.0 r.1)
         result.length (result.length, result.byte) }
+    ensures within { IsWithin bytes.now result.length }
     ensures zero { result.length ≡ none → result.byte ≡ 0 }
 {
     match scan_code_fence(bytes) {
@@ -83,7 +105,8 @@ pub extern "C" fn mds_scan_code_fence(bytes: &[u8]) -> Fence
 /// The length of the closing code fence at the front, or `NONE`. (CommonMark 0.31.2, section 4.5)
 #[unsafe(no_mangle)]
 pub extern "C" fn mds_scan_closing_code_fence(bytes: &[u8], fence: u8, count: usize) -> usize
-    ensures { FoundExactly (IsClosingCodeFence bytes.now fence count) result result }
+    ensures found { FoundExactly (IsClosingCodeFence bytes.now fence count) result result }
+    ensures within { IsWithin bytes.now result }
 {
     scan_closing_code_fence(bytes, fence, count).unwrap_or(NONE)
 }
@@ -94,6 +117,7 @@ pub extern "C" fn mds_scan_metadata_block(bytes: &[u8], yaml: bool, pluses: bool
     ensures found { FoundExactly (λ (r : ℕ × ℕ). IsMetadataBlock bytes.now yaml pluses r.1)
         result.length (result.length, result.byte) }
     ensures opening { (result.length ≡ 3) ⊎ (result.length ≡ none) }
+    ensures within { IsWithin bytes.now result.length }
     ensures zero { result.length ≡ none → result.byte ≡ 0 }
 {
     match scan_metadata_block(bytes, yaml, pluses) {
@@ -108,7 +132,8 @@ pub extern "C" fn mds_scan_metadata_block(bytes: &[u8], yaml: bool, pluses: bool
 /// The length of the line that closes a metadata block, or `NONE`.
 #[unsafe(no_mangle)]
 pub extern "C" fn mds_scan_closing_metadata_block(bytes: &[u8], fence: u8) -> usize
-    ensures { FoundExactly (IsClosingMetadataBlock bytes.now fence) result result }
+    ensures found { FoundExactly (IsClosingMetadataBlock bytes.now fence) result result }
+    ensures within { IsWithin bytes.now result }
 {
     scan_closing_metadata_block(bytes, fence).unwrap_or(NONE)
 }

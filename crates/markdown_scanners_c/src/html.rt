@@ -1,14 +1,24 @@
 //! HTML blocks, tags and inline HTML.
-ghost use Rattle.std.specs.Prelude.{◌≡◌, ◌↔◌, ℕ, List, IsTrue};
+ghost use Rattle.std.specs.Prelude.{◌≡◌, ◌↔◌, ◌≤◌, ◌<◌, ◌+◌, ◌^◌, ℕ, List, IsTrue, Some, true, length};
 ghost use Rattle.markdown_scanners_tree.specs.Kept.{KeptByte};
+ghost use Rattle.markdown_scanners_tree.specs.inline_html.Guard.{answer_of_scan, guard_after_scan, text_after_scan, IsTrueGuard, IsTrueScan};
+ghost use Rattle.markdown_scanners_tree.specs.inline_html.InlineHtml.{opener_before, opening_at};
 ghost use Rattle.markdown_scanners_tree.specs.scanners.html_block.HtmlBlock.{IsBlockStart};
 ghost use Rattle.markdown_scanners_tree.specs.scanners.html_tag.HtmlTag.{IsTagAloneInLine};
 ghost use Rattle.markdown_scanners_tree.specs.scanners.html_tag.KeptTag.{IsKeptTag, place_after};
 ghost use Rattle.markdown_scanners_c.specs.Answers.{FoundExactly};
 ghost use Rattle.markdown_scanners_c.specs.Finds.{IsFindEnd};
+ghost use Rattle.markdown_scanners_c.specs.Guards.{scan_guard, new_guard, IsGuardedEnd, IsTrueEnd};
+ghost use Rattle.markdown_scanners_c.specs.Skips.{are_skips, LeavesOut};
+ghost use Rattle.markdown_scanners_c.specs.Tags.{IsTagText, IsScannedTag};
 
-use crate::status::{NO_OPENER, NONE, NOTHING, OK};
-use markdown_scanners_tree::inline_html::InlineHtmlRun;
+use crate::skips::{Skip, are_skips, left_out};
+use crate::status::{BAD_SKIPS, NO_MEMORY, NO_OPENER, NONE, NOTHING, OK};
+use crate::texts::{Text, no_text, write_text};
+use markdown_scanners_tree::inline_html::{
+    CountedText, HtmlScanGuard, scan_inline_html_comment_counted,
+    scan_inline_html_processing_counted,
+};
 use markdown_scanners_tree::scanners::{
     scan_html_block_inner, scan_html_type_7, starts_html_block_type_6,
 };
@@ -44,27 +54,132 @@ pub extern "C" fn mds_scan_html_tag(alloc: Global, bytes: &[u8]) -> usize
     }
 }
 
-/// `struct mds_end` of C: a place, where the status is `OK`.
+/// The tag at the front, over lines of which the skips are left out. (CommonMark 0.31.2, section
+/// 6.6)
+#[unsafe(no_mangle)]
+pub extern "C" fn mds_scan_html_tag_over_lines(
+    alloc: Global,
+    bytes: &[u8],
+    skips: &[Skip],
+    buffer: &mut [u8],
+) -> Text
+    ensures tag { IsScannedTag skips.now bytes.now buffer.old buffer.new result }
+    ensures within { result.taken ≤ length bytes.now }
+    ensures room { result.length ≤ result.taken }
+{
+    if are_skips(skips, bytes) {
+        tag_text(alloc, bytes, skips, buffer)
+    } else {
+        no_text(BAD_SKIPS)
+    }
+}
+
+fn tag_text(alloc: Global, bytes: &[u8], skips: &[Skip], buffer: &mut [u8]) -> Text
+    requires { are_skips skips.now bytes.now ≡ true }
+    ensures tag { IsTagText skips.now bytes.now buffer.old buffer.new result }
+    ensures within { result.taken ≤ length bytes.now }
+    ensures room { result.length ≤ result.taken }
+{
+    let handler = |rest: &[u8]| -> usize
+        ensures { are_skips skips.entry.now bytes.entry.now ≡ true
+            → LeavesOut skips.entry.now bytes.entry.now rest.now result }
+    { left_out(skips, bytes, rest) };
+    match scan_html_block_inner(alloc, bytes, Some(&handler)) {
+        Ok(Some((text, end))) => write_text(&text, end, buffer),
+        Ok(None) => no_text(NOTHING),
+        Err(_) => no_text(NO_MEMORY),
+    }
+}
+
+/// `struct mds_html_guard` of C: `HtmlScanGuard`, number by number.
+#[repr(C)]
+#[derive(Clone, Copy)]
+pub struct Guard {
+    pub comment: usize,
+    pub cdata: usize,
+    pub declaration: usize,
+    pub processing: usize,
+}
+
+/// `struct mds_end` of C: a place, where the status is `OK`, and how many bytes were passed over.
 #[repr(C)]
 pub struct End {
     pub status: u32,
     pub end: usize,
+    pub passed: usize,
 }
 
-/// The end of what a `<!` or `<?` that ends at the place begins. (CommonMark 0.31.2, section 6.6)
+/// The end of what a `<!` or `<?` that ends at the place begins, under a guard, which remembers
+/// what it searched in vain. (CommonMark 0.31.2, section 6.6)
 #[unsafe(no_mangle)]
-pub extern "C" fn mds_scan_inline_html(bytes: &[u8], place: usize) -> End
-    ensures { IsFindEnd bytes.now place result }
+pub extern "C" fn mds_scan_inline_html(bytes: &[u8], place: usize, guard: &mut Guard) -> End
+    // Under any guard.
+    ensures scan { IsGuardedEnd bytes.now place guard.old guard.new result }
+
+    // Under a true one, as the first one is.
+    ensures finds { IsTrueGuard bytes.now (scan_guard guard.old) place
+        → IsTrueEnd bytes.now place guard.new result }
+    ensures first { guard.old ≡ new_guard → IsTrueEnd bytes.now place guard.new result }
 {
-    match InlineHtmlRun::new(bytes).step(place) {
-        Ok(Some(end)) => End { status: OK, end },
-        Ok(None) => End {
-            status: NOTHING,
-            end: 0,
-        },
-        Err(_) => End {
+    let mut text = CountedText::new(bytes);
+    let Some(mark) = text.opener_before(place) else {
+        return End {
             status: NO_OPENER,
             end: 0,
+            passed: 0,
+        };
+    };
+    let mut stops = HtmlScanGuard {
+        comment: guard.comment,
+        cdata: guard.cdata,
+        declaration: guard.declaration,
+        processing: guard.processing,
+    };
+    let found = scan_after(mark, &mut text, place, &mut stops);
+    *guard = Guard {
+        comment: stops.comment,
+        cdata: stops.cdata,
+        declaration: stops.declaration,
+        processing: stops.processing,
+    };
+    let passed = text.passed() as usize;
+    match found {
+        Some(end) => End {
+            status: OK,
+            end,
+            passed,
         },
+        None => End {
+            status: NOTHING,
+            end: 0,
+            passed,
+        },
+    }
+}
+
+// Scans what begins at the place, just after an opener with this mark.
+fn scan_after(
+    mark: u8,
+    text: &mut CountedText,
+    place: usize,
+    guard: &mut HtmlScanGuard,
+) -> Option<usize>
+    requires room { text.old.passed < 2 ^ 119 }
+    requires opener { opener_before text.old.text place ≡ Some mark }
+
+    // What every guard gives.
+    ensures answer { result ≡ answer_of_scan opening_at text.old.text guard.old place }
+    ensures guards { guard.new ≡ guard_after_scan opening_at text.old.text guard.old place }
+    ensures counts { text.new ≡ text_after_scan opening_at text.old guard.old place }
+    ensures bound { text.new.passed ≤ text.old.passed + length text.old.text + 8 }
+
+    // What a true guard gives.
+    ensures finds { IsTrueGuard text.old.text guard.old place
+        → IsTrueScan text.old.text place result guard.new }
+{
+    if mark == b'!' {
+        scan_inline_html_comment_counted(text, place, guard)
+    } else {
+        scan_inline_html_processing_counted(text, place, guard)
     }
 }

@@ -1,38 +1,22 @@
 //! Link destinations, autolinks and pipes of wikilinks.
-ghost use Rattle.std.specs.Prelude.{◌≡◌, ◌≤◌, ◌+◌, ℕ, List, drop, take, length, IfOk, IfErr, IfSome, IfNone};
-ghost use Rattle.std.specs.Str.{IsCharBoundary};
-ghost use Rattle.markdown_scanners_tree.specs.scanners.links.LinkDestination.{IsLinkDestination};
-ghost use Rattle.markdown_scanners_c.specs.Parts.{IsNoPart, IsUriPart, IsPipePart, IsDestinationPart};
-ghost use Rattle.markdown_scanners_c.specs.TextPlace.{IsTextPlace, IsTextFault, IsAnswerAt};
+ghost use Rattle.std.specs.Prelude.{◌≤◌, ◌+◌, length};
+ghost use Rattle.markdown_scanners_c.specs.Status.{past_end};
+ghost use Rattle.markdown_scanners_c.specs.Parts.{IsNoPart, IsUriPart, IsPipePart, IsDestinationPart, IsCutFromText};
+ghost use Rattle.markdown_scanners_c.specs.TextPlace.{IsAnswerAt};
 
-use crate::status::{NOT_BOUNDARY, NOT_UTF8, NOTHING, OK, PAST_END};
-use markdown_scanners_tree::scanners::{scan_autolink, scan_link_dest, scan_wikilink_pipe};
+use crate::status::{NOTHING, OK, PAST_END};
+use markdown_scanners_tree::scanners::{
+    scan_autolink_bytes, scan_link_dest_bytes, scan_wikilink_pipe_bytes,
+};
 
-/// `struct mds_part` of C: a part of a text, in bytes from its front, where the status is `OK`.
+/// `struct mds_part` of C: a part of the bytes, by places from their front, where the status is
+/// `OK`.
 #[repr(C)]
 pub struct Part {
     pub status: u32,
     pub end: usize,
     pub start: usize,
     pub length: usize,
-}
-
-/// The bytes as a text between two of whose characters the place is.
-pub(crate) fn text_at(bytes: &[u8], place: usize) -> Result<&str, u32>
-    ensures text { IfOk result (λ text. (text.now ≡ bytes.now) × IsTextPlace bytes.now place) }
-    ensures fault { IfErr result (IsTextFault bytes.now place) }
-{
-    if place > bytes.len() {
-        return Err(PAST_END);
-    }
-    let Ok(text) = str::from_utf8(bytes) else {
-        return Err(NOT_UTF8);
-    };
-    if text.is_char_boundary(place) {
-        Ok(text)
-    } else {
-        Err(NOT_BOUNDARY)
-    }
 }
 
 // No part, but a status.
@@ -48,86 +32,72 @@ fn no_part(status: u32) -> Part
 }
 
 /// The link destination that begins at the place. (CommonMark 0.31.2, section 6.3)
+#[tactic(auto, unfolding(crate::specs::Parts::IsDestinationPart))]
 #[unsafe(no_mangle)]
-pub extern "C" fn mds_scan_link_dest(text: &[u8], start: usize, max_next: usize) -> Part
-    ensures { IsAnswerAt text.now start (λ status. IsNoPart status result)
-        (IsDestinationPart (max_next + 1) text.now start result) }
+pub extern "C" fn mds_scan_link_dest(bytes: &[u8], start: usize, max_next: usize) -> Part
+    ensures part { IsAnswerAt bytes.now start (IsNoPart past_end result)
+        (IsDestinationPart (max_next + 1) bytes.now start result) }
+    ensures within { (result.start + result.length ≤ result.end)
+        × (result.end ≤ length bytes.now) }
+    ensures boundary { IsCutFromText bytes.now start result }
 {
-    match text_at(text, start) {
-        Ok(text) => destination_part(text, start, max_next),
-        Err(status) => no_part(status),
+    if start > bytes.len() {
+        return no_part(PAST_END);
     }
-}
-
-#[tactic(auto, using(crate::proofs::Destinations::destinations), unfolding(crate::specs::Parts::IsDestinationPart))]
-fn destination_part(text: &str, start: usize, max_next: usize) -> Part
-    requires { IsCharBoundary text.now start }
-    ensures { IsDestinationPart (max_next + 1) text.now start result }
-{
-    let Some((taken, destination)) = scan_link_dest(text, start, max_next) else {
-        return no_part(NOTHING);
-    };
-    let length = destination.len();
-    let from = if length < taken { start + 1 } else { start };
-    Part {
-        status: OK,
-        end: start + taken,
-        start: from,
-        length,
+    match scan_link_dest_bytes(&bytes[start..], max_next) {
+        Some((taken, raw)) => Part {
+            status: OK,
+            end: start + taken,
+            start: start + raw.start,
+            length: raw.end - raw.start,
+        },
+        None => no_part(NOTHING),
     }
 }
 
 /// The URI of the autolink whose `<` stands before the place. (CommonMark 0.31.2, section 6.5)
-#[unsafe(no_mangle)]
-pub extern "C" fn mds_scan_autolink(text: &[u8], start: usize) -> Part
-    ensures { IsAnswerAt text.now start (λ status. IsNoPart status result)
-        (IsUriPart text.now start result) }
-{
-    match text_at(text, start) {
-        Ok(text) => uri_part(text, start),
-        Err(status) => no_part(status),
-    }
-}
-
 #[tactic(auto, unfolding(crate::specs::Parts::IsUriPart))]
-fn uri_part(text: &str, start: usize) -> Part
-    requires { IsCharBoundary text.now start }
-    ensures { IsUriPart text.now start result }
+#[unsafe(no_mangle)]
+pub extern "C" fn mds_scan_autolink(bytes: &[u8], start: usize) -> Part
+    ensures part { IsAnswerAt bytes.now start (IsNoPart past_end result)
+        (IsUriPart bytes.now start result) }
+    ensures within { (result.start + result.length ≤ result.end)
+        × (result.end ≤ length bytes.now) }
+    ensures boundary { IsCutFromText bytes.now start result }
 {
-    match scan_autolink(text, start) {
-        Some((end, _, _)) => Part {
+    if start > bytes.len() {
+        return no_part(PAST_END);
+    }
+    match scan_autolink_bytes(&bytes[start..]) {
+        Some(length) => Part {
             status: OK,
-            end,
+            end: start + length + 1,
             start,
-            length: end - 1 - start,
+            length,
         },
         None => no_part(NOTHING),
     }
 }
 
 /// What stands before the first pipe of so many bytes.
-#[unsafe(no_mangle)]
-pub extern "C" fn mds_scan_wikilink_pipe(text: &[u8], start: usize, count: usize) -> Part
-    ensures { IsAnswerAt text.now start (λ status. IsNoPart status result)
-        (IsPipePart text.now start count result) }
-{
-    match text_at(text, start) {
-        Ok(text) => pipe_part(text, start, count),
-        Err(status) => no_part(status),
-    }
-}
-
 #[tactic(auto, unfolding(crate::specs::Parts::IsPipePart))]
-fn pipe_part(text: &str, start: usize, count: usize) -> Part
-    requires { IsCharBoundary text.now start }
-    ensures { IsPipePart text.now start count result }
+#[unsafe(no_mangle)]
+pub extern "C" fn mds_scan_wikilink_pipe(bytes: &[u8], start: usize, count: usize) -> Part
+    ensures part { IsAnswerAt bytes.now start (IsNoPart past_end result)
+        (IsPipePart bytes.now start count result) }
+    ensures within { (result.start + result.length ≤ result.end)
+        × (result.end ≤ length bytes.now) }
+    ensures boundary { IsCutFromText bytes.now start result }
 {
-    match scan_wikilink_pipe(text, start, count) {
-        Some((end, before)) => Part {
+    if start > bytes.len() {
+        return no_part(PAST_END);
+    }
+    match scan_wikilink_pipe_bytes(&bytes[start..], count) {
+        Some(before) => Part {
             status: OK,
-            end,
+            end: start + before + 1,
             start,
-            length: before.len(),
+            length: before,
         },
         None => no_part(NOTHING),
     }

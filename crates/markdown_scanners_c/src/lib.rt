@@ -4,10 +4,13 @@
 mod blocks;
 mod html;
 mod inline;
+mod keys;
 mod labels;
 mod line_runs;
+mod line_starts;
 mod lines;
 mod runs;
+mod skips;
 mod status;
 mod tables;
 mod texts;

@@ -1,5 +1,5 @@
 //! Runs of calls on the start of a line.
-ghost use Rattle.std.specs.Prelude.{◌≡◌, length, map, IfOk};
+ghost use Rattle.std.specs.Prelude.{◌≡◌, ◌≤◌, ◌*◌, length, map, IfOk};
 ghost use Rattle.std.specs.List.{list_all};
 ghost use Rattle.markdown_scanners_tree.specs.line.run.PlainRun.{plain_run, indexed_stop, rest_after, scanned_after};
 ghost use Rattle.markdown_scanners_c.specs.LineRuns.{IsNoRun, is_known, line_call, answer_of, run_status, AreWritten, IsMadeRun, IsLineRun};
@@ -56,7 +56,8 @@ pub extern "C" fn mds_run_line(
     answers: &mut [Answer],
     rest: &mut [u8],
 ) -> LineEnds
-    ensures { IsLineRun bytes.now calls.now answers.old answers.new rest.old rest.new result }
+    ensures run { IsLineRun bytes.now calls.now answers.old answers.new rest.old rest.new result }
+    ensures room { (result.count ≤ length calls.now) × (result.rest ≤ 4 * length bytes.now) }
 {
     if are_known(calls) {
         made_run(alloc, bytes, calls, answers, rest)
@@ -80,8 +81,9 @@ fn made_run(
     answers: &mut [Answer],
     rest: &mut [u8],
 ) -> LineEnds
-    ensures { IsMadeRun bytes.now (plain_run bytes.now (map line_call calls.now))
+    ensures run { IsMadeRun bytes.now (plain_run bytes.now (map line_call calls.now))
         answers.old answers.new rest.old rest.new result }
+    ensures room { (result.count ≤ length calls.now) × (result.rest ≤ 4 * length bytes.now) }
 {
     match run_of(alloc, bytes, calls) {
         Ok((run, made)) => told(&run, &made, answers, rest),

@@ -1,18 +1,19 @@
-//! Bytes, line endings, blank lines, indents, and markers of block quotes and list items.
-ghost use Rattle.std.specs.Prelude.{◌≡◌, ◌≤◌, ◌<◌, ◌/◌, ◌⊎◌, ℕ, Some};
+//! Bytes, lines, line endings, blank lines, indents, and markers of block quotes and list items.
+ghost use Rattle.std.specs.Prelude.{◌≡◌, ◌≤◌, ◌<◌, ◌/◌, ◌↔◌, ◌⊎◌, ◌==◌, ℕ, Some, length, IsTrue, if◌then◌else◌};
 ghost use Rattle.std.specs.List.{prefix_len};
-ghost use Rattle.markdown_scanners_tree.specs.Bytes.{IsBlankLine, is_white_space, is_white_space_in_line, is_punctuation, line_ending};
+ghost use Rattle.std.specs.Str.{IsUtf8};
+ghost use Rattle.markdown_scanners_tree.specs.Bytes.{IsBlankLine, begins_with, is_white_space, is_white_space_in_line, is_punctuation, line_ending, line_length};
 ghost use Rattle.markdown_scanners_tree.specs.scanners.Indent.{IsIndent};
 ghost use Rattle.markdown_scanners_tree.specs.scanners.Lines.{next_line, IsBlockQuoteStart};
 ghost use Rattle.markdown_scanners_tree.specs.scanners.list_items.ListItem.{IsListItem};
-ghost use Rattle.markdown_scanners_c.specs.Answers.{none, FoundExactly};
+ghost use Rattle.markdown_scanners_c.specs.Answers.{none, FoundExactly, IsWithin};
 ghost use Rattle.markdown_scanners_c.specs.Status.{ok, too_large};
 
 use crate::status::{NONE, OK, TOO_LARGE};
 use markdown_scanners_tree::scanners::{
     calc_indent, is_ascii_punctuation, is_ascii_whitespace, is_ascii_whitespace_no_nl,
-    scan_blank_line, scan_blockquote_start, scan_eol, scan_listitem, scan_nextline,
-    scan_whitespace_no_nl,
+    scan_blank_line, scan_blockquote_start, scan_ch, scan_ch_repeat, scan_eol, scan_line,
+    scan_listitem, scan_nextline, scan_whitespace_no_nl,
 };
 
 /// Space, tab, LF, VT, FF or CR. (CommonMark 0.31.2, section 2.1)
@@ -39,10 +40,37 @@ pub extern "C" fn mds_is_punctuation(byte: u8) -> bool
     is_ascii_punctuation(byte)
 }
 
+/// Whether the bytes are UTF-8.
+#[unsafe(no_mangle)]
+pub extern "C" fn mds_is_utf8(bytes: &[u8]) -> bool
+    ensures { IsTrue result ↔ IsUtf8 bytes.now }
+{
+    str::from_utf8(bytes).is_ok()
+}
+
+/// 1 where the first byte is this one, else 0.
+#[unsafe(no_mangle)]
+pub extern "C" fn mds_scan_ch(bytes: &[u8], byte: u8) -> usize
+    ensures first { result ≡ (if begins_with (λ b. b == byte) bytes.now then 1 else 0) }
+    ensures within { result ≤ length bytes.now }
+{
+    scan_ch(bytes, byte)
+}
+
+/// How many of this byte stand at the front.
+#[unsafe(no_mangle)]
+pub extern "C" fn mds_scan_ch_repeat(bytes: &[u8], byte: u8) -> usize
+    ensures run { result ≡ prefix_len (λ b. b == byte) bytes.now }
+    ensures within { result ≤ length bytes.now }
+{
+    scan_ch_repeat(bytes, byte)
+}
+
 /// How many bytes of white space that ends no line stand at the front.
 #[unsafe(no_mangle)]
 pub extern "C" fn mds_scan_whitespace_in_line(bytes: &[u8]) -> usize
-    ensures { result ≡ prefix_len is_white_space_in_line bytes.now }
+    ensures run { result ≡ prefix_len is_white_space_in_line bytes.now }
+    ensures within { result ≤ length bytes.now }
 {
     scan_whitespace_no_nl(bytes)
 }
@@ -50,15 +78,27 @@ pub extern "C" fn mds_scan_whitespace_in_line(bytes: &[u8]) -> usize
 /// The length of the line ending at the front, or `NONE`. (CommonMark 0.31.2, section 2.1)
 #[unsafe(no_mangle)]
 pub extern "C" fn mds_scan_eol(bytes: &[u8]) -> usize
-    ensures { FoundExactly (λ n. line_ending bytes.now ≡ Some n) result result }
+    ensures found { FoundExactly (λ n. line_ending bytes.now ≡ Some n) result result }
+    ensures within { IsWithin bytes.now result }
 {
     scan_eol(bytes).unwrap_or(NONE)
 }
 
-/// The place behind the first LF, or the length.
+/// The length of the line at the front, with its ending. (CommonMark 0.31.2, section 2.1)
+#[unsafe(no_mangle)]
+pub extern "C" fn mds_scan_line(bytes: &[u8]) -> usize
+    ensures line { result ≡ line_length bytes.now }
+    ensures within { result ≤ length bytes.now }
+    ensures rises { 0 < length bytes.now → 0 < result }
+{
+    scan_line(bytes)
+}
+
+/// The place behind the first LF, or the length; a CR ends no line here.
 #[unsafe(no_mangle)]
 pub extern "C" fn mds_scan_nextline(bytes: &[u8]) -> usize
-    ensures { result ≡ next_line bytes.now }
+    ensures line { result ≡ next_line bytes.now }
+    ensures within { result ≤ length bytes.now }
 {
     scan_nextline(bytes)
 }
@@ -66,7 +106,8 @@ pub extern "C" fn mds_scan_nextline(bytes: &[u8]) -> usize
 /// The length of the blank line at the front, or `NONE`. (CommonMark 0.31.2, section 2.1)
 #[unsafe(no_mangle)]
 pub extern "C" fn mds_scan_blank_line(bytes: &[u8]) -> usize
-    ensures { FoundExactly (IsBlankLine bytes.now) result result }
+    ensures found { FoundExactly (IsBlankLine bytes.now) result result }
+    ensures within { IsWithin bytes.now result }
 {
     scan_blank_line(bytes).unwrap_or(NONE)
 }
@@ -74,7 +115,8 @@ pub extern "C" fn mds_scan_blank_line(bytes: &[u8]) -> usize
 /// The length of the block quote marker at the front, or `NONE`. (CommonMark 0.31.2, section 5.1)
 #[unsafe(no_mangle)]
 pub extern "C" fn mds_scan_blockquote_start(bytes: &[u8]) -> usize
-    ensures { FoundExactly (IsBlockQuoteStart bytes.now) result result }
+    ensures found { FoundExactly (IsBlockQuoteStart bytes.now) result result }
+    ensures within { IsWithin bytes.now result }
 {
     scan_blockquote_start(bytes).unwrap_or(NONE)
 }
@@ -93,6 +135,7 @@ pub struct ListItem {
 pub extern "C" fn mds_scan_listitem(bytes: &[u8]) -> ListItem
     ensures found { FoundExactly (λ (r : ℕ × ℕ × ℕ × ℕ). IsListItem bytes.now r.0 r.1 r.2 r.3)
         result.length (result.length, result.delimiter, result.start, result.indent) }
+    ensures within { IsWithin bytes.now result.length }
     ensures zeros { result.length ≡ none
         → (result.delimiter ≡ 0) × (result.start ≡ 0) × (result.indent ≡ 0) }
 {
@@ -123,10 +166,11 @@ pub struct Indent {
 /// The columns of spaces and tabs at the front, up to a limit. (CommonMark 0.31.2, section 2.2)
 #[unsafe(no_mangle)]
 pub extern "C" fn mds_calc_indent(bytes: &[u8], max: usize) -> Indent
-    ensures { ((result.status ≡ ok) × (max ≤ usize.MAX / 4)
+    ensures indent { ((result.status ≡ ok) × (max ≤ usize.MAX / 4)
         × IsIndent bytes.now max result.place result.columns)
         ⊎ ((result.status ≡ too_large) × (result.place ≡ 0) × (result.columns ≡ 0)
         × (usize.MAX / 4 < max)) }
+    ensures within { result.place ≤ length bytes.now }
 {
     if max > usize::MAX / 4 {
         return Indent {

@@ -1,5 +1,5 @@
 //! Runs of scans of inline HTML.
-ghost use Rattle.std.specs.Prelude.{◌≡◌, ◌≤◌, ◌+◌, ◌*◌, length, take, IfOk};
+ghost use Rattle.std.specs.Prelude.{◌≡◌, ◌≤◌, ◌<◌, ◌+◌, ◌*◌, length, take, IfOk, OnErr};
 ghost use Rattle.markdown_scanners_tree.specs.inline_html.run.Passed.{bytes_passed};
 ghost use Rattle.markdown_scanners_tree.specs.inline_html.run.Run.{new_run, run_stop};
 ghost use Rattle.markdown_scanners_c.specs.Runs.{end_number, stop_status, run_ends, AreNumbersWritten, IsHtmlRun};
@@ -26,6 +26,7 @@ pub extern "C" fn mds_run_inline_html(
     ensures run { IsHtmlRun bytes.now places.now ends.old ends.new result }
     ensures budget { bytes_passed bytes.now (take result.count places.now)
         ≤ 4 * length bytes.now + 8 * result.count }
+    ensures room { result.count ≤ length places.now }
 {
     match ends_of(alloc, bytes, places) {
         Ok((found, done)) => HtmlEnds {
@@ -56,8 +57,13 @@ fn ends_of(alloc: Global, bytes: &[u8], places: &[usize]) -> Result<(Vec<usize>,
     ensures status { IfOk result (λ r. r.1 ≡ stop_status (run_stop (new_run bytes.now) 0 places.now)) }
     ensures budget { IfOk result (λ r. bytes_passed bytes.now (take (length r.0.items) places.now)
         ≤ 4 * length bytes.now + 8 * length r.0.items) }
+    ensures count { IfOk result (λ r. length r.0.items ≤ length places.now) }
+    ensures asked { OnErr result (0 < length (run_ends bytes.now places.now)) }
 {
     let run = run_inline_html(alloc, bytes, places)?;
+    if run.answers.is_empty() {
+        return Ok((Vec::new(alloc), status_of(&run.stop)));
+    }
     let ends: Vec<usize> = run
         .answers
         .iter()

@@ -6,10 +6,10 @@ pub(crate) const OK: u32 = 0;
 pub(crate) const NOTHING: u32 = 1;
 /// The text is not UTF-8.
 pub(crate) const NOT_UTF8: u32 = 2;
-/// The place is past the end of the text.
+/// The place is past the end of the bytes.
 pub(crate) const PAST_END: u32 = 3;
-/// The place is inside a character.
-pub(crate) const NOT_BOUNDARY: u32 = 4;
+/// The table of what is left out is none of the text.
+pub(crate) const BAD_SKIPS: u32 = 4;
 /// A number is so large that others can't be added to it.
 pub(crate) const TOO_LARGE: u32 = 5;
 /// The bytes are empty.
@@ -28,6 +28,8 @@ pub(crate) const INSIDE_FIND: u32 = 11;
 pub(crate) const SPACE_PENDING: u32 = 12;
 /// A call of no known kind.
 pub(crate) const BAD_KIND: u32 = 13;
+/// The numbers are those of no line start on these bytes.
+pub(crate) const BAD_STATE: u32 = 14;
 
 /// In place of a length or a place, where nothing is found.
 pub(crate) const NONE: usize = usize::MAX;

@@ -1,0 +1,265 @@
+/* What takes any bytes and is told by places in them: lines, thematic breaks, link destinations, autolinks, pipes of
+ * wikilinks, and whether bytes are UTF-8. On worked rows and on hostile input, as rows.c has it, on all short strings over a
+ * few bytes, and on long ones of which only the front can be read. The expected values are worked out by hand from
+ * CommonMark 0.31.2, or computed here in its words. */
+#define _DEFAULT_SOURCE
+#include "checks.h"
+
+#include <stdio.h>
+#include <stdlib.h>
+#include <string.h>
+#include <sys/mman.h>
+
+static void texts(void) {
+    SAME(mds_is_utf8(NULL, 0), true);
+    SAME(mds_is_utf8(OF("a\0b")), true);
+    SAME(mds_is_utf8(OF("\xc3\xa9\xe2\x82\xac\xf0\x9f\x8d\x94")), true);
+    SAME(mds_is_utf8(OF("\xf4\x8f\xbf\xbf")), true);
+    SAME(mds_is_utf8(OF("\xf4\x90\x80\x80")), false);
+    SAME(mds_is_utf8(OF("\xed\xa0\x80")), false);
+    SAME(mds_is_utf8(OF("\xc0\x80")), false);
+    SAME(mds_is_utf8(OF("\xe0\x80\x80")), false);
+    SAME(mds_is_utf8(OF("a\xc3")), false);
+    SAME(mds_is_utf8(OF("a\xff")), false);
+    SAME(mds_is_utf8(OF("\x80")), false);
+}
+
+/* LF, CR LF and CR end a line, and nothing else does. (2.1) */
+static void lines(void) {
+    SAME(mds_scan_line(OF("a\nb")), 2);
+    SAME(mds_scan_line(OF("a\r\nb")), 3);
+    SAME(mds_scan_line(OF("a\rb\n")), 2);
+    SAME(mds_scan_line(OF("a")), 1);
+    SAME(mds_scan_line(OF("\n\n")), 1);
+    SAME(mds_scan_line(OF("\n\r")), 1);
+    SAME(mds_scan_line(OF("\r\r\n")), 1);
+    SAME(mds_scan_line(OF("\r\n")), 2);
+    SAME(mds_scan_line(OF("\r")), 1);
+    SAME(mds_scan_line(OF("a\0b\n")), 4);
+    SAME(mds_scan_line(OF("a\v\f\x85\xe2\x80\xa8\n.")), 8);
+    SAME(mds_scan_line(OF("a line of more bytes than a vector has, which goes on\r\n.")), 55);
+    SAME(mds_scan_line(NULL, 0), 0);
+}
+
+/* A line: what stands before the first LF or CR, and that ending; CR LF is one. (2.1) */
+static size_t length_of_line(const char *bytes, size_t length) {
+    size_t end = 0;
+    while (end < length && bytes[end] != '\n' && bytes[end] != '\r')
+        end++;
+    if (end == length)
+        return length;
+    bool is_cr_lf = bytes[end] == '\r' && end + 1 < length && bytes[end + 1] == '\n';
+    return end + (is_cr_lf ? 2 : 1);
+}
+
+/* A thematic break: three or more of one marker, with nothing but spaces and tabs between and behind them. (4.1) */
+static bool is_break(const char *bytes, size_t length) {
+    size_t markers = 0;
+    if (length == 0 || !strchr("*-_", bytes[0]))
+        return false;
+    for (size_t i = 0; i < length && bytes[i] != '\n' && bytes[i] != '\r'; i++) {
+        if (bytes[i] == bytes[0])
+            markers++;
+        else if (bytes[i] != ' ' && bytes[i] != '\t')
+            return false;
+    }
+    return markers >= 3;
+}
+
+static void check_line(const char *bytes, size_t length) {
+    size_t place = 0;
+    const uint8_t *put = given(BYTES, bytes, length);
+    while (place < length) {
+        size_t line = mds_scan_line(put + place, length - place);
+        SAME(line, length_of_line(bytes + place, length - place));
+        place += line ? line : length;
+    }
+    SAME(place, length);
+}
+
+static void check_break(const char *bytes, size_t length) {
+    const uint8_t *put = given(BYTES, bytes, length);
+    struct mds_break found = mds_scan_hrule(put, length);
+    SAME(found.length, is_break(bytes, length) ? length_of_line(bytes, length) : MDS_NONE);
+    SAME(found.none_before <= (found.length == MDS_NONE ? length : 0), true);
+    for (size_t place = 0; place < found.none_before && place < length; place++)
+        SAME(is_break(bytes + place, length - place), false);
+}
+
+/* Each string of so many of the letters. */
+static void each_string(const char *letters, size_t length, void check(const char *bytes, size_t length)) {
+    size_t count = strlen(letters), strings = 1;
+    char bytes[16];
+    for (size_t i = 0; i < length; i++)
+        strings *= count;
+    for (size_t number = 0; number < strings; number++) {
+        size_t rest = number;
+        for (size_t i = 0; i < length; i++, rest /= count)
+            bytes[i] = letters[rest % count];
+        check(bytes, length);
+    }
+}
+
+static void short_strings(void) {
+    for (size_t length = 0; length <= 6; length++)
+        each_string("a\n\r", length, check_line);
+    for (size_t length = 0; length <= 5; length++)
+        each_string("*- x\n", length, check_break);
+}
+
+static void break_is(int line, struct mds_break found, size_t length, size_t none_before) {
+    same(line, "length", found.length, length);
+    same(line, "none before", found.none_before, none_before);
+}
+
+#define BREAK(found, length) break_is(__LINE__, found, length, 0)
+#define NO_BREAK(found, none_before) break_is(__LINE__, found, MDS_NONE, none_before)
+
+static void breaks(void) {
+    BREAK(mds_scan_hrule(OF("* * *\n")), 6);
+    BREAK(mds_scan_hrule(OF("***\r\nx")), 5);
+    BREAK(mds_scan_hrule(OF("_____________________________________")), 37);
+    BREAK(mds_scan_hrule(OF("-     -      -      -    \n")), 26);
+    NO_BREAK(mds_scan_hrule(OF("+++")), 0);
+    NO_BREAK(mds_scan_hrule(OF("--")), 0);
+    NO_BREAK(mds_scan_hrule(OF("- -x-")), 3);
+    NO_BREAK(mds_scan_hrule(OF("- -\n---")), 4);
+    NO_BREAK(mds_scan_hrule(OF("_ _ _ _ a")), 8);
+    NO_BREAK(mds_scan_hrule(OF("*-*")), 1);
+    NO_BREAK(mds_scan_hrule(NULL, 0), 0);
+}
+
+static void part_is(int line, struct mds_part part, size_t end, size_t start, size_t length) {
+    same(line, "status", part.status, MDS_OK);
+    same(line, "end", part.end, end);
+    same(line, "start", part.start, start);
+    same(line, "length", part.length, length);
+}
+
+static void no_part(int line, struct mds_part part, uint32_t status) {
+    same(line, "status", part.status, status);
+    same(line, "end", part.end, 0);
+    same(line, "start", part.start, 0);
+    same(line, "length", part.length, 0);
+}
+
+#define PART(part, end, start, length) part_is(__LINE__, part, end, start, length)
+#define NO_PART(part, status) no_part(__LINE__, part, status)
+
+static void destinations(void) {
+    PART(mds_scan_link_dest(OF("((a))"), 0, 1), 5, 0, 5);
+    NO_PART(mds_scan_link_dest(OF("(((a)))"), 0, 1), MDS_NOTHING);
+    PART(mds_scan_link_dest(OF("<a\\>b>c"), 0, 9), 6, 1, 4);
+    PART(mds_scan_link_dest(OF("(u)"), 1, 9), 2, 1, 1);
+    PART(mds_scan_link_dest(OF("(a)"), 0, SIZE_MAX), 3, 0, 3);
+    PART(mds_scan_link_dest(OF("[a](<b c>)"), 4, 31), 9, 5, 3);
+    PART(mds_scan_link_dest(OF("[link](foo(and(bar)))"), 7, 31), 20, 7, 13);
+    PART(mds_scan_link_dest(OF("[link](<foo(and(bar)>)"), 7, 31), 21, 8, 12);
+    PART(mds_scan_link_dest(OF("[link](foo\\)\\:)"), 7, 31), 14, 7, 7);
+    PART(mds_scan_link_dest(OF("[a](<>)"), 4, 31), 6, 5, 0);
+    NO_PART(mds_scan_link_dest(OF("[link](<foo\\>)"), 7, 31), MDS_NOTHING);
+    NO_PART(mds_scan_link_dest(OF("[link](<foo\nbar>)"), 7, 31), MDS_NOTHING);
+    NO_PART(mds_scan_link_dest(OF("<a"), 0, 9), MDS_NOTHING);
+    PART(mds_scan_link_dest(NULL, 0, 0, 9), 0, 0, 0);
+    NO_PART(mds_scan_link_dest(NULL, 0, 1, 9), MDS_PAST_END);
+    NO_PART(mds_scan_link_dest(OF("a"), SIZE_MAX, 9), MDS_PAST_END);
+    NO_PART(mds_scan_link_dest(OF("\xff"), 2, 9), MDS_PAST_END);
+    PART(mds_scan_link_dest(OF("\xc3\xa9"), 2, 9), 2, 2, 0);
+}
+
+/* What is not UTF-8, and places inside a character. */
+static void destinations_in_bytes(void) {
+    PART(mds_scan_link_dest(OF("a\xff"), 0, 9), 2, 0, 2);
+    PART(mds_scan_link_dest(OF("a \xff"), 0, 9), 1, 0, 1);
+    PART(mds_scan_link_dest(OF("<\x80>\xff"), 0, 9), 3, 1, 1);
+    PART(mds_scan_link_dest(OF("\xc3\xa9"), 1, 9), 2, 1, 1);
+    PART(mds_scan_link_dest(OF("\xc3\xa9\xff"), 1, 9), 3, 1, 2);
+}
+
+/* An autolink, of which nothing is left out. */
+#define URI(literal) PART(mds_scan_autolink(OF(literal), 1), sizeof(literal) - 1, 1, sizeof(literal) - 3)
+#define NO_URI(literal) NO_PART(mds_scan_autolink(OF(literal), 1), MDS_NOTHING)
+
+static void autolinks(void) {
+    URI("<http://foo.bar.baz>"), URI("<https://foo.bar.baz/test?q=hello&id=22&boolean>");
+    URI("<MAILTO:FOO@BAR.BAZ>"), URI("<a+b+c:d>"), URI("<made-up-scheme://foo,bar>"), URI("<https://../>");
+    URI("<localhost:5001/foo>"), URI("<https://example.com/\\[\\>"), URI("<ab:>");
+    NO_URI("<https://foo.bar/baz bim>"), NO_URI("<>"), NO_URI("< https://foo.bar >"), NO_URI("<m:abc>");
+    NO_URI("<foo.bar.baz>"), NO_URI("<ab:c"), NO_URI("<ab:<>");
+    PART(mds_scan_autolink(OF("<https://a.b> c"), 1), 13, 1, 11);
+    NO_PART(mds_scan_autolink(NULL, 0, 0), MDS_NOTHING);
+    NO_PART(mds_scan_autolink(OF("<ab:>"), 5), MDS_NOTHING);
+    NO_PART(mds_scan_autolink(OF("<ab:>"), 6), MDS_PAST_END);
+    PART(mds_scan_autolink(OF("ab:\xff>"), 0), 5, 0, 4);
+    PART(mds_scan_autolink(OF("ab:>\xff"), 0), 4, 0, 3);
+    NO_PART(mds_scan_autolink(OF("\xf0\x9f\x8d\x94"), 3), MDS_NOTHING);
+}
+
+static void pipes(void) {
+    PART(mds_scan_wikilink_pipe(OF("a|b]]"), 0, 3), 2, 0, 1);
+    PART(mds_scan_wikilink_pipe(OF("[a|b]]"), 1, SIZE_MAX), 3, 1, 1);
+    PART(mds_scan_wikilink_pipe(OF("||"), 1, 1), 2, 1, 0);
+    NO_PART(mds_scan_wikilink_pipe(OF("a|b]]"), 0, 1), MDS_NOTHING);
+    NO_PART(mds_scan_wikilink_pipe(OF("a|b]]"), 2, 9), MDS_NOTHING);
+    NO_PART(mds_scan_wikilink_pipe(OF("a|"), 2, 9), MDS_NOTHING);
+    NO_PART(mds_scan_wikilink_pipe(NULL, 0, 0, 9), MDS_NOTHING);
+    NO_PART(mds_scan_wikilink_pipe(OF("a|"), 3, 9), MDS_PAST_END);
+    PART(mds_scan_wikilink_pipe(OF("\x80|"), 0, 9), 2, 0, 1);
+    PART(mds_scan_wikilink_pipe(OF("\xe2\x82\xac|"), 2, 9), 4, 2, 1);
+}
+
+/* What stands in front of a mebibyte that can't be read. Whoever reads a byte of that is ended. */
+enum { FAR = 1 << 20 };
+
+static const uint8_t *before_far(const char *front, size_t length) {
+    uint8_t *pages = mmap(NULL, ROOM_SIZE + FAR, PROT_NONE, MAP_PRIVATE | MAP_ANONYMOUS, -1, 0);
+    if (length > ROOM_SIZE || pages == MAP_FAILED || mprotect(pages, ROOM_SIZE, PROT_READ | PROT_WRITE)) {
+        fprintf(stderr, "bytes: there is no room\n");
+        exit(2);
+    }
+    return memcpy(pages + ROOM_SIZE - length, front, length);
+}
+
+/* Each link of a page of more than a mebibyte in one line: what stands behind the link is not read, so k links of n bytes cost
+ * k and not k n. */
+static void long_lines(void) {
+    static const char links[] = "[a](b) <ab:c> [[d|e]] [f](<g h>)";
+    enum { EACH = sizeof(links) - 1, COUNT = ROOM_SIZE / EACH, READ = EACH * COUNT };
+    static char front[READ];
+    for (size_t i = 0; i < COUNT; i++)
+        memcpy(front + i * EACH, links, EACH);
+    const uint8_t *page = before_far(front, READ);
+    for (size_t at = 0; at < READ; at += EACH) {
+        PART(mds_scan_link_dest(page, READ + FAR, at + 4, 31), at + 5, at + 4, 1);
+        PART(mds_scan_autolink(page, READ + FAR, at + 8), at + 13, at + 8, 4);
+        PART(mds_scan_wikilink_pipe(page, READ + FAR, at + 16, 3), at + 18, at + 16, 1);
+        PART(mds_scan_link_dest(page, READ + FAR, at + 26, 31), at + 31, at + 27, 3);
+    }
+}
+
+/* The byte that decides is the last that can be read. */
+static void last_bytes(void) {
+    NO_PART(mds_scan_link_dest(before_far("<a<", 3), FAR, 0, 31), MDS_NOTHING);
+    NO_PART(mds_scan_link_dest(before_far("<a\n", 3), FAR, 0, 31), MDS_NOTHING);
+    NO_PART(mds_scan_link_dest(before_far("((", 2), FAR, 0, 0), MDS_NOTHING);
+    PART(mds_scan_link_dest(before_far(")", 1), FAR, 0, 31), 0, 0, 0);
+    PART(mds_scan_link_dest(before_far("<>", 2), FAR, 0, 31), 2, 1, 0);
+    NO_PART(mds_scan_autolink(before_far("a b", 2), FAR, 0), MDS_NOTHING);
+    NO_PART(mds_scan_autolink(before_far("ab: ", 4), FAR, 0), MDS_NOTHING);
+    NO_PART(mds_scan_autolink(before_far("abcdefghijklmnopqrstuvwxyzabcdefg", 33), FAR, 0), MDS_NOTHING);
+    NO_BREAK(mds_scan_hrule(before_far("* * x", 5), FAR), 4);
+}
+
+static void parts(void) {
+    check_rooms();
+    texts(), lines(), short_strings(), breaks();
+    destinations(), destinations_in_bytes(), autolinks(), pipes();
+}
+
+int main(void) {
+    parts();
+    at_front = true;
+    parts();
+    long_lines(), last_bytes();
+    return report("bytes");
+}

@@ -1,0 +1,437 @@
+/* Line starts: worked rows of CommonMark 0.31.2, each status, numbers that no call has left, lines that are scanned call
+ * by call and by mds_run_line, and how far a line of many bullets is read. The expected values of the rows are worked out
+ * by hand from the sections that the header names. */
+#define _DEFAULT_SOURCE
+#include "checks.h"
+
+#include <signal.h>
+#include <stdlib.h>
+#include <string.h>
+#include <sys/mman.h>
+#include <sys/wait.h>
+#include <unistd.h>
+
+static void stands_at(int line, struct mds_line_start start, size_t place, size_t pending, size_t phase) {
+    same(line, "place", start.place, place);
+    same(line, "pending", start.pending, pending);
+    same(line, "phase", start.phase, phase);
+}
+
+#define AT(place, pending, phase) stands_at(__LINE__, start, place, pending, phase)
+
+static void item_is(int line, struct mds_line_item item, uint32_t status, uint8_t delimiter, uint64_t number, size_t indent) {
+    same(line, "status", item.status, status);
+    same(line, "delimiter", item.delimiter, delimiter);
+    same(line, "start", item.start, number);
+    same(line, "indent", item.indent, indent);
+}
+
+#define ITEM(item, delimiter, number, indent) item_is(__LINE__, item, MDS_OK, delimiter, number, indent)
+#define NO_ITEM(item, status) item_is(__LINE__, item, status, 0, 0, 0)
+
+static void columns_are(int line, struct mds_columns columns, uint32_t status, size_t count) {
+    same(line, "status", columns.status, status);
+    same(line, "columns", columns.columns, count);
+}
+
+#define COLUMNS(columns, status, count) columns_are(__LINE__, columns, status, count)
+
+static void task_is(int line, struct mds_task task, uint32_t status, bool checked) {
+    same(line, "status", task.status, status);
+    same(line, "checked", task.checked, checked);
+}
+
+#define TASK(task, status, checked) task_is(__LINE__, task, status, checked)
+
+static void alert_is(int line, struct mds_alert alert, uint32_t status, uint32_t kind) {
+    same(line, "status", alert.status, status);
+    same(line, "kind", alert.kind, kind);
+}
+
+#define ALERT(alert, status, kind) alert_is(__LINE__, alert, status, kind)
+
+#define FRONT_OF(literal) const uint8_t *bytes = given(BYTES, literal, sizeof(literal) - 1); \
+    const size_t length = sizeof(literal) - 1; \
+    struct mds_line_start start = {0}
+
+/* Examples 5 to 7 of section 2.2: tabs behind the indent of an item, and behind the markers of a quote and an item. */
+static void tabs(void) {
+    {
+        FRONT_OF("\t\tbar");
+        SAME(mds_line_space(bytes, length, &start, 2), MDS_OK), AT(1, 2, 0);
+        COLUMNS(mds_line_upto(bytes, length, &start, 4), MDS_OK, 4), AT(2, 2, 0);
+        COLUMNS(mds_line_upto(bytes, length, &start, 9), MDS_OK, 2), AT(2, 0, 0);
+        SAME(mds_line_space(bytes, length, &start, 1), MDS_NOTHING), AT(2, 0, 0);
+    }
+    {
+        FRONT_OF(">\t\tfoo");
+        SAME(mds_line_quote(bytes, length, &start), MDS_OK), AT(2, 2, 0);
+        SAME(mds_line_eol(bytes, length, &start), MDS_NOTHING);
+        SAME(mds_line_space(bytes, length, &start, 4), MDS_OK), AT(3, 2, 0);
+        SAME(mds_line_quote(bytes, length, &start), MDS_NOTHING), AT(3, 2, 0);
+        SAME(mds_line_space(bytes, length, &start, 3), MDS_NOTHING), AT(3, 0, 0);
+    }
+    {
+        FRONT_OF("-\t\tfoo");
+        ITEM(mds_line_list(bytes, length, &start, 0), '-', 0, 2), AT(2, 2, 0);
+        COLUMNS(mds_line_upto(bytes, length, &start, 4), MDS_OK, 4), AT(3, 2, 0);
+    }
+    {
+        FRONT_OF(">\t- a");
+        SAME(mds_line_quote(bytes, length, &start), MDS_OK), AT(2, 2, 0);
+        COLUMNS(mds_line_upto(bytes, length, &start, 3), MDS_OK, 2), AT(2, 0, 0);
+        struct mds_line_start copy = start;
+        ITEM(mds_line_list(bytes, length, &start, 2), '-', 0, 4), AT(4, 0, 2);
+        start = copy, AT(2, 0, 0);
+    }
+    {
+        FRONT_OF("  \t x");
+        SAME(mds_line_all_space(bytes, length, &start), MDS_OK), AT(4, 0, 0);
+        SAME(mds_line_all_space(bytes, length, &start), MDS_OK), AT(4, 0, 0);
+    }
+}
+
+/* One call at the front of a line. */
+#define FRONT_ITEM(literal, delimiter, number, indent, place, pending, phase) \
+    do { FRONT_OF(literal); ITEM(mds_line_list(bytes, length, &start, 0), delimiter, number, indent); AT(place, pending, phase); } while (0)
+#define FRONT_NO_ITEM(literal) \
+    do { FRONT_OF(literal); NO_ITEM(mds_line_list(bytes, length, &start, 0), MDS_NOTHING); AT(0, 0, 0); } while (0)
+#define FRONT_DEFINITION(literal, status, columns, place, pending, phase) \
+    do { FRONT_OF(literal); COLUMNS(mds_line_definition(bytes, length, &start, 0), status, columns); AT(place, pending, phase); } while (0)
+#define FRONT_TASK(literal, status, checked, place) \
+    do { FRONT_OF(literal); TASK(mds_line_task(bytes, length, &start), status, checked); AT(place, 0, (place) % 4); } while (0)
+#define FRONT_ALERT(literal, status, kind, place) \
+    do { FRONT_OF(literal); ALERT(mds_line_alert(bytes, length, &start), status, kind); AT(place, 0, (place) % 4); } while (0)
+
+/* Section 5.2: which markers there are, and how much space belongs to them. */
+static void items(void) {
+    FRONT_ITEM("- one", '-', 0, 2, 2, 0, 2);
+    FRONT_ITEM("+\n", '+', 0, 2, 1, 0, 1);
+    FRONT_ITEM("*", '*', 0, 2, 1, 0, 1);
+    FRONT_ITEM("-    one", '-', 0, 5, 5, 0, 1);
+    FRONT_ITEM("-     one", '-', 0, 2, 2, 0, 2);
+    FRONT_ITEM("-   \n", '-', 0, 2, 2, 0, 2);
+    FRONT_ITEM("10) foo", ')', 10, 4, 4, 0, 0);
+    FRONT_ITEM("003. ok", '.', 3, 5, 5, 0, 1);
+    FRONT_ITEM("123456789. ok", '.', 123456789, 11, 11, 0, 3);
+    FRONT_NO_ITEM("1234567890. not ok");
+    FRONT_NO_ITEM("-one");
+    FRONT_NO_ITEM("2.two");
+    FRONT_NO_ITEM("-1. not ok");
+    FRONT_NO_ITEM("");
+    FRONT_OF("- - foo");
+    ITEM(mds_line_list(bytes, length, &start, 0), '-', 0, 2), AT(2, 0, 2);
+    ITEM(mds_line_list(bytes, length, &start, 2), '-', 0, 4), AT(4, 0, 0);
+    SAME(start.none_before > 2, true), SAME(start.behind_break, 0);
+}
+
+/* Section 4.1: a thematic break is no item, and its place is kept. */
+static void breaks(void) {
+    FRONT_OF("*\t*\t*\t");
+    NO_ITEM(mds_line_list(bytes, length, &start, 0), MDS_NOTHING), AT(0, 0, 0);
+    SAME(start.behind_break, 1);
+    NO_ITEM(mds_line_list(bytes, length, &start, 0), MDS_NOTHING), AT(0, 0, 0);
+    SAME(start.behind_break, 1), SAME(start.none_before, 0);
+}
+
+static void others(void) {
+    FRONT_DEFINITION(":   a", MDS_OK, 4, 4, 0, 0);
+    FRONT_DEFINITION(":\ta", MDS_OK, 4, 2, 0, 0);
+    FRONT_DEFINITION(":     a", MDS_OK, 2, 2, 0, 2);
+    FRONT_DEFINITION("a", MDS_NOTHING, 0, 0, 0, 0);
+    FRONT_TASK("[ ] foo", MDS_OK, false, 3);
+    FRONT_TASK("  [x] bar", MDS_OK, true, 5);
+    FRONT_TASK("[X]\t", MDS_OK, true, 3);
+    FRONT_TASK("[x]a", MDS_NOTHING, false, 0);
+    FRONT_TASK("    [x] a", MDS_NOTHING, false, 0);
+    FRONT_ALERT("[!NOTE]\nx", MDS_OK, MDS_ALERT_NOTE, 8);
+    FRONT_ALERT("[!tip]  \r\n", MDS_OK, MDS_ALERT_TIP, 10);
+    FRONT_ALERT("[!Important]", MDS_OK, MDS_ALERT_IMPORTANT, 12);
+    FRONT_ALERT("[!WARNING]", MDS_OK, MDS_ALERT_WARNING, 10);
+    FRONT_ALERT("[!CAUTION]", MDS_OK, MDS_ALERT_CAUTION, 10);
+    FRONT_ALERT("[!NOTE] a", MDS_NOTHING, 0, 0);
+    FRONT_ALERT("[!NOTES]", MDS_NOTHING, 0, 0);
+    struct mds_line_start start = {0};
+    SAME(mds_line_eol(OF("\r"), &start), MDS_OK), SAME(mds_line_eol(OF("\n"), &start), MDS_OK);
+    SAME(mds_line_eol(NULL, 0, &start), MDS_OK), SAME(mds_line_eol(OF(" "), &start), MDS_NOTHING);
+    SAME(mds_line_quote(OF("a"), &start), MDS_NOTHING), AT(0, 0, 0);
+    SAME(mds_line_space(NULL, 0, &start, 0), MDS_OK), AT(0, 0, 0);
+    COLUMNS(mds_line_upto(OF("x"), &start, SIZE_MAX), MDS_OK, 0), AT(0, 0, 0);
+    SAME(mds_line_all_space(NULL, 0, &start), MDS_OK), AT(0, 0, 0);
+    NO_ITEM(mds_line_list(OF("- a"), &start, SIZE_MAX - 15), MDS_TOO_LARGE), AT(0, 0, 0);
+    COLUMNS(mds_line_definition(OF(": a"), &start, SIZE_MAX), MDS_TOO_LARGE, 0), AT(0, 0, 0);
+    ITEM(mds_line_list(OF("- a"), &start, SIZE_MAX - 16), '-', 0, SIZE_MAX - 14), AT(2, 0, 2);
+    start = (struct mds_line_start){0};
+    COLUMNS(mds_line_definition(OF(": a"), &start, SIZE_MAX - 16), MDS_OK, SIZE_MAX - 14), AT(2, 0, 2);
+}
+
+/* The calls by their number, as mds_run_line has them and then the others: whether the answer is MDS_BAD_STATE, and
+ * whether its other fields are 0. */
+enum { KINDS = 9 };
+
+struct refusal {
+    uint32_t status;
+    bool is_zero;
+};
+
+static struct refusal call(size_t kind, const uint8_t *bytes, size_t length, struct mds_line_start *start, size_t number) {
+    struct mds_columns columns;
+    struct mds_line_item item;
+    struct mds_task task;
+    struct mds_alert alert;
+    switch (kind) {
+    case 0: return (struct refusal){mds_line_space(bytes, length, start, number), true};
+    case 1: columns = mds_line_upto(bytes, length, start, number); return (struct refusal){columns.status, columns.columns == 0};
+    case 2: return (struct refusal){mds_line_eol(bytes, length, start), true};
+    case 3: return (struct refusal){mds_line_quote(bytes, length, start), true};
+    case 4:
+        item = mds_line_list(bytes, length, start, number);
+        return (struct refusal){item.status, item.delimiter == 0 && item.start == 0 && item.indent == 0};
+    case 5:
+        columns = mds_line_definition(bytes, length, start, number);
+        return (struct refusal){columns.status, columns.columns == 0};
+    case 6: return (struct refusal){mds_line_all_space(bytes, length, start), true};
+    case 7: task = mds_line_task(bytes, length, start); return (struct refusal){task.status, !task.checked};
+    default: alert = mds_line_alert(bytes, length, start); return (struct refusal){alert.status, alert.kind == 0};
+    }
+}
+
+/* Whether the numbers are refused where they have to be, and what is left is never refused. */
+static bool is_safe(size_t kind, const uint8_t *bytes, size_t length, struct mds_line_start old, size_t number) {
+    struct mds_line_start start = old;
+    struct refusal told = call(kind, bytes, length, &start, number);
+    bool is_bad = old.place > length || old.pending > 3 || old.phase > 3;
+    bool is_left = !memcmp(&start, &old, sizeof(start));
+    if (is_bad || told.status == MDS_BAD_STATE)
+        return is_bad && told.status == MDS_BAD_STATE && told.is_zero && is_left;
+    if ((kind == 4 || kind == 5) && number > SIZE_MAX - 16)
+        return told.status == MDS_TOO_LARGE && told.is_zero && is_left;
+    if (told.status != MDS_OK && !told.is_zero)
+        return false;
+    return told.status <= MDS_NOTHING && start.place >= old.place && start.place <= length && start.pending <= 3 && start.phase <= 3;
+}
+
+/* Made numbers, the same in each run (xorshift). */
+static uint64_t seed = 28;
+
+static uint64_t made(uint64_t below) {
+    seed ^= seed << 13, seed ^= seed >> 7, seed ^= seed << 17;
+    return seed % below;
+}
+
+/* A line of bytes that the calls look at. */
+enum { LONGEST = 40 };
+
+static size_t make_line(char *text) {
+    static const char parts[] = "  \t\t>>--*+1209.):x[]![ ] [x] [!TIP]\n\r\v\f~";
+    size_t length = made(LONGEST + 1);
+    for (size_t i = 0; i < length; i++)
+        text[i] = parts[made(sizeof(parts) - 1)];
+    return length;
+}
+
+static size_t edge(size_t which, size_t length) {
+    const size_t edges[] = {0, 1, length, length + 1, SIZE_MAX};
+    return edges[which];
+}
+
+/* Each field at each edge. */
+static void edges(const char *text, size_t length) {
+    const uint8_t *bytes = given(BYTES, text, length);
+    for (size_t i = 0; i < 3125; i++) {
+        const struct mds_line_start start = {
+            edge(i % 5, length), edge(i / 5 % 5, length), edge(i / 25 % 5, length), edge(i / 125 % 5, length), edge(i / 625, length)};
+        for (size_t kind = 0; kind < KINDS; kind++)
+            for (size_t which = 0; which < 5; which++)
+                SAME(is_safe(kind, bytes, length, start, edge(which, length)), true);
+    }
+}
+
+static size_t field(size_t length) {
+    switch (made(4)) {
+    case 0: return made(4);
+    case 1: return edge(made(5), length);
+    case 2: return made(1 << 16) ? made(length + 2) : seed;
+    default: return made(length + 1);
+    }
+}
+
+/* A million made ones. */
+static void wrong_states(void) {
+    char text[LONGEST];
+    for (size_t i = 0; i < 10000; i++) {
+        size_t length = make_line(text);
+        at_front = i % 2;
+        const uint8_t *bytes = given(BYTES, text, length);
+        for (size_t j = 0; j < 100; j++) {
+            const struct mds_line_start start = {field(length), made(5), made(5), field(length), field(length)};
+            SAME(is_safe(made(KINDS), bytes, length, start, field(length)), true);
+        }
+    }
+}
+
+/* One call of a run, as mds_run_line answers it. */
+static struct mds_line_answer answer_of(
+    struct mds_line_call called, const uint8_t *bytes, size_t length, struct mds_line_start *start) {
+    struct mds_columns columns;
+    struct mds_line_item item;
+    switch (called.kind) {
+    case MDS_SPACE: return (struct mds_line_answer){mds_line_space(bytes, length, start, called.number) == MDS_OK, 0, 0, 0};
+    case MDS_UPTO:
+        columns = mds_line_upto(bytes, length, start, called.number);
+        return (struct mds_line_answer){columns.status == MDS_OK, 0, 0, columns.columns};
+    case MDS_EOL: return (struct mds_line_answer){mds_line_eol(bytes, length, start) == MDS_OK, 0, 0, 0};
+    case MDS_QUOTE: return (struct mds_line_answer){mds_line_quote(bytes, length, start) == MDS_OK, 0, 0, 0};
+    case MDS_LIST:
+        item = mds_line_list(bytes, length, start, called.number);
+        return (struct mds_line_answer){item.status == MDS_OK, item.delimiter, item.start, item.indent};
+    default:
+        columns = mds_line_definition(bytes, length, start, called.number);
+        return (struct mds_line_answer){columns.status == MDS_OK, 0, 0, columns.columns};
+    }
+}
+
+/* What is left of the line: pending columns as spaces, then the bytes, tabs before a line ending written out. */
+static size_t write_rest(const uint8_t *bytes, size_t length, struct mds_line_start start, uint8_t *rest) {
+    size_t written = 0, column = start.phase;
+    bool is_head = true;
+    for (; written < start.pending; written++)
+        rest[written] = ' ';
+    for (size_t i = start.place; i < length; i++) {
+        is_head = is_head && bytes[i] != '\n' && bytes[i] != '\r';
+        size_t width = is_head && bytes[i] == '\t' ? 4 - column % 4 : 1;
+        column += width;
+        if (is_head && bytes[i] == '\t')
+            memset(rest + written, ' ', width);
+        else
+            rest[written] = bytes[i];
+        written += width;
+    }
+    return written;
+}
+
+enum { CALLS = 8, AMPLE = 4 * LONGEST + 4 };
+
+static bool are_equal(struct mds_line_answer one, struct mds_line_answer other) {
+    return one.found == other.found && one.delimiter == other.delimiter && one.start == other.start && one.number == other.number;
+}
+
+/* A line call by call, as far as the run came; and both have left the same. */
+static bool is_as_run(
+    const uint8_t *bytes, size_t length, const struct mds_line_call *calls, struct mds_line_run run,
+    const struct mds_line_answer *answers, const uint8_t *rest) {
+    static uint8_t left[AMPLE];
+    struct mds_line_start start = {0};
+    for (size_t i = 0; i < run.count; i++)
+        if (!are_equal(answer_of(calls[i], bytes, length, &start), answers[i]))
+            return false;
+    if ((run.status == MDS_SPACE_PENDING) != (run.count < CALLS && start.pending > 0))
+        return false;
+    size_t count = write_rest(bytes, length, start, left);
+    return start.place == run.scanned && count == run.rest && !memcmp(left, rest, count);
+}
+
+/* A hundred thousand made lines. Most of the calls are of a parser that looks for containers. */
+static void as_runs(void) {
+    static struct mds_line_answer answers[CALLS];
+    static uint8_t rest[AMPLE];
+    char text[LONGEST];
+    for (size_t i = 0; i < 100000; i++) {
+        struct mds_line_call calls[CALLS];
+        size_t length = make_line(text);
+        for (size_t j = 0; j < CALLS; j++)
+            calls[j] = (struct mds_line_call){j % 2 ? (uint32_t)made(6) : MDS_UPTO, made(5)};
+        at_front = i % 2;
+        const uint8_t *bytes = given(BYTES, text, length);
+        struct mds_line_run run = mds_run_line(bytes, length, calls, CALLS, answers, CALLS, rest, AMPLE);
+        SAME(is_as_run(bytes, length, calls, run, answers, rest), true);
+    }
+}
+
+/* A line of bullets with spaces between, and how far a call at one of them may read: to the end of the page that its
+ * bytes and the next few stand in. */
+enum { BULLETS = 10000, EACH = 2, ALL = EACH * BULLETS + 1, NEAR = 16 };
+
+static uint8_t *many_bullets(uint8_t bullet, uint8_t last) {
+    uint8_t *line = mmap(NULL, ALL, PROT_READ | PROT_WRITE, MAP_PRIVATE | MAP_ANONYMOUS, -1, 0);
+    if (line == MAP_FAILED)
+        abort();
+    for (size_t i = 0; i < BULLETS; i++)
+        line[EACH * i] = bullet, line[EACH * i + 1] = ' ';
+    line[ALL - 1] = last;
+    return line;
+}
+
+/* No bytes can be read but those of the pages that what is near to the place stands in. */
+static void show_near(uint8_t *line, size_t place) {
+    size_t page = (size_t)sysconf(_SC_PAGESIZE), begin = place / page * page, end = (place + NEAR + page - 1) / page * page;
+    if (mprotect(line, ALL, PROT_NONE))
+        abort();
+    if (mprotect(line + begin, (end < ALL ? end : ALL) - begin, PROT_READ))
+        abort();
+}
+
+/* Each bullet in turn, behind a first call that may read the whole line; what is known is kept, or forgotten. */
+static bool are_items(uint8_t *line, bool is_kept) {
+    struct mds_line_start start = {0};
+    for (size_t i = 0; i < BULLETS; i++) {
+        if (i > 0)
+            show_near(line, start.place);
+        if (!is_kept)
+            start.none_before = start.behind_break = 0;
+        struct mds_line_item item = mds_line_list(line, ALL, &start, start.place);
+        if (item.status != MDS_OK || item.delimiter != '-' || start.place != EACH * (i + 1))
+            return false;
+    }
+    return start.none_before <= ALL;
+}
+
+/* A thematic break, asked of again and again. */
+static bool is_break(uint8_t *line, bool is_kept) {
+    struct mds_line_start start = {0};
+    for (size_t i = 0; i < BULLETS; i++) {
+        if (i == 1)
+            show_near(line, 0);
+        if (!is_kept)
+            start.behind_break = 0;
+        if (mds_line_list(line, ALL, &start, 0).status != MDS_NOTHING || start.place != 0)
+            return false;
+    }
+    return start.behind_break == 1;
+}
+
+typedef bool reading(uint8_t *line, bool is_kept);
+
+/* The signal that ends a child which reads the line so, or 0 where it ends well. */
+static int signal_of(reading *read, uint8_t bullet, uint8_t last, bool is_kept) {
+    pid_t child = fork();
+    if (child < 0)
+        abort();
+    if (child == 0) {
+        signal(SIGSEGV, SIG_DFL);
+        _exit(read(many_bullets(bullet, last), is_kept) ? 0 : 1);
+    }
+    int status;
+    if (waitpid(child, &status, 0) != child || (WIFEXITED(status) && WEXITSTATUS(status) != 0))
+        return -1;
+    return WIFSIGNALED(status) ? WTERMSIG(status) : 0;
+}
+
+static void many_are_read_once(void) {
+    SAME(signal_of(are_items, '-', 'x', true), 0), SAME(signal_of(are_items, '-', 'x', false), SIGSEGV);
+    SAME(signal_of(is_break, '*', '*', true), 0), SAME(signal_of(is_break, '*', '*', false), SIGSEGV);
+}
+
+static void rows(void) {
+    tabs(), items(), breaks(), others();
+    edges("", 0), edges(">\t- [x] :", 9), edges("* * *", 5);
+}
+
+int main(void) {
+    rows();
+    at_front = true;
+    rows();
+    wrong_states(), as_runs();
+    many_are_read_once();
+    return report("line_starts");
+}

@@ -1,0 +1,42 @@
+use Rattle.std.proofs.Common.{◌+◌, inl, inr, refl, sym, subst, arith}
+use Rattle.std.proofs.lemmas.List.{take_rest}
+use Rattle.markdown_scanners_tree.specs.scanners.links.LinkDestination.{IsLinkDestination}
+use Rattle.markdown_scanners_c.specs.Parts.{IsDestinationPart}
+use Rattle.markdown_scanners_c.proofs.Parts.{destination_at, stands_from, cut_destination}
+use Rattle.markdown_scanners_c.proofs.inline.mds_scan_link_dest.Goals as goal
+
+pub returns-in-Some-clause-part : goal.returns-in-Some-clause-part
+unfolding IsDestinationPart
+returns-in-Some-clause-part c =
+    let bytes = c.args.bytes.now in
+    let found = c.in-Some.ensures in
+    let raw = c.in-Some.raw in
+    inr (
+      omega arith,
+      inr (
+        refl,
+        stands_from c.args.start c.in-Some.taken raw.start raw.end found.ordered.0 found.place,
+        destination_at (c.args.max_next + 1) c.args.start c.in-Some.taken raw.start raw.end bytes _
+            (take_rest bytes c.args.start) found.found,
+      ),
+    )
+
+pub returns-in-Some-clause-boundary : goal.returns-in-Some-clause-boundary
+returns-in-Some-clause-boundary c = λ text found.
+    let bytes = c.args.bytes.now in
+    let raw = c.in-Some.raw in
+    cut_destination c.args.start c.in-Some.taken raw.start raw.end bytes _ (take_rest bytes c.args.start) text
+    c.in-Some.ensures.ordered.0 c.in-Some.ensures.begins c.in-Some.ensures.ends c.in-Some.ensures.behind
+
+pub returns-in-None-clause-part : goal.returns-in-None-clause-part
+unfolding IsDestinationPart
+returns-in-None-clause-part c =
+    let rest = take_rest c.args.bytes.now c.args.start in
+    inr (
+      omega arith,
+      inl (
+        c.no_part-in-None.ensures,
+        λ r is. c.in-None.ensures.found r
+            (subst (λ t. IsLinkDestination (c.args.max_next + 1) t r.0 r.1) (sym rest) is),
+      ),
+    )

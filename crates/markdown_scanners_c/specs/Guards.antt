@@ -1,0 +1,50 @@
+-- Scans of inline HTML under a guard that C keeps from call to call. (CommonMark 0.31.2, section 6.6, raw HTML)
+use Rattle.std.specs.Prelude.{ℕ, List, ◌≡◌, ◌≢◌, ◌⊎◌, ◌<◌, ◌≤◌, Option, None, Some}
+use Rattle.markdown_scanners_tree.specs.declared.inline_html.HtmlScanGuard.{HtmlScanGuard}
+use Rattle.markdown_scanners_tree.specs.inline_html.Guard.{answer_of_scan, guard_after_scan, text_after_scan, IsTrueGuard}
+use Rattle.markdown_scanners_tree.specs.inline_html.InlineHtml.{opener_before, opening_at}
+use Rattle.markdown_scanners_c.specs.Finds.{IsFindEnd}
+use Rattle.markdown_scanners_c.specs.Status.{ok, nothing, no_opener}
+use Rattle.markdown_scanners_c.specs.declared.html.Guard.{Guard}
+use Rattle.markdown_scanners_c.specs.declared.html.End.{End}
+
+-- the guard that C's four numbers stand for
+abbrev pub scan_guard : Guard → HtmlScanGuard
+scan_guard guard = record {
+  comment = guard.comment;
+  cdata = guard.cdata;
+  declaration = guard.declaration;
+  processing = guard.processing;
+}
+
+-- the guard to begin a text with
+abbrev pub new_guard : Guard
+new_guard = record { comment = 0; cdata = 0; declaration = 0; processing = 0 }
+
+-- an answer as C is told it
+abbrev pub IsAnswerTold : Option ℕ → End → Type 0
+IsAnswerTold None found = (found.status ≡ nothing) × (found.end ≡ 0)
+IsAnswerTold (Some end) found = (found.status ≡ ok) × (found.end ≡ end)
+
+-- the bytes that a scan at the place passes over under the guard
+abbrev pub bytes_scanned : List ℕ → HtmlScanGuard → ℕ → ℕ
+bytes_scanned bytes guard place = (text_after_scan opening_at (record { text = bytes; passed = 0 }) guard place).passed
+
+-- what a scan at the place, just after an opener, answers under the guard, leaves as the guard, and passes over
+pub record IsScanUnder (bytes : List ℕ) (place : ℕ) (old new : HtmlScanGuard) (found : End) : Type 0 where
+  pub answers : IsAnswerTold (answer_of_scan opening_at bytes old place) found
+  pub guards : new ≡ guard_after_scan opening_at bytes old place
+  pub counts : found.passed ≡ bytes_scanned bytes old place
+
+-- No opener ends at the place, and the guard is as it was; or one does, and the place is scanned under the guard.
+abbrev pub IsGuardedEnd : List ℕ → ℕ → Guard → Guard → End → Type 0
+IsGuardedEnd bytes place old new found =
+    ((opener_before bytes place ≡ None) × (new ≡ old)
+    × (found.status ≡ no_opener) × (found.end ≡ 0) × (found.passed ≡ 0))
+    ⊎ ((opener_before bytes place ≢ None)
+    × IsScanUnder bytes place (scan_guard old) (scan_guard new) found)
+
+-- The find is told, and the guard is true at each later place that is not below its end.
+pub record IsTrueEnd (bytes : List ℕ) (place : ℕ) (new : Guard) (found : End) : Type 0 where
+  pub finds : IsFindEnd bytes place found
+  pub stays_true : (later : ℕ) → place < later → found.end ≤ later → IsTrueGuard bytes (scan_guard new) later

@@ -1,0 +1,34 @@
+-- What is left out of a text at the starts of its lines: a table in place of a handler.
+-- (CommonMark 0.31.2, section 5, container blocks: the markers of containers are no part of a text over their lines)
+use Rattle.std.specs.Prelude.{ℕ, Bool, true, List, [], ◌∷◌, ◌≡◌, ◌+◌, ◌-◌, ◌&&◌, ◌==◌, max, nat_le, nat_lt, length, take, drop, if◌then◌else◌}
+use Rattle.std.specs.List.{list_all}
+use Rattle.markdown_scanners_c.specs.declared.skips.Skip.{Skip}
+
+-- In a text of so many bytes the skips stand in order from a place on: each begins there or later and ends in the text,
+-- and the next one begins behind its first byte, where it ends or later.
+abbrev pub stand_from : ℕ → ℕ → List Skip → Bool
+stand_from from size [] = true
+stand_from from size (skip ∷ skips) =
+    nat_le from skip.place && nat_le (skip.place + skip.length) size
+    && stand_from (skip.place + max skip.length 1) size skips
+
+-- the skips of a text
+abbrev pub are_skips : List Skip → List ℕ → Bool
+are_skips skips bytes = stand_from 0 (length bytes) skips
+
+-- how many bytes are left out at a place: as many as the skip of that place says, and else none
+abbrev pub left_out : List Skip → ℕ → ℕ
+left_out [] place = 0
+left_out (skip ∷ skips) place = if skip.place == place then skip.length else left_out skips place
+
+-- So many bytes are left out at the front of a rest of the text, whose place is the text's length less its own.
+abbrev pub LeavesOut : List Skip → List ℕ → List ℕ → ℕ → Type 0
+LeavesOut skips bytes rest skip = skip ≡ left_out skips (length bytes - length rest)
+
+-- so many bytes are there at the front, and they are ASCII
+abbrev pub is_ascii_front : List ℕ → ℕ → Bool
+is_ascii_front rest count = nat_le count (length rest) && list_all (λ b. nat_lt b 128) (take count rest)
+
+-- each skip leaves out ASCII alone, as the markers of containers and spaces are
+abbrev pub are_ascii_skips : List Skip → List ℕ → Bool
+are_ascii_skips skips bytes = list_all (λ skip. is_ascii_front (drop skip.place bytes) skip.length) skips

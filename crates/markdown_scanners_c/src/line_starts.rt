@@ -1,0 +1,370 @@
+//! Line starts in the caller's storage, and the calls on them.
+ghost use Rattle.std.specs.Prelude.{◌≡◌, ◌==◌, ◌≤◌, ◌<◌, ◌-◌, ◌⊎◌, IfSome, IfNone};
+ghost use Rattle.markdown_values.specs.declared.values.BlockQuoteKind.{BlockQuoteKind as Quoted};
+ghost use Rattle.markdown_scanners_tree.specs.Ascii.{greater_than_sign};
+ghost use Rattle.markdown_scanners_tree.specs.Bytes.{begins_with, is_at_line_end};
+ghost use Rattle.markdown_scanners_tree.specs.line.Outcome.{after_all_space, after_quote, alert_outcome, definition_outcome, item_outcome, task_outcome};
+ghost use Rattle.markdown_scanners_tree.specs.line.State.{IsLineState, after_space, space_within, unscanned};
+ghost use Rattle.markdown_scanners_c.specs.LineStarts.{state_on, known_breaks, IsTrueStart, OfState, IsNext, found_status, no_columns, columns_told, no_item, item_told, no_task, task_told, alert_number, no_alert, alert_told};
+ghost use Rattle.markdown_scanners_c.specs.Status.{ok, nothing, bad_state, too_large};
+
+use crate::status::{BAD_STATE, NOTHING, OK, TOO_LARGE};
+use markdown_scanners_tree::line::{KnownBreaks, LineStart};
+use markdown_values::values::BlockQuoteKind;
+
+// The columns of a marker can be added to it.
+const LARGEST_INDENT: usize = usize::MAX - 16;
+
+/// `struct mds_line_start` of C: a place in a line, and what is known of the line from there on.
+#[repr(C)]
+pub struct Start {
+    pub place: usize,
+    pub pending: usize,
+    pub phase: usize,
+    pub none_before: usize,
+    pub behind_break: usize,
+}
+
+impl Start {
+    // The library's line start at the place in these bytes.
+    fn on<'a>(&self, bytes: &'a [u8]) -> Option<LineStart<'a>>
+        ensures state { IfSome result (λ line. line ≡ state_on bytes.now self.now) }
+        ensures is_state { IfSome result (λ line. IsLineState (state_on bytes.now self.now)) }
+        ensures none { IfNone result (¬ IsLineState (state_on bytes.now self.now)) }
+    {
+        LineStart::resumed(bytes, self.place, self.pending, self.phase)
+    }
+
+    // Keeps the place of the library's line start.
+    fn keep(&mut self, line: &LineStart)
+        ensures state { state_on line.now.bytes self.new ≡ line.now }
+        ensures breaks { known_breaks self.new ≡ known_breaks self.old }
+        ensures next { self.old.place ≤ line.now.place → IsNext line.now.bytes self.old self.new }
+    {
+        self.place = line.bytes_scanned();
+        self.pending = line.remaining_space();
+        self.phase = line.phase();
+    }
+}
+
+fn status_of(found: bool) -> u32
+    ensures { result ≡ found_status found }
+{
+    if found { OK } else { NOTHING }
+}
+
+/// Takes up to so many columns of space. (CommonMark 0.31.2, section 2.2)
+#[unsafe(no_mangle)]
+pub extern "C" fn mds_line_space(bytes: &[u8], start: &mut Start, count: usize) -> u32
+    ensures refused { ¬ IsLineState (state_on bytes.now start.old)
+        → (result ≡ bad_state) × (start.new ≡ start.old) }
+    ensures answer { OfState bytes.now start.old (λ s.
+        result ≡ found_status (space_within count s == count)) }
+    ensures state { OfState bytes.now start.old (λ s.
+        state_on bytes.now start.new ≡ after_space count s) }
+    ensures next { OfState bytes.now start.old (λ s. IsNext bytes.now start.old start.new) }
+{
+    let Some(mut line) = start.on(bytes) else {
+        return BAD_STATE;
+    };
+    let found = line.scan_space(count);
+    start.keep(&line);
+    status_of(found)
+}
+
+/// `struct mds_columns` of C: columns, where the status is `OK`.
+#[repr(C)]
+pub struct Columns {
+    pub status: u32,
+    pub columns: usize,
+}
+
+fn no_columns(status: u32) -> Columns
+    ensures { result ≡ no_columns status }
+{
+    Columns { status, columns: 0 }
+}
+
+/// Takes up to so many columns of space, and says how many. (CommonMark 0.31.2, section 2.2)
+#[unsafe(no_mangle)]
+pub extern "C" fn mds_line_upto(bytes: &[u8], start: &mut Start, count: usize) -> Columns
+    ensures refused { ¬ IsLineState (state_on bytes.now start.old)
+        → (result ≡ no_columns bad_state) × (start.new ≡ start.old) }
+    ensures answer { OfState bytes.now start.old (λ s.
+        result ≡ record { status = ok; columns = space_within count s }) }
+    ensures state { OfState bytes.now start.old (λ s.
+        state_on bytes.now start.new ≡ after_space count s) }
+    ensures next { OfState bytes.now start.old (λ s. IsNext bytes.now start.old start.new) }
+{
+    let Some(mut line) = start.on(bytes) else {
+        return no_columns(BAD_STATE);
+    };
+    let columns = line.scan_space_upto(count);
+    start.keep(&line);
+    Columns {
+        status: OK,
+        columns,
+    }
+}
+
+/// Passes all spaces and tabs, each as one column, and drops pending columns. (CommonMark 0.31.2,
+/// section 2.2)
+#[unsafe(no_mangle)]
+pub extern "C" fn mds_line_all_space(bytes: &[u8], start: &mut Start) -> u32
+    ensures refused { ¬ IsLineState (state_on bytes.now start.old)
+        → (result ≡ bad_state) × (start.new ≡ start.old) }
+    ensures answer { OfState bytes.now start.old (λ s. result ≡ ok) }
+    ensures state { OfState bytes.now start.old (λ s.
+        state_on bytes.now start.new ≡ after_all_space s) }
+    ensures next { OfState bytes.now start.old (λ s. IsNext bytes.now start.old start.new) }
+{
+    let Some(mut line) = start.on(bytes) else {
+        return BAD_STATE;
+    };
+    line.scan_all_space();
+    start.keep(&line);
+    OK
+}
+
+/// Whether the line ends at the place. (CommonMark 0.31.2, section 2.1)
+#[unsafe(no_mangle)]
+pub extern "C" fn mds_line_eol(bytes: &[u8], start: &Start) -> u32
+    ensures refused { ¬ IsLineState (state_on bytes.now start.now) → result ≡ bad_state }
+    ensures answer { OfState bytes.now start.now (λ s.
+        result ≡ found_status (is_at_line_end (unscanned s))) }
+{
+    let Some(line) = start.on(bytes) else {
+        return BAD_STATE;
+    };
+    status_of(line.is_at_eol())
+}
+
+/// Passes a block quote marker, with at most one column of space. (CommonMark 0.31.2, section 5.1)
+#[unsafe(no_mangle)]
+pub extern "C" fn mds_line_quote(bytes: &[u8], start: &mut Start) -> u32
+    ensures refused { ¬ IsLineState (state_on bytes.now start.old)
+        → (result ≡ bad_state) × (start.new ≡ start.old) }
+    ensures answer { OfState bytes.now start.old (λ s.
+        result ≡ found_status (begins_with (λ b. b == greater_than_sign) (unscanned s))) }
+    ensures state { OfState bytes.now start.old (λ s.
+        state_on bytes.now start.new ≡ after_quote s) }
+    ensures next { OfState bytes.now start.old (λ s. IsNext bytes.now start.old start.new) }
+{
+    let Some(mut line) = start.on(bytes) else {
+        return BAD_STATE;
+    };
+    let found = line.scan_blockquote_marker();
+    start.keep(&line);
+    status_of(found)
+}
+
+/// `struct mds_line_item` of C: a list item's marker, where the status is `OK`.
+#[repr(C)]
+pub struct LineItem {
+    pub status: u32,
+    pub delimiter: u8,
+    pub start: u64,
+    pub indent: usize,
+}
+
+fn no_item(status: u32) -> LineItem
+    ensures { result ≡ no_item status }
+{
+    LineItem {
+        status,
+        delimiter: 0,
+        start: 0,
+        indent: 0,
+    }
+}
+
+/// Passes a list item's marker and the columns that belong to it. (CommonMark 0.31.2, section 5.2)
+#[unsafe(no_mangle)]
+pub extern "C" fn mds_line_list(bytes: &[u8], start: &mut Start, indent: usize) -> LineItem
+    ensures refused { ¬ IsLineState (state_on bytes.now start.old)
+        → (result ≡ no_item bad_state) × (start.new ≡ start.old) }
+    ensures large { IsLineState (state_on bytes.now start.old) → usize.MAX - 16 < indent
+        → (result ≡ no_item too_large) × (start.new ≡ start.old) }
+
+    // Where what is known of the line is true.
+    ensures answer { OfState bytes.now start.old (λ s. indent ≤ usize.MAX - 16
+        → IsTrueStart bytes.now start.old → result ≡ item_told (item_outcome indent s).answer) }
+    ensures state { OfState bytes.now start.old (λ s. indent ≤ usize.MAX - 16
+        → IsTrueStart bytes.now start.old
+        → state_on bytes.now start.new ≡ (item_outcome indent s).state) }
+
+    // Whatever is known.
+    ensures found { OfState bytes.now start.old (λ s. indent ≤ usize.MAX - 16
+        → (result.status ≡ ok)
+        ⊎ ((result ≡ no_item nothing) × (state_on bytes.now start.new ≡ s))) }
+    ensures next { OfState bytes.now start.old (λ s. IsNext bytes.now start.old start.new) }
+{
+    let Some(mut line) = start.on(bytes) else {
+        return no_item(BAD_STATE);
+    };
+    if indent > LARGEST_INDENT {
+        return no_item(TOO_LARGE);
+    }
+    let mut breaks = KnownBreaks {
+        none_before: start.none_before,
+        behind_break: start.behind_break,
+    };
+    let item = line.scan_list_marker_with_breaks(indent, &mut breaks);
+    start.keep(&line);
+    start.none_before = breaks.none_before;
+    start.behind_break = breaks.behind_break;
+    item_of(item)
+}
+
+fn item_of(item: Option<(u8, u64, usize)>) -> LineItem
+    ensures { result ≡ item_told item }
+{
+    match item {
+        Some((delimiter, start, indent)) => LineItem {
+            status: OK,
+            delimiter,
+            start,
+            indent,
+        },
+        None => no_item(NOTHING),
+    }
+}
+
+/// Passes a definition's marker and the columns that belong to it. (An extension of pulldown-cmark)
+#[unsafe(no_mangle)]
+pub extern "C" fn mds_line_definition(bytes: &[u8], start: &mut Start, indent: usize) -> Columns
+    ensures refused { ¬ IsLineState (state_on bytes.now start.old)
+        → (result ≡ no_columns bad_state) × (start.new ≡ start.old) }
+    ensures large { IsLineState (state_on bytes.now start.old) → usize.MAX - 16 < indent
+        → (result ≡ no_columns too_large) × (start.new ≡ start.old) }
+    ensures answer { OfState bytes.now start.old (λ s. indent ≤ usize.MAX - 16
+        → result ≡ columns_told (definition_outcome indent s).answer) }
+    ensures state { OfState bytes.now start.old (λ s. indent ≤ usize.MAX - 16
+        → state_on bytes.now start.new ≡ (definition_outcome indent s).state) }
+    ensures next { OfState bytes.now start.old (λ s. IsNext bytes.now start.old start.new) }
+{
+    let Some(mut line) = start.on(bytes) else {
+        return no_columns(BAD_STATE);
+    };
+    if indent > LARGEST_INDENT {
+        return no_columns(TOO_LARGE);
+    }
+    let columns = line.scan_definition_list_definition_marker_with_indent(indent);
+    start.keep(&line);
+    columns_of(columns)
+}
+
+fn columns_of(columns: Option<usize>) -> Columns
+    ensures { result ≡ columns_told columns }
+{
+    match columns {
+        Some(columns) => Columns {
+            status: OK,
+            columns,
+        },
+        None => no_columns(NOTHING),
+    }
+}
+
+/// `struct mds_task` of C: a task's box, where the status is `OK`.
+#[repr(C)]
+pub struct Task {
+    pub status: u32,
+    pub checked: bool,
+}
+
+/// Passes a task list item's box. (GitHub Flavored Markdown 0.29, section 5.3)
+#[unsafe(no_mangle)]
+pub extern "C" fn mds_line_task(bytes: &[u8], start: &mut Start) -> Task
+    ensures refused { ¬ IsLineState (state_on bytes.now start.old)
+        → (result ≡ no_task bad_state) × (start.new ≡ start.old) }
+    ensures answer { OfState bytes.now start.old (λ s.
+        result ≡ task_told (task_outcome s).answer) }
+    ensures state { OfState bytes.now start.old (λ s.
+        state_on bytes.now start.new ≡ (task_outcome s).state) }
+    ensures next { OfState bytes.now start.old (λ s. IsNext bytes.now start.old start.new) }
+{
+    let Some(mut line) = start.on(bytes) else {
+        return no_task(BAD_STATE);
+    };
+    let checked = line.scan_task_list_marker();
+    start.keep(&line);
+    task_of(checked)
+}
+
+fn no_task(status: u32) -> Task
+    ensures { result ≡ no_task status }
+{
+    Task {
+        status,
+        checked: false,
+    }
+}
+
+fn task_of(checked: Option<bool>) -> Task
+    ensures { result ≡ task_told checked }
+{
+    match checked {
+        Some(checked) => Task {
+            status: OK,
+            checked,
+        },
+        None => no_task(NOTHING),
+    }
+}
+
+/// `struct mds_alert` of C: the number of an alert, where the status is `OK`.
+#[repr(C)]
+pub struct Alert {
+    pub status: u32,
+    pub kind: u32,
+}
+
+/// Passes the line of an alert. (GitHub Docs, alerts)
+#[unsafe(no_mangle)]
+pub extern "C" fn mds_line_alert(bytes: &[u8], start: &mut Start) -> Alert
+    ensures refused { ¬ IsLineState (state_on bytes.now start.old)
+        → (result ≡ no_alert bad_state) × (start.new ≡ start.old) }
+    ensures answer { OfState bytes.now start.old (λ s.
+        result ≡ alert_told (alert_outcome s).answer) }
+    ensures state { OfState bytes.now start.old (λ s.
+        state_on bytes.now start.new ≡ (alert_outcome s).state) }
+    ensures next { OfState bytes.now start.old (λ s. IsNext bytes.now start.old start.new) }
+{
+    let Some(mut line) = start.on(bytes) else {
+        return no_alert(BAD_STATE);
+    };
+    let kind = line.scan_blockquote_tag();
+    start.keep(&line);
+    alert_of(kind)
+}
+
+fn no_alert(status: u32) -> Alert
+    ensures { result ≡ no_alert status }
+{
+    Alert { status, kind: 0 }
+}
+
+fn alert_of(kind: Option<BlockQuoteKind>) -> Alert
+    ensures { result ≡ alert_told kind }
+{
+    match kind {
+        Some(kind) => Alert {
+            status: OK,
+            kind: number_of(kind),
+        },
+        None => no_alert(NOTHING),
+    }
+}
+
+fn number_of(kind: BlockQuoteKind) -> u32
+    ensures { result ≡ alert_number kind }
+{
+    match kind {
+        BlockQuoteKind::Note => 1,
+        BlockQuoteKind::Tip => 2,
+        BlockQuoteKind::Important => 3,
+        BlockQuoteKind::Warning => 4,
+        BlockQuoteKind::Caution => 5,
+    }
+}
