@@ -22,6 +22,11 @@ def eol(text):
     return length_of(ENDING, text)
 
 
+def line(text):
+    """The bytes before the first LF or CR, and that ending."""
+    return length_of(rb"[^\r\n]*" + ENDING, text)
+
+
 def blank_line(text):
     return length_of(INLINE_SPACE + b"*" + ENDING, text)
 

@@ -77,7 +77,9 @@ def lines():
     box, seen = of_line(b"\t[x] a", ("task",), ("seen",))
     found += [some(box), seen]
     alert, seen = of_line(b"[!Note]  \nx", ("alert",), ("seen",))
-    return found + [some(alert and Value(alert)), seen]
+    found += [some(alert and Value(alert)), seen]
+    _, taken, item, seen = of_line(b">\t- x", ("quote",), ("upto", 9), ("list", 1), ("seen",))
+    return found + [False, (0, taken), some(item), seen]
 
 
 # Scanners of lines.
@@ -100,7 +102,7 @@ def scanners():
         *map(classes, (b"\n", b" ", b"-", b"a")),
         int(b"ab".startswith(b"a")), run_of(b"aab", b"a"), run_of(b"aab", b"a"), run_of(b"baa"[::-1], b"a"),
         answers.length_of(answers.INLINE_SPACE + b"*", b" \tx"),
-        some(answers.eol(b"\rx")), some(answers.blank_line(b"\r\r\n")), b"a\rb\nc".index(b"\n") + 1,
+        some(answers.eol(b"\rx")), some(answers.blank_line(b"\r\r\n")), answers.line(b"a\r\nb"), b"a\rb\nc".index(b"\n") + 1,
         some(answers.length_of(b"> ?", b"> ")), Value("Ok", broken), Value("Err", answers.break_length(b"- -x-")),
         answers.indent(b"\t x", 4), some(Value(f"H{level}")), some((setext[0], Value(f"H{setext[1]}"))),
         some(answers.code_fence(b"~~~a`")), some(answers.closing_code_fence(b"````  \n", ord("`"), 3)),
@@ -126,12 +128,14 @@ def told_destination(text, max_next):
 
 def inline():
     end, address = answers.uri(b"https://a.b>", 0)
+    bare = answers.destination(b"((a)) b", 1)
     plain = "plain & simple"
     assert answers.unescaped(plain.encode(), KNOWN) == plain
     return [
         *map(told_reference, ("&#x1F354;".encode(), b"&amp;", b"&#12345678;")),
         some(answers.wikilink(b"a|b]]", 0, 3)), told_destination(b"((a))", 1), told_destination(b"(((a)))", 1),
-        some((end, borrowed(address), Value("Autolink"))), answers.is_block_name(b"DIV>"),
+        some((end, borrowed(address), Value("Autolink"))), some(answers.wikilink(b"a|b]]", 0, 3)[0] - 1),
+        some((bare, Plain(f"0..{bare}"))), some(len(address)), answers.is_block_name(b"DIV>"),
         some(answers.tag_alone(b"<a b=\t'c'>  \n")), told_tag(b"<foo bar>", None), told_tag(b"</a\n>", None),
         told_tag(b"<a\nb\nc>", quote), told_tag(b"</a\n\n> >", quote), told("borrowed", plain),
         answers.table_head(b"| a |"), *map(told_label, (b"a\\ ]", b" a b ]", b"a  b", b"a\n\nb]")),
