@@ -1,5 +1,5 @@
 -- What begins just after an opener, by its mark; how many bytes a scan passes over at most; and guards at later places.
-use Rattle.std.proofs.Common.{ℕ, zero, suc, ◌+◌, ◌≤◌, ◌<◌, ◌≡◌, ◌⊎◌, Bool, true, false, ◌&&◌, cond, List, length, take, drop, Option, Some, None, inl, inr, refl, sym, ap, subst, ◌∙◌, arith}
+use Rattle.std.proofs.Common.{ℕ, zero, suc, ◌+◌, ◌≤◌, ◌<◌, ◌≡◌, ◌⊎◌, Bool, true, false, ◌&&◌, cond, List, [], ◌∷◌, ◌++◌, length, take, drop, Option, Some, None, inl, inr, refl, sym, ap, subst, ◌∙◌, arith}
 use Rattle.std.specs.Prelude.{IfSome, option_map, nat_le}
 use Rattle.std.proofs.lemmas.Bool.{cases_Bool, and_parts, leb-true, ltb-true, lt-ltb, le-leb}
 use Rattle.std.specs.Str.{bytes_eq}
@@ -9,9 +9,10 @@ use Rattle.markdown_scanners_tree.specs.inline_html.Guard.{is_stopped, answer_of
 use Rattle.markdown_scanners_tree.specs.inline_html.InlineHtml.{Kind, Comment, Cdata, Declaration, Processing, Opening, Begins, Hyphen, Bracket, Nothing, closer, lead}
 use Rattle.markdown_scanners_tree.specs.inline_html.InlineHtml.{least_place, first_closer, closed_at, declared_at, processing_at, opening_at}
 use Rattle.markdown_scanners_tree.specs.inline_html.InlineHtml.{ends_opener, opener_before, find_at, span, searched, cost}
-use Rattle.markdown_scanners_tree.proofs.ForCallers.{opener-bounds}
+use Rattle.markdown_scanners_tree.specs.inline_html.run.KeptGuard.{first_guard, AreScanPlaces, guard_after_scans, bytes_scanned}
+use Rattle.markdown_scanners_tree.proofs.ForCallers.{opener-bounds, next_scan}
 use Rattle.markdown_scanners_c.specs.Finds.{IsFindEnd}
-use Rattle.markdown_scanners_c.specs.Guards.{scan_guard, new_guard, IsAnswerTold, bytes_scanned, IsGuardedEnd, IsTrueEnd}
+use Rattle.markdown_scanners_c.specs.Guards.{scan_guard, new_guard, IsAnswerTold, IsGuardedEnd, IsScanUnder, IsTrueEnd, IsScanInTurn}
 use Rattle.markdown_scanners_c.specs.declared.html.End.{End}
 use Rattle.markdown_scanners_c.specs.declared.html.Guard.{Guard}
 
@@ -150,3 +151,18 @@ module _ (bytes : List ℕ) (place mark : ℕ) (opener : opener_before bytes pla
   first_is_true guard first =
       let bounds = opener-bounds bytes place mark opener in
       subst (λ g. IsTrueGuard bytes (scan_guard g) place) (sym first) (first_true bytes place (omega (arith, bounds.0)))
+
+  -- a scan at the last of rising places outside earlier finds, under the guard that the others leave
+  pub in_turn : (earlier : List ℕ) (old new : Guard) (found : End) → IsScanUnder bytes place (scan_guard old) (scan_guard new) found
+      → (IsTrueGuard bytes (scan_guard old) place → IsTrueEnd bytes place new found)
+      → AreScanPlaces bytes (earlier ++ place ∷ []) → scan_guard old ≡ guard_after_scans bytes first_guard earlier
+      → IsScanInTurn bytes earlier place new found
+  in_turn earlier old new found scan ends free same =
+      let next = next_scan bytes earlier place free in
+      let counts = scan.counts ∙ ap (λ g. bytes_scanned bytes g place) same in
+      record {
+        finds = (ends (subst (λ g. IsTrueGuard bytes g place) (sym same) next.true_guard)).finds;
+        guards = scan.guards ∙ ap (λ g. guard_after_scan opening_at bytes g place) same ∙ sym next.guards;
+        counts = omega (arith, counts, next.counts);
+        budget = omega (arith, counts, next.counts, next.budget);
+      }

@@ -1,8 +1,9 @@
 -- Scans of inline HTML under a guard that C keeps from call to call. (CommonMark 0.31.2, section 6.6, raw HTML)
-use Rattle.std.specs.Prelude.{ℕ, List, ◌≡◌, ◌≢◌, ◌⊎◌, ◌<◌, ◌≤◌, Option, None, Some}
+use Rattle.std.specs.Prelude.{ℕ, List, [], ◌∷◌, ◌++◌, length, ◌+◌, ◌*◌, ◌≡◌, ◌≢◌, ◌⊎◌, ◌<◌, ◌≤◌, Option, None, Some}
 use Rattle.markdown_scanners_tree.specs.declared.inline_html.HtmlScanGuard.{HtmlScanGuard}
-use Rattle.markdown_scanners_tree.specs.inline_html.Guard.{answer_of_scan, guard_after_scan, text_after_scan, IsTrueGuard}
+use Rattle.markdown_scanners_tree.specs.inline_html.Guard.{answer_of_scan, guard_after_scan, IsTrueGuard}
 use Rattle.markdown_scanners_tree.specs.inline_html.InlineHtml.{opener_before, opening_at}
+use Rattle.markdown_scanners_tree.specs.inline_html.run.KeptGuard.{first_guard, guard_after_scans, bytes_scanned, all_bytes_scanned}
 use Rattle.markdown_scanners_c.specs.Finds.{IsFindEnd}
 use Rattle.markdown_scanners_c.specs.Status.{ok, nothing, no_opener}
 use Rattle.markdown_scanners_c.specs.declared.html.Guard.{Guard}
@@ -26,10 +27,6 @@ abbrev pub IsAnswerTold : Option ℕ → End → Type 0
 IsAnswerTold None found = (found.status ≡ nothing) × (found.end ≡ 0)
 IsAnswerTold (Some end) found = (found.status ≡ ok) × (found.end ≡ end)
 
--- the bytes that a scan at the place passes over under the guard
-abbrev pub bytes_scanned : List ℕ → HtmlScanGuard → ℕ → ℕ
-bytes_scanned bytes guard place = (text_after_scan opening_at (record { text = bytes; passed = 0 }) guard place).passed
-
 -- what a scan at the place, just after an opener, answers under the guard, leaves as the guard, and passes over
 pub record IsScanUnder (bytes : List ℕ) (place : ℕ) (old new : HtmlScanGuard) (found : End) : Type 0 where
   pub answers : IsAnswerTold (answer_of_scan opening_at bytes old place) found
@@ -48,3 +45,13 @@ IsGuardedEnd bytes place old new found =
 pub record IsTrueEnd (bytes : List ℕ) (place : ℕ) (new : Guard) (found : End) : Type 0 where
   pub finds : IsFindEnd bytes place found
   pub stays_true : (later : ℕ) → place < later → found.end ≤ later → IsTrueGuard bytes (scan_guard new) later
+
+-- A scan at the place, where scans at the earlier places left the guard: the find is told, the guard is as scans at all of
+-- them leave it, and they pass over at most four bytes for each byte of the text, and eight for each scan.
+pub record IsScanInTurn (bytes earlier : List ℕ) (place : ℕ) (new : Guard) (found : End) : Type 0 where
+  pub finds : IsFindEnd bytes place found
+  pub guards : scan_guard new ≡ guard_after_scans bytes first_guard (earlier ++ place ∷ [])
+  pub counts : all_bytes_scanned bytes first_guard earlier + found.passed
+      ≡ all_bytes_scanned bytes first_guard (earlier ++ place ∷ [])
+  pub budget : all_bytes_scanned bytes first_guard earlier + found.passed
+      ≤ 4 * length bytes + 8 * (length earlier + 1)

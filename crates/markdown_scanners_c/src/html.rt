@@ -1,14 +1,15 @@
 //! HTML blocks, tags and inline HTML.
-ghost use Rattle.std.specs.Prelude.{◌≡◌, ◌↔◌, ◌≤◌, ◌<◌, ◌+◌, ◌^◌, ℕ, List, IsTrue, Some, true, length};
+ghost use Rattle.std.specs.Prelude.{◌≡◌, ◌↔◌, ◌≤◌, ◌<◌, ◌+◌, ◌^◌, ◌++◌, [], ◌∷◌, ℕ, List, IsTrue, Some, true, length};
 ghost use Rattle.markdown_scanners_tree.specs.Kept.{KeptByte};
 ghost use Rattle.markdown_scanners_tree.specs.inline_html.Guard.{answer_of_scan, guard_after_scan, text_after_scan, IsTrueGuard, IsTrueScan};
 ghost use Rattle.markdown_scanners_tree.specs.inline_html.InlineHtml.{opener_before, opening_at};
+ghost use Rattle.markdown_scanners_tree.specs.inline_html.run.KeptGuard.{first_guard, AreScanPlaces, guard_after_scans};
 ghost use Rattle.markdown_scanners_tree.specs.scanners.html_block.HtmlBlock.{IsBlockStart};
 ghost use Rattle.markdown_scanners_tree.specs.scanners.html_tag.HtmlTag.{IsTagAloneInLine};
 ghost use Rattle.markdown_scanners_tree.specs.scanners.html_tag.KeptTag.{IsKeptTag, place_after};
 ghost use Rattle.markdown_scanners_c.specs.Answers.{FoundExactly};
 ghost use Rattle.markdown_scanners_c.specs.Finds.{IsFindEnd};
-ghost use Rattle.markdown_scanners_c.specs.Guards.{scan_guard, new_guard, IsGuardedEnd, IsTrueEnd};
+ghost use Rattle.markdown_scanners_c.specs.Guards.{scan_guard, new_guard, IsGuardedEnd, IsTrueEnd, IsScanInTurn};
 ghost use Rattle.markdown_scanners_c.specs.Skips.{are_skips, LeavesOut};
 ghost use Rattle.markdown_scanners_c.specs.Tags.{IsTagText, IsScannedTag};
 
@@ -120,6 +121,11 @@ pub extern "C" fn mds_scan_inline_html(bytes: &[u8], place: usize, guard: &mut G
     ensures finds { IsTrueGuard bytes.now (scan_guard guard.old) place
         → IsTrueEnd bytes.now place guard.new result }
     ensures first { guard.old ≡ new_guard → IsTrueEnd bytes.now place guard.new result }
+
+    // At rising places outside earlier finds.
+    ensures in_turn { (earlier : List ℕ) → AreScanPlaces bytes.now (earlier ++ place ∷ [])
+        → scan_guard guard.old ≡ guard_after_scans bytes.now first_guard earlier
+        → IsScanInTurn bytes.now earlier place guard.new result }
 {
     let mut text = CountedText::new(bytes);
     let Some(mark) = text.opener_before(place) else {

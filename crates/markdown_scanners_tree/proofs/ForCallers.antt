@@ -3,6 +3,7 @@ pub use Rattle.markdown_scanners_tree.proofs.HandlerLemmas.{cut_behind_ascii, cu
 pub use Rattle.markdown_scanners_tree.proofs.LabelHandlers.{label_of_more}
 pub use Rattle.markdown_scanners_tree.proofs.inline_html.TrueGuards.{opener-bounds}
 pub use Rattle.markdown_scanners_tree.proofs.inline_html.run.GuardsStay.{accepted}
+pub use Rattle.markdown_scanners_tree.proofs.inline_html.run.KeptGuard.{next_scan}
 pub use Rattle.markdown_scanners_tree.proofs.inline_html.run.Sums.{passed-counted}
 pub use Rattle.markdown_scanners_tree.proofs.line.ItemIndents.{same_items}
 pub use Rattle.markdown_scanners_tree.proofs.line.ItemRules.{items_agree, item_alone, no_item_alone, items_begun, same_answers}

@@ -12,7 +12,7 @@ use Rattle.markdown_scanners_tree.specs.Ascii.{exclamation_mark, less_than_sign,
 use Rattle.markdown_scanners_tree.specs.Bytes.{is_letter}
 use Rattle.markdown_scanners_tree.specs.inline_html.CountedText.{CountedBytes, passing}
 use Rattle.markdown_scanners_tree.specs.inline_html.InlineHtml.{Kind, Comment, Cdata, Declaration, Processing, Opening, Begins, Hyphen, Bracket, Nothing, closer, lead, first_closer, closed_at, end_of, declared_at, opening_at, ends_opener, opener_before}
-use Rattle.markdown_scanners_tree.specs.inline_html.Guard.{is_stopped, with_number, searched_guard, guarded_answer, guard_after, IsTrueGuard, IsTrueScan}
+use Rattle.markdown_scanners_tree.specs.inline_html.Guard.{is_stopped, with_number, searched_guard, guarded_answer, guard_after, answer_of_scan, guard_after_scan, IsTrueGuard, IsTrueScan}
 use Rattle.markdown_scanners_tree.proofs.inline_html.LeastPlaces.{first_place-FindsNeedle, first_place-value}
 
 -- ---- what begins at a place holds no closer
@@ -249,3 +249,15 @@ opener-question text p mark e no_bang =
 pub opener-bounds : (text : List ℕ) (p mark : ℕ) → opener_before text p ≡ Some mark → (2 ≤ p) × (p ≤ length text)
 opener-bounds text p mark e =
     ⊎_elim (λ bang. opener-in exclamation_mark text p bang.0) (λ question. opener-in question_mark text p question.0) (opener-mark text p mark e)
+
+-- a scan just after an opener, under a guard that is true there
+pub true-opening : (text : List ℕ) (guard : HtmlScanGuard) (p mark : ℕ) → opener_before text p ≡ Some mark
+    → IsTrueGuard text guard p
+    → IsTrueScan text p (answer_of_scan opening_at text guard p) (guard_after_scan opening_at text guard p)
+true-opening text guard p mark opener is =
+    ⊎_elim
+    (λ bang. let same = opening_at-declared text p bang.0 in
+    true-scan text guard _ p _ _ (ap (λ o. guarded_answer text guard o p) same) (ap (λ o. guard_after text guard o p) same) same (declared_at-lead text p) is)
+    (λ question. let same = opening_at-processing text p question.0 in
+    true-scan text guard _ p _ _ (ap (λ o. guarded_answer text guard o p) same) (ap (λ o. guard_after text guard o p) same) same (processing-lead text p) is)
+    (opener-mark text p mark opener)

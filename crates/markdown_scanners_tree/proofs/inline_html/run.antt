@@ -1,4 +1,5 @@
 pub mod Budget
 pub mod GuardsStay
+pub mod KeptGuard
 pub mod Runs
 pub mod Sums

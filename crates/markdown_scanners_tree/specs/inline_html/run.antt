@@ -1,3 +1,4 @@
+pub mod KeptGuard
 pub mod Passed
 pub mod Run
 pub mod private
