@@ -36,7 +36,9 @@
  * whether it is UTF-8; of bytes no more than it has to, most often up to the end of the line. Only a call that looks
  * for what closes or ends something goes through all of them where nothing does.
  *
- * Machines. The archive is for x86-64 processors of level 2 (x86-64-v2) and above.
+ * Machines. The archive is for x86-64 processors of level 2 (x86-64-v2) and above. One for each x86-64 is made by
+ * `rt lib --cpu=x86-64` in the crate's folder: it has 3 KB more, and its outline of 1.8 MB of Markdown takes 2% fewer
+ * instructions, that of lines of 200 bytes 4% more.
  */
 #ifndef MARKDOWN_SCANNERS_H
 #define MARKDOWN_SCANNERS_H
