@@ -1,9 +1,8 @@
 #!/usr/bin/env python3
 """Prints the outline of a Markdown file, as outline.c does. It calls the C functions of markdown_scanners.h by ctypes,
-over the shared library that c/run makes, or that these lines make in the top folder of the repository:
+over the shared library that c/build makes:
 
-    cc -shared -Wl,--whole-archive out/libmarkdown_scanners.a -Wl,--no-whole-archive -o out/libmarkdown_scanners.so
-    c/examples/outline.py README.md
+    c/build && c/examples/outline.py README.md
 
 MARKDOWN_SCANNERS may name the library where it stands elsewhere.
 """
@@ -367,7 +366,7 @@ def main(words):
     if len(words) > 1:
         sys.stderr.write(HELP)
         return 2
-    made = Path(__file__).resolve().parents[2] / "out/libmarkdown_scanners.so"
+    made = Path(__file__).resolve().parents[2] / "out/libmarkdown_scanners.so.0"
     scanners = Scanners(os.environ.get("MARKDOWN_SCANNERS", made))
     report, missing = Reader(scanners).read(read_page(words, scanners))
     try:
