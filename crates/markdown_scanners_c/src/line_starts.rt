@@ -3,6 +3,7 @@ ghost use Rattle.std.specs.Prelude.{◌≡◌, ◌==◌, ◌≤◌, ◌<◌, ◌
 ghost use Rattle.markdown_values.specs.declared.values.BlockQuoteKind.{BlockQuoteKind as Quoted};
 ghost use Rattle.markdown_scanners_tree.specs.Ascii.{greater_than_sign};
 ghost use Rattle.markdown_scanners_tree.specs.Bytes.{begins_with, is_at_line_end};
+ghost use Rattle.markdown_scanners_tree.specs.line.KnownBreaks.{learnt_by_marker};
 ghost use Rattle.markdown_scanners_tree.specs.line.Outcome.{after_all_space, after_quote, alert_outcome, definition_outcome, item_outcome, task_outcome};
 ghost use Rattle.markdown_scanners_tree.specs.line.State.{IsLineState, after_space, space_within, unscanned};
 ghost use Rattle.markdown_scanners_c.specs.LineStarts.{state_on, known_breaks, IsTrueStart, OfState, IsNext, found_status, no_columns, columns_told, no_item, item_told, no_task, task_told, alert_number, no_alert, alert_told};
@@ -63,6 +64,7 @@ pub extern "C" fn mds_line_space(bytes: &[u8], start: &mut Start, count: usize) 
     ensures state { OfState bytes.now start.old (λ s.
         state_on bytes.now start.new ≡ after_space count s) }
     ensures next { OfState bytes.now start.old (λ s. IsNext bytes.now start.old start.new) }
+    ensures kept { known_breaks start.new ≡ known_breaks start.old }
 {
     let Some(mut line) = start.on(bytes) else {
         return BAD_STATE;
@@ -95,6 +97,7 @@ pub extern "C" fn mds_line_upto(bytes: &[u8], start: &mut Start, count: usize) -
     ensures state { OfState bytes.now start.old (λ s.
         state_on bytes.now start.new ≡ after_space count s) }
     ensures next { OfState bytes.now start.old (λ s. IsNext bytes.now start.old start.new) }
+    ensures kept { known_breaks start.new ≡ known_breaks start.old }
 {
     let Some(mut line) = start.on(bytes) else {
         return no_columns(BAD_STATE);
@@ -117,6 +120,7 @@ pub extern "C" fn mds_line_all_space(bytes: &[u8], start: &mut Start) -> u32
     ensures state { OfState bytes.now start.old (λ s.
         state_on bytes.now start.new ≡ after_all_space s) }
     ensures next { OfState bytes.now start.old (λ s. IsNext bytes.now start.old start.new) }
+    ensures kept { known_breaks start.new ≡ known_breaks start.old }
 {
     let Some(mut line) = start.on(bytes) else {
         return BAD_STATE;
@@ -149,6 +153,7 @@ pub extern "C" fn mds_line_quote(bytes: &[u8], start: &mut Start) -> u32
     ensures state { OfState bytes.now start.old (λ s.
         state_on bytes.now start.new ≡ after_quote s) }
     ensures next { OfState bytes.now start.old (λ s. IsNext bytes.now start.old start.new) }
+    ensures kept { known_breaks start.new ≡ known_breaks start.old }
 {
     let Some(mut line) = start.on(bytes) else {
         return BAD_STATE;
@@ -198,6 +203,9 @@ pub extern "C" fn mds_line_list(bytes: &[u8], start: &mut Start, indent: usize) 
         → (result.status ≡ ok)
         ⊎ ((result ≡ no_item nothing) × (state_on bytes.now start.new ≡ s))) }
     ensures next { OfState bytes.now start.old (λ s. IsNext bytes.now start.old start.new) }
+    ensures learnt { OfState bytes.now start.old (λ s. indent ≤ usize.MAX - 16
+        → known_breaks start.new
+        ≡ learnt_by_marker bytes.now start.old.place (known_breaks start.old)) }
 {
     let Some(mut line) = start.on(bytes) else {
         return no_item(BAD_STATE);
@@ -242,6 +250,7 @@ pub extern "C" fn mds_line_definition(bytes: &[u8], start: &mut Start, indent: u
     ensures state { OfState bytes.now start.old (λ s. indent ≤ usize.MAX - 16
         → state_on bytes.now start.new ≡ (definition_outcome indent s).state) }
     ensures next { OfState bytes.now start.old (λ s. IsNext bytes.now start.old start.new) }
+    ensures kept { known_breaks start.new ≡ known_breaks start.old }
 {
     let Some(mut line) = start.on(bytes) else {
         return no_columns(BAD_STATE);
@@ -283,6 +292,7 @@ pub extern "C" fn mds_line_task(bytes: &[u8], start: &mut Start) -> Task
     ensures state { OfState bytes.now start.old (λ s.
         state_on bytes.now start.new ≡ (task_outcome s).state) }
     ensures next { OfState bytes.now start.old (λ s. IsNext bytes.now start.old start.new) }
+    ensures kept { known_breaks start.new ≡ known_breaks start.old }
 {
     let Some(mut line) = start.on(bytes) else {
         return no_task(BAD_STATE);
@@ -330,6 +340,7 @@ pub extern "C" fn mds_line_alert(bytes: &[u8], start: &mut Start) -> Alert
     ensures state { OfState bytes.now start.old (λ s.
         state_on bytes.now start.new ≡ (alert_outcome s).state) }
     ensures next { OfState bytes.now start.old (λ s. IsNext bytes.now start.old start.new) }
+    ensures kept { known_breaks start.new ≡ known_breaks start.old }
 {
     let Some(mut line) = start.on(bytes) else {
         return no_alert(BAD_STATE);

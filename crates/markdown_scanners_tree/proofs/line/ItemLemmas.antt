@@ -73,15 +73,36 @@ marker-found bytes width delimiter start is inside no_break =
     ap list_marker (sym whole) ∙ found
     ∙ ap (λ n. Some (record { width = n; delimiter = delimiter; start = start })) count
 
+-- a bullet stands at the front where the marker has one byte, and else none does
+pub marker-bullet : (bytes : List ℕ) (width delimiter start : ℕ)
+    → IsListMarker (take width bytes) delimiter start → width ≤ length bytes
+    → begins_with is_bullet bytes ≡ (width == 1)
+marker-bullet bytes width delimiter start is inside =
+    let whole : take width bytes ++ drop width bytes ≡ bytes = take-append-drop width bytes in
+    let count : length (take width bytes) ≡ width = length-take-le width bytes inside in
+    ap (begins_with is_bullet) (sym whole) ∙ counted (take width bytes) (drop width bytes) delimiter start is
+    ∙ ap (λ n. n == 1) count
+  where
+    counted : (marker rest : List ℕ) (delimiter start : ℕ) → IsListMarker marker delimiter start
+        → begins_with is_bullet (marker ++ rest) ≡ (length marker == 1)
+    counted marker rest delimiter start (bullet b is) = is
+    counted marker rest delimiter start (ordered digits d one few all is) =
+        let long : (length (digits ++ d ∷ []) == 1) ≡ false =
+        (let count = length-append digits (d ∷ []) in grind (arith, nat_tests)) in
+        (ordered-parts digits d rest one all is).0 ∙ sym long
+
+pub no-bullet : (bytes : List ℕ) → ((n delimiter start : ℕ) → ¬ IsListMarker (take n bytes) delimiter start)
+    → begins_with is_bullet bytes ≡ false
+no-bullet bytes absent =
+    bool_cases (begins_with is_bullet bytes)
+    (λ begins. absurd (absent 1 (get_or bytes 0 0) 0 (bullet-scanned bytes begins))) (λ other. other)
+
 -- no list marker at the front of some bytes
 pub marker-none : (bytes : List ℕ) → ((n delimiter start : ℕ) → ¬ IsListMarker (take n bytes) delimiter start)
     → list_marker bytes ≡ None
 marker-none bytes absent =
     let n = prefix_len is_digit bytes in
     let count : length (take n bytes) ≡ n = length-prefix_len is_digit bytes in
-    let bullets : begins_with is_bullet bytes ≡ false =
-    bool_cases (begins_with is_bullet bytes)
-    (λ begins. absurd (absent 1 (get_or bytes 0 0) 0 (bullet-scanned bytes begins))) (λ other. other) in
     let delimited : (nat_le 1 n && nat_le n 9 && begins_with is_delimiter (drop n bytes)) ≡ false =
     bool_cases (nat_le 1 n && nat_le n 9 && begins_with is_delimiter (drop n bytes))
     (λ yes.
@@ -91,7 +112,7 @@ marker-none bytes absent =
     absurd (absent (n + 1) (get_or bytes n 0) (digits_value 10 (take n bytes))
     (ordered-scanned bytes n refl (leb-true 1 n ends.0) (leb-true n 9 ends.1) at.0 at.1)))
     (λ other. other) in
-    ap (λ o. pick o (ordered_marker bytes)) (bullet-none bytes bullets)
+    ap (λ o. pick o (ordered_marker bytes)) (bullet-none bytes (no-bullet bytes absent))
     ∙ ap (λ k. ordered_marker_of (take n bytes) (drop k bytes)) count
     ∙ no_ordered (take n bytes) (drop n bytes) n count delimited
   where

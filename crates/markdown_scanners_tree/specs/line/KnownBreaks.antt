@@ -1,6 +1,8 @@
 -- What is known of the thematic breaks in a line. (CommonMark 0.31.2, section 4.1)
-use Rattle.std.specs.Prelude.{ℕ, true, false, ◌≡◌, ◌≤◌, ◌<◌, ◌+◌, List, drop}
-use Rattle.markdown_scanners_tree.specs.scanners.Breaks.{is_thematic_break}
+use Rattle.std.specs.Prelude.{ℕ, true, false, ◌||◌, ◌==◌, nat_lt, nat_le, ◌≡◌, ◌≤◌, ◌<◌, ◌+◌, List, length, drop, if◌then◌else◌}
+use Rattle.markdown_scanners_tree.specs.Bytes.{begins_with}
+use Rattle.markdown_scanners_tree.specs.scanners.Breaks.{is_thematic_break, break_length}
+use Rattle.markdown_scanners_tree.specs.scanners.list_items.ListMarker.{is_bullet}
 use Rattle.markdown_scanners_tree.specs.declared.line.known_breaks.KnownBreaks.{KnownBreaks}
 
 -- It is true of the bytes from a place on: no thematic break begins there or later before the one
@@ -9,3 +11,19 @@ abbrev pub AreTrueBreaks : List ℕ → KnownBreaks → ℕ → Type 0
 AreTrueBreaks bytes known place =
     ((k : ℕ) → place ≤ k → k < known.none_before → is_thematic_break (drop k bytes) ≡ false)
     × ((k : ℕ) → known.behind_break ≡ k + 1 → is_thematic_break (drop k bytes) ≡ true)
+
+-- What is known once it was asked whether a thematic break begins at the place. It stays where that
+-- was known, or no byte stands there. Else a break that begins there is known, or how far the line can
+-- be read as one: none begins before that.
+abbrev pub learnt_at : List ℕ → ℕ → KnownBreaks → KnownBreaks
+learnt_at bytes place known =
+    if nat_lt place known.none_before || known.behind_break == place + 1 || nat_le (length bytes) place
+    then known
+    else if is_thematic_break (drop place bytes)
+    then record known { behind_break = place + 1 }
+    else record known { none_before = place + break_length (drop place bytes) }
+
+-- the same of a list marker: only a bullet may begin a break
+abbrev pub learnt_by_marker : List ℕ → ℕ → KnownBreaks → KnownBreaks
+learnt_by_marker bytes place known =
+    if begins_with is_bullet (drop place bytes) then learnt_at bytes place known else known

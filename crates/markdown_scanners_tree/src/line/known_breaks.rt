@@ -1,6 +1,6 @@
 //! What is known of the thematic breaks in a line, so that its bytes are read once for them.
-ghost use Rattle.std.specs.Prelude.{◌≡◌, ◌≤◌, ℕ, List, drop};
-ghost use Rattle.markdown_scanners_tree.specs.line.KnownBreaks.{AreTrueBreaks};
+ghost use Rattle.std.specs.Prelude.{◌≡◌, ◌≤◌, ◌<◌, ◌+◌, ℕ, List, drop, length, true, false};
+ghost use Rattle.markdown_scanners_tree.specs.line.KnownBreaks.{AreTrueBreaks, learnt_at};
 ghost use Rattle.markdown_scanners_tree.specs.scanners.Breaks.{is_thematic_break};
 
 use crate::scanners::scan_hrule;
@@ -40,6 +40,12 @@ impl KnownBreaks {
         // What is known then is true from each later place on.
         ensures truth { AreTrueBreaks bytes.now self.old place
             → (later : ℕ) → place ≤ later → AreTrueBreaks bytes.now self.new later }
+
+        // Whatever is known: it is used, and what is read for the answer is learnt.
+        ensures none_known { place < self.old.none_before → result ≡ false }
+        ensures one_known { self.old.none_before ≤ place → place < length bytes.now
+            → self.old.behind_break ≡ place + 1 → result ≡ true }
+        ensures learnt { self.new ≡ learnt_at bytes.now place self.old }
     {
         if place < self.none_before || place >= bytes.len() {
             return false;

@@ -1,6 +1,6 @@
 //! Markers of list items and of definitions, with the space that belongs to them.
 ghost use Rattle.std.specs.Prelude.{ℕ, ◌≡◌, ◌+◌, ◌-◌, ◌≤◌, ◌<◌, length, take, drop, Some, None, IfSome, IfNone};
-ghost use Rattle.markdown_scanners_tree.specs.line.KnownBreaks.{AreTrueBreaks};
+ghost use Rattle.markdown_scanners_tree.specs.line.KnownBreaks.{AreTrueBreaks, learnt_by_marker};
 ghost use Rattle.markdown_scanners_tree.specs.line.Outcome.{further_spaces, item_outcome, item_outcome_by, definition_outcome, space_or_end_follows};
 ghost use Rattle.markdown_scanners_tree.specs.line.PlainStep.{IsPlainStep, definition_spaces};
 ghost use Rattle.markdown_scanners_tree.specs.line.State.{unscanned, rest_of, leading_spaces, space_within, after_space};
@@ -64,7 +64,9 @@ impl LineStart<'_> {
         ensures truth { AreTrueBreaks self.old.bytes breaks.old self.old.place
             → AreTrueBreaks self.new.bytes breaks.new self.new.place }
 
-        // Whatever is known.
+        // Whatever is known: what is read to tell it is learnt.
+        ensures learnt { breaks.new
+            ≡ learnt_by_marker self.old.bytes self.old.place breaks.old }
         ensures width { IfSome result (λ r. r.2 ≤ indent + 14) }
         ensures bytes { self.new.bytes ≡ self.old.bytes }
         ensures forward { self.old.place ≤ self.new.place }
@@ -222,7 +224,8 @@ fn marker_at(bytes: &[u8], place: usize, breaks: &mut KnownBreaks) -> Option<(us
     ensures truth { AreTrueBreaks bytes.now breaks.old place
         → (later : ℕ) → place ≤ later → AreTrueBreaks bytes.now breaks.new later }
 
-    // Whatever is known.
+    // Whatever is known: what is read to tell it is learnt.
+    ensures learnt { breaks.new ≡ learnt_by_marker bytes.now place breaks.old }
     ensures marker { IfSome result (λ r. IsListMarker (take r.0 (drop place bytes.now)) r.1 r.2) }
     ensures inside { IfSome result (λ r. place + r.0 ≤ length bytes.now) }
     ensures width { IfSome result (λ r. r.0 ≤ 10) }

@@ -1,8 +1,15 @@
-use Rattle.std.proofs.Common.{◌≡◌, ◌-◌, ◌≤◌, true, false, sym, ap, ◌∙◌, take, drop, length, arith}
+use Rattle.std.proofs.Common.{ℕ, List, ◌≡◌, ◌==◌, ◌-◌, ◌≤◌, false, true, refl, sym, ap, subst, ◌∙◌, take, drop, length, arith}
+use Rattle.std.proofs.lemmas.Bool.Decides.{nat_tests}
 use Rattle.std.proofs.lemmas.List.{length-drop, length-take-le}
+use Rattle.markdown_scanners_tree.specs.Bytes.{begins_with}
+use Rattle.markdown_scanners_tree.specs.line.KnownBreaks.{AreTrueBreaks, learnt_at, learnt_by_marker}
 use Rattle.markdown_scanners_tree.specs.scanners.Breaks.{is_thematic_break}
+use Rattle.markdown_scanners_tree.specs.scanners.list_items.ListItem.{IsListMarker}
+use Rattle.markdown_scanners_tree.specs.scanners.list_items.ListMarker.{is_bullet}
+use Rattle.markdown_scanners_tree.specs.declared.line.known_breaks.KnownBreaks.{KnownBreaks}
 use Rattle.markdown_scanners_tree.proofs.PrefixLemmas.{from_place}
-use Rattle.markdown_scanners_tree.proofs.line.ItemLemmas.{marker-break, marker-found, marker-none, marker-width}
+use Rattle.markdown_scanners_tree.proofs.line.ItemLemmas.{marker-break, marker-bullet, marker-found, marker-none, marker-width, no-bullet}
+use Rattle.markdown_scanners_tree.proofs.line.PlaceLemmas.{breaks_stay}
 use Rattle.markdown_scanners_tree.proofs.line.markers.marker_at.Goals as goal
 use Rattle.markdown_scanners_tree.proofs.line.markers.marker_at.Goals.{else-width-eq1-via-then-width-eq1+else-begins_break, else-width-eq1-via-else-width-eq1}
 
@@ -59,3 +66,62 @@ returns-clause-width c =
     (take c.in_ok-width.width bytes) c.in_ok-width.delimiter c.in_ok-width.start c.in_ok-width.ensures.found in
     let count = length-take-le c.in_ok-width.width bytes c.in_ok-width.ensures.within in
     omega arith
+
+-- a bullet stands at the place exactly where the marker has one byte
+bullet_is : (bytes : List ℕ) (place width delimiter start : ℕ) →
+    let rest = take (length bytes - place) (drop place bytes) in
+    IsListMarker (take width rest) delimiter start → width ≤ length rest
+    → begins_with is_bullet (drop place bytes) ≡ (width == 1)
+bullet_is bytes place width delimiter start is within =
+    ap (begins_with is_bullet) (sym (from_place bytes place))
+    ∙ marker-bullet (take (length bytes - place) (drop place bytes)) width delimiter start is within
+
+-- so what is known stays or is what a look there leaves
+kept_at : (bytes : List ℕ) (place : ℕ) (known : KnownBreaks) → begins_with is_bullet (drop place bytes) ≡ false
+    → known ≡ learnt_by_marker bytes place known
+kept_at bytes place known other = rw other refl
+
+looked_at : (bytes : List ℕ) (place : ℕ) (known new : KnownBreaks) → begins_with is_bullet (drop place bytes) ≡ true
+    → new ≡ learnt_at bytes place known → new ≡ learnt_by_marker bytes place known
+looked_at bytes place known new bullet learnt = rw bullet learnt
+
+pub returns-in_err-width-clause-learnt : goal.returns-in_err-width-clause-learnt
+returns-in_err-width-clause-learnt c =
+    let bytes = c.args.bytes.now in
+    let rest = take (length bytes - c.args.place) (drop c.args.place bytes) in
+    let none = no-bullet rest (λ n delimiter start. c.in_err-width.ensures.found (n, delimiter, start)) in
+    kept_at bytes c.args.place c.args.breaks.now
+    (ap (begins_with is_bullet) (sym (from_place bytes c.args.place)) ∙ none)
+
+pub returns-then-begins_break-clause-learnt : goal.returns-then-begins_break-clause-learnt
+returns-then-begins_break-clause-learnt c =
+    let is = bullet_is c.args.bytes.now c.args.place c.in_ok-width.width c.in_ok-width.delimiter c.in_ok-width.start
+    c.in_ok-width.ensures.found c.in_ok-width.ensures.within in
+    looked_at c.args.bytes.now c.args.place c.args.breaks.now c.begins_break.new.self
+    (is ∙ ap (λ n. n == 1) c.if-width-eq1.true) c.begins_break.ensures.learnt
+
+pub returns-clause-truth : goal.returns-clause-truth
+returns-clause-truth c known = elim c.else-width-eq1.branch [
+  | else-width-eq1-via-then-width-eq1+else-begins_break w ↦
+      subst (λ breaks. (later : ℕ) → c.args.place ≤ later → AreTrueBreaks c.args.bytes.now breaks later)
+      (sym w.breaks-is) (w.begins_break.ensures.truth known)
+  | else-width-eq1-via-else-width-eq1 w ↦
+      subst (λ breaks. (later : ℕ) → c.args.place ≤ later → AreTrueBreaks c.args.bytes.now breaks later)
+      (sym w.breaks-is) (λ later forward. breaks_stay c.args.bytes.now c.args.breaks.now c.args.place later forward known)
+]
+
+pub returns-clause-learnt : goal.returns-clause-learnt
+returns-clause-learnt c =
+    let bytes = c.args.bytes.now in
+    let known = c.args.breaks.now in
+    let is = bullet_is bytes c.args.place c.in_ok-width.width c.in_ok-width.delimiter c.in_ok-width.start
+    c.in_ok-width.ensures.found c.in_ok-width.ensures.within in
+    elim c.else-width-eq1.branch [
+      | else-width-eq1-via-then-width-eq1+else-begins_break w ↦
+          w.breaks-is ∙ looked_at bytes c.args.place known w.begins_break.new.self
+          (is ∙ ap (λ n. n == 1) w.if-width-eq1.true) w.begins_break.ensures.learnt
+      | else-width-eq1-via-else-width-eq1 w ↦ (
+          let long : (c.in_ok-width.width == 1) ≡ false = (let other = w.if-width-eq1.false in grind (arith, nat_tests)) in
+          w.breaks-is ∙ kept_at bytes c.args.place known (is ∙ long)
+          )
+    ]
