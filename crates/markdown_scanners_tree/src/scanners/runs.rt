@@ -62,7 +62,11 @@ pub fn scan_ch_repeat(bytes: &[u8], c: u8) -> usize
     ensures run { result ≡ prefix_len (λ b. b == c) bytes.now }
     ensures within { result ≤ length bytes.now }
 {
-    bytes.iter().take_while(|b| **b == c).count()
+    let mut count = 0;
+    while count < bytes.len() && bytes[count] == c {
+        count += 1;
+    }
+    count
 }
 
 /// The length of the longest prefix of white space that ends no line.
