@@ -123,7 +123,7 @@ def function_item(lines, at, found, block, where):
         more, ghosts = clauses_of("\n".join(lines[block["at"] : block["end"]]))
         names, said = [it for it in more if it not in names] + names, ghosts
     name = f"{of_type}::{found[3]}" if of_type else found[3]
-    visible = bool(found[2]) and "(crate)" not in found[2] or bool(trait)
+    visible = bool(found[2]) and "(" not in found[2] or bool(trait)
     is_test = any("#[test]" in line for line in lines[max(0, at - 3) : at] if line.strip().startswith("#["))
     return Item("fn", name, *where, at + 1, end + 1, visible, is_test, of_type, trait, names, said, body)
 
@@ -148,7 +148,7 @@ def items_of_file(path):
             block = {"at": at, "end": end, "head": head_of_block(line)}
             if line.startswith("pub trait") or block["head"][0]:
                 found.append(block_item(lines, block, where))
-        elif it := re.match(r"(\s*)(pub(?:\(\w+\))? )?(?:extern \"C\" )?(?:const )?fn (\w+)", line):
+        elif it := re.match(r"(\s*)(pub(?:\([\w: ]+\))? )?(?:extern \"C\" )?(?:const )?fn (\w+)", line):
             found.append(function_item(lines, at, it, block, where))
         elif it := re.match(r"(\s*)" + TYPE.pattern, line):
             name = f"{block['head'][1]}::{it[3]}" if it[1] and block else it[3]

@@ -1,7 +1,7 @@
-"""Tries several wrong bodies in one check, each in a function of its own.
+"""Tries several wrong bodies in one check, each in functions of its own.
 
-A function is proved from its body and from the contracts of what it calls. So where each edit of a group stands in another
-function, the prover refuses in one check what it refuses in a check of each edit. It says of a function that calls a refused
+A function is proved from its body and from the contracts of what it calls. So where each edit of a group stands in other
+functions, the prover refuses in one check what it refuses in a check of each edit. It says of a function that calls a refused
 one that it waits for that: then nothing is known of its own body, and it is tried in a later group, or alone. A group where a
 function that has no edit is refused for itself shows nothing.
 """
@@ -12,7 +12,7 @@ from functools import cache
 from edits import TOP, crate_of, edited
 
 sys.path.insert(0, str(TOP / "docs"))
-from reading import items_of
+from reading import in_braces, items_of
 
 MOST = 16
 NOT_PROVED = re.compile(r"^fn (\S+): (?:not proved|no proof)\b(.*)", re.M)
@@ -21,6 +21,7 @@ WAITS = "it calls"
 NAMES_WHAT_IS_GONE = re.compile(
     r"^\S*?(\w+)/(\w+)\.antt:\d\S* .*(?:has no field|is not in scope|has no `|was not admitted)", re.M
 )
+CLAUSE = re.compile(r"\s*(?:requires|ensures)\*?\s+(?:\w+\s+)?\{")
 OF_A_FUNCTION = {"Answers", "Invariants", "Proof"}
 
 
@@ -35,15 +36,25 @@ def changed_lines(edit):
     return found
 
 
-def function_of(edit, lines):
-    """The function whose body alone holds the lines."""
-    paths, numbers = {path for path, _ in lines}, [number for _, number in lines]
-    for item in items_of(crate_of(edit)) if len(paths) == 1 else []:
-        first = item.end - len(item.body.split("\n"))
-        in_body = item.kind == "fn" and item.body and first <= min(numbers) and max(numbers) < item.end
-        if in_body and item.path.endswith("/" + paths.copy().pop()):
-            return item
-    return None
+def head_at(text, number):
+    """The head of the function at a line, its contract with it: all before its body, without comments and white space."""
+    text = re.sub(r"/\*.*?\*/|//[^\n]*", "", "\n".join(text.split("\n")[number - 1 :]), flags=re.S)
+    at = re.search(r"\{|^\s*(?=requires|ensures)", text, re.M).end()
+    while clause := CLAUSE.match(text, at):
+        at = clause.end() + len(in_braces(text, clause.end() - 1)) + 1
+    return "".join(text[:at].split())
+
+
+def functions_of(edit, lines):
+    """The functions that hold the lines, where the edit leaves the heads of all of them as they are."""
+    found, after = {}, edited(edit)
+    for path, number in lines:
+        named = f"crates/{crate_of(edit)}/{path}"
+        item = next((it for it in items_of(crate_of(edit)) if it.kind == "fn" and it.path == named and it.line <= number <= it.end), None)
+        if item is None or head_at((TOP / named).read_text(), item.line) != head_at(after[path], item.line):
+            return []
+        found[key_of(item)] = item
+    return list(found)
 
 
 def key_of(item):
@@ -74,14 +85,14 @@ def groups_of(edits):
     found, groups = [], []
     for edit in edits:
         lines = changed_lines(edit)
-        if item := function_of(edit, lines):
-            found.append((key_of(item), (edit, lines)))
-    for key, change in sorted(found, key=lambda it: -waiting_for(crate_of(it[1][0]), it[0])):
-        group = next((it for it in groups if key not in it and len(it) < MOST), None)
+        if keys := functions_of(edit, lines):
+            found.append((max(waiting_for(crate_of(edit), key) for key in keys), keys, (edit, lines)))
+    for _, keys, change in sorted(found, key=lambda it: -it[0]):
+        group = next((it for it in groups if not it.keys() & set(keys) and len(it) < MOST), None)
         if group is None:
             group = {}
             groups.append(group)
-        group[key] = change
+        group.update(dict.fromkeys(keys, change))
     return [it for it in groups if len(it) > 1]
 
 
