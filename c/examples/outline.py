@@ -1,17 +1,15 @@
 #!/usr/bin/env python3
-"""Prints the outline of a Markdown file, as outline.c does. It calls the C functions of markdown_scanners.h by ctypes,
-over the shared library that c/build makes:
+"""Prints the outline of a Markdown file, as outline.c does, by the Python package markdown_scanners: the one that is
+installed, else that of the tree, over the shared library that c/build makes:
 
     c/build && c/examples/outline.py README.md
-
-MARKDOWN_SCANNERS may name the library where it stands elsewhere.
 """
-import copy
-import ctypes
 import os
 import sys
 from pathlib import Path
 
+sys.dont_write_bytecode = True
+TOP = Path(__file__).resolve().parents[2]
 HELP = """usage: outline.py [FILE]
 Prints the outline of a Markdown file, or of standard input: a line for each ATX and setext heading, for each
 link reference definition with its normalised label, and for each full reference, as [text][label], whose label
@@ -21,54 +19,7 @@ It is no full CommonMark parser: an HTML block of `<script>`, `<pre>`, `<style>`
 line, as of other tags; and all brackets before a label make a full reference, those with a link in them too.
 The status is 0; 1 where a label has no definition; 2 where the outline can't be had.
 """
-NONE = ctypes.c_size_t(-1).value
-OK, NO_MEMORY = 0, 8
 SPACE = b" \t\v\f"
-size, byte, status = ctypes.c_size_t, ctypes.c_uint8, ctypes.c_uint32
-
-
-def struct(name, **fields):
-    return type(name, (ctypes.Structure,), {"_fields_": list(fields.items())})
-
-
-LineStart = struct("LineStart", place=size, pending=size, phase=size, none_before=size, behind_break=size)
-Columns = struct("Columns", status=status, columns=size)
-LineItem = struct("LineItem", status=status, delimiter=byte, start=ctypes.c_uint64, indent=size)
-Break = struct("Break", length=size, none_before=size)
-Underline = struct("Underline", length=size, level=status)
-Fence = struct("Fence", length=size, byte=byte)
-Part = struct("Part", status=status, end=size, start=size, length=size)
-Guard = struct("Guard", comment=size, cdata=size, declaration=size, processing=size)
-End = struct("End", status=status, end=size, passed=size)
-Text = struct("Text", status=status, taken=size, length=size)
-Label = struct("Label", status=status, taken=size, length=size, start=size)
-
-# What each function answers, and what it takes behind its bytes and their length.
-START = ctypes.POINTER(LineStart)
-BUFFER = [ctypes.c_char_p, size]
-FUNCTIONS = {
-    "is_utf8": (ctypes.c_bool, []),
-    "scan_whitespace_in_line": (size, []),
-    "scan_line": (size, []),
-    "scan_blank_line": (size, []),
-    "line_upto": (Columns, [START, size]),
-    "line_quote": (status, [START]),
-    "line_list": (LineItem, [START, size]),
-    "scan_hrule": (Break, []),
-    "scan_atx_heading": (status, []),
-    "scan_setext_heading": (Underline, []),
-    "scan_code_fence": (Fence, []),
-    "scan_closing_code_fence": (size, [byte, size]),
-    "scan_link_dest": (Part, [size, size]),
-    "scan_autolink": (Part, [size]),
-    "starts_html_block_type_6": (ctypes.c_bool, []),
-    "scan_html_type_7": (size, []),
-    "scan_html_tag_over_lines": (Text, [ctypes.c_void_p, size, *BUFFER]),
-    "scan_inline_html": (End, [size, ctypes.POINTER(Guard)]),
-    "unescape": (Text, [ctypes.c_bool, *BUFFER]),
-    "scan_link_label": (Label, [ctypes.c_bool, ctypes.c_void_p, size, *BUFFER]),
-    "label_key": (Text, BUFFER),
-}
 
 
 def fail(what, why):
@@ -76,31 +27,15 @@ def fail(what, why):
     sys.exit(2)
 
 
-class Scanners:
-    """The functions of the library, called by their names without `mds_`, each with bytes, of which none are copied,
-    from the place `at` on, and with what it takes besides."""
-
-    def __init__(self, path):
-        try:
-            library = ctypes.CDLL(path)
-        except OSError as error:
-            fail("library", error)
-        for name, (answer, others) in FUNCTIONS.items():
-            function = getattr(library, f"mds_{name}")
-            function.restype, function.argtypes = answer, [ctypes.c_void_p, size, *others]
-            setattr(self, name, lambda *given, call=function, **at: self.called(call, *given, **at))
-
-    def called(self, call, text, *others, at=0):
-        address = ctypes.cast(ctypes.c_char_p(text), ctypes.c_void_p).value
-        return call(address + at, len(text) - at, *others)
-
-    def made(self, call, text, room, *others):
-        """The text that a call makes of a text, which the room is enough for, and how many bytes it takes, or 0."""
-        buffer = ctypes.create_string_buffer(room + 1)
-        found = call(text, *others, buffer, room)
-        if found.status == NO_MEMORY:
-            fail("memory", "refused")
-        return buffer.raw[: found.length], found.taken if found.status == OK else 0
+try:
+    import markdown_scanners as mds
+except ImportError:
+    sys.path.insert(0, str(TOP / "python"))
+    os.environ.setdefault("MARKDOWN_SCANNERS_LIBRARY", str(TOP / "out/libmarkdown_scanners.so.0"))
+    try:
+        import markdown_scanners as mds
+    except ImportError as error:
+        fail("library", error)
 
 
 def find(text, place, closers):
@@ -113,22 +48,20 @@ def find(text, place, closers):
 class Outline:
     """What is found: headings are printed, and definitions and references kept, each with its line, label and key."""
 
-    def __init__(self, scanners, output):
-        self.mds, self.output, self.definitions, self.references = scanners, output, [], []
+    def __init__(self):
+        self.output, self.definitions, self.references = [], [], []
 
     def read_label(self, text, place):
         """The label in brackets at the place, its key, and how many bytes it takes, or 0. (CommonMark 0.31.2, 6.3)"""
         end = find(text, place + 1, b"[]")
         if text[place : place + 1] != b"[" or end >= len(text):
             return b"", b"", 0
-        inner = text[place + 1 : end + 1]  # the call goes through all that it is given, so it gets no more
-        label, taken = self.mds.made(self.mds.scan_link_label, inner, len(inner), False, None, 0)
-        key, _ = self.mds.made(self.mds.label_key, label, 3 * len(label))
-        return label, key, 1 + taken if taken else 0
+        label = mds.scan_link_label(text, at=place + 1, end=end + 1)  # it goes through all that it is given
+        return (label.text, mds.label_key(label.text), label.end - place) if label else (b"", b"", 0)
 
     def space_end(self, text, place):
         """The end of white space with at most one line ending."""
-        place += self.mds.scan_whitespace_in_line(text, at=place)
+        place = mds.scan_whitespace_in_line(text, place)
         return place + (text[place : place + 1] == b"\n")
 
     def definition_end(self, text, place):
@@ -148,12 +81,10 @@ class Outline:
         if not taken or text[place + taken : place + taken + 1] != b":":
             return 0
         start = self.space_end(text, place + taken + 1)
-        part = self.mds.scan_link_dest(text, start, 31)
-        end = self.definition_end(text, part.end) if part.status == OK and part.end > start else 0
+        part = mds.scan_link_dest(text, start)
+        end = self.definition_end(text, part.end) if part and part.end > start else 0
         if end:
-            target = text[part.start : part.start + part.length]
-            target, _ = self.mds.made(self.mds.unescape, target, len(target) + len(target) // 5, False)
-            self.definitions.append((line, label, key, target))
+            self.definitions.append((line, label, key, mds.unescape(text, at=part.start, end=part.stop)))
         return end
 
     def code_length(self, text, place):
@@ -173,17 +104,17 @@ class Outline:
             return 2 if text[place + 1 : place + 2] and text[place + 1] in b"!\"#$%&'()*+,-./:;<=>?@[\\]^_`{|}~" else 1
         if text[place] != ord("<"):
             return self.code_length(text, place) if text[place] == ord("`") else 1
-        uri = self.mds.scan_autolink(text, place + 1)
-        tag = self.mds.scan_html_tag_over_lines(text, None, 0, None, 0, at=place)
-        html = self.mds.scan_inline_html(text, place + 2, guard)
-        other = html.end - place if html.status == OK else 1
-        return uri.end - place if uri.status == OK else tag.taken if tag.status == OK else other
+        found = mds.scan_autolink(text, place + 1) or mds.scan_html_tag_over_lines(text, at=place)
+        if found:
+            return found.end - place
+        html = guard.scan(place + 2) if text[place + 1 : place + 2] in (b"!", b"?") else None
+        return html - place if html else 1
 
     def read_text(self, line, level, text):
         """Adds the full references of a text that begins in this line; where a level is given it is a heading. (6.3)"""
         if level:
             self.output.append(b"%d: %b %b\n" % (line, b"#" * level, text.replace(b"\n", b" ")))
-        guard = Guard()
+        guard = mds.HtmlScanGuard(text)
         place = depth = 0
         while place < len(text):
             closes = text[place] == ord("]") and depth > 0
@@ -211,18 +142,17 @@ class Reader:
     open code block, and `html` what ends the open HTML block, b"" for a blank line; or None. Where the innermost item
     has only a marker, the line `blank_end` ends it if that is blank."""
 
-    def __init__(self, scanners):
-        self.mds, self.outline = scanners, Outline(scanners, [])
-        self.line, self.at, self.number, self.begun_at = b"", LineStart(), 0, 0
+    def __init__(self, page):
+        self.page, self.outline, self.at, self.end = page, Outline(), mds.LineStart(page), 0
+        self.number, self.begun_at = 0, 0
         self.open, self.blank_end, self.paragraph, self.fence, self.html = [], 0, [], None, None
 
-    def read(self, page):
-        place = 0
-        while place < len(page):
-            self.line = page[place : place + self.mds.scan_line(page, at=place)]
+    def read(self):
+        while self.end < len(self.page):
+            begin, self.end = self.end, mds.scan_line(self.page, self.end)
+            self.at = mds.LineStart(self.page, begin, self.end)
             self.number += 1
             self.read_line()
-            place += len(self.line)
         self.close_beyond(0)
         return self.outline.report()
 
@@ -246,32 +176,29 @@ class Reader:
         self.fence = self.html = None
 
     def is_blank(self):
-        return self.mds.scan_blank_line(self.line, at=self.at.place) != NONE
-
-    def take_space(self, count):
-        return self.mds.line_upto(self.line, self.at, count).columns
+        return mds.scan_blank_line(self.page, self.at.place, self.end) is not None
 
     def goes_on(self, depth):
         """Whether the line goes on this container, whose marker or indent is then taken. (5.1, 5.2)"""
-        before, indent = copy.copy(self.at), self.open[depth]
-        space = self.take_space(indent or 4)
+        before, indent = self.at.copy(), self.open[depth]
+        space = self.at.upto(indent or 4)
         ended = depth + 1 == len(self.open) and self.blank_end == self.number and self.is_blank()
         on = space == indent or self.is_blank()
         if indent == 0:
-            on = space < 4 and self.mds.line_quote(self.line, self.at) == OK
+            on = space < 4 and self.at.quote()
         if ended or not on:
             self.at = before
         return on and not ended
 
     def opens_container(self, depth):
         """Opens what container begins here. An item that ends a paragraph has a text, and the number 1. (5.2)"""
-        before, space = copy.copy(self.at), self.take_space(4)
+        before, space = self.at.copy(), self.at.upto(4)
         indent = 0
-        if space == 4 or self.mds.line_quote(self.line, self.at) != OK:
-            item = self.mds.line_list(self.line, self.at, space)
-            counts_on = item.start != 1 and item.delimiter in b".)"
+        if space == 4 or not self.at.quote():
+            item = self.at.list_item(space)
+            counts_on = item and item.start != 1 and item.delimiter in b".)"
             ends_paragraph = self.paragraph and depth == len(self.open)
-            if space == 4 or item.status != OK or (ends_paragraph and (counts_on or self.is_blank())):
+            if space == 4 or not item or (ends_paragraph and (counts_on or self.is_blank())):
                 self.at = before
                 return False
             indent = item.indent
@@ -280,65 +207,65 @@ class Reader:
         self.blank_end = self.number + 1 if self.is_blank() else 0
         return True
 
-    def atx_text(self, line, level):
+    def atx_text(self, level):
         """The text of an ATX heading, without its opening and its closing sequence. (4.2)"""
-        text = line[level:].strip(SPACE + b"\r\n")
+        text = self.page[self.at.place + level : self.end].strip(SPACE + b"\r\n")
         front = text.rstrip(b"#")
         return front.rstrip(SPACE) if not front or front[-1] in SPACE else text
 
-    def html_end(self, text):
-        """What ends the HTML block that begins at the front, b"" for a blank line; None where none begins. (4.6)"""
+    def html_end(self):
+        """What ends the HTML block that begins at the place, b"" for a blank line; None where none begins. (4.6)"""
+        place = self.at.place
         for begins, ends in ((b"<!--", b"-->"), (b"<?", b"?>"), (b"<![CDATA[", b"]]>")):
-            if text.startswith(begins):
+            if self.page.startswith(begins, place, self.end):
                 return ends
-        if text.startswith(b"<!") and text[2:3].isalpha():
+        if self.page.startswith(b"<!", place, self.end) and self.page[place + 2 : place + 3].isalpha():
             return b">"
-        named = text.startswith(b"<") and self.mds.starts_html_block_type_6(text, at=1)
-        return b"" if named or (not self.paragraph and self.mds.scan_html_type_7(text) != NONE) else None
+        is_tag = self.page.startswith(b"<", place, self.end)
+        named = is_tag and mds.starts_html_block_type_6(self.page, place + 1, self.end)
+        alone = is_tag and not self.paragraph and mds.scan_html_type_7(self.page, place, self.end)
+        return b"" if named or alone else None
 
     def read_html(self):
         """A line of the open HTML block, which it may end."""
-        rest = self.line[self.at.place :]
-        if self.html in rest if self.html else self.is_blank():
+        if self.page.find(self.html, self.at.place, self.end) >= 0 if self.html else self.is_blank():
             self.html = None
 
-    def read_block(self, rest, depth):
+    def read_block(self, depth):
         """Whether the rest of a line makes a heading, is a thematic break, or begins code or HTML. (4.1 to 4.6)"""
-        level, underline = self.mds.scan_atx_heading(rest), self.mds.scan_setext_heading(rest)
-        fence, html = self.mds.scan_code_fence(rest), self.html_end(rest)
-        underlines = underline.length != NONE and self.paragraph and depth == len(self.open)
+        rest = self.page, self.at.place, self.end
+        level, underline = mds.scan_atx_heading(*rest), mds.scan_setext_heading(*rest)
+        fence, html = mds.scan_code_fence(*rest), self.html_end()
+        underlines = underline and self.paragraph and depth == len(self.open)
         if underlines and self.end_paragraph(underline.level):
             return True
-        if not level and fence.length == NONE and html is None and self.mds.scan_hrule(rest).length == NONE:
+        if not level and not fence and html is None and not mds.scan_hrule(*rest):
             return False
         self.close_beyond(depth)
-        self.fence, self.html = fence if fence.length != NONE else None, html
+        self.fence, self.html = fence and (fence.byte, fence.end - self.at.place), html
         if level:
-            self.outline.read_text(self.number, level, self.atx_text(rest, level))
+            self.outline.read_text(self.number, level, self.atx_text(level))
         return True
 
     def read_leaf(self, depth):
         """What stands behind a line's containers. A paragraph goes on without those that are not there. (4.8, 5.1)"""
-        indented = self.take_space(4) == 4
-        rest = self.line[self.at.place :]
+        indented = self.at.upto(4) == 4
         if self.is_blank() or (indented and not self.paragraph):
             self.close_beyond(depth)
-        elif indented or not self.read_block(rest, depth):
+        elif indented or not self.read_block(depth):
             if not self.paragraph:
                 self.close_beyond(depth)
-            self.paragraph.append(rest.lstrip(SPACE).rstrip(SPACE + b"\r\n"))
+            self.paragraph.append(self.page[self.at.place : self.end].lstrip(SPACE).rstrip(SPACE + b"\r\n"))
 
     def read_line(self):
-        self.at = LineStart()
         depth = 0
         while depth < len(self.open) and self.goes_on(depth):
             depth += 1
         if depth < len(self.open) and (self.html is not None or self.fence):
             self.close_beyond(depth)
         if self.fence:
-            indented = self.take_space(4) == 4
-            rest = self.line[self.at.place :]
-            if not indented and self.mds.scan_closing_code_fence(rest, self.fence.byte, self.fence.length) != NONE:
+            indented = self.at.upto(4) == 4
+            if not indented and mds.scan_closing_code_fence(self.page, *self.fence, self.at.place, self.end) is not None:
                 self.fence = None
         elif self.html is None:
             while self.opens_container(depth):
@@ -348,13 +275,13 @@ class Reader:
             self.read_html()
 
 
-def read_page(words, scanners):
+def read_page(words):
     name = words[0] if words else "standard input"
     try:
         page = Path(name).read_bytes() if words else sys.stdin.buffer.read()
     except OSError as error:
         fail(name, error.strerror)
-    if not scanners.is_utf8(page):
+    if not mds.is_utf8(page):
         fail(name, "not UTF-8")
     return page
 
@@ -366,9 +293,10 @@ def main(words):
     if len(words) > 1:
         sys.stderr.write(HELP)
         return 2
-    made = Path(__file__).resolve().parents[2] / "out/libmarkdown_scanners.so.0"
-    scanners = Scanners(os.environ.get("MARKDOWN_SCANNERS", made))
-    report, missing = Reader(scanners).read(read_page(words, scanners))
+    try:
+        report, missing = Reader(read_page(words)).read()
+    except MemoryError:
+        fail("memory", "refused")
     try:
         sys.stdout.buffer.write(report)
         sys.stdout.buffer.flush()
