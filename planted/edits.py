@@ -66,9 +66,10 @@ def edited(edit):
 
 def copied(room):
     """Copies what proofs and builds read of the tree into a folder, with the libraries that are built."""
-    for name in ("crates.txt", "HANDLES", "README.md"):
+    for name in ("crates.txt", "HANDLES", "README.md", "LICENSE", "VERSION", "CHANGELOG.md"):
         shutil.copy(TOP / name, room)
-    shutil.copytree(TOP / "c", room / "c")
+    for name in ("c", "python", "rust"):
+        shutil.copytree(TOP / name, room / name, ignore=shutil.ignore_patterns("target"))
     for crate in (TOP / "crates").iterdir():
         for part in ("src", "specs", "proofs"):
             if (crate / part).is_dir():

@@ -86,7 +86,7 @@ check_dist() {
     at=$room/anywhere/$name
     (cd "$at" && sha256sum --quiet --strict -c SHA256SUMS) || stop "a checksum of what is packed is another"
     [ "$(cat "$at/VERSION")" = "$version" ] && cmp LICENSE "$at/LICENSE" || stop "the version or the licence is another"
-    grep -q 'rattle-kit-' "$at/PROOF" && tail -n 1 "$at/PROOF" | grep -q '^logic=proved ' || stop "the proof is not told"
+    grep -q 'rattle-kit-' "$at/PROOF" && [[ $(tail -n 1 "$at/PROOF") = logic=proved\ * ]] || stop "the proof is not told"
     for file in PROOF VERSION LICENSE SHA256SUMS; do rm "$at/$file"; done
     has_files "$at"
     cmp "$archive" "$at/lib/libmarkdown_scanners.a" && cmp "$shared" "$at/lib/$shared_name" || stop "other libraries are packed"

@@ -198,7 +198,7 @@ pub struct Label {
     pub start: usize,
 }
 
-unsafe extern "C" {
+extern "C" {
     pub fn mds_is_whitespace(byte: u8) -> bool;
     pub fn mds_is_whitespace_in_line(byte: u8) -> bool;
     pub fn mds_is_punctuation(byte: u8) -> bool;
@@ -223,71 +223,26 @@ unsafe extern "C" {
         rest: *mut u8,
         rest_capacity: usize,
     ) -> LineRun;
-    pub fn mds_line_space(
-        bytes: *const c_void,
-        length: usize,
-        start: *mut LineStart,
-        count: usize,
-    ) -> u32;
-    pub fn mds_line_upto(
-        bytes: *const c_void,
-        length: usize,
-        start: *mut LineStart,
-        count: usize,
-    ) -> Columns;
+    pub fn mds_line_space(bytes: *const c_void, length: usize, start: *mut LineStart, count: usize) -> u32;
+    pub fn mds_line_upto(bytes: *const c_void, length: usize, start: *mut LineStart, count: usize) -> Columns;
     pub fn mds_line_all_space(bytes: *const c_void, length: usize, start: *mut LineStart) -> u32;
     pub fn mds_line_eol(bytes: *const c_void, length: usize, start: *const LineStart) -> u32;
     pub fn mds_line_quote(bytes: *const c_void, length: usize, start: *mut LineStart) -> u32;
-    pub fn mds_line_list(
-        bytes: *const c_void,
-        length: usize,
-        start: *mut LineStart,
-        indent: usize,
-    ) -> LineItem;
-    pub fn mds_line_definition(
-        bytes: *const c_void,
-        length: usize,
-        start: *mut LineStart,
-        indent: usize,
-    ) -> Columns;
+    pub fn mds_line_list(bytes: *const c_void, length: usize, start: *mut LineStart, indent: usize) -> LineItem;
+    pub fn mds_line_definition(bytes: *const c_void, length: usize, start: *mut LineStart, indent: usize) -> Columns;
     pub fn mds_line_task(bytes: *const c_void, length: usize, start: *mut LineStart) -> Task;
     pub fn mds_line_alert(bytes: *const c_void, length: usize, start: *mut LineStart) -> Alert;
     pub fn mds_scan_hrule(bytes: *const c_void, length: usize) -> Break;
     pub fn mds_scan_atx_heading(bytes: *const c_void, length: usize) -> u32;
     pub fn mds_scan_setext_heading(bytes: *const c_void, length: usize) -> Underline;
     pub fn mds_scan_code_fence(bytes: *const c_void, length: usize) -> Fence;
-    pub fn mds_scan_closing_code_fence(
-        bytes: *const c_void,
-        length: usize,
-        fence: u8,
-        count: usize,
-    ) -> usize;
-    pub fn mds_scan_metadata_block(
-        bytes: *const c_void,
-        length: usize,
-        yaml: bool,
-        pluses: bool,
-    ) -> Fence;
+    pub fn mds_scan_closing_code_fence(bytes: *const c_void, length: usize, fence: u8, count: usize) -> usize;
+    pub fn mds_scan_metadata_block(bytes: *const c_void, length: usize, yaml: bool, pluses: bool) -> Fence;
     pub fn mds_scan_closing_metadata_block(bytes: *const c_void, length: usize, fence: u8) -> usize;
-    pub fn mds_scan_table_head(
-        bytes: *const c_void,
-        length: usize,
-        alignments: *mut u8,
-        capacity: usize,
-    ) -> Text;
-    pub fn mds_scan_link_dest(
-        bytes: *const c_void,
-        length: usize,
-        start: usize,
-        max_next: usize,
-    ) -> Part;
+    pub fn mds_scan_table_head(bytes: *const c_void, length: usize, alignments: *mut u8, capacity: usize) -> Text;
+    pub fn mds_scan_link_dest(bytes: *const c_void, length: usize, start: usize, max_next: usize) -> Part;
     pub fn mds_scan_autolink(bytes: *const c_void, length: usize, start: usize) -> Part;
-    pub fn mds_scan_wikilink_pipe(
-        bytes: *const c_void,
-        length: usize,
-        start: usize,
-        count: usize,
-    ) -> Part;
+    pub fn mds_scan_wikilink_pipe(bytes: *const c_void, length: usize, start: usize, count: usize) -> Part;
     pub fn mds_starts_html_block_type_6(bytes: *const c_void, length: usize) -> bool;
     pub fn mds_scan_html_type_7(bytes: *const c_void, length: usize) -> usize;
     pub fn mds_scan_html_tag(bytes: *const c_void, length: usize) -> usize;
@@ -299,12 +254,7 @@ unsafe extern "C" {
         buffer: *mut u8,
         capacity: usize,
     ) -> Text;
-    pub fn mds_scan_inline_html(
-        bytes: *const c_void,
-        length: usize,
-        place: usize,
-        guard: *mut HtmlGuard,
-    ) -> End;
+    pub fn mds_scan_inline_html(bytes: *const c_void, length: usize, place: usize, guard: *mut HtmlGuard) -> End;
     pub fn mds_run_inline_html(
         bytes: *const c_void,
         length: usize,
@@ -313,19 +263,8 @@ unsafe extern "C" {
         ends: *mut usize,
         capacity: usize,
     ) -> HtmlRun;
-    pub fn mds_scan_entity(
-        bytes: *const c_void,
-        length: usize,
-        buffer: *mut u8,
-        capacity: usize,
-    ) -> Text;
-    pub fn mds_unescape(
-        text: *const c_void,
-        length: usize,
-        in_table: bool,
-        buffer: *mut u8,
-        capacity: usize,
-    ) -> Text;
+    pub fn mds_scan_entity(bytes: *const c_void, length: usize, buffer: *mut u8, capacity: usize) -> Text;
+    pub fn mds_unescape(text: *const c_void, length: usize, in_table: bool, buffer: *mut u8, capacity: usize) -> Text;
     pub fn mds_scan_link_label(
         text: *const c_void,
         length: usize,
@@ -335,16 +274,6 @@ unsafe extern "C" {
         buffer: *mut u8,
         capacity: usize,
     ) -> Label;
-    pub fn mds_labels_match(
-        one: *const c_void,
-        one_length: usize,
-        other: *const c_void,
-        other_length: usize,
-    ) -> u32;
-    pub fn mds_label_key(
-        text: *const c_void,
-        length: usize,
-        buffer: *mut u8,
-        capacity: usize,
-    ) -> Text;
+    pub fn mds_labels_match(one: *const c_void, one_length: usize, other: *const c_void, other_length: usize) -> u32;
+    pub fn mds_label_key(text: *const c_void, length: usize, buffer: *mut u8, capacity: usize) -> Text;
 }

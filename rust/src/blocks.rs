@@ -1,0 +1,225 @@
+//! Bytes, lines and blocks at the front of the text. Sections in brackets are those of CommonMark 0.31.2.
+
+use crate::raw::{self, ffi};
+use crate::values::{found, Alignment, HeadingLevel};
+
+/// Space, tab, LF, VT, FF or CR. (2.1)
+///
+/// ```
+/// assert!(markdown_scanners::is_ascii_whitespace(b'\n'));
+/// ```
+pub fn is_ascii_whitespace(byte: u8) -> bool {
+    raw::is_whitespace(byte)
+}
+
+/// Space, tab, VT or FF: white space that ends no line. (2.1)
+///
+/// ```
+/// assert!(!markdown_scanners::is_ascii_whitespace_no_nl(b'\n'));
+/// ```
+pub fn is_ascii_whitespace_no_nl(byte: u8) -> bool {
+    raw::is_whitespace_in_line(byte)
+}
+
+/// An ASCII punctuation character. (2.1)
+///
+/// ```
+/// assert!(markdown_scanners::is_ascii_punctuation(b'!'));
+/// ```
+pub fn is_ascii_punctuation(byte: u8) -> bool {
+    raw::is_punctuation(byte)
+}
+
+/// 1 where the first byte is this one, else 0.
+///
+/// ```
+/// assert_eq!(markdown_scanners::scan_ch(b"#a", b'#'), 1);
+/// ```
+pub fn scan_ch(data: &[u8], byte: u8) -> usize {
+    raw::scan_ch(data, byte)
+}
+
+/// How many of this byte stand at the front.
+///
+/// ```
+/// assert_eq!(markdown_scanners::scan_ch_repeat(b"##a", b'#'), 2);
+/// ```
+pub fn scan_ch_repeat(data: &[u8], byte: u8) -> usize {
+    raw::scan_ch_repeat(data, byte)
+}
+
+/// How many bytes of white space that ends no line stand at the front.
+///
+/// ```
+/// assert_eq!(markdown_scanners::scan_whitespace_no_nl(b" \t\n"), 2);
+/// ```
+pub fn scan_whitespace_no_nl(data: &[u8]) -> usize {
+    raw::scan_whitespace_in_line(data)
+}
+
+/// The length of the line ending at the front; 0 at the end of the text. (2.1)
+///
+/// ```
+/// assert_eq!(markdown_scanners::scan_eol(b"\r\na"), Some(2));
+/// assert_eq!(markdown_scanners::scan_eol(b"a"), None);
+/// ```
+pub fn scan_eol(bytes: &[u8]) -> Option<usize> {
+    found(raw::scan_eol(bytes))
+}
+
+/// The length of the line at the front with its ending, LF, CR LF or CR; all bytes where there is none. (2.1)
+///
+/// ```
+/// assert_eq!(markdown_scanners::scan_line(b"a\rb\n"), 2);
+/// ```
+pub fn scan_line(bytes: &[u8]) -> usize {
+    raw::scan_line(bytes)
+}
+
+/// The place behind the first LF, or the length where there is none. It knows LF alone.
+///
+/// ```
+/// assert_eq!(markdown_scanners::scan_nextline(b"a\rb\nc"), 4);
+/// ```
+pub fn scan_nextline(bytes: &[u8]) -> usize {
+    raw::scan_nextline(bytes)
+}
+
+/// The length of the blank line at the front with its ending. (4.9)
+///
+/// ```
+/// assert_eq!(markdown_scanners::scan_blank_line(b" \t\na"), Some(3));
+/// ```
+pub fn scan_blank_line(bytes: &[u8]) -> Option<usize> {
+    found(raw::scan_blank_line(bytes))
+}
+
+/// The length of the block quote marker at the front, `>` and at most one space. (5.1)
+///
+/// ```
+/// assert_eq!(markdown_scanners::scan_blockquote_start(b"> a"), Some(2));
+/// ```
+pub fn scan_blockquote_start(data: &[u8]) -> Option<usize> {
+    found(raw::scan_blockquote_start(data))
+}
+
+/// The list item that begins at the front: the length of its marker and the space that belongs to it, the delimiter, the
+/// number of an ordered item, and the columns of marker and space. (5.2)
+///
+/// ```
+/// assert_eq!(markdown_scanners::scan_listitem(b"10. a"), Some((4, b'.', 10, 4)));
+/// ```
+pub fn scan_listitem(bytes: &[u8]) -> Option<(usize, u8, usize, usize)> {
+    let item = raw::scan_listitem(bytes);
+    found(item.length).map(|length| (length, item.delimiter, item.start, item.indent))
+}
+
+/// The place of the last byte that was looked at, and the columns of the spaces and tabs at the front, up to a limit. (2.2)
+///
+/// # Panics
+///
+/// Where `max` is above `usize::MAX / 4`.
+///
+/// ```
+/// assert_eq!(markdown_scanners::calc_indent(b"\t x", 8), (2, 5));
+/// ```
+pub fn calc_indent(text: &[u8], max: usize) -> (usize, usize) {
+    let indent = raw::calc_indent(text, max);
+    assert_eq!(indent.status, ffi::OK, "the limit is too large: {max}");
+    (indent.place, indent.columns)
+}
+
+/// The length of the thematic break at the front, with its line ending; else a place before which none begins. (4.1)
+///
+/// ```
+/// assert_eq!(markdown_scanners::scan_hrule(b"* * *\n"), Ok(6));
+/// assert_eq!(markdown_scanners::scan_hrule(b"* * a"), Err(4));
+/// ```
+pub fn scan_hrule(bytes: &[u8]) -> Result<usize, usize> {
+    let line = raw::scan_hrule(bytes);
+    found(line.length).ok_or(line.none_before)
+}
+
+/// The level of the ATX heading at the front. (4.2)
+///
+/// ```
+/// use markdown_scanners::{scan_atx_heading, HeadingLevel};
+/// assert_eq!(scan_atx_heading(b"## a"), Some(HeadingLevel::H2));
+/// ```
+pub fn scan_atx_heading(data: &[u8]) -> Option<HeadingLevel> {
+    HeadingLevel::of(raw::scan_atx_heading(data))
+}
+
+/// The length of the setext heading underline at the front, with its line ending, and the level. (4.3)
+///
+/// ```
+/// use markdown_scanners::{scan_setext_heading, HeadingLevel};
+/// assert_eq!(scan_setext_heading(b"---\na"), Some((4, HeadingLevel::H2)));
+/// ```
+pub fn scan_setext_heading(data: &[u8]) -> Option<(usize, HeadingLevel)> {
+    let line = raw::scan_setext_heading(data);
+    found(line.length).zip(HeadingLevel::of(line.level))
+}
+
+/// The alignments of the columns of the delimiter row at the front, and its length with the line ending; 0 and none where
+/// there is none. (GitHub Flavored Markdown 0.29, 4.10)
+///
+/// ```
+/// use markdown_scanners::{scan_table_head, Alignment};
+/// assert_eq!(scan_table_head(b"|-|:-:|\n"), (8, vec![Alignment::None, Alignment::Center]));
+/// ```
+pub fn scan_table_head(data: &[u8]) -> (usize, Vec<Alignment>) {
+    let mut room = [0; 64];
+    let text = raw::scan_table_head(data, &mut room);
+    let columns = |numbers: &[u8]| numbers.iter().copied().map(Alignment::of).collect();
+    match text.status {
+        ffi::OK => (text.taken, columns(&room[..text.length])),
+        ffi::TOO_SHORT => {
+            let mut room = vec![0; text.length];
+            let text = raw::scan_table_head(data, &mut room);
+            (text.taken, columns(&room))
+        }
+        _ => (0, Vec::new()),
+    }
+}
+
+fn fence(told: ffi::Fence) -> Option<(usize, u8)> {
+    found(told.length).map(|length| (length, told.byte))
+}
+
+/// The length and the byte of the opening code fence at the front. (4.5)
+///
+/// ```
+/// assert_eq!(markdown_scanners::scan_code_fence(b"~~~~ rust"), Some((4, b'~')));
+/// ```
+pub fn scan_code_fence(data: &[u8]) -> Option<(usize, u8)> {
+    fence(raw::scan_code_fence(data))
+}
+
+/// The length of the closing code fence at the front, without its line ending, of one that was opened by `count` of the
+/// byte. At the end of the text it is 0. (4.5)
+///
+/// ```
+/// assert_eq!(markdown_scanners::scan_closing_code_fence(b"```` \n", b'`', 3), Some(5));
+/// ```
+pub fn scan_closing_code_fence(bytes: &[u8], fence: u8, count: usize) -> Option<usize> {
+    found(raw::scan_closing_code_fence(bytes, fence, count))
+}
+
+/// The length and the byte of the opening line of a metadata block. (An extension of pulldown-cmark)
+///
+/// ```
+/// assert_eq!(markdown_scanners::scan_metadata_block(b"---\na: b\n---\n", true, false), Some((3, b'-')));
+/// ```
+pub fn scan_metadata_block(data: &[u8], yaml_style: bool, pluses_style: bool) -> Option<(usize, u8)> {
+    fence(raw::scan_metadata_block(data, yaml_style, pluses_style))
+}
+
+/// The length of what closes a metadata block that was opened by the byte.
+///
+/// ```
+/// assert_eq!(markdown_scanners::scan_closing_metadata_block(b"...\n", b'-'), Some(3));
+/// ```
+pub fn scan_closing_metadata_block(bytes: &[u8], fence: u8) -> Option<usize> {
+    found(raw::scan_closing_metadata_block(bytes, fence))
+}

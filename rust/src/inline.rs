@@ -1,0 +1,335 @@
+//! Parts of inline text, HTML, escapes and labels. Sections in brackets are those of CommonMark 0.31.2.
+
+use std::borrow::Cow;
+use std::hash::{Hash, Hasher};
+
+use crate::raw::{self, ffi, Skip};
+use crate::values::{found, BadSkips, LinkType};
+
+/// Bytes that most texts that are made have room in.
+const SMALL: usize = 256;
+/// Bytes that each character reference has room in.
+const REFERENCE: usize = 6;
+
+fn string(bytes: Vec<u8>) -> String {
+    String::from_utf8(bytes).expect("texts that are made of a text are UTF-8")
+}
+
+/// A part of the bytes: the place behind it, and its own bytes.
+fn part(told: ffi::Part, data: &[u8]) -> Option<(usize, &[u8])> {
+    (told.status == ffi::OK).then(|| (told.end, &data[told.start..told.start + told.length]))
+}
+
+/// The same of a text.
+fn text_part(told: ffi::Part, data: &str) -> Option<(usize, &str)> {
+    (told.status == ffi::OK).then(|| (told.end, &data[told.start..told.start + told.length]))
+}
+
+fn check_place(data: &str, start: usize) {
+    assert!(data.is_char_boundary(start), "no character begins at {start}");
+}
+
+/// The first pipe of the `len` bytes from a place on: the place behind it, and the text before it. (An extension of
+/// pulldown-cmark)
+///
+/// # Panics
+///
+/// Where the place is not in the text, between two characters.
+///
+/// ```
+/// assert_eq!(markdown_scanners::scan_wikilink_pipe("[[a|b]]", 2, 3), Some((4, "a")));
+/// ```
+pub fn scan_wikilink_pipe(data: &str, start_ix: usize, len: usize) -> Option<(usize, &str)> {
+    check_place(data, start_ix);
+    text_part(raw::scan_wikilink_pipe(data.as_bytes(), start_ix, len), data)
+}
+
+/// The same of any bytes; `None` too where the place is past their end.
+///
+/// ```
+/// assert_eq!(markdown_scanners::scan_wikilink_pipe_bytes(b"\xff|", 0, 2), Some((2, &b"\xff"[..])));
+/// ```
+pub fn scan_wikilink_pipe_bytes(data: &[u8], start_ix: usize, len: usize) -> Option<(usize, &[u8])> {
+    part(raw::scan_wikilink_pipe(data, start_ix, len), data)
+}
+
+/// The link destination at a place: how many bytes it takes, and its text. Parentheses may stand in each other
+/// `max_next + 1` deep. (6.3)
+///
+/// # Panics
+///
+/// Where the place is not in the text, between two characters.
+///
+/// ```
+/// assert_eq!(markdown_scanners::scan_link_dest("[a](<b c>)", 4, 31), Some((5, "b c")));
+/// ```
+pub fn scan_link_dest(data: &str, start_ix: usize, max_next: usize) -> Option<(usize, &str)> {
+    check_place(data, start_ix);
+    let told = text_part(raw::scan_link_dest(data.as_bytes(), start_ix, max_next), data);
+    told.map(|(end, text)| (end - start_ix, text))
+}
+
+/// The same of any bytes; `None` too where the place is past their end.
+///
+/// ```
+/// assert_eq!(markdown_scanners::scan_link_dest_bytes(b"\xff )", 0, 31), Some((1, &b"\xff"[..])));
+/// ```
+pub fn scan_link_dest_bytes(data: &[u8], start_ix: usize, max_next: usize) -> Option<(usize, &[u8])> {
+    let told = part(raw::scan_link_dest(data, start_ix, max_next), data);
+    told.map(|(end, text)| (end - start_ix, text))
+}
+
+/// The absolute URI of the autolink whose `<` stands just before the place: the place behind its `>`, and the URI. (6.5)
+///
+/// # Panics
+///
+/// Where the place is not in the text, between two characters.
+///
+/// ```
+/// use markdown_scanners::{scan_autolink, LinkType};
+/// assert_eq!(scan_autolink("<https://a.b>", 1), Some((13, "https://a.b".into(), LinkType::Autolink)));
+/// ```
+pub fn scan_autolink(text: &str, start_ix: usize) -> Option<(usize, Cow<'_, str>, LinkType)> {
+    check_place(text, start_ix);
+    let told = text_part(raw::scan_autolink(text.as_bytes(), start_ix), text);
+    told.map(|(end, uri)| (end, Cow::Borrowed(uri), LinkType::Autolink))
+}
+
+/// The same of any bytes; `None` too where the place is past their end.
+///
+/// ```
+/// assert_eq!(markdown_scanners::scan_autolink_bytes(b"<ab:\xff>", 1), Some((6, &b"ab:\xff"[..])));
+/// ```
+pub fn scan_autolink_bytes(data: &[u8], start_ix: usize) -> Option<(usize, &[u8])> {
+    part(raw::scan_autolink(data, start_ix), data)
+}
+
+/// Whether an HTML block that a name of start condition 6 opens begins here, behind the `<`. (4.6)
+///
+/// ```
+/// assert!(markdown_scanners::starts_html_block_type_6(b"div>"));
+/// ```
+pub fn starts_html_block_type_6(data: &[u8]) -> bool {
+    raw::starts_html_block_type_6(data)
+}
+
+/// The length of the tag at the front that stands alone in its line. (4.6, start condition 7)
+///
+/// ```
+/// assert_eq!(markdown_scanners::scan_html_type_7(b"<b> \n"), Some(3));
+/// ```
+pub fn scan_html_type_7(data: &[u8]) -> Option<usize> {
+    found(raw::scan_html_type_7(data))
+}
+
+/// The length of the open or closing tag at the front, which holds no line ending. (6.6)
+///
+/// ```
+/// assert_eq!(markdown_scanners::scan_html_tag(b"<b c='d'> e"), Some(9));
+/// ```
+pub fn scan_html_tag(data: &[u8]) -> Option<usize> {
+    found(raw::scan_html_tag(data))
+}
+
+/// The open or closing tag at the front, over lines of which the skips are left out: its text without these, empty where
+/// none are left out inside it; and its length. (6.6)
+///
+/// ```
+/// use markdown_scanners::{scan_html_block_inner, Skip};
+/// let tag = scan_html_block_inner(b"<foo\n> bar>", &[Skip::new(5, 2)]);
+/// assert_eq!(tag, Ok(Some((b"<foo\nbar>".to_vec(), 11))));
+/// ```
+pub fn scan_html_block_inner(data: &[u8], skips: &[Skip]) -> Result<Option<(Vec<u8>, usize)>, BadSkips> {
+    let mut room = [0; SMALL];
+    let tag = raw::scan_html_tag_over_lines(data, skips, &mut room);
+    match tag.status {
+        ffi::OK => Ok(Some((room[..tag.length].to_vec(), tag.taken))),
+        ffi::TOO_SHORT => {
+            let mut room = vec![0; tag.length];
+            let tag = raw::scan_html_tag_over_lines(data, skips, &mut room);
+            Ok(Some((room, tag.taken)))
+        }
+        ffi::NOTHING => Ok(None),
+        _ => Err(BadSkips),
+    }
+}
+
+/// What the scans of one text have searched in vain, so that none of them searches it again: k scans of n bytes, at rising
+/// places, each at or behind the end that was found before, pass over at most 4n + 8k bytes.
+#[derive(Clone, Debug, Default, PartialEq, Eq)]
+pub struct HtmlScanGuard(ffi::HtmlGuard);
+
+impl HtmlScanGuard {
+    /// That of a text of which nothing has been searched.
+    ///
+    /// ```
+    /// use markdown_scanners::{scan_inline_html_comment, HtmlScanGuard};
+    /// let mut guard = HtmlScanGuard::new();
+    /// assert_eq!(scan_inline_html_comment(b"<!-- a", 2, &mut guard), None);
+    /// assert_ne!(guard, HtmlScanGuard::new());
+    /// ```
+    pub fn new() -> Self {
+        Self::default()
+    }
+}
+
+fn html_end(bytes: &[u8], ix: usize, guard: &mut HtmlScanGuard, opener: u8) -> Option<usize> {
+    let opens = ix.checked_sub(1).and_then(|before| bytes.get(before)) == Some(&opener);
+    let told = opens.then(|| raw::scan_inline_html(bytes, ix, &mut guard.0))?;
+    (told.status == ffi::OK).then_some(told.end)
+}
+
+/// The place behind the comment, CDATA section or declaration whose `<!` ends at the place; `None` too where none ends
+/// there. (6.6)
+///
+/// ```
+/// use markdown_scanners::{scan_inline_html_comment, HtmlScanGuard};
+/// assert_eq!(scan_inline_html_comment(b"a <!-- b --> c", 4, &mut HtmlScanGuard::new()), Some(12));
+/// ```
+pub fn scan_inline_html_comment(bytes: &[u8], ix: usize, guard: &mut HtmlScanGuard) -> Option<usize> {
+    html_end(bytes, ix, guard, b'!')
+}
+
+/// The place behind the processing instruction whose `<?` ends at the place; `None` too where none ends there. (6.6)
+///
+/// ```
+/// use markdown_scanners::{scan_inline_html_processing, HtmlScanGuard};
+/// assert_eq!(scan_inline_html_processing(b"<?a?>", 2, &mut HtmlScanGuard::new()), Some(5));
+/// ```
+pub fn scan_inline_html_processing(bytes: &[u8], ix: usize, guard: &mut HtmlScanGuard) -> Option<usize> {
+    html_end(bytes, ix, guard, b'?')
+}
+
+/// The length of the character reference at the front, and what it stands for; 0 and `None` where there is none. The first
+/// byte is taken for its `&`. All entities of HTML are known. (2.5)
+///
+/// ```
+/// assert_eq!(markdown_scanners::scan_entity(b"&auml;b"), (6, Some("ä".into())));
+/// assert_eq!(markdown_scanners::scan_entity(b"&a;"), (0, None));
+/// ```
+pub fn scan_entity(bytes: &[u8]) -> (usize, Option<Cow<'static, str>>) {
+    let mut room = [0; REFERENCE];
+    let text = raw::scan_entity(bytes, &mut room);
+    if text.status != ffi::OK {
+        return (0, None);
+    }
+    (text.taken, Some(Cow::Owned(string(room[..text.length].to_vec()))))
+}
+
+/// The text with its backslash escapes and character references resolved, and without CR; in a cell of a table two
+/// backslashes and a pipe give the pipe. It is the input itself where nothing changes. (2.4, 2.5)
+///
+/// ```
+/// assert_eq!(markdown_scanners::unescape(r"a\*b &amp; c", false), "a*b & c");
+/// ```
+pub fn unescape(input: &str, is_in_table: bool) -> Cow<'_, str> {
+    let mut room = vec![0; input.len() + input.len() / 5];
+    let text = raw::unescape(input, is_in_table, &mut room);
+    room.truncate(text.length);
+    if room == input.as_bytes() {
+        return Cow::Borrowed(input);
+    }
+    Cow::Owned(string(room))
+}
+
+/// The link label whose opening bracket stands just before the text, over lines of which the skips are left out: its length
+/// with the closing bracket, and its words, joined by one space. In a cell of a table a pipe loses the backslash before it.
+/// The whole text is looked through, so give it no more than may belong to the label. (6.3)
+///
+/// ```
+/// use markdown_scanners::{scan_link_label_rest, Skip};
+/// assert_eq!(scan_link_label_rest("a b]: c", &[], false), Ok(Some((4, "a b".into()))));
+/// assert_eq!(scan_link_label_rest("a\n> b]", &[Skip::new(2, 2)], false), Ok(Some((6, "a b".into()))));
+/// ```
+pub fn scan_link_label_rest<'text>(
+    text: &'text str,
+    skips: &[Skip],
+    is_in_table: bool,
+) -> Result<Option<(usize, Cow<'text, str>)>, BadSkips> {
+    let mut room = [0; SMALL];
+    let label = raw::scan_link_label(text, is_in_table, skips, &mut room);
+    let found = match label.status {
+        ffi::NOTHING => return Ok(None),
+        ffi::OK | ffi::TOO_SHORT if label.start != ffi::NONE => {
+            Cow::Borrowed(&text[label.start..label.start + label.length])
+        }
+        ffi::OK => Cow::Owned(string(room[..label.length].to_vec())),
+        ffi::TOO_SHORT => {
+            let mut room = vec![0; label.length];
+            raw::scan_link_label(text, is_in_table, skips, &mut room);
+            Cow::Owned(string(room))
+        }
+        _ => return Err(BadSkips),
+    };
+    Ok(Some((label.taken, found)))
+}
+
+/// Whether two labels match: their full case foldings are equal. (6.3)
+///
+/// ```
+/// assert!(markdown_scanners::labels_match("ẞ", "SS"));
+/// ```
+pub fn labels_match(one: &str, other: &str) -> bool {
+    raw::labels_match(one, other)
+}
+
+/// The full case folding of a label: two labels match exactly where their keys are equal. (6.3)
+///
+/// ```
+/// assert_eq!(markdown_scanners::label_key("Straße"), "strasse");
+/// ```
+pub fn label_key(label: &str) -> String {
+    let mut room = vec![0; 3 * label.len()];
+    let text = raw::label_key(label, &mut room);
+    room.truncate(text.length);
+    string(room)
+}
+
+/// A link label, equal to those that match it, for tables of definitions.
+///
+/// ```
+/// use markdown_scanners::LinkLabel;
+/// let labels = std::collections::HashMap::from([(LinkLabel::new("Foo"), "/url")]);
+/// assert_eq!(labels.get(&LinkLabel::new("FOO")), Some(&"/url"));
+/// ```
+#[derive(Clone, Debug)]
+pub struct LinkLabel<'text> {
+    text: Cow<'text, str>,
+    key: String,
+}
+
+impl<'text> LinkLabel<'text> {
+    /// The label of a text, as `scan_link_label_rest` writes it.
+    ///
+    /// ```
+    /// assert_eq!(markdown_scanners::LinkLabel::new("Foo"), markdown_scanners::LinkLabel::new("foo"));
+    /// ```
+    pub fn new(text: impl Into<Cow<'text, str>>) -> Self {
+        let text = text.into();
+        let key = label_key(&text);
+        LinkLabel { text, key }
+    }
+
+    /// The text as it was given.
+    ///
+    /// ```
+    /// assert_eq!(markdown_scanners::LinkLabel::new("Foo").as_str(), "Foo");
+    /// ```
+    pub fn as_str(&self) -> &str {
+        &self.text
+    }
+}
+
+impl PartialEq for LinkLabel<'_> {
+    fn eq(&self, other: &Self) -> bool {
+        self.key == other.key
+    }
+}
+
+impl Eq for LinkLabel<'_> {}
+
+impl Hash for LinkLabel<'_> {
+    fn hash<H: Hasher>(&self, state: &mut H) {
+        self.key.hash(state);
+    }
+}

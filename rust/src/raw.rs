@@ -1,0 +1,217 @@
+//! The functions of `markdown_scanners.h` over slices: all that is unsafe stands here.
+//!
+//! The header asks of a caller that a pointer and a length are those of memory that is there, at most `isize::MAX` bytes and
+//! aligned, and that nothing that is written overlaps anything else that a call is given. A slice is such memory, and a
+//! `&mut` overlaps nothing. What is given is read during the call alone.
+
+use std::alloc::{handle_alloc_error, Layout};
+use std::ffi::c_void;
+
+#[allow(dead_code)] // it has all numbers of the header, and some are for programs in C
+pub(crate) mod ffi;
+
+pub(crate) use ffi::{Label, LineStart, Text};
+
+/// What is left out at the front of a line: at `place`, that of the line's first byte, `length` bytes.
+#[repr(transparent)]
+#[derive(Clone, Copy, Debug, Default, PartialEq, Eq)]
+pub struct Skip(ffi::Skip);
+
+impl Skip {
+    /// `length` bytes at `place`.
+    pub const fn new(place: usize, length: usize) -> Self {
+        Skip(ffi::Skip { place, length })
+    }
+
+    /// The place of the first byte that is left out.
+    pub const fn place(self) -> usize {
+        self.0.place
+    }
+
+    /// How many bytes are left out.
+    pub const fn length(self) -> usize {
+        self.0.length
+    }
+}
+
+fn front(bytes: &[u8]) -> *const c_void {
+    bytes.as_ptr().cast()
+}
+
+/// Ends the process as where any other memory is refused.
+fn refused() -> ! {
+    handle_alloc_error(Layout::new::<usize>())
+}
+
+/// Functions of a byte.
+macro_rules! of_bytes {
+    ($($name:ident = $function:ident;)*) => {$(
+        pub(crate) fn $name(byte: u8) -> bool {
+            // SAFETY: it is given no pointer.
+            unsafe { ffi::$function(byte) }
+        }
+    )*};
+}
+
+of_bytes! {
+    is_whitespace = mds_is_whitespace;
+    is_whitespace_in_line = mds_is_whitespace_in_line;
+    is_punctuation = mds_is_punctuation;
+}
+
+/// Functions that read a slice, and are given numbers besides.
+macro_rules! reading {
+    ($($name:ident($($given:ident: $kind:ty),*) -> $answer:ty = $function:ident;)*) => {$(
+        pub(crate) fn $name(bytes: &[u8] $(, $given: $kind)*) -> $answer {
+            // SAFETY: the pointer and the length are those of one slice, and nothing is written.
+            unsafe { ffi::$function(front(bytes), bytes.len() $(, $given)*) }
+        }
+    )*};
+}
+
+reading! {
+    scan_ch(byte: u8) -> usize = mds_scan_ch;
+    scan_ch_repeat(byte: u8) -> usize = mds_scan_ch_repeat;
+    scan_whitespace_in_line() -> usize = mds_scan_whitespace_in_line;
+    scan_eol() -> usize = mds_scan_eol;
+    scan_line() -> usize = mds_scan_line;
+    scan_nextline() -> usize = mds_scan_nextline;
+    scan_blank_line() -> usize = mds_scan_blank_line;
+    scan_blockquote_start() -> usize = mds_scan_blockquote_start;
+    scan_listitem() -> ffi::ListItem = mds_scan_listitem;
+    calc_indent(max: usize) -> ffi::Indent = mds_calc_indent;
+    scan_hrule() -> ffi::Break = mds_scan_hrule;
+    scan_atx_heading() -> u32 = mds_scan_atx_heading;
+    scan_setext_heading() -> ffi::Underline = mds_scan_setext_heading;
+    scan_code_fence() -> ffi::Fence = mds_scan_code_fence;
+    scan_closing_code_fence(fence: u8, count: usize) -> usize = mds_scan_closing_code_fence;
+    scan_metadata_block(yaml: bool, pluses: bool) -> ffi::Fence = mds_scan_metadata_block;
+    scan_closing_metadata_block(fence: u8) -> usize = mds_scan_closing_metadata_block;
+    scan_link_dest(start: usize, max_next: usize) -> ffi::Part = mds_scan_link_dest;
+    scan_autolink(start: usize) -> ffi::Part = mds_scan_autolink;
+    scan_wikilink_pipe(start: usize, count: usize) -> ffi::Part = mds_scan_wikilink_pipe;
+    starts_html_block_type_6() -> bool = mds_starts_html_block_type_6;
+    scan_html_type_7() -> usize = mds_scan_html_type_7;
+    scan_html_tag() -> usize = mds_scan_html_tag;
+}
+
+/// Functions that read a line from its front, and move a line start.
+macro_rules! moving {
+    ($($name:ident($($given:ident),*) -> $answer:ty = $function:ident;)*) => {$(
+        pub(crate) fn $name(bytes: &[u8], start: &mut LineStart $(, $given: usize)*) -> $answer {
+            // SAFETY: the pointer and the length are those of one slice, and what is written is a `&mut` of its own.
+            unsafe { ffi::$function(front(bytes), bytes.len(), start $(, $given)*) }
+        }
+    )*};
+}
+
+moving! {
+    line_space(count) -> u32 = mds_line_space;
+    line_upto(count) -> ffi::Columns = mds_line_upto;
+    line_all_space() -> u32 = mds_line_all_space;
+    line_quote() -> u32 = mds_line_quote;
+    line_list(indent) -> ffi::LineItem = mds_line_list;
+    line_definition(indent) -> ffi::Columns = mds_line_definition;
+    line_task() -> ffi::Task = mds_line_task;
+    line_alert() -> ffi::Alert = mds_line_alert;
+}
+
+pub(crate) fn line_eol(bytes: &[u8], start: &LineStart) -> u32 {
+    // SAFETY: the pointer and the length are those of one slice, the line start is a `&`, and nothing is written.
+    unsafe { ffi::mds_line_eol(front(bytes), bytes.len(), start) }
+}
+
+pub(crate) fn scan_inline_html(bytes: &[u8], place: usize, guard: &mut ffi::HtmlGuard) -> ffi::End {
+    // SAFETY: the pointer and the length are those of one slice, and what is written is a `&mut` of its own.
+    unsafe { ffi::mds_scan_inline_html(front(bytes), bytes.len(), place, guard) }
+}
+
+pub(crate) fn labels_match(one: &str, other: &str) -> bool {
+    let (one, other) = (one.as_bytes(), other.as_bytes());
+    // SAFETY: each pointer and length are those of one slice, and nothing is written.
+    let status = unsafe { ffi::mds_labels_match(front(one), one.len(), front(other), other.len()) };
+    status == ffi::OK
+}
+
+/// The table of skips as C has it.
+fn table(skips: &[Skip]) -> *const ffi::Skip {
+    skips.as_ptr().cast() // a `Skip` is one of C's, transparently
+}
+
+pub(crate) fn scan_table_head(bytes: &[u8], buffer: &mut [u8]) -> Text {
+    // SAFETY: each pointer and length are those of one slice, and what is written is a `&mut` of its own.
+    told(unsafe { ffi::mds_scan_table_head(front(bytes), bytes.len(), buffer.as_mut_ptr(), buffer.len()) })
+}
+
+pub(crate) fn scan_entity(bytes: &[u8], buffer: &mut [u8]) -> Text {
+    // SAFETY: each pointer and length are those of one slice, and what is written is a `&mut` of its own.
+    told(unsafe { ffi::mds_scan_entity(front(bytes), bytes.len(), buffer.as_mut_ptr(), buffer.len()) })
+}
+
+pub(crate) fn unescape(text: &str, in_table: bool, buffer: &mut [u8]) -> Text {
+    let bytes = text.as_bytes();
+    // SAFETY: each pointer and length are those of one slice, and what is written is a `&mut` of its own.
+    told(unsafe { ffi::mds_unescape(front(bytes), bytes.len(), in_table, buffer.as_mut_ptr(), buffer.len()) })
+}
+
+pub(crate) fn label_key(text: &str, buffer: &mut [u8]) -> Text {
+    let bytes = text.as_bytes();
+    // SAFETY: each pointer and length are those of one slice, and what is written is a `&mut` of its own.
+    told(unsafe { ffi::mds_label_key(front(bytes), bytes.len(), buffer.as_mut_ptr(), buffer.len()) })
+}
+
+pub(crate) fn scan_html_tag_over_lines(bytes: &[u8], skips: &[Skip], buffer: &mut [u8]) -> Text {
+    let (room, capacity) = (buffer.as_mut_ptr(), buffer.len());
+    // SAFETY: each pointer and length are those of one slice, and what is written is a `&mut` of its own.
+    told(unsafe {
+        ffi::mds_scan_html_tag_over_lines(front(bytes), bytes.len(), table(skips), skips.len(), room, capacity)
+    })
+}
+
+pub(crate) fn scan_link_label(text: &str, in_table: bool, skips: &[Skip], buffer: &mut [u8]) -> Label {
+    let (bytes, room, capacity) = (text.as_bytes(), buffer.as_mut_ptr(), buffer.len());
+    // SAFETY: each pointer and length are those of one slice, and what is written is a `&mut` of its own.
+    let label = unsafe {
+        ffi::mds_scan_link_label(front(bytes), bytes.len(), in_table, table(skips), skips.len(), room, capacity)
+    };
+    if label.status == ffi::NO_MEMORY {
+        refused();
+    }
+    label
+}
+
+fn told(text: Text) -> Text {
+    if text.status == ffi::NO_MEMORY {
+        refused();
+    }
+    text
+}
+
+pub(crate) fn run_line(
+    bytes: &[u8],
+    calls: &[ffi::LineCall],
+    answers: &mut [ffi::LineAnswer],
+    rest: &mut [u8],
+) -> ffi::LineRun {
+    let (listed, many) = (answers.as_mut_ptr(), answers.len());
+    let (room, capacity) = (rest.as_mut_ptr(), rest.len());
+    // SAFETY: each pointer and length are those of one slice, and what is written are two `&mut` of their own.
+    let run = unsafe {
+        ffi::mds_run_line(front(bytes), bytes.len(), calls.as_ptr(), calls.len(), listed, many, room, capacity)
+    };
+    if run.status == ffi::NO_MEMORY {
+        refused();
+    }
+    run
+}
+
+pub(crate) fn run_inline_html(bytes: &[u8], places: &[usize], ends: &mut [usize]) -> ffi::HtmlRun {
+    let (listed, capacity) = (ends.as_mut_ptr(), ends.len());
+    // SAFETY: each pointer and length are those of one slice, and what is written is a `&mut` of its own.
+    let run =
+        unsafe { ffi::mds_run_inline_html(front(bytes), bytes.len(), places.as_ptr(), places.len(), listed, capacity) };
+    if run.status == ffi::NO_MEMORY {
+        refused();
+    }
+    run
+}

@@ -1,0 +1,145 @@
+//! Many calls in one: on the start of a line, and of inline HTML. Sections in brackets are those of CommonMark 0.31.2.
+
+use crate::raw::{self, ffi};
+use crate::values::found;
+
+/// A call of a run on the start of a line.
+#[derive(Clone, Copy, Debug, PartialEq, Eq)]
+pub enum LineCall {
+    /// So many columns of space, or fewer where there are fewer.
+    Space(usize),
+    /// At most so many columns of space.
+    Upto(usize),
+    /// Whether the line ends there.
+    Eol,
+    /// A block quote marker.
+    Quote,
+    /// A list item's marker at that indent.
+    List(usize),
+    /// A definition's marker at that indent.
+    Definition(usize),
+}
+
+/// What such a call answers.
+#[derive(Clone, Copy, Debug, PartialEq, Eq)]
+pub enum LineAnswer {
+    /// Whether there were as many columns.
+    Space(bool),
+    /// How many columns were taken.
+    Upto(usize),
+    /// Whether the line ends there.
+    Eol(bool),
+    /// Whether there is a marker.
+    Quote(bool),
+    /// The delimiter, the number of an ordered item, and the indent of what the item holds.
+    List(Option<(u8, u64, usize)>),
+    /// The indent of what the definition holds.
+    Definition(Option<usize>),
+}
+
+/// Why a run on the start of a line stops.
+#[derive(Clone, Copy, Debug, PartialEq, Eq)]
+pub enum LineStop {
+    /// Columns of a tab are pending, and the call takes no space.
+    SpacePending,
+    /// The indent is above `usize::MAX - 16`.
+    IndentTooLarge,
+}
+
+/// What a run on the start of a line comes to.
+#[derive(Clone, Debug, PartialEq, Eq)]
+pub struct LineRun {
+    /// Of each call before the run stopped.
+    pub answers: Vec<LineAnswer>,
+    /// How many bytes of the line have been passed.
+    pub scanned: usize,
+    /// Before which call the run stopped, and why.
+    pub stop: Option<(usize, LineStop)>,
+    /// What is left of the line, its tabs written out.
+    pub rest: Vec<u8>,
+}
+
+fn call_of(call: LineCall) -> ffi::LineCall {
+    let (kind, number) = match call {
+        LineCall::Space(count) => (ffi::SPACE, count),
+        LineCall::Upto(count) => (ffi::UPTO, count),
+        LineCall::Eol => (ffi::EOL, 0),
+        LineCall::Quote => (ffi::QUOTE, 0),
+        LineCall::List(indent) => (ffi::LIST, indent),
+        LineCall::Definition(indent) => (ffi::DEFINITION, indent),
+    };
+    ffi::LineCall { kind, number }
+}
+
+fn answer_of(call: LineCall, told: ffi::LineAnswer) -> LineAnswer {
+    match call {
+        LineCall::Space(_) => LineAnswer::Space(told.found),
+        LineCall::Upto(_) => LineAnswer::Upto(told.number),
+        LineCall::Eol => LineAnswer::Eol(told.found),
+        LineCall::Quote => LineAnswer::Quote(told.found),
+        LineCall::List(_) => LineAnswer::List(told.found.then_some((told.delimiter, told.start, told.number))),
+        LineCall::Definition(_) => LineAnswer::Definition(told.found.then_some(told.number)),
+    }
+}
+
+/// Makes the calls in turn on the line, as on the line with its tabs written out to stops of four. (2.2)
+///
+/// ```
+/// use markdown_scanners::{run_line, LineAnswer, LineCall};
+/// let run = run_line(b">\tx", &[LineCall::Quote, LineCall::Upto(9)]);
+/// assert_eq!(run.answers, [LineAnswer::Quote(true), LineAnswer::Upto(2)]);
+/// assert_eq!((run.scanned, run.stop, &run.rest[..]), (2, None, &b"x"[..]));
+/// ```
+pub fn run_line(bytes: &[u8], calls: &[LineCall]) -> LineRun {
+    let given: Vec<_> = calls.iter().copied().map(call_of).collect();
+    let mut answers = vec![ffi::LineAnswer::default(); calls.len()];
+    let mut rest = vec![0; 4 * bytes.len()];
+    let run = raw::run_line(bytes, &given, &mut answers, &mut rest);
+    rest.truncate(run.rest);
+    let stop = match run.status {
+        ffi::SPACE_PENDING => Some((run.count, LineStop::SpacePending)),
+        ffi::TOO_LARGE => Some((run.count, LineStop::IndentTooLarge)),
+        _ => None,
+    };
+    let told = calls.iter().zip(&answers[..run.count]).map(|(call, told)| answer_of(*call, *told));
+    LineRun { answers: told.collect(), scanned: run.scanned, stop, rest }
+}
+
+/// Why a run of inline HTML stops.
+#[derive(Clone, Copy, Debug, PartialEq, Eq)]
+pub enum HtmlStop {
+    /// No `<!` or `<?` ends at the place.
+    NoOpener,
+    /// The place is not above the one before it.
+    NotRising,
+    /// The place is inside what was found before it.
+    InsideFind,
+}
+
+/// What a run of inline HTML finds.
+#[derive(Clone, Debug, PartialEq, Eq)]
+pub struct HtmlRun {
+    /// The place behind what begins at each of the places, before the run stopped.
+    pub answers: Vec<Option<usize>>,
+    /// Before which place the run stopped, and why.
+    pub stop: Option<(usize, HtmlStop)>,
+}
+
+/// The place behind the comment, CDATA section, declaration or processing instruction that begins at each of the places in
+/// turn. The scans at k places of n bytes pass over at most 4n + 8k bytes. (6.6)
+///
+/// ```
+/// let run = markdown_scanners::run_inline_html(b"<!a> <? <!-- b -->", &[2, 7, 10]);
+/// assert_eq!((run.answers, run.stop), (vec![Some(4), None, Some(18)], None));
+/// ```
+pub fn run_inline_html(bytes: &[u8], places: &[usize]) -> HtmlRun {
+    let mut ends = vec![0; places.len()];
+    let run = raw::run_inline_html(bytes, places, &mut ends);
+    let stop = match run.status {
+        ffi::NO_OPENER => Some((run.count, HtmlStop::NoOpener)),
+        ffi::NOT_RISING => Some((run.count, HtmlStop::NotRising)),
+        ffi::INSIDE_FIND => Some((run.count, HtmlStop::InsideFind)),
+        _ => None,
+    };
+    HtmlRun { answers: ends[..run.count].iter().copied().map(found).collect(), stop }
+}

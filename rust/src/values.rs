@@ -1,0 +1,96 @@
+//! What the scanners tell: levels, alignments, kinds, and why a call refuses what it is given.
+
+use std::error::Error;
+use std::fmt;
+
+use crate::raw::ffi;
+
+/// The level of a heading.
+#[derive(Clone, Copy, Debug, PartialEq, Eq, PartialOrd, Ord, Hash)]
+#[allow(missing_docs)]
+pub enum HeadingLevel {
+    H1 = 1,
+    H2,
+    H3,
+    H4,
+    H5,
+    H6,
+}
+
+impl HeadingLevel {
+    pub(crate) fn of(level: u32) -> Option<Self> {
+        use HeadingLevel::*;
+        [H1, H2, H3, H4, H5, H6].into_iter().find(|it| *it as u32 == level)
+    }
+}
+
+/// How a column of a table is aligned.
+#[derive(Clone, Copy, Debug, PartialEq, Eq, Hash)]
+#[allow(missing_docs)]
+pub enum Alignment {
+    None,
+    Left,
+    Center,
+    Right,
+}
+
+impl Alignment {
+    pub(crate) fn of(number: u8) -> Self {
+        match u32::from(number) {
+            ffi::ALIGN_LEFT => Alignment::Left,
+            ffi::ALIGN_CENTER => Alignment::Center,
+            ffi::ALIGN_RIGHT => Alignment::Right,
+            _ => Alignment::None,
+        }
+    }
+}
+
+/// The kind of an alert, which is a block quote.
+#[derive(Clone, Copy, Debug, PartialEq, Eq, Hash)]
+#[allow(missing_docs)]
+pub enum BlockQuoteKind {
+    Note,
+    Tip,
+    Important,
+    Warning,
+    Caution,
+}
+
+impl BlockQuoteKind {
+    pub(crate) fn of(kind: u32) -> Option<Self> {
+        match kind {
+            ffi::ALERT_NOTE => Some(BlockQuoteKind::Note),
+            ffi::ALERT_TIP => Some(BlockQuoteKind::Tip),
+            ffi::ALERT_IMPORTANT => Some(BlockQuoteKind::Important),
+            ffi::ALERT_WARNING => Some(BlockQuoteKind::Warning),
+            ffi::ALERT_CAUTION => Some(BlockQuoteKind::Caution),
+            _ => None,
+        }
+    }
+}
+
+/// The kind of a link that a scanner tells.
+#[derive(Clone, Copy, Debug, PartialEq, Eq, Hash)]
+#[non_exhaustive]
+pub enum LinkType {
+    /// An absolute URI in angle brackets.
+    Autolink,
+}
+
+/// A table of skips is none of the text: its places do not rise, one ends past the text or where the next has begun, or one
+/// leaves out other bytes than ASCII of a label.
+#[derive(Clone, Copy, Debug, PartialEq, Eq)]
+pub struct BadSkips;
+
+impl fmt::Display for BadSkips {
+    fn fmt(&self, f: &mut fmt::Formatter<'_>) -> fmt::Result {
+        f.write_str("the table of what is left out is none of the text")
+    }
+}
+
+impl Error for BadSkips {}
+
+/// `None` in place of the number that C has for it.
+pub(crate) fn found(length: usize) -> Option<usize> {
+    (length != ffi::NONE).then_some(length)
+}

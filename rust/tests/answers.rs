@@ -1,0 +1,185 @@
+//! What no example says: texts longer than the room that is tried first, what is borrowed, what is refused, and guards. The
+//! values are worked out by hand from CommonMark 0.31.2.
+
+use std::borrow::Cow;
+use std::panic::catch_unwind;
+
+use markdown_scanners::*;
+
+#[test]
+fn nothing() {
+    assert_eq!(scan_eol(b""), Some(0));
+    assert_eq!(scan_blank_line(b"a"), None);
+    assert_eq!(scan_listitem(b"-x"), None);
+    assert_eq!(scan_atx_heading(b"#######"), None);
+    assert_eq!(scan_setext_heading(b"=-"), None);
+    assert_eq!(scan_code_fence(b"``"), None);
+    assert_eq!(scan_closing_code_fence(b"~~\n", b'~', 3), None);
+    assert_eq!(scan_metadata_block(b"---\n---\n", true, true), None);
+    assert_eq!(scan_hrule(b"--"), Err(0));
+    assert_eq!(scan_table_head(b"||-|"), (0, vec![]));
+    assert_eq!(scan_html_type_7(b"<a> b"), None);
+    assert_eq!(scan_html_tag(b"<1>"), None);
+    assert_eq!(scan_entity(b""), (0, None));
+    assert_eq!(scan_html_block_inner(b"", &[]), Ok(None));
+    assert_eq!(scan_link_label_rest("a", &[], false), Ok(None));
+}
+
+#[test]
+fn levels() {
+    use HeadingLevel::*;
+    for (level, wanted) in [H1, H2, H3, H4, H5, H6].into_iter().enumerate() {
+        assert_eq!(scan_atx_heading(&b"###### a"[5 - level..]), Some(wanted));
+    }
+}
+
+#[test]
+fn kinds() {
+    use BlockQuoteKind::*;
+    let named = [("note", Note), ("Tip", Tip), ("IMPORTANT", Important), ("warning", Warning), ("caution", Caution)];
+    for (name, kind) in named {
+        assert_eq!(LineStart::new(format!("[!{name}]").as_bytes()).scan_blockquote_tag(), Some(kind));
+    }
+    assert_eq!(LineStart::new(b"[!other]").scan_blockquote_tag(), None);
+}
+
+#[test]
+fn alignments() {
+    use Alignment::{Center, Left, Right};
+    let row = "|:-|:-:|-:".repeat(100) + "|\n";
+    let (length, columns) = scan_table_head(row.as_bytes());
+    assert_eq!(length, row.len());
+    assert_eq!(columns, [Left, Center, Right].repeat(100));
+    assert_eq!(scan_table_head(b"-|").1, [Alignment::None]);
+}
+
+#[test]
+fn line_starts() {
+    let mut start = LineStart::new(b">\t\tfoo");
+    assert!(start.scan_blockquote_marker());
+    assert_eq!((start.bytes_scanned(), start.remaining_space()), (2, 2));
+    let mut other = start.clone();
+    assert!(start.scan_space(4));
+    assert_eq!((start.bytes_scanned(), start.remaining_space()), (3, 2));
+    assert_eq!(other.scan_space_upto(9), 6);
+    assert!(!other.is_at_eol());
+    let mut task = LineStart::new(b"  [ ] a");
+    assert_eq!((task.scan_task_list_marker(), task.bytes_scanned()), (Some(false), 5));
+}
+
+#[test]
+fn parts() {
+    assert_eq!(scan_link_dest("((a))", 0, 1), Some((5, "((a))")));
+    assert_eq!(scan_link_dest("(((a)))", 0, 1), None);
+    assert_eq!(scan_link_dest("[é](é\\)é)", 5, 31), Some((6, "é\\)é")));
+    assert_eq!(scan_link_dest_bytes(b"a", 2, 31), None);
+    assert_eq!(scan_autolink("<a:b>", 1), None);
+    assert_eq!(scan_autolink_bytes(b"ab:", 4), None);
+    assert_eq!(scan_wikilink_pipe("a|b]]", 0, 1), None);
+    assert_eq!(scan_wikilink_pipe_bytes(b"", 1, 1), None);
+    for start in [1, 3, usize::MAX] {
+        assert!(catch_unwind(|| scan_link_dest("é", start, 31)).is_err());
+        assert!(catch_unwind(|| scan_autolink("é", start)).is_err());
+        assert!(catch_unwind(|| scan_wikilink_pipe("é", start, 1)).is_err());
+    }
+}
+
+#[test]
+fn large_numbers() {
+    assert_eq!(calc_indent(b" ", usize::MAX / 4), (0, 1));
+    assert!(catch_unwind(|| calc_indent(b" ", usize::MAX / 4 + 1)).is_err());
+    let item = |indent| LineStart::new(b"- a").scan_list_marker_with_indent(indent);
+    assert_eq!(item(usize::MAX - 16), Some((b'-', 0, usize::MAX - 14)));
+    assert!(catch_unwind(|| item(usize::MAX - 15)).is_err());
+    let definition = |indent| LineStart::new(b": a").scan_definition_list_definition_marker_with_indent(indent);
+    assert_eq!(definition(usize::MAX - 16), Some(usize::MAX - 14));
+    assert!(catch_unwind(|| definition(usize::MAX - 15)).is_err());
+}
+
+#[test]
+fn tags() {
+    assert_eq!(scan_html_block_inner(b"<foo bar>", &[]), Ok(Some((vec![], 9))));
+    assert_eq!(scan_html_block_inner(b"<foo\n> bar>", &[]), Ok(Some((vec![], 6))));
+    let long = format!("<a b='{}'\n> c>", "x".repeat(1000));
+    let tag = scan_html_block_inner(long.as_bytes(), &[Skip::new(1008, 2)]);
+    assert_eq!(tag, Ok(Some((long.replace("> c", "c").into_bytes(), long.len()))));
+    assert_eq!(scan_html_block_inner(b"<a\nb>", &[Skip::new(9, 1)]), Err(BadSkips));
+    assert_eq!(scan_html_block_inner(b"<a\nb>", &[Skip::new(3, 1), Skip::new(3, 1)]), Err(BadSkips));
+    assert!(!BadSkips.to_string().is_empty());
+    assert_eq!((Skip::new(3, 1).place(), Skip::new(3, 1).length()), (3, 1));
+}
+
+#[test]
+fn guards() {
+    let text = b"<!-- a --> <!b> <![CDATA[c]]> <?d?> <!-- e";
+    let mut guard = HtmlScanGuard::new();
+    for (place, end) in [(2, 10), (13, 15), (18, 29)] {
+        assert_eq!(scan_inline_html_comment(text, place, &mut guard), Some(end));
+    }
+    assert_eq!(scan_inline_html_processing(text, 32, &mut guard), Some(35));
+    assert_eq!(scan_inline_html_comment(text, 38, &mut guard), None);
+    for place in [0, 1, 3, 32, text.len(), text.len() + 1, usize::MAX] {
+        assert_eq!(scan_inline_html_comment(text, place, &mut HtmlScanGuard::new()), None);
+    }
+    assert_eq!(scan_inline_html_processing(text, 2, &mut HtmlScanGuard::new()), None);
+}
+
+fn is_borrowed(text: Cow<'_, str>) -> bool {
+    matches!(text, Cow::Borrowed(_))
+}
+
+#[test]
+fn unescaped() {
+    assert!(is_borrowed(unescape("plain", false)));
+    assert!(is_borrowed(unescape("", true)));
+    assert_eq!(unescape("&nGt;&nLt;", false), "≫⃒≪⃒");
+    assert_eq!(unescape("a\r\nb", false), "a\nb");
+    assert_eq!(unescape(r"\\|", true), "|");
+    assert_eq!(unescape(r"\\|", false), r"\|");
+    let long = "&amp;".repeat(1000);
+    assert_eq!(unescape(&long, false), "&".repeat(1000));
+}
+
+#[test]
+fn labels() {
+    let label = |text| scan_link_label_rest(text, &[], false).unwrap().unwrap();
+    assert!(is_borrowed(label(" a b ]").1));
+    assert_eq!(label(" a b ]"), (6, "a b".into()));
+    assert!(!is_borrowed(label("a  b]").1));
+    let long = "a".repeat(999) + "]";
+    assert!(is_borrowed(label(&long).1));
+    let wide = "é  ".repeat(300) + "]";
+    let narrow = "é ".repeat(300);
+    assert_eq!(label(&wide), (wide.len(), narrow.trim_end().into()));
+    assert_eq!(scan_link_label_rest(r"a\|b]", &[], true), Ok(Some((5, "a|b".into()))));
+    assert_eq!(scan_link_label_rest("a]", &[Skip::new(9, 1)], false), Err(BadSkips));
+    assert_eq!(scan_link_label_rest("a\né]", &[Skip::new(2, 2)], false), Err(BadSkips));
+}
+
+#[test]
+fn keys() {
+    assert_eq!(label_key("ΑΓΩ"), "αγω");
+    assert_eq!(label_key("ΐ").len(), 6);
+    assert!(labels_match("ΑΓΩ", "αγω") && !labels_match("a", "b"));
+    let one = LinkLabel::new("ẞ".to_string());
+    assert!(one == LinkLabel::new("SS") && one != LinkLabel::new("S"));
+}
+
+#[test]
+fn runs() {
+    let run = run_line(b"\tx", &[LineCall::Upto(3), LineCall::Eol]);
+    assert_eq!((run.answers, run.stop), (vec![LineAnswer::Upto(3)], Some((1, LineStop::SpacePending))));
+    assert_eq!((run.scanned, run.rest), (1, b" x".to_vec()));
+    let calls = [LineCall::Space(1), LineCall::Eol, LineCall::List(0), LineCall::Definition(2)];
+    let run = run_line(b" - :  x", &calls);
+    let wanted = [LineAnswer::Space(true), LineAnswer::Eol(false)];
+    assert_eq!(run.answers[..2], wanted);
+    assert_eq!(run.answers[2..], [LineAnswer::List(Some((b'-', 0, 2))), LineAnswer::Definition(Some(5))]);
+    let run = run_line(b"- x", &[LineCall::Quote, LineCall::List(usize::MAX)]);
+    assert_eq!((run.answers, run.stop), (vec![LineAnswer::Quote(false)], Some((1, LineStop::IndentTooLarge))));
+    let stops = [([2, 2], HtmlStop::NotRising), ([2, 3], HtmlStop::NoOpener), ([2, 7], HtmlStop::InsideFind)];
+    for (places, stop) in stops {
+        let run = run_inline_html(b"<!-- <!a -->", &places);
+        assert_eq!((run.answers, run.stop), (vec![Some(12)], Some((1, stop))));
+    }
+}
