@@ -91,7 +91,7 @@ def made(name: str, data: bytes, at: int, end: Optional[int], room: int, *given:
     """What a function answers that writes into a buffer, and what it wrote; the room is enough."""
     buffer = ctypes.create_string_buffer(room + 1)
     found = scan(name, data, at, end, *given, buffer, room)
-    return found, buffer.raw[: found.length] if stated(found.status) else b""
+    return found, buffer[: found.length] if stated(found.status) else b""
 
 
 def table(skips: Iterable[tuple[int, int]], at: int) -> tuple[Any, int]:
