@@ -46,7 +46,7 @@ def table(skips: Optional[Skips], data: bytes, at: int, end: Optional[int]) -> t
         raise ValueError("the skips are of another page")
     rows = []
     for place, length in skips.rows[bisect_left(skips.rows, (at, 0)) :]:
-        if place + length > last:
+        if place > last:
             break
-        rows.append((place - at, length))
+        rows.append((place - at, min(length, last - place)))
     return _table(rows)
