@@ -36,7 +36,6 @@ from .inline import (
     HtmlScanGuard,
     Label,
     Part,
-    Skip,
     Tag,
     label_key,
     labels_match,
@@ -71,6 +70,7 @@ from .lines import (
     scan_whitespace_in_line,
 )
 from .runs import CallKind, LineAnswer, LineRun, run_inline_html, run_line
+from .skips import Skips
 
 __version__ = "0.1.0"
 __all__ = [
@@ -95,7 +95,7 @@ __all__ = [
     "NotUtf8",
     "Part",
     "Refusal",
-    "Skip",
+    "Skips",
     "SpacePending",
     "Stopped",
     "TableHead",

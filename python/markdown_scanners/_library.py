@@ -5,7 +5,7 @@ import ctypes
 import os
 from operator import index
 from pathlib import Path
-from typing import Any, Iterable, Optional
+from typing import Any, Optional
 
 from . import _c
 from .errors import refusal
@@ -91,10 +91,5 @@ def made(name: str, data: bytes, at: int, end: Optional[int], room: int, *given:
     """What a function answers that writes into a buffer, and what it wrote; the room is enough."""
     buffer = ctypes.create_string_buffer(room + 1)
     found = scan(name, data, at, end, *given, buffer, room)
-    return found, buffer.raw[: found.length] if stated(found.status) else b""
+    return found, buffer[: found.length] if stated(found.status) else b""
 
-
-def table(skips: Iterable[tuple[int, int]], at: int) -> tuple[Any, int]:
-    """The table of what is left out of the bytes from the place on, and how long it is."""
-    rows = [(number("the place of a skip", start - at), number("the length of a skip", length)) for start, length in skips]
-    return (_c.Skip * len(rows))(*rows), len(rows)

@@ -2,13 +2,12 @@
 from __future__ import annotations
 
 import ctypes
-from typing import Iterable, NamedTuple, Optional
+from typing import NamedTuple, Optional
 
 from . import _c
-from ._library import call, front, limits, made, number, place, scan, stated, table
+from ._library import call, front, limits, made, number, place, scan, stated
+from .skips import Skips, table
 
-#: A place, at the front of a line, and how many bytes are left out there.
-Skip = tuple[int, int]
 REFERENCE_ROOM = 6
 #: A label has at most 999 characters.
 LABEL_ROOM = 4 * 999
@@ -91,18 +90,19 @@ class Tag(NamedTuple):
 
 
 def scan_html_tag_over_lines(
-    data: bytes, skips: Iterable[Skip] = (), at: int = 0, end: Optional[int] = None
+    data: bytes, skips: Optional[Skips] = None, at: int = 0, end: Optional[int] = None
 ) -> Optional[Tag]:
-    r"""An open or closing tag, over lines of which the skips are left out. BadSkips where they are none of the bytes. (6.6)
+    r"""An open or closing tag, over lines of which the skips of the page are left out. (6.6)
 
-    >>> scan_html_tag_over_lines(b"<foo\n> bar>", [(5, 2)])
-    Tag(end=11, text=b'<foo\nbar>')
+    >>> page = b"> <foo\n> bar>\n"
+    >>> scan_html_tag_over_lines(page, Skips(page, [(0, 2), (7, 2)]), 2)
+    Tag(end=13, text=b'<foo\nbar>')
     """
-    last = limits(data, at, end)
-    found = scan("scan_html_tag_over_lines", data, at, last, *table(skips, at), None, 0)
+    given = table(skips, data, at, end)
+    found = scan("scan_html_tag_over_lines", data, at, end, *given, None, 0)
     text = None
     if found.status == _c.TOO_SHORT:
-        found, text = made("scan_html_tag_over_lines", data, at, last, found.length, *table(skips, at))
+        found, text = made("scan_html_tag_over_lines", data, at, end, found.length, *given)
     return Tag(at + found.taken, text) if stated(found.status) else None
 
 
@@ -166,17 +166,16 @@ class Label(NamedTuple):
 
 
 def scan_link_label(
-    data: bytes, in_table: bool = False, skips: Iterable[Skip] = (), at: int = 0, end: Optional[int] = None
+    data: bytes, in_table: bool = False, skips: Optional[Skips] = None, at: int = 0, end: Optional[int] = None
 ) -> Optional[Label]:
-    r"""The link label whose opening bracket stands just before the place, over lines of which the skips are left out. In a cell
-    of a table a pipe loses the backslash before it. BadSkips, NotUtf8. (6.3)
+    r"""The link label whose opening bracket stands just before the place, over lines of which the skips of the page are left out.
+    In a cell of a table a pipe loses the backslash before it. NotUtf8. (6.3)
 
     >>> scan_link_label(b"[a\n b]: c", at=1)
     Label(end=6, text=b'a b', start=None)
     """
-    last = limits(data, at, end)
-    room = min(last - at, LABEL_ROOM)
-    found, text = made("scan_link_label", data, at, last, room, bool(in_table), *table(skips, at))
+    room = min(limits(data, at, end) - at, LABEL_ROOM)
+    found, text = made("scan_link_label", data, at, end, room, bool(in_table), *table(skips, data, at, end))
     return Label(at + found.taken, text, place(at, found.start)) if found.status == _c.OK else None
 
 

@@ -57,7 +57,7 @@ def run_line(data: bytes, calls: Iterable[tuple[int, int]], at: int = 0, end: Op
     given = (_c.LineCall * len(kinds))(*kinds)
     found = scan("run_line", data, at, end, given, len(kinds), answers, len(kinds), rest, room)
     told = tuple(_answer(kind, answer) for (kind, _), answer in zip(kinds, answers[: found.count]))
-    run = LineRun(told, at + found.scanned, rest.raw[: found.rest])
+    run = LineRun(told, at + found.scanned, rest[: found.rest])
     return _ended(found.status, run)
 
 

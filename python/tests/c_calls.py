@@ -90,18 +90,19 @@ def text(name, *given, of=lambda found: found.text):
     return made
 
 
-def moved(d, skips):
-    return [(place + d.at, length) for place, length in skips]
+def over(call, d, skips, *given):
+    """A call over a table that is made for it, or its refusal."""
+    return call(d.data, *given, mds.Skips(d.data, [(place + d.at, length) for place, length in skips]), d.at, d.end)
 
 
 def tag(d, skips):
-    status, found = told(mds.scan_html_tag_over_lines, d.data, moved(d, skips), d.at, d.end)
+    status, found = told(over, mds.scan_html_tag_over_lines, d, skips)
     ok = status == _c.OK
     return {"status": status, "taken": d.length(found.end) if ok else 0, "text": (found.text or b"") if ok else b""}
 
 
 def label(d, skips, in_table):
-    status, found = told(mds.scan_link_label, d.data, in_table, moved(d, skips), d.at, d.end)
+    status, found = told(over, mds.scan_link_label, d, skips, in_table)
     ok = status == _c.OK
     return {"status": status, "taken": d.length(found.end) if ok else 0, "text": found.text if ok else b"",
             "start": d.length(found.start) if ok else 0}

@@ -61,8 +61,17 @@ class Refusals(unittest.TestCase):
             self.assertRaises(mds.NotUtf8, call, b"a]\xff")
         self.assertRaises(mds.Empty, mds.scan_entity, b"")
         self.assertRaises(mds.TooLarge, mds.calc_indent, b"", 2**64 - 1)
-        self.assertRaises(mds.BadSkips, mds.scan_html_tag_over_lines, b"<a\nb>", [(9, 1)])
-        self.assertRaises(ValueError, mds.scan_html_tag_over_lines, b"x<a\nb>", [(0, 1)], 1)
+
+    def test_skips(self):
+        page = b"> <a\n> b> c\n\xff> d"
+        for rows in ([(12, 1)], [(18, 0)], [(0, 2), (1, 1)], [(5, 2), (0, 2)], [(0, 2**64 - 1)]):
+            self.assertRaises(mds.BadSkips, mds.Skips, page, rows)
+        self.assertRaises(ValueError, mds.Skips, page, [(-1, 1)])
+        skips = mds.Skips(page, [(0, 2), (5, 2), (13, 0)])
+        self.assertEqual(mds.scan_html_tag_over_lines(page, skips, 2), mds.Tag(9, b"<a\nb>"))
+        self.assertEqual(mds.scan_html_tag_over_lines(page, skips, 2, 9), mds.Tag(9, b"<a\nb>"))
+        self.assertIsNone(mds.scan_html_tag_over_lines(page, skips, 2, 6))
+        self.assertRaises(ValueError, mds.scan_html_tag_over_lines, b"<a>", skips)
 
     def test_runs(self):
         with self.assertRaises(mds.NotRising) as why:
