@@ -23,7 +23,7 @@ line, as of other tags; and all brackets before a label make a full reference, t
 The status is 0; 1 where a label has no definition; 2 where the outline can't be had.
 """
 NONE = ctypes.c_size_t(-1).value
-OK, NO_MEMORY = 0, 8
+OK, NOTHING, NO_MEMORY = 0, 1, 8
 SPACE = b" \t\v\f"
 size, byte, status = ctypes.c_size_t, ctypes.c_uint8, ctypes.c_uint32
 
@@ -42,7 +42,8 @@ Part = struct("Part", status=status, end=size, start=size, length=size)
 Guard = struct("Guard", comment=size, cdata=size, declaration=size, processing=size)
 End = struct("End", status=status, end=size, passed=size)
 Text = struct("Text", status=status, taken=size, length=size)
-Label = struct("Label", status=status, taken=size, length=size, start=size)
+Tag = struct("Tag", status=status, end=size, length=size)
+Label = struct("Label", status=status, end=size, length=size, start=size)
 
 # What each function answers, and what it takes behind its bytes and their length.
 START = ctypes.POINTER(LineStart)
@@ -64,10 +65,10 @@ FUNCTIONS = {
     "scan_autolink": (Part, [size]),
     "starts_html_block_type_6": (ctypes.c_bool, []),
     "scan_html_type_7": (size, []),
-    "scan_html_tag_over_lines": (Text, [ctypes.c_void_p, size, *BUFFER]),
+    "scan_html_tag_over_lines": (Tag, [size, ctypes.c_void_p, size, *BUFFER]),
     "scan_inline_html": (End, [size, ctypes.POINTER(Guard)]),
     "unescape": (Text, [ctypes.c_bool, *BUFFER]),
-    "scan_link_label": (Label, [ctypes.c_bool, ctypes.c_void_p, size, *BUFFER]),
+    "scan_link_label": (Label, [size, ctypes.c_bool, ctypes.c_void_p, size, *BUFFER]),
     "label_key": (Text, BUFFER),
 }
 
@@ -96,12 +97,12 @@ class Scanners:
         return call(address + at, len(text) - at, *others)
 
     def made(self, call, text, room, *others):
-        """The text that a call makes of a text, which the room is enough for, and how many bytes it takes, or 0."""
+        """The text that a call makes of a text, which the room is enough for."""
         buffer = ctypes.create_string_buffer(room + 1)
         found = call(text, *others, buffer, room)
         if found.status == NO_MEMORY:
             fail("memory", "refused")
-        return buffer.raw[: found.length], found.taken if found.status == OK else 0
+        return buffer.raw[: found.length]
 
 
 def find(text, place, closers):
@@ -118,14 +119,14 @@ class Outline:
         self.mds, self.output, self.definitions, self.references = scanners, output, [], []
 
     def read_label(self, text, place):
-        """The label in brackets at the place, its key, and how many bytes it takes, or 0. (CommonMark 0.31.2, 6.3)"""
-        end = find(text, place + 1, b"[]")
-        if text[place : place + 1] != b"[" or end >= len(text):
+        """The label in brackets at the place, its key, and the place behind it, or 0. (CommonMark 0.31.2, 6.3)"""
+        if text[place : place + 1] != b"[":
             return b"", b"", 0
-        inner = text[place + 1 : end + 1]  # the call goes through all that it is given, so it gets no more
-        label, taken = self.mds.made(self.mds.scan_link_label, inner, len(inner), False, None, 0)
-        key, _ = self.mds.made(self.mds.label_key, label, 3 * len(label))
-        return label, key, 1 + taken if taken else 0
+        found = self.mds.scan_link_label(text, place + 1, False, None, 0, None, 0)
+        if found.status == NOTHING:
+            return b"", b"", 0
+        label = self.mds.made(self.mds.scan_link_label, text, found.length, place + 1, False, None, 0)
+        return label, self.mds.made(self.mds.label_key, label, 3 * len(label)), found.end
 
     def space_end(self, text, place):
         """The end of white space with at most one line ending."""
@@ -145,15 +146,15 @@ class Outline:
 
     def define(self, line, text, place):
         """Adds the definition at the place in a paragraph, and answers its end, or 0. (4.7)"""
-        label, key, taken = self.read_label(text, place)
-        if not taken or text[place + taken : place + taken + 1] != b":":
+        label, key, behind = self.read_label(text, place)
+        if not behind or text[behind : behind + 1] != b":":
             return 0
-        start = self.space_end(text, place + taken + 1)
+        start = self.space_end(text, behind + 1)
         part = self.mds.scan_link_dest(text, start, 31)
         end = self.definition_end(text, part.end) if part.status == OK and part.end > start else 0
         if end:
             target = text[part.start : part.start + part.length]
-            target, _ = self.mds.made(self.mds.unescape, target, len(target) + len(target) // 5, False)
+            target = self.mds.made(self.mds.unescape, target, len(target) + len(target) // 5, False)
             self.definitions.append((line, label, key, target))
         return end
 
@@ -175,10 +176,10 @@ class Outline:
         if text[place] != ord("<"):
             return self.code_length(text, place) if text[place] == ord("`") else 1
         uri = self.mds.scan_autolink(text, place + 1)
-        tag = self.mds.scan_html_tag_over_lines(text, None, 0, None, 0, at=place)
+        tag = self.mds.scan_html_tag_over_lines(text, place, None, 0, None, 0)
         html = self.mds.scan_inline_html(text, place + 2, guard)
         other = html.end - place if html.status == OK else 1
-        return uri.end - place if uri.status == OK else tag.taken if tag.status == OK else other
+        return uri.end - place if uri.status == OK else tag.end - place if tag.status == OK else other
 
     def read_text(self, line, level, text):
         """Adds the full references of a text that begins in this line; where a level is given it is a heading. (6.3)"""
@@ -188,13 +189,14 @@ class Outline:
         place = depth = 0
         while place < len(text):
             closes = text[place] == ord("]") and depth > 0
-            label, key, taken = self.read_label(text, place + 1) if closes else (b"", b"", 0)
-            if taken:
+            label, key, end = self.read_label(text, place + 1) if closes else (b"", b"", 0)
+            if end:
                 self.references.append((line, label, key))
-            taken += self.inline_length(text, place, guard) if text[place] in b"\\`<" else 1
+            else:
+                end = place + (self.inline_length(text, place, guard) if text[place] in b"\\`<" else 1)
             depth += (text[place] == ord("[")) - closes
-            line += text.count(b"\n", place, place + taken)
-            place += taken
+            line += text.count(b"\n", place, end)
+            place = end
 
     def report(self):
         """All that is printed, and how many labels have no definition."""

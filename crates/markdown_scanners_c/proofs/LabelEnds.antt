@@ -94,7 +94,7 @@ same_line p m b bs ends fits = elim (cases_Bool (b == line_feed)) [
       rw (other, return) (rw (feed_window m bs size) (refl, refl)))
 ]
 
-line_seen : (p b : ℕ) (bs : List ℕ) → is_line_ending b ≡ true → 1 ≤ characters (kept_line p (b ∷ bs))
+line_seen : (p b : ℕ) (bs : List ℕ) → is_line_ending b ≡ true → line_len (b ∷ bs) ≤ characters (kept_line p (b ∷ bs))
 line_seen p b bs ends = elim (cases_Bool (b == line_feed)) [
   | inl feed ↦ rw (feed, eqb-true b line_feed feed) (omega arith)
   | inr other ↦
@@ -330,16 +330,16 @@ module _ (skips : List Skip) (bytes behind : List ℕ) (stand : are_skips skips 
 
         -- past a line ending and what is left out behind it
         pub walks_over : place + len + left_out skips (place + len) ≤ length bytes
-            → IsWalked start escaped (place + (len + left_out skips (place + len))) (count + 1)
+            → IsWalked start escaped (place + (len + left_out skips (place + len))) (count + len)
         walks_over inside =
             let skip = left_out skips (place + len) in
-            let line : 1 ≤ characters (kept_line w.ix (drop place bytes)) = rw parts (line_seen w.ix b bs ends) in
+            let line : line_len (b ∷ bs) ≤ characters (kept_line w.ix (drop place bytes)) = rw parts (line_seen w.ix b bs ends) in
             let next = drop-drop (len + skip) place bytes in
             record {
               ix = w.ix + (len + skip);
               ix_is = omega (arith, w.ix_is);
               seen = w.seen ++ kept_line w.ix (drop place bytes);
-              counted = omega (arith, w.counted, characters_add w.seen (kept_line w.ix (drop place bytes)), line);
+              counted = omega (arith, w.counted, characters_add w.seen (kept_line w.ix (drop place bytes)), line, len_is);
               whole = subst (IsAt (LeavesOut skips bytes) (drop start bytes) escaped (w.seen ++ kept_line w.ix (drop place bytes)) (w.ix + (len + skip))) next
                   (after_ending (LeavesOut skips bytes) (drop start bytes) escaped w.seen w.ix (drop place bytes) w.whole len ending skip one_skip);
               part = λ end after within. (
@@ -416,7 +416,7 @@ module _ (skips : List Skip) (bytes behind : List ℕ) (stand : are_skips skips 
 
       pub turn_skips : (len : ℕ) → len ≡ ending_len rest → 0 < len → place + len ≤ length bytes
           → place + len + left_out skips (place + len) ≤ length bytes
-          → IsWalked start escaped (place + (len + left_out skips (place + len))) (count + 1)
+          → IsWalked start escaped (place + (len + left_out skips (place + len))) (count + len)
       turn_skips len len_is some fits there =
           let size : len ≡ ending_len (byte ∷ others) = len_is ∙ ap ending_len slice in
           let line = ending_at byte others (omega (arith, some, size)) in

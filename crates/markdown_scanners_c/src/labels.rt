@@ -76,8 +76,8 @@ pub extern "C" fn mds_scan_link_label(
 }
 
 // The place behind the bracket that closes the label at the place; where there is none, one behind
-// which no label ends. No more is read than up to the first bracket that no backslash escapes, nor
-// than a label has characters, and one.
+// which no label ends. No more is read than up to the first bracket that no backslash escapes, and
+// no more characters than a label has, and two.
 fn label_end(bytes: &[u8], start: usize, skips: &[Skip]) -> usize
     requires { start ≤ length bytes.now }
     ensures ordered { start ≤ result }
@@ -96,7 +96,7 @@ fn label_end(bytes: &[u8], start: usize, skips: &[Skip]) -> usize
                 return place + ending;
             }
             place += ending + skip;
-            characters += 1;
+            characters += ending;
         } else if ends_label(rest[0], escaped) {
             return place + 1;
         } else {
