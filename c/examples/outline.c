@@ -91,16 +91,18 @@ static struct text made(const uint8_t *buffer, struct mds_text found) {
     return (struct text){buffer, found.length};
 }
 
-/* Reads the label in brackets at the front, and answers how many bytes it takes, or 0. (CommonMark 0.31.2, 6.3) */
-static size_t read_label(struct text text, struct entry *entry) {
-    size_t end = find(text, 1, '[', ']'); /* the call goes through all that it is given, so it gets no more */
-    if (!begins_with(text, "[") || end >= text.length)
+/* Reads the label in brackets at the place, and answers the place behind it, or 0. (CommonMark 0.31.2, 6.3) */
+static size_t read_label(struct text text, size_t place, struct entry *entry) {
+    if (!begins_with(rest_of(text, place), "["))
         return 0;
-    uint8_t *label = grown(NULL, 4 * end), *key = label + end;
-    struct mds_label found = mds_scan_link_label(text.bytes + 1, end, false, NULL, 0, label, end);
-    entry->label = made(label, (struct mds_text){found.status, found.taken, found.length});
-    entry->key = made(key, mds_label_key(label, found.length, key, 3 * end));
-    return found.status == MDS_OK ? 1 + found.taken : 0;
+    struct mds_label found = mds_scan_link_label(text.bytes, text.length, place + 1, false, NULL, 0, NULL, 0);
+    if (found.status == MDS_NOTHING)
+        return 0;
+    uint8_t *label = grown(NULL, 4 * found.length), *key = label + found.length;
+    found = mds_scan_link_label(text.bytes, text.length, place + 1, false, NULL, 0, label, found.length);
+    entry->label = made(label, (struct mds_text){found.status, found.end, found.length});
+    entry->key = made(key, mds_label_key(label, found.length, key, 3 * found.length));
+    return found.end;
 }
 
 /* White space with at most one line ending. */
@@ -124,7 +126,7 @@ static size_t definition_end(struct text text) {
 /* Adds the definition at the front of a paragraph, and answers how many bytes it takes, or 0. (4.7) */
 static size_t define(struct reader *reader, struct text text) {
     struct entry entry = {.line = reader->begun_at};
-    size_t label = read_label(text, &entry);
+    size_t label = read_label(text, 0, &entry);
     if (label == 0 || !begins_with(rest_of(text, label), ":"))
         return 0;
     size_t start = label + 1 + space_length(rest_of(text, label + 1));
@@ -157,10 +159,10 @@ static size_t inline_length(struct text text, size_t place, struct mds_html_guar
     if (!begins_with(rest, "<"))
         return begins_with(rest, "`") ? code_length(rest) : 1;
     struct mds_part uri = mds_scan_autolink(text.bytes, text.length, place + 1);
-    struct mds_text tag = mds_scan_html_tag_over_lines(rest.bytes, rest.length, NULL, 0, NULL, 0);
+    struct mds_tag tag = mds_scan_html_tag_over_lines(text.bytes, text.length, place, NULL, 0, NULL, 0);
     struct mds_end html = mds_scan_inline_html(text.bytes, text.length, place + 2, guard);
     size_t other = html.status == MDS_OK ? html.end - place : 1;
-    return uri.status == MDS_OK ? uri.end - place : tag.status == MDS_OK ? tag.taken : other;
+    return uri.status == MDS_OK ? uri.end - place : tag.status == MDS_OK ? tag.end - place : other;
 }
 
 static void write_text(struct text text, const char *behind) {
@@ -179,10 +181,10 @@ static void read_text(struct reader *reader, size_t line, uint32_t level, struct
     for (size_t place = 0, taken, depth = 0; place < text.length; place += taken) {
         struct entry entry = {.line = line};
         bool closes = text.bytes[place] == ']' && depth > 0;
-        size_t label = closes ? read_label(rest_of(text, place + 1), &entry) : 0;
-        if (label > 0)
+        size_t end = closes ? read_label(text, place + 1, &entry) : 0;
+        if (end > 0)
             add(&reader->references, entry);
-        taken = inline_length(text, place, &guard) + label;
+        taken = end > 0 ? end - place : inline_length(text, place, &guard);
         depth = depth + (text.bytes[place] == '[') - closes;
         for (size_t i = place; i < place + taken; i++)
             line += text.bytes[i] == '\n';

@@ -410,16 +410,22 @@ struct mds_part mds_scan_wikilink_pipe(const void *bytes, size_t length, size_t 
 
 /* What is left out of a text: of a tag or a label that goes on over the lines of a container, the container's markers
  * and its indent, which are no part of it (5.1, 5.2). At `place`, that of the first byte of a line, behind the line
- * ending, `length` bytes are left out. A table of skips is an array of them in order of their places. Each stands at a
- * place of its own, and ends in the text, and where the next one begins or before; a length may be 0. Otherwise the
- * table is MDS_BAD_SKIPS, and nothing else is told.
+ * ending, `length` bytes are left out. A table of skips is an array of them in order of their places, one for a whole
+ * page. Each stands at a place of its own, leaves out ASCII alone, and ends in the page, and where the next one begins
+ * or before; a length may be 0. No table (null and 0) is for a text outside of containers.
  *
  * At a line that no skip names nothing is left out, and a skip that stands elsewhere than at the front of a line of
- * the tag or label says nothing. Places count from the front of what the call is given. No table (null and 0) is for a
- * text outside of containers. Each call goes through the whole table, so pass the skips of the lines that matter. */
+ * the tag or label says nothing. The calls below take the page from its front, its table, and a place in it. They search
+ * the table at each line that they come to, in as many steps as `skip_count` has binary digits, and don't go through
+ * it. The page may also be given up to a place, as the end of a paragraph, with the table as it is. */
 struct mds_skip {
     size_t place, length;
 };
+
+/* MDS_OK where the skips are a table of these bytes, and else MDS_BAD_SKIPS. Ask once for a page: it goes through the
+ * whole table and all that it leaves out, and no other call does. What others tell over a table that is refused means
+ * nothing; but they are safe and end, and what is said of `end`, of room and of what is written holds. */
+uint32_t mds_check_skips(const void *bytes, size_t length, const struct mds_skip *skips, size_t skip_count);
 
 /* ---- HTML ---- */
 
@@ -434,13 +440,21 @@ size_t mds_scan_html_type_7(const void *bytes, size_t length);
 /* The length of the open or closing tag at the front, which holds no line ending; or MDS_NONE. (6.6) */
 size_t mds_scan_html_tag(const void *bytes, size_t length);
 
-/* The open or closing tag at the front, over lines of which the skips are left out; `taken` is its length in the bytes,
- * MDS_NOTHING where there is none, and MDS_BAD_SKIPS. A closing tag holds at most one line ending. Where bytes inside
- * it are left out its text, without them, is written, and memory is asked for: MDS_NO_MEMORY. Else `length` is 0: its
- * text is the first `taken` bytes, and no memory is asked for. `length` is `taken` at most, so a buffer as long as the
- * input is always enough. A line takes a search in the table: as many steps as `skip_count` has binary digits. (6.6) */
-struct mds_text mds_scan_html_tag_over_lines(
-    const void *bytes, size_t length, const struct mds_skip *skips, size_t skip_count, uint8_t *buffer,
+/* A tag, where the status is MDS_OK; where it is MDS_TOO_SHORT the buffer is as it was, and `end` and `length` are told
+ * all the same. It is MDS_NOTHING where there is none, and MDS_PAST_END where the place is past the end of the bytes. */
+struct mds_tag {
+    uint32_t status;
+    size_t end;    /* the place behind it */
+    size_t length; /* bytes that its text has or needs in the buffer; 0 where it stands in the bytes as it is */
+};
+
+/* The open or closing tag whose `<` stands at the place `start`, over lines of which the skips are left out. A closing
+ * tag holds at most one line ending. Where bytes inside it are left out its text, without them, is written, and memory is
+ * asked for: MDS_NO_MEMORY. Else its text is what stands from `start` to `end`, and no memory is asked for. `end` is the
+ * length of the bytes at most, and `length` is `end - start` at most, so a buffer as long as the bytes is always enough.
+ * (6.6) */
+struct mds_tag mds_scan_html_tag_over_lines(
+    const void *bytes, size_t length, size_t start, const struct mds_skip *skips, size_t skip_count, uint8_t *buffer,
     size_t capacity);
 
 /* What the scans of one text have searched in vain, so that none of them searches it again. All 0 at first; each call
@@ -492,21 +506,24 @@ struct mds_text mds_scan_entity(const void *bytes, size_t length, uint8_t *buffe
  * MDS_NO_MEMORY. (2.4, 2.5) */
 struct mds_text mds_unescape(const void *text, size_t length, bool in_table, uint8_t *buffer, size_t capacity);
 
-/* A label's text for the caller's buffer, as of struct mds_text. */
+/* A label's text for the caller's buffer, as of struct mds_text, with MDS_NOTHING and MDS_PAST_END as of a tag. */
 struct mds_label {
     uint32_t status;
-    size_t taken;  /* bytes of the input with the closing bracket */
+    size_t end;    /* the place behind the closing bracket */
     size_t length; /* bytes that it has or needs in the buffer */
     size_t start;  /* the place in the input where its text stands as it is; MDS_NONE where it stands at none */
 };
 
-/* The link label whose opening bracket stands just before the text: its words, joined by one space. Labels may go on
- * over lines, of which the skips are left out. MDS_BAD_SKIPS, also where a skip leaves out other bytes than ASCII;
- * MDS_NOT_UTF8; MDS_NOTHING where there is no label. In a cell of a table (`in_table`) a pipe loses the backslash just
- * before it. Memory is asked for where `start` is MDS_NONE: MDS_NO_MEMORY. (6.3) */
+/* The link label whose opening bracket, at which the call doesn't look, stands just before the place `start`: its words,
+ * joined by one space. Labels may go on over lines, of which the skips are left out. The label's own bytes must be UTF-8,
+ * or it is none; those behind it may be any. In a cell of a table (`in_table`) a pipe loses the backslash just before it.
+ * `end` is the length of the bytes at most, and `length` is `end - start` at most, so a buffer as long as the bytes is
+ * always enough. Memory is asked for where `start` is MDS_NONE: MDS_NO_MEMORY. It reads, beside what is left out, no byte
+ * behind the first bracket that no backslash escapes, and at most 1,001 that begin a character, as those from 0x80 to
+ * 0xBF do not: a label's content has 999 at most. (6.3) */
 struct mds_label mds_scan_link_label(
-    const void *text, size_t length, bool in_table, const struct mds_skip *skips, size_t skip_count, uint8_t *buffer,
-    size_t capacity);
+    const void *bytes, size_t length, size_t start, bool in_table, const struct mds_skip *skips, size_t skip_count,
+    uint8_t *buffer, size_t capacity);
 
 /* Whether two labels, as mds_scan_link_label writes them, match, so that the one refers to what the other defines:
  * MDS_OK or MDS_NOTHING. They do where their full case foldings are equal. MDS_NOT_UTF8. (6.3) */

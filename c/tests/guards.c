@@ -2,6 +2,7 @@
  * a million guards that no call has left; and how many bytes the calls of a text pass over under a guard that is all 0 at first. */
 #include "checks.h"
 
+#include <stdlib.h>
 #include <string.h>
 
 enum { LONGEST = 48, NONE = LONGEST + 1 };
@@ -118,7 +119,80 @@ static void whole_texts(void) {
     }
 }
 
+static const struct mds_html_guard zero = {0, 0, 0, 0};
+
+static void guard_is(int line, struct mds_html_guard found, struct mds_html_guard wanted) {
+    same(line, "guard", memcmp(&found, &wanted, sizeof(found)), 0);
+}
+
+static void ends_under_a_guard(void) {
+    struct mds_html_guard guard = zero;
+    static const char text[] = "<!-- a --> <!b> <![CDATA[c]]> <?d?> <!-- e";
+    static const size_t places[][2] = {{2, 10}, {13, 15}, {18, 29}, {32, 35}};
+    size_t length = sizeof(text) - 1, passed = 0;
+    for (size_t i = 0; i < 4; i++) {
+        struct mds_end found = mds_scan_inline_html(given(BYTES, text, length), length, places[i][0], &guard);
+        SAME(found.status, MDS_OK), SAME(found.end, places[i][1]), passed += found.passed;
+    }
+    struct mds_end found = mds_scan_inline_html(given(BYTES, text, length), length, 38, &guard);
+    SAME(found.status, MDS_NOTHING), SAME(found.end, 0), SAME(guard.comment, length);
+    SAME(passed + found.passed <= 4 * length + 8 * 5, true);
+    guard = (struct mds_html_guard){1, 2, 3, SIZE_MAX};
+    found = mds_scan_inline_html(given(BYTES, text, length), length, 3, &guard);
+    SAME(found.status, MDS_NO_OPENER), SAME(found.end, 0), SAME(found.passed, 0);
+    guard_is(__LINE__, guard, (struct mds_html_guard){1, 2, 3, SIZE_MAX});
+}
+
+/* Whatever numbers the guard has, what is told is the find or nothing. */
+static void any_guard(void) {
+    static const char text[] = "<!-- a --><![CDATA[b]]><!c><?d?>";
+    static const size_t places[][2] = {{2, 10}, {12, 23}, {25, 27}, {29, 32}};
+    size_t length = sizeof(text) - 1;
+    const size_t numbers[] = {0, 1, length, length + 1, SIZE_MAX};
+    const uint8_t *bytes = given(BYTES, text, length);
+    for (size_t i = 0; i < 5 * 5 * 5 * 5; i++)
+        for (size_t j = 0; j < 4; j++) {
+            struct mds_html_guard guard = {numbers[i % 5], numbers[i / 5 % 5], numbers[i / 25 % 5], numbers[i / 125]};
+            struct mds_end found = mds_scan_inline_html(bytes, length, places[j][0], &guard);
+            bool is_found = found.status == MDS_OK && found.end == places[j][1];
+            SAME(is_found || (found.status == MDS_NOTHING && found.end == 0), true);
+            SAME(found.passed <= length + 8, true);
+        }
+}
+
+enum { MEGABYTE = 1 << 20 };
+
+/* One guard for a megabyte of lines that open what nothing closes. */
+static void many_openers(const char *line) {
+    size_t size = strlen(line), length = MEGABYTE / size * size, count = 0, passed = 0, found = 0;
+    struct mds_html_guard guard = zero;
+    uint8_t *bytes = malloc(length);
+    SAME(bytes != NULL, true);
+    if (!bytes)
+        return;
+    for (size_t i = 0; i < length; i++)
+        bytes[i] = (uint8_t)line[i % size];
+    for (size_t i = 0; i < length; i++)
+        if (bytes[i] == '<') {
+            struct mds_end end = mds_scan_inline_html(bytes, length, i + 2, &guard);
+            count++, passed += end.passed, found += end.status != MDS_NOTHING;
+        }
+    SAME(found, 0), SAME(passed >= length - 2, true), SAME(passed <= 4 * length + 8 * count, true);
+    free(bytes);
+}
+
+static void budgets(void) {
+    many_openers("<!-- a\n");
+    many_openers("<![CDATA[\n");
+    many_openers("<!A\n");
+    many_openers("<?\n");
+    many_openers("<!-- a\n<![CDATA[\n<!A\n<?\n");
+}
+
 int main(void) {
+    ends_under_a_guard(), any_guard();
+    at_front = true;
+    ends_under_a_guard(), any_guard(), budgets();
     wrong_guards();
     whole_texts();
     return report("guards");

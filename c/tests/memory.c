@@ -70,42 +70,46 @@ static struct told long_escape(size_t room) {
 }
 
 static struct told of_label(struct mds_label label) {
-    return (struct told){label.status, {label.taken, label.length, label.start}};
+    return (struct told){label.status, {label.end, label.length, label.start}};
 }
 
 static struct told label(size_t room) {
-    return of_label(mds_scan_link_label(OF("a  b]"), false, NULL, 0, writable(BUFFER, room), room));
+    return of_label(mds_scan_link_label(OF("a  b]"), 0, false, NULL, 0, writable(BUFFER, room), room));
 }
 
 static struct told label_in_cell(size_t room) {
-    return of_label(mds_scan_link_label(OF("a\\|b]"), true, NULL, 0, writable(BUFFER, room), room));
+    return of_label(mds_scan_link_label(OF("a\\|b]"), 0, true, NULL, 0, writable(BUFFER, room), room));
 }
 
 static struct told long_label(size_t room) {
     static char text[LONG];
     memset(text, 'a', LONG), text[1] = text[2] = ' ', text[LONG - 1] = ']';
     return of_label(
-        mds_scan_link_label(given(BYTES, text, LONG), LONG, false, NULL, 0, writable(BUFFER, room), room));
+        mds_scan_link_label(given(BYTES, text, LONG), LONG, 0, false, NULL, 0, writable(BUFFER, room), room));
 }
 
 /* A label over lines, of which one leaves something out. */
 static struct told label_over_lines(size_t room) {
     static const struct mds_skip skips[] = {{2, 2}};
-    return of_label(mds_scan_link_label(OF("a\n> b]"), false, skips, 1, writable(BUFFER, room), room));
+    return of_label(mds_scan_link_label(OF("a\n> b]"), 0, false, skips, 1, writable(BUFFER, room), room));
+}
+
+static struct told of_tag(struct mds_tag tag) {
+    return (struct told){tag.status, {tag.end, tag.length, 0}};
 }
 
 /* A tag over lines, of which one leaves something out. */
 static struct told tag(size_t room) {
     static const struct mds_skip skips[] = {{5, 2}};
-    return of_text(mds_scan_html_tag_over_lines(OF("<foo\n> bar>"), skips, 1, writable(BUFFER, room), room));
+    return of_tag(mds_scan_html_tag_over_lines(OF("<foo\n> bar>"), 0, skips, 1, writable(BUFFER, room), room));
 }
 
 static struct told long_tag(size_t room) {
     static const struct mds_skip skips[] = {{3, 2}};
     static char text[LONG];
     memset(text, ' ', LONG), memcpy(text, "<a\n>", 4), text[LONG - 1] = '>';
-    return of_text(
-        mds_scan_html_tag_over_lines(given(BYTES, text, LONG), LONG, skips, 1, writable(BUFFER, room), room));
+    return of_tag(
+        mds_scan_html_tag_over_lines(given(BYTES, text, LONG), LONG, 0, skips, 1, writable(BUFFER, room), room));
 }
 
 static struct told key(size_t room) {
@@ -241,13 +245,15 @@ static void asking(void) {
 static void sparing(void) {
     ASKS_NOT(mds_unescape(OF("plain"), false, NULL, 0).status, MDS_TOO_SHORT);
     ASKS_NOT(mds_unescape(OF("\xff"), false, NULL, 0).status, MDS_NOT_UTF8);
-    ASKS_NOT(mds_scan_link_label(OF("a b]"), false, NULL, 0, NULL, 0).status, MDS_TOO_SHORT);
-    ASKS_NOT(mds_scan_link_label(OF("a  b"), false, NULL, 0, NULL, 0).status, MDS_NOTHING);
-    ASKS_NOT(mds_scan_link_label(OF("a  b]\xff"), false, NULL, 0, NULL, 0).status, MDS_NOT_UTF8);
-    ASKS_NOT(mds_scan_link_label(OF("a  b]"), false, (const struct mds_skip[]){{6, 0}}, 1, NULL, 0).status, MDS_BAD_SKIPS);
-    ASKS_NOT(mds_scan_html_tag_over_lines(OF("<a\nb>"), NULL, 0, NULL, 0).status, MDS_OK);
-    ASKS_NOT(mds_scan_html_tag_over_lines(OF("<a\n> b"), (const struct mds_skip[]){{3, 2}}, 1, NULL, 0).status, MDS_NOTHING);
-    ASKS_NOT(mds_scan_html_tag_over_lines(OF("<a\n> b>"), (const struct mds_skip[]){{3, 9}}, 1, NULL, 0).status, MDS_BAD_SKIPS);
+    ASKS_NOT(mds_scan_link_label(OF("a b]"), 0, false, NULL, 0, NULL, 0).status, MDS_TOO_SHORT);
+    ASKS_NOT(mds_scan_link_label(OF("a  b"), 0, false, NULL, 0, NULL, 0).status, MDS_NOTHING);
+    ASKS_NOT(mds_scan_link_label(OF("a  \xff]"), 0, false, NULL, 0, NULL, 0).status, MDS_NOTHING);
+    ASKS_NOT(mds_scan_link_label(OF("a  b]"), 6, false, NULL, 0, NULL, 0).status, MDS_PAST_END);
+    ASKS_NOT(mds_scan_html_tag_over_lines(OF("<a\nb>"), 0, NULL, 0, NULL, 0).status, MDS_OK);
+    ASKS_NOT(mds_scan_html_tag_over_lines(OF("<a\n> b"), 0, (const struct mds_skip[]){{3, 2}}, 1, NULL, 0).status, MDS_NOTHING);
+    ASKS_NOT(mds_scan_html_tag_over_lines(OF("<a\n> b>"), 9, (const struct mds_skip[]){{3, 2}}, 1, NULL, 0).status, MDS_PAST_END);
+    ASKS_NOT(mds_check_skips(OF("<a\n> b>"), (const struct mds_skip[]){{3, 2}}, 1), MDS_OK);
+    ASKS_NOT(mds_check_skips(OF("<a\n> b>"), (const struct mds_skip[]){{3, 9}}, 1), MDS_BAD_SKIPS);
     ASKS_NOT(mds_label_key(OF("\xff"), NULL, 0).status, MDS_NOT_UTF8);
     ASKS_NOT(mds_scan_table_head(OF("a | b"), NULL, 0).status, MDS_NOTHING);
     ASKS_NOT(mds_scan_table_head(OF("- - -"), NULL, 0).status, MDS_NOTHING);

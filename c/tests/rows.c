@@ -236,15 +236,15 @@ static struct mds_text unescape_cell(const void *bytes, size_t length, uint8_t *
 }
 
 static struct mds_text of_label(struct mds_label found) {
-    return (struct mds_text){found.status, found.taken, found.length};
+    return (struct mds_text){found.status, found.end, found.length};
 }
 
 static struct mds_text label(const void *bytes, size_t length, uint8_t *buffer, size_t capacity) {
-    return of_label(mds_scan_link_label(bytes, length, false, NULL, 0, buffer, capacity));
+    return of_label(mds_scan_link_label(bytes, length, 0, false, NULL, 0, buffer, capacity));
 }
 
 static struct mds_text label_in_cell(const void *bytes, size_t length, uint8_t *buffer, size_t capacity) {
-    return of_label(mds_scan_link_label(bytes, length, true, NULL, 0, buffer, capacity));
+    return of_label(mds_scan_link_label(bytes, length, 0, true, NULL, 0, buffer, capacity));
 }
 
 static void references(void) {
@@ -333,7 +333,8 @@ static void labels(void) {
     REFUSES(label, "a\n\nb]", MDS_NOTHING);
     REFUSES(label, "a", MDS_NOTHING);
     REFUSES(label, "", MDS_NOTHING);
-    REFUSES(label, "a]\xff", MDS_NOT_UTF8);
+    MAKES(label, "a]\xff", 2, "a");
+    REFUSES(label, "a\xff]", MDS_NOTHING);
     refuses(__LINE__, label, NULL, 0, MDS_NOTHING);
 }
 
@@ -361,6 +362,59 @@ static void matches(void) {
     SAME(mds_labels_match(OF("a"), OTHER("\xff")), MDS_NOT_UTF8);
 }
 
+static void key_is(int line, const char *text, size_t length, const char *key) {
+    size_t wanted = strlen(key);
+    for (size_t room = 0; room <= wanted + 1; room++) {
+        const uint8_t *input = given(BYTES, text, length);
+        struct mds_text found = mds_label_key(input, length, writable(BUFFER, room), room);
+        same(line, "status", found.status, room < wanted ? MDS_TOO_SHORT : MDS_OK);
+        same(line, "taken", found.taken, length), same(line, "length", found.length, wanted);
+        same(line, "what else is written", is_left(BUFFER, room < wanted ? 0 : wanted), true);
+        if (room == wanted)
+            same(line, "key", memcmp(whole(BUFFER) + (at_front ? 0 : ROOM_SIZE - wanted), key, wanted), 0);
+    }
+}
+
+#define KEY(text, key) key_is(__LINE__, text, sizeof(text) - 1, key)
+
+static void keys(void) {
+    KEY("", "");
+    KEY("Foo bar", "foo bar");
+    KEY("FOO", "foo");
+    KEY("\xce\x91\xce\x93\xce\xa9", "\xce\xb1\xce\xb3\xcf\x89");
+    KEY("\xe1\xba\x9e", "ss");
+    KEY("SS", "ss");
+    KEY("\xce\x90", "\xce\xb9\xcc\x88\xcc\x81");
+    KEY("\xc4\xb0", "i\xcc\x87");
+    KEY("\xef\xac\x83", "ffi");
+    KEY("\xe4\xb8\xad", "\xe4\xb8\xad");
+    KEY("\xf0\x90\x90\x80", "\xf0\x90\x90\xa8");
+    struct mds_text found = mds_label_key(OF("a\xff"), writable(BUFFER, 8), 8);
+    SAME(found.status, MDS_NOT_UTF8), SAME(found.taken, 0), SAME(found.length, 0), SAME(is_left(BUFFER, 0), true);
+    SAME(mds_label_key(NULL, 0, NULL, 0).status, MDS_OK);
+}
+
+static const uint8_t *bytes_of(const char *text) {
+    return (const uint8_t *)text;
+}
+
+/* Two labels match exactly where their keys are the same bytes. */
+static void keys_match(void) {
+    static const char *const texts[] = {"a", "A", "SS", "\xe1\xba\x9e", "\xc3\x9f", "ss", "i", "\xc4\xb0", "\xc4\xb1",
+        "I", "\xce\x90", "\xe1\xbf\x93", "\xe2\x84\xaa", "k", "a b", "A  B", ""};
+    enum { TEXTS = sizeof(texts) / sizeof(*texts), LONGEST = 16 };
+    uint8_t made[TEXTS][LONGEST];
+    size_t lengths[TEXTS];
+    for (size_t i = 0; i < TEXTS; i++)
+        lengths[i] = mds_label_key(bytes_of(texts[i]), strlen(texts[i]), made[i], LONGEST).length;
+    for (size_t i = 0; i < TEXTS; i++)
+        for (size_t j = 0; j < TEXTS; j++) {
+            bool is_same = lengths[i] == lengths[j] && !memcmp(made[i], made[j], lengths[i]);
+            const uint8_t *one = bytes_of(texts[i]), *other = bytes_of(texts[j]);
+            SAME(mds_labels_match(one, strlen(texts[i]), other, strlen(texts[j])), is_same ? MDS_OK : MDS_NOTHING);
+        }
+}
+
 static void scanners(void) {
     check_rooms();
     lines(), items(), indents();
@@ -368,6 +422,7 @@ static void scanners(void) {
     html(), inline_html(), tables();
     references(), entities(), unescaping();
     labels(), long_labels(), matches();
+    keys(), keys_match();
 }
 
 int main(void) {

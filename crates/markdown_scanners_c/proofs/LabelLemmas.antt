@@ -1,21 +1,23 @@
 -- Labels over lines of which ASCII is left out, and where their texts stand.
-use Rattle.std.proofs.Common.{ℕ, zero, suc, ◌+◌, ◌-◌, ◌≤◌, ◌<◌, ◌≡◌, ◌==◌, Bool, true, false, nat_le, nat_lt, List, []}
+use Rattle.std.proofs.Common.{ℕ, zero, suc, ◌+◌, ◌-◌, ◌≤◌, ◌<◌, ◌≡◌, ◌==◌, Some, Bool, true, false, nat_le, nat_lt, List, []}
 use Rattle.std.proofs.Common.{◌∷◌, length, take, drop, get_or, IsAscii, IsTrue, if◌then◌else◌, inl, inr, refl, sym, ap, subst, ◌∙◌, arith}
 use Rattle.std.specs.List.{list_all}
-use Rattle.std.specs.Str.{IsNotAscii}
+use Rattle.std.specs.Str.{IsUtf8, IsNotAscii}
 use Rattle.std.specs.Bool.{MatchBool}
-use Rattle.std.proofs.lemmas.Bool.{cases_Bool, cases_lt, and_parts, and_from, lt-ltb, ltb-true, le-leb, leb-true, eqb-true}
-use Rattle.std.proofs.lemmas.List.{drop-drop, drop_all, length-drop, length-take, take-take}
+use Rattle.std.proofs.lemmas.Bool.{cases_Bool, and_parts, and_from, lt-ltb, ltb-true, le-leb, leb-true, eqb-true}
+use Rattle.std.proofs.lemmas.List.{length-take, take-take}
 use Rattle.markdown_scanners_tree.specs.Ascii.{space}
 use Rattle.markdown_scanners_tree.specs.Handler.{IsAsciiFront}
-use Rattle.markdown_scanners_tree.specs.Kept.{AreSkips, line_len}
 use Rattle.markdown_scanners_tree.specs.linklabel.Answer.{slice_before, without_first_space, without_last_space}
-use Rattle.markdown_scanners_tree.specs.linklabel.Label.{Label, IsLabel}
+use Rattle.markdown_scanners_tree.specs.linklabel.Label.{Label}
 use Rattle.markdown_scanners_c.specs.Answers.{none}
-use Rattle.markdown_scanners_c.specs.Labels.{IsStart}
+use Rattle.markdown_scanners_c.specs.Labels.{IsStart, IsLabelAt, IsLabelText}
 use Rattle.markdown_scanners_c.specs.Skips.{is_ascii_front, are_ascii_skips, left_out}
-use Rattle.markdown_scanners_c.specs.private.LabelText.{ascii_left_out, space_len}
+use Rattle.markdown_scanners_c.specs.private.LabelText.{ToldAscii, IsWindow, IsWindowLabel, space_len}
+use Rattle.markdown_scanners_c.specs.private.Searched.{searched}
+use Rattle.markdown_scanners_c.specs.declared.labels.LabelText.{LabelText}
 use Rattle.markdown_scanners_c.specs.declared.skips.Skip.{Skip}
+use Rattle.markdown_scanners_c.proofs.Windows.{window, window_drop, window_length}
 
 -- ---- ASCII
 
@@ -39,15 +41,7 @@ ascii_test xs false other = elim (cases_Bool (list_all (λ b. nat_lt b 128) xs))
 
 -- ---- what is left out of labels
 
-pub ascii_front : (skips : List Skip) (bytes rest : List ℕ) → IsAsciiFront rest (ascii_left_out skips bytes rest)
-ascii_front skips bytes rest = elim (cases_Bool (is_ascii_front rest (left_out skips (length bytes - length rest)))) [
-  | inl front ↦
-      (let parts = and_parts (nat_le (left_out skips (length bytes - length rest)) (length rest)) _ front in
-      rw front (leb-true _ _ parts.0, parts.1))
-  | inr other ↦ rw other (omega arith, refl)
-]
-
-front_at : (bytes : List ℕ) (skips : List Skip) (place : ℕ) → are_ascii_skips skips bytes ≡ true
+pub front_at : (bytes : List ℕ) (skips : List Skip) (place : ℕ) → are_ascii_skips skips bytes ≡ true
     → is_ascii_front (drop place bytes) (left_out skips place) ≡ true
 front_at bytes [] place ascii = and_from _ _ (le-leb 0 _ (omega arith)) refl
 front_at bytes (skip ∷ skips) place ascii =
@@ -57,45 +51,6 @@ front_at bytes (skip ∷ skips) place ascii =
           rw here (subst (λ p. is_ascii_front (drop p bytes) skip.length ≡ true) (eqb-true skip.place place here) parts.0)
       | inr other ↦ rw other (front_at bytes skips place parts.1)
     ]
-
--- the place of a rest is the length of the text less its own
-place_is : (bytes : List ℕ) (k : ℕ) → drop (length bytes - length (drop k bytes)) bytes ≡ drop k bytes
-place_is bytes k = elim (cases_lt (length bytes) k) [
-  | inl past ↦
-      (let size = length-drop k bytes in
-      drop_all (length bytes - length (drop k bytes)) bytes (omega (arith, size)) ∙ sym (drop_all k bytes (omega arith)))
-  | inr within ↦
-      (let size = length-drop k bytes in
-      let same : length bytes - length (drop k bytes) ≡ k = omega (arith, size) in
-      ap (λ p. drop p bytes) same)
-]
-
-pub all_left_out : (skips : List Skip) (bytes : List ℕ) (k : ℕ) → are_ascii_skips skips bytes ≡ true
-    → ascii_left_out skips bytes (drop k bytes) ≡ left_out skips (length bytes - length (drop k bytes))
-all_left_out skips bytes k ascii =
-    let place = length bytes - length (drop k bytes) in
-    let front : is_ascii_front (drop k bytes) (left_out skips place) ≡ true =
-    subst (λ rest. is_ascii_front rest (left_out skips place) ≡ true) (place_is bytes k) (front_at bytes skips place ascii) in
-    rw front refl
-
--- labels under two handlers of which one gives all answers of the other for rests of the text
-module _ (answers more : List ℕ → ℕ → Type 0) (source : List ℕ)
-    (gives : (k skip : ℕ) → answers (drop k source) skip → more (drop k source) skip) where
-  skips_at : (k : ℕ) (skips : List ℕ) → AreSkips answers (drop k source) skips → AreSkips more (drop k source) skips
-  skips_at k [] answered = tt
-  skips_at k (skip ∷ skips) answered =
-      let line = line_len (drop k source) in
-      let here = drop-drop line k source in
-      let there = drop-drop (line + skip) k source in (
-        answered.0,
-        subst (λ rest. more rest skip) (sym here) (gives (k + line) skip (subst (λ rest. answers rest skip) here answered.1)),
-        subst (λ rest. AreSkips more rest skips) (sym there)
-            (skips_at (k + (line + skip)) skips (subst (λ rest. AreSkips answers rest skips) there answered.2)),
-      )
-
-  pub label_at_rests : (in_table : Bool) (label : Label) → IsLabel answers source in_table label → IsLabel more source in_table label
-  label_at_rests in_table label is =
-      record { skips = is.skips; answered = skips_at 0 is.skips is.answered; label_is = is.label_is }
 
 -- ---- where a label stands
 
@@ -138,17 +93,70 @@ cut_stands (suc n) (b ∷ bs) = elim (cases_Bool (b == space)) [
 pub slice_stands : (bytes : List ℕ) (n : ℕ) → StandsAt bytes (slice_before bytes n) (space_len bytes)
 slice_stands bytes n = cut_stands (n - 1) bytes
 
--- where a label is lent from its input, and else nowhere
-pub started : (bytes : List ℕ) (label : Label) (n start : ℕ) (lent : Bool) → label.plain ≡ lent
-    → start ≡ (if lent then space_len bytes else none) → (IsTrue lent → label.text ≡ slice_before bytes n)
-    → IsStart bytes label start
-started bytes label n start true plain at slice =
-    let stands = slice_stands bytes n in
+-- where a label is lent from the bytes up to an end, and else nowhere
+pub started : (bytes : List ℕ) (start end : ℕ) → start ≤ end → end ≤ length bytes → (label : Label) (n place : ℕ) (lent : Bool)
+    → label.plain ≡ lent → place ≡ (if lent then start + space_len (window bytes start end) else none)
+    → (IsTrue lent → label.text ≡ slice_before (window bytes start end) n) → IsStart bytes label place
+started bytes start end order within label n place true plain at slice =
+    let front = window bytes start end in
+    let space = space_len front in
+    let stands = slice_stands front n in
     let text = slice refl in
+    let size = window_length bytes start end within in
+    let count = length (slice_before front n) in
+    let rest : drop space front ≡ window bytes (start + space) end = window_drop bytes start end space (omega (arith, stands.0, size, order)) in
+    let there : take count (drop (start + space) bytes) ≡ slice_before front n =
+    sym (take-take count (end - (start + space)) (drop (start + space) bytes) (omega (arith, stands.0, size, order)))
+    ∙ ap (take count) (sym rest) ∙ stands.1 in
     inl (
       plain,
-      omega (arith, at, ap length text, stands.0),
-      subst (λ t. take (length t) (drop start bytes) ≡ t) (sym text)
-          (subst (λ s. take (length (slice_before bytes n)) (drop s bytes) ≡ slice_before bytes n) (sym at) stands.1),
+      omega (arith, at, ap length text, stands.0, size, order, within),
+      subst (λ t. take (length t) (drop place bytes) ≡ t) (sym text)
+          (subst (λ s. take count (drop s bytes) ≡ slice_before front n) (sym at) there),
     )
-started bytes label n start false plain at slice = inr (plain, at)
+started bytes start end order within label n place false plain at slice = inr (plain, at)
+
+-- what is told is there, and is ASCII
+pub told_front : (skips : List Skip) (end : ℕ) (rest : List ℕ) (skip : ℕ) → ToldAscii skips end rest skip → IsAsciiFront rest skip
+told_front skips end rest skip told =
+    let found = searched skips (end - length rest) in
+    elim (cases_Bool (is_ascii_front rest found)) [
+      | inl front ↦
+          (let same : Some found ≡ Some skip = rw front at told in
+          let is : found ≡ skip = cc in
+          let parts = and_parts (nat_le found (length rest)) _ front in
+          subst (IsAsciiFront rest) is (leb-true found (length rest) parts.0, parts.1))
+      | inr other ↦ absurd (let none = rw other at told in cc)
+    ]
+
+-- what is told of labels, where they are the same
+told_of_all : (IsOne IsOther : Label → Type 0) → ((label : Label) → IsOne label → IsOther label)
+    → ((label : Label) → IsOther label → IsOne label) → (bytes : List ℕ) (start : ℕ) (old new : List ℕ) (text : LabelText)
+    → IsLabelText IsOne bytes start old new text → IsLabelText IsOther bytes start old new text
+unfolding IsLabelText
+told_of_all IsOne IsOther to from bytes start old new text (inl nowhere) =
+    inl (nowhere.0, nowhere.1, λ label is. nowhere.2 label (from label is))
+told_of_all IsOne IsOther to from bytes start old new text (inr (inl refused)) =
+    inr (inl (
+      refused.0,
+      refused.1,
+      (λ nowhere. refused.2 (λ label is. nowhere label (to label is))),
+      (λ label is. refused.3 label (from label is)),
+    ))
+told_of_all IsOne IsOther to from bytes start old new text (inr (inr found)) =
+    inr (inr (found.0, to found.0 found.1, found.2, found.3, found.4))
+
+-- the label of the bytes up to the end of a window is that of all
+pub told_of_window : (skips : List Skip) (bytes : List ℕ) (start end : ℕ) (t : Bool) → IsWindow skips bytes start end
+    → (old new : List ℕ) (text : LabelText) → IsLabelText (IsWindowLabel skips bytes start end t) bytes start old new text
+    → IsLabelText (IsLabelAt skips bytes start t) bytes start old new text
+told_of_window skips bytes start end t w old new text told =
+    told_of_all (IsWindowLabel skips bytes start end t) (IsLabelAt skips bytes start t)
+    (λ label is. (
+    let whole = w.from t label is.0 in
+    let size : end - start ≡ label.len = omega (arith, w.ends t label whole) in
+    (whole, subst (λ n. IsUtf8 (take n (drop start bytes))) size is.1)))
+    (λ label is. (
+    let size : label.len ≡ end - start = omega (arith, w.ends t label is.0) in
+    (w.to t label is.0, subst (λ n. IsUtf8 (take n (drop start bytes))) size is.1)))
+    bytes start old new text told

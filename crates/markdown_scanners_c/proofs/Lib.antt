@@ -1,9 +1,13 @@
+pub mod Buffers
 pub mod HtmlScans
 pub mod KeyLemmas
+pub mod LabelEnds
 pub mod LabelLemmas
+pub mod LabelRoom
 pub mod Meanings
 pub mod Parts
 pub mod Rests
 pub mod Rows
 pub mod SkipLemmas
 pub mod TagLemmas
+pub mod Windows

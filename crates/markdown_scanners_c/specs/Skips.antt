@@ -2,6 +2,7 @@
 -- (CommonMark 0.31.2, section 5, container blocks: the markers of containers are no part of a text over their lines)
 use Rattle.std.specs.Prelude.{ℕ, Bool, true, List, [], ◌∷◌, ◌≡◌, ◌+◌, ◌-◌, ◌&&◌, ◌==◌, max, nat_le, nat_lt, length, take, drop, if◌then◌else◌}
 use Rattle.std.specs.List.{list_all}
+use Rattle.markdown_scanners_c.specs.Status.{ok, bad_skips}
 use Rattle.markdown_scanners_c.specs.declared.skips.Skip.{Skip}
 
 -- In a text of so many bytes the skips stand in order from a place on: each begins there or later and ends in the text,
@@ -32,3 +33,7 @@ is_ascii_front rest count = nat_le count (length rest) && list_all (λ b. nat_lt
 -- each skip leaves out ASCII alone, as the markers of containers and spaces are
 abbrev pub are_ascii_skips : List Skip → List ℕ → Bool
 are_ascii_skips skips bytes = list_all (λ skip. is_ascii_front (drop skip.place bytes) skip.length) skips
+
+-- whether a table is one of the bytes, as a status
+abbrev pub skips_status : List Skip → List ℕ → ℕ
+skips_status skips bytes = if are_skips skips bytes && are_ascii_skips skips bytes then ok else bad_skips

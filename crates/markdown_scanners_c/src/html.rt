@@ -1,5 +1,5 @@
 //! HTML blocks, tags and inline HTML.
-ghost use Rattle.std.specs.Prelude.{◌≡◌, ◌↔◌, ◌≤◌, ◌<◌, ◌+◌, ◌^◌, ◌++◌, [], ◌∷◌, ℕ, List, IsTrue, Some, true, length};
+ghost use Rattle.std.specs.Prelude.{◌≡◌, ◌≢◌, ◌↔◌, ◌≤◌, ◌<◌, ◌+◌, ◌-◌, ◌^◌, ◌++◌, [], ◌∷◌, ℕ, List, IsTrue, Some, true, length};
 ghost use Rattle.markdown_scanners_tree.specs.Kept.{KeptByte};
 ghost use Rattle.markdown_scanners_tree.specs.inline_html.Guard.{answer_of_scan, guard_after_scan, text_after_scan, IsTrueGuard, IsTrueScan};
 ghost use Rattle.markdown_scanners_tree.specs.inline_html.InlineHtml.{opener_before, opening_at};
@@ -8,14 +8,17 @@ ghost use Rattle.markdown_scanners_tree.specs.scanners.html_block.HtmlBlock.{IsB
 ghost use Rattle.markdown_scanners_tree.specs.scanners.html_tag.HtmlTag.{IsTagAloneInLine};
 ghost use Rattle.markdown_scanners_tree.specs.scanners.html_tag.KeptTag.{IsKeptTag, place_after};
 ghost use Rattle.markdown_scanners_c.specs.Answers.{FoundExactly};
+ghost use Rattle.markdown_scanners_c.specs.Buffer.{IsChangedFront};
 ghost use Rattle.markdown_scanners_c.specs.Finds.{IsFindEnd};
 ghost use Rattle.markdown_scanners_c.specs.Guards.{scan_guard, new_guard, IsGuardedEnd, IsTrueEnd, IsScanInTurn};
-ghost use Rattle.markdown_scanners_c.specs.Skips.{are_skips, LeavesOut};
-ghost use Rattle.markdown_scanners_c.specs.Tags.{IsTagText, IsScannedTag};
+ghost use Rattle.markdown_scanners_c.specs.Skips.{are_skips};
+ghost use Rattle.markdown_scanners_c.specs.Status.{past_end};
+ghost use Rattle.markdown_scanners_c.specs.Tags.{IsNoTag, IsTagText, IsScannedTag};
+ghost use Rattle.markdown_scanners_c.specs.private.Searched.{told_skip};
 
-use crate::skips::{Skip, are_skips, left_out};
-use crate::status::{BAD_SKIPS, NO_MEMORY, NO_OPENER, NONE, NOTHING, OK};
-use crate::texts::{Text, no_text, write_text};
+use crate::skips::{Skip, told_skip};
+use crate::status::{NO_MEMORY, NO_OPENER, NONE, NOTHING, OK, PAST_END};
+use crate::texts::{Text, write_text};
 use markdown_scanners_tree::inline_html::{
     CountedText, HtmlScanGuard, scan_inline_html_comment_counted,
     scan_inline_html_processing_counted,
@@ -55,40 +58,78 @@ pub extern "C" fn mds_scan_html_tag(alloc: Global, bytes: &[u8]) -> usize
     }
 }
 
-/// The tag at the front, over lines of which the skips are left out. (CommonMark 0.31.2, section
+/// `struct mds_tag` of C: the place behind a tag, and how many bytes its text has.
+#[repr(C)]
+pub struct Tag {
+    pub status: u32,
+    pub end: usize,
+    pub length: usize,
+}
+
+// No tag, but a status.
+fn no_tag(status: u32) -> Tag
+    ensures { IsNoTag status result }
+{
+    Tag {
+        status,
+        end: 0,
+        length: 0,
+    }
+}
+
+/// The tag at the place, over lines of which the skips are left out. (CommonMark 0.31.2, section
 /// 6.6)
 #[unsafe(no_mangle)]
 pub extern "C" fn mds_scan_html_tag_over_lines(
     alloc: Global,
     bytes: &[u8],
+    start: usize,
     skips: &[Skip],
     buffer: &mut [u8],
-) -> Text
-    ensures tag { IsScannedTag skips.now bytes.now buffer.old buffer.new result }
-    ensures within { result.taken ≤ length bytes.now }
-    ensures room { result.length ≤ result.taken }
+) -> Tag
+    // With a table of a text that the bytes begin.
+    ensures tag { (behind : List ℕ) → are_skips skips.now (bytes.now ++ behind) ≡ true
+        → IsScannedTag skips.now bytes.now start buffer.old buffer.new result }
+
+    // With any table.
+    ensures past { (result.status ≡ past_end) ↔ (length bytes.now < start) }
+    ensures within { result.end ≤ length bytes.now }
+    ensures room { result.length ≤ result.end - start }
+    ensures kept { IsChangedFront buffer.old buffer.new result.status result.length }
 {
-    if are_skips(skips, bytes) {
-        tag_text(alloc, bytes, skips, buffer)
-    } else {
-        no_text(BAD_SKIPS)
+    if start > bytes.len() {
+        return no_tag(PAST_END);
     }
+    tag_text(alloc, bytes, start, skips, buffer)
 }
 
-fn tag_text(alloc: Global, bytes: &[u8], skips: &[Skip], buffer: &mut [u8]) -> Text
-    requires { are_skips skips.now bytes.now ≡ true }
-    ensures tag { IsTagText skips.now bytes.now buffer.old buffer.new result }
-    ensures within { result.taken ≤ length bytes.now }
-    ensures room { result.length ≤ result.taken }
+fn tag_text(alloc: Global, bytes: &[u8], start: usize, skips: &[Skip], buffer: &mut [u8]) -> Tag
+    requires { start ≤ length bytes.now }
+    ensures tag { (behind : List ℕ) → are_skips skips.now (bytes.now ++ behind) ≡ true
+        → IsTagText skips.now bytes.now start buffer.old buffer.new result }
+    ensures there { result.status ≢ past_end }
+    ensures within { result.end ≤ length bytes.now }
+    ensures room { result.length ≤ result.end - start }
+    ensures kept { IsChangedFront buffer.old buffer.new result.status result.length }
 {
     let handler = |rest: &[u8]| -> usize
-        ensures { are_skips skips.entry.now bytes.entry.now ≡ true
-            → LeavesOut skips.entry.now bytes.entry.now rest.now result }
-    { left_out(skips, bytes, rest) };
-    match scan_html_block_inner(alloc, bytes, Some(&handler)) {
-        Ok(Some((text, end))) => write_text(&text, end, buffer),
-        Ok(None) => no_text(NOTHING),
-        Err(_) => no_text(NO_MEMORY),
+        ensures { result ≡ told_skip skips.entry.now bytes.entry.now rest.now }
+    { told_skip(skips, bytes, rest) };
+    match scan_html_block_inner(alloc, &bytes[start..], Some(&handler)) {
+        Ok(Some((text, taken))) => {
+            let Text {
+                status,
+                taken,
+                length,
+            } = write_text(&text, taken, buffer);
+            Tag {
+                status,
+                end: start + taken,
+                length,
+            }
+        }
+        Ok(None) => no_tag(NOTHING),
+        Err(_) => no_tag(NO_MEMORY),
     }
 }
 

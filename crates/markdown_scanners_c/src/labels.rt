@@ -1,26 +1,35 @@
 //! Link labels.
-ghost use Rattle.std.specs.Prelude.{◌≡◌, ◌≤◌, ◌⊎◌, ◌↔◌, Some, true, length, if◌then◌else◌};
+ghost use Rattle.std.specs.Prelude.{◌≡◌, ◌≢◌, ◌≤◌, ◌<◌, ◌+◌, ◌-◌, ◌==◌, ◌&&◌, ◌||◌, not, ◌++◌, ◌⊎◌, ◌↔◌, ℕ, List, true, length, drop, if◌then◌else◌};
 ghost use Rattle.std.specs.Str.{IsUtf8};
 ghost use Rattle.markdown_values.specs.strings.Text.{is_borrowed};
+ghost use Rattle.markdown_scanners_tree.specs.Ascii.{left_bracket, right_bracket};
+ghost use Rattle.markdown_scanners_tree.specs.linklabel.private.Pass.{begun};
+ghost use Rattle.markdown_scanners_tree.specs.scanners.Escapes.{starts_escape};
 ghost use Rattle.markdown_scanners_c.specs.Answers.{none};
+ghost use Rattle.markdown_scanners_c.specs.Buffer.{IsChangedFront};
 ghost use Rattle.markdown_scanners_c.specs.Keys.{key_bytes};
 ghost use Rattle.markdown_scanners_c.specs.Labels.{IsNoLabelText, IsLabelText, IsScannedLabel, match_status};
 ghost use Rattle.markdown_scanners_c.specs.Skips.{are_skips, are_ascii_skips};
-ghost use Rattle.markdown_scanners_c.specs.private.LabelText.{ascii_left_out, space_len};
-ghost use Rattle.markdown_scanners_c.specs.Status.{ok, not_utf8};
+ghost use Rattle.markdown_scanners_c.specs.Status.{ok, not_utf8, past_end};
+ghost use Rattle.markdown_scanners_c.specs.private.LabelText.{told_ascii, IsWindow, IsWindowLabel, ending_len, space_len};
 
-use crate::skips::{Skip, are_ascii_skips, are_skips, left_out_ascii};
-use crate::status::{BAD_SKIPS, NO_MEMORY, NONE, NOT_UTF8, NOTHING, OK};
+use crate::skips::{Skip, searched, told_ascii};
+use crate::status::{NO_MEMORY, NONE, NOT_UTF8, NOTHING, OK, PAST_END};
 use crate::texts::{Text, write_text};
 use markdown_scanners_tree::linklabel::{LinkLabel, scan_link_label_rest};
+use markdown_scanners_tree::scanners::is_ascii_punctuation;
 use markdown_values::strings::CowStr;
 use std::alloc::Global;
 
-/// `struct mds_label` of C: a label's text, and where it stands in the input, if it does.
+// How many characters the content of a label may have.
+const MOST_CHARACTERS: usize = 999;
+
+/// `struct mds_label` of C: the place behind a label, its text, and where it stands in the input, if
+/// it does.
 #[repr(C)]
 pub struct LabelText {
     pub status: u32,
-    pub taken: usize,
+    pub end: usize,
     pub length: usize,
     pub start: usize,
 }
@@ -31,54 +40,138 @@ fn no_label(status: u32) -> LabelText
 {
     LabelText {
         status,
-        taken: 0,
+        end: 0,
         length: 0,
         start: 0,
     }
 }
 
-/// Writes the link label whose bracket stands before the text, over lines of which the skips are
+/// Writes the link label whose bracket stands before the place, over lines of which the skips are
 /// left out. (CommonMark 0.31.2, section 6.3)
 #[unsafe(no_mangle)]
 pub extern "C" fn mds_scan_link_label(
     alloc: Global,
-    text: &[u8],
+    bytes: &[u8],
+    start: usize,
     is_in_table: bool,
     skips: &[Skip],
     buffer: &mut [u8],
 ) -> LabelText
-    ensures label { IsScannedLabel is_in_table skips.now text.now buffer.old buffer.new result }
-    ensures within { result.taken ≤ length text.now }
+    // With a table of a text that the bytes begin.
+    ensures label { (behind : List ℕ) → are_skips skips.now (bytes.now ++ behind) ≡ true
+        → are_ascii_skips skips.now (bytes.now ++ behind) ≡ true
+        → IsScannedLabel is_in_table skips.now bytes.now start buffer.old buffer.new result }
+
+    // With any table.
+    ensures past { (result.status ≡ past_end) ↔ (length bytes.now < start) }
+    ensures within { result.end ≤ length bytes.now }
+    ensures room { result.length ≤ result.end - start }
+    ensures kept { IsChangedFront buffer.old buffer.new result.status result.length }
 {
-    if !are_skips(skips, text) || !are_ascii_skips(skips, text) {
-        return no_label(BAD_SKIPS);
+    if start > bytes.len() {
+        return no_label(PAST_END);
     }
-    match str::from_utf8(text) {
-        Ok(text) => label_text(alloc, text, is_in_table, skips, buffer),
-        Err(_) => no_label(NOT_UTF8),
+    let end = label_end(bytes, start, skips);
+    label_text(alloc, bytes, start, end, is_in_table, skips, buffer)
+}
+
+// The place behind the bracket that closes the label at the place; where there is none, one behind
+// which no label ends. No more is read than up to the first bracket that no backslash escapes, and
+// no more characters than a label has, and two.
+fn label_end(bytes: &[u8], start: usize, skips: &[Skip]) -> usize
+    requires { start ≤ length bytes.now }
+    ensures ordered { start ≤ result }
+    ensures within { result ≤ length bytes.now }
+    ensures window { (behind : List ℕ) → are_skips skips.now (bytes.now ++ behind) ≡ true
+        → are_ascii_skips skips.now (bytes.now ++ behind) ≡ true
+        → IsWindow skips.now bytes.now start result }
+{
+    let (mut place, mut escaped, mut characters) = (start, false, 0);
+    while place < bytes.len() && characters <= MOST_CHARACTERS {
+        let rest = &bytes[place..];
+        let ending = ending_len(rest);
+        if ending > 0 {
+            let skip = searched(skips, place + ending);
+            if skip > bytes.len() - (place + ending) {
+                return place + ending;
+            }
+            place += ending + skip;
+            characters += ending;
+        } else if ends_label(rest[0], escaped) {
+            return place + 1;
+        } else {
+            characters += begun_at(rest[0]);
+            escaped = escapes(rest, escaped);
+            place += 1;
+        }
+    }
+    place
+}
+
+// How many bytes the line ending at the front takes, or 0.
+fn ending_len(rest: &[u8]) -> usize
+    ensures takes { result ≡ ending_len rest.now }
+    ensures within { result ≤ length rest.now }
+{
+    match rest {
+        [b'\r', b'\n', ..] => 2,
+        [b'\r' | b'\n', ..] => 1,
+        _ => 0,
+    }
+}
+
+// How many characters begin at this byte.
+fn begun_at(byte: u8) -> usize
+    ensures begins { result ≡ begun byte }
+    ensures one { result ≤ 1 }
+{
+    if byte < 128 || byte > 191 { 1 } else { 0 }
+}
+
+// Whether the byte is a bracket that no backslash before it escapes.
+fn ends_label(byte: u8, escaped: bool) -> bool
+    ensures { result ≡ (not escaped && (byte == left_bracket || byte == right_bracket)) }
+{
+    !escaped && (byte == b'[' || byte == b']')
+}
+
+// Whether a backslash stands at the front, itself not escaped, that escapes what is behind it.
+fn escapes(rest: &[u8], escaped: bool) -> bool
+    ensures { result ≡ (not escaped && starts_escape rest.now) }
+{
+    match rest {
+        [b'\\', next, ..] => !escaped && is_ascii_punctuation(*next),
+        _ => false,
     }
 }
 
 fn label_text(
     alloc: Global,
-    text: &str,
+    bytes: &[u8],
+    start: usize,
+    end: usize,
     is_in_table: bool,
     skips: &[Skip],
     buffer: &mut [u8],
 ) -> LabelText
-    requires in_order { are_skips skips.now text.now ≡ true }
-    requires ascii { are_ascii_skips skips.now text.now ≡ true }
-    ensures label { IsLabelText is_in_table skips.now text.now buffer.old buffer.new result }
-    ensures within { result.taken ≤ length text.now }
+    requires ordered { start ≤ end }
+    requires within { end ≤ length bytes.now }
+    ensures label { IsLabelText (IsWindowLabel skips.now bytes.now start end is_in_table)
+        bytes.now start buffer.old buffer.new result }
+    ensures there { result.status ≢ past_end }
+    ensures within { result.end ≤ length bytes.now }
+    ensures room { result.length ≤ result.end - start }
+    ensures kept { IsChangedFront buffer.old buffer.new result.status result.length }
 {
-    let bytes = text.as_bytes();
+    let Ok(text) = str::from_utf8(&bytes[start..end]) else {
+        return no_label(NOTHING);
+    };
     let handler = |rest: &[u8]| -> Option<usize>
-        ensures { are_skips skips.entry.now bytes.entry.now ≡ true
-            → result ≡ Some (ascii_left_out skips.entry.now bytes.entry.now rest.now) }
-    { Some(left_out_ascii(skips, bytes, rest)) };
+        ensures { result ≡ told_ascii skips.entry.now end rest.now }
+    { told_ascii(skips, end, rest) };
     match scan_link_label_rest(alloc, text, &handler, is_in_table) {
         Ok(Some((taken, label))) => {
-            let start = start_of(&label, bytes);
+            let place = start_of(&label, text.as_bytes(), start);
             let Text {
                 status,
                 taken,
@@ -86,9 +179,9 @@ fn label_text(
             } = write_text(label.as_str().as_bytes(), taken, buffer);
             LabelText {
                 status,
-                taken,
+                end: start + taken,
                 length,
-                start,
+                start: place,
             }
         }
         Ok(None) => no_label(NOTHING),
@@ -96,19 +189,22 @@ fn label_text(
     }
 }
 
-// Where a label stands in its input, behind the space at the front, if it is lent from there.
-fn start_of(label: &CowStr, bytes: &[u8]) -> usize
-    ensures { result ≡ (if is_borrowed label.now then space_len bytes.now else none) }
+// Where a label stands in its input, behind the space at the front of the bytes from the start on,
+// if it is lent from there.
+fn start_of(label: &CowStr, rest: &[u8], start: usize) -> usize
+    requires { start + length rest.now ≤ usize.MAX }
+    ensures { result ≡ (if is_borrowed label.now then start + space_len rest.now else none) }
 {
     match label {
-        CowStr::Borrowed(_) => space_len(bytes),
+        CowStr::Borrowed(_) => start + space_len(rest),
         _ => NONE,
     }
 }
 
 // How many bytes a space at the front takes.
 fn space_len(bytes: &[u8]) -> usize
-    ensures { result ≡ space_len bytes.now }
+    ensures takes { result ≡ space_len bytes.now }
+    ensures within { result ≤ length bytes.now }
 {
     match bytes {
         [b' ', ..] => 1,

@@ -1,7 +1,10 @@
 //! What is left out of a text at the starts of its lines.
-ghost use Rattle.std.specs.Prelude.{◌≡◌, ◌+◌, ◌&&◌, true, nat_le, drop};
-ghost use Rattle.markdown_scanners_c.specs.Skips.{are_skips, are_ascii_skips, is_ascii_front, LeavesOut};
-ghost use Rattle.markdown_scanners_c.specs.private.LabelText.{ascii_left_out};
+ghost use Rattle.std.specs.Prelude.{◌≡◌, ◌+◌, ◌&&◌, ℕ, true, nat_le, drop};
+ghost use Rattle.markdown_scanners_c.specs.Skips.{stand_from, are_skips, left_out, is_ascii_front, are_ascii_skips, skips_status};
+ghost use Rattle.markdown_scanners_c.specs.private.LabelText.{told_ascii};
+ghost use Rattle.markdown_scanners_c.specs.private.Searched.{searched, told_skip};
+
+use crate::status::{BAD_SKIPS, OK};
 
 /// `struct mds_skip` of C: so many bytes are left out at the place.
 #[repr(C)]
@@ -11,8 +14,20 @@ pub struct Skip {
     pub length: usize,
 }
 
-/// Whether the skips stand in order in a text of so many bytes.
-pub(crate) fn are_skips(skips: &[Skip], bytes: &[u8]) -> bool
+/// Whether the skips are a table of the bytes: `OK` or `BAD_SKIPS`. (CommonMark 0.31.2, section 5)
+#[unsafe(no_mangle)]
+pub extern "C" fn mds_check_skips(bytes: &[u8], skips: &[Skip]) -> u32
+    ensures { result ≡ skips_status skips.now bytes.now }
+{
+    if are_skips(skips, bytes) && are_ascii_skips(skips, bytes) {
+        OK
+    } else {
+        BAD_SKIPS
+    }
+}
+
+// Whether the skips stand in order in a text of so many bytes.
+fn are_skips(skips: &[Skip], bytes: &[u8]) -> bool
     ensures { result ≡ are_skips skips.now bytes.now }
 {
     let mut from = 0;
@@ -32,20 +47,8 @@ fn stands(skip: Skip, from: usize, size: usize) -> bool
     from <= skip.place && skip.place <= size && skip.length <= size - skip.place
 }
 
-/// How many bytes are left out at the front of a rest of the text.
-pub(crate) fn left_out(skips: &[Skip], bytes: &[u8], rest: &[u8]) -> usize
-    ensures { are_skips skips.now bytes.now ≡ true
-        → LeavesOut skips.now bytes.now rest.now result }
-{
-    let place = bytes.len().saturating_sub(rest.len());
-    match skips.binary_search_by_key(&place, |skip| skip.place) {
-        Ok(index) => skips[index].length,
-        Err(_) => 0,
-    }
-}
-
-/// Whether each skip leaves out ASCII alone.
-pub(crate) fn are_ascii_skips(skips: &[Skip], bytes: &[u8]) -> bool
+// Whether each skip leaves out ASCII alone.
+fn are_ascii_skips(skips: &[Skip], bytes: &[u8]) -> bool
     ensures { result ≡ are_ascii_skips skips.now bytes.now }
 {
     for skip in skips {
@@ -70,15 +73,46 @@ fn is_ascii_front(rest: &[u8], count: usize) -> bool
     count <= rest.len() && rest[..count].is_ascii()
 }
 
-/// How many bytes are left out at the front of a rest of the text, where they are ASCII.
-pub(crate) fn left_out_ascii(skips: &[Skip], bytes: &[u8], rest: &[u8]) -> usize
-    ensures { are_skips skips.now bytes.now ≡ true
-        → result ≡ ascii_left_out skips.now bytes.now rest.now }
+/// How many bytes a table leaves out at the place, in as many steps as its length has binary
+/// digits. Of a table that is out of order it is some number, and always the same.
+pub(crate) fn searched(skips: &[Skip], place: usize) -> usize
+    ensures halves { result ≡ searched skips.now place }
+    ensures found { (size : ℕ) → stand_from 0 size skips.now ≡ true
+        → result ≡ left_out skips.now place }
 {
-    let count = left_out(skips, bytes, rest);
+    let mut rest = skips;
+    while !rest.is_empty() {
+        let middle = rest.len() / 2;
+        let skip = rest[middle];
+        if skip.place == place {
+            return skip.length;
+        }
+        rest = if skip.place < place {
+            &rest[middle + 1..]
+        } else {
+            &rest[..middle]
+        };
+    }
+    0
+}
+
+/// How many bytes of a rest of the text a table leaves out, all of them where it names more.
+pub(crate) fn told_skip(skips: &[Skip], bytes: &[u8], rest: &[u8]) -> usize
+    ensures { result ≡ told_skip skips.now bytes.now rest.now }
+{
+    let place = bytes.len().saturating_sub(rest.len());
+    searched(skips, place).min(rest.len())
+}
+
+/// How many bytes of a rest of the bytes up to the place a table leaves out, if so many are there and
+/// are ASCII.
+pub(crate) fn told_ascii(skips: &[Skip], end: usize, rest: &[u8]) -> Option<usize>
+    ensures { result ≡ told_ascii skips.now end rest.now }
+{
+    let count = searched(skips, end.saturating_sub(rest.len()));
     if is_ascii_front(rest, count) {
-        count
+        Some(count)
     } else {
-        0
+        None
     }
 }

@@ -1,0 +1,61 @@
+-- Each turn takes a step of the scan.
+use Rattle.std.proofs.Common.{◌≡◌, ◌∙◌, ◌++◌, sym, refl, arith, length}
+use Rattle.markdown_scanners_c.proofs.LabelEnds.{walk_starts, ends_at_end, ends_late, turn_ends, turn_passes, turn_skips, turn_ends_in_skip}
+use Rattle.markdown_scanners_c.proofs.labels.label_end.Goals as goal
+
+pub loop-place-init : goal.loop-place-init
+loop-place-init c = record {
+  behind_start = omega arith;
+  within = omega (arith, c.requires);
+  walked = λ behind stand ascii. walk_starts c.args.skips.now c.args.bytes.now behind stand ascii c.args.start;
+}
+
+pub returns-then-skip-bytes-clause-window : goal.returns-then-skip-bytes-clause-window
+returns-then-skip-bytes-clause-window c behind stand ascii =
+    let found = c.searched-skip.ensures.found (length (c.args.bytes.now ++ behind)) stand in
+    let walk = c.loop-place.invariant.walked behind stand ascii in
+    turn_ends_in_skip c.args.skips.now c.args.bytes.now behind stand ascii c.args.start c.loop-place.escaped c.loop-place.place
+    c.loop-place.characters walk c.loop-place-test.true _ refl c.ending_len-ending.result c.ending_len-ending.ensures.takes
+    c.if-ending-gt0.true (omega (arith, c.ending_len-ending.ensures.within)) (omega (arith, found, c.if-skip-bytes.true))
+
+pub loop-place-preserved-then-ending-gt0 : goal.loop-place-preserved-then-ending-gt0
+loop-place-preserved-then-ending-gt0 c = record {
+  behind_start = omega (arith, c.loop-place.invariant.behind_start);
+  within = omega (arith, c.if-skip-bytes.false);
+  walked = λ behind stand ascii. (
+      let found = c.searched-skip.ensures.found (length (c.args.bytes.now ++ behind)) stand in
+      let walk = c.loop-place.invariant.walked behind stand ascii in
+      rw found (turn_skips c.args.skips.now c.args.bytes.now behind stand ascii c.args.start c.loop-place.escaped c.loop-place.place
+      c.loop-place.characters walk c.loop-place-test.true _ refl c.ending_len-ending.result c.ending_len-ending.ensures.takes
+      c.if-ending-gt0.true (omega (arith, c.ending_len-ending.ensures.within)) (omega (arith, found, c.if-skip-bytes.false))));
+}
+
+pub returns-then-ends_label-clause-window : goal.returns-then-ends_label-clause-window
+returns-then-ends_label-clause-window c behind stand ascii =
+    turn_ends c.args.skips.now c.args.bytes.now behind stand ascii c.args.start c.loop-place.escaped c.loop-place.place
+    c.loop-place.characters (c.loop-place.invariant.walked behind stand ascii) c.loop-place-test.true _ refl
+    (sym c.ends_label.ensures ∙ c.if-ends_label.true)
+
+pub loop-place-preserved : goal.loop-place-preserved
+loop-place-preserved c = record {
+  behind_start = omega (arith, c.loop-place.invariant.behind_start);
+  within = omega (arith, c.loop-place-test.true);
+  walked = λ behind stand ascii. (
+      let line : c.ending_len-ending.result ≡ 0 = omega (arith, c.if-ending-gt0.false) in
+      let walk = turn_passes c.args.skips.now c.args.bytes.now behind stand ascii c.args.start c.loop-place.escaped c.loop-place.place
+      c.loop-place.characters (c.loop-place.invariant.walked behind stand ascii) c.loop-place-test.true _ refl
+      (sym c.ending_len-ending.ensures.takes ∙ line) (sym c.ends_label.ensures ∙ c.if-ends_label.false) in
+      rw (c.escapes-escaped.ensures, c.begun_at-characters.ensures.begins) walk);
+}
+
+pub returns-else-characters-le-MOST_CHARACTERS-clause-window : goal.returns-else-characters-le-MOST_CHARACTERS-clause-window
+returns-else-characters-le-MOST_CHARACTERS-clause-window c behind stand ascii =
+    ends_late c.args.skips.now c.args.bytes.now behind stand ascii c.args.start c.loop-place.escaped c.loop-place.place
+    c.loop-place.characters (c.loop-place.invariant.walked behind stand ascii) c.loop-place.invariant.within
+    c.if-characters-le-MOST_CHARACTERS.false
+
+pub returns-after-loop-place-clause-window : goal.returns-after-loop-place-clause-window
+returns-after-loop-place-clause-window c behind stand ascii =
+    ends_at_end c.args.skips.now c.args.bytes.now behind stand ascii c.args.start c.loop-place.escaped c.loop-place.place
+    c.loop-place.characters (c.loop-place.invariant.walked behind stand ascii)
+    (omega (arith, c.loop-place.invariant.within, c.loop-place-test.false))
