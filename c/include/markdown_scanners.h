@@ -415,9 +415,10 @@ struct mds_part mds_scan_wikilink_pipe(const void *bytes, size_t length, size_t 
  * or before; a length may be 0. No table (null and 0) is for a text outside of containers.
  *
  * At a line that no skip names nothing is left out, and a skip that stands elsewhere than at the front of a line of
- * the tag or label says nothing. The calls below take the page from its front, its table, and a place in it. They search
- * the table at each line that they come to, in as many steps as `skip_count` has binary digits, and don't go through
- * it. The page may also be given up to a place, as the end of a paragraph, with the table as it is. */
+ * the tag or label says nothing. mds_scan_html_tag_over_lines and mds_scan_link_label take the page from its front, its
+ * table, and a place in the page. They search the table at each line that they come to, in as many steps as `skip_count`
+ * has binary digits, and don't go through it. The page may also be given up to a place, as the end of a paragraph, with
+ * the table as it is. */
 struct mds_skip {
     size_t place, length;
 };

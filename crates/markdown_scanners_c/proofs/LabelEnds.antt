@@ -191,6 +191,13 @@ module _ (skips : List Skip) (bytes behind : List ℕ) (stand : are_skips skips 
       let nothing = rw no_front at told in
       cc
 
+  -- a place of the scan over all bytes from the start on, and of that over those up to the end
+  abbrev WholeAt : ℕ → Bool → List KeptByte → ℕ → List ℕ → Type 0
+  WholeAt start = IsAt (LeavesOut skips bytes) (drop start bytes)
+
+  abbrev PartAt : ℕ → ℕ → Bool → List KeptByte → ℕ → List ℕ → Type 0
+  PartAt start end = IsAt (ToldAscii skips end) (window bytes start end)
+
   -- Where the search has come to, and how many characters it has seen, or more: a label of all bytes from the start on is
   -- what the rest goes on to, and so is one of the bytes up to each later end.
   pub record IsWalked (start : ℕ) (escaped : Bool) (place count : ℕ) : Type 0 where
@@ -198,9 +205,9 @@ module _ (skips : List Skip) (bytes behind : List ℕ) (stand : are_skips skips 
     pub ix_is : start + ix ≡ place
     pub seen : List KeptByte
     pub counted : count ≤ characters seen
-    pub whole : IsAt (LeavesOut skips bytes) (drop start bytes) escaped seen ix (drop place bytes)
+    pub whole : WholeAt start escaped seen ix (drop place bytes)
     pub part : (end : ℕ) → place ≤ end → end ≤ length bytes → (e : Bool) × (place < end → e ≡ escaped)
-        × IsAt (ToldAscii skips end) (window bytes start end) e seen ix (window bytes place end)
+        × PartAt start end e seen ix (window bytes place end)
 
   pub walk_starts : (start : ℕ) → IsWalked start false start 0
   walk_starts start = record {
@@ -289,7 +296,7 @@ module _ (skips : List Skip) (bytes behind : List ℕ) (stand : are_skips skips 
             ix_is = omega (arith, w.ix_is);
             seen = w.seen ++ in_line b w.ix ∷ [];
             counted = omega (arith, w.counted, characters_add w.seen (in_line b w.ix ∷ []));
-            whole = subst (IsAt (LeavesOut skips bytes) (drop start bytes) (not escaped && (b == 92 && begins_with is_punctuation bs))
+            whole = subst (WholeAt start (not escaped && (b == 92 && begins_with is_punctuation bs))
                 (w.seen ++ in_line b w.ix ∷ []) (w.ix + 1)) (sym next)
                 (behind_byte (LeavesOut skips bytes) (drop start bytes) escaped w.seen w.ix (drop place bytes) w.whole b bs parts plain close opening);
             part = λ end after within. (
@@ -301,7 +308,7 @@ module _ (skips : List Skip) (bytes behind : List ℕ) (stand : are_skips skips 
                   not at.0 && (b == 92 && begins_with is_punctuation front),
                   λ inside. (let begins = begins_window is_punctuation (end - (place + 1)) bs (omega (arith, inside)) in
                       rw (same, begins) refl),
-                  subst (IsAt (ToldAscii skips end) (window bytes start end) (not at.0 && (b == 92 && begins_with is_punctuation front))
+                  subst (PartAt start end (not at.0 && (b == 92 && begins_with is_punctuation front))
                       (w.seen ++ in_line b w.ix ∷ []) (w.ix + 1)) (sym rest)
                       (behind_byte (ToldAscii skips end) (window bytes start end) at.0 w.seen w.ix (window bytes place end) at.2 b front byte plain
                       (λ no. close (sym same ∙ no)) (λ no. opening (sym same ∙ no))),
@@ -340,7 +347,7 @@ module _ (skips : List Skip) (bytes behind : List ℕ) (stand : are_skips skips 
               ix_is = omega (arith, w.ix_is);
               seen = w.seen ++ kept_line w.ix (drop place bytes);
               counted = omega (arith, w.counted, characters_add w.seen (kept_line w.ix (drop place bytes)), line, len_is);
-              whole = subst (IsAt (LeavesOut skips bytes) (drop start bytes) escaped (w.seen ++ kept_line w.ix (drop place bytes)) (w.ix + (len + skip))) next
+              whole = subst (WholeAt start escaped (w.seen ++ kept_line w.ix (drop place bytes)) (w.ix + (len + skip))) next
                   (after_ending (LeavesOut skips bytes) (drop start bytes) escaped w.seen w.ix (drop place bytes) w.whole len ending skip one_skip);
               part = λ end after within. (
                   let at = w.part end (omega (arith, after)) within in
@@ -355,9 +362,9 @@ module _ (skips : List Skip) (bytes behind : List ℕ) (stand : are_skips skips 
                   (record { answer = told; only = λ other tells. (let same : Some skip ≡ Some other = sym told ∙ tells in cc) }) in (
                     at.0,
                     λ inside. at.1 (omega (arith, inside)),
-                    subst (IsAt (ToldAscii skips end) (window bytes start end) at.0 (w.seen ++ kept_line w.ix (drop place bytes)) (w.ix + (len + skip)))
+                    subst (PartAt start end at.0 (w.seen ++ kept_line w.ix (drop place bytes)) (w.ix + (len + skip)))
                         (window_drop bytes place end (len + skip) (omega (arith, after)))
-                        (subst (λ ks. IsAt (ToldAscii skips end) (window bytes start end) at.0 (w.seen ++ ks) (w.ix + (len + skip)) (drop (len + skip) (window bytes place end)))
+                        (subst (λ ks. PartAt start end at.0 (w.seen ++ ks) (w.ix + (len + skip)) (drop (len + skip) (window bytes place end)))
                         kept
                         (after_ending (ToldAscii skips end) (window bytes start end) at.0 w.seen w.ix (window bytes place end) at.2 len
                         (there end (omega (arith, after))) skip one)),
