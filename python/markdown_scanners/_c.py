@@ -212,6 +212,17 @@ class Skip(Structure):
     ]
 
 
+class Tag(Structure):
+    status: int
+    end: int
+    length: int
+    _fields_ = [
+        ("status", c_uint32),
+        ("end", c_size_t),
+        ("length", c_size_t),
+    ]
+
+
 class HtmlGuard(Structure):
     comment: int
     cdata: int
@@ -247,12 +258,12 @@ class HtmlRun(Structure):
 
 class Label(Structure):
     status: int
-    taken: int
+    end: int
     length: int
     start: int
     _fields_ = [
         ("status", c_uint32),
-        ("taken", c_size_t),
+        ("end", c_size_t),
         ("length", c_size_t),
         ("start", c_size_t),
     ]
@@ -295,15 +306,16 @@ FUNCTIONS = {
     "scan_link_dest": (Part, (c_void_p, c_size_t, c_size_t, c_size_t)),
     "scan_autolink": (Part, (c_void_p, c_size_t, c_size_t)),
     "scan_wikilink_pipe": (Part, (c_void_p, c_size_t, c_size_t, c_size_t)),
+    "check_skips": (c_uint32, (c_void_p, c_size_t, POINTER(Skip), c_size_t)),
     "starts_html_block_type_6": (c_bool, (c_void_p, c_size_t)),
     "scan_html_type_7": (c_size_t, (c_void_p, c_size_t)),
     "scan_html_tag": (c_size_t, (c_void_p, c_size_t)),
-    "scan_html_tag_over_lines": (Text, (c_void_p, c_size_t, POINTER(Skip), c_size_t, c_void_p, c_size_t)),
+    "scan_html_tag_over_lines": (Tag, (c_void_p, c_size_t, c_size_t, POINTER(Skip), c_size_t, c_void_p, c_size_t)),
     "scan_inline_html": (End, (c_void_p, c_size_t, c_size_t, POINTER(HtmlGuard))),
     "run_inline_html": (HtmlRun, (c_void_p, c_size_t, POINTER(c_size_t), c_size_t, POINTER(c_size_t), c_size_t)),
     "scan_entity": (Text, (c_void_p, c_size_t, c_void_p, c_size_t)),
     "unescape": (Text, (c_void_p, c_size_t, c_bool, c_void_p, c_size_t)),
-    "scan_link_label": (Label, (c_void_p, c_size_t, c_bool, POINTER(Skip), c_size_t, c_void_p, c_size_t)),
+    "scan_link_label": (Label, (c_void_p, c_size_t, c_size_t, c_bool, POINTER(Skip), c_size_t, c_void_p, c_size_t)),
     "labels_match": (c_uint32, (c_void_p, c_size_t, c_void_p, c_size_t)),
     "label_key": (Text, (c_void_p, c_size_t, c_void_p, c_size_t)),
 }

@@ -98,12 +98,13 @@ def scan_html_tag_over_lines(
     >>> scan_html_tag_over_lines(page, Skips(page, [(0, 2), (7, 2)]), 2)
     Tag(end=13, text=b'<foo\nbar>')
     """
-    given = table(skips, data, at, end)
-    found = scan("scan_html_tag_over_lines", data, at, end, *given, None, 0)
+    last = limits(data, at, end)
+    given = (at, *table(skips, data))
+    found = scan("scan_html_tag_over_lines", data, 0, last, *given, None, 0)
     text = None
     if found.status == _c.TOO_SHORT:
-        found, text = made("scan_html_tag_over_lines", data, at, end, found.length, *given)
-    return Tag(at + found.taken, text) if stated(found.status) else None
+        found, text = made("scan_html_tag_over_lines", data, 0, last, found.length, *given)
+    return Tag(found.end, text) if stated(found.status) else None
 
 
 class HtmlScanGuard:
@@ -169,14 +170,15 @@ def scan_link_label(
     data: bytes, in_table: bool = False, skips: Optional[Skips] = None, at: int = 0, end: Optional[int] = None
 ) -> Optional[Label]:
     r"""The link label whose opening bracket stands just before the place, over lines of which the skips of the page are left out.
-    In a cell of a table a pipe loses the backslash before it. NotUtf8. (6.3)
+    In a cell of a table a pipe loses the backslash before it. Its own bytes are UTF-8. (6.3)
 
     >>> scan_link_label(b"[a\n b]: c", at=1)
     Label(end=6, text=b'a b', start=None)
     """
-    room = min(limits(data, at, end) - at, LABEL_ROOM)
-    found, text = made("scan_link_label", data, at, end, room, bool(in_table), *table(skips, data, at, end))
-    return Label(at + found.taken, text, place(at, found.start)) if found.status == _c.OK else None
+    last = limits(data, at, end)
+    room = min(last - at, LABEL_ROOM)
+    found, text = made("scan_link_label", data, 0, last, room, at, bool(in_table), *table(skips, data))
+    return Label(found.end, text, place(0, found.start)) if found.status == _c.OK else None
 
 
 def labels_match(one: bytes, other: bytes) -> bool:

@@ -1,12 +1,10 @@
 """What is left out of a page: at the fronts of lines, the markers and the indent of their containers."""
 from __future__ import annotations
 
-from bisect import bisect_left
 from typing import Any, Iterable, Optional
 
 from . import _c
-from ._library import limits, number, scan
-from .errors import refusal
+from ._library import number, scan, stated
 
 
 class Skips:
@@ -22,31 +20,18 @@ class Skips:
     """
 
     def __init__(self, data: bytes, rows: Iterable[tuple[int, int]] = ()) -> None:
-        self.data = data
-        self.rows = [(number("a place", place), number("a length", length)) for place, length in rows]
-        found = scan("scan_html_tag_over_lines", data, 0, None, *_table(self.rows), None, 0)
-        are_ascii = all(data[place : place + length].isascii() for place, length in self.rows)
-        if found.status == _c.BAD_SKIPS or not are_ascii:
-            raise refusal(_c.BAD_SKIPS)
+        listed = [(number("a place", place), number("a length", length)) for place, length in rows]
+        self.data, self._table = data, (_c.Skip * len(listed))(*listed)
+        stated(scan("check_skips", data, 0, None, *table(self, data)))
 
     def __len__(self) -> int:
-        return len(self.rows)
+        return len(self._table)
 
 
-def _table(rows: list[tuple[int, int]]) -> tuple[Any, int]:
-    return (_c.Skip * len(rows))(*rows), len(rows)
-
-
-def table(skips: Optional[Skips], data: bytes, at: int, end: Optional[int]) -> tuple[Any, int]:
-    """The skips of these bytes of a page, as C has them, and how many they are."""
-    last = limits(data, at, end)
+def table(skips: Optional[Skips], data: bytes) -> tuple[Any, int]:
+    """The skips of a page as C has them, and how many they are."""
     if skips is None:
         return None, 0
     if skips.data is not data:
         raise ValueError("the skips are of another page")
-    rows = []
-    for place, length in skips.rows[bisect_left(skips.rows, (at, 0)) :]:
-        if place > last:
-            break
-        rows.append((place - at, min(length, last - place)))
-    return _table(rows)
+    return skips._table, len(skips)

@@ -90,19 +90,24 @@ def text(name, *given, of=lambda found: found.text):
     return made
 
 
-def over(call, d, skips, *given):
-    """A call over a table that is made for it, or its refusal."""
-    return call(d.data, *given, mds.Skips(d.data, [(place + d.at, length) for place, length in skips]), d.at, d.end)
+def over(call, d, start, skips, *given):
+    """A call over a table of the page, as far as there is one, or its refusal."""
+    rows = [(place + d.at, min(length, len(d.data) - d.at - place)) for place, length in skips if d.at + place <= len(d.data)]
+    return call(d.data, *given, mds.Skips(d.data, rows), d.at + start, d.end)
 
 
-def tag(d, skips):
-    status, found = told(over, mds.scan_html_tag_over_lines, d, skips)
+def check_skips(data, skips):
+    return told(mds.Skips, data, skips)[0]
+
+
+def tag(d, skips, start=0):
+    status, found = told(over, mds.scan_html_tag_over_lines, d, start, skips)
     ok = status == _c.OK
     return {"status": status, "taken": d.length(found.end) if ok else 0, "text": (found.text or b"") if ok else b""}
 
 
-def label(d, skips, in_table):
-    status, found = told(over, mds.scan_link_label, d, skips, in_table)
+def label(d, skips, in_table, start=0):
+    status, found = told(over, mds.scan_link_label, d, start, skips, in_table)
     ok = status == _c.OK
     return {"status": status, "taken": d.length(found.end) if ok else 0, "text": found.text if ok else b"",
             "start": d.length(found.start) if ok else 0}

@@ -109,6 +109,8 @@ def called(name, given, end, text):
     """A call of C, or of a macro that stands for bytes or a list."""
     if name in ("OF", "OTHER", "TEXT"):
         return literal(given[0])
+    if name == "CHECK":
+        return Call("check_skips", [literal(given[0]), [value(it) for it in given[1:]]])
     if name in ("&TABLE", "TABLE", "SIZES", "CALLS", "ANSWERS", "SKIP"):
         found = [value(it) for it in given]
         return tuple(found) if name == "SKIP" else found
@@ -152,6 +154,6 @@ def let(text):
     if re.match(r"(\(struct mds_line_start\))?\{0(, 0)*\}$", text):
         return 0
     found = value(text)
-    if not isinstance(found, (Call, Name)):
+    if not isinstance(found, (Call, Name, list)):
         raise NotUnderstood(text)
     return found

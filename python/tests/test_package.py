@@ -57,7 +57,7 @@ class Refusals(unittest.TestCase):
         self.assertRaises(mds.Refusal, _library.stated, 999)
 
     def test_texts(self):
-        for call in (mds.unescape, mds.scan_link_label, mds.label_key, lambda it: mds.labels_match(it, b"")):
+        for call in (mds.unescape, mds.label_key, lambda it: mds.labels_match(it, b"")):
             self.assertRaises(mds.NotUtf8, call, b"a]\xff")
         self.assertRaises(mds.Empty, mds.scan_entity, b"")
         self.assertRaises(mds.TooLarge, mds.calc_indent, b"", 2**64 - 1)

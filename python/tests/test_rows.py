@@ -6,7 +6,7 @@ from pathlib import Path
 
 import c_rows
 import markdown_scanners as mds
-from c_calls import BEFORE, BEHIND, CALLS, Data, label, tag, told
+from c_calls import BEFORE, BEHIND, CALLS, Data, check_skips, label, tag, told
 from c_rows import SIZE_MAX as NONE
 from c_rows import Call, Name
 from markdown_scanners import _c
@@ -83,6 +83,8 @@ class Rows(unittest.TestCase):
 
     def value(self, it):
         """What a call, a field of one or of a variable stands for, or None of what only C has."""
+        if isinstance(it, Call) and it.name == "check_skips":
+            return check_skips(*it.given)
         if isinstance(it, Call) and self.is_known(it):
             found = self.found(it)
             return found[it.field] if it.field else found
@@ -96,7 +98,9 @@ class Rows(unittest.TestCase):
         return of_line or isinstance(call.given[0], bytes) and (call.name in CALLS or call.name == "mds_labels_match")
 
     def let(self, row, name, value):
-        if value == 0:
+        if isinstance(value, list):
+            self.variables[name] = value
+        elif value == 0:
             self.variables[name] = [Lines(), Lines(b"", True)]
         elif isinstance(value, Name) and isinstance(self.variables.get(value.name), list):
             self.variables[name] = [it.on(it.start.data[it.start.begin : it.start.end], inside)
@@ -113,21 +117,21 @@ class Rows(unittest.TestCase):
     def check_text(self, row, found, status, taken, text):
         self.same(row, (found["status"], found["taken"], found["text"]), (status, taken, text))
 
-    def check_skips(self, row, data, table, *wanted):
-        call = tag if row.macro.endswith("TAG") else lambda d, skips: label(d, skips, row.macro == "CELL")
-        skips = [] if isinstance(table, Name) else table
-        one, other = (call(Data(data, inside), skips) for inside in (False, True))
-        if one["status"] == _c.BAD_SKIPS == wanted[0]:
-            return self.same(row, one["taken"], 0)
+    def check_over(self, row, data, *wanted):
+        """A tag or a label over lines; of those in a page the place stands before the table."""
+        start, wanted = (wanted[0], wanted[1:]) if row.macro.endswith("_AT") else (0, wanted)
+        table = self.variables.get(wanted[0].name, []) if isinstance(wanted[0], Name) else wanted[0]
+        call = tag if "TAG" in row.macro else lambda d, skips, at: label(d, skips, row.macro == "CELL", at)
+        one, other = (call(Data(data, inside), table, start) for inside in (False, True))
         self.assertEqual(one, other, str(row))
         if row.macro.startswith("NO_"):
-            return self.check_text(row, one, wanted[0], 0, b"")
-        self.assertEqual(one.get("start"), wanted[2] if len(wanted) == 3 else None, str(row))
-        self.check_text(row, one, _c.OK, *wanted[:2])
+            return self.check_text(row, one, wanted[1] if len(wanted) > 1 else _c.NOTHING, 0, b"")
+        self.assertEqual(one.get("start"), wanted[3] if len(wanted) == 4 else None, str(row))
+        self.check_text(row, one, _c.OK, *wanted[1:3])
 
     def check_wrong(self, row, *skips):
-        for data, call in ((b"<foo\n> bar>", tag), (b"a b\nc d\ne]f", lambda d, it: label(d, it, False))):
-            self.assertEqual(call(Data(data, False), skips)["status"], _c.BAD_SKIPS, str(row))
+        for data in (b"<foo\n> bar>", b"a b\nc d\ne]f", b"\n" * 10 + b"]", b"\xff" * 11):
+            self.assertEqual(check_skips(data, skips), _c.BAD_SKIPS, str(row))
         self.same(row, True, True)
 
     def check_front(self, row, data, *wanted):
@@ -208,8 +212,8 @@ class Rows(unittest.TestCase):
         elif macro in ("MAKES", "REFUSES") and given[0].name in CALLS:
             wanted = (_c.OK, *given[2:]) if macro == "MAKES" else (given[2], 0, b"")
             self.check_text(row, self.found(Call(given[0].name, [given[1]])), *wanted)
-        elif macro in ("TAG", "NO_TAG", "LABEL", "CELL", "NO_LABEL"):
-            self.check_skips(row, *given)
+        elif macro in ("CELL", *[no + it + at for no in ("", "NO_") for it in ("TAG", "LABEL") for at in ("", "_AT")]):
+            self.check_over(row, *given)
         elif macro == "WRONG":
             self.check_wrong(row, *given)
         elif macro == "KEY":

@@ -140,18 +140,105 @@ pub fn scan_html_tag(data: &[u8]) -> Option<usize> {
 /// assert_eq!(tag, Ok(Some((b"<foo\nbar>".to_vec(), 11))));
 /// ```
 pub fn scan_html_block_inner(data: &[u8], skips: &[Skip]) -> Result<Option<(Vec<u8>, usize)>, BadSkips> {
-    let mut room = [0; SMALL];
-    let tag = raw::scan_html_tag_over_lines(data, skips, &mut room);
-    match tag.status {
-        ffi::OK => Ok(Some((room[..tag.length].to_vec(), tag.taken))),
-        ffi::TOO_SHORT => {
-            let mut room = vec![0; tag.length];
-            let tag = raw::scan_html_tag_over_lines(data, skips, &mut room);
-            Ok(Some((room, tag.taken)))
-        }
-        ffi::NOTHING => Ok(None),
-        _ => Err(BadSkips),
+    Ok(Page::new(data, skips)?.scan_tag(0).map(|(end, text)| (text.unwrap_or_default(), end)))
+}
+
+/// A page with the table of what is left out of it, which is looked through once. Tags and labels are then scanned at places
+/// of the page.
+///
+/// ```
+/// use markdown_scanners::{Page, Skip};
+/// let text = b"> <a\n> b> [c\n> d]";
+/// let skips = [Skip::new(0, 2), Skip::new(5, 2), Skip::new(13, 2)];
+/// let page = Page::new(text, &skips).unwrap();
+/// assert_eq!(page.scan_tag(2), Some((9, Some(b"<a\nb>".to_vec()))));
+/// assert_eq!(page.scan_label(11, false), Some((17, "c d".into())));
+/// ```
+#[derive(Clone, Copy, Debug)]
+pub struct Page<'page> {
+    bytes: &'page [u8],
+    skips: &'page [Skip],
+}
+
+impl<'page> Page<'page> {
+    /// The page, where the skips are a table of it.
+    ///
+    /// ```
+    /// use markdown_scanners::{BadSkips, Page, Skip};
+    /// assert_eq!(Page::new(b"a", &[Skip::new(1, 1)]).unwrap_err(), BadSkips);
+    /// ```
+    pub fn new(bytes: &'page [u8], skips: &'page [Skip]) -> Result<Self, BadSkips> {
+        raw::check_skips(bytes, skips).then_some(Page { bytes, skips }).ok_or(BadSkips)
     }
+
+    /// The page up to a place, as the end of a paragraph.
+    ///
+    /// # Panics
+    ///
+    /// Where the place is past the end.
+    ///
+    /// ```
+    /// let page = markdown_scanners::Page::new(b"a b]", &[]).unwrap();
+    /// assert_eq!(page.up_to(3).scan_label(0, false), None);
+    /// ```
+    pub fn up_to(self, end: usize) -> Self {
+        Page { bytes: &self.bytes[..end], ..self }
+    }
+
+    /// The open or closing tag at the place: the place behind it, and its text where something is left out inside it. (6.6)
+    ///
+    /// ```
+    /// let page = markdown_scanners::Page::new(b"a <b\nc>", &[]).unwrap();
+    /// assert_eq!(page.scan_tag(2), Some((7, None)));
+    /// ```
+    pub fn scan_tag(&self, start: usize) -> Option<(usize, Option<Vec<u8>>)> {
+        let mut room = [0; SMALL];
+        let tag = raw::scan_html_tag_over_lines(self.bytes, start, self.skips, &mut room);
+        match tag.status {
+            ffi::OK => Some((tag.end, (tag.length > 0).then(|| room[..tag.length].to_vec()))),
+            ffi::TOO_SHORT => {
+                let mut room = vec![0; tag.length];
+                raw::scan_html_tag_over_lines(self.bytes, start, self.skips, &mut room);
+                Some((tag.end, Some(room)))
+            }
+            _ => None,
+        }
+    }
+
+    /// The link label whose opening bracket stands just before the place: the place behind its closing one, and its words,
+    /// joined by one space. In a cell of a table a pipe loses the backslash before it. Its own bytes are UTF-8. (6.3)
+    ///
+    /// ```
+    /// let page = markdown_scanners::Page::new(b"[a  b]: c", &[]).unwrap();
+    /// assert_eq!(page.scan_label(1, false), Some((6, "a b".into())));
+    /// ```
+    pub fn scan_label(&self, start: usize, is_in_table: bool) -> Option<(usize, Cow<'page, str>)> {
+        label_at(self.bytes, start, self.skips, is_in_table)
+    }
+}
+
+fn label_at<'page>(
+    bytes: &'page [u8],
+    start: usize,
+    skips: &[Skip],
+    is_in_table: bool,
+) -> Option<(usize, Cow<'page, str>)> {
+    let mut room = [0; SMALL];
+    let label = raw::scan_link_label(bytes, start, is_in_table, skips, &mut room);
+    let text = match label.status {
+        ffi::OK | ffi::TOO_SHORT if label.start != ffi::NONE => {
+            let own = &bytes[label.start..label.start + label.length];
+            Cow::Borrowed(std::str::from_utf8(own).expect("a label is UTF-8"))
+        }
+        ffi::OK => Cow::Owned(string(room[..label.length].to_vec())),
+        ffi::TOO_SHORT => {
+            let mut room = vec![0; label.length];
+            raw::scan_link_label(bytes, start, is_in_table, skips, &mut room);
+            Cow::Owned(string(room))
+        }
+        _ => return None,
+    };
+    Some((label.end, text))
 }
 
 /// What the scans of one text have searched in vain, so that none of them searches it again: k scans of n bytes, at rising
@@ -234,7 +321,7 @@ pub fn unescape(input: &str, is_in_table: bool) -> Cow<'_, str> {
 
 /// The link label whose opening bracket stands just before the text, over lines of which the skips are left out: its length
 /// with the closing bracket, and its words, joined by one space. In a cell of a table a pipe loses the backslash before it.
-/// The whole text is looked through, so give it no more than may belong to the label. (6.3)
+/// (6.3)
 ///
 /// ```
 /// use markdown_scanners::{scan_link_label_rest, Skip};
@@ -246,22 +333,8 @@ pub fn scan_link_label_rest<'text>(
     skips: &[Skip],
     is_in_table: bool,
 ) -> Result<Option<(usize, Cow<'text, str>)>, BadSkips> {
-    let mut room = [0; SMALL];
-    let label = raw::scan_link_label(text, is_in_table, skips, &mut room);
-    let found = match label.status {
-        ffi::NOTHING => return Ok(None),
-        ffi::OK | ffi::TOO_SHORT if label.start != ffi::NONE => {
-            Cow::Borrowed(&text[label.start..label.start + label.length])
-        }
-        ffi::OK => Cow::Owned(string(room[..label.length].to_vec())),
-        ffi::TOO_SHORT => {
-            let mut room = vec![0; label.length];
-            raw::scan_link_label(text, is_in_table, skips, &mut room);
-            Cow::Owned(string(room))
-        }
-        _ => return Err(BadSkips),
-    };
-    Ok(Some((label.taken, found)))
+    let bytes = text.as_bytes();
+    raw::check_skips(bytes, skips).then(|| label_at(bytes, 0, skips, is_in_table)).ok_or(BadSkips)
 }
 
 /// Whether two labels match: their full case foldings are equal. (6.3)

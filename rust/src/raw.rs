@@ -10,7 +10,7 @@ use std::ffi::c_void;
 #[allow(dead_code)] // it has all numbers of the header, and some are for programs in C
 pub(crate) mod ffi;
 
-pub(crate) use ffi::{Label, LineStart, Text};
+pub(crate) use ffi::{LineStart, Text};
 
 /// What is left out at the front of a line: at `place`, that of the line's first byte, `length` bytes.
 #[repr(transparent)]
@@ -160,20 +160,35 @@ pub(crate) fn label_key(text: &str, buffer: &mut [u8]) -> Text {
     told(unsafe { ffi::mds_label_key(front(bytes), bytes.len(), buffer.as_mut_ptr(), buffer.len()) })
 }
 
-pub(crate) fn scan_html_tag_over_lines(bytes: &[u8], skips: &[Skip], buffer: &mut [u8]) -> Text {
-    let (room, capacity) = (buffer.as_mut_ptr(), buffer.len());
-    // SAFETY: each pointer and length are those of one slice, and what is written is a `&mut` of its own.
-    told(unsafe {
-        ffi::mds_scan_html_tag_over_lines(front(bytes), bytes.len(), table(skips), skips.len(), room, capacity)
-    })
+pub(crate) fn check_skips(bytes: &[u8], skips: &[Skip]) -> bool {
+    // SAFETY: each pointer and length are those of one slice, and nothing is written.
+    unsafe { ffi::mds_check_skips(front(bytes), bytes.len(), table(skips), skips.len()) == ffi::OK }
 }
 
-pub(crate) fn scan_link_label(text: &str, in_table: bool, skips: &[Skip], buffer: &mut [u8]) -> Label {
-    let (bytes, room, capacity) = (text.as_bytes(), buffer.as_mut_ptr(), buffer.len());
+pub(crate) fn scan_html_tag_over_lines(bytes: &[u8], start: usize, skips: &[Skip], buffer: &mut [u8]) -> ffi::Tag {
+    let (room, capacity) = (buffer.as_mut_ptr(), buffer.len());
     // SAFETY: each pointer and length are those of one slice, and what is written is a `&mut` of its own.
-    let label = unsafe {
-        ffi::mds_scan_link_label(front(bytes), bytes.len(), in_table, table(skips), skips.len(), room, capacity)
+    let tag = unsafe {
+        ffi::mds_scan_html_tag_over_lines(front(bytes), bytes.len(), start, table(skips), skips.len(), room, capacity)
     };
+    if tag.status == ffi::NO_MEMORY {
+        refused();
+    }
+    tag
+}
+
+pub(crate) fn scan_link_label(
+    bytes: &[u8],
+    start: usize,
+    in_table: bool,
+    skips: &[Skip],
+    buffer: &mut [u8],
+) -> ffi::Label {
+    let (listed, many) = (table(skips), skips.len());
+    let (room, capacity) = (buffer.as_mut_ptr(), buffer.len());
+    // SAFETY: each pointer and length are those of one slice, and what is written is a `&mut` of its own.
+    let label =
+        unsafe { ffi::mds_scan_link_label(front(bytes), bytes.len(), start, in_table, listed, many, room, capacity) };
     if label.status == ffi::NO_MEMORY {
         refused();
     }

@@ -167,6 +167,14 @@ pub struct Skip {
 
 #[repr(C)]
 #[derive(Clone, Copy, Debug, Default, PartialEq, Eq)]
+pub struct Tag {
+    pub status: u32,
+    pub end: usize,
+    pub length: usize,
+}
+
+#[repr(C)]
+#[derive(Clone, Copy, Debug, Default, PartialEq, Eq)]
 pub struct HtmlGuard {
     pub comment: usize,
     pub cdata: usize,
@@ -193,7 +201,7 @@ pub struct HtmlRun {
 #[derive(Clone, Copy, Debug, Default, PartialEq, Eq)]
 pub struct Label {
     pub status: u32,
-    pub taken: usize,
+    pub end: usize,
     pub length: usize,
     pub start: usize,
 }
@@ -243,17 +251,19 @@ extern "C" {
     pub fn mds_scan_link_dest(bytes: *const c_void, length: usize, start: usize, max_next: usize) -> Part;
     pub fn mds_scan_autolink(bytes: *const c_void, length: usize, start: usize) -> Part;
     pub fn mds_scan_wikilink_pipe(bytes: *const c_void, length: usize, start: usize, count: usize) -> Part;
+    pub fn mds_check_skips(bytes: *const c_void, length: usize, skips: *const Skip, skip_count: usize) -> u32;
     pub fn mds_starts_html_block_type_6(bytes: *const c_void, length: usize) -> bool;
     pub fn mds_scan_html_type_7(bytes: *const c_void, length: usize) -> usize;
     pub fn mds_scan_html_tag(bytes: *const c_void, length: usize) -> usize;
     pub fn mds_scan_html_tag_over_lines(
         bytes: *const c_void,
         length: usize,
+        start: usize,
         skips: *const Skip,
         skip_count: usize,
         buffer: *mut u8,
         capacity: usize,
-    ) -> Text;
+    ) -> Tag;
     pub fn mds_scan_inline_html(bytes: *const c_void, length: usize, place: usize, guard: *mut HtmlGuard) -> End;
     pub fn mds_run_inline_html(
         bytes: *const c_void,
@@ -266,8 +276,9 @@ extern "C" {
     pub fn mds_scan_entity(bytes: *const c_void, length: usize, buffer: *mut u8, capacity: usize) -> Text;
     pub fn mds_unescape(text: *const c_void, length: usize, in_table: bool, buffer: *mut u8, capacity: usize) -> Text;
     pub fn mds_scan_link_label(
-        text: *const c_void,
+        bytes: *const c_void,
         length: usize,
+        start: usize,
         in_table: bool,
         skips: *const Skip,
         skip_count: usize,
