@@ -532,7 +532,7 @@ uint32_t mds_labels_match(const void *one, size_t one_length, const void *other,
 
 /* The key of a label, its full case folding: two labels match exactly where their keys are the same bytes, so a table
  * of definitions may be one of keys. `taken` is the label's length. A buffer of three times the label is always enough.
- * MDS_NOT_UTF8. Memory is asked for: MDS_NO_MEMORY. (6.3) */
+ * MDS_NOT_UTF8. Memory is asked for where a byte is no ASCII: MDS_NO_MEMORY. (6.3) */
 struct mds_text mds_label_key(const void *text, size_t length, uint8_t *buffer, size_t capacity);
 
 #ifdef __cplusplus

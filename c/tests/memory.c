@@ -118,7 +118,7 @@ static struct told key(size_t room) {
 
 static struct told long_key(size_t room) {
     static char text[LONG];
-    memset(text, 'A', LONG);
+    memset(text, 'A', LONG), memcpy(text, "\xc3\x84", 2);
     return of_text(mds_label_key(given(BYTES, text, LONG), LONG, writable(BUFFER, room), room));
 }
 
@@ -255,6 +255,7 @@ static void sparing(void) {
     ASKS_NOT(mds_check_skips(OF("<a\n> b>"), (const struct mds_skip[]){{3, 2}}, 1), MDS_OK);
     ASKS_NOT(mds_check_skips(OF("<a\n> b>"), (const struct mds_skip[]){{3, 9}}, 1), MDS_BAD_SKIPS);
     ASKS_NOT(mds_label_key(OF("\xff"), NULL, 0).status, MDS_NOT_UTF8);
+    ASKS_NOT(mds_label_key(OF("Foo Bar"), NULL, 0).status, MDS_TOO_SHORT);
     ASKS_NOT(mds_scan_table_head(OF("a | b"), NULL, 0).status, MDS_NOTHING);
     ASKS_NOT(mds_scan_table_head(OF("- - -"), NULL, 0).status, MDS_NOTHING);
     ASKS_NOT(mds_scan_table_head(OF("    |-|-|"), NULL, 0).status, MDS_NOTHING);

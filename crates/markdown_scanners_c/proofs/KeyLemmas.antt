@@ -1,11 +1,12 @@
 -- The key of a label is at most three times as long, and two labels with one key match.
-use Rattle.std.proofs.Common.{ℕ, ◌↔◌, nat_eq, sym, ◌*◌, ◌≤◌, ◌<◌, ◌≡◌, List, [], ◌∷◌, length, length-append, nat_le, encode_utf8, encode_utf8_all, IsUtf8, chars, inl, inr, refl, ap, arith}
+use Rattle.std.proofs.Common.{ℕ, ◌↔◌, nat_eq, sym, ◌*◌, ◌≤◌, ◌<◌, ◌≡◌, ◌∙◌, List, [], ◌∷◌, length, length-append, nat_le, encode_utf8, encode_utf8_all, IsUtf8, IsAscii, map, chars, inl, inr, refl, ap, arith}
 use lib.Utf8.{encode}
 use Rattle.std.specs.Char.{len_utf8, to_ascii_lowercase}
 use Rattle.std.specs.Cmp.Lexicographic.{pointwise, same_text, other_text}
 use Rattle.std.proofs.lemmas.Bool.{cases_Bool, cases_lt, leb-true}
 use Rattle.std.proofs.lemmas.Bool.Decides.{nat_tests}
-use Rattle.std.proofs.lemmas.Str.{length-encode, encodes-append, encodes-chars, encodes_same}
+use Rattle.std.proofs.lemmas.Str.{length-encode, encodes-append, encodes-chars, encodes_same, chars-IsAscii, IsUtf8-from_ascii}
+use Rattle.std.proofs.lemmas.Str.Ascii.{IsAscii-map, lowercase_ascii}
 use Rattle.ucd_table.proofs.Computing.{tables}
 use Rattle.ucd_table.proofs.RangedFacts.{values_ok, Stepped-at_values}
 use Rattle.ucd_case.specs.CaseFolding.{full_folding, or_itself, full_fold}
@@ -13,6 +14,7 @@ use Rattle.ucd_case.proofs.CaseFoldingLemmas.{full_folding_stepped, full_fold-as
 use Rattle.caseless.specs.Caseless.{default_case_fold}
 use Rattle.caseless.proofs.CaselessLemmas.{default_case_fold-nil, default_case_fold-cons}
 use Rattle.markdown_scanners_tree.specs.linklabel.Key.{label_key}
+use Rattle.markdown_scanners_tree.proofs.linklabel.AsciiKeys.{label_key-ascii}
 use Rattle.markdown_scanners_c.specs.Keys.{key_bytes}
 use Rattle.markdown_scanners_c.specs.Labels.{match_status}
 use Rattle.markdown_scanners_c.specs.Status.{ok}
@@ -59,6 +61,13 @@ text_room (c ∷ cs) =
 
 pub key_room : (label : List ℕ) → IsUtf8 label → length (key_bytes label) ≤ 3 * length label
 key_room label text = omega (arith, text_room (chars label), ap length (encodes-chars label text))
+
+-- the key of an ASCII label is the label in lower case
+pub ascii_key : (label : List ℕ) → IsAscii label → key_bytes label ≡ map to_ascii_lowercase label
+ascii_key label ascii =
+    let lower = map to_ascii_lowercase label in
+    let is = IsAscii-map to_ascii_lowercase label lowercase_ascii ascii in
+    ap encode_utf8_all (label_key-ascii label ascii ∙ sym (chars-IsAscii lower is)) ∙ encodes-chars lower (IsUtf8-from_ascii lower is)
 
 -- two labels match exactly where their keys are the same bytes
 pub match_keys : (one other : List ℕ) → (match_status one other ≡ ok) ↔ (key_bytes one ≡ key_bytes other)

@@ -16,7 +16,7 @@ use Rattle.markdown_scanners_tree.specs.scanners.Escapes.{starts_escape}
 use Rattle.markdown_scanners_tree.proofs.linklabel.KeptTextSteps.{Goes, past_byte, at_byte, bracketed_after}
 use Rattle.markdown_scanners_tree.proofs.linklabel.SourceSteps.{IsAt, IsOnlySkip, at_start, none_at_end, none_at_opening, at_closing, from_closing, after_ending, none_at_ending, byte_rest}
 use Rattle.markdown_scanners_c.specs.Skips.{are_skips, are_ascii_skips, is_ascii_front, left_out, LeavesOut}
-use Rattle.markdown_scanners_c.specs.private.LabelText.{told_ascii, ToldAscii, IsWindow, ending_len}
+use Rattle.markdown_scanners_c.specs.private.LabelText.{told_ascii, ToldAscii, IsWindow, is_mark, ending_len}
 use Rattle.markdown_scanners_c.specs.private.Searched.{searched}
 use Rattle.markdown_scanners_c.specs.declared.skips.Skip.{Skip}
 use Rattle.markdown_scanners_c.proofs.LabelLemmas.{front_at}
@@ -420,6 +420,15 @@ module _ (skips : List Skip) (bytes behind : List ℕ) (stand : are_skips skips 
           let escape : starts_escape rest ≡ (byte == 92 && begins_with is_punctuation others) =
           ap starts_escape slice ∙ escape_at byte others in
           rw (first, escape) (walks_on byte others front plain none.0 none.1)
+
+      pub turn_goes_on : is_mark byte ≡ false → IsWalked start false (place + 1) (count + begun byte)
+      turn_goes_on plain =
+          let line = or_parts (is_line_ending byte) _ plain in
+          let opening = or_parts (byte == 91) _ line.1 in
+          let escape = or_parts (byte == 92) (byte == 93) opening.1 in
+          subst (λ e. IsWalked start e (place + 1) (count + begun byte))
+              (ap (λ x. not escaped && (x && begins_with is_punctuation others)) escape.0 ∙ and-false (not escaped))
+              (walks_on byte others front line.0 (λ no. escape.1) (λ no. opening.0))
 
       pub turn_skips : (len : ℕ) → len ≡ ending_len rest → 0 < len → place + len ≤ length bytes
           → place + len + left_out skips (place + len) ≤ length bytes

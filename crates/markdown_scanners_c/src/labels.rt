@@ -11,7 +11,7 @@ ghost use Rattle.markdown_scanners_c.specs.Keys.{key_bytes};
 ghost use Rattle.markdown_scanners_c.specs.Labels.{IsNoLabelText, IsLabelText, IsScannedLabel, match_status};
 ghost use Rattle.markdown_scanners_c.specs.Skips.{are_skips, are_ascii_skips};
 ghost use Rattle.markdown_scanners_c.specs.Status.{ok, not_utf8, past_end};
-ghost use Rattle.markdown_scanners_c.specs.private.LabelText.{told_ascii, IsWindow, IsWindowLabel, ending_len, space_len};
+ghost use Rattle.markdown_scanners_c.specs.private.LabelText.{told_ascii, IsWindow, IsWindowLabel, is_mark, ending_len, space_len};
 
 use crate::skips::{Skip, searched, told_ascii};
 use crate::status::{NO_MEMORY, NONE, NOT_UTF8, NOTHING, OK, PAST_END};
@@ -88,6 +88,12 @@ fn label_end(bytes: &[u8], start: usize, skips: &[Skip]) -> usize
 {
     let (mut place, mut escaped, mut characters) = (start, false, 0);
     while place < bytes.len() && characters <= MOST_CHARACTERS {
+        if !is_mark(bytes[place]) {
+            characters += begun_at(bytes[place]);
+            escaped = false;
+            place += 1;
+            continue;
+        }
         let rest = &bytes[place..];
         let ending = ending_len(rest);
         if ending > 0 {
@@ -106,6 +112,13 @@ fn label_end(bytes: &[u8], start: usize, skips: &[Skip]) -> usize
         }
     }
     place
+}
+
+// Whether a line ending, a bracket or an escape may begin at the byte.
+fn is_mark(byte: u8) -> bool
+    ensures { result ≡ is_mark byte }
+{
+    matches!(byte, b'\n' | b'\r' | b'[' | b'\\' | b']')
 }
 
 // How many bytes the line ending at the front takes, or 0.

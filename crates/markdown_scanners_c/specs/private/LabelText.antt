@@ -1,7 +1,7 @@
 -- What is told within a scan of a label.
-use Rattle.std.specs.Prelude.{ℕ, Bool, List, Option, Some, None, ◌≡◌, ◌-◌, ◌+◌, ◌==◌, length, take, drop, if◌then◌else◌}
+use Rattle.std.specs.Prelude.{ℕ, Bool, List, Option, Some, None, ◌≡◌, ◌-◌, ◌+◌, ◌==◌, ◌||◌, length, take, drop, if◌then◌else◌}
 use Rattle.std.specs.Str.{IsUtf8}
-use Rattle.markdown_scanners_tree.specs.Ascii.{space}
+use Rattle.markdown_scanners_tree.specs.Ascii.{space, left_bracket, backslash, right_bracket}
 use Rattle.markdown_scanners_tree.specs.Bytes.{begins_with, is_line_ending}
 use Rattle.markdown_scanners_tree.specs.Kept.{line_len}
 use Rattle.markdown_scanners_tree.specs.linklabel.Label.{Label, IsLabel}
@@ -32,6 +32,10 @@ pub record IsWindow (skips : List Skip) (bytes : List ℕ) (start end : ℕ) : T
       → IsLabel (LeavesOut skips bytes) (drop start bytes) in_table label
   pub ends : (in_table : Bool) (label : Label) → IsLabel (LeavesOut skips bytes) (drop start bytes) in_table label
       → start + label.len ≡ end
+
+-- a line ending, a bracket or an escape may begin at the byte
+abbrev pub is_mark : ℕ → Bool
+is_mark b = is_line_ending b || (b == left_bracket || (b == backslash || b == right_bracket))
 
 -- how many bytes the line ending at the front takes, or none
 abbrev pub ending_len : List ℕ → ℕ

@@ -1,6 +1,6 @@
 -- Each turn takes a step of the scan.
 use Rattle.std.proofs.Common.{◌≡◌, ◌∙◌, ◌++◌, sym, refl, arith, length}
-use Rattle.markdown_scanners_c.proofs.LabelEnds.{walk_starts, ends_at_end, ends_late, turn_ends, turn_passes, turn_skips, turn_ends_in_skip}
+use Rattle.markdown_scanners_c.proofs.LabelEnds.{walk_starts, ends_at_end, ends_late, turn_ends, turn_passes, turn_goes_on, turn_skips, turn_ends_in_skip}
 use Rattle.markdown_scanners_c.proofs.labels.label_end.Goals as goal
 
 pub loop-place-init : goal.loop-place-init
@@ -36,6 +36,16 @@ returns-then-ends_label-clause-window c behind stand ascii =
     c.loop-place.characters (c.loop-place.invariant.walked behind stand ascii) c.loop-place-test.true _ refl
     (sym c.ends_label.ensures ∙ c.if-ends_label.true)
 
+pub loop-place-preserved-then-not-is_mark : goal.loop-place-preserved-then-not-is_mark
+loop-place-preserved-then-not-is_mark c = record {
+  behind_start = omega (arith, c.loop-place.invariant.behind_start);
+  within = omega (arith, c.loop-place-test.true);
+  walked = λ behind stand ascii. rw c.begun_at-characters.ensures.begins (
+      turn_goes_on c.args.skips.now c.args.bytes.now behind stand ascii c.args.start c.loop-place.escaped c.loop-place.place
+      c.loop-place.characters (c.loop-place.invariant.walked behind stand ascii) c.loop-place-test.true _ refl
+      (sym c.is_mark.ensures ∙ c.if-not-is_mark.true));
+}
+
 pub loop-place-preserved : goal.loop-place-preserved
 loop-place-preserved c = record {
   behind_start = omega (arith, c.loop-place.invariant.behind_start);
@@ -45,7 +55,7 @@ loop-place-preserved c = record {
       let walk = turn_passes c.args.skips.now c.args.bytes.now behind stand ascii c.args.start c.loop-place.escaped c.loop-place.place
       c.loop-place.characters (c.loop-place.invariant.walked behind stand ascii) c.loop-place-test.true _ refl
       (sym c.ending_len-ending.ensures.takes ∙ line) (sym c.ends_label.ensures ∙ c.if-ends_label.false) in
-      rw (c.escapes-escaped.ensures, c.begun_at-characters.ensures.begins) walk);
+      rw (c.escapes-escaped.ensures, c.begun_at-characters-else-ends_label.ensures.begins) walk);
 }
 
 pub returns-else-characters-le-MOST_CHARACTERS-clause-window : goal.returns-else-characters-le-MOST_CHARACTERS-clause-window
