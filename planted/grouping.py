@@ -1,9 +1,11 @@
 """Tries several wrong bodies in one check, each in functions of its own.
 
 A function is proved from its body and from the contracts of what it calls. So where each edit of a group stands in other
-functions, the prover refuses in one check what it refuses in a check of each edit. It says of a function that calls a refused
-one that it waits for that: then nothing is known of its own body, and it is tried in a later group, or alone. A group where a
-function that has no edit is refused for itself shows nothing.
+functions, the prover refuses in one check what it refuses in a check of each edit. The check is of these functions and of
+what they call: the functions that rest on them are not looked at. Of a function that calls a refused one the prover says that
+it waits for that, and then nothing is known of its own body. So no function of a group rests on another, as far as names
+tell; an edit that waits all the same is tried alone. A group where a function that has no edit is refused for itself shows
+nothing.
 """
 import re
 import sys
@@ -15,8 +17,10 @@ sys.path.insert(0, str(TOP / "docs"))
 from reading import in_braces, items_of
 
 MOST = 16
+PROVED = re.compile(r"^fn (\S+): proved$", re.M)
 NOT_PROVED = re.compile(r"^fn (\S+): (?:not proved|no proof)\b(.*)", re.M)
 WAITS = "it calls"
+ONLY = re.compile(r"only=[1-9]\d* proved=\d+")
 # A proof file that names what an edit took away: its folder, which is its function's, and its name.
 NAMES_WHAT_IS_GONE = re.compile(
     r"^\S*?(\w+)/(\w+)\.antt:\d\S* .*(?:has no field|is not in scope|has no `|was not admitted)", re.M
@@ -70,30 +74,33 @@ def callers(crate):
     return {key: {it for it in called if key[1] in called[it]} - {key} for key in called}
 
 
-def waiting_for(crate, key):
-    """How many functions of the crate rest on this one, near or far. All of them are looked at again where it is not proved."""
+@cache
+def resting_on(crate, key):
+    """The functions of the crate that seem to rest on this one, near or far."""
     found, new = set(), {key}
     while new:
         found |= new
         new = set().union(*(callers(crate)[it] for it in new)) - found
-    return len(found)
+    return found
 
 
 def groups_of(edits):
-    """Groups of edits, no two in functions of one key, as dicts of edits and changed lines by key. Functions on which many rest
-    are in one group, so that few groups have the prover look at many functions."""
+    """Groups of edits, no two in functions of one key or in functions of which one rests on another, as dicts of edits and
+    changed lines by key. Functions on which many rest come first: what is left then fits into few groups."""
     found, groups = [], []
     for edit in edits:
         lines = changed_lines(edit)
         if keys := functions_of(edit, lines):
-            found.append((max(waiting_for(crate_of(edit), key) for key in keys), keys, (edit, lines)))
-    for _, keys, change in sorted(found, key=lambda it: -it[0]):
-        group = next((it for it in groups if not it.keys() & set(keys) and len(it) < MOST), None)
-        if group is None:
-            group = {}
-            groups.append(group)
-        group.update(dict.fromkeys(keys, change))
-    return [it for it in groups if len(it) > 1]
+            resting = set().union(*(resting_on(crate_of(edit), key) for key in keys))
+            found.append((resting, keys, (edit, lines)))
+    for resting, keys, change in sorted(found, key=lambda it: -len(it[0])):
+        fitting = [it for it in groups if not (resting & it[0].keys() or it[1] & set(keys)) and len(it[0]) < MOST]
+        if not fitting:
+            fitting = [({}, set())]
+            groups += fitting
+        fitting[0][0].update(dict.fromkeys(keys, change))
+        fitting[0][1].update(resting)
+    return [group for group, _ in groups]
 
 
 def texts_of(group):
@@ -114,11 +121,16 @@ def key_named(name, keys):
     return max(found, key=lambda key: len(key[0]), default=None)
 
 
+def asked_for(group, names):
+    """The flags by which a check is of the functions of a group alone, by the prover's names for all functions."""
+    paths = [name.partition("::")[2] for name in names if "::" in name and key_named(name, group)]
+    return [word for path in paths for word in ("--only", path)]
+
+
 def refused_in(group, said):
-    """The edits of a group that a check shows to be refused, by what it said: none where it can't be read so."""
+    """The edits of a group that a check of its functions shows to be refused, by what it said: none where it can't be read so."""
     gone = NAMES_WHAT_IS_GONE.findall(said)
-    is_read = said.rstrip("\n").rpartition("\n")[2].startswith("logic=not-proved")
-    if not is_read or any(file not in OF_A_FUNCTION for _, file in gone):
+    if not ONLY.fullmatch(said.rstrip("\n").rpartition("\n")[2]) or any(file not in OF_A_FUNCTION for _, file in gone):
         return []
     keys = [key_named(name, group) for name, why in NOT_PROVED.findall(said) if WAITS not in why]
     if None in keys or len(set(keys)) < len(keys):

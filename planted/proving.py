@@ -7,7 +7,6 @@ import os
 import shutil
 import subprocess
 import sys
-import tempfile
 import threading
 import time
 from concurrent.futures import ThreadPoolExecutor
@@ -16,7 +15,7 @@ from importlib.util import module_from_spec, spec_from_loader
 from pathlib import Path
 
 from edits import TOP, crate_of, free_memory
-from grouping import groups_of, refused_in, texts_of
+from grouping import PROVED, asked_for, groups_of, refused_in, texts_of
 
 ONE_JOB = ["--jobs", "1"]
 
@@ -34,7 +33,7 @@ def rt_program():
 
 def build_libraries():
     """Builds the libraries in the tree itself."""
-    for crate in ("markdown_values", "markdown_scanners_tree"):
+    for crate in ("markdown_values", "markdown_scanners_tree", "html_entities"):
         if subprocess.run(["rt", "lib"], cwd=TOP / "crates" / crate, stdout=subprocess.DEVNULL).returncode:
             raise SystemExit(f"planted: {crate} is not proved as it stands, so its edits say nothing")
 
@@ -64,41 +63,38 @@ class Room:
             del self.begun[check]
 
 
-def shown(rt, crate, group, kept):
+def shown(rt, crate, group, names, kept):
     """The edits of a group that one check shows to be refused."""
     texts = texts_of(group)
-    said = rt.checked(crate, texts, ONE_JOB, kept).stdout
+    said = rt.checked(crate, texts, [*ONE_JOB, *asked_for(group, names)], kept).stdout
     return [] if any(rt.unread(line, texts) for line in said.split("\n")) else refused_in(group, said)
 
 
-def tried_over(rt, crate, edits, lanes, kept):
-    """The edits that groups show to be refused, and what rt says of each other one, alone. What waited in a group is grouped
-    once more."""
+def tried_over(rt, crate, edits, names, lanes, kept):
+    """The edits that groups show to be refused, and what rt says of each other one, alone."""
     room = Room()
     with ThreadPoolExecutor(lanes) as pool:
         alone = lambda edit: pool.submit(room.run, lambda: rt.must_fail(crate, str(edit), ONE_JOB, kept))
-        begin = lambda group: pool.submit(room.run, lambda: shown(rt, crate, group, kept))
-        first = groups_of(edits)
-        found = [begin(group) for group in first]
-        in_groups = {edit for group in first for edit, _ in group.values()}
+        groups = groups_of(edits)
+        in_groups = {edit for group in groups for edit, _ in group.values()}
         said = {edit: alone(edit) for edit in edits if edit not in in_groups}
+        found = [pool.submit(room.run, lambda it=group: shown(rt, crate, it, names, kept)) for group in groups]
         refused = {edit for it in found for edit in it.result()}
-        found = [begin(group) for group in groups_of([it for it in edits if it in in_groups - refused])]
-        refused |= {edit for it in found for edit in it.result()}
         said |= {edit: alone(edit) for edit in edits if edit in in_groups - refused}
         return refused, {edit: it.result() for edit, it in said.items()}
 
 
 def tried(rt, crate, edits, lanes):
     """Whether each edit is refused, and what rt says of it where it was tried alone. That the crate is proved as it stands is
-    seen before and after."""
-    with tempfile.TemporaryDirectory(prefix="planted-") as kept:
-        is_proved = lambda jobs: not rt.checked(crate, {}, jobs, kept).returncode
-        if not is_proved(["--jobs", str(lanes)]):
-            raise SystemExit(f"planted: {crate.name} is not proved as it stands, so its edits say nothing")
-        refused, said = tried_over(rt, crate, edits, lanes, kept)
-        if not is_proved(ONE_JOB):
-            raise SystemExit(f"planted: {crate.name} is not proved over what its edits left, so they say nothing")
+    seen before and after. What is checked is kept where `rt check` and `rt lib` keep theirs, for these too."""
+    kept = Path(crate.folder) / "out/incremental"
+    kept.mkdir(parents=True, exist_ok=True)
+    proof = rt.checked(crate, {}, ["--jobs", str(lanes)], kept)
+    if proof.returncode:
+        raise SystemExit(f"planted: {crate.name} is not proved as it stands, so its edits say nothing")
+    refused, said = tried_over(rt, crate, edits, PROVED.findall(proof.stdout), lanes, kept)
+    if rt.checked(crate, {}, ONE_JOB, kept).returncode:
+        raise SystemExit(f"planted: {crate.name} is not proved over what its edits left, so they say nothing")
     print(f"{crate.name}: {len(refused)} tried in groups, {len(said)} alone", flush=True)
     return [(True, "") if it in refused else said[it] for it in edits]
 
