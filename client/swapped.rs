@@ -201,15 +201,15 @@ fn has_line_ending(text: &str) -> bool {
 const LABEL: usize = 4 * 999;
 
 /// Behind the first bracket that no backslash escapes, with what the handler leaves out of the lines up to there; None where
-/// there is no bracket in so many bytes, or where the handler wants no more lines.
+/// it stands in the first line, where there is none in so many bytes, or where the handler wants no more lines.
 fn lines_of_label(bytes: &[u8], handler: &dyn Fn(&[u8]) -> Option<usize>) -> Option<(usize, Vec<Skip>)> {
     let mut skips = Vec::new();
-    let mut ix = 0;
+    let (mut ix, mut line) = (0, 0);
     for _ in 0..=LABEL {
         match *bytes.get(ix)? {
-            b'[' | b']' => return Some((ix + 1, skips)),
+            b'[' | b']' => return (line > 0).then_some((ix + 1, skips)),
             b'\n' | b'\r' => {
-                let line = ix + scan_eol(&bytes[ix..])?;
+                line = ix + scan_eol(&bytes[ix..])?;
                 ix = leave_out(line, handler(&bytes[line..])?, &mut skips);
             }
             b'\\' if bytes.get(ix + 1).map_or(false, |next| is_ascii_punctuation(*next)) => ix += 2,

@@ -23,9 +23,11 @@ pub fn kind_of(note: &Note) -> &'static str {
         "scan_table_head" if has_empty_cell(line(input)) && note.swapped == "(0, [])" => "cells without a hyphen",
         "scan_table_head" if opener == b' ' && note.before.contains("[None, ") => "delimiter rows with an indent",
         "starts_html_block_type_6" if has_changed_name(input) => "names of HTML blocks",
+        "scan_inline_html_comment" | "scan_inline_html_processing" | "scan_html_block_inner" if opener == b'\\' => {
+            "openers with a backslash"
+        }
         "scan_html_block_inner" if finds_more && input.starts_with(b"</") => "closing tags over lines",
         "scan_html_block_inner" if note.before.starts_with("Some(([60, ") => "tags over lines of a container",
-        "scan_inline_html_comment" | "scan_inline_html_processing" if opener == b'\\' => "openers with a backslash",
         "scan_inline_html_comment" if input.starts_with(b"<!-") => "comments",
         "scan_inline_html_comment" if input.starts_with(b"<![CDATA[") => "CDATA sections",
         "scan_inline_html_comment" if input[2..].first().map_or(false, u8::is_ascii_alphabetic) => "declarations",
