@@ -8,6 +8,7 @@ use crate::values::{found, Alignment, HeadingLevel};
 /// ```
 /// assert!(markdown_scanners::is_ascii_whitespace(b'\n'));
 /// ```
+#[inline]
 pub fn is_ascii_whitespace(byte: u8) -> bool {
     raw::is_whitespace(byte)
 }
@@ -17,6 +18,7 @@ pub fn is_ascii_whitespace(byte: u8) -> bool {
 /// ```
 /// assert!(!markdown_scanners::is_ascii_whitespace_no_nl(b'\n'));
 /// ```
+#[inline]
 pub fn is_ascii_whitespace_no_nl(byte: u8) -> bool {
     raw::is_whitespace_in_line(byte)
 }
@@ -26,6 +28,7 @@ pub fn is_ascii_whitespace_no_nl(byte: u8) -> bool {
 /// ```
 /// assert!(markdown_scanners::is_ascii_punctuation(b'!'));
 /// ```
+#[inline]
 pub fn is_ascii_punctuation(byte: u8) -> bool {
     raw::is_punctuation(byte)
 }
@@ -35,6 +38,7 @@ pub fn is_ascii_punctuation(byte: u8) -> bool {
 /// ```
 /// assert_eq!(markdown_scanners::scan_ch(b"#a", b'#'), 1);
 /// ```
+#[inline]
 pub fn scan_ch(data: &[u8], byte: u8) -> usize {
     raw::scan_ch(data, byte)
 }
@@ -44,6 +48,7 @@ pub fn scan_ch(data: &[u8], byte: u8) -> usize {
 /// ```
 /// assert_eq!(markdown_scanners::scan_ch_repeat(b"##a", b'#'), 2);
 /// ```
+#[inline]
 pub fn scan_ch_repeat(data: &[u8], byte: u8) -> usize {
     raw::scan_ch_repeat(data, byte)
 }
@@ -53,6 +58,7 @@ pub fn scan_ch_repeat(data: &[u8], byte: u8) -> usize {
 /// ```
 /// assert_eq!(markdown_scanners::scan_whitespace_no_nl(b" \t\n"), 2);
 /// ```
+#[inline]
 pub fn scan_whitespace_no_nl(data: &[u8]) -> usize {
     raw::scan_whitespace_in_line(data)
 }
@@ -63,6 +69,7 @@ pub fn scan_whitespace_no_nl(data: &[u8]) -> usize {
 /// assert_eq!(markdown_scanners::scan_eol(b"\r\na"), Some(2));
 /// assert_eq!(markdown_scanners::scan_eol(b"a"), None);
 /// ```
+#[inline]
 pub fn scan_eol(bytes: &[u8]) -> Option<usize> {
     found(raw::scan_eol(bytes))
 }
@@ -72,6 +79,7 @@ pub fn scan_eol(bytes: &[u8]) -> Option<usize> {
 /// ```
 /// assert_eq!(markdown_scanners::scan_line(b"a\rb\n"), 2);
 /// ```
+#[inline]
 pub fn scan_line(bytes: &[u8]) -> usize {
     raw::scan_line(bytes)
 }
@@ -81,6 +89,7 @@ pub fn scan_line(bytes: &[u8]) -> usize {
 /// ```
 /// assert_eq!(markdown_scanners::scan_nextline(b"a\rb\nc"), 4);
 /// ```
+#[inline]
 pub fn scan_nextline(bytes: &[u8]) -> usize {
     raw::scan_nextline(bytes)
 }
@@ -90,6 +99,7 @@ pub fn scan_nextline(bytes: &[u8]) -> usize {
 /// ```
 /// assert_eq!(markdown_scanners::scan_blank_line(b" \t\na"), Some(3));
 /// ```
+#[inline]
 pub fn scan_blank_line(bytes: &[u8]) -> Option<usize> {
     found(raw::scan_blank_line(bytes))
 }
@@ -99,6 +109,7 @@ pub fn scan_blank_line(bytes: &[u8]) -> Option<usize> {
 /// ```
 /// assert_eq!(markdown_scanners::scan_blockquote_start(b"> a"), Some(2));
 /// ```
+#[inline]
 pub fn scan_blockquote_start(data: &[u8]) -> Option<usize> {
     found(raw::scan_blockquote_start(data))
 }
@@ -109,6 +120,7 @@ pub fn scan_blockquote_start(data: &[u8]) -> Option<usize> {
 /// ```
 /// assert_eq!(markdown_scanners::scan_listitem(b"10. a"), Some((4, b'.', 10, 4)));
 /// ```
+#[inline]
 pub fn scan_listitem(bytes: &[u8]) -> Option<(usize, u8, usize, usize)> {
     let item = raw::scan_listitem(bytes);
     found(item.length).map(|length| (length, item.delimiter, item.start, item.indent))
@@ -123,6 +135,7 @@ pub fn scan_listitem(bytes: &[u8]) -> Option<(usize, u8, usize, usize)> {
 /// ```
 /// assert_eq!(markdown_scanners::calc_indent(b"\t x", 8), (2, 5));
 /// ```
+#[inline]
 pub fn calc_indent(text: &[u8], max: usize) -> (usize, usize) {
     let indent = raw::calc_indent(text, max);
     assert_eq!(indent.status, ffi::OK, "the limit is too large: {max}");
@@ -135,6 +148,7 @@ pub fn calc_indent(text: &[u8], max: usize) -> (usize, usize) {
 /// assert_eq!(markdown_scanners::scan_hrule(b"* * *\n"), Ok(6));
 /// assert_eq!(markdown_scanners::scan_hrule(b"* * a"), Err(4));
 /// ```
+#[inline]
 pub fn scan_hrule(bytes: &[u8]) -> Result<usize, usize> {
     let line = raw::scan_hrule(bytes);
     found(line.length).ok_or(line.none_before)
@@ -146,6 +160,7 @@ pub fn scan_hrule(bytes: &[u8]) -> Result<usize, usize> {
 /// use markdown_scanners::{scan_atx_heading, HeadingLevel};
 /// assert_eq!(scan_atx_heading(b"## a"), Some(HeadingLevel::H2));
 /// ```
+#[inline]
 pub fn scan_atx_heading(data: &[u8]) -> Option<HeadingLevel> {
     HeadingLevel::of(raw::scan_atx_heading(data))
 }
@@ -156,6 +171,7 @@ pub fn scan_atx_heading(data: &[u8]) -> Option<HeadingLevel> {
 /// use markdown_scanners::{scan_setext_heading, HeadingLevel};
 /// assert_eq!(scan_setext_heading(b"---\na"), Some((4, HeadingLevel::H2)));
 /// ```
+#[inline]
 pub fn scan_setext_heading(data: &[u8]) -> Option<(usize, HeadingLevel)> {
     let line = raw::scan_setext_heading(data);
     found(line.length).zip(HeadingLevel::of(line.level))
@@ -168,6 +184,7 @@ pub fn scan_setext_heading(data: &[u8]) -> Option<(usize, HeadingLevel)> {
 /// use markdown_scanners::{scan_table_head, Alignment};
 /// assert_eq!(scan_table_head(b"|-|:-:|\n"), (8, vec![Alignment::None, Alignment::Center]));
 /// ```
+#[inline]
 pub fn scan_table_head(data: &[u8]) -> (usize, Vec<Alignment>) {
     let mut room = [0; 64];
     let text = raw::scan_table_head(data, &mut room);
@@ -192,6 +209,7 @@ fn fence(told: ffi::Fence) -> Option<(usize, u8)> {
 /// ```
 /// assert_eq!(markdown_scanners::scan_code_fence(b"~~~~ rust"), Some((4, b'~')));
 /// ```
+#[inline]
 pub fn scan_code_fence(data: &[u8]) -> Option<(usize, u8)> {
     fence(raw::scan_code_fence(data))
 }
@@ -202,6 +220,7 @@ pub fn scan_code_fence(data: &[u8]) -> Option<(usize, u8)> {
 /// ```
 /// assert_eq!(markdown_scanners::scan_closing_code_fence(b"```` \n", b'`', 3), Some(5));
 /// ```
+#[inline]
 pub fn scan_closing_code_fence(bytes: &[u8], fence: u8, count: usize) -> Option<usize> {
     found(raw::scan_closing_code_fence(bytes, fence, count))
 }
@@ -211,6 +230,7 @@ pub fn scan_closing_code_fence(bytes: &[u8], fence: u8, count: usize) -> Option<
 /// ```
 /// assert_eq!(markdown_scanners::scan_metadata_block(b"---\na: b\n---\n", true, false), Some((3, b'-')));
 /// ```
+#[inline]
 pub fn scan_metadata_block(data: &[u8], yaml_style: bool, pluses_style: bool) -> Option<(usize, u8)> {
     fence(raw::scan_metadata_block(data, yaml_style, pluses_style))
 }
@@ -220,6 +240,7 @@ pub fn scan_metadata_block(data: &[u8], yaml_style: bool, pluses_style: bool) ->
 /// ```
 /// assert_eq!(markdown_scanners::scan_closing_metadata_block(b"...\n", b'-'), Some(3));
 /// ```
+#[inline]
 pub fn scan_closing_metadata_block(bytes: &[u8], fence: u8) -> Option<usize> {
     found(raw::scan_closing_metadata_block(bytes, fence))
 }

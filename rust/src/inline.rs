@@ -2,6 +2,7 @@
 
 use std::borrow::Cow;
 use std::hash::{Hash, Hasher};
+use std::ops::Range;
 
 use crate::raw::{self, ffi, Skip};
 use crate::values::{found, BadSkips, LinkType};
@@ -10,6 +11,14 @@ use crate::values::{found, BadSkips, LinkType};
 const SMALL: usize = 256;
 /// Bytes that each character reference has room in.
 const REFERENCE: usize = 6;
+
+/// Gives room for so many bytes, of the stack where they are few.
+fn with_room<T>(length: usize, call: impl FnOnce(&mut [u8]) -> T) -> T {
+    match length {
+        0..=SMALL => call(&mut [0; SMALL]),
+        _ => call(&mut vec![0; length]),
+    }
+}
 
 fn string(bytes: Vec<u8>) -> String {
     String::from_utf8(bytes).expect("texts that are made of a text are UTF-8")
@@ -39,6 +48,7 @@ fn check_place(data: &str, start: usize) {
 /// ```
 /// assert_eq!(markdown_scanners::scan_wikilink_pipe("[[a|b]]", 2, 3), Some((4, "a")));
 /// ```
+#[inline]
 pub fn scan_wikilink_pipe(data: &str, start_ix: usize, len: usize) -> Option<(usize, &str)> {
     check_place(data, start_ix);
     text_part(raw::scan_wikilink_pipe(data.as_bytes(), start_ix, len), data)
@@ -49,6 +59,7 @@ pub fn scan_wikilink_pipe(data: &str, start_ix: usize, len: usize) -> Option<(us
 /// ```
 /// assert_eq!(markdown_scanners::scan_wikilink_pipe_bytes(b"\xff|", 0, 2), Some((2, &b"\xff"[..])));
 /// ```
+#[inline]
 pub fn scan_wikilink_pipe_bytes(data: &[u8], start_ix: usize, len: usize) -> Option<(usize, &[u8])> {
     part(raw::scan_wikilink_pipe(data, start_ix, len), data)
 }
@@ -63,6 +74,7 @@ pub fn scan_wikilink_pipe_bytes(data: &[u8], start_ix: usize, len: usize) -> Opt
 /// ```
 /// assert_eq!(markdown_scanners::scan_link_dest("[a](<b c>)", 4, 31), Some((5, "b c")));
 /// ```
+#[inline]
 pub fn scan_link_dest(data: &str, start_ix: usize, max_next: usize) -> Option<(usize, &str)> {
     check_place(data, start_ix);
     let told = text_part(raw::scan_link_dest(data.as_bytes(), start_ix, max_next), data);
@@ -74,6 +86,7 @@ pub fn scan_link_dest(data: &str, start_ix: usize, max_next: usize) -> Option<(u
 /// ```
 /// assert_eq!(markdown_scanners::scan_link_dest_bytes(b"\xff )", 0, 31), Some((1, &b"\xff"[..])));
 /// ```
+#[inline]
 pub fn scan_link_dest_bytes(data: &[u8], start_ix: usize, max_next: usize) -> Option<(usize, &[u8])> {
     let told = part(raw::scan_link_dest(data, start_ix, max_next), data);
     told.map(|(end, text)| (end - start_ix, text))
@@ -89,6 +102,7 @@ pub fn scan_link_dest_bytes(data: &[u8], start_ix: usize, max_next: usize) -> Op
 /// use markdown_scanners::{scan_autolink, LinkType};
 /// assert_eq!(scan_autolink("<https://a.b>", 1), Some((13, "https://a.b".into(), LinkType::Autolink)));
 /// ```
+#[inline]
 pub fn scan_autolink(text: &str, start_ix: usize) -> Option<(usize, Cow<'_, str>, LinkType)> {
     check_place(text, start_ix);
     let told = text_part(raw::scan_autolink(text.as_bytes(), start_ix), text);
@@ -100,6 +114,7 @@ pub fn scan_autolink(text: &str, start_ix: usize) -> Option<(usize, Cow<'_, str>
 /// ```
 /// assert_eq!(markdown_scanners::scan_autolink_bytes(b"<ab:\xff>", 1), Some((6, &b"ab:\xff"[..])));
 /// ```
+#[inline]
 pub fn scan_autolink_bytes(data: &[u8], start_ix: usize) -> Option<(usize, &[u8])> {
     part(raw::scan_autolink(data, start_ix), data)
 }
@@ -109,6 +124,7 @@ pub fn scan_autolink_bytes(data: &[u8], start_ix: usize) -> Option<(usize, &[u8]
 /// ```
 /// assert!(markdown_scanners::starts_html_block_type_6(b"div>"));
 /// ```
+#[inline]
 pub fn starts_html_block_type_6(data: &[u8]) -> bool {
     raw::starts_html_block_type_6(data)
 }
@@ -118,6 +134,7 @@ pub fn starts_html_block_type_6(data: &[u8]) -> bool {
 /// ```
 /// assert_eq!(markdown_scanners::scan_html_type_7(b"<b> \n"), Some(3));
 /// ```
+#[inline]
 pub fn scan_html_type_7(data: &[u8]) -> Option<usize> {
     found(raw::scan_html_type_7(data))
 }
@@ -127,6 +144,7 @@ pub fn scan_html_type_7(data: &[u8]) -> Option<usize> {
 /// ```
 /// assert_eq!(markdown_scanners::scan_html_tag(b"<b c='d'> e"), Some(9));
 /// ```
+#[inline]
 pub fn scan_html_tag(data: &[u8]) -> Option<usize> {
     found(raw::scan_html_tag(data))
 }
@@ -139,6 +157,7 @@ pub fn scan_html_tag(data: &[u8]) -> Option<usize> {
 /// let tag = scan_html_block_inner(b"<foo\n> bar>", &[Skip::new(5, 2)]);
 /// assert_eq!(tag, Ok(Some((b"<foo\nbar>".to_vec(), 11))));
 /// ```
+#[inline]
 pub fn scan_html_block_inner(data: &[u8], skips: &[Skip]) -> Result<Option<(Vec<u8>, usize)>, BadSkips> {
     Ok(Page::new(data, skips)?.scan_tag(0).map(|(end, text)| (text.unwrap_or_default(), end)))
 }
@@ -167,6 +186,7 @@ impl<'page> Page<'page> {
     /// use markdown_scanners::{BadSkips, Page, Skip};
     /// assert_eq!(Page::new(b"a", &[Skip::new(1, 1)]).unwrap_err(), BadSkips);
     /// ```
+    #[inline]
     pub fn new(bytes: &'page [u8], skips: &'page [Skip]) -> Result<Self, BadSkips> {
         raw::check_skips(bytes, skips).then_some(Page { bytes, skips }).ok_or(BadSkips)
     }
@@ -181,6 +201,7 @@ impl<'page> Page<'page> {
     /// let page = markdown_scanners::Page::new(b"a b]", &[]).unwrap();
     /// assert_eq!(page.up_to(3).scan_label(0, false), None);
     /// ```
+    #[inline]
     pub fn up_to(self, end: usize) -> Self {
         Page { bytes: &self.bytes[..end], ..self }
     }
@@ -191,6 +212,7 @@ impl<'page> Page<'page> {
     /// let page = markdown_scanners::Page::new(b"a <b\nc>", &[]).unwrap();
     /// assert_eq!(page.scan_tag(2), Some((7, None)));
     /// ```
+    #[inline]
     pub fn scan_tag(&self, start: usize) -> Option<(usize, Option<Vec<u8>>)> {
         let mut room = [0; SMALL];
         let tag = raw::scan_html_tag_over_lines(self.bytes, start, self.skips, &mut room);
@@ -212,29 +234,27 @@ impl<'page> Page<'page> {
     /// let page = markdown_scanners::Page::new(b"[a  b]: c", &[]).unwrap();
     /// assert_eq!(page.scan_label(1, false), Some((6, "a b".into())));
     /// ```
+    #[inline]
     pub fn scan_label(&self, start: usize, is_in_table: bool) -> Option<(usize, Cow<'page, str>)> {
-        label_at(self.bytes, start, self.skips, is_in_table)
+        let (end, text) = label_at(self.bytes, start, self.skips, is_in_table)?;
+        let own = |place| std::str::from_utf8(&self.bytes[place]).expect("a label is UTF-8");
+        Some((end, text.map_or_else(Cow::Owned, |place| Cow::Borrowed(own(place)))))
     }
 }
 
-fn label_at<'page>(
-    bytes: &'page [u8],
-    start: usize,
-    skips: &[Skip],
-    is_in_table: bool,
-) -> Option<(usize, Cow<'page, str>)> {
+/// The text of a label: where it stands in the bytes, or the text that was made.
+type LabelText = Result<Range<usize>, String>;
+
+fn label_at(bytes: &[u8], start: usize, skips: &[Skip], is_in_table: bool) -> Option<(usize, LabelText)> {
     let mut room = [0; SMALL];
     let label = raw::scan_link_label(bytes, start, is_in_table, skips, &mut room);
     let text = match label.status {
-        ffi::OK | ffi::TOO_SHORT if label.start != ffi::NONE => {
-            let own = &bytes[label.start..label.start + label.length];
-            Cow::Borrowed(std::str::from_utf8(own).expect("a label is UTF-8"))
-        }
-        ffi::OK => Cow::Owned(string(room[..label.length].to_vec())),
+        ffi::OK | ffi::TOO_SHORT if label.start != ffi::NONE => Ok(label.start..label.start + label.length),
+        ffi::OK => Err(string(room[..label.length].to_vec())),
         ffi::TOO_SHORT => {
             let mut room = vec![0; label.length];
             raw::scan_link_label(bytes, start, is_in_table, skips, &mut room);
-            Cow::Owned(string(room))
+            Err(string(room))
         }
         _ => return None,
     };
@@ -255,6 +275,7 @@ impl HtmlScanGuard {
     /// assert_eq!(scan_inline_html_comment(b"<!-- a", 2, &mut guard), None);
     /// assert_ne!(guard, HtmlScanGuard::new());
     /// ```
+    #[inline]
     pub fn new() -> Self {
         Self::default()
     }
@@ -273,6 +294,7 @@ fn html_end(bytes: &[u8], ix: usize, guard: &mut HtmlScanGuard, opener: u8) -> O
 /// use markdown_scanners::{scan_inline_html_comment, HtmlScanGuard};
 /// assert_eq!(scan_inline_html_comment(b"a <!-- b --> c", 4, &mut HtmlScanGuard::new()), Some(12));
 /// ```
+#[inline]
 pub fn scan_inline_html_comment(bytes: &[u8], ix: usize, guard: &mut HtmlScanGuard) -> Option<usize> {
     html_end(bytes, ix, guard, b'!')
 }
@@ -283,6 +305,7 @@ pub fn scan_inline_html_comment(bytes: &[u8], ix: usize, guard: &mut HtmlScanGua
 /// use markdown_scanners::{scan_inline_html_processing, HtmlScanGuard};
 /// assert_eq!(scan_inline_html_processing(b"<?a?>", 2, &mut HtmlScanGuard::new()), Some(5));
 /// ```
+#[inline]
 pub fn scan_inline_html_processing(bytes: &[u8], ix: usize, guard: &mut HtmlScanGuard) -> Option<usize> {
     html_end(bytes, ix, guard, b'?')
 }
@@ -294,6 +317,7 @@ pub fn scan_inline_html_processing(bytes: &[u8], ix: usize, guard: &mut HtmlScan
 /// assert_eq!(markdown_scanners::scan_entity(b"&auml;b"), (6, Some("ä".into())));
 /// assert_eq!(markdown_scanners::scan_entity(b"&a;"), (0, None));
 /// ```
+#[inline]
 pub fn scan_entity(bytes: &[u8]) -> (usize, Option<Cow<'static, str>>) {
     let mut room = [0; REFERENCE];
     let text = raw::scan_entity(bytes, &mut room);
@@ -309,14 +333,16 @@ pub fn scan_entity(bytes: &[u8]) -> (usize, Option<Cow<'static, str>>) {
 /// ```
 /// assert_eq!(markdown_scanners::unescape(r"a\*b &amp; c", false), "a*b & c");
 /// ```
+#[inline]
 pub fn unescape(input: &str, is_in_table: bool) -> Cow<'_, str> {
-    let mut room = vec![0; input.len() + input.len() / 5];
-    let text = raw::unescape(input, is_in_table, &mut room);
-    room.truncate(text.length);
-    if room == input.as_bytes() {
-        return Cow::Borrowed(input);
-    }
-    Cow::Owned(string(room))
+    with_room(input.len() + input.len() / 5, |room| {
+        let length = raw::unescape(input, is_in_table, room).length;
+        let text = &room[..length];
+        match text == input.as_bytes() {
+            true => Cow::Borrowed(input),
+            false => Cow::Owned(string(text.to_vec())),
+        }
+    })
 }
 
 /// The link label whose opening bracket stands just before the text, over lines of which the skips are left out: its length
@@ -328,13 +354,17 @@ pub fn unescape(input: &str, is_in_table: bool) -> Cow<'_, str> {
 /// assert_eq!(scan_link_label_rest("a b]: c", &[], false), Ok(Some((4, "a b".into()))));
 /// assert_eq!(scan_link_label_rest("a\n> b]", &[Skip::new(2, 2)], false), Ok(Some((6, "a b".into()))));
 /// ```
+#[inline]
 pub fn scan_link_label_rest<'text>(
     text: &'text str,
     skips: &[Skip],
     is_in_table: bool,
 ) -> Result<Option<(usize, Cow<'text, str>)>, BadSkips> {
-    let bytes = text.as_bytes();
-    raw::check_skips(bytes, skips).then(|| label_at(bytes, 0, skips, is_in_table)).ok_or(BadSkips)
+    if !raw::check_skips(text.as_bytes(), skips) {
+        return Err(BadSkips);
+    }
+    let own = |label: LabelText| label.map_or_else(Cow::Owned, |place| Cow::Borrowed(&text[place]));
+    Ok(label_at(text.as_bytes(), 0, skips, is_in_table).map(|(length, label)| (length, own(label))))
 }
 
 /// Whether two labels match: their full case foldings are equal. (6.3)
@@ -342,6 +372,7 @@ pub fn scan_link_label_rest<'text>(
 /// ```
 /// assert!(markdown_scanners::labels_match("ẞ", "SS"));
 /// ```
+#[inline]
 pub fn labels_match(one: &str, other: &str) -> bool {
     raw::labels_match(one, other)
 }
@@ -351,11 +382,16 @@ pub fn labels_match(one: &str, other: &str) -> bool {
 /// ```
 /// assert_eq!(markdown_scanners::label_key("Straße"), "strasse");
 /// ```
+#[inline]
 pub fn label_key(label: &str) -> String {
-    let mut room = vec![0; 3 * label.len()];
-    let text = raw::label_key(label, &mut room);
-    room.truncate(text.length);
-    string(room)
+    string(key_of(label))
+}
+
+fn key_of(label: &str) -> Vec<u8> {
+    with_room(3 * label.len(), |room| {
+        let length = raw::label_key(label, room).length;
+        room[..length].to_vec()
+    })
 }
 
 /// A link label, equal to those that match it, for tables of definitions.
@@ -368,7 +404,7 @@ pub fn label_key(label: &str) -> String {
 #[derive(Clone, Debug)]
 pub struct LinkLabel<'text> {
     text: Cow<'text, str>,
-    key: String,
+    key: Vec<u8>,
 }
 
 impl<'text> LinkLabel<'text> {
@@ -377,9 +413,10 @@ impl<'text> LinkLabel<'text> {
     /// ```
     /// assert_eq!(markdown_scanners::LinkLabel::new("Foo"), markdown_scanners::LinkLabel::new("foo"));
     /// ```
+    #[inline]
     pub fn new(text: impl Into<Cow<'text, str>>) -> Self {
         let text = text.into();
-        let key = label_key(&text);
+        let key = key_of(&text);
         LinkLabel { text, key }
     }
 
@@ -388,6 +425,7 @@ impl<'text> LinkLabel<'text> {
     /// ```
     /// assert_eq!(markdown_scanners::LinkLabel::new("Foo").as_str(), "Foo");
     /// ```
+    #[inline]
     pub fn as_str(&self) -> &str {
         &self.text
     }

@@ -40,6 +40,7 @@ impl<'line> LineStart<'line> {
     /// ```
     /// assert_eq!(markdown_scanners::LineStart::new(b"a").bytes_scanned(), 0);
     /// ```
+    #[inline]
     pub fn new(bytes: &'line [u8]) -> Self {
         LineStart { bytes, numbers: raw::LineStart::default() }
     }
@@ -49,6 +50,7 @@ impl<'line> LineStart<'line> {
     /// ```
     /// assert!(!markdown_scanners::LineStart::new(b"  a").scan_space(3));
     /// ```
+    #[inline]
     pub fn scan_space(&mut self, count: usize) -> bool {
         stated(raw::line_space(self.bytes, &mut self.numbers, count))
     }
@@ -58,6 +60,7 @@ impl<'line> LineStart<'line> {
     /// ```
     /// assert_eq!(markdown_scanners::LineStart::new(b"  a").scan_space_upto(4), 2);
     /// ```
+    #[inline]
     pub fn scan_space_upto(&mut self, count: usize) -> usize {
         raw::line_upto(self.bytes, &mut self.numbers, count).columns
     }
@@ -69,6 +72,7 @@ impl<'line> LineStart<'line> {
     /// start.scan_all_space();
     /// assert_eq!(start.bytes_scanned(), 3);
     /// ```
+    #[inline]
     pub fn scan_all_space(&mut self) {
         raw::line_all_space(self.bytes, &mut self.numbers);
     }
@@ -78,6 +82,7 @@ impl<'line> LineStart<'line> {
     /// ```
     /// assert!(markdown_scanners::LineStart::new(b"\r").is_at_eol());
     /// ```
+    #[inline]
     pub fn is_at_eol(&self) -> bool {
         stated(raw::line_eol(self.bytes, &self.numbers))
     }
@@ -87,6 +92,7 @@ impl<'line> LineStart<'line> {
     /// ```
     /// assert!(markdown_scanners::LineStart::new(b"> a").scan_blockquote_marker());
     /// ```
+    #[inline]
     pub fn scan_blockquote_marker(&mut self) -> bool {
         stated(raw::line_quote(self.bytes, &mut self.numbers))
     }
@@ -103,6 +109,7 @@ impl<'line> LineStart<'line> {
     /// assert_eq!(LineStart::new(b"10) a").scan_list_marker_with_indent(0), Some((b')', 10, 4)));
     /// assert_eq!(LineStart::new(b"* * *").scan_list_marker_with_indent(0), None);
     /// ```
+    #[inline]
     pub fn scan_list_marker_with_indent(&mut self, indent: usize) -> Option<(u8, u64, usize)> {
         let item = raw::line_list(self.bytes, &mut self.numbers, indent);
         assert_ne!(item.status, ffi::TOO_LARGE, "the indent is too large: {indent}");
@@ -120,6 +127,7 @@ impl<'line> LineStart<'line> {
     /// use markdown_scanners::LineStart;
     /// assert_eq!(LineStart::new(b": a").scan_definition_list_definition_marker_with_indent(0), Some(2));
     /// ```
+    #[inline]
     pub fn scan_definition_list_definition_marker_with_indent(&mut self, indent: usize) -> Option<usize> {
         let told = raw::line_definition(self.bytes, &mut self.numbers, indent);
         assert_ne!(told.status, ffi::TOO_LARGE, "the indent is too large: {indent}");
@@ -131,6 +139,7 @@ impl<'line> LineStart<'line> {
     /// ```
     /// assert_eq!(markdown_scanners::LineStart::new(b"[x] a").scan_task_list_marker(), Some(true));
     /// ```
+    #[inline]
     pub fn scan_task_list_marker(&mut self) -> Option<bool> {
         let task = raw::line_task(self.bytes, &mut self.numbers);
         stated(task.status).then_some(task.checked)
@@ -142,6 +151,7 @@ impl<'line> LineStart<'line> {
     /// use markdown_scanners::{BlockQuoteKind, LineStart};
     /// assert_eq!(LineStart::new(b"[!tip]\n").scan_blockquote_tag(), Some(BlockQuoteKind::Tip));
     /// ```
+    #[inline]
     pub fn scan_blockquote_tag(&mut self) -> Option<BlockQuoteKind> {
         let alert = raw::line_alert(self.bytes, &mut self.numbers);
         stated(alert.status).then(|| BlockQuoteKind::of(alert.kind)).flatten()
@@ -154,6 +164,7 @@ impl<'line> LineStart<'line> {
     /// start.scan_blockquote_marker();
     /// assert_eq!(start.bytes_scanned(), 2);
     /// ```
+    #[inline]
     pub fn bytes_scanned(&self) -> usize {
         self.numbers.place
     }
@@ -165,6 +176,7 @@ impl<'line> LineStart<'line> {
     /// start.scan_space(1);
     /// assert_eq!(start.remaining_space(), 3);
     /// ```
+    #[inline]
     pub fn remaining_space(&self) -> usize {
         self.numbers.pending
     }

@@ -34,11 +34,13 @@ impl Skip {
     }
 }
 
+#[inline]
 fn front(bytes: &[u8]) -> *const c_void {
     bytes.as_ptr().cast()
 }
 
 /// Ends the process as where any other memory is refused.
+#[cold]
 fn refused() -> ! {
     handle_alloc_error(Layout::new::<usize>())
 }
@@ -46,6 +48,7 @@ fn refused() -> ! {
 /// Functions of a byte.
 macro_rules! of_bytes {
     ($($name:ident = $function:ident;)*) => {$(
+        #[inline]
         pub(crate) fn $name(byte: u8) -> bool {
             // SAFETY: it is given no pointer.
             unsafe { ffi::$function(byte) }
@@ -62,6 +65,7 @@ of_bytes! {
 /// Functions that read a slice, and are given numbers besides.
 macro_rules! reading {
     ($($name:ident($($given:ident: $kind:ty),*) -> $answer:ty = $function:ident;)*) => {$(
+        #[inline]
         pub(crate) fn $name(bytes: &[u8] $(, $given: $kind)*) -> $answer {
             // SAFETY: the pointer and the length are those of one slice, and nothing is written.
             unsafe { ffi::$function(front(bytes), bytes.len() $(, $given)*) }
@@ -98,6 +102,7 @@ reading! {
 /// Functions that read a line from its front, and move a line start.
 macro_rules! moving {
     ($($name:ident($($given:ident),*) -> $answer:ty = $function:ident;)*) => {$(
+        #[inline]
         pub(crate) fn $name(bytes: &[u8], start: &mut LineStart $(, $given: usize)*) -> $answer {
             // SAFETY: the pointer and the length are those of one slice, and what is written is a `&mut` of its own.
             unsafe { ffi::$function(front(bytes), bytes.len(), start $(, $given)*) }
@@ -116,16 +121,19 @@ moving! {
     line_alert() -> ffi::Alert = mds_line_alert;
 }
 
+#[inline]
 pub(crate) fn line_eol(bytes: &[u8], start: &LineStart) -> u32 {
     // SAFETY: the pointer and the length are those of one slice, the line start is a `&`, and nothing is written.
     unsafe { ffi::mds_line_eol(front(bytes), bytes.len(), start) }
 }
 
+#[inline]
 pub(crate) fn scan_inline_html(bytes: &[u8], place: usize, guard: &mut ffi::HtmlGuard) -> ffi::End {
     // SAFETY: the pointer and the length are those of one slice, and what is written is a `&mut` of its own.
     unsafe { ffi::mds_scan_inline_html(front(bytes), bytes.len(), place, guard) }
 }
 
+#[inline]
 pub(crate) fn labels_match(one: &str, other: &str) -> bool {
     let (one, other) = (one.as_bytes(), other.as_bytes());
     // SAFETY: each pointer and length are those of one slice, and nothing is written.
@@ -134,37 +142,44 @@ pub(crate) fn labels_match(one: &str, other: &str) -> bool {
 }
 
 /// The table of skips as C has it.
+#[inline]
 fn table(skips: &[Skip]) -> *const ffi::Skip {
     skips.as_ptr().cast() // a `Skip` is one of C's, transparently
 }
 
+#[inline]
 pub(crate) fn scan_table_head(bytes: &[u8], buffer: &mut [u8]) -> Text {
     // SAFETY: each pointer and length are those of one slice, and what is written is a `&mut` of its own.
     told(unsafe { ffi::mds_scan_table_head(front(bytes), bytes.len(), buffer.as_mut_ptr(), buffer.len()) })
 }
 
+#[inline]
 pub(crate) fn scan_entity(bytes: &[u8], buffer: &mut [u8]) -> Text {
     // SAFETY: each pointer and length are those of one slice, and what is written is a `&mut` of its own.
     told(unsafe { ffi::mds_scan_entity(front(bytes), bytes.len(), buffer.as_mut_ptr(), buffer.len()) })
 }
 
+#[inline]
 pub(crate) fn unescape(text: &str, in_table: bool, buffer: &mut [u8]) -> Text {
     let bytes = text.as_bytes();
     // SAFETY: each pointer and length are those of one slice, and what is written is a `&mut` of its own.
     told(unsafe { ffi::mds_unescape(front(bytes), bytes.len(), in_table, buffer.as_mut_ptr(), buffer.len()) })
 }
 
+#[inline]
 pub(crate) fn label_key(text: &str, buffer: &mut [u8]) -> Text {
     let bytes = text.as_bytes();
     // SAFETY: each pointer and length are those of one slice, and what is written is a `&mut` of its own.
     told(unsafe { ffi::mds_label_key(front(bytes), bytes.len(), buffer.as_mut_ptr(), buffer.len()) })
 }
 
+#[inline]
 pub(crate) fn check_skips(bytes: &[u8], skips: &[Skip]) -> bool {
     // SAFETY: each pointer and length are those of one slice, and nothing is written.
     unsafe { ffi::mds_check_skips(front(bytes), bytes.len(), table(skips), skips.len()) == ffi::OK }
 }
 
+#[inline]
 pub(crate) fn scan_html_tag_over_lines(bytes: &[u8], start: usize, skips: &[Skip], buffer: &mut [u8]) -> ffi::Tag {
     let (room, capacity) = (buffer.as_mut_ptr(), buffer.len());
     // SAFETY: each pointer and length are those of one slice, and what is written is a `&mut` of its own.
@@ -177,6 +192,7 @@ pub(crate) fn scan_html_tag_over_lines(bytes: &[u8], start: usize, skips: &[Skip
     tag
 }
 
+#[inline]
 pub(crate) fn scan_link_label(
     bytes: &[u8],
     start: usize,
@@ -195,6 +211,7 @@ pub(crate) fn scan_link_label(
     label
 }
 
+#[inline]
 fn told(text: Text) -> Text {
     if text.status == ffi::NO_MEMORY {
         refused();

@@ -91,6 +91,7 @@ impl fmt::Display for BadSkips {
 impl Error for BadSkips {}
 
 /// `None` in place of the number that C has for it.
+#[inline]
 pub(crate) fn found(length: usize) -> Option<usize> {
     (length != ffi::NONE).then_some(length)
 }

@@ -138,6 +138,10 @@ fn unescaped() {
     assert_eq!(unescape(r"\\|", false), r"\|");
     let long = "&amp;".repeat(1000);
     assert_eq!(unescape(&long, false), "&".repeat(1000));
+    for count in [42, 43] {
+        // as much room as is enough: 252 and 258 bytes
+        assert_eq!(unescape(&"&nGt;".repeat(count), false), "≫⃒".repeat(count));
+    }
 }
 
 #[test]
@@ -159,7 +163,9 @@ fn labels() {
 #[test]
 fn keys() {
     assert_eq!(label_key("ΑΓΩ"), "αγω");
-    assert_eq!(label_key("ΐ").len(), 6);
+    for count in [1, 42, 43, 1000] {
+        assert_eq!(label_key(&"\u{390}".repeat(count)), "\u{3b9}\u{308}\u{301}".repeat(count));
+    }
     assert!(labels_match("ΑΓΩ", "αγω") && !labels_match("a", "b"));
     let one = LinkLabel::new("ẞ".to_string());
     assert!(one == LinkLabel::new("SS") && one != LinkLabel::new("S"));

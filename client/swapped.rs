@@ -1,0 +1,236 @@
+//! What the passes call, under the names by which they call it, over the crate `markdown_scanners`.
+
+use std::borrow::Cow;
+use std::convert::TryFrom;
+
+use markdown_scanners::Skip;
+pub(crate) use markdown_scanners::{
+    is_ascii_punctuation, is_ascii_whitespace, is_ascii_whitespace_no_nl, scan_blank_line, scan_blockquote_start,
+    scan_ch, scan_ch_repeat, scan_closing_code_fence, scan_code_fence, scan_eol, scan_hrule, scan_html_type_7,
+    scan_inline_html_comment, scan_inline_html_processing, scan_link_dest, scan_nextline, scan_whitespace_no_nl,
+    starts_html_block_type_6, HtmlScanGuard,
+};
+
+use crate::strings::CowStr;
+use crate::{Alignment, HeadingLevel, LinkType};
+
+/// The start of a line. In the version of these passes its calls take the spaces before a marker themselves, so they are made
+/// where the next byte is a space or may begin one.
+#[derive(Clone)]
+pub(crate) struct LineStart<'line> {
+    bytes: &'line [u8],
+    start: markdown_scanners::LineStart<'line>,
+}
+
+impl<'line> LineStart<'line> {
+    pub(crate) fn new(bytes: &[u8]) -> LineStart {
+        LineStart { bytes, start: markdown_scanners::LineStart::new(bytes) }
+    }
+
+    pub(crate) fn scan_space(&mut self, count: usize) -> bool {
+        self.start.scan_space(count)
+    }
+
+    pub(crate) fn scan_space_upto(&mut self, count: usize) -> usize {
+        self.start.scan_space_upto(count)
+    }
+
+    pub(crate) fn scan_all_space(&mut self) {
+        self.start.scan_all_space()
+    }
+
+    pub(crate) fn is_at_eol(&self) -> bool {
+        self.start.is_at_eol()
+    }
+
+    fn next(&self) -> Option<&u8> {
+        self.bytes.get(self.start.bytes_scanned())
+    }
+
+    pub(crate) fn scan_blockquote_marker(&mut self) -> bool {
+        if !matches!(self.next(), Some(b' ' | b'\t' | b'>')) {
+            return false;
+        }
+        let mut start = self.start.clone();
+        let found = start.scan_space_upto(4) < 4 && start.scan_blockquote_marker();
+        if found {
+            self.start = start;
+        }
+        found
+    }
+
+    pub(crate) fn scan_list_marker(&mut self) -> Option<(u8, u64, usize)> {
+        if !self.next().map_or(false, |byte| matches!(byte, b' ' | b'\t') || begins_item(*byte)) {
+            return None;
+        }
+        let mut start = self.start.clone();
+        let indent = start.scan_space_upto(4);
+        if indent == 4 {
+            return None;
+        }
+        let item = start.scan_list_marker_with_indent(indent)?;
+        self.start = start;
+        Some(item)
+    }
+
+    pub(crate) fn scan_task_list_marker(&mut self) -> Option<bool> {
+        self.start.scan_task_list_marker()
+    }
+
+    pub(crate) fn bytes_scanned(&self) -> usize {
+        self.start.bytes_scanned()
+    }
+
+    pub(crate) fn remaining_space(&self) -> usize {
+        self.start.remaining_space()
+    }
+}
+
+fn begins_item(byte: u8) -> bool {
+    matches!(byte, b'-' | b'+' | b'*' | b'0'..=b'9')
+}
+
+pub(crate) fn scan_atx_heading(data: &[u8]) -> Option<HeadingLevel> {
+    HeadingLevel::try_from(markdown_scanners::scan_atx_heading(data)? as usize).ok()
+}
+
+pub(crate) fn scan_setext_heading(data: &[u8]) -> Option<(usize, HeadingLevel)> {
+    let (length, level) = markdown_scanners::scan_setext_heading(data)?;
+    Some((length, HeadingLevel::try_from(level as usize).ok()?))
+}
+
+pub(crate) fn scan_table_head(data: &[u8]) -> (usize, Vec<Alignment>) {
+    let (length, columns) = markdown_scanners::scan_table_head(data);
+    let alignment = |column| match column {
+        markdown_scanners::Alignment::None => Alignment::None,
+        markdown_scanners::Alignment::Left => Alignment::Left,
+        markdown_scanners::Alignment::Center => Alignment::Center,
+        markdown_scanners::Alignment::Right => Alignment::Right,
+    };
+    (length, columns.into_iter().map(alignment).collect())
+}
+
+/// Asks what the passes ask where an item begins, as the header advises: so a paragraph ends exactly before an item.
+pub(crate) fn scan_listitem(bytes: &[u8]) -> Option<(usize, u8, usize, usize)> {
+    if !bytes.first().map_or(false, |byte| begins_item(*byte)) {
+        return None;
+    }
+    let mut start = markdown_scanners::LineStart::new(bytes);
+    let (delimiter, number, indent) = start.scan_list_marker_with_indent(0)?;
+    Some((start.bytes_scanned(), delimiter, number as usize, indent))
+}
+
+pub(crate) fn scan_entity(bytes: &[u8]) -> (usize, Option<CowStr<'static>>) {
+    let (length, meaning) = markdown_scanners::scan_entity(bytes);
+    (length, meaning.map(CowStr::from))
+}
+
+pub(crate) fn unescape(input: &str) -> CowStr<'_> {
+    markdown_scanners::unescape(input, false).into()
+}
+
+pub(crate) fn scan_autolink(text: &str, start_ix: usize) -> Option<(usize, CowStr<'_>, LinkType)> {
+    if let Some((end, uri, _)) = markdown_scanners::scan_autolink(text, start_ix) {
+        return Some((end, uri.into(), LinkType::Autolink));
+    }
+    super::scan_email(text, start_ix).map(|(end, address)| (end, address, LinkType::Email))
+}
+
+pub(crate) fn scan_html_block_inner(
+    data: &[u8],
+    newline_handler: Option<&dyn Fn(&[u8]) -> usize>,
+) -> Option<(Vec<u8>, usize)> {
+    if let Some(length) = markdown_scanners::scan_html_tag(data) {
+        return Some((Vec::new(), length));
+    }
+    let (end, skips) = lines_of_tag(data, newline_handler?);
+    markdown_scanners::scan_html_block_inner(&data[..end], &skips).expect("skips rise")
+}
+
+/// Behind the first byte that no tag goes past, `<` or `>` outside of quotes, with what the handler leaves out of the lines
+/// up to there.
+fn lines_of_tag(data: &[u8], handler: &dyn Fn(&[u8]) -> usize) -> (usize, Vec<Skip>) {
+    let mut skips = Vec::new();
+    let mut quote = None;
+    let mut ix = 1;
+    while let Some(&byte) = data.get(ix) {
+        match (byte, quote) {
+            (b'\n' | b'\r', _) => {
+                let line = ix + scan_eol(&data[ix..]).unwrap_or(1);
+                ix = leave_out(line, handler(&data[line..]), &mut skips);
+                continue;
+            }
+            (_, Some(opened)) if byte == opened => quote = None,
+            (b'"' | b'\'', None) => quote = Some(byte),
+            (b'<' | b'>', None) => return (ix + 1, skips),
+            _ => (),
+        }
+        ix += 1;
+    }
+    (data.len(), skips)
+}
+
+/// Notes what is left out at the front of a line; the place behind it.
+fn leave_out(line: usize, length: usize, skips: &mut Vec<Skip>) -> usize {
+    if length > 0 {
+        skips.push(Skip::new(line, length));
+    }
+    line + length
+}
+
+pub(crate) fn scan_link_label_rest<'text>(
+    text: &'text str,
+    linebreak_handler: &dyn Fn(&[u8]) -> Option<usize>,
+) -> Option<(usize, CowStr<'text>)> {
+    if let Ok(Some((length, label))) = markdown_scanners::scan_link_label_rest(text, &[], false) {
+        // a label that stands there as it is has no line ending
+        if matches!(label, Cow::Borrowed(own) if own.len() + 1 == length) || !has_line_ending(&text[..length]) {
+            return Some((length, label.into()));
+        }
+    }
+    let (end, skips) = lines_of_label(text.as_bytes(), linebreak_handler)?;
+    let label = markdown_scanners::scan_link_label_rest(&text[..end], &skips, false);
+    label.expect("skips rise").map(|(length, label)| (length, label.into()))
+}
+
+fn has_line_ending(text: &str) -> bool {
+    text.bytes().any(|byte| matches!(byte, b'\n' | b'\r'))
+}
+
+/// Bytes that no label has more of: 999 characters of four.
+const LABEL: usize = 4 * 999;
+
+/// Behind the first bracket that no backslash escapes, with what the handler leaves out of the lines up to there; None where
+/// it stands in the first line, where there is none in so many bytes, or where the handler wants no more lines.
+fn lines_of_label(bytes: &[u8], handler: &dyn Fn(&[u8]) -> Option<usize>) -> Option<(usize, Vec<Skip>)> {
+    let mut skips = Vec::new();
+    let (mut ix, mut line) = (0, 0);
+    for _ in 0..=LABEL {
+        match *bytes.get(ix)? {
+            b'[' | b']' => return (line > 0).then_some((ix + 1, skips)),
+            b'\n' | b'\r' => {
+                line = ix + scan_eol(&bytes[ix..])?;
+                ix = leave_out(line, handler(&bytes[line..])?, &mut skips);
+            }
+            b'\\' if bytes.get(ix + 1).map_or(false, |next| is_ascii_punctuation(*next)) => ix += 2,
+            _ => ix += 1,
+        }
+    }
+    None
+}
+
+/// A label in the table of definitions, equal to those that match it. The passes make one under this name.
+#[derive(Clone, PartialEq, Eq, Hash)]
+pub(crate) struct UniCase<'text>(markdown_scanners::LinkLabel<'text>);
+
+impl<'text> UniCase<'text> {
+    pub(crate) fn new(label: CowStr<'text>) -> Self {
+        UniCase(markdown_scanners::LinkLabel::new(label))
+    }
+}
+
+impl AsRef<str> for UniCase<'_> {
+    fn as_ref(&self) -> &str {
+        self.0.as_str()
+    }
+}
