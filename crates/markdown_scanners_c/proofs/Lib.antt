@@ -4,6 +4,7 @@ pub mod KeyLemmas
 pub mod LabelEnds
 pub mod LabelLemmas
 pub mod LabelRoom
+pub mod LineRuns
 pub mod Meanings
 pub mod Parts
 pub mod Rests

@@ -1,57 +1,39 @@
--- How much a run on a line answers and leaves: an answer a call at most, and four bytes for each byte of the line.
--- (CommonMark 0.31.2, section 2.2, tabs)
-use Rattle.std.proofs.Common.{ℕ, List, [], ◌∷◌, ◌≤◌, ◌+◌, ◌-◌, ◌*◌, ◌==◌, suc, Option, Some, None, length, drop, replicate, arith, inl, inr}
-use Rattle.std.proofs.lemmas.Bool.{cases_Bool}
-use Rattle.std.proofs.lemmas.List.{length-append, length-drop, length-replicate}
-use Rattle.markdown_scanners_tree.specs.Ascii.{tab, space}
+-- What is left of a line, and how it is written byte by byte. (CommonMark 0.31.2, section 2.2, tabs)
+use Rattle.std.proofs.Common.{ℕ, List, ◌++◌, ◌≡◌, ◌≤◌, ◌<◌, ◌+◌, ◌-◌, ◌∙◌, true, false, refl, sym, ap, append_assoc, length, drop, take, get_or, arith}
+use Rattle.std.proofs.lemmas.List.{drop_more, length-append, length-drop, take_at}
+use Rattle.std.proofs.lemmas.Slice.{drop-append-drop}
+use Rattle.std.proofs.Math.Seq.{take-length}
 use Rattle.markdown_scanners_tree.specs.Bytes.{is_line_ending}
-use Rattle.markdown_scanners_tree.specs.Columns.{column_after, next_tab_stop, written_byte, written_out, expanded, is_on_byte}
-use Rattle.markdown_scanners_tree.specs.declared.line.run.LineCall.{LineCall}
-use Rattle.markdown_scanners_tree.specs.declared.line.run.LineStop.{LineStop}
-use Rattle.markdown_scanners_tree.specs.line.PlainStep.{plain_step}
-use Rattle.markdown_scanners_tree.specs.line.run.PlainRun.{PlainRun, run_from, after_answer, line_refusal}
+use Rattle.markdown_scanners_tree.specs.Columns.{column_after, written_byte, written_out}
 
-tab_fits : (c : ℕ) → length (replicate (next_tab_stop c - c) space) ≤ 4
-tab_fits c = omega (arith, length-replicate {A = ℕ} (next_tab_stop c - c) space)
+-- one byte more is written out
+pub written_next : (bytes : List ℕ) (i c : ℕ) → i < length bytes → is_line_ending (get_or bytes i 0) ≡ false →
+    let b = get_or bytes i 0 in
+    written_out c (drop i bytes) ≡ written_byte c b ++ written_out (column_after c b) (drop (i + 1) bytes)
+written_next bytes i c inside goes = ap (written_out c) (drop_more bytes i 0 inside) ∙ rw goes refl
 
-byte_fits : (c b : ℕ) → length (written_byte c b) ≤ 4
-byte_fits c b =
-    elim (cases_Bool (b == tab)) [
-      | inl is_tab ↦ rw is_tab (tab_fits c)
-      | inr other ↦ rw other (omega arith)
-    ]
+-- from the line ending on all stays as it is
+pub written_end : (bytes : List ℕ) (i c : ℕ) → i < length bytes → is_line_ending (get_or bytes i 0) ≡ true
+    → written_out c (drop i bytes) ≡ drop i bytes
+written_end bytes i c inside ends =
+    ap (written_out c) (drop_more bytes i 0 inside) ∙ rw ends refl ∙ sym (drop_more bytes i 0 inside)
 
-written_fits : (c : ℕ) (bytes : List ℕ) → length (written_out c bytes) ≤ 4 * length bytes
-written_fits c [] = omega arith
-written_fits c (b ∷ bytes) =
-    elim (cases_Bool (is_line_ending b)) [
-      | inl ends ↦ rw ends (omega arith)
-      | inr goes_on ↦ (
-          let one = byte_fits c b in
-          let more = written_fits (column_after c b) bytes in
-          let joined = length-append (written_byte c b) (written_out (column_after c b) bytes) in
-          rw goes_on (omega (arith, one, more, joined))
-          )
-    ]
+-- What is written at the front of a buffer, whose other bytes are as they were, and a text more.
+pub put_next : (made text old : List ℕ) (at : ℕ) → length made ≡ at
+    → take at (made ++ drop at old) ++ (text ++ drop (at + length text) (made ++ drop at old))
+    ≡ (made ++ text) ++ drop (at + length text) old
+put_next made text old at size =
+    let front : take at (made ++ drop at old) ≡ made = take_at made (drop at old) at size in
+    let back : drop (at + length text) (made ++ drop at old) ≡ drop (at + length text) old =
+    drop-append-drop at old made (at + length text) (omega arith) size in
+    rw (front, back) (sym (append_assoc made text (drop (at + length text) old)))
 
-pub rest_within : (line : List ℕ) (column : ℕ) → length (drop column (expanded line)) ≤ 4 * length line
-rest_within line column = omega (arith, length-drop column (expanded line), written_fits 0 line)
+-- What is still to be written has room in the buffer, as all has.
+pub room_left : (made later old whole : List ℕ) (at : ℕ) → length made ≡ at → made ++ later ≡ whole
+    → length whole ≤ length old → at + length later ≤ length (made ++ drop at old)
+room_left made later old whole at size is fits =
+    omega (arith, size, ap length is, length-append made later, fits, length-append made (drop at old), length-drop at old)
 
-pub answers_within : (line : List ℕ) (column : ℕ) (calls : List LineCall)
-    → length (run_from line column calls).answers ≤ length calls
-answers_within line column [] = omega arith
-answers_within line column (call ∷ calls) =
-    let step = plain_step call (drop column (expanded line)) in
-    one (line_refusal (is_on_byte 0 line column) call) (answers_within line (column + step.taken) calls)
-  where
-    one : (refusal : Option LineStop)
-        → length (run_from line (column + (plain_step call (drop column (expanded line))).taken) calls).answers ≤ length calls
-        → length (elim refusal as (λ _. PlainRun) [
-          | Some stop ↦ record { answers = []; column = column; stop = Some stop }
-          | None ↦ (
-              let step = plain_step call (drop column (expanded line)) in
-              after_answer step.answer (run_from line (column + step.taken) calls)
-              )
-        ]).answers ≤ suc (length calls)
-    one (Some stop) more = omega arith
-    one None more = omega (arith, more)
+-- all of a rest
+pub whole_rest : (bytes : List ℕ) (i : ℕ) → take (length bytes - i) (drop i bytes) ≡ drop i bytes
+whole_rest bytes i = ap (λ n. take n (drop i bytes)) (sym (length-drop i bytes)) ∙ take-length (drop i bytes)
