@@ -78,8 +78,10 @@ def lines():
     found += [some(box), seen]
     alert, seen = of_line(b"[!Note]  \nx", ("alert",), ("seen",))
     found += [some(alert and Value(alert)), seen]
-    _, taken, item, seen = of_line(b">\t- x", ("quote",), ("upto", 9), ("list", 1), ("seen",))
-    return found + [False, (0, taken), some(item), seen]
+    quote, taken, item, seen = of_line(b">\t- x", ("quote",), ("upto", 9), ("list", 1), ("seen",))
+    found += [False, (0, taken), some(item), seen]
+    called = [Value("Flag", quote), None, Value("Count", taken), Value("List", some(item))]
+    return found + [Value("Ok", it) if it else Value("Err", Value("SpacePending")) for it in called] + [seen]
 
 
 # Scanners of lines.

@@ -180,50 +180,6 @@ struct mds_indent {
  * behind a tab that fills it. `max` is SIZE_MAX / 4 at most. (2.2) */
 struct mds_indent mds_calc_indent(const void *bytes, size_t length, size_t max);
 
-/* ---- Runs of calls on the start of a line ---- */
-
-/* What a call reads at the place in the line that the calls before it have reached, column by column. */
-enum mds_line_call_kind {
-    MDS_SPACE = 0,     /* `number` columns of space, or fewer where there are fewer: found where there were as many */
-    MDS_UPTO = 1,      /* at most `number` columns of space: how many */
-    MDS_EOL = 2,       /* whether the line ends there; takes nothing */
-    MDS_QUOTE = 3,     /* a block quote marker with at most one column of space (5.1) */
-    MDS_LIST = 4,      /* a list item's marker with the columns that belong to it, `number` being its indent (5.2);
-                        * mds_scan_listitem finds two kinds more */
-    MDS_DEFINITION = 5 /* the marker `:` of a definition, `number` being its indent; an extension of pulldown-cmark */
-};
-
-struct mds_line_call {
-    uint32_t kind; /* of enum mds_line_call_kind */
-    size_t number; /* columns of space, or an indent of SIZE_MAX - 16 at most; of no other call */
-};
-
-struct mds_line_answer {
-    bool found;        /* of MDS_UPTO always */
-    uint8_t delimiter; /* of a list item: `-`, `+`, `*`, `.` or `)` */
-    uint64_t start;    /* of an ordered list item: its number */
-    size_t number;     /* columns taken by MDS_UPTO; the indent of what an item or a definition holds */
-};
-
-/* What a run came to. `count` is how many calls were made before it stopped; `scanned` how many bytes of the line they
- * have passed; `rest` how many bytes what is left of the line has. All are 0 where the status is MDS_BAD_KIND or
- * MDS_NO_MEMORY. */
-struct mds_line_run {
-    uint32_t status;
-    size_t count, scanned, rest;
-};
-
-/* Makes the calls in turn on the line, as on the line with its tabs written out to stops of four. It stops before the
- * first call that is refused: MDS_SPACE_PENDING where a tab is taken in part and the call takes no space, MDS_TOO_LARGE
- * where an indent is too large; else the status is MDS_OK. In all these cases the answers stand at the front of
- * `answers`, and what is left of the line, its tabs before the line ending written out, at the front of `rest`. Where
- * one of these has no room nothing is written, and the status is MDS_TOO_SHORT; as many answers as calls are enough,
- * and four times `length` bytes for `rest`. Where some call has no known kind none is made: MDS_BAD_KIND. Memory is
- * asked for, some for each call and each byte of what is left: MDS_NO_MEMORY. (2.2) */
-struct mds_line_run mds_run_line(
-    const void *bytes, size_t length, const struct mds_line_call *calls, size_t call_count,
-    struct mds_line_answer *answers, size_t capacity, uint8_t *rest, size_t rest_capacity);
-
 /* ---- Line starts ---- */
 
 /* A place in a line that is read column by column. It is the caller's: all 0 at the front of a line, `{0}`, and then
@@ -236,8 +192,8 @@ struct mds_line_run mds_run_line(
  * Whatever the numbers are the calls are safe, and read none but the bytes that are passed. They answer MDS_BAD_STATE
  * where `place` is above the length, or `pending` or `phase` is above 3; then the struct is left as it was. Else a
  * call leaves a place that is not before the old one, and numbers that are not refused. Numbers that no call has left
- * there have an answer too, as from that place; only that of mds_line_list may then be a wrong one, where
- * `none_before` and `behind_break` are not true of the line. */
+ * there have an answer too, as from that place; only that of mds_line_list, or of MDS_LIST and what comes behind it in a
+ * run, may then be a wrong one, where `none_before` and `behind_break` are not true of the line. */
 struct mds_line_start {
     size_t place;        /* how many bytes have been passed */
     size_t pending;      /* columns of the last tab that have not been taken: 3 at most */
@@ -323,6 +279,55 @@ struct mds_alert {
  * line ending. MDS_OK; MDS_NOTHING where there is none, and the place stays; MDS_BAD_STATE. It reads those bytes. (An
  * extension of GitHub) */
 struct mds_alert mds_line_alert(const void *bytes, size_t length, struct mds_line_start *start);
+
+/* ---- Runs of calls on a line start ---- */
+
+/* What a call of a run reads at the place that the calls before it have reached, column by column. */
+enum mds_line_call_kind {
+    MDS_SPACE = 0,     /* `number` columns of space, or fewer where there are fewer: found where there were as many */
+    MDS_UPTO = 1,      /* at most `number` columns of space: how many */
+    MDS_EOL = 2,       /* whether the line ends there; takes nothing */
+    MDS_QUOTE = 3,     /* a block quote marker with at most one column of space (5.1) */
+    MDS_LIST = 4,      /* a list item's marker with the columns that belong to it, `number` being its indent (5.2);
+                        * mds_scan_listitem finds two kinds more */
+    MDS_DEFINITION = 5 /* the marker `:` of a definition, `number` being its indent; an extension of pulldown-cmark */
+};
+
+struct mds_line_call {
+    uint32_t kind; /* of enum mds_line_call_kind */
+    size_t number; /* columns of space, or an indent of SIZE_MAX - 16 at most; of no other call */
+};
+
+struct mds_line_answer {
+    bool found;        /* of MDS_UPTO always */
+    uint8_t delimiter; /* of a list item: `-`, `+`, `*`, `.` or `)` */
+    uint64_t start;    /* of an ordered list item: its number */
+    size_t number;     /* columns taken by MDS_UPTO; the indent of what an item or a definition holds */
+};
+
+/* What a run came to. `count` is how many calls were made before it stopped, or 0 where none was. */
+struct mds_line_run {
+    uint32_t status;
+    size_t count;
+};
+
+/* Makes the calls in turn from the line start on, as on the line with its tabs written out to stops of four, and leaves
+ * it where the run stopped; so the next run goes on from there. It stops before the first call that is refused:
+ * MDS_SPACE_PENDING where columns are pending and the call takes no space, MDS_TOO_LARGE where an indent is too large;
+ * else the status is MDS_OK. In all these cases the answers of the calls before stand at the front of `answers`. No call
+ * is made, and nothing is written, where the numbers of the line start are refused, MDS_BAD_STATE, where some call has
+ * no known kind, MDS_BAD_KIND, and where `answers` has no room for as many answers as there are calls, MDS_TOO_SHORT.
+ * Each call reads what the one of its name above reads. (2.2) */
+struct mds_line_run mds_run_line(
+    const void *bytes, size_t length, struct mds_line_start *start, const struct mds_line_call *calls, size_t call_count,
+    struct mds_line_answer *answers, size_t capacity);
+
+/* What is left of the bytes from the line start on: pending columns as spaces, then the bytes from its place on, of which
+ * the tabs before the first line ending are written out as spaces. So for the rest of a line give its bytes alone.
+ * `taken` is how many bytes stand from the place on; four bytes for each of these, and one for each pending column, are
+ * room enough. It goes through them twice. MDS_OK, MDS_TOO_SHORT or MDS_BAD_STATE. (2.2) */
+struct mds_text mds_line_rest(
+    const void *bytes, size_t length, const struct mds_line_start *start, uint8_t *buffer, size_t capacity);
 
 /* ---- Blocks ---- */
 

@@ -1,5 +1,5 @@
 /* Line starts: worked rows of CommonMark 0.31.2, each status, numbers that no call has left, lines that are scanned call
- * by call and by mds_run_line, and how far a line of many bullets is read. The expected values of the rows are worked out
+ * by call, by one run and by two, and how far a line of many bullets is read. The expected values of the rows are worked out
  * by hand from the sections that the header names. */
 #define _DEFAULT_SOURCE
 #include "checks.h"
@@ -165,9 +165,32 @@ static void others(void) {
     COLUMNS(mds_line_definition(OF(": a"), &start, SIZE_MAX - 16), MDS_OK, SIZE_MAX - 14), AT(2, 0, 2);
 }
 
-/* The calls by their number, as mds_run_line has them and then the others: whether the answer is MDS_BAD_STATE, and
- * whether its other fields are 0. */
-enum { KINDS = 9 };
+/* The bytes of the longest line that is made, and room for what is left of it. */
+enum { LONGEST = 40, AMPLE = 4 * LONGEST + 4 };
+
+/* The calls by their number, as mds_run_line has them and then the others: what the status is, and whether the other fields
+ * of the answer are 0. */
+enum { RUN = 9, REST_OF, KINDS };
+
+/* A run, with room for its answers. */
+static struct mds_line_run run_of(const uint8_t *bytes, size_t length, struct mds_line_start *start, size_t number) {
+    const struct mds_line_call calls[] = {{MDS_UPTO, number}, {MDS_LIST, number}, {MDS_QUOTE, 0}};
+    struct mds_line_answer answers[3];
+    return mds_run_line(bytes, length, start, calls, 3, answers, 3);
+}
+
+/* What is left, in a buffer that may be too short; MDS_NOTHING where what is told is no answer. */
+static struct mds_text rest_of(const uint8_t *bytes, size_t length, const struct mds_line_start *start, size_t number) {
+    uint8_t buffer[AMPLE];
+    size_t capacity = number % (AMPLE + 1);
+    struct mds_text text = mds_line_rest(bytes, length, start, buffer, capacity);
+    if (text.status == MDS_BAD_STATE)
+        return text;
+    bool is_within = text.taken == length - start->place && text.length <= start->pending + 4 * text.taken;
+    if (!is_within || text.status != (text.length <= capacity ? MDS_OK : MDS_TOO_SHORT))
+        text.status = MDS_NOTHING;
+    return text;
+}
 
 struct refusal {
     uint32_t status;
@@ -178,6 +201,8 @@ static struct refusal call(size_t kind, const uint8_t *bytes, size_t length, str
     struct mds_columns columns;
     struct mds_line_item item;
     struct mds_task task;
+    struct mds_text text;
+    struct mds_line_run run;
     struct mds_alert alert;
     switch (kind) {
     case 0: return (struct refusal){mds_line_space(bytes, length, start, number), true};
@@ -192,8 +217,21 @@ static struct refusal call(size_t kind, const uint8_t *bytes, size_t length, str
         return (struct refusal){columns.status, columns.columns == 0};
     case 6: return (struct refusal){mds_line_all_space(bytes, length, start), true};
     case 7: task = mds_line_task(bytes, length, start); return (struct refusal){task.status, !task.checked};
-    default: alert = mds_line_alert(bytes, length, start); return (struct refusal){alert.status, alert.kind == 0};
+    case 8: alert = mds_line_alert(bytes, length, start); return (struct refusal){alert.status, alert.kind == 0};
+    case RUN: run = run_of(bytes, length, start, number); return (struct refusal){run.status, run.count == 0};
+    default:
+        text = rest_of(bytes, length, start, number);
+        return (struct refusal){text.status, text.taken == 0 && text.length == 0};
     }
+}
+
+/* Whether it is one of the statuses of a call on a state that is none of the wrong ones. */
+static bool is_told(size_t kind, struct refusal told) {
+    if (kind == RUN)
+        return told.status == MDS_OK || told.status == MDS_SPACE_PENDING || told.status == MDS_TOO_LARGE;
+    if (kind == REST_OF)
+        return told.status == MDS_OK || told.status == MDS_TOO_SHORT;
+    return told.status == MDS_OK || (told.status == MDS_NOTHING && told.is_zero);
 }
 
 /* Whether the numbers are refused where they have to be, and what is left is never refused. */
@@ -206,9 +244,7 @@ static bool is_safe(size_t kind, const uint8_t *bytes, size_t length, struct mds
         return is_bad && told.status == MDS_BAD_STATE && told.is_zero && is_left;
     if ((kind == 4 || kind == 5) && number > SIZE_MAX - 16)
         return told.status == MDS_TOO_LARGE && told.is_zero && is_left;
-    if (told.status != MDS_OK && !told.is_zero)
-        return false;
-    return told.status <= MDS_NOTHING && start.place >= old.place && start.place <= length && start.pending <= 3 && start.phase <= 3;
+    return is_told(kind, told) && start.place >= old.place && start.place <= length && start.pending <= 3 && start.phase <= 3;
 }
 
 /* Made numbers, the same in each run (xorshift). */
@@ -220,8 +256,6 @@ static uint64_t made(uint64_t below) {
 }
 
 /* A line of bytes that the calls look at. */
-enum { LONGEST = 40 };
-
 static size_t make_line(char *text) {
     static const char parts[] = "  \t\t>>--*+1209.):x[]![ ] [x] [!TIP]\n\r\v\f~";
     size_t length = made(LONGEST + 1);
@@ -310,31 +344,54 @@ static size_t write_rest(const uint8_t *bytes, size_t length, struct mds_line_st
     return written;
 }
 
-enum { CALLS = 8, AMPLE = 4 * LONGEST + 4 };
+enum { CALLS = 8 };
 
 static bool are_equal(struct mds_line_answer one, struct mds_line_answer other) {
     return one.found == other.found && one.delimiter == other.delimiter && one.start == other.start && one.number == other.number;
 }
 
+/* What a run came to, with its answers and what it has left. */
+struct ran {
+    struct mds_line_run run;
+    struct mds_line_answer answers[CALLS];
+    struct mds_line_start start;
+};
+
+/* A run in parts, of which the first has so many calls. */
+static struct ran ran_in(const uint8_t *bytes, size_t length, const struct mds_line_call *calls, size_t first) {
+    struct ran ran = {.start = {0}};
+    ran.run = mds_run_line(bytes, length, &ran.start, calls, first, ran.answers, first);
+    if (ran.run.status == MDS_OK && first < CALLS) {
+        ran.run = mds_run_line(bytes, length, &ran.start, calls + first, CALLS - first, ran.answers + first, CALLS - first);
+        ran.run.count += first;
+    }
+    return ran;
+}
+
 /* A line call by call, as far as the run came; and both have left the same. */
-static bool is_as_run(
-    const uint8_t *bytes, size_t length, const struct mds_line_call *calls, struct mds_line_run run,
-    const struct mds_line_answer *answers, const uint8_t *rest) {
-    static uint8_t left[AMPLE];
+static bool is_as_run(const uint8_t *bytes, size_t length, const struct mds_line_call *calls, const struct ran *ran) {
+    static uint8_t left[AMPLE], rest[AMPLE];
     struct mds_line_start start = {0};
-    for (size_t i = 0; i < run.count; i++)
-        if (!are_equal(answer_of(calls[i], bytes, length, &start), answers[i]))
+    for (size_t i = 0; i < ran->run.count; i++)
+        if (!are_equal(answer_of(calls[i], bytes, length, &start), ran->answers[i]))
             return false;
-    if ((run.status == MDS_SPACE_PENDING) != (run.count < CALLS && start.pending > 0))
+    if ((ran->run.status == MDS_SPACE_PENDING) != (ran->run.count < CALLS && start.pending > 0))
         return false;
     size_t count = write_rest(bytes, length, start, left);
-    return start.place == run.scanned && count == run.rest && !memcmp(left, rest, count);
+    struct mds_text text = mds_line_rest(bytes, length, &ran->start, rest, AMPLE);
+    return !memcmp(&start, &ran->start, sizeof(start)) && text.status == MDS_OK && text.length == count && !memcmp(left, rest, count);
+}
+
+/* Both have made the same of the calls. */
+static bool is_same_run(const struct ran *one, const struct ran *other) {
+    bool is_same = one->run.status == other->run.status && one->run.count == other->run.count;
+    for (size_t i = 0; is_same && i < one->run.count; i++)
+        is_same = are_equal(one->answers[i], other->answers[i]);
+    return is_same && !memcmp(&one->start, &other->start, sizeof(one->start));
 }
 
 /* A hundred thousand made lines. Most of the calls are of a parser that looks for containers. */
 static void as_runs(void) {
-    static struct mds_line_answer answers[CALLS];
-    static uint8_t rest[AMPLE];
     char text[LONGEST];
     for (size_t i = 0; i < 100000; i++) {
         struct mds_line_call calls[CALLS];
@@ -343,8 +400,8 @@ static void as_runs(void) {
             calls[j] = (struct mds_line_call){j % 2 ? (uint32_t)made(6) : MDS_UPTO, made(5)};
         at_front = i % 2;
         const uint8_t *bytes = given(BYTES, text, length);
-        struct mds_line_run run = mds_run_line(bytes, length, calls, CALLS, answers, CALLS, rest, AMPLE);
-        SAME(is_as_run(bytes, length, calls, run, answers, rest), true);
+        const struct ran ran = ran_in(bytes, length, calls, CALLS), parts = ran_in(bytes, length, calls, made(CALLS));
+        SAME(is_as_run(bytes, length, calls, &ran), true), SAME(is_same_run(&ran, &parts), true);
     }
 }
 

@@ -1,6 +1,6 @@
-/* Memory refused. Seven functions may answer MDS_NO_MEMORY: on each of their inputs here the first, second, .. request is refused
+/* Memory refused. Six functions may answer MDS_NO_MEMORY: on each of their inputs here the first, second, .. request is refused
  * until none is left. The call then answers MDS_NO_MEMORY, tells nothing more and writes nothing, or it has the same answer as
- * with ample memory; and it frees what it was given. The other functions make no request, and neither do these seven where the
+ * with ample memory; and it frees what it was given. The other functions make no request, and neither do these six where the
  * header says so. The linker puts the functions __wrap_.. in the place of the C library's (--wrap). */
 #include "checks.h"
 
@@ -153,30 +153,8 @@ static struct told long_html_run(size_t room) {
     return of_html(text, 2 * MANY, places, MANY, room);
 }
 
-static struct told of_line(const char *text, size_t length, const struct mds_line_call *calls, size_t count, size_t room) {
-    const uint8_t *bytes = given(BYTES, text, length);
-    const struct mds_line_call *list = given(LIST, calls, count * sizeof(*list));
-    size_t capacity = room / sizeof(struct mds_line_answer);
-    struct mds_line_answer *answers = writable(BUFFER, capacity * sizeof(*answers));
-    struct mds_line_run run = mds_run_line(bytes, length, list, count, answers, capacity, writable(REST, room), room);
-    return (struct told){run.status, {run.count, run.scanned, run.rest}};
-}
-
-static struct told line_run(size_t room) {
-    return of_line("  x", 3, (const struct mds_line_call[]){{MDS_UPTO, 2}, {MDS_EOL, 0}}, 2, room);
-}
-
-static struct told long_line_run(size_t room) {
-    static char text[2 * MANY];
-    static struct mds_line_call calls[MANY];
-    memset(text, '\t', sizeof(text));
-    for (size_t i = 0; i < MANY; i++)
-        calls[i] = (struct mds_line_call){MDS_UPTO, 7};
-    return of_line(text, sizeof(text), calls, MANY, room);
-}
-
 static struct told made(call_with *call, size_t room, size_t which) {
-    writable(BUFFER, 0), writable(REST, 0);
+    writable(BUFFER, 0);
     requests = held = 0, refused = which;
     struct told told = call(room);
     refused = 0;
@@ -184,15 +162,14 @@ static struct told made(call_with *call, size_t room, size_t which) {
 }
 
 /* What an answer with ample memory has written. */
-static uint8_t kept[ROOMS][ROOM_SIZE];
+static uint8_t kept[ROOM_SIZE];
 
 static void keep(void) {
-    memcpy(kept[BUFFER], whole(BUFFER), ROOM_SIZE);
-    memcpy(kept[REST], whole(REST), ROOM_SIZE);
+    memcpy(kept, whole(BUFFER), ROOM_SIZE);
 }
 
 static bool is_kept(void) {
-    return !memcmp(kept[BUFFER], whole(BUFFER), ROOM_SIZE) && !memcmp(kept[REST], whole(REST), ROOM_SIZE);
+    return !memcmp(kept, whole(BUFFER), ROOM_SIZE);
 }
 
 static bool is_same(struct told one, struct told other) {
@@ -205,7 +182,7 @@ static bool told_refusal(int line, struct told found, struct told ample) {
     same(line, "what is held", held, 0);
     bool refusal = found.status == MDS_NO_MEMORY;
     same(line, "what is told", is_same(found, refusal ? nothing_more : ample), true);
-    same(line, "what is written", refusal ? is_left(BUFFER, 0) && is_left(REST, 0) : is_kept(), true);
+    same(line, "what is written", refusal ? is_left(BUFFER, 0) : is_kept(), true);
     return refusal;
 }
 
@@ -238,10 +215,9 @@ static void asking(void) {
     ASKS(key), ASKS(long_key);
     ASKS(table), ASKS(wide_table);
     ASKS(html_run), ASKS(long_html_run);
-    ASKS(line_run), ASKS(long_line_run);
 }
 
-/* What these seven need no memory for. */
+/* What these six need no memory for. */
 static void sparing(void) {
     ASKS_NOT(mds_unescape(OF("plain"), false, NULL, 0).status, MDS_TOO_SHORT);
     ASKS_NOT(mds_unescape(OF("\xff"), false, NULL, 0).status, MDS_NOT_UTF8);
@@ -264,7 +240,6 @@ static void sparing(void) {
     ASKS_NOT(mds_scan_table_head(OF("||-|"), NULL, 0).status, MDS_NOTHING);
     ASKS_NOT(mds_run_inline_html(OF("<!a>"), NULL, 0, NULL, 0).status, MDS_OK);
     ASKS_NOT(mds_run_inline_html(OF("<!a>"), (const size_t[]){1, 2}, 2, NULL, 0).status, MDS_NO_OPENER);
-    ASKS_NOT(mds_run_line(OF("x"), (const struct mds_line_call[]){{6, 0}}, 1, NULL, 0, NULL, 0).status, MDS_BAD_KIND);
 }
 
 static void others_on_lines(void) {
@@ -303,6 +278,18 @@ static void others_on_line_starts(void) {
     start = (struct mds_line_start){0};
     ASKS_NOT(mds_line_definition(OF(": a"), &start, 0).columns, 2);
     ASKS_NOT(mds_line_alert(OF(": [!TIP]"), &start).kind, MDS_ALERT_TIP);
+    struct mds_line_answer answers[3];
+    static const struct mds_line_call calls[] = {{MDS_QUOTE, 0}, {MDS_UPTO, 1}, {MDS_LIST, 0}}, unknown[] = {{6, 0}};
+    start = (struct mds_line_start){0};
+    ASKS_NOT(mds_run_line(OF(">\t- a"), &start, calls, 3, answers, 2).status, MDS_TOO_SHORT);
+    ASKS_NOT(mds_run_line(OF(">\t- a"), &start, unknown, 1, answers, 3).status, MDS_BAD_KIND);
+    ASKS_NOT(mds_run_line(OF(">\t- a"), &start, calls, 3, answers, 3).status, MDS_SPACE_PENDING);
+    ASKS_NOT(mds_line_rest(OF(">\t- a"), &start, NULL, 0).length, 4);
+    ASKS_NOT(mds_line_rest(OF(">\t- a"), &start, writable(BUFFER, 4), 4).status, MDS_OK);
+    ASKS_NOT(mds_run_line(OF(">\t- a"), &start, calls + 1, 2, answers, 3).status, MDS_OK);
+    start.pending = 4;
+    ASKS_NOT(mds_run_line(OF(">\t- a"), &start, calls, 3, answers, 3).status, MDS_BAD_STATE);
+    ASKS_NOT(mds_line_rest(OF(">\t- a"), &start, NULL, 0).status, MDS_BAD_STATE);
 }
 
 static void others_on_texts(void) {

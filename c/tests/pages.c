@@ -1,7 +1,10 @@
 /* Scans each tag and label of a long page over one table, and says what it found: c/run counts the instructions. The page is
  * made of so many units, whose lines begin with the marker of a block quote, which the table leaves out.
  *
- * pages UNIT COUNT TAGS LABELS: how many tags and labels a unit has; the status is 1 where more or fewer are found. */
+ * pages UNIT COUNT TAGS LABELS: how many tags and labels a unit has; the status is 1 where more or fewer are found.
+ *
+ * pages UNIT COUNT: the units are bullets of one line, and one run passes them all but the last, behind which no space
+ * stands. */
 #include "markdown_scanners.h"
 #include <stdio.h>
 #include <stdlib.h>
@@ -29,7 +32,24 @@ static void make_page(const char *unit, size_t units) {
             skips[count++] = (struct mds_skip){i, bytes[i] == '>' ? 2 : 0};
 }
 
+static bool are_items(const char *unit, size_t units) {
+    struct mds_line_call *calls = memory(units * sizeof(*calls));
+    struct mds_line_answer *answers = memory(units * sizeof(*answers));
+    struct mds_line_start start = {0};
+    make_page(unit, units), bytes[length - 1] = 'x';
+    for (size_t i = 0; i < units; i++)
+        calls[i] = (struct mds_line_call){MDS_LIST, i};
+    struct mds_line_run run = mds_run_line(bytes, length, &start, calls, units, answers, units);
+    for (size_t i = 0; i < units; i++)
+        if (answers[i].found != (i + 1 < units))
+            return false;
+    printf("%zu calls\n", run.count);
+    return run.status == MDS_OK && run.count == units && start.place == (units - 1) * strlen(unit);
+}
+
 int main(int words, char **word) {
+    if (words == 3)
+        return are_items(word[1], strtoul(word[2], NULL, 10)) ? 0 : 1;
     if (words != 5)
         return 2;
     size_t units = strtoul(word[2], NULL, 10), tags = 0, labels = 0;

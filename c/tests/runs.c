@@ -54,7 +54,7 @@ static void answers_are(int line, const struct mds_line_answer *found, const str
     }
 }
 
-/* What a run on the start of a line is given. */
+/* What a run from the front of a line is given. */
 struct line {
     const uint8_t *bytes;
     size_t length;
@@ -62,42 +62,90 @@ struct line {
     size_t call_count;
 };
 
-/* What it makes. */
+/* What it comes to, and what it leaves. */
 struct made {
     struct mds_line_run run;
     const struct mds_line_answer *answers;
+    size_t place;
     const char *rest;
+    size_t rest_length;
 };
 
-/* With buffers of these capacities. */
-static void line_run_in(int line, struct line of, struct made made, size_t capacity, size_t rest_capacity) {
+static bool is_front(struct mds_line_start start) {
+    const struct mds_line_start front = {0};
+    return !memcmp(&start, &front, sizeof(start));
+}
+
+/* With room for so many answers. */
+static void line_run_in(int line, struct line of, struct made made, size_t capacity) {
     struct mds_line_answer *answers = writable(BUFFER, capacity * sizeof(*answers));
-    uint8_t *rest = writable(REST, rest_capacity);
-    struct mds_line_run run = mds_run_line(of.bytes, of.length, of.calls, of.call_count, answers, capacity, rest, rest_capacity);
-    bool has_room = capacity >= made.run.count && rest_capacity >= made.run.rest;
-    size_t count = has_room ? made.run.count : 0, left = has_room ? made.run.rest : 0;
-    same(line, "status", run.status, has_room ? made.run.status : (uint32_t)MDS_TOO_SHORT);
-    same(line, "count", run.count, made.run.count);
-    same(line, "scanned", run.scanned, made.run.scanned);
-    same(line, "rest", run.rest, made.run.rest);
+    struct mds_line_start start = {0};
+    struct mds_line_run run = mds_run_line(of.bytes, of.length, &start, of.calls, of.call_count, answers, capacity);
+    bool is_short = capacity < of.call_count && made.run.status != MDS_BAD_KIND;
+    size_t count = is_short ? 0 : made.run.count;
+    same(line, "status", run.status, is_short ? (uint32_t)MDS_TOO_SHORT : made.run.status);
+    same(line, "count", run.count, count);
+    same(line, "place", start.place, is_short ? 0 : made.place);
+    same(line, "the line start is left", !is_short || is_front(start), true);
     answers_are(line, answers, made.answers, count);
-    same(line, "what is left is there", left == 0 || !memcmp(rest, made.rest, left), true);
     same(line, "the other answers are left", is_left(BUFFER, count * sizeof(*answers)), true);
-    same(line, "the rest of the buffer is left", is_left(REST, left), true);
+}
+
+/* What is left, with buffers of each capacity. */
+static void rest_is(
+    int line, const uint8_t *bytes, size_t length, const struct mds_line_start *start, const char *rest, size_t rest_length) {
+    for (size_t capacity = 0; capacity < rest_length + 2; capacity++) {
+        uint8_t *buffer = writable(REST, capacity);
+        struct mds_text text = mds_line_rest(bytes, length, start, buffer, capacity);
+        bool has_room = capacity >= rest_length;
+        size_t written = has_room ? rest_length : 0;
+        same(line, "status", text.status, has_room ? MDS_OK : MDS_TOO_SHORT);
+        same(line, "taken", text.taken, length - start->place);
+        same(line, "length", text.length, rest_length);
+        same(line, "what is left is there", written == 0 || !memcmp(buffer, rest, written), true);
+        same(line, "the rest of the buffer is left", is_left(REST, written), true);
+    }
+}
+
+/* The first so many calls in one run, and the others in a second one. */
+static void line_run_in_parts(int line, struct line of, struct made made, size_t first) {
+    struct mds_line_answer *answers = writable(BUFFER, of.call_count * sizeof(*answers));
+    struct mds_line_start start = {0};
+    struct mds_line_run run = mds_run_line(of.bytes, of.length, &start, of.calls, first, answers, first);
+    if (run.status == MDS_OK) {
+        size_t others = of.call_count - first;
+        run = mds_run_line(of.bytes, of.length, &start, of.calls + first, others, answers + first, others);
+        run.count += first;
+    }
+    same(line, "status in parts", run.status, made.run.status);
+    same(line, "count in parts", run.count, made.run.count);
+    same(line, "place in parts", start.place, made.place);
+    answers_are(line, answers, made.answers, made.run.count);
+    rest_is(line, of.bytes, of.length, &start, made.rest, made.rest_length);
 }
 
 static void line_run(
-    int line, const char *text, size_t length, const struct mds_line_call *calls, size_t call_count, uint32_t status, size_t scanned,
+    int line, const char *text, size_t length, const struct mds_line_call *calls, size_t call_count, uint32_t status, size_t place,
     const char *rest, size_t rest_length, const struct mds_line_answer *answers, size_t count) {
     const struct line of = {given(BYTES, text, length), length, given(LIST, calls, call_count * sizeof(*calls)), call_count};
-    const struct made made = {{status, count, scanned, rest_length}, answers, rest};
-    for (size_t capacity = 0; capacity < count + 2; capacity++)
-        for (size_t rest_capacity = 0; rest_capacity < rest_length + 2; rest_capacity++)
-            line_run_in(line, of, made, capacity, rest_capacity);
+    const struct made made = {{status, count}, answers, place, rest, rest_length};
+    for (size_t capacity = 0; capacity < call_count + 2; capacity++)
+        line_run_in(line, of, made, capacity);
+    for (size_t first = 0; first <= call_count && status != MDS_BAD_KIND; first++)
+        line_run_in_parts(line, of, made, first);
 }
 
-#define LINE_RUN(text, calls, status, scanned, rest, answers) \
-    line_run(__LINE__, TEXT(text), calls, status, scanned, TEXT(rest), answers)
+#define LINE_RUN(text, calls, status, place, rest, answers) \
+    line_run(__LINE__, TEXT(text), calls, status, place, TEXT(rest), answers)
+
+/* What is left from a place with these columns pending, where the column of the place modulo four is the phase. */
+static void line_rest(
+    int line, const char *text, size_t length, size_t place, size_t pending, size_t phase, const char *rest, size_t rest_length) {
+    const struct mds_line_start start = {place, pending, phase, 0, 0};
+    rest_is(line, given(BYTES, text, length), length, given(LIST, &start, sizeof(start)), rest, rest_length);
+}
+
+#define LINE_REST(text, place, pending, phase, rest) line_rest(__LINE__, TEXT(text), place, pending, phase, TEXT(rest))
 
 static void line_runs(void) {
     LINE_RUN("   x", CALLS({MDS_UPTO, 2}, {MDS_SPACE, 1}, {MDS_EOL, 0}), MDS_OK, 3, "x",
@@ -119,13 +167,33 @@ static void line_runs(void) {
     LINE_RUN("  x", CALLS({MDS_UPTO, 2}, {MDS_EOL, 0}), MDS_OK, 2, "x", ANSWERS({true, 0, 0, 2}, {false, 0, 0, 0}));
     LINE_RUN("x", CALLS({MDS_EOL, 0}, {6, 0}), MDS_BAD_KIND, 0, "", NONE_OF(struct mds_line_answer));
     LINE_RUN("x", NONE_OF(struct mds_line_call), MDS_OK, 0, "x", NONE_OF(struct mds_line_answer));
-    struct mds_line_run run = mds_run_line(NULL, 0, NULL, 0, NULL, 0, NULL, 0);
-    SAME(run.status, MDS_OK), SAME(run.count, 0), SAME(run.scanned, 0), SAME(run.rest, 0);
+    struct mds_line_start start = {0};
+    struct mds_line_run run = mds_run_line(NULL, 0, &start, NULL, 0, NULL, 0);
+    SAME(run.status, MDS_OK), SAME(run.count, 0), SAME(is_front(start), true);
+}
+
+/* Section 2.2: each tab to the next stop of four, and none behind the line. */
+static void line_rests(void) {
+    LINE_REST("", 0, 0, 0, "");
+    LINE_REST("", 0, 3, 2, "   ");
+    LINE_REST("a\tb", 0, 0, 0, "a   b");
+    LINE_REST("a\tb", 1, 0, 1, "   b");
+    LINE_REST("a\tb", 1, 0, 0, "    b");
+    LINE_REST("a\tb", 2, 3, 0, "   b");
+    LINE_REST("a\tb", 3, 0, 1, "");
+    LINE_REST(">\t\tx\ty", 2, 2, 0, "      x   y");
+    LINE_REST("\t\n\tx", 0, 0, 3, " \n\tx");
+    LINE_REST("x\ty\r\tz\n", 1, 1, 1, "    y\r\tz\n");
+    LINE_REST("\xff\0\t.", 0, 0, 2, "\xff\0    .");
+    struct mds_line_start bad = {2, 0, 0, 0, 0};
+    SAME(mds_line_rest(OF("x"), &bad, NULL, 0).status, MDS_BAD_STATE);
+    struct mds_line_run run = mds_run_line(OF("x"), &bad, (const struct mds_line_call[]){{6, 0}}, 1, NULL, 0);
+    SAME(run.status, MDS_BAD_STATE), SAME(run.count, 0), SAME(bad.place, 2);
 }
 
 int main(void) {
-    html_runs(), line_runs();
+    html_runs(), line_runs(), line_rests();
     at_front = true;
-    html_runs(), line_runs();
+    html_runs(), line_runs(), line_rests();
     return report("runs");
 }

@@ -69,7 +69,7 @@ from .lines import (
     scan_nextline,
     scan_whitespace_in_line,
 )
-from .runs import CallKind, LineAnswer, LineRun, run_inline_html, run_line
+from .runs import CallKind, LineAnswer, line_rest, run_inline_html, run_line
 from .skips import Skips
 
 __version__ = "0.1.0"
@@ -86,7 +86,6 @@ __all__ = [
     "InsideFind",
     "Label",
     "LineAnswer",
-    "LineRun",
     "LineStart",
     "ListItem",
     "ListMarker",
@@ -109,6 +108,7 @@ __all__ = [
     "is_whitespace_in_line",
     "label_key",
     "labels_match",
+    "line_rest",
     "no_hrule_before",
     "run_inline_html",
     "run_line",

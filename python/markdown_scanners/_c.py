@@ -19,18 +19,18 @@ SPACE_PENDING = 12
 BAD_KIND = 13
 BAD_STATE = 14
 
+ALERT_NOTE = 1
+ALERT_TIP = 2
+ALERT_IMPORTANT = 3
+ALERT_WARNING = 4
+ALERT_CAUTION = 5
+
 SPACE = 0
 UPTO = 1
 EOL = 2
 QUOTE = 3
 LIST = 4
 DEFINITION = 5
-
-ALERT_NOTE = 1
-ALERT_TIP = 2
-ALERT_IMPORTANT = 3
-ALERT_WARNING = 4
-ALERT_CAUTION = 5
 
 ALIGN_NONE = 0
 ALIGN_LEFT = 1
@@ -70,41 +70,6 @@ class Indent(Structure):
         ("status", c_uint32),
         ("place", c_size_t),
         ("columns", c_size_t),
-    ]
-
-
-class LineCall(Structure):
-    kind: int
-    number: int
-    _fields_ = [
-        ("kind", c_uint32),
-        ("number", c_size_t),
-    ]
-
-
-class LineAnswer(Structure):
-    found: bool
-    delimiter: int
-    start: int
-    number: int
-    _fields_ = [
-        ("found", c_bool),
-        ("delimiter", c_uint8),
-        ("start", c_uint64),
-        ("number", c_size_t),
-    ]
-
-
-class LineRun(Structure):
-    status: int
-    count: int
-    scanned: int
-    rest: int
-    _fields_ = [
-        ("status", c_uint32),
-        ("count", c_size_t),
-        ("scanned", c_size_t),
-        ("rest", c_size_t),
     ]
 
 
@@ -160,6 +125,37 @@ class Alert(Structure):
     _fields_ = [
         ("status", c_uint32),
         ("kind", c_uint32),
+    ]
+
+
+class LineCall(Structure):
+    kind: int
+    number: int
+    _fields_ = [
+        ("kind", c_uint32),
+        ("number", c_size_t),
+    ]
+
+
+class LineAnswer(Structure):
+    found: bool
+    delimiter: int
+    start: int
+    number: int
+    _fields_ = [
+        ("found", c_bool),
+        ("delimiter", c_uint8),
+        ("start", c_uint64),
+        ("number", c_size_t),
+    ]
+
+
+class LineRun(Structure):
+    status: int
+    count: int
+    _fields_ = [
+        ("status", c_uint32),
+        ("count", c_size_t),
     ]
 
 
@@ -285,7 +281,6 @@ FUNCTIONS = {
     "scan_blockquote_start": (c_size_t, (c_void_p, c_size_t)),
     "scan_listitem": (ListItem, (c_void_p, c_size_t)),
     "calc_indent": (Indent, (c_void_p, c_size_t, c_size_t)),
-    "run_line": (LineRun, (c_void_p, c_size_t, POINTER(LineCall), c_size_t, POINTER(LineAnswer), c_size_t, c_void_p, c_size_t)),
     "line_space": (c_uint32, (c_void_p, c_size_t, POINTER(LineStart), c_size_t)),
     "line_upto": (Columns, (c_void_p, c_size_t, POINTER(LineStart), c_size_t)),
     "line_all_space": (c_uint32, (c_void_p, c_size_t, POINTER(LineStart))),
@@ -295,6 +290,8 @@ FUNCTIONS = {
     "line_definition": (Columns, (c_void_p, c_size_t, POINTER(LineStart), c_size_t)),
     "line_task": (Task, (c_void_p, c_size_t, POINTER(LineStart))),
     "line_alert": (Alert, (c_void_p, c_size_t, POINTER(LineStart))),
+    "run_line": (LineRun, (c_void_p, c_size_t, POINTER(LineStart), POINTER(LineCall), c_size_t, POINTER(LineAnswer), c_size_t)),
+    "line_rest": (Text, (c_void_p, c_size_t, POINTER(LineStart), c_void_p, c_size_t)),
     "scan_hrule": (Break, (c_void_p, c_size_t)),
     "scan_atx_heading": (c_uint32, (c_void_p, c_size_t)),
     "scan_setext_heading": (Underline, (c_void_p, c_size_t)),

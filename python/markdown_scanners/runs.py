@@ -1,14 +1,14 @@
-"""Many calls in one: on the start of a line, and of inline HTML. Sections in brackets are those of CommonMark 0.31.2."""
+"""Many calls in one: on a line start, and of inline HTML. Sections in brackets are those of CommonMark 0.31.2."""
 from __future__ import annotations
 
 import ctypes
 from enum import IntEnum
-from typing import Iterable, NamedTuple, Optional, TypeVar, Union
+from typing import Iterable, Optional, TypeVar, Union
 
 from . import _c
-from ._library import limits, number, scan, stated
+from ._library import made, number, scan
 from .errors import Stopped, TooLarge, refusal
-from .line_start import ListMarker
+from .line_start import LineStart, ListMarker
 
 
 class CallKind(IntEnum):
@@ -23,15 +23,7 @@ class CallKind(IntEnum):
 
 
 LineAnswer = Union[bool, int, ListMarker, None]
-Run = TypeVar("Run")
-
-
-class LineRun(NamedTuple):
-    """What a run on the start of a line came to."""
-
-    answers: tuple[LineAnswer, ...]  #: of each call
-    place: int  #: the place that is reached
-    rest: bytes  #: what is left of the bytes, the line's tabs written out
+Answer = TypeVar("Answer")
 
 
 def _answer(kind: CallKind, found: _c.LineAnswer) -> LineAnswer:
@@ -44,21 +36,32 @@ def _answer(kind: CallKind, found: _c.LineAnswer) -> LineAnswer:
     return found.number if kind == CallKind.DEFINITION else ListMarker(found.delimiter, found.start, found.number)
 
 
-def run_line(data: bytes, calls: Iterable[tuple[int, int]], at: int = 0, end: Optional[int] = None) -> LineRun:
-    r"""Makes the calls in turn, each a kind and a number, as on the line with its tabs written out to stops of four. Before a call
-    that is refused the run stops: SpacePending or TooLarge, whose `run` has what the calls before it came to. (2.2)
+def run_line(start: LineStart, calls: Iterable[tuple[int, int]]) -> tuple[LineAnswer, ...]:
+    r"""Makes the calls in turn, each a kind and a number, from the line start on, as on the line with its tabs written out to stops
+    of four, and leaves it where the run stopped. Before a call that is refused the run stops: SpacePending or TooLarge, whose
+    `run` has the answers of the calls before it. (2.2)
 
-    >>> run_line(b">\tx", [(CallKind.QUOTE, 0), (CallKind.UPTO, 9)])
-    LineRun(answers=(True, 2), place=2, rest=b'x')
+    >>> start = LineStart(b">\tx")
+    >>> run_line(start, [(CallKind.QUOTE, 0), (CallKind.UPTO, 1)]), start.place, start.pending
+    ((True, 1), 2, 1)
     """
     kinds = [(CallKind(kind), number("a number of a call", it)) for kind, it in calls]
-    room = 4 * (limits(data, at, end) - at)
-    answers, rest = (_c.LineAnswer * len(kinds))(), ctypes.create_string_buffer(room + 1)
-    given = (_c.LineCall * len(kinds))(*kinds)
-    found = scan("run_line", data, at, end, given, len(kinds), answers, len(kinds), rest, room)
+    given, answers = (_c.LineCall * len(kinds))(*kinds), (_c.LineAnswer * len(kinds))()
+    numbers = ctypes.byref(start._numbers)
+    found = scan("run_line", start.data, start.begin, start.end, numbers, given, len(kinds), answers, len(kinds))
     told = tuple(_answer(kind, answer) for (kind, _), answer in zip(kinds, answers[: found.count]))
-    run = LineRun(told, at + found.scanned, rest[: found.rest])
-    return _ended(found.status, run)
+    return _ended(found.status, told)
+
+
+def line_rest(start: LineStart) -> bytes:
+    r"""What is left of the bytes from the line start on: its pending columns as spaces, then the bytes from its place on, their
+    tabs before a line ending written out. (2.2)
+
+    >>> line_rest(LineStart(b"a\tb\n\tc"))
+    b'a   b\n\tc'
+    """
+    room = 4 * (start.end - start.place) + start.pending
+    return made("line_rest", start.data, start.begin, start.end, room, ctypes.byref(start._numbers))[1]
 
 
 def run_inline_html(data: bytes, places: Iterable[int], end: Optional[int] = None) -> tuple[Optional[int], ...]:
@@ -74,7 +77,7 @@ def run_inline_html(data: bytes, places: Iterable[int], end: Optional[int] = Non
     return _ended(found.status, tuple(None if it == _c.NONE else it for it in ends[: found.count]))
 
 
-def _ended(status: int, run: Run) -> Run:
+def _ended(status: int, run: tuple[Answer, ...]) -> tuple[Answer, ...]:
     """The run; or its refusal, which has it."""
     if status in (_c.OK, _c.NOTHING):
         return run

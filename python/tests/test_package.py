@@ -78,8 +78,9 @@ class Refusals(unittest.TestCase):
             mds.run_inline_html(b"<!a>", [2, 2])
         self.assertEqual(why.exception.run, (4,))
         with self.assertRaises(mds.SpacePending) as why:
-            mds.run_line(b"\tx", [(mds.CallKind.UPTO, 3), (mds.CallKind.EOL, 0)])
-        self.assertEqual(why.exception.run, mds.LineRun((3,), 1, b" x"))
+            mds.run_line(start := mds.LineStart(b"\tx"), [(mds.CallKind.UPTO, 3), (mds.CallKind.EOL, 0)])
+        self.assertEqual((why.exception.run, start.place, mds.line_rest(start)), ((3,), 1, b" x"))
+        self.assertEqual(mds.run_line(start, [(mds.CallKind.UPTO, 3), (mds.CallKind.EOL, 0)]), (1, False))
 
 
 class Texts(unittest.TestCase):

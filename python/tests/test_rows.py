@@ -1,5 +1,6 @@
 """The rows of c/tests, which C checks of the functions, checked of the package's calls: the same answers, or more of None and
 exceptions. The file totals of this folder has how many there are of each file; fewer and more fail."""
+import itertools
 import unittest
 from collections import Counter
 from pathlib import Path
@@ -17,6 +18,9 @@ FIELDS = {
     "PART": ("end", "start", "length"), "NO_PART": ("status",), "FENCE": ("length", "byte"), "BREAK": ("length",),
     "NO_BREAK": ("none_before",), "END": ("status", "end"), "NO_FENCE": (), "NO_ITEM": (),
 }
+# The calls that are methods of a line start.
+LINE_CALLS = {f"mds_line_{it}" for it in (
+    "space", "upto", "all_space", "eol", "quote", "list", "definition", "task", "alert")}
 NOTHING = {"NO_FENCE": {"length": NONE, "byte": 0}, "NO_ITEM": {"length": NONE, "start": 0, "indent": 0, "delimiter": 0}}
 
 
@@ -94,7 +98,7 @@ class Rows(unittest.TestCase):
 
     def is_known(self, call):
         """Whether the package has the call, and the bytes are not C's to compute."""
-        of_line = call.name.startswith("mds_line_") and isinstance(self.variables.get("start"), list)
+        of_line = call.name in LINE_CALLS and isinstance(self.variables.get("start"), list)
         return of_line or isinstance(call.given[0], bytes) and (call.name in CALLS or call.name == "mds_labels_match")
 
     def let(self, row, name, value):
@@ -153,18 +157,30 @@ class Rows(unittest.TestCase):
         self.assertEqual((one.start.place + len(BEFORE), one.start.pending), (other.start.place, other.start.pending))
         return one.start.place
 
-    def check_line_run(self, row, data, calls, status, scanned, rest, answers):
+    def check_line_run(self, row, data, calls, status, place, rest, answers):
         if status == _c.BAD_KIND:
             with self.assertRaises(ValueError):
-                mds.run_line(data, calls)
+                mds.run_line(mds.LineStart(data), calls)
             return self.same(row, True, True)
-        for inside in (False, True):
+        for inside, first in itertools.product((False, True), range(len(calls) + 1)):
             d = Data(data, inside)
-            found, run = told(mds.run_line, d.data, calls, d.at, d.end)
+            start = mds.LineStart(d.data, d.at, d.end)
+            found, run = told(mds.run_line, start, calls[:first])
+            if found == _c.OK:
+                found, more = told(mds.run_line, start, calls[first:])
+                run += getattr(more, "run", more)
             run = getattr(run, "run", run)
-            self.assertEqual((found, run.place - d.at, run.rest), (status, scanned, rest), str(row))
-            self.assertEqual([self.answer(kind, it) for (kind, _), it in zip(calls, run.answers)], answers, str(row))
-        self.same(row, len(run.answers), len(answers))
+            self.assertEqual((found, start.place - d.at, mds.line_rest(start)), (status, place, rest), str(row))
+            self.assertEqual([self.answer(kind, it) for (kind, _), it in zip(calls, run)], answers, str(row))
+        self.same(row, len(run), len(answers))
+
+    def check_line_rest(self, row, data, place, pending, phase, rest):
+        for inside in (False, True):
+            lines = Lines(data, inside)
+            for name, it in (("place", place), ("pending", pending), ("phase", phase)):
+                setattr(lines.start._numbers, name, it)
+            self.assertEqual(mds.line_rest(lines.start), rest, str(row))
+        self.same(row, True, True)
 
     @staticmethod
     def answer(kind, it):
@@ -222,6 +238,8 @@ class Rows(unittest.TestCase):
             self.check_front(row, *given)
         elif macro == "LINE_RUN":
             self.check_line_run(row, *given)
+        elif macro == "LINE_REST":
+            self.check_line_rest(row, *given)
         elif macro == "HTML_RUN":
             self.check_html_run(row, *given)
 

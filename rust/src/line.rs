@@ -19,8 +19,8 @@ use crate::values::BlockQuoteKind;
 /// ```
 #[derive(Clone)]
 pub struct LineStart<'line> {
-    bytes: &'line [u8],
-    numbers: raw::LineStart,
+    pub(crate) bytes: &'line [u8],
+    pub(crate) numbers: raw::LineStart,
 }
 
 impl fmt::Debug for LineStart<'_> {

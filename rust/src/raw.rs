@@ -221,20 +221,19 @@ fn told(text: Text) -> Text {
 
 pub(crate) fn run_line(
     bytes: &[u8],
+    start: &mut LineStart,
     calls: &[ffi::LineCall],
     answers: &mut [ffi::LineAnswer],
-    rest: &mut [u8],
 ) -> ffi::LineRun {
-    let (listed, many) = (answers.as_mut_ptr(), answers.len());
-    let (room, capacity) = (rest.as_mut_ptr(), rest.len());
+    let (listed, capacity) = (answers.as_mut_ptr(), answers.len());
     // SAFETY: each pointer and length are those of one slice, and what is written are two `&mut` of their own.
-    let run = unsafe {
-        ffi::mds_run_line(front(bytes), bytes.len(), calls.as_ptr(), calls.len(), listed, many, room, capacity)
-    };
-    if run.status == ffi::NO_MEMORY {
-        refused();
-    }
-    run
+    unsafe { ffi::mds_run_line(front(bytes), bytes.len(), start, calls.as_ptr(), calls.len(), listed, capacity) }
+}
+
+pub(crate) fn line_rest(bytes: &[u8], start: &LineStart, buffer: &mut [u8]) -> Text {
+    // SAFETY: each pointer and length are those of one slice, the line start is a `&`, and what is written is a `&mut` of
+    // its own.
+    unsafe { ffi::mds_line_rest(front(bytes), bytes.len(), start, buffer.as_mut_ptr(), buffer.len()) }
 }
 
 pub(crate) fn run_inline_html(bytes: &[u8], places: &[usize], ends: &mut [usize]) -> ffi::HtmlRun {

@@ -1,9 +1,10 @@
-//! Many calls in one: on the start of a line, and of inline HTML. Sections in brackets are those of CommonMark 0.31.2.
+//! Many calls in one: on a line start, and of inline HTML. Sections in brackets are those of CommonMark 0.31.2.
 
+use crate::line::LineStart;
 use crate::raw::{self, ffi};
 use crate::values::found;
 
-/// A call of a run on the start of a line.
+/// A call of a run on a line start.
 #[derive(Clone, Copy, Debug, PartialEq, Eq)]
 pub enum LineCall {
     /// So many columns of space, or fewer where there are fewer.
@@ -37,7 +38,7 @@ pub enum LineAnswer {
     Definition(Option<usize>),
 }
 
-/// Why a run on the start of a line stops.
+/// Why a run on a line start stops.
 #[derive(Clone, Copy, Debug, PartialEq, Eq)]
 pub enum LineStop {
     /// Columns of a tab are pending, and the call takes no space.
@@ -46,17 +47,13 @@ pub enum LineStop {
     IndentTooLarge,
 }
 
-/// What a run on the start of a line comes to.
+/// What a run on a line start comes to.
 #[derive(Clone, Debug, PartialEq, Eq)]
 pub struct LineRun {
     /// Of each call before the run stopped.
     pub answers: Vec<LineAnswer>,
-    /// How many bytes of the line have been passed.
-    pub scanned: usize,
     /// Before which call the run stopped, and why.
     pub stop: Option<(usize, LineStop)>,
-    /// What is left of the line, its tabs written out.
-    pub rest: Vec<u8>,
 }
 
 fn call_of(call: LineCall) -> ffi::LineCall {
@@ -82,27 +79,40 @@ fn answer_of(call: LineCall, told: ffi::LineAnswer) -> LineAnswer {
     }
 }
 
-/// Makes the calls in turn on the line, as on the line with its tabs written out to stops of four. (2.2)
+/// Makes the calls in turn from the line start on, as on the line with its tabs written out to stops of four, and leaves it
+/// where the run stopped. (2.2)
 ///
 /// ```
-/// use markdown_scanners::{run_line, LineAnswer, LineCall};
-/// let run = run_line(b">\tx", &[LineCall::Quote, LineCall::Upto(9)]);
-/// assert_eq!(run.answers, [LineAnswer::Quote(true), LineAnswer::Upto(2)]);
-/// assert_eq!((run.scanned, run.stop, &run.rest[..]), (2, None, &b"x"[..]));
+/// use markdown_scanners::{line_rest, run_line, LineAnswer, LineCall, LineStart};
+/// let mut start = LineStart::new(b">\t- x");
+/// let run = run_line(&mut start, &[LineCall::Quote, LineCall::Upto(1)]);
+/// assert_eq!(run.answers, [LineAnswer::Quote(true), LineAnswer::Upto(1)]);
+/// assert_eq!((start.bytes_scanned(), run.stop, &line_rest(&start)[..]), (2, None, &b" - x"[..]));
 /// ```
-pub fn run_line(bytes: &[u8], calls: &[LineCall]) -> LineRun {
+pub fn run_line(start: &mut LineStart, calls: &[LineCall]) -> LineRun {
     let given: Vec<_> = calls.iter().copied().map(call_of).collect();
     let mut answers = vec![ffi::LineAnswer::default(); calls.len()];
-    let mut rest = vec![0; 4 * bytes.len()];
-    let run = raw::run_line(bytes, &given, &mut answers, &mut rest);
-    rest.truncate(run.rest);
+    let run = raw::run_line(start.bytes, &mut start.numbers, &given, &mut answers);
     let stop = match run.status {
         ffi::SPACE_PENDING => Some((run.count, LineStop::SpacePending)),
         ffi::TOO_LARGE => Some((run.count, LineStop::IndentTooLarge)),
         _ => None,
     };
     let told = calls.iter().zip(&answers[..run.count]).map(|(call, told)| answer_of(*call, *told));
-    LineRun { answers: told.collect(), scanned: run.scanned, stop, rest }
+    LineRun { answers: told.collect(), stop }
+}
+
+/// What is left of the bytes from the line start on: its pending columns as spaces, then the bytes from its place on, their
+/// tabs before a line ending written out. (2.2)
+///
+/// ```
+/// use markdown_scanners::{line_rest, LineStart};
+/// assert_eq!(line_rest(&LineStart::new(b"a\tb\n\tc")), b"a   b\n\tc");
+/// ```
+pub fn line_rest(start: &LineStart) -> Vec<u8> {
+    let mut rest = vec![0; raw::line_rest(start.bytes, &start.numbers, &mut []).length];
+    raw::line_rest(start.bytes, &start.numbers, &mut rest);
+    rest
 }
 
 /// Why a run of inline HTML stops.

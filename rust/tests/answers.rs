@@ -173,16 +173,19 @@ fn keys() {
 
 #[test]
 fn runs() {
-    let run = run_line(b"\tx", &[LineCall::Upto(3), LineCall::Eol]);
+    let mut start = LineStart::new(b"\tx");
+    let run = run_line(&mut start, &[LineCall::Upto(3), LineCall::Eol]);
     assert_eq!((run.answers, run.stop), (vec![LineAnswer::Upto(3)], Some((1, LineStop::SpacePending))));
-    assert_eq!((run.scanned, run.rest), (1, b" x".to_vec()));
+    assert_eq!((start.bytes_scanned(), line_rest(&start)), (1, b" x".to_vec()));
+    assert_eq!(run_line(&mut start, &[LineCall::Upto(3), LineCall::Eol]).answers[0], LineAnswer::Upto(1));
     let calls = [LineCall::Space(1), LineCall::Eol, LineCall::List(0), LineCall::Definition(2)];
-    let run = run_line(b" - :  x", &calls);
+    let run = run_line(&mut LineStart::new(b" - :  x"), &calls);
     let wanted = [LineAnswer::Space(true), LineAnswer::Eol(false)];
     assert_eq!(run.answers[..2], wanted);
     assert_eq!(run.answers[2..], [LineAnswer::List(Some((b'-', 0, 2))), LineAnswer::Definition(Some(5))]);
-    let run = run_line(b"- x", &[LineCall::Quote, LineCall::List(usize::MAX)]);
+    let run = run_line(&mut LineStart::new(b"- x"), &[LineCall::Quote, LineCall::List(usize::MAX)]);
     assert_eq!((run.answers, run.stop), (vec![LineAnswer::Quote(false)], Some((1, LineStop::IndentTooLarge))));
+    assert_eq!(line_rest(&LineStart::new(b"\t\r\t")), b"    \r\t");
     let stops = [([2, 2], HtmlStop::NotRising), ([2, 3], HtmlStop::NoOpener), ([2, 7], HtmlStop::InsideFind)];
     for (places, stop) in stops {
         let run = run_inline_html(b"<!-- <!a -->", &places);

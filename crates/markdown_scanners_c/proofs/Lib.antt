@@ -4,9 +4,10 @@ pub mod KeyLemmas
 pub mod LabelEnds
 pub mod LabelLemmas
 pub mod LabelRoom
+pub mod LineRests
+pub mod LineRuns
 pub mod Meanings
 pub mod Parts
-pub mod Rests
 pub mod Rows
 pub mod SkipLemmas
 pub mod TagLemmas

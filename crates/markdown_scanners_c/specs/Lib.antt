@@ -4,6 +4,7 @@ pub mod Finds
 pub mod Guards
 pub mod Keys
 pub mod Labels
+pub mod LineRests
 pub mod LineRuns
 pub mod LineStarts
 pub mod Parts

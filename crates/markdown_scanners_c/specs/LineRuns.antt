@@ -1,5 +1,5 @@
--- Runs of calls on the start of a line, and what C is told of them. (CommonMark 0.31.2, section 2.2, tabs)
-use Rattle.std.specs.Prelude.{ℕ, Bool, true, false, List, ◌≡◌, ◌≤◌, ◌<◌, ◌==◌, ◌++◌, ◌⊎◌, Option, None, Some, nat_lt, drop, length, map, if◌then◌else◌}
+-- Runs of calls on a line start, and what C is told of them. (CommonMark 0.31.2, section 2.2, tabs)
+use Rattle.std.specs.Prelude.{ℕ, Bool, true, false, List, ◌≡◌, ◌≤◌, ◌==◌, ◌++◌, Option, None, Some, nat_lt, drop, length, map, if◌then◌else◌}
 use Rattle.std.specs.List.{list_all}
 use Rattle.markdown_scanners_tree.specs.declared.line.run.LineAnswer.{LineAnswer}
 use Rattle.markdown_scanners_tree.specs.declared.line.run.LineAnswer.TheVariants.{Flag, Count, List as ItemAnswer, Definition as DefinitionAnswer}
@@ -7,11 +7,15 @@ use Rattle.markdown_scanners_tree.specs.declared.line.run.LineCall.{LineCall}
 use Rattle.markdown_scanners_tree.specs.declared.line.run.LineCall.TheVariants.{Space, Upto, Eol, Quote, List as ItemCall, Definition as DefinitionCall}
 use Rattle.markdown_scanners_tree.specs.declared.line.run.LineStop.{LineStop}
 use Rattle.markdown_scanners_tree.specs.declared.line.run.LineStop.TheVariants.{SpacePending, IndentTooLarge}
-use Rattle.markdown_scanners_tree.specs.line.run.PlainRun.{PlainRun, plain_run, rest_after, scanned_after, indexed_stop}
-use Rattle.markdown_scanners_c.specs.Status.{ok, too_large, too_short, no_memory, space_pending, bad_kind}
+use Rattle.markdown_scanners_tree.specs.line.State.{IsLineState, rest_of}
+use Rattle.markdown_scanners_tree.specs.line.run.PlainRun.{PlainRun, rest_after, scanned_after}
+use Rattle.markdown_scanners_tree.specs.line.run.StateRun.{StateRun, state_run}
+use Rattle.markdown_scanners_c.specs.LineStarts.{known_breaks, state_on}
+use Rattle.markdown_scanners_c.specs.Status.{ok, too_large, space_pending}
 use Rattle.markdown_scanners_c.specs.declared.line_runs.Call.{Call}
 use Rattle.markdown_scanners_c.specs.declared.line_runs.Answer.{Answer}
 use Rattle.markdown_scanners_c.specs.declared.line_runs.LineEnds.{LineEnds}
+use Rattle.markdown_scanners_c.specs.declared.line_starts.Start.{Start}
 
 -- a number of `enum mds_line_call_kind`
 abbrev pub is_known : Call → Bool
@@ -36,41 +40,51 @@ answer_of (ItemAnswer (Some r)) = record { found = true; delimiter = r.0; start 
 answer_of (DefinitionAnswer None) = record { found = false; delimiter = 0; start = 0; number = 0 }
 answer_of (DefinitionAnswer (Some n)) = record { found = true; delimiter = 0; start = 0; number = n }
 
+-- why a call is refused
+abbrev pub stop_status : LineStop → ℕ
+stop_status SpacePending = space_pending
+stop_status IndentTooLarge = too_large
+
 -- why a run stops before its last call, if it does
-abbrev pub run_status : Option (ℕ × LineStop) → ℕ
+abbrev pub run_status : Option LineStop → ℕ
 run_status None = ok
-run_status (Some (index, SpacePending)) = space_pending
-run_status (Some (index, IndentTooLarge)) = too_large
+run_status (Some stop) = stop_status stop
 
--- Answers and what is left of a line, written where both buffers have room, with this status; else nothing has changed.
-unfoldable pub AreWritten : List Answer → List ℕ → List Answer → List Answer → List ℕ → List ℕ → ℕ → ℕ → Type 0
-AreWritten made left old_answers new_answers old_rest new_rest done status =
-    ((status ≡ done) × (length made ≤ length old_answers) × (length left ≤ length old_rest)
-    × (new_answers ≡ made ++ drop (length made) old_answers)
-    × (new_rest ≡ left ++ drop (length left) old_rest))
-    ⊎ ((status ≡ too_short)
-    × ((length old_answers < length made) ⊎ (length old_rest < length left))
-    × (new_answers ≡ old_answers) × (new_rest ≡ old_rest))
+-- a status, and no call was made
+abbrev pub no_run : ℕ → LineEnds
+no_run status = record { status = status; count = 0 }
 
--- a status, and no run
-abbrev pub IsNoRun : ℕ → LineEnds → Type 0
-IsNoRun status ends =
-    (ends.status ≡ status) × (ends.count ≡ 0) × (ends.scanned ≡ 0) × (ends.rest ≡ 0)
+-- Calls are made: from a line start on these bytes, each of a known kind, with room for an answer of each.
+abbrev pub CanRun : List ℕ → Start → List Call → List Answer → Type 0
+CanRun bytes start calls answers =
+    IsLineState (state_on bytes start) × (list_all is_known calls ≡ true) × (length calls ≤ length answers)
 
--- Memory was refused; or what a run made and left is told and written.
-unfoldable pub IsMadeRun : List ℕ → PlainRun → List Answer → List Answer → List ℕ → List ℕ → LineEnds → Type 0
-IsMadeRun bytes run old_answers new_answers old_rest new_rest ends =
-    (IsNoRun no_memory ends × (new_answers ≡ old_answers) × (new_rest ≡ old_rest))
-    ⊎ ((ends.count ≡ length (map answer_of run.answers)) × (ends.scanned ≡ scanned_after bytes run)
-    × (ends.rest ≡ length (rest_after bytes run))
-    × AreWritten (map answer_of run.answers) (rest_after bytes run)
-    old_answers new_answers old_rest new_rest (run_status (indexed_stop run)) ends.status)
+-- the run of the calls from the line start on
+abbrev pub run_at : List ℕ → Start → List Call → StateRun
+run_at bytes start calls = state_run (state_on bytes start) (known_breaks start) (map line_call calls)
 
--- A call is of no known kind; or the run is made.
-abbrev pub IsLineRun : List ℕ → List Call → List Answer → List Answer → List ℕ → List ℕ → LineEnds → Type 0
-IsLineRun bytes calls old_answers new_answers old_rest new_rest ends =
-    (IsNoRun bad_kind ends × (list_all is_known calls ≡ false)
-    × (new_answers ≡ old_answers) × (new_rest ≡ old_rest))
-    ⊎ ((list_all is_known calls ≡ true)
-    × IsMadeRun bytes (plain_run bytes (map line_call calls))
-    old_answers new_answers old_rest new_rest ends)
+-- These answers stand at the front of the buffer, whose others are as they were, and how many they are and why no more
+-- calls were made is told.
+abbrev pub AreAnswers : List LineAnswer → Option LineStop → List Answer → List Answer → LineEnds → Type 0
+AreAnswers made stop old new ends =
+    (ends.status ≡ run_status stop) × (ends.count ≡ length made)
+    × (new ≡ map answer_of made ++ drop (length made) old)
+
+-- A run is told, and the line start is where it stopped.
+pub record IsRun (bytes : List ℕ) (run : StateRun) (new : Start) (old_answers new_answers : List Answer)
+    (ends : LineEnds) : Type 0 where
+  pub answers : AreAnswers run.answers run.stop old_answers new_answers ends
+  pub state : state_on bytes new ≡ run.state
+  pub known : known_breaks new ≡ run.known
+
+-- the front of a line
+abbrev pub IsFront : Start → Type 0
+IsFront start =
+    (start.place ≡ 0) × (start.pending ≡ 0) × (start.phase ≡ 0) × (start.none_before ≡ 0) × (start.behind_break ≡ 0)
+
+-- A run on the line with its tabs written out is told, and what is left of the line is what it leaves.
+pub record IsLineRun (bytes : List ℕ) (run : PlainRun) (new : Start) (old_answers new_answers : List Answer)
+    (ends : LineEnds) : Type 0 where
+  pub answers : AreAnswers run.answers run.stop old_answers new_answers ends
+  pub rest : rest_of (state_on bytes new) ≡ rest_after bytes run
+  pub scanned : new.place ≡ scanned_after bytes run

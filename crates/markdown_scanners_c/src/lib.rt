@@ -6,6 +6,7 @@ mod html;
 mod inline;
 mod keys;
 mod labels;
+mod line_rests;
 mod line_runs;
 mod line_starts;
 mod lines;

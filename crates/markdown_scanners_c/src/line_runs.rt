@@ -1,12 +1,17 @@
-//! Runs of calls on the start of a line.
-ghost use Rattle.std.specs.Prelude.{◌≡◌, ◌≤◌, ◌*◌, length, map, IfOk};
+//! Runs of calls on a line start.
+ghost use Rattle.std.specs.Prelude.{◌≡◌, ◌≤◌, ◌<◌, true, false, drop, length, map};
 ghost use Rattle.std.specs.List.{list_all};
-ghost use Rattle.markdown_scanners_tree.specs.line.run.PlainRun.{plain_run, indexed_stop, rest_after, scanned_after};
-ghost use Rattle.markdown_scanners_c.specs.LineRuns.{IsNoRun, is_known, line_call, answer_of, run_status, AreWritten, IsMadeRun, IsLineRun};
+ghost use Rattle.markdown_scanners_tree.specs.line.KnownBreaks.{AreTrueBreaks};
+ghost use Rattle.markdown_scanners_tree.specs.line.State.{IsLineState};
+ghost use Rattle.markdown_scanners_tree.specs.line.run.PlainRun.{plain_run};
+ghost use Rattle.markdown_scanners_tree.specs.line.run.StateRun.{state_run};
+ghost use Rattle.markdown_scanners_c.specs.LineRuns.{CanRun, IsFront, IsLineRun, IsRun, AreAnswers, answer_of, is_known, line_call, no_run, run_at, stop_status};
+ghost use Rattle.markdown_scanners_c.specs.LineStarts.{IsNext, IsTrueStart, state_on};
+ghost use Rattle.markdown_scanners_c.specs.Status.{bad_kind, bad_state, too_short};
 
-use crate::status::{BAD_KIND, NO_MEMORY, OK, SPACE_PENDING, TOO_LARGE, TOO_SHORT};
-use markdown_scanners_tree::line::{LineAnswer, LineCall, LineRun, LineStop, run_line};
-use std::alloc::{AllocError, Global};
+use crate::line_starts::Start;
+use crate::status::{BAD_KIND, BAD_STATE, OK, SPACE_PENDING, TOO_LARGE, TOO_SHORT};
+use markdown_scanners_tree::line::{KnownBreaks, LineAnswer, LineCall, LineStart, LineStop};
 
 /// `struct mds_line_call` of C: a call on a line start, and its number.
 #[repr(C)]
@@ -26,44 +31,68 @@ pub struct Answer {
     pub number: usize,
 }
 
-/// `struct mds_line_run` of C: how far a run came, in calls and bytes.
+/// `struct mds_line_run` of C: how many calls a run made.
 #[repr(C)]
 pub struct LineEnds {
     pub status: u32,
     pub count: usize,
-    pub scanned: usize,
-    pub rest: usize,
 }
 
 fn no_run(status: u32) -> LineEnds
-    ensures { IsNoRun status result }
+    ensures { result ≡ no_run status }
 {
-    LineEnds {
-        status,
-        count: 0,
-        scanned: 0,
-        rest: 0,
-    }
+    LineEnds { status, count: 0 }
 }
 
-/// Makes calls on a line in turn, and writes their answers and what is left of it. (CommonMark
-/// 0.31.2, section 2.2)
+/// Makes calls in turn from a line start on, and writes their answers. (CommonMark 0.31.2, section
+/// 2.2)
 #[unsafe(no_mangle)]
 pub extern "C" fn mds_run_line(
-    alloc: Global,
     bytes: &[u8],
+    start: &mut Start,
     calls: &[Call],
     answers: &mut [Answer],
-    rest: &mut [u8],
 ) -> LineEnds
-    ensures run { IsLineRun bytes.now calls.now answers.old answers.new rest.old rest.new result }
-    ensures room { (result.count ≤ length calls.now) × (result.rest ≤ 4 * length bytes.now) }
+    // Why no call is made.
+    ensures state { ¬ IsLineState (state_on bytes.now start.old) → result ≡ no_run bad_state }
+    ensures kind { IsLineState (state_on bytes.now start.old)
+        → list_all is_known calls.now ≡ false → result ≡ no_run bad_kind }
+    ensures short { IsLineState (state_on bytes.now start.old)
+        → list_all is_known calls.now ≡ true → length answers.old < length calls.now
+        → result ≡ no_run too_short }
+    ensures refused { ¬ CanRun bytes.now start.old calls.now answers.old
+        → (start.new ≡ start.old) × (answers.new ≡ answers.old) }
+
+    // Where what is known of the line is true.
+    ensures run { CanRun bytes.now start.old calls.now answers.old → IsTrueStart bytes.now start.old
+        → IsRun bytes.now (run_at bytes.now start.old calls.now)
+        start.new answers.old answers.new result }
+
+    // From the front of a line the tab law holds.
+    ensures front { CanRun bytes.now start.old calls.now answers.old → IsFront start.old
+        → IsLineRun bytes.now (plain_run bytes.now (map line_call calls.now))
+        start.new answers.old answers.new result }
+
+    // Whatever is known.
+    ensures next { IsLineState (state_on bytes.now start.old)
+        → IsNext bytes.now start.old start.new }
+    ensures room { result.count ≤ length calls.now }
+    ensures kept { drop result.count answers.new ≡ drop result.count answers.old }
 {
-    if are_known(calls) {
-        made_run(alloc, bytes, calls, answers, rest)
-    } else {
-        no_run(BAD_KIND)
+    let Some(mut line) = start.on(bytes) else {
+        return no_run(BAD_STATE);
+    };
+    if !are_known(calls) {
+        return no_run(BAD_KIND);
     }
+    if answers.len() < calls.len() {
+        return no_run(TOO_SHORT);
+    }
+    let mut breaks = start.breaks();
+    let ends = made_run(&mut line, &mut breaks, calls, answers);
+    start.keep(&line);
+    start.learn(&breaks);
+    ends
 }
 
 // Whether each call has a kind that there is.
@@ -73,54 +102,48 @@ fn are_known(calls: &[Call]) -> bool
     calls.iter().all(|call| call.kind < 6)
 }
 
-#[tactic(auto, unfolding(crate::specs::LineRuns::IsMadeRun))]
+// Makes the calls, and writes the answer of each.
 fn made_run(
-    alloc: Global,
-    bytes: &[u8],
+    line: &mut LineStart,
+    breaks: &mut KnownBreaks,
     calls: &[Call],
     answers: &mut [Answer],
-    rest: &mut [u8],
 ) -> LineEnds
-    ensures run { IsMadeRun bytes.now (plain_run bytes.now (map line_call calls.now))
-        answers.old answers.new rest.old rest.new result }
-    ensures room { (result.count ≤ length calls.now) × (result.rest ≤ 4 * length bytes.now) }
+    requires { length calls.now ≤ length answers.old }
+
+    // Where what is known is true of the line from the place on.
+    ensures told { AreTrueBreaks line.old.bytes breaks.old line.old.place
+        → AreAnswers (state_run line.old breaks.old (map line_call calls.now)).answers
+        (state_run line.old breaks.old (map line_call calls.now)).stop
+        answers.old answers.new result }
+    ensures state { AreTrueBreaks line.old.bytes breaks.old line.old.place
+        → line.new ≡ (state_run line.old breaks.old (map line_call calls.now)).state }
+    ensures known { AreTrueBreaks line.old.bytes breaks.old line.old.place
+        → breaks.new ≡ (state_run line.old breaks.old (map line_call calls.now)).known }
+    ensures truth { AreTrueBreaks line.old.bytes breaks.old line.old.place
+        → AreTrueBreaks line.new.bytes breaks.new line.new.place }
+
+    // Whatever is known.
+    ensures bytes { line.new.bytes ≡ line.old.bytes }
+    ensures forward { line.old.place ≤ line.new.place }
+    ensures room { result.count ≤ length calls.now }
+    ensures kept { drop result.count answers.new ≡ drop result.count answers.old }
 {
-    match run_of(alloc, bytes, calls) {
-        Ok((run, made)) => told(&run, &made, answers, rest),
-        Err(_) => no_run(NO_MEMORY),
+    for (index, call) in calls.iter().enumerate() {
+        match line.call_with_breaks(&line_call(*call), breaks) {
+            Ok(answer) => answers[index] = answer_of(&answer),
+            Err(reason) => {
+                return LineEnds {
+                    status: status_of(&reason),
+                    count: index,
+                };
+            }
+        }
     }
-}
-
-// The run of the calls, and its answers as C is told them.
-fn run_of(alloc: Global, bytes: &[u8], calls: &[Call]) -> Result<(LineRun, Vec<Answer>), AllocError>
-    ensures made { IfOk result (λ r. r.1.items
-        ≡ map answer_of (plain_run bytes.now (map line_call calls.now)).answers) }
-    ensures stop { IfOk result (λ r. r.0.stop
-        ≡ indexed_stop (plain_run bytes.now (map line_call calls.now))) }
-    ensures rest { IfOk result (λ r. r.0.rest.items
-        ≡ rest_after bytes.now (plain_run bytes.now (map line_call calls.now))) }
-    ensures scanned { IfOk result (λ r. r.0.scanned
-        ≡ scanned_after bytes.now (plain_run bytes.now (map line_call calls.now))) }
-{
-    let calls = line_calls(alloc, calls)?;
-    let run = run_line(alloc, bytes, &calls)?;
-    let made = answers_of(alloc, &run.answers)?;
-    Ok((run, made))
-}
-
-fn line_calls(alloc: Global, calls: &[Call]) -> Result<Vec<LineCall>, AllocError>
-    ensures { IfOk result (λ made. made.items ≡ map line_call calls.now) }
-{
-    calls.iter().map(|call| line_call(*call)).collect(alloc)
-}
-
-fn answers_of(alloc: Global, answers: &[LineAnswer]) -> Result<Vec<Answer>, AllocError>
-    ensures { IfOk result (λ made. made.items ≡ map answer_of answers.now) }
-{
-    answers
-        .iter()
-        .map(|answer| answer_of(answer))
-        .collect(alloc)
+    LineEnds {
+        status: OK,
+        count: calls.len(),
+    }
 }
 
 fn line_call(call: Call) -> LineCall
@@ -169,35 +192,11 @@ fn answer_of(answer: &LineAnswer) -> Answer
     }
 }
 
-fn status_of(stop: &Option<(usize, LineStop)>) -> u32
-    ensures { result ≡ run_status stop.now }
+fn status_of(stop: &LineStop) -> u32
+    ensures { result ≡ stop_status stop.now }
 {
     match stop {
-        None => OK,
-        Some((_, LineStop::SpacePending)) => SPACE_PENDING,
-        Some((_, LineStop::IndentTooLarge)) => TOO_LARGE,
+        LineStop::SpacePending => SPACE_PENDING,
+        LineStop::IndentTooLarge => TOO_LARGE,
     }
-}
-
-// Writes what a run made and left, where there is room for both.
-#[tactic(auto, unfolding(crate::specs::LineRuns::AreWritten))]
-fn told(run: &LineRun, made: &[Answer], answers: &mut [Answer], rest: &mut [u8]) -> LineEnds
-    ensures count { result.count ≡ length made.now }
-    ensures scanned { result.scanned ≡ run.now.scanned }
-    ensures rest { result.rest ≡ length run.now.rest.items }
-    ensures written { AreWritten made.now run.now.rest.items answers.old answers.new
-        rest.old rest.new (run_status run.now.stop) result.status }
-{
-    let mut ends = LineEnds {
-        status: TOO_SHORT,
-        count: made.len(),
-        scanned: run.scanned,
-        rest: run.rest.len(),
-    };
-    if made.len() <= answers.len() && run.rest.len() <= rest.len() {
-        answers[..made.len()].copy_from_slice(made);
-        rest[..run.rest.len()].copy_from_slice(&run.rest);
-        ends.status = status_of(&run.stop);
-    }
-    ends
 }

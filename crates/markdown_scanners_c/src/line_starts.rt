@@ -1,5 +1,5 @@
 //! Line starts in the caller's storage, and the calls on them.
-ghost use Rattle.std.specs.Prelude.{◌≡◌, ◌==◌, ◌≤◌, ◌<◌, ◌-◌, ◌⊎◌, IfSome, IfNone};
+ghost use Rattle.std.specs.Prelude.{ℕ, ◌≡◌, ◌==◌, ◌≤◌, ◌<◌, ◌-◌, ◌⊎◌, List, IfSome, IfNone};
 ghost use Rattle.markdown_values.specs.declared.values.BlockQuoteKind.{BlockQuoteKind as Quoted};
 ghost use Rattle.markdown_scanners_tree.specs.Ascii.{greater_than_sign};
 ghost use Rattle.markdown_scanners_tree.specs.Bytes.{begins_with, is_at_line_end};
@@ -28,7 +28,7 @@ pub struct Start {
 
 impl Start {
     // The library's line start at the place in these bytes.
-    fn on<'a>(&self, bytes: &'a [u8]) -> Option<LineStart<'a>>
+    pub(crate) fn on<'a>(&self, bytes: &'a [u8]) -> Option<LineStart<'a>>
         ensures state { IfSome result (λ line. line ≡ state_on bytes.now self.now) }
         ensures is_state { IfSome result (λ line. IsLineState (state_on bytes.now self.now)) }
         ensures none { IfNone result (¬ IsLineState (state_on bytes.now self.now)) }
@@ -37,7 +37,7 @@ impl Start {
     }
 
     // Keeps the place of the library's line start.
-    fn keep(&mut self, line: &LineStart)
+    pub(crate) fn keep(&mut self, line: &LineStart)
         ensures state { state_on line.now.bytes self.new ≡ line.now }
         ensures breaks { known_breaks self.new ≡ known_breaks self.old }
         ensures next { self.old.place ≤ line.now.place → IsNext line.now.bytes self.old self.new }
@@ -45,6 +45,26 @@ impl Start {
         self.place = line.bytes_scanned();
         self.pending = line.remaining_space();
         self.phase = line.phase();
+    }
+
+    // What is known of the thematic breaks.
+    pub(crate) fn breaks(&self) -> KnownBreaks
+        ensures { result ≡ known_breaks self.now }
+    {
+        KnownBreaks {
+            none_before: self.none_before,
+            behind_break: self.behind_break,
+        }
+    }
+
+    // Keeps what is known of the thematic breaks.
+    pub(crate) fn learn(&mut self, breaks: &KnownBreaks)
+        ensures breaks { known_breaks self.new ≡ breaks.now }
+        ensures place { self.new.place ≡ self.old.place }
+        ensures state { (bytes : List ℕ) → state_on bytes self.new ≡ state_on bytes self.old }
+    {
+        self.none_before = breaks.none_before;
+        self.behind_break = breaks.behind_break;
     }
 }
 

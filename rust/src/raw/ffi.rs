@@ -20,18 +20,18 @@ pub const SPACE_PENDING: u32 = 12;
 pub const BAD_KIND: u32 = 13;
 pub const BAD_STATE: u32 = 14;
 
+pub const ALERT_NOTE: u32 = 1;
+pub const ALERT_TIP: u32 = 2;
+pub const ALERT_IMPORTANT: u32 = 3;
+pub const ALERT_WARNING: u32 = 4;
+pub const ALERT_CAUTION: u32 = 5;
+
 pub const SPACE: u32 = 0;
 pub const UPTO: u32 = 1;
 pub const EOL: u32 = 2;
 pub const QUOTE: u32 = 3;
 pub const LIST: u32 = 4;
 pub const DEFINITION: u32 = 5;
-
-pub const ALERT_NOTE: u32 = 1;
-pub const ALERT_TIP: u32 = 2;
-pub const ALERT_IMPORTANT: u32 = 3;
-pub const ALERT_WARNING: u32 = 4;
-pub const ALERT_CAUTION: u32 = 5;
 
 pub const ALIGN_NONE: u32 = 0;
 pub const ALIGN_LEFT: u32 = 1;
@@ -61,31 +61,6 @@ pub struct Indent {
     pub status: u32,
     pub place: usize,
     pub columns: usize,
-}
-
-#[repr(C)]
-#[derive(Clone, Copy, Debug, Default, PartialEq, Eq)]
-pub struct LineCall {
-    pub kind: u32,
-    pub number: usize,
-}
-
-#[repr(C)]
-#[derive(Clone, Copy, Debug, Default, PartialEq, Eq)]
-pub struct LineAnswer {
-    pub found: bool,
-    pub delimiter: u8,
-    pub start: u64,
-    pub number: usize,
-}
-
-#[repr(C)]
-#[derive(Clone, Copy, Debug, Default, PartialEq, Eq)]
-pub struct LineRun {
-    pub status: u32,
-    pub count: usize,
-    pub scanned: usize,
-    pub rest: usize,
 }
 
 #[repr(C)]
@@ -126,6 +101,29 @@ pub struct Task {
 pub struct Alert {
     pub status: u32,
     pub kind: u32,
+}
+
+#[repr(C)]
+#[derive(Clone, Copy, Debug, Default, PartialEq, Eq)]
+pub struct LineCall {
+    pub kind: u32,
+    pub number: usize,
+}
+
+#[repr(C)]
+#[derive(Clone, Copy, Debug, Default, PartialEq, Eq)]
+pub struct LineAnswer {
+    pub found: bool,
+    pub delimiter: u8,
+    pub start: u64,
+    pub number: usize,
+}
+
+#[repr(C)]
+#[derive(Clone, Copy, Debug, Default, PartialEq, Eq)]
+pub struct LineRun {
+    pub status: u32,
+    pub count: usize,
 }
 
 #[repr(C)]
@@ -221,16 +219,6 @@ extern "C" {
     pub fn mds_scan_blockquote_start(bytes: *const c_void, length: usize) -> usize;
     pub fn mds_scan_listitem(bytes: *const c_void, length: usize) -> ListItem;
     pub fn mds_calc_indent(bytes: *const c_void, length: usize, max: usize) -> Indent;
-    pub fn mds_run_line(
-        bytes: *const c_void,
-        length: usize,
-        calls: *const LineCall,
-        call_count: usize,
-        answers: *mut LineAnswer,
-        capacity: usize,
-        rest: *mut u8,
-        rest_capacity: usize,
-    ) -> LineRun;
     pub fn mds_line_space(bytes: *const c_void, length: usize, start: *mut LineStart, count: usize) -> u32;
     pub fn mds_line_upto(bytes: *const c_void, length: usize, start: *mut LineStart, count: usize) -> Columns;
     pub fn mds_line_all_space(bytes: *const c_void, length: usize, start: *mut LineStart) -> u32;
@@ -240,6 +228,22 @@ extern "C" {
     pub fn mds_line_definition(bytes: *const c_void, length: usize, start: *mut LineStart, indent: usize) -> Columns;
     pub fn mds_line_task(bytes: *const c_void, length: usize, start: *mut LineStart) -> Task;
     pub fn mds_line_alert(bytes: *const c_void, length: usize, start: *mut LineStart) -> Alert;
+    pub fn mds_run_line(
+        bytes: *const c_void,
+        length: usize,
+        start: *mut LineStart,
+        calls: *const LineCall,
+        call_count: usize,
+        answers: *mut LineAnswer,
+        capacity: usize,
+    ) -> LineRun;
+    pub fn mds_line_rest(
+        bytes: *const c_void,
+        length: usize,
+        start: *const LineStart,
+        buffer: *mut u8,
+        capacity: usize,
+    ) -> Text;
     pub fn mds_scan_hrule(bytes: *const c_void, length: usize) -> Break;
     pub fn mds_scan_atx_heading(bytes: *const c_void, length: usize) -> u32;
     pub fn mds_scan_setext_heading(bytes: *const c_void, length: usize) -> Underline;

@@ -1,7 +1,7 @@
 //! The start of a line.
 use crate::stop::Stop;
 use crate::telling::{tell, tell_ready};
-use markdown_scanners_tree::line::{KnownBreaks, LineStart};
+use markdown_scanners_tree::line::{KnownBreaks, LineCall, LineStart};
 use std::io::Write;
 
 pub(crate) fn run<W: Write>(output: &mut W) -> Result<(), Stop> {
@@ -10,7 +10,8 @@ pub(crate) fn run<W: Write>(output: &mut W) -> Result<(), Stop> {
     markers(output)?;
     definitions(output)?;
     tags(output)?;
-    resumed(output)
+    resumed(output)?;
+    called(output)
 }
 
 fn place(start: &LineStart<'_>) -> (usize, usize) {
@@ -62,5 +63,21 @@ fn resumed<W: Write>(output: &mut W) -> Result<(), Stop> {
     };
     tell(output, (start.phase(), start.scan_space_upto(9)))?;
     tell(output, start.scan_list_marker_with_breaks(1, &mut breaks))?;
+    tell(output, place(&start))
+}
+
+// Calls of a run, of which the second is refused.
+fn called<W: Write>(output: &mut W) -> Result<(), Stop> {
+    let mut breaks = KnownBreaks::new();
+    let mut start = LineStart::new(b">\t- x");
+    let calls = [
+        LineCall::Quote,
+        LineCall::Eol,
+        LineCall::Upto(9),
+        LineCall::List(1),
+    ];
+    for call in &calls {
+        tell(output, start.call_with_breaks(call, &mut breaks))?;
+    }
     tell(output, place(&start))
 }

@@ -19,7 +19,7 @@ leading-spaces : (m : ℕ) (w : List ℕ) → leading_spaces (spaces m ++ w) ≡
 leading-spaces zero w = omega arith
 leading-spaces (suc m) w = omega (arith, leading-spaces m w)
 
-drop-spaces : (t p : ℕ) (w : List ℕ) → drop t (spaces (t + p) ++ w) ≡ spaces p ++ w
+pub drop-spaces : (t p : ℕ) (w : List ℕ) → drop t (spaces (t + p) ++ w) ≡ spaces p ++ w
 drop-spaces t p w =
     let fits : t ≤ length (spaces (t + p)) = rw (length-replicate {A = ℕ} (t + p) 32) (omega arith) in
     let e : t + p - t ≡ p = omega arith in

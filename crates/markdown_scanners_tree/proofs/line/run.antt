@@ -1,1 +1,2 @@
 pub mod PlainRunLemmas
+pub mod StateRunLemmas

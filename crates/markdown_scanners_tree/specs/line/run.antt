@@ -1,1 +1,2 @@
 pub mod PlainRun
+pub mod StateRun

@@ -64,6 +64,11 @@ impl LineStart<'_> {
         ensures truth { AreTrueBreaks self.old.bytes breaks.old self.old.place
             → AreTrueBreaks self.new.bytes breaks.new self.new.place }
 
+        // With nothing pending the call is then one on the line with its tabs written out.
+        ensures step { AreTrueBreaks self.old.bytes breaks.old self.old.place
+            → self.old.pending ≡ 0
+            → IsPlainStep (LineCall.List indent) (LineAnswer.List result) self.old self.new }
+
         // Whatever is known: what is read to tell it is learnt.
         ensures learnt { breaks.new
             ≡ learnt_by_marker self.old.bytes self.old.place breaks.old }

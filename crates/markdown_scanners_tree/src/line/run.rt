@@ -1,10 +1,12 @@
 //! Runs of calls on the start of a line.
-ghost use Rattle.std.specs.Prelude.{◌≡◌, ◌==◌, IfOk};
+ghost use Rattle.std.specs.Prelude.{◌≡◌, ◌==◌, ◌≤◌, Some, None, IfOk, IfErr, OnErr};
+ghost use Rattle.markdown_scanners_tree.specs.line.KnownBreaks.{AreTrueBreaks};
 ghost use Rattle.markdown_scanners_tree.specs.line.PlainStep.{IsPlainStep};
 ghost use Rattle.markdown_scanners_tree.specs.line.State.{rest_of};
 ghost use Rattle.markdown_scanners_tree.specs.line.run.PlainRun.{plain_run, indexed_stop, rest_after, scanned_after, line_refusal};
+ghost use Rattle.markdown_scanners_tree.specs.line.run.StateRun.{learnt_by_call};
 
-use crate::line::LineStart;
+use crate::line::{KnownBreaks, LineStart};
 use std::alloc::{AllocError, Global};
 
 // The columns of a marker can be added to it.
@@ -90,6 +92,49 @@ pub fn run_line(alloc: Global, bytes: &[u8], calls: &[LineCall]) -> Result<LineR
         answers.push(answer)?;
     }
     finished(alloc, &start, answers, None)
+}
+
+impl LineStart<'_> {
+    /// Makes one call of a run, where the caller keeps what is known of the thematic breaks in the
+    /// line, as for `scan_list_marker_with_breaks`.
+    ///
+    /// # Errors
+    ///
+    /// The reason for which `run_line` stops before such a call; nothing changes then.
+    pub fn call_with_breaks(
+        &mut self,
+        call: &LineCall,
+        breaks: &mut KnownBreaks,
+    ) -> Result<LineAnswer, LineStop>
+        // It is refused exactly where a run stops.
+        ensures refused { IfErr result (λ why.
+            line_refusal (self.old.pending == 0) call.now ≡ Some why) }
+        ensures made { IfOk result (λ _.
+            line_refusal (self.old.pending == 0) call.now ≡ None) }
+        ensures unchanged { OnErr result
+            ((self.new ≡ self.old) × (breaks.new ≡ breaks.old)) }
+
+        // Where what is known is true of the line from the place on.
+        ensures step { AreTrueBreaks self.old.bytes breaks.old self.old.place
+            → IfOk result (λ answer. IsPlainStep call.now answer self.old self.new) }
+        ensures truth { AreTrueBreaks self.old.bytes breaks.old self.old.place
+            → AreTrueBreaks self.new.bytes breaks.new self.new.place }
+
+        // Whatever is known: what is read to tell it is learnt.
+        ensures learnt { IfOk result (λ _.
+            breaks.new ≡ learnt_by_call call.now self.old breaks.old) }
+        ensures bytes { self.new.bytes ≡ self.old.bytes }
+        ensures forward { self.old.place ≤ self.new.place }
+    {
+        if let Some(reason) = refused(self, call) {
+            return Err(reason);
+        }
+        if let LineCall::List(indent) = call {
+            let item = self.scan_list_marker_with_breaks(*indent, breaks);
+            return Ok(LineAnswer::List(item));
+        }
+        Ok(make_call(self, call))
+    }
 }
 
 // Why the call is refused, if it is.

@@ -1,18 +1,34 @@
--- A run has no more answers than calls, and leaves four bytes at most for each byte of the line.
-use Rattle.std.proofs.Common.{map, length, ap, arith}
-use Rattle.std.proofs.lemmas.List.{length-map}
-use Rattle.markdown_scanners_tree.specs.line.run.PlainRun.{plain_run}
-use Rattle.markdown_scanners_c.specs.LineRuns.{line_call, answer_of}
-use Rattle.markdown_scanners_c.proofs.Rests.{rest_within, answers_within}
+use Rattle.std.proofs.Common.{◌≡◌, ◌<◌, ◌+◌, ◌++◌, ◌∷◌, [], drop, length, map, slice_set, ap, ◌∙◌, arith}
+use Rattle.std.proofs.lemmas.List.{drop_more, length-append}
+use Rattle.markdown_scanners_tree.specs.line.run.StateRun.{behind_answers, state_run}
+use Rattle.markdown_scanners_c.specs.LineRuns.{answer_of, line_call}
+use Rattle.markdown_scanners_c.specs.declared.line_runs.Call.{Call}
+use Rattle.markdown_scanners_c.proofs.LineRuns.{answers_next, run_next}
 use Rattle.markdown_scanners_c.proofs.line_runs.made_run.Goals as goal
 
-pub returns-in-Ok-clause-room : goal.returns-in-Ok-clause-room
-returns-in-Ok-clause-room c =
-    let calls = map line_call c.args.calls.now in
-    let run = plain_run c.args.bytes.now calls in
-    let count = length-map c.args.calls.now line_call in
-    let answers = answers_within c.args.bytes.now 0 calls in
-    let told = length-map run.answers answer_of in (
-      omega (arith, c.told.ensures.count, ap length c.in-Ok.ensures.made, told, answers, count),
-      omega (arith, c.told.ensures.rest, ap length c.in-Ok.ensures.rest, rest_within c.args.bytes.now run.column),
+pub loop-index-preserved : goal.loop-index-preserved
+loop-index-preserved c =
+    let i = c.loop-index.invariant in
+    let at = c.loop-index.index in
+    let calls = c.args.calls.now in
+    let left = drop (at + 1) calls in
+    let none : Call = record { kind = 0; number = 0 } in
+    let split = ap (map line_call) (drop_more calls at none c.loop-index-test.true) in
+    let answer = c.in-Ok.answer in
+    let scan = c.in-Ok.ensures in
+    let inside : at < length c.args.answers.now = omega (arith, c.loop-index-test.true, c.requires) in
+    let written : slice_set c.loop-index.answers at c.answer_of.result
+    ≡ map answer_of (i.0 ++ (answer ∷ [])) ++ drop (at + 1) c.args.answers.now =
+    rw (i.2, c.answer_of.ensures) (answers_next i.0 answer c.args.answers.now at i.1 inside) in (
+      i.0 ++ (answer ∷ []),
+      omega (arith, length-append i.0 (answer ∷ []), i.1),
+      written,
+      scan.bytes ∙ i.3,
+      omega (arith, i.4, scan.forward),
+      λ known. scan.truth (i.5 known),
+      λ known. i.6 known
+          ∙ ap (λ it. behind_answers i.0 (state_run c.loop-index.line c.loop-index.breaks it)) split
+          ∙ run_next c.loop-index.line c.call_with_breaks.new.self c.loop-index.breaks c.call_with_breaks.new.breaks
+          _ (map line_call left) answer i.0 (rw c.line_call.ensures at scan.made)
+          (rw c.line_call.ensures at (scan.step (i.5 known))) (rw c.line_call.ensures at scan.learnt),
     )

@@ -57,7 +57,7 @@ module _ (line : List ℕ) (k c place p t : ℕ) (tied : Tied line k c (state_of
       rw move after
 
 -- what the tie says of a column that is reached
-tied_on : (line : List ℕ) (k c : ℕ) (s : LineState) → Tied line k c s → is_on_byte 0 line k ≡ (s.pending == 0)
+pub tied_on : (line : List ℕ) (k c : ℕ) (s : LineState) → Tied line k c s → is_on_byte 0 line k ≡ (s.pending == 0)
 tied_on line k c s tied =
     let at = tied.at in
     tied.on k (omega arith) ∙ bool_cases (s.pending == 0)
@@ -69,7 +69,7 @@ tied_on line k c s tied =
     let some : k < c = grind (arith, nat_tests) in
     rw (no) (off_before (drop s.place line) c k some))
 
-tied_scanned : (line : List ℕ) (k c : ℕ) (s : LineState) → Tied line k c s → bytes_below 0 line k ≡ s.place
+pub tied_scanned : (line : List ℕ) (k c : ℕ) (s : LineState) → Tied line k c s → bytes_below 0 line k ≡ s.place
 tied_scanned line k c s tied =
     let at = tied.at in
     let none = none_below (drop s.place line) c k (omega arith) in
@@ -89,7 +89,7 @@ pub record SoFar (line : List ℕ) (calls left : List LineCall) (answers : List 
 abbrev pub next_column : LineState → ℕ → ℕ → ℕ
 next_column s c t = column_past c (take (bytes_below c (unscanned s) (c + t - s.pending)) (unscanned s))
 
-tied_next-state : (line : List ℕ) (k c t : ℕ) (s : LineState) → Tied line k c s
+pub tied_next-state : (line : List ℕ) (k c t : ℕ) (s : LineState) → Tied line k c s
     → c + t ≤ s.pending + head_end c (drop s.place line) → rest_of (columns_further t s) ≡ drop t (rest_of s)
     → Tied line (k + t) (next_column s c t) (columns_further t s)
 tied_next-state line k c t s tied fits rest =
@@ -98,7 +98,7 @@ tied_next-state line k c t s tied fits rest =
     → Tied line (k + t) (next_column x c t) (columns_further t x) in
     subst P (sym tied.shape) (λ a b d. tied_next line k c s.place s.pending t a b d) tied fits rest
 
-step-fits-state : (call : LineCall) (line : List ℕ) (k c : ℕ) (s : LineState) → Tied line k c s
+pub step-fits-state : (call : LineCall) (line : List ℕ) (k c : ℕ) (s : LineState) → Tied line k c s
     → c + (plain_step call (rest_of s)).taken ≤ s.pending + head_end c (drop s.place line)
 step-fits-state call line k c s tied =
     let P : LineState → Type 0 =
@@ -106,7 +106,7 @@ step-fits-state call line k c s tied =
     subst P (sym tied.shape) (step-fits call line s.place s.pending c)
 
 -- a run whose first call is not refused, and one whose first call is
-run_from-goes : (line : List ℕ) (k : ℕ) (call : LineCall) (left : List LineCall)
+pub run_from-goes : (line : List ℕ) (k : ℕ) (call : LineCall) (left : List LineCall)
     → line_refusal (is_on_byte 0 line k) call ≡ None →
     let step = plain_step call (drop k (expanded line)) in
     run_from line k (call ∷ left) ≡ after_answer step.answer (run_from line (k + step.taken) left)
@@ -117,7 +117,7 @@ run_from-goes line k call left h =
       | None ↦ after_answer step.answer (run_from line (k + step.taken) left)
     ]) h
 
-run_from-stops : (line : List ℕ) (k : ℕ) (call : LineCall) (left : List LineCall) (reason : LineStop) →
+pub run_from-stops : (line : List ℕ) (k : ℕ) (call : LineCall) (left : List LineCall) (reason : LineStop) →
     line_refusal (is_on_byte 0 line k) call ≡ Some reason →
     run_from line k (call ∷ left) ≡ record { answers = []; column = k; stop = Some reason }
 run_from-stops line k call left reason h =

@@ -1,0 +1,18 @@
+use Rattle.std.proofs.Common.{List, ◌≡◌, ◌≤◌, ◌++◌, drop, length, map}
+use Rattle.markdown_scanners_tree.specs.line.KnownBreaks.{AreTrueBreaks}
+use Rattle.markdown_scanners_tree.specs.line.run.StateRun.{behind_answers, state_run}
+use Rattle.markdown_scanners_tree.specs.declared.line.run.LineAnswer.{LineAnswer}
+use Rattle.markdown_scanners_c.specs.LineRuns.{answer_of, line_call}
+use Rattle.markdown_scanners_c.proofs.line_runs.made_run.Given as goal
+
+-- The answers so far stand at the front of the buffer; where what was known is true, the run is these and that of the
+-- calls to come.
+abbrev pub invariant-loop-index : goal.invariant-loop-index
+invariant-loop-index l =
+    (made : List LineAnswer) × (length made ≡ l.index)
+    × (l.answers ≡ map answer_of made ++ drop l.index l.fn.answers)
+    × (l.line.bytes ≡ l.fn.line.bytes) × (l.fn.line.place ≤ l.line.place)
+    × (AreTrueBreaks l.fn.line.bytes l.fn.breaks l.fn.line.place → AreTrueBreaks l.line.bytes l.breaks l.line.place)
+    × (AreTrueBreaks l.fn.line.bytes l.fn.breaks l.fn.line.place
+    → state_run l.fn.line l.fn.breaks (map line_call l.calls)
+    ≡ behind_answers made (state_run l.line l.breaks (map line_call (drop l.index l.calls))))

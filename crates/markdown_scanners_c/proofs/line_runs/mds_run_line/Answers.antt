@@ -1,0 +1,90 @@
+use Rattle.std.proofs.Common.{List, ◌≡◌, ◌≤◌, ap, sym, subst, ◌∙◌, map, arith, refl, Option}
+use Rattle.markdown_scanners_tree.specs.line.ItemRules.{start_of}
+use Rattle.markdown_scanners_tree.specs.line.KnownBreaks.{AreTrueBreaks}
+use Rattle.markdown_scanners_tree.specs.line.State.{IsLineState, LineState, rest_of}
+use Rattle.markdown_scanners_tree.specs.line.run.PlainRun.{plain_run}
+use Rattle.markdown_scanners_tree.specs.line.run.StateRun.{StateRun, state_run}
+use Rattle.markdown_scanners_tree.specs.declared.line.known_breaks.KnownBreaks.{KnownBreaks}
+use Rattle.markdown_scanners_tree.specs.declared.line.run.LineAnswer.{LineAnswer}
+use Rattle.markdown_scanners_tree.specs.declared.line.run.LineStop.{LineStop}
+use Rattle.markdown_scanners_tree.proofs.ForCallers.{run_at_front}
+use Rattle.markdown_scanners_c.specs.LineRuns.{AreAnswers, IsRun, line_call, run_at}
+use Rattle.markdown_scanners_c.specs.LineStarts.{IsNext, IsTrueStart, known_breaks, state_on}
+use Rattle.markdown_scanners_c.proofs.line_runs.mds_run_line.Goals as goal
+
+module _ (c : goal.After-learn) where
+  whole : c.made_run-ends.new.line.bytes ≡ c.args.bytes.now
+  whole = c.made_run-ends.ensures.bytes ∙ ap (λ (s : LineState). s.bytes) c.in-Some.ensures.state
+
+  -- the library's line start holds what is known of the line
+  held : IsTrueStart c.args.bytes.now c.args.start.now
+      → AreTrueBreaks c.in-Some.line.bytes c.breaks-breaks.result c.in-Some.line.place
+  held known = rw (c.in-Some.ensures.state, c.breaks-breaks.ensures) known
+
+  same : state_run c.in-Some.line c.breaks-breaks.result (map line_call c.args.calls.now)
+      ≡ run_at c.args.bytes.now c.args.start.now c.args.calls.now
+  same = rw (c.in-Some.ensures.state, c.breaks-breaks.ensures) refl
+
+  left : state_on c.args.bytes.now c.learn.new.self ≡ c.made_run-ends.new.line
+  left =
+      c.learn.ensures.state c.args.bytes.now
+      ∙ ap (λ bytes. state_on bytes c.keep.new.self) (sym whole) ∙ c.keep.ensures.state
+
+  made : IsTrueStart c.args.bytes.now c.args.start.now
+      → IsRun c.args.bytes.now (run_at c.args.bytes.now c.args.start.now c.args.calls.now)
+      c.learn.new.self c.args.answers.now c.made_run-ends.new.answers c.made_run-ends.result
+  made known = record {
+    answers = subst (λ (run : StateRun). AreAnswers run.answers run.stop c.args.answers.now
+        c.made_run-ends.new.answers c.made_run-ends.result) same (c.made_run-ends.ensures.told (held known));
+    state = left ∙ c.made_run-ends.ensures.state (held known) ∙ ap (λ (run : StateRun). run.state) same;
+    known = c.learn.ensures.breaks ∙ c.made_run-ends.ensures.known (held known)
+        ∙ ap (λ (run : StateRun). run.known) same;
+  }
+
+pub returns-clause-run : goal.returns-clause-run
+returns-clause-run c can known = made c known
+
+pub returns-clause-front : goal.returns-clause-front
+returns-clause-front c can front =
+    let bytes = c.args.bytes.now in
+    let start = c.args.start.now in
+    let calls = map line_call c.args.calls.now in
+    let known : IsTrueStart bytes start =
+    (λ k from before. absurd (omega (arith, before, front.3)), λ k behind. absurd (omega (arith, behind, front.4))) in
+    let run = made c known in
+    let at : state_on bytes start ≡ start_of bytes = rw (front.0, front.1, front.2) refl in
+    let runs = ap (λ s. state_run s (known_breaks start) calls) at in
+    let alike = run_at_front bytes (known_breaks start) calls in
+    let state = run.state ∙ ap (λ (it : StateRun). it.state) runs in
+    let new = c.made_run-ends.new.answers in
+    let first = state_run (start_of bytes) (known_breaks start) calls in
+    let plain = plain_run bytes calls in
+    let Told : List LineAnswer → Option LineStop → Type 0 =
+    λ answers stop. AreAnswers answers stop c.args.answers.now new c.made_run-ends.result in
+    let told : Told first.answers first.stop =
+    subst (λ (it : StateRun). Told it.answers it.stop) runs run.answers in
+    record {
+      answers = subst (λ it. Told plain.answers it) alike.1 (subst (λ it. Told it first.stop) alike.0 told);
+      rest = ap rest_of state ∙ alike.2;
+      scanned = ap (λ (s : LineState). s.place) state ∙ alike.3;
+    }
+
+pub returns-clause-next : goal.returns-clause-next
+returns-clause-next c is =
+    let bytes = c.args.bytes.now in
+    let old = c.args.start.now in
+    let forward : old.place ≤ c.made_run-ends.new.line.place =
+    subst (λ (s : LineState). s.place ≤ c.made_run-ends.new.line.place) c.in-Some.ensures.state
+    c.made_run-ends.ensures.forward in
+    let kept : IsNext bytes old c.keep.new.self =
+    subst (λ it. IsNext it old c.keep.new.self) (whole c) (c.keep.ensures.next forward) in
+    let place : c.learn.new.self.place ≡ c.made_run-ends.new.line.place = ap (λ (s : LineState). s.place) (left c) in
+    record {
+      is_state = subst IsLineState (sym (c.learn.ensures.state bytes)) kept.is_state;
+      forward = subst (λ n. old.place ≤ n) (sym c.learn.ensures.place) kept.forward;
+      truth = λ known.
+          subst (λ (it : KnownBreaks). AreTrueBreaks bytes it c.learn.new.self.place) (sym c.learn.ensures.breaks)
+          (subst (λ n. AreTrueBreaks bytes c.made_run-ends.new.breaks n) (sym place)
+          (subst (λ it. AreTrueBreaks it c.made_run-ends.new.breaks c.made_run-ends.new.line.place) (whole c)
+          (c.made_run-ends.ensures.truth (held c known))));
+    }
