@@ -283,6 +283,27 @@ def tag_alone(text):
     return found[1] if found and blank_line(text[found[1]:]) is not None else None
 
 
+# By the numbers of their conditions (4.6): how HTML blocks begin, and what ends those of 1 to 5.
+RAW_NAMES = rb"(?:pre|script|style|textarea)"
+HTML_STARTS = (rb"(?i:<" + RAW_NAMES + rb")(?=[ \t>\r\n]|\Z)", rb"<!--", rb"<\?", rb"<![A-Za-z]", rb"<!\[CDATA\[")
+HTML_ENDS = (rb"(?i:</" + RAW_NAMES + rb">)", rb"-->", rb"\?>", rb">", rb"\]\]>")
+HTML_KINDS = ("RawText", "Comment", "Processing", "Declaration", "Cdata", "BlockName", "TagAlone")
+
+
+def html_kind(text):
+    """The kind of the HTML block that begins there (4.6)."""
+    begins = [bool(re.match(it, text)) for it in HTML_STARTS]
+    begins.append(text[:1] == b"<" and is_block_name(text[1:]))
+    begins.append(tag_alone(text) is not None and not re.match(rb"(?i:<" + RAW_NAMES + rb")(?![A-Za-z0-9-])", text))
+    return next((kind for kind, is_there in zip(HTML_KINDS, begins) if is_there), None)
+
+
+def ends_html(text, kind):
+    """Whether the line at the front ends an HTML block of the kind (4.6)."""
+    number = HTML_KINDS.index(kind)
+    return bool(re.search(HTML_ENDS[number], text[: line(text)])) if number < len(HTML_ENDS) else blank_line(text) is not None
+
+
 def label(text, skips):
     """A link label without backslashes before punctuation (6.3): how many bytes it takes with its closing bracket, its text,
     and whether that stands in the source as it is."""

@@ -126,6 +126,16 @@ def told_destination(text, max_next):
     return some(None if length is None else (length, text[:length].decode()))
 
 
+HTML_LINES = (b"<PRE>", b"a --> b", b"</td/>", b"<b c> \n")
+
+
+def told_html(text):
+    """The kind of the block that begins there, and whether the line ends a comment, and a block with a name."""
+    kind = answers.html_kind(text)
+    ends = tuple(answers.ends_html(text, it) for it in ("Comment", "BlockName"))
+    return some(kind and Value(kind)), *ends
+
+
 def inline():
     end, address = answers.uri(b"https://a.b>", 0)
     bare = answers.destination(b"((a)) b", 1)
@@ -136,7 +146,7 @@ def inline():
         some(answers.wikilink(b"a|b]]", 0, 3)), told_destination(b"((a))", 1), told_destination(b"(((a)))", 1),
         some((end, borrowed(address), Value("Autolink"))), some(answers.wikilink(b"a|b]]", 0, 3)[0] - 1),
         some((bare, Plain(f"0..{bare}"))), some(len(address)), answers.is_block_name(b"DIV>"),
-        some(answers.tag_alone(b"<a b=\t'c'>  \n")), told_tag(b"<foo bar>", None), told_tag(b"</a\n>", None),
+        some(answers.tag_alone(b"<a b=\t'c'>  \n")), *map(told_html, HTML_LINES), told_tag(b"<foo bar>", None), told_tag(b"</a\n>", None),
         told_tag(b"<a\nb\nc>", quote), told_tag(b"</a\n\n> >", quote), told("borrowed", plain),
         answers.table_head(b"| a |"), *map(told_label, (b"a\\ ]", b" a b ]", b"a  b", b"a\n\nb]")),
     ]

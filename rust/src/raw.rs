@@ -92,6 +92,8 @@ reading! {
     scan_wikilink_pipe(start: usize, count: usize) -> ffi::Part = mds_scan_wikilink_pipe;
     starts_html_block_type_6() -> bool = mds_starts_html_block_type_6;
     scan_html_type_7() -> usize = mds_scan_html_type_7;
+    scan_html_block_start() -> u32 = mds_scan_html_block_start;
+    ends_html_block(kind: u32) -> u32 = mds_ends_html_block;
     scan_html_tag() -> usize = mds_scan_html_tag;
 }
 

@@ -5,6 +5,7 @@ mod entities;
 mod fences;
 mod headings;
 mod html_block;
+mod html_kinds;
 mod html_tag;
 mod indent;
 mod lines;

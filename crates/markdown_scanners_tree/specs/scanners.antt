@@ -9,6 +9,7 @@ pub mod Runs
 pub mod classes
 pub mod entities
 pub mod html_block
+pub mod html_kinds
 pub mod html_tag
 pub mod links
 pub mod list_items

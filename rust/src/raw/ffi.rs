@@ -38,6 +38,14 @@ pub const ALIGN_LEFT: u32 = 1;
 pub const ALIGN_CENTER: u32 = 2;
 pub const ALIGN_RIGHT: u32 = 3;
 
+pub const HTML_RAW_TEXT: u32 = 1;
+pub const HTML_COMMENT: u32 = 2;
+pub const HTML_PROCESSING: u32 = 3;
+pub const HTML_DECLARATION: u32 = 4;
+pub const HTML_CDATA: u32 = 5;
+pub const HTML_BLOCK_NAME: u32 = 6;
+pub const HTML_TAG_ALONE: u32 = 7;
+
 #[repr(C)]
 #[derive(Clone, Copy, Debug, Default, PartialEq, Eq)]
 pub struct Text {
@@ -254,6 +262,8 @@ extern "C" {
     pub fn mds_check_skips(bytes: *const c_void, length: usize, skips: *const Skip, skip_count: usize) -> u32;
     pub fn mds_starts_html_block_type_6(bytes: *const c_void, length: usize) -> bool;
     pub fn mds_scan_html_type_7(bytes: *const c_void, length: usize) -> usize;
+    pub fn mds_scan_html_block_start(bytes: *const c_void, length: usize) -> u32;
+    pub fn mds_ends_html_block(bytes: *const c_void, length: usize, kind: u32) -> u32;
     pub fn mds_scan_html_tag(bytes: *const c_void, length: usize) -> usize;
     pub fn mds_scan_html_tag_over_lines(
         bytes: *const c_void,
