@@ -27,6 +27,12 @@ def line(text):
     return length_of(rb"[^\r\n]*" + ENDING, text)
 
 
+def lines(text):
+    """The lines of a text, with their endings."""
+    length = line(text)
+    return [text[:length], *lines(text[length:])] if text else []
+
+
 def blank_line(text):
     return length_of(INLINE_SPACE + b"*" + ENDING, text)
 

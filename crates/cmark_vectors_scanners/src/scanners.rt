@@ -14,4 +14,5 @@ mod list_items;
 mod metadata;
 mod runs;
 mod tables;
+mod text_lines;
 mod unescaping;

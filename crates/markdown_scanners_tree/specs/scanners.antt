@@ -6,6 +6,7 @@ pub mod Indent
 pub mod Lines
 pub mod Metadata
 pub mod Runs
+pub mod TextLines
 pub mod classes
 pub mod entities
 pub mod html_block

@@ -18,6 +18,7 @@ mod numbers;
 mod runs;
 mod tables;
 mod tag_state;
+mod text_lines;
 mod unescaping;
 
 pub use breaks::scan_hrule;
@@ -42,4 +43,5 @@ pub use metadata::{scan_closing_metadata_block, scan_metadata_block};
 pub(crate) use runs::scan_spaces_and_tabs;
 pub use runs::{scan_ch, scan_ch_repeat, scan_rev_while, scan_while, scan_whitespace_no_nl};
 pub use tables::scan_table_head;
+pub use text_lines::{TextLines, scan_lines};
 pub use unescaping::unescape;

@@ -5,7 +5,7 @@ use markdown_scanners_tree::scanners::{
     calc_indent, is_ascii_punctuation, is_ascii_whitespace, is_ascii_whitespace_no_nl,
     scan_atx_heading, scan_blank_line, scan_blockquote_start, scan_ch, scan_ch_repeat,
     scan_closing_code_fence, scan_closing_metadata_block, scan_code_fence, scan_eol, scan_hrule,
-    scan_line, scan_listitem, scan_metadata_block, scan_nextline, scan_rev_while,
+    scan_line, scan_lines, scan_listitem, scan_metadata_block, scan_nextline, scan_rev_while,
     scan_setext_heading, scan_while, scan_whitespace_no_nl,
 };
 use std::io::Write;
@@ -41,6 +41,7 @@ fn endings<W: Write>(output: &mut W) -> Result<(), Stop> {
     tell(output, scan_eol(b"\rx"))?;
     tell(output, scan_blank_line(b"\r\r\n"))?;
     tell(output, scan_line(b"a\r\nb"))?;
+    tell(output, scan_lines(b"a\r\n\nb").count())?;
     tell(output, scan_nextline(b"a\rb\nc"))?;
     tell(output, scan_blockquote_start(b"> "))?;
     tell(output, scan_hrule(b"* * *\n"))?;
