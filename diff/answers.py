@@ -304,6 +304,15 @@ def html_kind(text):
     return next((kind for kind, is_there in zip(HTML_KINDS, begins) if is_there), None)
 
 
+def interrupts(text):
+    """Whether the line can interrupt a paragraph (4.8)."""
+    text = re.sub(rb"\A {1,3}", b"", text[: line(text)])
+    item = list_item(text)
+    is_item = item and re.match(rb"(?:[-+*]|0{0,8}1[.)])[ \t]", text) and blank_line(re.sub(rb"\A[^ \t]*", b"", text)) is None
+    found = (thematic_break(text), atx_level(text), code_fence(text), length_of(b">", text))
+    return any(it is not None for it in found) or bool(is_item) or html_kind(text) not in (None, "TagAlone")
+
+
 def ends_html(text, kind):
     """Whether the line at the front ends an HTML block of the kind (4.6)."""
     number = HTML_KINDS.index(kind)

@@ -107,7 +107,7 @@ def scanners():
         answers.indent(b"\t x", 4), some(Value(f"H{level}")), some((setext[0], Value(f"H{setext[1]}"))),
         some(answers.code_fence(b"~~~a`")), some(answers.closing_code_fence(b"````  \n", ord("`"), 3)),
         some(answers.metadata_block(b"---\na: b\n---\n", ord("-"))), some(answers.closing_metadata(b"--- \n", ord("-"))),
-        some(answers.list_item(b"-   x")), some(answers.list_item(b"1844674407370955161615!")),
+        *map(answers.interrupts, (b"  1. a", b"-\n")), some(answers.list_item(b"-   x")), some(answers.list_item(b"1844674407370955161615!")),
     ]
 
 

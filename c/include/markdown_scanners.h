@@ -370,6 +370,12 @@ struct mds_fence mds_scan_metadata_block(const void *bytes, size_t length, bool 
  * ending, or MDS_NONE. */
 size_t mds_scan_closing_metadata_block(const void *bytes, size_t length, uint8_t fence);
 
+/* Whether the line at the front can interrupt a paragraph, behind at most three columns of indent: a thematic break, an
+ * ATX heading, an opening code fence, a block quote marker, a list item that is not blank and has a bullet or the number
+ * 1, or an HTML block whose kind is not MDS_HTML_TAG_ALONE. Blank lines and setext heading underlines end a paragraph
+ * too, and interrupt none. (4.8, and 4.1, 4.2, 4.5, 4.6, 5.1, 5.2) */
+bool mds_interrupts_paragraph(const void *bytes, size_t length);
+
 /* How a column of a table is aligned. */
 enum mds_alignment { MDS_ALIGN_NONE = 0, MDS_ALIGN_LEFT = 1, MDS_ALIGN_CENTER = 2, MDS_ALIGN_RIGHT = 3 };
 

@@ -288,6 +288,7 @@ static void others_on_lines(void) {
     ASKS_NOT(mds_scan_closing_code_fence(OF("```\n"), '`', 3), 3);
     ASKS_NOT(mds_scan_metadata_block(OF("---\na\n---\n"), true, false).length, 3);
     ASKS_NOT(mds_scan_closing_metadata_block(OF("---\n"), '-'), 3);
+    ASKS_NOT(mds_interrupts_paragraph(OF("- a")), true);
 }
 
 static void others_on_line_starts(void) {

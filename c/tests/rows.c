@@ -133,6 +133,25 @@ static void fences(void) {
     SAME(mds_scan_closing_code_fence(OF("```"), '`', SIZE_MAX), MDS_NONE);
 }
 
+static void interruptions(void) {
+    SAME(mds_interrupts_paragraph(OF("   * * *")), true);
+    SAME(mds_interrupts_paragraph(OF("    * * *")), false);
+    SAME(mds_interrupts_paragraph(OF("# a")), true);
+    SAME(mds_interrupts_paragraph(OF("#a")), false);
+    SAME(mds_interrupts_paragraph(OF("~~~ a")), true);
+    SAME(mds_interrupts_paragraph(OF("``` a`")), false);
+    SAME(mds_interrupts_paragraph(OF("``` a\r`")), true);
+    SAME(mds_interrupts_paragraph(OF(" > a")), true);
+    SAME(mds_interrupts_paragraph(OF("- a")), true);
+    SAME(mds_interrupts_paragraph(OF("-\n")), false);
+    SAME(mds_interrupts_paragraph(OF("1. a")), true);
+    SAME(mds_interrupts_paragraph(OF("2. a")), false);
+    SAME(mds_interrupts_paragraph(OF("<div>")), true);
+    SAME(mds_interrupts_paragraph(OF("<a>")), false);
+    SAME(mds_interrupts_paragraph(OF("===")), false);
+    SAME(mds_interrupts_paragraph(NULL, 0), false);
+}
+
 static void metadata(void) {
     FENCE(mds_scan_metadata_block(OF("---\na: b\n---\n"), true, false), 3, '-');
     FENCE(mds_scan_metadata_block(OF("---\na\n..."), true, false), 3, '-');
@@ -442,7 +461,7 @@ static void keys_match(void) {
 static void scanners(void) {
     check_rooms();
     lines(), items(), indents();
-    headings(), fences(), metadata();
+    headings(), fences(), metadata(), interruptions();
     html(), inline_html(), tables();
     references(), entities(), unescaping();
     labels(), long_labels(), matches();

@@ -310,6 +310,7 @@ FUNCTIONS = {
     "scan_closing_code_fence": (c_size_t, (c_void_p, c_size_t, c_uint8, c_size_t)),
     "scan_metadata_block": (Fence, (c_void_p, c_size_t, c_bool, c_bool)),
     "scan_closing_metadata_block": (c_size_t, (c_void_p, c_size_t, c_uint8)),
+    "interrupts_paragraph": (c_bool, (c_void_p, c_size_t)),
     "scan_table_head": (Text, (c_void_p, c_size_t, c_void_p, c_size_t)),
     "scan_link_dest": (Part, (c_void_p, c_size_t, c_size_t, c_size_t)),
     "scan_autolink": (Part, (c_void_p, c_size_t, c_size_t)),

@@ -135,7 +135,7 @@ CALLS = {
     **{f"mds_{it}": ends(it) for it in (
         "scan_ch", "scan_ch_repeat", "scan_whitespace_in_line", "scan_eol", "scan_line", "scan_nextline", "scan_blank_line",
         "scan_blockquote_start", "scan_closing_code_fence", "scan_closing_metadata_block", "scan_html_type_7", "scan_html_tag")},
-    **{f"mds_{it}": plain(it) for it in ("is_utf8", "starts_html_block_type_6")},
+    **{f"mds_{it}": plain(it) for it in ("is_utf8", "starts_html_block_type_6", "interrupts_paragraph")},
     **{f"mds_{it}": fence(it) for it in ("scan_code_fence", "scan_metadata_block")},
     **{f"mds_{it}": part(it) for it in ("scan_link_dest", "scan_autolink")},
     "mds_scan_wikilink_pipe": part("scan_wikilink_pipe", lambda data, at, more: (data, *more, at)),

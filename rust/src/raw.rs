@@ -87,6 +87,7 @@ reading! {
     scan_closing_code_fence(fence: u8, count: usize) -> usize = mds_scan_closing_code_fence;
     scan_metadata_block(yaml: bool, pluses: bool) -> ffi::Fence = mds_scan_metadata_block;
     scan_closing_metadata_block(fence: u8) -> usize = mds_scan_closing_metadata_block;
+    interrupts_paragraph() -> bool = mds_interrupts_paragraph;
     scan_link_dest(start: usize, max_next: usize) -> ffi::Part = mds_scan_link_dest;
     scan_autolink(start: usize) -> ffi::Part = mds_scan_autolink;
     scan_wikilink_pipe(start: usize, count: usize) -> ffi::Part = mds_scan_wikilink_pipe;

@@ -8,6 +8,7 @@ mod html_block;
 mod html_kinds;
 mod html_tag;
 mod indent;
+mod interrupts;
 mod lines;
 mod links;
 mod list_items;

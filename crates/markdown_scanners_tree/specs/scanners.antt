@@ -3,6 +3,7 @@ pub mod Escapes
 pub mod Fences
 pub mod Headings
 pub mod Indent
+pub mod Interrupts
 pub mod Lines
 pub mod Metadata
 pub mod Runs

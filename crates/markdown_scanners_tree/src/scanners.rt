@@ -10,6 +10,7 @@ mod html_block;
 mod html_kinds;
 mod html_tag;
 mod indent;
+mod interrupts;
 mod lines;
 mod links;
 mod list_items;
@@ -32,6 +33,7 @@ pub use html_block::starts_html_block_type_6;
 pub use html_kinds::{HtmlBlockKind, ends_html_block, scan_html_block_start};
 pub use html_tag::{scan_html_block_inner, scan_html_type_7};
 pub use indent::calc_indent;
+pub use interrupts::interrupts_paragraph;
 pub use lines::{scan_blank_line, scan_blockquote_start, scan_eol, scan_line, scan_nextline};
 pub use links::{
     scan_autolink, scan_autolink_bytes, scan_link_dest, scan_link_dest_bytes, scan_wikilink_pipe,

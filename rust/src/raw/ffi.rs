@@ -255,6 +255,7 @@ extern "C" {
     pub fn mds_scan_closing_code_fence(bytes: *const c_void, length: usize, fence: u8, count: usize) -> usize;
     pub fn mds_scan_metadata_block(bytes: *const c_void, length: usize, yaml: bool, pluses: bool) -> Fence;
     pub fn mds_scan_closing_metadata_block(bytes: *const c_void, length: usize, fence: u8) -> usize;
+    pub fn mds_interrupts_paragraph(bytes: *const c_void, length: usize) -> bool;
     pub fn mds_scan_table_head(bytes: *const c_void, length: usize, alignments: *mut u8, capacity: usize) -> Text;
     pub fn mds_scan_link_dest(bytes: *const c_void, length: usize, start: usize, max_next: usize) -> Part;
     pub fn mds_scan_autolink(bytes: *const c_void, length: usize, start: usize) -> Part;
