@@ -27,6 +27,12 @@ def line(text):
     return length_of(rb"[^\r\n]*" + ENDING, text)
 
 
+def lines(text):
+    """The lines of a text, with their endings."""
+    length = line(text)
+    return [text[:length], *lines(text[length:])] if text else []
+
+
 def blank_line(text):
     return length_of(INLINE_SPACE + b"*" + ENDING, text)
 
@@ -281,6 +287,36 @@ def tag_alone(text):
     """The length of a tag that is alone in its line (4.6, start condition 7)."""
     found = tag(text)
     return found[1] if found and blank_line(text[found[1]:]) is not None else None
+
+
+# By the numbers of their conditions (4.6): how HTML blocks begin, and what ends those of 1 to 5.
+RAW_NAMES = rb"(?:pre|script|style|textarea)"
+HTML_STARTS = (rb"(?i:<" + RAW_NAMES + rb")(?=[ \t>\r\n]|\Z)", rb"<!--", rb"<\?", rb"<![A-Za-z]", rb"<!\[CDATA\[")
+HTML_ENDS = (rb"(?i:</" + RAW_NAMES + rb">)", rb"-->", rb"\?>", rb">", rb"\]\]>")
+HTML_KINDS = ("RawText", "Comment", "Processing", "Declaration", "Cdata", "BlockName", "TagAlone")
+
+
+def html_kind(text):
+    """The kind of the HTML block that begins there (4.6)."""
+    begins = [bool(re.match(it, text)) for it in HTML_STARTS]
+    begins.append(text[:1] == b"<" and is_block_name(text[1:]))
+    begins.append(tag_alone(text) is not None and not re.match(rb"(?i:<" + RAW_NAMES + rb")(?![A-Za-z0-9-])", text))
+    return next((kind for kind, is_there in zip(HTML_KINDS, begins) if is_there), None)
+
+
+def interrupts(text):
+    """Whether the line can interrupt a paragraph (4.8)."""
+    text = re.sub(rb"\A {1,3}", b"", text[: line(text)])
+    item = list_item(text)
+    is_item = item and re.match(rb"(?:[-+*]|0{0,8}1[.)])[ \t]", text) and blank_line(re.sub(rb"\A[^ \t]*", b"", text)) is None
+    found = (thematic_break(text), atx_level(text), code_fence(text), length_of(b">", text))
+    return any(it is not None for it in found) or bool(is_item) or html_kind(text) not in (None, "TagAlone")
+
+
+def ends_html(text, kind):
+    """Whether the line at the front ends an HTML block of the kind (4.6)."""
+    number = HTML_KINDS.index(kind)
+    return bool(re.search(HTML_ENDS[number], text[: line(text)])) if number < len(HTML_ENDS) else blank_line(text) is not None
 
 
 def label(text, skips):

@@ -104,12 +104,12 @@ def scanners():
         *map(classes, (b"\n", b" ", b"-", b"a")),
         int(b"ab".startswith(b"a")), run_of(b"aab", b"a"), run_of(b"aab", b"a"), run_of(b"baa"[::-1], b"a"),
         answers.length_of(answers.INLINE_SPACE + b"*", b" \tx"),
-        some(answers.eol(b"\rx")), some(answers.blank_line(b"\r\r\n")), answers.line(b"a\r\nb"), b"a\rb\nc".index(b"\n") + 1,
+        some(answers.eol(b"\rx")), some(answers.blank_line(b"\r\r\n")), answers.line(b"a\r\nb"), len(answers.lines(b"a\r\n\nb")), b"a\rb\nc".index(b"\n") + 1,
         some(answers.length_of(b"> ?", b"> ")), Value("Ok", broken), Value("Err", answers.break_length(b"- -x-")),
         answers.indent(b"\t x", 4), some(Value(f"H{level}")), some((setext[0], Value(f"H{setext[1]}"))),
         some(answers.code_fence(b"~~~a`")), some(answers.closing_code_fence(b"````  \n", ord("`"), 3)),
         some(answers.metadata_block(b"---\na: b\n---\n", ord("-"))), some(answers.closing_metadata(b"--- \n", ord("-"))),
-        some(answers.list_item(b"-   x")), some(answers.list_item(b"1844674407370955161615!")),
+        *map(answers.interrupts, (b"  1. a", b"-\n")), some(answers.list_item(b"-   x")), some(answers.list_item(b"1844674407370955161615!")),
     ]
 
 
@@ -128,6 +128,16 @@ def told_destination(text, max_next):
     return some(None if length is None else (length, text[:length].decode()))
 
 
+HTML_LINES = (b"<PRE>", b"a --> b", b"</td/>", b"<b c> \n")
+
+
+def told_html(text):
+    """The kind of the block that begins there, and whether the line ends a comment, and a block with a name."""
+    kind = answers.html_kind(text)
+    ends = tuple(answers.ends_html(text, it) for it in ("Comment", "BlockName"))
+    return some(kind and Value(kind)), *ends
+
+
 def inline():
     end, address = answers.uri(b"https://a.b>", 0)
     bare = answers.destination(b"((a)) b", 1)
@@ -138,7 +148,7 @@ def inline():
         some(answers.wikilink(b"a|b]]", 0, 3)), told_destination(b"((a))", 1), told_destination(b"(((a)))", 1),
         some((end, borrowed(address), Value("Autolink"))), some(answers.wikilink(b"a|b]]", 0, 3)[0] - 1),
         some((bare, Plain(f"0..{bare}"))), some(len(address)), answers.is_block_name(b"DIV>"),
-        some(answers.tag_alone(b"<a b=\t'c'>  \n")), told_tag(b"<foo bar>", None), told_tag(b"</a\n>", None),
+        some(answers.tag_alone(b"<a b=\t'c'>  \n")), *map(told_html, HTML_LINES), told_tag(b"<foo bar>", None), told_tag(b"</a\n>", None),
         told_tag(b"<a\nb\nc>", quote), told_tag(b"</a\n\n> >", quote), told("borrowed", plain),
         answers.table_head(b"| a |"), *map(told_label, (b"a\\ ]", b" a b ]", b"a  b", b"a\n\nb]")),
     ]

@@ -78,7 +78,7 @@ enum mds_status {
     MDS_NOT_RISING = 10,    /* the place is not above the one before it */
     MDS_INSIDE_FIND = 11,   /* the place is inside what was found before it */
     MDS_SPACE_PENDING = 12, /* columns of a tab are pending, and the call is not one that takes space */
-    MDS_BAD_KIND = 13,      /* a call has no known kind */
+    MDS_BAD_KIND = 13,      /* a call, or an HTML block, has no known kind */
     MDS_BAD_STATE = 14      /* a line start has numbers that none has on these bytes */
 };
 
@@ -375,6 +375,12 @@ struct mds_fence mds_scan_metadata_block(const void *bytes, size_t length, bool 
  * ending, or MDS_NONE. */
 size_t mds_scan_closing_metadata_block(const void *bytes, size_t length, uint8_t fence);
 
+/* Whether the line at the front can interrupt a paragraph, behind at most three columns of indent: a thematic break, an
+ * ATX heading, an opening code fence, a block quote marker, a list item that is not blank and has a bullet or the number
+ * 1, or an HTML block whose kind is not MDS_HTML_TAG_ALONE. Blank lines and setext heading underlines end a paragraph
+ * too, and interrupt none. (4.8, and 4.1, 4.2, 4.5, 4.6, 5.1, 5.2) */
+bool mds_interrupts_paragraph(const void *bytes, size_t length);
+
 /* How a column of a table is aligned. */
 enum mds_alignment { MDS_ALIGN_NONE = 0, MDS_ALIGN_LEFT = 1, MDS_ALIGN_CENTER = 2, MDS_ALIGN_RIGHT = 3 };
 
@@ -442,6 +448,26 @@ bool mds_starts_html_block_type_6(const void *bytes, size_t length);
 /* The length of the open or closing tag at the front that stands alone in its line, whatever its name; or MDS_NONE.
  * (4.6, start condition 7) */
 size_t mds_scan_html_type_7(const void *bytes, size_t length);
+
+/* The kinds of HTML blocks, by the numbers of their start and end conditions. (4.6) */
+enum mds_html_kind {
+    MDS_HTML_RAW_TEXT = 1,    /* `<pre`, `<script`, `<style` or `<textarea`, to a line with a closing tag of one of them */
+    MDS_HTML_COMMENT = 2,     /* `<!--`, to a line with `-->` */
+    MDS_HTML_PROCESSING = 3,  /* `<?`, to a line with `?>` */
+    MDS_HTML_DECLARATION = 4, /* `<!` and a letter, to a line with `>` */
+    MDS_HTML_CDATA = 5,       /* `<![CDATA[`, to a line with `]]>` */
+    MDS_HTML_BLOCK_NAME = 6,  /* a tag with one of 62 names, to a blank line */
+    MDS_HTML_TAG_ALONE = 7    /* another tag alone in its line, to a blank line; it can't interrupt a paragraph */
+};
+
+/* The kind of the HTML block that begins at the front, behind the indent of its line: the lowest number of enum
+ * mds_html_kind whose start condition is met, or 0. (4.6) */
+uint32_t mds_scan_html_block_start(const void *bytes, size_t length);
+
+/* Whether the line at the front ends an HTML block of this kind: MDS_OK or MDS_NOTHING; MDS_BAD_KIND where the number
+ * is none of enum mds_html_kind. Of the kinds up to MDS_HTML_CDATA it is the block's last line, and may be its first
+ * too; of the others it is a blank line, and no part of the block. (4.6) */
+uint32_t mds_ends_html_block(const void *bytes, size_t length, uint32_t kind);
 
 /* The length of the open or closing tag at the front, which holds no line ending; or MDS_NONE. (6.6) */
 size_t mds_scan_html_tag(const void *bytes, size_t length);

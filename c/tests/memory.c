@@ -264,6 +264,7 @@ static void others_on_lines(void) {
     ASKS_NOT(mds_scan_closing_code_fence(OF("```\n"), '`', 3), 3);
     ASKS_NOT(mds_scan_metadata_block(OF("---\na\n---\n"), true, false).length, 3);
     ASKS_NOT(mds_scan_closing_metadata_block(OF("---\n"), '-'), 3);
+    ASKS_NOT(mds_interrupts_paragraph(OF("- a")), true);
 }
 
 static void others_on_line_starts(void) {
@@ -298,6 +299,8 @@ static void others_on_texts(void) {
     ASKS_NOT(mds_scan_wikilink_pipe(OF("a|b]]"), 0, 3).end, 2);
     ASKS_NOT(mds_starts_html_block_type_6(OF("div>")), true);
     ASKS_NOT(mds_scan_html_type_7(OF("<a b='c'>\n")), 9);
+    ASKS_NOT(mds_scan_html_block_start(OF("<a b='c'>\n")), MDS_HTML_TAG_ALONE);
+    ASKS_NOT(mds_ends_html_block(OF("a</PRE>"), MDS_HTML_RAW_TEXT), MDS_OK);
     ASKS_NOT(mds_scan_html_tag(OF("<a b='c'>")), 9);
     struct mds_html_guard guard = {0, 0, 0, 0};
     ASKS_NOT(mds_scan_inline_html(OF("<!-- a -->"), 2, &guard).end, 10);

@@ -133,6 +133,25 @@ static void fences(void) {
     SAME(mds_scan_closing_code_fence(OF("```"), '`', SIZE_MAX), MDS_NONE);
 }
 
+static void interruptions(void) {
+    SAME(mds_interrupts_paragraph(OF("   * * *")), true);
+    SAME(mds_interrupts_paragraph(OF("    * * *")), false);
+    SAME(mds_interrupts_paragraph(OF("# a")), true);
+    SAME(mds_interrupts_paragraph(OF("#a")), false);
+    SAME(mds_interrupts_paragraph(OF("~~~ a")), true);
+    SAME(mds_interrupts_paragraph(OF("``` a`")), false);
+    SAME(mds_interrupts_paragraph(OF("``` a\r`")), true);
+    SAME(mds_interrupts_paragraph(OF(" > a")), true);
+    SAME(mds_interrupts_paragraph(OF("- a")), true);
+    SAME(mds_interrupts_paragraph(OF("-\n")), false);
+    SAME(mds_interrupts_paragraph(OF("1. a")), true);
+    SAME(mds_interrupts_paragraph(OF("2. a")), false);
+    SAME(mds_interrupts_paragraph(OF("<div>")), true);
+    SAME(mds_interrupts_paragraph(OF("<a>")), false);
+    SAME(mds_interrupts_paragraph(OF("===")), false);
+    SAME(mds_interrupts_paragraph(NULL, 0), false);
+}
+
 static void metadata(void) {
     FENCE(mds_scan_metadata_block(OF("---\na: b\n---\n"), true, false), 3, '-');
     FENCE(mds_scan_metadata_block(OF("---\na\n..."), true, false), 3, '-');
@@ -157,6 +176,30 @@ static void html(void) {
     SAME(mds_scan_html_type_7(OF("<pre>")), 5);
     SAME(mds_scan_html_type_7(OF("<a> b")), MDS_NONE);
     SAME(mds_scan_html_type_7(NULL, 0), MDS_NONE);
+    SAME(mds_scan_html_block_start(OF("<Script>")), MDS_HTML_RAW_TEXT);
+    SAME(mds_scan_html_block_start(OF("<pre/>")), 0);
+    SAME(mds_scan_html_block_start(OF("</pre>")), MDS_HTML_TAG_ALONE);
+    SAME(mds_scan_html_block_start(OF("<!-- a")), MDS_HTML_COMMENT);
+    SAME(mds_scan_html_block_start(OF("<?")), MDS_HTML_PROCESSING);
+    SAME(mds_scan_html_block_start(OF("<!a")), MDS_HTML_DECLARATION);
+    SAME(mds_scan_html_block_start(OF("<![CDATA[")), MDS_HTML_CDATA);
+    SAME(mds_scan_html_block_start(OF("</blockquote/>")), MDS_HTML_BLOCK_NAME);
+    SAME(mds_scan_html_block_start(OF("<div>\n")), MDS_HTML_BLOCK_NAME);
+    SAME(mds_scan_html_block_start(OF("<a b='c'> \n")), MDS_HTML_TAG_ALONE);
+    SAME(mds_scan_html_block_start(OF("<a> b")), 0);
+    SAME(mds_scan_html_block_start(NULL, 0), 0);
+    SAME(mds_ends_html_block(OF("a</PRE>b"), MDS_HTML_RAW_TEXT), MDS_OK);
+    SAME(mds_ends_html_block(OF("</pre >"), MDS_HTML_RAW_TEXT), MDS_NOTHING);
+    SAME(mds_ends_html_block(OF("<!-->"), MDS_HTML_COMMENT), MDS_OK);
+    SAME(mds_ends_html_block(OF("a\n-->"), MDS_HTML_COMMENT), MDS_NOTHING);
+    SAME(mds_ends_html_block(OF("<?>"), MDS_HTML_PROCESSING), MDS_OK);
+    SAME(mds_ends_html_block(OF("<!a"), MDS_HTML_DECLARATION), MDS_NOTHING);
+    SAME(mds_ends_html_block(OF("]]]>"), MDS_HTML_CDATA), MDS_OK);
+    SAME(mds_ends_html_block(OF(" \na"), MDS_HTML_BLOCK_NAME), MDS_OK);
+    SAME(mds_ends_html_block(OF(".\n"), MDS_HTML_TAG_ALONE), MDS_NOTHING);
+    SAME(mds_ends_html_block(NULL, 0, MDS_HTML_TAG_ALONE), MDS_OK);
+    SAME(mds_ends_html_block(NULL, 0, 0), MDS_BAD_KIND);
+    SAME(mds_ends_html_block(OF("-->"), 8), MDS_BAD_KIND);
     SAME(mds_scan_html_tag(OF("<foo bar>")), 9);
     SAME(mds_scan_html_tag(OF("</a >")), 5);
     SAME(mds_scan_html_tag(OF("<foo\n> bar>")), MDS_NONE);
@@ -418,7 +461,7 @@ static void keys_match(void) {
 static void scanners(void) {
     check_rooms();
     lines(), items(), indents();
-    headings(), fences(), metadata();
+    headings(), fences(), metadata(), interruptions();
     html(), inline_html(), tables();
     references(), entities(), unescaping();
     labels(), long_labels(), matches();

@@ -37,6 +37,14 @@ ALIGN_LEFT = 1
 ALIGN_CENTER = 2
 ALIGN_RIGHT = 3
 
+HTML_RAW_TEXT = 1
+HTML_COMMENT = 2
+HTML_PROCESSING = 3
+HTML_DECLARATION = 4
+HTML_CDATA = 5
+HTML_BLOCK_NAME = 6
+HTML_TAG_ALONE = 7
+
 
 class Text(Structure):
     status: int
@@ -299,6 +307,7 @@ FUNCTIONS = {
     "scan_closing_code_fence": (c_size_t, (c_void_p, c_size_t, c_uint8, c_size_t)),
     "scan_metadata_block": (Fence, (c_void_p, c_size_t, c_bool, c_bool)),
     "scan_closing_metadata_block": (c_size_t, (c_void_p, c_size_t, c_uint8)),
+    "interrupts_paragraph": (c_bool, (c_void_p, c_size_t)),
     "scan_table_head": (Text, (c_void_p, c_size_t, c_void_p, c_size_t)),
     "scan_link_dest": (Part, (c_void_p, c_size_t, c_size_t, c_size_t)),
     "scan_autolink": (Part, (c_void_p, c_size_t, c_size_t)),
@@ -306,6 +315,8 @@ FUNCTIONS = {
     "check_skips": (c_uint32, (c_void_p, c_size_t, POINTER(Skip), c_size_t)),
     "starts_html_block_type_6": (c_bool, (c_void_p, c_size_t)),
     "scan_html_type_7": (c_size_t, (c_void_p, c_size_t)),
+    "scan_html_block_start": (c_uint32, (c_void_p, c_size_t)),
+    "ends_html_block": (c_uint32, (c_void_p, c_size_t, c_uint32)),
     "scan_html_tag": (c_size_t, (c_void_p, c_size_t)),
     "scan_html_tag_over_lines": (Tag, (c_void_p, c_size_t, c_size_t, POINTER(Skip), c_size_t, c_void_p, c_size_t)),
     "scan_inline_html": (End, (c_void_p, c_size_t, c_size_t, POINTER(HtmlGuard))),

@@ -104,6 +104,15 @@ def scan_closing_metadata_block(data: bytes, byte: int, at: int = 0, end: Option
     return place(at, scan("scan_closing_metadata_block", data, at, end, _byte(byte)))
 
 
+def interrupts_paragraph(data: bytes, at: int = 0, end: Optional[int] = None) -> bool:
+    """Whether the line can interrupt a paragraph, behind at most three columns of indent. (4.8)
+
+    >>> interrupts_paragraph(b"- a"), interrupts_paragraph(b"2. a")
+    (True, False)
+    """
+    return bool(scan("interrupts_paragraph", data, at, end))
+
+
 class Alignment(IntEnum):
     """How a column of a table is aligned."""
 

@@ -2,6 +2,7 @@
 from __future__ import annotations
 
 import ctypes
+from enum import IntEnum
 from typing import NamedTuple, Optional
 
 from . import _c
@@ -71,6 +72,37 @@ def scan_html_type_7(data: bytes, at: int = 0, end: Optional[int] = None) -> Opt
     (3, None)
     """
     return place(at, scan("scan_html_type_7", data, at, end))
+
+
+class HtmlBlockKind(IntEnum):
+    """The kinds of HTML blocks, by the numbers of their start and end conditions."""
+
+    RAW_TEXT = _c.HTML_RAW_TEXT
+    COMMENT = _c.HTML_COMMENT
+    PROCESSING = _c.HTML_PROCESSING
+    DECLARATION = _c.HTML_DECLARATION
+    CDATA = _c.HTML_CDATA
+    BLOCK_NAME = _c.HTML_BLOCK_NAME
+    TAG_ALONE = _c.HTML_TAG_ALONE
+
+
+def scan_html_block_start(data: bytes, at: int = 0, end: Optional[int] = None) -> Optional[HtmlBlockKind]:
+    """The kind of the HTML block that begins there, behind the indent of its line. (4.6)
+
+    >>> scan_html_block_start(b"<!-- a"), scan_html_block_start(b"<a> b")
+    (<HtmlBlockKind.COMMENT: 2>, None)
+    """
+    kind = scan("scan_html_block_start", data, at, end)
+    return HtmlBlockKind(kind) if kind else None
+
+
+def ends_html_block(data: bytes, kind: HtmlBlockKind, at: int = 0, end: Optional[int] = None) -> bool:
+    """Whether the line ends an HTML block of this kind: as its last line, or as the blank line behind it. (4.6)
+
+    >>> ends_html_block(b"a -->", HtmlBlockKind.COMMENT), ends_html_block(b"a -->", HtmlBlockKind.BLOCK_NAME)
+    (True, False)
+    """
+    return stated(scan("ends_html_block", data, at, end, HtmlBlockKind(kind)))
 
 
 def scan_html_tag(data: bytes, at: int = 0, end: Optional[int] = None) -> Optional[int]:

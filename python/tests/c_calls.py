@@ -113,6 +113,18 @@ def label(d, skips, in_table, start=0):
             "start": d.length(found.start) if ok else 0}
 
 
+def html_start(d):
+    return mds.scan_html_block_start(d.data, d.at, d.end) or 0
+
+
+def html_end(d, kind):
+    try:
+        found = mds.ends_html_block(d.data, kind, d.at, d.end)
+    except ValueError:
+        return _c.BAD_KIND
+    return _c.OK if found else _c.NOTHING
+
+
 def first_end(d, place):
     whole = mds.HtmlScanGuard(d.data[d.at : d.end])  # a guard is for a text from its front
     status, found = told(whole.scan, place)
@@ -123,7 +135,7 @@ CALLS = {
     **{f"mds_{it}": ends(it) for it in (
         "scan_ch", "scan_ch_repeat", "scan_whitespace_in_line", "scan_eol", "scan_line", "scan_nextline", "scan_blank_line",
         "scan_blockquote_start", "scan_closing_code_fence", "scan_closing_metadata_block", "scan_html_type_7", "scan_html_tag")},
-    **{f"mds_{it}": plain(it) for it in ("is_utf8", "starts_html_block_type_6")},
+    **{f"mds_{it}": plain(it) for it in ("is_utf8", "starts_html_block_type_6", "interrupts_paragraph")},
     **{f"mds_{it}": fence(it) for it in ("scan_code_fence", "scan_metadata_block")},
     **{f"mds_{it}": part(it) for it in ("scan_link_dest", "scan_autolink")},
     "mds_scan_wikilink_pipe": part("scan_wikilink_pipe", lambda data, at, more: (data, *more, at)),
@@ -133,6 +145,8 @@ CALLS = {
     "mds_scan_hrule": hrule,
     "mds_scan_setext_heading": underline,
     "mds_scan_table_head": text("scan_table_head", of=lambda found: bytes(found.alignments)),
+    "mds_scan_html_block_start": html_start,
+    "mds_ends_html_block": html_end,
     "mds_scan_entity": text("scan_entity"),
     "unescape": text("unescape", of=bytes),
     "unescape_cell": text("unescape", True, of=bytes),

@@ -244,3 +244,13 @@ pub fn scan_metadata_block(data: &[u8], yaml_style: bool, pluses_style: bool) ->
 pub fn scan_closing_metadata_block(bytes: &[u8], fence: u8) -> Option<usize> {
     found(raw::scan_closing_metadata_block(bytes, fence))
 }
+
+/// Whether the line at the front can interrupt a paragraph, behind at most three columns of indent. (4.8)
+///
+/// ```
+/// assert!(markdown_scanners::interrupts_paragraph(b"- a"));
+/// assert!(!markdown_scanners::interrupts_paragraph(b"2. a"));
+/// ```
+pub fn interrupts_paragraph(line: &[u8]) -> bool {
+    raw::interrupts_paragraph(line)
+}

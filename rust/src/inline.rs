@@ -5,7 +5,7 @@ use std::hash::{Hash, Hasher};
 use std::ops::Range;
 
 use crate::raw::{self, ffi, Skip};
-use crate::values::{found, BadSkips, LinkType};
+use crate::values::{found, BadSkips, HtmlBlockKind, LinkType};
 
 /// Bytes that most texts that are made have room in.
 const SMALL: usize = 256;
@@ -137,6 +137,28 @@ pub fn starts_html_block_type_6(data: &[u8]) -> bool {
 #[inline]
 pub fn scan_html_type_7(data: &[u8]) -> Option<usize> {
     found(raw::scan_html_type_7(data))
+}
+
+/// The kind of the HTML block that begins at the front, behind the indent of its line. (4.6)
+///
+/// ```
+/// use markdown_scanners::{scan_html_block_start, HtmlBlockKind};
+/// assert_eq!(scan_html_block_start(b"<!-- a"), Some(HtmlBlockKind::Comment));
+/// assert_eq!(scan_html_block_start(b"<a> b"), None);
+/// ```
+pub fn scan_html_block_start(data: &[u8]) -> Option<HtmlBlockKind> {
+    HtmlBlockKind::of(raw::scan_html_block_start(data))
+}
+
+/// Whether the line at the front ends an HTML block of this kind: as its last line, or as the blank line behind it. (4.6)
+///
+/// ```
+/// use markdown_scanners::{ends_html_block, HtmlBlockKind};
+/// assert!(ends_html_block(b"a -->", HtmlBlockKind::Comment));
+/// assert!(!ends_html_block(b"a -->", HtmlBlockKind::BlockName));
+/// ```
+pub fn ends_html_block(line: &[u8], kind: HtmlBlockKind) -> bool {
+    raw::ends_html_block(line, kind as u32) == ffi::OK
 }
 
 /// The length of the open or closing tag at the front, which holds no line ending. (6.6)

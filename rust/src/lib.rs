@@ -14,4 +14,4 @@ pub use inline::*;
 pub use line::LineStart;
 pub use raw::Skip;
 pub use runs::{line_rest, run_inline_html, run_line, HtmlRun, HtmlStop, LineAnswer, LineCall, LineRun, LineStop};
-pub use values::{Alignment, BadSkips, BlockQuoteKind, HeadingLevel, LinkType};
+pub use values::{Alignment, BadSkips, BlockQuoteKind, HeadingLevel, HtmlBlockKind, LinkType};

@@ -91,11 +91,14 @@ reading! {
     scan_closing_code_fence(fence: u8, count: usize) -> usize = mds_scan_closing_code_fence;
     scan_metadata_block(yaml: bool, pluses: bool) -> ffi::Fence = mds_scan_metadata_block;
     scan_closing_metadata_block(fence: u8) -> usize = mds_scan_closing_metadata_block;
+    interrupts_paragraph() -> bool = mds_interrupts_paragraph;
     scan_link_dest(start: usize, max_next: usize) -> ffi::Part = mds_scan_link_dest;
     scan_autolink(start: usize) -> ffi::Part = mds_scan_autolink;
     scan_wikilink_pipe(start: usize, count: usize) -> ffi::Part = mds_scan_wikilink_pipe;
     starts_html_block_type_6() -> bool = mds_starts_html_block_type_6;
     scan_html_type_7() -> usize = mds_scan_html_type_7;
+    scan_html_block_start() -> u32 = mds_scan_html_block_start;
+    ends_html_block(kind: u32) -> u32 = mds_ends_html_block;
     scan_html_tag() -> usize = mds_scan_html_tag;
 }
 

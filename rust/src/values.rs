@@ -69,6 +69,33 @@ impl BlockQuoteKind {
     }
 }
 
+/// The kind of an HTML block, by the number of its start and end conditions.
+#[derive(Clone, Copy, Debug, PartialEq, Eq, PartialOrd, Ord, Hash)]
+pub enum HtmlBlockKind {
+    /// `<pre`, `<script`, `<style` or `<textarea`, to a line with a closing tag of one of them.
+    RawText = 1,
+    /// `<!--`, to a line with `-->`.
+    Comment,
+    /// `<?`, to a line with `?>`.
+    Processing,
+    /// `<!` and a letter, to a line with `>`.
+    Declaration,
+    /// `<![CDATA[`, to a line with `]]>`.
+    Cdata,
+    /// A tag with one of 62 names, to a blank line.
+    BlockName,
+    /// Another tag alone in its line, to a blank line. It can't interrupt a paragraph.
+    TagAlone,
+}
+
+impl HtmlBlockKind {
+    pub(crate) fn of(kind: u32) -> Option<Self> {
+        use HtmlBlockKind::*;
+        let kinds = [RawText, Comment, Processing, Declaration, Cdata, BlockName, TagAlone];
+        kinds.into_iter().find(|it| *it as u32 == kind)
+    }
+}
+
 /// The kind of a link that a scanner tells.
 #[derive(Clone, Copy, Debug, PartialEq, Eq, Hash)]
 #[non_exhaustive]

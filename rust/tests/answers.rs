@@ -44,6 +44,25 @@ fn kinds() {
 }
 
 #[test]
+fn html_blocks() {
+    use HtmlBlockKind::*;
+    let lines: [(&[u8], _, &[u8]); 7] = [
+        (b"<pre>", RawText, b"</style>"),
+        (b"<!--", Comment, b"-->"),
+        (b"<?a", Processing, b"?>"),
+        (b"<!a", Declaration, b">"),
+        (b"<![CDATA[", Cdata, b"]]>"),
+        (b"<p", BlockName, b"\n"),
+        (b"<b>", TagAlone, b""),
+    ];
+    for (first, kind, last) in lines {
+        assert_eq!(scan_html_block_start(first), Some(kind));
+        assert!(ends_html_block(last, kind));
+        assert!(!ends_html_block(b".", kind));
+    }
+}
+
+#[test]
 fn alignments() {
     use Alignment::{Center, Left, Right};
     let row = "|:-|:-:|-:".repeat(100) + "|\n";

@@ -2,6 +2,8 @@
 use Rattle.std.specs.Prelude.{ℕ, List, ◌≡◌, ◌≤◌, ◌<◌, ◌-◌, ◌^◌, ◌⊎◌, length}
 use Rattle.markdown_values.specs.values.Headings.{heading_number}
 use Rattle.markdown_values.specs.declared.values.HeadingLevel.{HeadingLevel}
+use Rattle.markdown_scanners_tree.specs.declared.scanners.html_kinds.HtmlBlockKind.{HtmlBlockKind}
+use Rattle.markdown_scanners_tree.specs.scanners.html_kinds.HtmlKinds.{condition_number}
 
 -- `MDS_NONE`, which is no length of a text and no place in one
 abbrev pub none : ℕ
@@ -27,3 +29,9 @@ abbrev pub FoundWithLevel : (ℕ → HeadingLevel → Type 0) → ℕ → ℕ �
 FoundWithLevel P length number =
     ((length < none) × ((level : HeadingLevel) × P length level × (number ≡ heading_number level)))
     ⊎ ((length ≡ none) × ((other : ℕ × HeadingLevel) → ¬ P other.0 other.1))
+
+-- A number of a kind of HTML block that has the property, or 0 where no kind has it.
+abbrev pub FoundKind : (HtmlBlockKind → Type 0) → ℕ → Type 0
+FoundKind P number =
+    ((kind : HtmlBlockKind) × P kind × (number ≡ condition_number kind))
+    ⊎ ((number ≡ 0) × ((kind : HtmlBlockKind) → ¬ P kind))

@@ -1,14 +1,15 @@
 //! Thematic breaks, headings, code fences and metadata blocks.
-ghost use Rattle.std.specs.Prelude.{◌≡◌, ◌≢◌, ◌≤◌, ◌⊎◌, ℕ, length};
+ghost use Rattle.std.specs.Prelude.{◌≡◌, ◌≢◌, ◌≤◌, ◌⊎◌, ◌↔◌, ℕ, length, IsTrue};
 ghost use Rattle.markdown_scanners_tree.specs.scanners.Breaks.{IsThematicBreakLine, NoBreakBefore, break_length};
 ghost use Rattle.markdown_scanners_tree.specs.scanners.Fences.{IsCodeFence, IsClosingCodeFence};
 ghost use Rattle.markdown_scanners_tree.specs.scanners.Headings.{IsAtxHeading, IsSetextUnderline};
+ghost use Rattle.markdown_scanners_tree.specs.scanners.Interrupts.{InterruptsParagraph};
 ghost use Rattle.markdown_scanners_tree.specs.scanners.Metadata.{IsMetadataBlock, IsClosingMetadataBlock};
 ghost use Rattle.markdown_scanners_c.specs.Answers.{none, FoundExactly, FoundLevel, FoundWithLevel, IsWithin};
 
 use crate::status::NONE;
 use markdown_scanners_tree::scanners::{
-    scan_atx_heading, scan_closing_code_fence, scan_closing_metadata_block, scan_code_fence,
+    interrupts_paragraph, scan_atx_heading, scan_closing_code_fence, scan_closing_metadata_block, scan_code_fence,
     scan_hrule, scan_metadata_block, scan_setext_heading,
 };
 
@@ -76,6 +77,14 @@ pub extern "C" fn mds_scan_setext_heading(bytes: &[u8]) -> Underline
             level: 0,
         },
     }
+}
+
+/// Whether the line at the front can interrupt a paragraph. (CommonMark 0.31.2, section 4.8)
+#[unsafe(no_mangle)]
+pub extern "C" fn mds_interrupts_paragraph(bytes: &[u8]) -> bool
+    ensures { IsTrue result ↔ InterruptsParagraph bytes.now }
+{
+    interrupts_paragraph(bytes)
 }
 
 /// `struct mds_fence` of C: how many bytes a fence has, or `NONE`, and which.

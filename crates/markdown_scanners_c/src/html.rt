@@ -1,30 +1,34 @@
 //! HTML blocks, tags and inline HTML.
 ghost use Rattle.std.specs.Prelude.{◌≡◌, ◌≢◌, ◌↔◌, ◌≤◌, ◌<◌, ◌+◌, ◌-◌, ◌^◌, ◌++◌, [], ◌∷◌, ℕ, List, IsTrue, Some, true, length};
 ghost use Rattle.markdown_scanners_tree.specs.Kept.{KeptByte};
+ghost use Rattle.markdown_scanners_tree.specs.SomeExactly.{SomeExactly, IsOnly};
 ghost use Rattle.markdown_scanners_tree.specs.inline_html.Guard.{answer_of_scan, guard_after_scan, text_after_scan, IsTrueGuard, IsTrueScan};
 ghost use Rattle.markdown_scanners_tree.specs.inline_html.InlineHtml.{opener_before, opening_at};
 ghost use Rattle.markdown_scanners_tree.specs.inline_html.run.KeptGuard.{first_guard, AreScanPlaces, guard_after_scans};
 ghost use Rattle.markdown_scanners_tree.specs.scanners.html_block.HtmlBlock.{IsBlockStart};
+ghost use Rattle.markdown_scanners_tree.specs.scanners.html_kinds.HtmlKinds.{IsHtmlBlockStart, condition_number, is_html_end};
 ghost use Rattle.markdown_scanners_tree.specs.scanners.html_tag.HtmlTag.{IsTagAloneInLine};
 ghost use Rattle.markdown_scanners_tree.specs.scanners.html_tag.KeptTag.{IsKeptTag, place_after};
-ghost use Rattle.markdown_scanners_c.specs.Answers.{FoundExactly};
+ghost use Rattle.markdown_scanners_c.specs.Answers.{FoundExactly, FoundKind};
 ghost use Rattle.markdown_scanners_c.specs.Buffer.{IsChangedFront};
 ghost use Rattle.markdown_scanners_c.specs.Finds.{IsFindEnd};
+ghost use Rattle.markdown_scanners_c.specs.LineStarts.{found_status};
 ghost use Rattle.markdown_scanners_c.specs.Guards.{scan_guard, new_guard, IsGuardedEnd, IsTrueEnd, IsScanInTurn};
 ghost use Rattle.markdown_scanners_c.specs.Skips.{are_skips};
-ghost use Rattle.markdown_scanners_c.specs.Status.{past_end};
+ghost use Rattle.markdown_scanners_c.specs.Status.{past_end, bad_kind};
 ghost use Rattle.markdown_scanners_c.specs.Tags.{IsNoTag, IsTagText, IsScannedTag};
 ghost use Rattle.markdown_scanners_c.specs.private.Searched.{told_skip};
 
 use crate::skips::{Skip, told_skip};
-use crate::status::{NO_MEMORY, NO_OPENER, NONE, NOTHING, OK, PAST_END};
+use crate::status::{BAD_KIND, NO_MEMORY, NO_OPENER, NONE, NOTHING, OK, PAST_END};
 use crate::texts::{Text, write_text};
 use markdown_scanners_tree::inline_html::{
     CountedText, HtmlScanGuard, scan_inline_html_comment_counted,
     scan_inline_html_processing_counted,
 };
 use markdown_scanners_tree::scanners::{
-    scan_html_block_inner, scan_html_type_7, starts_html_block_type_6,
+    HtmlBlockKind, ends_html_block, scan_html_block_inner, scan_html_block_start, scan_html_type_7,
+    starts_html_block_type_6,
 };
 use std::alloc::Global;
 
@@ -44,6 +48,50 @@ pub extern "C" fn mds_scan_html_type_7(bytes: &[u8]) -> usize
     ensures { FoundExactly (IsTagAloneInLine bytes.now) result result }
 {
     scan_html_type_7(bytes).unwrap_or(NONE)
+}
+
+/// The number of the kind of HTML block that begins at the front, or 0. (CommonMark 0.31.2, section
+/// 4.6)
+#[unsafe(no_mangle)]
+pub extern "C" fn mds_scan_html_block_start(bytes: &[u8]) -> u32
+    ensures { FoundKind (IsHtmlBlockStart bytes.now) result }
+{
+    match scan_html_block_start(bytes) {
+        Some(kind) => kind as u32,
+        None => 0,
+    }
+}
+
+/// Whether the line at the front ends an HTML block of the kind: `OK` or `NOTHING`, or `BAD_KIND`
+/// where the number is of no kind. (CommonMark 0.31.2, section 4.6)
+#[unsafe(no_mangle)]
+pub extern "C" fn mds_ends_html_block(bytes: &[u8], kind: u32) -> u32
+    ensures known { (k : HtmlBlockKind) → condition_number k ≡ kind
+        → result ≡ found_status (is_html_end k bytes.now) }
+    ensures unknown { ((k : HtmlBlockKind) → condition_number k ≢ kind) → result ≡ bad_kind }
+{
+    match kind_of(kind) {
+        Some(kind) if ends_html_block(bytes, kind) => OK,
+        Some(_) => NOTHING,
+        None => BAD_KIND,
+    }
+}
+
+// The kind of the number.
+fn kind_of(number: u32) -> Option<HtmlBlockKind>
+    ensures found { SomeExactly (λ k. condition_number k ≡ number) result }
+    ensures only { IsOnly (λ k. condition_number k ≡ number) result }
+{
+    match number {
+        1 => Some(HtmlBlockKind::RawText),
+        2 => Some(HtmlBlockKind::Comment),
+        3 => Some(HtmlBlockKind::Processing),
+        4 => Some(HtmlBlockKind::Declaration),
+        5 => Some(HtmlBlockKind::Cdata),
+        6 => Some(HtmlBlockKind::BlockName),
+        7 => Some(HtmlBlockKind::TagAlone),
+        _ => None,
+    }
 }
 
 /// The length of the tag at the front, in one line, or `NONE`. (CommonMark 0.31.2, section 6.6)

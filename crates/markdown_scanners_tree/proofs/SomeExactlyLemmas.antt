@@ -1,5 +1,5 @@
 -- Answers that are Some exactly where there is something to find.
-use Rattle.std.proofs.Common.{◌≡◌, true, false, sym, subst, Option, Some, None}
+use Rattle.std.proofs.Common.{◌≡◌, ◌↔◌, ◌∙◌, IsTrue, Bool, true, false, sym, subst, Option, Some, None}
 use Rattle.std.specs.Option.{is_some}
 use Rattle.markdown_scanners_tree.specs.SomeExactly.{SomeExactly, IsOnly}
 
@@ -27,6 +27,11 @@ module _ {T : Type 0} (P : T → Type 0) where
   pub SomeExactly-none : (answer : Option T) → is_some answer ≡ false → SomeExactly P answer → (x : T) → ¬ P x
   SomeExactly-none None none holds = holds
   SomeExactly-none (Some x) none holds = cc
+
+  pub SomeExactly-told : (answer : Option T) (test : Bool) → test ≡ is_some answer → SomeExactly P answer
+      → IsTrue test ↔ ((x : T) × P x)
+  SomeExactly-told None test is none = (λ t. absurd (let gone = sym is ∙ t in cc), λ x. absurd (none x.0 x.1))
+  SomeExactly-told (Some x) test is holds = (λ t. (x, holds), λ _. is)
 
   -- the same answer to another question
   pub SomeExactly-map : (Q : T → Type 0) (answer : Option T) → ((x : T) → P x → Q x)

@@ -3,12 +3,15 @@ pub mod Escapes
 pub mod Fences
 pub mod Headings
 pub mod Indent
+pub mod Interrupts
 pub mod Lines
 pub mod Metadata
 pub mod Runs
+pub mod TextLines
 pub mod classes
 pub mod entities
 pub mod html_block
+pub mod html_kinds
 pub mod html_tag
 pub mod links
 pub mod list_items

@@ -191,6 +191,7 @@ impl<'a> LineStart<'a> {
         ensures answer { result ≡ space_within n self.old }
         ensures state { self.new ≡ after_space n self.old }
         ensures bytes { self.new.bytes ≡ self.old.bytes }
+        ensures forward { self.old.place ≤ self.new.place }
         ensures step { IsPlainStep (LineCall.Upto n) (LineAnswer.Count result) self.old self.new }
     {
         // Most often there is none.
@@ -226,6 +227,7 @@ impl<'a> LineStart<'a> {
         ensures answer { IsTrue result ↔ (space_within n self.old ≡ n) }
         ensures state { self.new ≡ after_space n self.old }
         ensures bytes { self.new.bytes ≡ self.old.bytes }
+        ensures forward { self.old.place ≤ self.new.place }
         ensures step { IsPlainStep (LineCall.Space n) (LineAnswer.Flag result) self.old self.new }
     {
         self.scan_space_upto(n) == n
@@ -235,6 +237,7 @@ impl<'a> LineStart<'a> {
     fn scan_column(&mut self) -> bool
         ensures answer { IsTrue result ↔ (space_within 1 self.old ≡ 1) }
         ensures state { self.new ≡ after_space 1 self.old }
+        ensures forward { self.old.place ≤ self.new.place }
         ensures rest { rest_of self.new ≡ drop (space_within 1 self.old) (rest_of self.old) }
     {
         if self.pending > 0 {
@@ -267,6 +270,7 @@ impl<'a> LineStart<'a> {
     pub fn scan_all_space(&mut self)
         ensures state { self.new ≡ after_all_space self.old }
         ensures bytes { self.new.bytes ≡ self.old.bytes }
+        ensures forward { self.old.place ≤ self.new.place }
     {
         self.pending = 0;
         let space = scan_spaces_and_tabs(&self.bytes[self.place..]);
@@ -281,6 +285,8 @@ impl<'a> LineStart<'a> {
             (begins_with (λ b. b == greater_than_sign) (unscanned self.old) ≡ true) }
         ensures state { self.new ≡ after_quote self.old }
         ensures bytes { self.new.bytes ≡ self.old.bytes }
+        ensures forward { self.old.place ≤ self.new.place }
+        ensures rises { IsTrue result → self.old.place < self.new.place }
 
         // With nothing pending the call is one on the line with its tabs written out.
         ensures step { self.old.pending ≡ 0 →
@@ -303,6 +309,8 @@ impl<'a> LineStart<'a> {
         ensures answer { result ≡ (task_outcome self.old).answer }
         ensures state { self.new ≡ (task_outcome self.old).state }
         ensures bytes { self.new.bytes ≡ self.old.bytes }
+        ensures forward { self.old.place ≤ self.new.place }
+        ensures rises { IfSome result (λ _. self.old.place < self.new.place) }
         ensures unchanged { IfNone result (self.new ≡ self.old) }
     {
         let before = self.copy();
@@ -321,6 +329,8 @@ impl<'a> LineStart<'a> {
         ensures answer { result ≡ (alert_outcome self.old).answer }
         ensures state { self.new ≡ (alert_outcome self.old).state }
         ensures bytes { self.new.bytes ≡ self.old.bytes }
+        ensures forward { self.old.place ≤ self.new.place }
+        ensures rises { IfSome result (λ _. self.old.place < self.new.place) }
         ensures unchanged { IfNone result (self.new ≡ self.old) }
     {
         let (kind, length) = scan_alert(&self.bytes[self.place..])?;

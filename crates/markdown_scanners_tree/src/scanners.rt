@@ -7,8 +7,10 @@ mod escapes;
 mod fences;
 mod headings;
 mod html_block;
+mod html_kinds;
 mod html_tag;
 mod indent;
+mod interrupts;
 mod lines;
 mod links;
 mod list_items;
@@ -17,6 +19,7 @@ mod numbers;
 mod runs;
 mod tables;
 mod tag_state;
+mod text_lines;
 mod unescaping;
 
 pub use breaks::scan_hrule;
@@ -27,8 +30,10 @@ pub use entity_table::EntityTable;
 pub use fences::{scan_closing_code_fence, scan_code_fence};
 pub use headings::{scan_atx_heading, scan_setext_heading};
 pub use html_block::starts_html_block_type_6;
+pub use html_kinds::{HtmlBlockKind, ends_html_block, scan_html_block_start};
 pub use html_tag::{scan_html_block_inner, scan_html_type_7};
 pub use indent::calc_indent;
+pub use interrupts::interrupts_paragraph;
 pub use lines::{scan_blank_line, scan_blockquote_start, scan_eol, scan_line, scan_nextline};
 pub use links::{
     scan_autolink, scan_autolink_bytes, scan_link_dest, scan_link_dest_bytes, scan_wikilink_pipe,
@@ -40,4 +45,5 @@ pub use metadata::{scan_closing_metadata_block, scan_metadata_block};
 pub(crate) use runs::scan_spaces_and_tabs;
 pub use runs::{scan_ch, scan_ch_repeat, scan_rev_while, scan_while, scan_whitespace_no_nl};
 pub use tables::scan_table_head;
+pub use text_lines::{TextLines, scan_lines};
 pub use unescaping::unescape;

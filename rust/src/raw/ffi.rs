@@ -38,6 +38,14 @@ pub const ALIGN_LEFT: u32 = 1;
 pub const ALIGN_CENTER: u32 = 2;
 pub const ALIGN_RIGHT: u32 = 3;
 
+pub const HTML_RAW_TEXT: u32 = 1;
+pub const HTML_COMMENT: u32 = 2;
+pub const HTML_PROCESSING: u32 = 3;
+pub const HTML_DECLARATION: u32 = 4;
+pub const HTML_CDATA: u32 = 5;
+pub const HTML_BLOCK_NAME: u32 = 6;
+pub const HTML_TAG_ALONE: u32 = 7;
+
 #[repr(C)]
 #[derive(Clone, Copy, Debug, Default, PartialEq, Eq)]
 pub struct Text {
@@ -251,6 +259,7 @@ extern "C" {
     pub fn mds_scan_closing_code_fence(bytes: *const c_void, length: usize, fence: u8, count: usize) -> usize;
     pub fn mds_scan_metadata_block(bytes: *const c_void, length: usize, yaml: bool, pluses: bool) -> Fence;
     pub fn mds_scan_closing_metadata_block(bytes: *const c_void, length: usize, fence: u8) -> usize;
+    pub fn mds_interrupts_paragraph(bytes: *const c_void, length: usize) -> bool;
     pub fn mds_scan_table_head(bytes: *const c_void, length: usize, alignments: *mut u8, capacity: usize) -> Text;
     pub fn mds_scan_link_dest(bytes: *const c_void, length: usize, start: usize, max_next: usize) -> Part;
     pub fn mds_scan_autolink(bytes: *const c_void, length: usize, start: usize) -> Part;
@@ -258,6 +267,8 @@ extern "C" {
     pub fn mds_check_skips(bytes: *const c_void, length: usize, skips: *const Skip, skip_count: usize) -> u32;
     pub fn mds_starts_html_block_type_6(bytes: *const c_void, length: usize) -> bool;
     pub fn mds_scan_html_type_7(bytes: *const c_void, length: usize) -> usize;
+    pub fn mds_scan_html_block_start(bytes: *const c_void, length: usize) -> u32;
+    pub fn mds_ends_html_block(bytes: *const c_void, length: usize, kind: u32) -> u32;
     pub fn mds_scan_html_tag(bytes: *const c_void, length: usize) -> usize;
     pub fn mds_scan_html_tag_over_lines(
         bytes: *const c_void,

@@ -8,9 +8,10 @@ use crate::telling::{tell, tell_made, tell_ready};
 use crate::texts::Text;
 use crate::unescaping::AMPERSAND;
 use markdown_scanners_tree::scanners::{
-    scan_autolink, scan_autolink_bytes, scan_entity, scan_html_block_inner, scan_html_type_7,
-    scan_link_dest, scan_link_dest_bytes, scan_table_head, scan_wikilink_pipe,
-    scan_wikilink_pipe_bytes, starts_html_block_type_6, unescape,
+    HtmlBlockKind, ends_html_block, scan_autolink, scan_autolink_bytes, scan_entity,
+    scan_html_block_inner, scan_html_block_start, scan_html_type_7, scan_link_dest,
+    scan_link_dest_bytes, scan_table_head, scan_wikilink_pipe, scan_wikilink_pipe_bytes,
+    starts_html_block_type_6, unescape,
 };
 use markdown_values::strings::CowStr;
 use std::alloc::Global;
@@ -55,6 +56,10 @@ fn links_of_bytes<W: Write>(output: &mut W) -> Result<(), Stop> {
 fn tags<W: Write>(alloc: Global, output: &mut W) -> Result<(), Stop> {
     tell(output, starts_html_block_type_6(b"DIV>"))?;
     tell(output, scan_html_type_7(b"<a b=\t'c'>  \n"))?;
+    tell_html(output, b"<PRE>")?;
+    tell_html(output, b"a --> b")?;
+    tell_html(output, b"</td/>")?;
+    tell_html(output, b"<b c> \n")?;
     let none = None::<&fn(&[u8]) -> usize>;
     tell_made(
         output,
@@ -66,6 +71,14 @@ fn tags<W: Write>(alloc: Global, output: &mut W) -> Result<(), Stop> {
     )?;
     tell_made(output, scan_tag(alloc, b"<a\nb\nc>"))?;
     tell_made(output, scan_tag(alloc, b"</a\n\n> >"))
+}
+
+// The kind of the HTML block that begins there, and whether the line ends a comment, and a block
+// with a name.
+fn tell_html<W: Write>(output: &mut W, bytes: &[u8]) -> Result<(), Stop> {
+    let comment = ends_html_block(bytes, HtmlBlockKind::Comment);
+    let named = ends_html_block(bytes, HtmlBlockKind::BlockName);
+    tell(output, (scan_html_block_start(bytes), comment, named))
 }
 
 fn unchanged<W: Write>(alloc: Global, output: &mut W) -> Result<(), Stop> {

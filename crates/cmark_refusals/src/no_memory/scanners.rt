@@ -2,11 +2,11 @@
 use crate::stop::Stop;
 use crate::telling::{tell, tell_ready};
 use markdown_scanners_tree::scanners::{
-    calc_indent, is_ascii_punctuation, is_ascii_whitespace, is_ascii_whitespace_no_nl,
-    scan_atx_heading, scan_blank_line, scan_blockquote_start, scan_ch, scan_ch_repeat,
-    scan_closing_code_fence, scan_closing_metadata_block, scan_code_fence, scan_eol, scan_hrule,
-    scan_line, scan_listitem, scan_metadata_block, scan_nextline, scan_rev_while,
-    scan_setext_heading, scan_while, scan_whitespace_no_nl,
+    calc_indent, interrupts_paragraph, is_ascii_punctuation, is_ascii_whitespace,
+    is_ascii_whitespace_no_nl, scan_atx_heading, scan_blank_line, scan_blockquote_start, scan_ch,
+    scan_ch_repeat, scan_closing_code_fence, scan_closing_metadata_block, scan_code_fence,
+    scan_eol, scan_hrule, scan_line, scan_lines, scan_listitem, scan_metadata_block, scan_nextline,
+    scan_rev_while, scan_setext_heading, scan_while, scan_whitespace_no_nl,
 };
 use std::io::Write;
 
@@ -41,6 +41,7 @@ fn endings<W: Write>(output: &mut W) -> Result<(), Stop> {
     tell(output, scan_eol(b"\rx"))?;
     tell(output, scan_blank_line(b"\r\r\n"))?;
     tell(output, scan_line(b"a\r\nb"))?;
+    tell(output, scan_lines(b"a\r\n\nb").count())?;
     tell(output, scan_nextline(b"a\rb\nc"))?;
     tell(output, scan_blockquote_start(b"> "))?;
     tell(output, scan_hrule(b"* * *\n"))?;
@@ -64,6 +65,8 @@ fn fences<W: Write>(output: &mut W) -> Result<(), Stop> {
 }
 
 fn items<W: Write>(output: &mut W) -> Result<(), Stop> {
+    tell(output, interrupts_paragraph(b"  1. a"))?;
+    tell(output, interrupts_paragraph(b"-\n"))?;
     tell(output, scan_listitem(b"-   x"))?;
     tell(output, scan_listitem(b"1844674407370955161615!"))
 }

@@ -1,5 +1,5 @@
 -- No call on a line start goes back, so what is known of the thematic breaks stays true.
-use Rattle.std.proofs.Common.{ℕ, Bool, List, ◌≡◌, ◌≤◌, ◌==◌, Option, None, Some, refl, arith}
+use Rattle.std.proofs.Common.{ℕ, Bool, List, ◌≡◌, ◌≤◌, ◌==◌, Option, None, Some, refl, sym, subst, arith}
 use Rattle.markdown_values.specs.declared.values.BlockQuoteKind.{BlockQuoteKind}
 use Rattle.markdown_scanners_tree.specs.Ascii.{colon, greater_than_sign}
 use Rattle.markdown_scanners_tree.specs.Bytes.{begins_with}
@@ -12,6 +12,9 @@ use Rattle.markdown_scanners_tree.proofs.line.ColumnLemmas.{bool_cases}
 
 pub space_forward : (n : ℕ) (s : LineState) → s.place ≤ (after_space n s).place
 space_forward n s = omega arith
+
+pub taken_forward : (n : ℕ) (s after : LineState) → after ≡ after_space n s → s.place ≤ after.place
+taken_forward n s after is = subst (λ (z : LineState). s.place ≤ z.place) (sym is) (space_forward n s)
 
 pub all_space_forward : (s : LineState) → s.place ≤ (after_all_space s).place
 all_space_forward s = omega arith

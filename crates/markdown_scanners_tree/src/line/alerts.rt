@@ -17,6 +17,7 @@ const ALERTS: [(&str, BlockQuoteKind); 5] = [
 // The kind of the alert whose line stands at the front, and the length of that line.
 pub(in crate::line) fn scan_alert(bytes: &[u8]) -> Option<(BlockQuoteKind, usize)>
     ensures alert { result ≡ alert_line bytes.now }
+    ensures filled { IfSome result (λ alert. 0 < alert.1) }
     ensures within { IfSome result (λ alert. alert.1 ≤ length bytes.now) }
 {
     let name = bytes.strip_prefix(b"[!")?;

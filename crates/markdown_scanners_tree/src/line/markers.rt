@@ -34,6 +34,8 @@ impl LineStart<'_> {
         // The place after the call; it stays where no item's marker stands.
         ensures state { self.new ≡ (item_outcome indent self.old).state }
         ensures bytes { self.new.bytes ≡ self.old.bytes }
+        ensures forward { self.old.place ≤ self.new.place }
+        ensures rises { IfSome result (λ _. self.old.place < self.new.place) }
         ensures unchanged { IfNone result (self.new ≡ self.old) }
 
         // With nothing pending the call is one on the line with its tabs written out.
@@ -75,6 +77,7 @@ impl LineStart<'_> {
         ensures width { IfSome result (λ r. r.2 ≤ indent + 14) }
         ensures bytes { self.new.bytes ≡ self.old.bytes }
         ensures forward { self.old.place ≤ self.new.place }
+        ensures rises { IfSome result (λ _. self.old.place < self.new.place) }
         ensures unchanged { IfNone result (self.new ≡ self.old) }
     {
         let (width, delimiter, start) = marker_at(self.bytes, self.place, breaks)?;
@@ -98,6 +101,8 @@ impl LineStart<'_> {
         // The place after the call; it stays where no definition's marker stands.
         ensures state { self.new ≡ (definition_outcome indent self.old).state }
         ensures bytes { self.new.bytes ≡ self.old.bytes }
+        ensures forward { self.old.place ≤ self.new.place }
+        ensures rises { IfSome result (λ _. self.old.place < self.new.place) }
         ensures unchanged { IfNone result (self.new ≡ self.old) }
 
         // With nothing pending the call is one on the line with its tabs written out.
@@ -121,6 +126,7 @@ impl LineStart<'_> {
         ensures marker { IfSome result (λ r. IsListMarker (take r.0 (unscanned self.old)) r.1 r.2) }
         ensures inside { IfSome result (λ r. self.old.place + r.0 ≤ length self.old.bytes) }
         ensures width { IfSome result (λ r. r.0 ≤ 10) }
+        ensures filled { IfSome result (λ r. 0 < r.0) }
         ensures none { IfNone result (list_marker (unscanned self.old) ≡ None) }
 
         // Nothing that is seen of the place changes.
@@ -142,6 +148,7 @@ impl LineStart<'_> {
     ) -> Option<(u8, u64, usize)>
         requires indent { indent ≤ usize.MAX - 16 }
         requires short { width ≤ 10 }
+        requires filled { 0 < width }
         requires inside { self.old.place + width ≤ length self.old.bytes }
 
         ensures answer { result ≡ (item_outcome_by indent self.old
@@ -151,6 +158,7 @@ impl LineStart<'_> {
         ensures content { IfSome result (λ r. r.2 ≤ indent + 14) }
         ensures bytes { self.new.bytes ≡ self.old.bytes }
         ensures forward { self.old.place ≤ self.new.place }
+        ensures rises { IfSome result (λ _. self.old.place < self.new.place) }
         ensures unchanged { IfNone result (self.new ≡ self.old) }
         ensures step { self.old.pending ≡ 0 → self.old.phase < 4
             → list_marker (unscanned self.old)
@@ -172,6 +180,7 @@ impl LineStart<'_> {
     fn scan_space_or_end(&mut self) -> bool
         ensures answer { result ≡ space_or_end_follows self.old }
         ensures state { self.new ≡ after_space 1 self.old }
+        ensures forward { self.old.place ≤ self.new.place }
         ensures rest { rest_of self.new ≡ drop (space_within 1 self.old) (rest_of self.old) }
     {
         self.scan_column() || self.is_at_eol()
@@ -182,6 +191,7 @@ impl LineStart<'_> {
     fn scan_definition_space(&mut self) -> usize
         ensures columns { result ≡ definition_spaces (leading_spaces (rest_of self.old)) }
         ensures state { self.new ≡ after_space result self.old }
+        ensures forward { self.old.place ≤ self.new.place }
         ensures rest { rest_of self.new ≡ drop result (rest_of self.old) }
     {
         let before = self.copy();
@@ -199,6 +209,7 @@ impl LineStart<'_> {
     fn scan_marker_space(&mut self) -> usize
         ensures columns { result ≡ further_spaces self.old }
         ensures state { self.new ≡ after_space result self.old }
+        ensures forward { self.old.place ≤ self.new.place }
         ensures rest { rest_of self.new ≡ drop result (rest_of self.old) }
     {
         let rest = &self.bytes[self.place..];
@@ -234,6 +245,7 @@ fn marker_at(bytes: &[u8], place: usize, breaks: &mut KnownBreaks) -> Option<(us
     ensures marker { IfSome result (λ r. IsListMarker (take r.0 (drop place bytes.now)) r.1 r.2) }
     ensures inside { IfSome result (λ r. place + r.0 ≤ length bytes.now) }
     ensures width { IfSome result (λ r. r.0 ≤ 10) }
+    ensures filled { IfSome result (λ r. 0 < r.0) }
 {
     let (width, delimiter, start) = scan_marker(&bytes[place..])?;
     // A bullet alone is one byte wide.

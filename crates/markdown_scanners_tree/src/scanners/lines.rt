@@ -1,7 +1,7 @@
 //! Line endings, blank lines and the marks at the front of a line.
 ghost use Rattle.std.specs.Prelude.{◌≡◌, ◌<◌, ◌≤◌, length, IfSome};
 ghost use Rattle.markdown_scanners_tree.specs.SomeExactly.{SomeExactly, IsOnly};
-ghost use Rattle.markdown_scanners_tree.specs.Bytes.{line_ending, line_length, IsBlankLine, blank_line};
+ghost use Rattle.markdown_scanners_tree.specs.Bytes.{line_ending, line_head, line_length, IsBlankLine, blank_line};
 ghost use Rattle.markdown_scanners_tree.specs.scanners.Lines.{next_line, IsBlockQuoteStart};
 
 use crate::scanners::runs::scan_whitespace_no_nl;
@@ -48,6 +48,16 @@ pub fn scan_line(bytes: &[u8]) -> usize
     match memchr2(b'\n', b'\r', bytes) {
         Some(end) => end + scan_eol(&bytes[end..]).unwrap_or(0),
         None => bytes.len(),
+    }
+}
+
+// The head of the line at the front, which ends before its line ending.
+pub(in crate::scanners) fn line_head(text: &[u8]) -> &[u8]
+    ensures { result.now ≡ line_head text.now }
+{
+    match memchr2(b'\n', b'\r', text) {
+        Some(end) => &text[..end],
+        None => text,
     }
 }
 

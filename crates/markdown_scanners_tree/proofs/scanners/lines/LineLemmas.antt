@@ -17,22 +17,30 @@ line_length-by_head : (bytes : List ℕ) (k : ℕ) → prefix_len ends_no_line b
 line_length-by_head bytes k head =
     ap (λ n. n + unwrap_or (line_ending (drop n bytes)) 0) (length-prefix_len ends_no_line bytes ∙ head)
 
--- the two answers of the search
+-- the head, by the two answers of the search
+pub head-found : (bytes : List ℕ) (k : ℕ)
+    → NoneBefore (Passes (is_byte2 10 13) bytes) 0 (length bytes) k × Passes (is_byte2 10 13) bytes k
+    → prefix_len ends_no_line bytes ≡ k
+head-found bytes k (first, here) =
+    prefix_len-first (is_byte2 10 13) bytes k first.high here (λ j lt. first.before j (omega arith) lt)
+
+pub head-not_found : (bytes : List ℕ) → Nowhere (Passes (is_byte2 10 13) bytes) 0 (length bytes)
+    → prefix_len ends_no_line bytes ≡ length bytes
+head-not_found bytes none = prefix_len-all (is_byte2 10 13) bytes (λ j lt. none j (omega arith) lt)
+
+-- the length, by the same
 pub line_length-found : (bytes : List ℕ) (k : ℕ)
     → NoneBefore (Passes (is_byte2 10 13) bytes) 0 (length bytes) k × Passes (is_byte2 10 13) bytes k
     → line_length bytes ≡ k + unwrap_or (line_ending (take (length bytes - k) (drop k bytes))) 0
-line_length-found bytes k (first, here) =
-    line_length-by_head bytes k
-    (prefix_len-first (is_byte2 10 13) bytes k first.high here (λ j lt. first.before j (omega arith) lt))
+line_length-found bytes k found =
+    line_length-by_head bytes k (head-found bytes k found)
     ∙ ap (λ t. k + unwrap_or (line_ending t) 0) (sym (from_place bytes k))
 
 pub line_length-not_found : (bytes : List ℕ) → Nowhere (Passes (is_byte2 10 13) bytes) 0 (length bytes)
     → line_length bytes ≡ length bytes
 line_length-not_found bytes none =
-    let all : prefix_len ends_no_line bytes ≡ length bytes =
-    prefix_len-all (is_byte2 10 13) bytes (λ j lt. none j (omega arith) lt) in
     let whole : line_length bytes ≡ length bytes + unwrap_or (line_ending []) 0 =
-    line_length-by_head bytes (length bytes) all
+    line_length-by_head bytes (length bytes) (head-not_found bytes none)
     ∙ ap (λ t. length bytes + unwrap_or (line_ending t) 0) (drop_all (length bytes) bytes (omega arith)) in
     omega (arith, whole)
 

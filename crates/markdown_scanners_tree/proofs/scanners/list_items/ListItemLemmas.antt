@@ -2,7 +2,7 @@
 use Rattle.std.proofs.Common.{◌≡◌, ℕ, zero, suc, ◌+◌, ◌<◌, ◌≤◌, Bool, true, false, cond, List, [], ◌∷◌, ◌++◌, length, take, drop, get_or, refl, sym, ap, ◌∙◌, arith, append_assoc}
 use Rattle.std.specs.List.{prefix_len, list_all}
 use Rattle.std.proofs.lemmas.Bool.Decides.{nat_tests}
-use Rattle.std.proofs.lemmas.List.{take-append-drop, length-append, length-take-le, take_more}
+use Rattle.std.proofs.lemmas.List.{take-append-drop, length-append, length-take, length-take-le, take_more}
 use Rattle.std.proofs.lemmas.List.Folds.{length-prefix_len}
 use Rattle.std.proofs.Math.Seq.{drop-append_seam}
 use Rattle.markdown_scanners_tree.specs.Bytes.{begins_with, is_digit, IsBlankLine}
@@ -123,3 +123,14 @@ pub bullet-scanned : (bytes : List ℕ) → begins_with is_bullet bytes ≡ true
     → IsListMarker (take 1 bytes) (get_or bytes 0 0) 0
 bullet-scanned [] begins = cc
 bullet-scanned (b ∷ bytes) begins = bullet b begins
+
+-- a list marker has a byte at least
+marker_filled : (marker : List ℕ) (delimiter start : ℕ) → IsListMarker marker delimiter start → 0 < length marker
+marker_filled marker delimiter start (bullet b is) = omega arith
+marker_filled marker delimiter start (ordered digits d one few all is) =
+    omega (arith, length-append digits (d ∷ []))
+
+pub width_filled : (bytes : List ℕ) (width delimiter start : ℕ) → IsListMarker (take width bytes) delimiter start
+    → 0 < width
+width_filled bytes width delimiter start is =
+    omega (arith, marker_filled (take width bytes) delimiter start is, length-take width bytes)

@@ -40,6 +40,17 @@ marker-start marker delimiter start rest (ordered digits d one few all is) =
     ∙ (ap (take (length digits)) (append_assoc digits (d ∷ []) rest) ∙ take-append_seam digits (d ∷ rest)) in
     rw at.0 (ap (digits_value 10) (sym taken))
 
+-- two markers at the front have one last byte and one number
+pub one_marker : (bytes marker rest marker' rest' : List ℕ) (delimiter start delimiter' start' : ℕ)
+    → bytes ≡ marker ++ rest → IsListMarker marker delimiter start → bytes ≡ marker' ++ rest'
+    → IsListMarker marker' delimiter' start' → (delimiter ≡ delimiter') × (start ≡ start')
+one_marker bytes marker rest marker' rest' delimiter start delimiter' start' parts is parts' is' = (
+  marker-delimiter marker delimiter start rest is
+      ∙ (ap marker_delimiter (sym parts ∙ parts') ∙ sym (marker-delimiter marker' delimiter' start' rest' is')),
+  marker-start marker delimiter start rest is
+      ∙ (ap marker_start (sym parts ∙ parts') ∙ sym (marker-start marker' delimiter' start' rest' is')),
+)
+
 -- the space after a marker that belongs to the indent
 one_space : (rest : List ℕ) (place space place' space' : ℕ) → IsItemSpace rest place space
     → IsItemSpace rest place' space' → (place ≡ place') × (space ≡ space')
@@ -80,13 +91,8 @@ one_item bytes item other is is' =
     let spaces = one_space is'.rest is.place is.space is'.place is'.space
     (subst (λ r. IsItemSpace r is.place is.space) rest is.is_space) is'.is_space in
     let long : item.0 ≡ other.0 = omega (arith, is.counted, is'.counted, width, spaces.0) in
-    let delimiter : item.1 ≡ other.1 =
-    marker-delimiter is.marker item.1 item.2 is.rest is.is_marker
-    ∙ (ap marker_delimiter (sym is.parts ∙ is'.parts)
-    ∙ sym (marker-delimiter is'.marker other.1 other.2 is'.rest is'.is_marker)) in
-    let start : item.2 ≡ other.2 =
-    marker-start is.marker item.1 item.2 is.rest is.is_marker
-    ∙ (ap marker_start (sym is.parts ∙ is'.parts)
-    ∙ sym (marker-start is'.marker other.1 other.2 is'.rest is'.is_marker)) in
+    let marked =
+    one_marker bytes is.marker is.rest is'.marker is'.rest item.1 item.2 other.1 other.2 is.parts is.is_marker is'.parts
+    is'.is_marker in
     let indent : item.3 ≡ other.3 = omega (arith, is.columns_are, is'.columns_are, width, spaces.1) in
-    λ i. (long i, delimiter i, start i, indent i)
+    λ i. (long i, marked.0 i, marked.1 i, indent i)

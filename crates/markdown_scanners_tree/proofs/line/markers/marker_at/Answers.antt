@@ -10,6 +10,7 @@ use Rattle.markdown_scanners_tree.specs.declared.line.known_breaks.KnownBreaks.{
 use Rattle.markdown_scanners_tree.proofs.PrefixLemmas.{from_place}
 use Rattle.markdown_scanners_tree.proofs.line.ItemLemmas.{marker-break, marker-bullet, marker-found, marker-none, marker-width, no-bullet}
 use Rattle.markdown_scanners_tree.proofs.line.PlaceLemmas.{breaks_stay}
+use Rattle.markdown_scanners_tree.proofs.scanners.list_items.ListItemLemmas.{width_filled}
 use Rattle.markdown_scanners_tree.proofs.line.markers.marker_at.Goals as goal
 use Rattle.markdown_scanners_tree.proofs.line.markers.marker_at.Goals.{else-width-eq1-via-then-width-eq1+else-begins_break, else-width-eq1-via-else-width-eq1}
 
@@ -125,3 +126,7 @@ returns-clause-learnt c =
           w.breaks-is ∙ kept_at bytes c.args.place known (is ∙ long)
           )
     ]
+
+pub returns-clause-filled : goal.returns-clause-filled
+returns-clause-filled c =
+    width_filled _ c.in_ok-width.width c.in_ok-width.delimiter c.in_ok-width.start c.in_ok-width.ensures.found

@@ -1,0 +1,4 @@
+pub mod EndLemmas
+pub mod NameCut
+pub mod Rows
+pub mod StartLemmas

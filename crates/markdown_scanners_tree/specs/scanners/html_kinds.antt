@@ -1,0 +1,2 @@
+pub mod HtmlKinds
+pub mod private
