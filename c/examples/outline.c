@@ -10,8 +10,7 @@ static const char help[] =
     "usage: outline [FILE]\n"
     "Prints the outline of a Markdown file, or of standard input: a line for each ATX and setext heading, for each\n"
     "link reference definition with its normalised label, and for each full reference, as [text][label], whose label\n"
-    "no definition has, those in block quotes and lists too. Each line begins with the number of a line of the file.\n"
-    "\n"
+    "no definition has, those in block quotes and lists too. Each line begins with the number of a line of the file.\n\n"
     "It is no full CommonMark parser: an HTML block of `<script>`, `<pre>`, `<style>` or `<textarea>` ends at a blank\n"
     "line, as of other tags; and all brackets before a label make a full reference, those with a link in them too.\n"
     "The status is 0; 1 where a label has no definition; 2 where the outline can't be had.\n";
@@ -353,8 +352,7 @@ static size_t print(struct entries entries, struct entries known, const char *be
         if (known.count > 0 && bsearch(entry, known.items, known.count, sizeof(*entry), by_key))
             continue;
         printf("%zu: [", entry->line);
-        write_text(entry->label, behind);
-        write_text(entry->target, "\n");
+        write_text(entry->label, behind), write_text(entry->target, "\n");
         printed++;
     }
     return printed;

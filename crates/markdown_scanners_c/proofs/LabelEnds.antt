@@ -427,8 +427,8 @@ module _ (skips : List Skip) (bytes behind : List ℕ) (stand : are_skips skips 
           let opening = or_parts (byte == 91) _ line.1 in
           let escape = or_parts (byte == 92) (byte == 93) opening.1 in
           subst (λ e. IsWalked start e (place + 1) (count + begun byte))
-              (ap (λ x. not escaped && (x && begins_with is_punctuation others)) escape.0 ∙ and-false (not escaped))
-              (walks_on byte others front line.0 (λ no. escape.1) (λ no. opening.0))
+          (ap (λ x. not escaped && (x && begins_with is_punctuation others)) escape.0 ∙ and-false (not escaped))
+          (walks_on byte others front line.0 (λ no. escape.1) (λ no. opening.0))
 
       pub turn_skips : (len : ℕ) → len ≡ ending_len rest → 0 < len → place + len ≤ length bytes
           → place + len + left_out skips (place + len) ≤ length bytes

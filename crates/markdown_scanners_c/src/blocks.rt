@@ -9,8 +9,8 @@ ghost use Rattle.markdown_scanners_c.specs.Answers.{none, FoundExactly, FoundLev
 
 use crate::status::NONE;
 use markdown_scanners_tree::scanners::{
-    interrupts_paragraph, scan_atx_heading, scan_closing_code_fence, scan_closing_metadata_block, scan_code_fence,
-    scan_hrule, scan_metadata_block, scan_setext_heading,
+    interrupts_paragraph, scan_atx_heading, scan_closing_code_fence, scan_closing_metadata_block,
+    scan_code_fence, scan_hrule, scan_metadata_block, scan_setext_heading,
 };
 
 /// `struct mds_break` of C: the bytes of a thematic break's line, or `NONE`, and a place before
