@@ -30,7 +30,7 @@ fn goes_line_by_line(rt: HostRuntime) {
     let mut count: usize = 0;
     for line in scan_lines(text) {
         assert_eq!(rt; scan_line(line), line.len());
-        count += 1;
+        count = count.saturating_add(1);
     }
     assert_eq!(rt; count, 5);
 }
