@@ -1,5 +1,6 @@
 -- The key of a label is at most three times as long, and two labels with one key match.
-use Rattle.std.proofs.Common.{ℕ, ◌↔◌, nat_eq, sym, ◌*◌, ◌≤◌, ◌<◌, ◌≡◌, ◌∙◌, List, [], ◌∷◌, length, length-append, nat_le, encode_utf8, encode_utf8_all, IsUtf8, IsAscii, map, chars, inl, inr, refl, ap, arith}
+use Rattle.std.proofs.Common.{ℕ, ◌↔◌, nat_eq, sym, ◌*◌, ◌≤◌, ◌<◌, ◌≡◌, ◌∙◌, List, [], ◌∷◌, length}
+use Rattle.std.proofs.Common.{length-append, nat_le, encode_utf8, encode_utf8_all, IsUtf8, IsAscii, map, chars, inl, inr, refl, ap, arith}
 use lib.Utf8.{encode}
 use Rattle.std.specs.Char.{len_utf8, to_ascii_lowercase}
 use Rattle.std.specs.Cmp.Lexicographic.{pointwise, same_text, other_text}

@@ -1,6 +1,7 @@
 -- Runs from a line start on: from the front of a line they are those of its written out form, and a run goes on where
 -- another one ended.
-use Rattle.std.proofs.Common.{ℕ, suc, Option, Some, None, ◌≡◌, refl, sym, ◌∙◌, ap, subst, ◌==◌, List, [], ◌∷◌, ◌++◌, ◌+◌, ◌-◌, ◌*◌, ◌/◌, ◌<◌, ◌≤◌, length, take, drop, true, false, nat_lt, arith, inl, inr}
+use Rattle.std.proofs.Common.{ℕ, suc, Option, Some, None, ◌≡◌, refl, sym, ◌∙◌, ap, subst, ◌==◌, List, [], ◌∷◌}
+use Rattle.std.proofs.Common.{◌++◌, ◌+◌, ◌-◌, ◌*◌, ◌/◌, ◌<◌, ◌≤◌, length, take, drop, true, false, nat_lt, arith, inl, inr}
 use Rattle.std.proofs.lemmas.Bool.{cases_Bool, cases_lt}
 use Rattle.std.proofs.lemmas.Bool.Decides.{nat_tests}
 use Rattle.std.proofs.lemmas.List.{drop-drop, length-replicate}

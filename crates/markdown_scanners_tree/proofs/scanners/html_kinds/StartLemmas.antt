@@ -1,5 +1,6 @@
 -- The kind of the HTML block that begins at a place is one, and the tests of a scan tell it.
-use Rattle.std.proofs.Common.{ℕ, zero, suc, List, [], ◌∷◌, ◌++◌, ◌<◌, ◌≡◌, ◌⊎◌, ◌==◌, not, Bool, true, false, cond, IsTrue, Option, Some, None, drop, refl, sym, ap, ◌∙◌, subst, arith, inl, inr}
+use Rattle.std.proofs.Common.{ℕ, zero, suc, List, [], ◌∷◌, ◌++◌, ◌<◌, ◌≡◌, ◌⊎◌, ◌==◌, not, Bool, true, false, cond, IsTrue, Option, Some, None}
+use Rattle.std.proofs.Common.{drop, refl, sym, ap, ◌∙◌, subst, arith, inl, inr}
 use Rattle.std.specs.Prelude.{codes}
 use Rattle.std.proofs.lemmas.Bool.{cases_Bool, cases_lt, eqb-true, and_from}
 use Rattle.markdown_scanners_tree.specs.SomeExactly.{SomeExactly, IsOnly}
