@@ -24,6 +24,8 @@ export { LineStart } from "./lib/line_start.mjs";
 export { VERSION };
 
 const MODULE = new URL("./markdown_scanners.wasm", import.meta.url);
+/** Node's files, which a browser has not. */
+const FILES = "node:fs/promises";
 /** The section of the module that tells its version. */
 const SECTION = "markdown_scanners";
 
@@ -46,7 +48,7 @@ export class Scanners {
      * bytes are not UTF-8 and have UTF-16 places.
      * @template {string | Uint8Array} Made
      * @param {Made} data
-     * @param {{ units?: import("./lib/source.mjs").Units }} [how]
+     * @param {{ units?: import("./lib/source.mjs").Units }} how
      * @returns {Text<Made extends string ? string : Uint8Array>}
      */
     text(data, { units = "utf-8" } = {}) {
@@ -124,7 +126,7 @@ export async function load(source = MODULE) {
  */
 async function fetched(url) {
     try {
-        if (url.protocol === "file:") return await (await import("node:fs/promises")).readFile(url);
+        if (url.protocol === "file:") return await (await import(FILES)).readFile(url);
         const response = await fetch(url);
         if (response.ok) return await response.arrayBuffer();
         throw new Error(`${response.status} ${response.statusText}`);

@@ -25,6 +25,11 @@ export class Engine {
     #texts = 0;
     #next = 0;
     #work = 0;
+    /** @type {Heap} */
+    heap = /** @type {any} */ (null);
+    /** Where a struct that is answered stands, and one that a call changes. */
+    answer = 0;
+    state = 0;
 
     /** @param {WebAssembly.Module} module */
     constructor(module) {

@@ -171,7 +171,7 @@ export class Text extends Blocks {
      * The link label whose opening bracket stands just before the place, over lines of which the skips of the page are left
      * out: the place behind its closing bracket, its words, joined by one space, and the place where they stand as they are, or
      * null. In a cell of a table a pipe loses the backslash before it. (6.3)
-     * @param {{ inTable?: boolean, skips?: Skips | null }} [how]
+     * @param {{ inTable?: boolean, skips?: Skips | null }} how
      * @param {number} [at]
      * @returns {{ end: number, text: Made, start: number | null } | null}
      */
