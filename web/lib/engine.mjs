@@ -171,7 +171,7 @@ export class Engine {
      */
     numbers(numbers) {
         const at = this.room(8 * numbers.length);
-        numbers.forEach((it, index) => this.heap.view.setBigUint64(at + 8 * index, BigInt(it), true));
+        numbers.forEach((it, index) => this.#writeSize(at + 8 * index, it));
         return at;
     }
 
@@ -216,8 +216,19 @@ export class Engine {
     write(name, at, values) {
         for (const [field, place, type] of STRUCTS[name].fields) {
             if (type === "uint32_t") this.heap.view.setUint32(at + place, Number(values[field]), true);
-            else this.heap.view.setBigUint64(at + place, BigInt(values[field]), true);
+            else this.#writeSize(at + place, values[field]);
         }
+    }
+
+    /**
+     * @param {number} at
+     * @param {number | bigint} value
+     */
+    #writeSize(at, value) {
+        const { view } = this.heap;
+        if (typeof value === "bigint") return view.setBigUint64(at, value, true);
+        view.setUint32(at, value % HALF, true);
+        return view.setUint32(at + 4, value / HALF, true);
     }
 }
 
