@@ -29,12 +29,12 @@ function button(name, text, answer) {
 function takenAnswer(row, index) {
     const it = row.taken[index];
     const from = index > 0 ? row.taken[index - 1].place : row.at;
-    return { ...it, from, to: it.place, of: row.text, number: row.number, startsAt: row.at, before: row.taken.slice(0, index) };
+    return { ...it, from, to: it.place };
 }
 
 function blockAnswer(row) {
     const { block } = row;
-    return { ...block, from: block.at, to: row.end, of: row.text.slice(block.at - row.at), number: row.number };
+    return { ...block, from: block.at, to: row.end };
 }
 
 /** A line, at its height in the list. */
@@ -82,7 +82,7 @@ export function drawnTables({ tables }) {
     return list(tables, "There are no tables.", (it) => {
         const cells = (tag, row) => row.cells.map((cell, index) => {
             const drawn = element(tag, { style: `text-align: ${it.alignments[index] === "none" ? "left" : it.alignments[index]}` });
-            drawn.append(button("strip", cell.text || " ", { ...cell, answer: cell.text, number: row.number }));
+            drawn.append(button("strip", cell.text || " ", { ...cell, answer: cell.text }));
             return drawn;
         });
         const [head, ...rows] = it.rows;
@@ -112,9 +112,11 @@ export function drawnAnswer(it) {
     const given = (it.given ?? []).map((word) => JSON.stringify(word)).join(", ");
     const link = element("a", { href: contract.url, target: "_blank", rel: "noreferrer" }, contract.section);
     const words = contract.words.flatMap((word, index) => [index > 0 ? ", " : "", element("code", {}, word)]);
+    const of = it.joinedText === undefined ? [] : [element("p", {}, "Of the text ", element("code", { id: "of" }, it.joinedText))];
     return [
         element("p", {}, element("code", { id: "call" }, `${it.call}(${given})`), " answers ", element("code", { id: "found" }, JSON.stringify(it.answer))),
-        element("p", {}, `Bytes ${it.from} to ${it.to}`),
+        ...of,
+        element("p", { id: "bytes" }, `Bytes ${it.from} to ${it.to}`),
         element("p", {}, "CommonMark, ", link),
         element("p", {}, "Contract of ", element("code", {}, contract.symbol), ": ", ...words),
     ];

@@ -55,8 +55,8 @@ function rowHeight() {
 function askRows() {
     if (state.view !== "lines" || !state.seen) return;
     const height = rowHeight();
-    const first = Math.max(0, Math.floor(view.scrollTop / height) - BEYOND);
     const count = Math.ceil(view.clientHeight / height) + 2 * BEYOND;
+    const first = Math.max(0, Math.min(Math.floor(view.scrollTop / height) - BEYOND, state.seen.lines - count));
     worker.postMessage({ kind: "rows", id: state.id, first, count });
 }
 
@@ -178,6 +178,7 @@ function choose(tab) {
     view.setAttribute("aria-labelledby", tab.id);
     view.scrollTop = 0;
     state.view = tab.id.replace("tab-", "");
+    view.className = state.view;
     settle("reading");
     draw();
 }

@@ -272,6 +272,7 @@ export class Reading {
         const table = { number, alignments: head.alignments, rows: [{ number, cells: header }], at: line.start.place, to: head.end, answer: head };
         this.tables.push(Object.assign(table, { call: "scanTableHead", given: [], from: line.start.place }));
         this.#table = table;
+        header.forEach((it) => this.#keepCell(it));
         return this.#block(line, `table of ${header.length}`, "scanTableHead", [], head);
     }
 
@@ -280,6 +281,7 @@ export class Reading {
         const [from, to] = this.#trimmed(line.start.place, line.end);
         const cells = this.#cells(from, to).slice(0, this.#table.alignments.length);
         this.#table.rows.push({ number, cells });
+        cells.forEach((it) => this.#keepCell(it));
         const answer = cells.map((it) => it.text);
         return this.#block(line, `row of ${cells.length}`, "unescape", [true], answer);
     }
@@ -297,6 +299,13 @@ export class Reading {
             }
         }
         return cells;
+    }
+
+    /** Keeps what is found in a cell. */
+    #keepCell({ from, to }) {
+        const joined = new Joined();
+        joined.add(from, to);
+        this.#keep(this.#inline(joined));
     }
 
     #cell(from, to) {

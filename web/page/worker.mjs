@@ -25,7 +25,7 @@ function cut(from, to) {
 
 /** An answer as it is told: without the text that it is of, but with that text's beginning. */
 function told({ joined, ...answer }) {
-    return joined ? { ...answer, of: decode(joined.bytes(reading.page).subarray(0, 4 * SHOWN)) } : answer;
+    return joined ? { ...answer, joinedText: decode(joined.bytes(reading.page).subarray(0, 4 * SHOWN)) } : answer;
 }
 
 /** What a text has, apart from its lines. */
