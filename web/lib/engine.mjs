@@ -6,9 +6,8 @@ import { Heap } from "./heap.mjs";
 /** In place of a length or a place, where nothing is found: the largest number of C, as a number of JavaScript has it. */
 export const NONE = 2 ** 64;
 
-/** For what a call answers, and for what it keeps between calls. */
-const ANSWER_ROOM = 64;
-const STATE_ROOM = 64;
+/** For what a call answers, for a line start, and for a guard. */
+const STRUCT_ROOM = 64;
 /** For texts, besides the longest of them. */
 const TEXT_ROOM = 2 ** 20;
 const HALF = 2 ** 32;
@@ -27,9 +26,12 @@ export class Engine {
     #work = 0;
     /** @type {Heap} */
     heap = /** @type {any} */ (null);
-    /** Where a struct that is answered stands, and one that a call changes. */
+    /** Where a struct that is answered stands, a line start, and a guard. */
     answer = 0;
-    state = 0;
+    lineStart = 0;
+    guard = 0;
+    /** @type {{ leave: () => void } | null} The line start whose numbers stand in the module's memory. */
+    owner = null;
 
     /** @param {WebAssembly.Module} module */
     constructor(module) {
@@ -47,8 +49,10 @@ export class Engine {
         const base = Math.ceil(Number(exported.__heap_base.value) / 16) * 16;
         this.heap = new Heap(exported.memory, base);
         this.answer = base;
-        this.state = base + ANSWER_ROOM;
-        this.#texts = this.#next = this.#work = this.state + STATE_ROOM;
+        this.lineStart = base + STRUCT_ROOM;
+        this.guard = this.lineStart + STRUCT_ROOM;
+        this.#texts = this.#next = this.#work = this.guard + STRUCT_ROOM;
+        this.owner = null;
         this.#turn += 1;
         for (const [name, [symbol, answer, taken]] of Object.entries(FUNCTIONS)) {
             if (typeof exported[symbol] !== "function") throw new BadModule(`the module has no ${symbol}`);
@@ -79,32 +83,42 @@ export class Engine {
      * @param {Function} call
      * @param {string} answer
      * @param {string[]} taken
+     * @returns {(...given: any[]) => any}
      */
     #caller(call, answer, taken) {
         const size = STRUCTS[answer]?.size ?? 0;
-        const isWide = (size > 8 ? ["pointer", ...taken] : taken).map((it) => it === "pointer" || it === "size_t");
-        return (/** @type {any[]} */ ...given) => {
-            if (size > 8) given.unshift(this.answer);
-            for (let i = 0; i < given.length; i++) given[i] = isWide[i] ? BigInt(given[i]) : Number(given[i]);
-            const found = this.#run(call, given);
-            if (size === 8) this.heap.view.setBigInt64(this.answer, found, true);
-            if (size > 0) return this.read(answer, this.answer);
-            return answer === "size_t" ? Number(BigInt.asUintN(64, found)) : answer === "bool" ? found !== 0 : found >>> 0;
-        };
+        const run = this.#guarded(bound(call, size > 8 ? ["pointer", ...taken] : taken));
+        if (size > 8) {
+            return (...given) => {
+                run(this.answer, ...given);
+                return this.read(answer, this.answer);
+            };
+        }
+        if (size > 0) {
+            return (...given) => {
+                this.heap.view.setBigInt64(this.answer, run(...given), true);
+                return this.read(answer, this.answer);
+            };
+        }
+        if (answer === "size_t") return (...given) => Number(BigInt.asUintN(64, run(...given)));
+        return answer === "bool" ? (...given) => run(...given) !== 0 : (...given) => run(...given) >>> 0;
     }
 
     /**
+     * The same function, behind whose fault the module begins anew.
      * @param {Function} call
-     * @param {any[]} given
+     * @returns {(...given: any[]) => any}
      */
-    #run(call, given) {
-        try {
-            return call(...given);
-        } catch (why) {
-            if (!(why instanceof WebAssembly.RuntimeError)) throw why;
-            this.#begin();
-            throw new ModuleFault(`the module has stopped: ${why.message}`, why);
-        }
+    #guarded(call) {
+        return (...given) => {
+            try {
+                return call(...given);
+            } catch (why) {
+                if (!(why instanceof WebAssembly.RuntimeError)) throw why;
+                this.#begin();
+                throw new ModuleFault(`the module has stopped: ${why.message}`, why);
+            }
+        };
     }
 
     /**
@@ -230,6 +244,22 @@ export class Engine {
         view.setUint32(at, value % HALF, true);
         return view.setUint32(at + 4, value / HALF, true);
     }
+}
+
+/**
+ * A function of the module that is given numbers, of which it takes those of 64 bits as a BigInt. Those of few arguments, which are
+ * called most, have a form of their own, since it is faster.
+ * @param {Function} call
+ * @param {string[]} taken
+ * @returns {(...given: any[]) => any}
+ */
+function bound(call, taken) {
+    const words = taken.map((it) => (it === "pointer" || it === "size_t" ? BigInt : Number));
+    const [first, second, third, fourth] = words;
+    if (words.length === 2) return (a, b) => call(first(a), second(b));
+    if (words.length === 3) return (a, b, c) => call(first(a), second(b), third(c));
+    if (words.length === 4) return (a, b, c, d) => call(first(a), second(b), third(c), fourth(d));
+    return (...given) => call(...given.map((it, index) => words[index](it)));
 }
 
 /** @param {Resident[]} blocks */

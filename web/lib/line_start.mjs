@@ -19,6 +19,7 @@ const ALERTS = {
 /** @type {Record<string, number>} */
 const KINDS = { space: c.SPACE, upto: c.UPTO, eol: c.EOL, quote: c.QUOTE, list: c.LIST, definition: c.DEFINITION };
 
+const [PLACE, PENDING] = c.STRUCTS.lineStart.fields;
 const FRONT = { place: 0, pending: 0, phase: 0, noneBefore: 0, behindBreak: 0 };
 
 /**
@@ -30,11 +31,10 @@ export class LineStart {
     #text;
     #limits;
     /**
-     * What C keeps of it, in bytes of the line.
-     * @package
+     * What C keeps of it, in bytes of the line, as it was when it left the module's memory.
      * @type {Record<string, number>}
      */
-    numbers = FRONT;
+    #numbers = FRONT;
 
     /**
      * @param {import("./engine.mjs").Engine} engine
@@ -52,18 +52,60 @@ export class LineStart {
     /** A copy, which goes on by itself. */
     copy() {
         const other = new LineStart(this.#engine, this.#text, this.#limits, this.made);
-        other.numbers = this.numbers;
+        other.#numbers = this.numbers;
         return other;
     }
 
     /** The place of the text that is reached. */
     get place() {
-        return this.#text.placeOf(this.#limits[0] + this.numbers.place);
+        return this.#text.placeOf(this.#limits[0] + this.#number(PLACE));
     }
 
     /** Columns of the last tab that have not been taken. */
     get pending() {
-        return this.numbers.pending;
+        return this.#number(PENDING);
+    }
+
+    /**
+     * What C keeps of it, in bytes of the line.
+     * @package
+     */
+    get numbers() {
+        if (this.#engine.owner === this) this.leave();
+        return this.#numbers;
+    }
+
+    set numbers(numbers) {
+        if (this.#engine.owner === this) this.leave();
+        this.#numbers = numbers;
+    }
+
+    /**
+     * Keeps the numbers, which leave the module's memory.
+     * @package
+     */
+    leave() {
+        this.#numbers = this.#engine.read("lineStart", this.#engine.lineStart);
+        this.#engine.owner = null;
+    }
+
+    /**
+     * The number of a field.
+     * @param {[string, number, string]} field
+     */
+    #number([name, place]) {
+        const engine = this.#engine;
+        return engine.owner === this ? engine.size(engine.lineStart + place) : this.#numbers[name];
+    }
+
+    /** Brings the text and the numbers to the module's memory. */
+    #enter() {
+        const engine = this.#engine;
+        engine.bring(this.#text);
+        if (engine.owner === this) return;
+        engine.owner?.leave();
+        engine.write("lineStart", engine.lineStart, this.#numbers);
+        engine.owner = this;
     }
 
     /**
@@ -74,11 +116,8 @@ export class LineStart {
     #call(name, ...given) {
         const [from, to] = this.#limits;
         const engine = this.#engine;
-        engine.bring(this.#text);
-        engine.write("lineStart", engine.state, this.numbers);
-        const found = engine.calls[name](this.#text.address + from, to - from, engine.state, ...given);
-        this.numbers = engine.read("lineStart", engine.state);
-        return found;
+        this.#enter();
+        return engine.calls[name](this.#text.address + from, to - from, engine.lineStart, ...given);
     }
 
     /**
@@ -161,13 +200,11 @@ export class LineStart {
     run(calls) {
         const rows = calls.map(callOf);
         const engine = this.#engine;
-        engine.bring(this.#text);
+        this.#enter();
         const given = engine.rows("lineCall", rows);
         const room = engine.room(24 * rows.length);
         const [from, to] = this.#limits;
-        engine.write("lineStart", engine.state, this.numbers);
-        const found = engine.calls.runLine(this.#text.address + from, to - from, engine.state, given, rows.length, room, rows.length);
-        this.numbers = engine.read("lineStart", engine.state);
+        const found = engine.calls.runLine(this.#text.address + from, to - from, engine.lineStart, given, rows.length, room, rows.length);
         const answers = rows.slice(0, found.count).map((row, index) => answerOf(row.kind, engine.read("lineAnswer", room + 24 * index)));
         return ended(found.status, answers);
     }
@@ -176,11 +213,10 @@ export class LineStart {
     rest() {
         const [from, to] = this.#limits;
         const engine = this.#engine;
-        engine.bring(this.#text);
-        const length = 4 * (to - from - this.numbers.place) + this.pending;
+        this.#enter();
+        const length = 4 * (to - from - this.#number(PLACE)) + this.pending;
         const room = engine.room(length);
-        engine.write("lineStart", engine.state, this.numbers);
-        const found = engine.calls.lineRest(this.#text.address + from, to - from, engine.state, room, length);
+        const found = engine.calls.lineRest(this.#text.address + from, to - from, engine.lineStart, room, length);
         isAnswer(found.status);
         return this.made(engine.heap.bytes.subarray(room, room + found.length));
     }

@@ -15,7 +15,8 @@ const DECODER = new TextDecoder("utf-8", { ignoreBOM: true });
 export function bytesOf(data) {
     if (data instanceof Uint8Array) return new Uint8Array(data);
     if (typeof data !== "string") throw new TypeError("a text is a string or a Uint8Array");
-    const lone = data.search(/\p{Surrogate}/u);
+    const isWhole = /** @type {any} */ (data).isWellFormed?.() ?? false; // older engines lack it
+    const lone = isWhole ? -1 : data.search(/\p{Surrogate}/u);
     if (lone >= 0) throw new LoneSurrogate(lone);
     return ENCODER.encode(data);
 }

@@ -122,9 +122,9 @@ export class Text extends Blocks {
         const { engine } = this;
         const place = this.anyInBytes(at);
         engine.bring(this);
-        engine.write("htmlGuard", engine.state, numbers);
-        const found = engine.calls.scanInlineHtml(this.address, to, place, engine.state);
-        Object.assign(numbers, engine.read("htmlGuard", engine.state));
+        engine.write("htmlGuard", engine.guard, numbers);
+        const found = engine.calls.scanInlineHtml(this.address, to, place, engine.guard);
+        Object.assign(numbers, engine.read("htmlGuard", engine.guard));
         return { status: found.status, end: this.placeOf(found.end), passed: found.passed };
     }
 
