@@ -5,8 +5,8 @@
 import { Containers, Line } from "./containers.mjs";
 import { decode, Inline, Joined } from "./paragraph.mjs";
 
-/** How many lines are read before others may do something. */
-const STEP = 1000;
+/** How many lines are read in a step. */
+const STEP = 100;
 const HTML = ["", "raw text", "comment", "processing instruction", "declaration", "CDATA", "block", "tag alone"];
 const [TAB, SPACE, VT, FF, LF, CR, HASH, PIPE, BACKSLASH] = [..."\t \v\f\n\r#|\\"].map((it) => it.charCodeAt(0));
 const WHITE = new Set([TAB, SPACE, VT, FF, LF, CR]);
@@ -43,7 +43,7 @@ export class Reading {
         this.page = scanners.text(data);
     }
 
-    /** Reads the page, some lines at a time. */
+    /** Reads the page, in steps. */
     *read() {
         for (let at = 0; at < this.page.length; at = this.lines.at(-1).end) {
             this.#readLine(new Line(this.page, at));
@@ -168,18 +168,26 @@ export class Reading {
         }
         const table = isOn ? this.#tableHead(line) : null;
         if (table) return table;
+        if (this.page.interruptsParagraph(...given)) return this.#interrupts(line, depth, number, given);
+        return this.#paragraph ? null : this.#htmlBlock(line, depth, given); // a tag alone in its line interrupts none
+    }
+
+    /** A block that can interrupt a paragraph, and is no container. (4.1, 4.2, 4.5, 4.6) */
+    #interrupts(line, depth, number, given) {
         const level = this.page.scanAtxHeading(...given);
-        const fence = this.page.scanCodeFence(...given);
-        const kind = this.page.scanHtmlBlockStart(...given);
-        const hrule = this.page.scanHrule(...given);
         if (level) return this.#atx(line, depth, number, level);
+        const hrule = this.page.scanHrule(...given);
         if (hrule !== null) return this.#opened(line, depth, "break", "scanHrule", hrule);
-        if (fence) {
-            const block = this.#opened(line, depth, `fence ${fence.character}`, "scanCodeFence", fence);
-            this.#fence = { character: fence.character, count: fence.end - line.start.place };
-            return block;
-        }
-        if (kind === null || (kind === 7 && this.#paragraph)) return null;
+        const fence = this.page.scanCodeFence(...given);
+        if (!fence) return this.#htmlBlock(line, depth, given);
+        const block = this.#opened(line, depth, `fence ${fence.character}`, "scanCodeFence", fence);
+        this.#fence = { character: fence.character, count: fence.end - line.start.place };
+        return block;
+    }
+
+    #htmlBlock(line, depth, given) {
+        const kind = this.page.scanHtmlBlockStart(...given);
+        if (kind === null) return null;
         const block = this.#opened(line, depth, `HTML: ${HTML[kind]}`, "scanHtmlBlockStart", kind);
         this.#html = { kind };
         return block;

@@ -8,6 +8,8 @@ import { Reading } from "./reading.mjs";
 const MOST = 1000;
 /** How many bytes of a line, or of a text that was scanned, are shown. */
 const SHOWN = 1000;
+/** So many milliseconds are read before another text is heard of. */
+const PAUSE = 50;
 
 /** @type {any} */
 let scanners = null;
@@ -49,10 +51,13 @@ function summary() {
 async function read(text) {
     const mine = ++turn;
     const begun = performance.now();
+    let last = begun;
     const next = new Reading(scanners, text);
-    for (const step of next.read()) {
+    for (const _ of next.read()) {
+        if (performance.now() - last < PAUSE) continue;
         await pause();
         if (mine !== turn) return null;
+        last = performance.now();
     }
     reading = next;
     return { ...summary(), milliseconds: performance.now() - begun };
