@@ -1,0 +1,199 @@
+/** Lines, and the blocks that begin in them. Sections in brackets are those of CommonMark 0.31.2. */
+import * as c from "./c.mjs";
+import { NONE } from "./engine.mjs";
+import { isAnswer } from "./errors.mjs";
+import { LineStart } from "./line_start.mjs";
+import { byteOf, sizeOf, Source } from "./source.mjs";
+
+/** @typedef {{ end: number, delimiter: string, start: number, indent: number }} ListItem `indent` is that of marker and space */
+/** @typedef {{ end: number, level: number }} Underline */
+/** @typedef {{ end: number, character: string }} Fence */
+/** @typedef {"none" | "left" | "center" | "right"} Alignment */
+/** @typedef {{ end: number, alignments: Alignment[] }} TableHead */
+
+/** @type {Record<number, Alignment>} */
+const ALIGNMENTS = { [c.ALIGN_NONE]: "none", [c.ALIGN_LEFT]: "left", [c.ALIGN_CENTER]: "center", [c.ALIGN_RIGHT]: "right" };
+
+/**
+ * The scanners of lines and blocks. Each begins at the place `at`, and reads up to the place `end` at most. What stands alone
+ * in an answer is the place behind what was scanned; null says that nothing of the kind stands there.
+ * @template {string | Uint8Array} Made
+ * @extends {Source<Made>}
+ */
+export class Blocks extends Source {
+    /** Whether the bytes are UTF-8. */
+    isUtf8(at = 0, end = this.length) {
+        return /** @type {boolean} */ (this.scan("isUtf8", at, end));
+    }
+
+    /**
+     * The place behind this ASCII character, or byte, where it is the first one.
+     * @param {string | number} character
+     */
+    scanCh(character, at = 0, end = this.length) {
+        return this.#place("scanCh", at, end, byteOf(character));
+    }
+
+    /**
+     * The place behind as many of this ASCII character, or byte, as stand there.
+     * @param {string | number} character
+     */
+    scanChRepeat(character, at = 0, end = this.length) {
+        return this.#place("scanChRepeat", at, end, byteOf(character));
+    }
+
+    /** The place behind the white space there that ends no line. */
+    scanWhitespaceInLine(at = 0, end = this.length) {
+        return this.#place("scanWhitespaceInLine", at, end);
+    }
+
+    /** The place behind the line ending there, or there at the end. (2.1) */
+    scanEol(at = 0, end = this.length) {
+        return this.behind("scanEol", at, end);
+    }
+
+    /** The place behind the line and its ending, LF, CR LF or CR. (2.1) */
+    scanLine(at = 0, end = this.length) {
+        return this.#place("scanLine", at, end);
+    }
+
+    /** The place behind the first LF, or the end where there is none. It knows LF alone. */
+    scanNextline(at = 0, end = this.length) {
+        return this.#place("scanNextline", at, end);
+    }
+
+    /** The place behind the rest of the line with its ending, where that is blank. (4.9) */
+    scanBlankLine(at = 0, end = this.length) {
+        return this.behind("scanBlankLine", at, end);
+    }
+
+    /** The place behind a block quote marker, `>` and at most one space. (5.1) */
+    scanBlockquoteStart(at = 0, end = this.length) {
+        return this.behind("scanBlockquoteStart", at, end);
+    }
+
+    /**
+     * The list item that begins there. Thematic breaks are items to it; LineStart's listItem knows better. (5.2)
+     * @returns {ListItem | null}
+     */
+    scanListitem(at = 0, end = this.length) {
+        const { length, delimiter, start, indent } = this.scan("scanListitem", at, end);
+        const behind = this.behindLength(at, length);
+        return behind === null ? null : { end: behind, delimiter: String.fromCharCode(delimiter), start, indent };
+    }
+
+    /**
+     * The columns of the spaces and tabs, up to a limit, and the place of the last byte that was looked at. TooLarge where the
+     * limit is. (2.2)
+     * @param {number | bigint} limit
+     * @returns {{ place: number, columns: number }}
+     */
+    calcIndent(limit, at = 0, end = this.length) {
+        const found = this.scan("calcIndent", at, end, sizeOf("the limit", limit));
+        isAnswer(found.status);
+        return { place: this.placeOf(this.inBytes(at) + found.place), columns: found.columns };
+    }
+
+    /** A line start at the front of the line that begins there. */
+    lineStart(at = 0, end = this.length) {
+        return new LineStart(this.engine, this, this.limits(at, end), (it) => this.made(it));
+    }
+
+    /** The place behind a thematic break and its line ending. (4.1) */
+    scanHrule(at = 0, end = this.length) {
+        return this.behindLength(at, this.scan("scanHrule", at, end).length);
+    }
+
+    /** Where no thematic break begins: one begins at no place from this one on and before the answer. (4.1) */
+    noHruleBefore(at = 0, end = this.length) {
+        return this.placeOf(this.inBytes(at) + this.scan("scanHrule", at, end).noneBefore);
+    }
+
+    /** The level of an ATX heading, 1 to 6, which has as many `#`. (4.2) */
+    scanAtxHeading(at = 0, end = this.length) {
+        return /** @type {number} */ (this.scan("scanAtxHeading", at, end)) || null;
+    }
+
+    /**
+     * A setext heading's underline: the place behind its line, and its level. (4.3)
+     * @returns {Underline | null}
+     */
+    scanSetextHeading(at = 0, end = this.length) {
+        const { length, level } = this.scan("scanSetextHeading", at, end);
+        const behind = this.behindLength(at, length);
+        return behind === null ? null : { end: behind, level };
+    }
+
+    /** An opening code fence, without its info string. (4.5) */
+    scanCodeFence(at = 0, end = this.length) {
+        return this.#fence("scanCodeFence", at, end);
+    }
+
+    /**
+     * The place behind the fence that closes one of `count` of the character, with the spaces and tabs behind it; at the end of
+     * the text that end. (4.5)
+     * @param {string | number} character
+     * @param {number | bigint} count
+     */
+    scanClosingCodeFence(character, count, at = 0, end = this.length) {
+        return this.behind("scanClosingCodeFence", at, end, byteOf(character), sizeOf("the count", count));
+    }
+
+    /**
+     * The opening line of a metadata block, of `---` where `yaml` is true and of `+++` where `pluses` is. (An extension of
+     * pulldown-cmark)
+     * @param {boolean} yaml
+     * @param {boolean} pluses
+     */
+    scanMetadataBlock(yaml, pluses, at = 0, end = this.length) {
+        return this.#fence("scanMetadataBlock", at, end, Boolean(yaml), Boolean(pluses));
+    }
+
+    /**
+     * The place behind what closes a metadata block that was opened by the character.
+     * @param {string | number} character
+     */
+    scanClosingMetadataBlock(character, at = 0, end = this.length) {
+        return this.behind("scanClosingMetadataBlock", at, end, byteOf(character));
+    }
+
+    /** Whether the line can interrupt a paragraph, behind at most three columns of indent. (4.8) */
+    interruptsParagraph(at = 0, end = this.length) {
+        return /** @type {boolean} */ (this.scan("interruptsParagraph", at, end));
+    }
+
+    /**
+     * The delimiter row of a table: the place behind it, and how its columns are aligned. (GitHub Flavored Markdown 0.29, 4.10)
+     * @returns {TableHead | null}
+     */
+    scanTableHead(at = 0, end = this.length) {
+        const line = this.scanLine(at, end); // a column has a byte of the line, so its bytes are room enough
+        const room = this.inBytes(line) - this.inBytes(at);
+        const [found, alignments] = this.written("scanTableHead", at, end, room);
+        if (!isAnswer(found.status)) return null;
+        return { end: this.placeOf(this.inBytes(at) + found.taken), alignments: Array.from(alignments, (it) => ALIGNMENTS[it]) };
+    }
+
+    /**
+     * The place behind what is always there, of no bytes too.
+     * @param {string} name
+     * @param {number} at
+     * @param {number} end
+     * @param {...unknown} given
+     */
+    #place(name, at, end, ...given) {
+        return /** @type {number} */ (this.behind(name, at, end, ...given));
+    }
+
+    /**
+     * @param {string} name
+     * @param {number} at
+     * @param {number} end
+     * @param {...unknown} given
+     * @returns {Fence | null}
+     */
+    #fence(name, at, end, ...given) {
+        const { length, byte } = this.scan(name, at, end, ...given);
+        return length === NONE ? null : { end: /** @type {number} */ (this.behindLength(at, length)), character: String.fromCharCode(byte) };
+    }
+}

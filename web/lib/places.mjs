@@ -1,0 +1,77 @@
+/** Places of UTF-8 bytes and of UTF-16 units of the same text. */
+
+const STEP = 1024;
+
+/**
+ * How many UTF-16 units a character has whose first byte is this one; other bytes of it have none.
+ * @param {number} byte
+ */
+function unitsOf(byte) {
+    if (isInside(byte)) return 0;
+    return byte < 0xf0 ? 1 : 2;
+}
+
+/**
+ * Whether a byte of UTF-8 is one that begins no character.
+ * @param {number} byte
+ */
+export function isInside(byte) {
+    return (byte & 0xc0) === 0x80;
+}
+
+/** The UTF-16 units of a text, counted up to each place that is a multiple of STEP. */
+export class Utf16Places {
+    #bytes;
+    #counts;
+
+    /** @param {Uint8Array} bytes UTF-8 */
+    constructor(bytes) {
+        this.#bytes = bytes;
+        this.#counts = new Uint32Array(Math.floor(bytes.length / STEP) + 1);
+        let units = 0;
+        for (let place = 0; place < bytes.length; place++) {
+            if (place % STEP === 0) this.#counts[place / STEP] = units;
+            units += unitsOf(bytes[place]);
+        }
+        if (bytes.length % STEP === 0) this.#counts[bytes.length / STEP] = units;
+        /** How many units the text has. */
+        this.length = units;
+    }
+
+    /**
+     * How many units stand before the byte.
+     * @param {number} place
+     */
+    toUnit(place) {
+        const step = Math.floor(place / STEP);
+        let units = this.#counts[step];
+        for (let at = step * STEP; at < place; at++) units += unitsOf(this.#bytes[at]);
+        return units;
+    }
+
+    /**
+     * The byte before which so many units stand, or null inside of a surrogate pair.
+     * @param {number} unit
+     */
+    toByte(unit) {
+        let [place, units] = this.#before(unit);
+        while (units < unit) units += unitsOf(this.#bytes[place++]);
+        while (place < this.#bytes.length && isInside(this.#bytes[place])) place++;
+        return units === unit ? place : null;
+    }
+
+    /**
+     * The last counted place before which at most so many units stand, and how many.
+     * @param {number} unit
+     */
+    #before(unit) {
+        let low = 0;
+        let high = this.#counts.length;
+        while (high - low > 1) {
+            const middle = (low + high) >> 1;
+            if (this.#counts[middle] <= unit) low = middle;
+            else high = middle;
+        }
+        return [low * STEP, this.#counts[low]];
+    }
+}

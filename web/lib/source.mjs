@@ -1,0 +1,197 @@
+/** A text that is scanned, and the places of it. */
+import { NONE } from "./engine.mjs";
+import { LoneSurrogate, NotUtf8 } from "./errors.mjs";
+import { isInside, Utf16Places } from "./places.mjs";
+
+const ENCODER = new TextEncoder();
+const DECODER = new TextDecoder("utf-8", { ignoreBOM: true });
+
+/** @typedef {"utf-8" | "utf-16"} Units */
+
+/**
+ * The bytes of a string in UTF-8, or a copy of bytes.
+ * @param {string | Uint8Array} data
+ */
+export function bytesOf(data) {
+    if (data instanceof Uint8Array) return new Uint8Array(data);
+    if (typeof data !== "string") throw new TypeError("a text is a string or a Uint8Array");
+    const isWhole = /** @type {any} */ (data).isWellFormed?.() ?? false; // older engines lack it
+    const lone = isWhole ? -1 : data.search(/\p{Surrogate}/u);
+    if (lone >= 0) throw new LoneSurrogate(lone);
+    return ENCODER.encode(data);
+}
+
+/**
+ * A number that C can have as a size.
+ * @param {string} what
+ * @param {number | bigint} given
+ */
+export function sizeOf(what, given) {
+    const fits = typeof given === "bigint" ? BigInt.asUintN(64, given) === given : Number.isSafeInteger(given) && given >= 0;
+    if (!fits) throw new RangeError(`${what} is ${given}, which is no size`);
+    return given;
+}
+
+/**
+ * The byte of an ASCII character, or a byte.
+ * @param {string | number} given
+ */
+export function byteOf(given) {
+    const byte = typeof given === "string" && given.length === 1 ? given.charCodeAt(0) : given;
+    if (typeof byte === "number" && Number.isInteger(byte) && byte >= 0 && byte < (given === byte ? 256 : 128)) return byte;
+    throw new RangeError(`${JSON.stringify(given)} is no byte and no ASCII character`);
+}
+
+/**
+ * A text. Its bytes are its own, and stand in the module's memory while it is scanned.
+ * @template {string | Uint8Array} Made what texts that are made of it are: strings of a string, and bytes of bytes
+ */
+export class Source {
+    #units;
+
+    /**
+     * @param {import("./engine.mjs").Engine} engine
+     * @param {Made} data
+     * @param {Units} units
+     */
+    constructor(engine, data, units) {
+        if (units !== "utf-8" && units !== "utf-16") throw new TypeError(`units are "utf-8" or "utf-16", and not ${units}`);
+        /** @protected */
+        this.engine = engine;
+        this.bytes = bytesOf(data);
+        this.isString = typeof data === "string";
+        this.address = 0;
+        this.turn = 0;
+        this.#units = units === "utf-16" ? this.#utf16(data) : null;
+        /** How many bytes the text has, or UTF-16 units where these are its places. */
+        this.length = this.#units?.length ?? this.bytes.length;
+    }
+
+    /**
+     * The places of UTF-16 units, or null where they are those of bytes.
+     * @param {string | Uint8Array} data
+     */
+    #utf16(data) {
+        if (data.length === this.bytes.length && this.isString) return null;
+        this.engine.bring(this);
+        if (!this.isString && !this.engine.calls.isUtf8(this.address, this.bytes.length)) throw new NotUtf8("the text is not UTF-8");
+        return new Utf16Places(this.bytes);
+    }
+
+    /**
+     * The place in bytes of a place of the text.
+     * @param {number} place
+     */
+    inBytes(place) {
+        if (!Number.isInteger(place) || place < 0 || place > this.length) {
+            throw new RangeError(`there is no place ${place} in a text of ${this.length}`);
+        }
+        const at = this.#units ? this.#units.toByte(place) : place;
+        if (at === null || (this.isString && isInside(this.bytes[at]))) throw new RangeError(`the place ${place} is inside of a character`);
+        return at;
+    }
+
+    /**
+     * The same, or a place in bytes that there is none of where the place is past the end.
+     * @protected
+     * @param {number | bigint} place
+     */
+    anyInBytes(place) {
+        return sizeOf("a place", place) > this.length ? this.bytes.length + 1 : this.inBytes(Number(place));
+    }
+
+    /**
+     * The place of the text that a place in bytes is.
+     * @param {number} at
+     */
+    placeOf(at) {
+        return this.#units ? this.#units.toUnit(at) : at;
+    }
+
+    /**
+     * What stands between two places, as a string or as bytes.
+     * @param {number} [at]
+     * @param {number} [end]
+     * @returns {Made}
+     */
+    slice(at = 0, end = this.length) {
+        const [from, to] = this.limits(at, end);
+        return this.made(this.bytes.subarray(from, to));
+    }
+
+    /**
+     * A text that is made.
+     * @protected
+     * @param {Uint8Array} bytes
+     * @returns {Made}
+     */
+    made(bytes) {
+        return /** @type {Made} */ (this.isString ? DECODER.decode(bytes) : new Uint8Array(bytes));
+    }
+
+    /**
+     * @protected
+     * @param {number} at
+     * @param {number} end
+     */
+    limits(at, end) {
+        const from = this.inBytes(at);
+        const to = end === this.length ? this.bytes.length : this.inBytes(end);
+        if (from > to) throw new RangeError(`there is nothing from ${at} to ${end}`);
+        return [from, to];
+    }
+
+    /**
+     * What a function of C answers of the bytes between two places.
+     * @protected
+     * @param {string} name
+     * @param {number} at
+     * @param {number} end
+     * @param {...unknown} given
+     */
+    scan(name, at, end, ...given) {
+        const [from, to] = this.limits(at, end);
+        this.engine.bring(this);
+        return this.engine.calls[name](this.address + from, to - from, ...given);
+    }
+
+    /**
+     * The place behind what a function of C finds the length of, or null.
+     * @protected
+     * @param {string} name
+     * @param {number} at
+     * @param {number} end
+     * @param {...unknown} given
+     */
+    behind(name, at, end, ...given) {
+        return this.behindLength(at, this.scan(name, at, end, ...given));
+    }
+
+    /**
+     * The place so many bytes behind another one, or null where there are none to tell of.
+     * @protected
+     * @param {number} at
+     * @param {number} length
+     */
+    behindLength(at, length) {
+        return length === NONE ? null : this.placeOf(this.inBytes(at) + length);
+    }
+
+    /**
+     * What a function of C answers that writes a text into a buffer, and that text. So many bytes of room are enough.
+     * @protected
+     * @param {string} name
+     * @param {number} at
+     * @param {number} end
+     * @param {number} room
+     * @param {...unknown} given
+     * @returns {[Record<string, any>, Uint8Array]}
+     */
+    written(name, at, end, room, ...given) {
+        const [from, to] = this.limits(at, end);
+        this.engine.bring(this);
+        const buffer = this.engine.room(room);
+        const found = this.engine.calls[name](this.address + from, to - from, ...given, buffer, room);
+        return [found, this.engine.heap.bytes.subarray(buffer, buffer + found.length)];
+    }
+}

@@ -1,0 +1,269 @@
+/** Inline text, HTML, and texts that are made. Sections in brackets are those of CommonMark 0.31.2. */
+import * as c from "./c.mjs";
+import { Blocks } from "./blocks.mjs";
+import { NONE } from "./engine.mjs";
+import { isAnswer } from "./errors.mjs";
+import { ended } from "./line_start.mjs";
+import { sizeOf } from "./source.mjs";
+
+const REFERENCE_ROOM = 6;
+/** A label has at most 999 characters. */
+const LABEL_ROOM = 4 * 999;
+
+/** @typedef {{ end: number, start: number, stop: number }} Part its own bytes are those from `start` to `stop` */
+/** @typedef {1 | 2 | 3 | 4 | 5 | 6 | 7} HtmlBlockKind the number of a start condition */
+
+/**
+ * A text, with the scanners of lines and blocks, and those of inline text.
+ * @template {string | Uint8Array} Made
+ * @extends {Blocks<Made>}
+ */
+export class Text extends Blocks {
+    /**
+     * A link destination; angle brackets are not among its own bytes. Parentheses may stand in each other `maxNext` + 1 deep.
+     * An empty one without brackets is one too. (6.3)
+     * @param {number} [at]
+     * @param {number | bigint} [maxNext]
+     */
+    scanLinkDest(at = 0, maxNext = 31, end = this.length) {
+        return this.#part("scanLinkDest", at, end, sizeOf("the depth", maxNext));
+    }
+
+    /** The absolute URI of the autolink whose `<` stands just before the place. (6.5) */
+    scanAutolink(at = 0, end = this.length) {
+        return this.#part("scanAutolink", at, end);
+    }
+
+    /**
+     * What stands before the first pipe from the place on, up to the place `stop`. (An extension of pulldown-cmark)
+     * @param {number} [at]
+     */
+    scanWikilinkPipe(at = 0, stop = this.length, end = this.length) {
+        const [from, to] = this.limits(at, stop);
+        return this.#part("scanWikilinkPipe", at, end, to - from);
+    }
+
+    /** Whether an HTML block that a name of start condition 6 opens begins there, behind the `<`. (4.6) */
+    startsHtmlBlockType6(at = 0, end = this.length) {
+        return /** @type {boolean} */ (this.scan("startsHtmlBlockType6", at, end));
+    }
+
+    /** The place behind the tag that stands alone in the rest of its line. (4.6, start condition 7) */
+    scanHtmlType7(at = 0, end = this.length) {
+        return this.behind("scanHtmlType7", at, end);
+    }
+
+    /**
+     * The kind of the HTML block that begins there, behind the indent of its line. (4.6)
+     * @returns {HtmlBlockKind | null}
+     */
+    scanHtmlBlockStart(at = 0, end = this.length) {
+        return this.scan("scanHtmlBlockStart", at, end) || null;
+    }
+
+    /**
+     * Whether the line ends an HTML block of this kind: as its last line, or as the blank line behind it. (4.6)
+     * @param {HtmlBlockKind} kind
+     */
+    endsHtmlBlock(kind, at = 0, end = this.length) {
+        if (!Number.isInteger(kind) || kind < c.HTML_RAW_TEXT || kind > c.HTML_TAG_ALONE) throw new RangeError(`there is no kind ${kind}`);
+        return isAnswer(this.scan("endsHtmlBlock", at, end, kind));
+    }
+
+    /** The place behind an open or closing tag that holds no line ending. (6.6) */
+    scanHtmlTag(at = 0, end = this.length) {
+        return this.behind("scanHtmlTag", at, end);
+    }
+
+    /**
+     * A table of what is left out at the fronts of lines, the markers and the indent of their containers: at each place so many
+     * bytes, all of them ASCII. It is made once for a page. BadSkips where it is none.
+     * @param {[place: number | bigint, length: number | bigint][]} rows
+     */
+    skips(rows) {
+        const made = new Skips(this, rows.map(([place, length]) => [this.anyInBytes(place), sizeOf("a length", length)]));
+        this.engine.bring(this, made);
+        isAnswer(this.engine.calls.checkSkips(this.address, this.bytes.length, made.address, made.length));
+        return made;
+    }
+
+    /**
+     * An open or closing tag, over lines of which the skips are left out: the place behind it, and what it is without them, or
+     * null where none are. (6.6)
+     * @param {Skips | null} [skips]
+     * @param {number} [at]
+     * @returns {{ end: number, text: Made | null } | null}
+     */
+    scanHtmlTagOverLines(skips = null, at = 0, end = this.length) {
+        const [from, to] = this.limits(at, end);
+        const given = [from, ...this.#table(skips)];
+        let found = this.engine.calls.scanHtmlTagOverLines(this.address, to, ...given, 0, 0);
+        let text = null;
+        if (found.status === c.TOO_SHORT) {
+            const room = this.engine.room(found.length);
+            found = this.engine.calls.scanHtmlTagOverLines(this.address, to, ...given, room, found.length);
+            text = this.made(this.engine.heap.bytes.subarray(room, room + found.length));
+        }
+        return isAnswer(found.status) ? { end: this.placeOf(found.end), text } : null;
+    }
+
+    /** What the scans for inline HTML of this text, up to the end, know of it. */
+    htmlScanGuard(end = this.length) {
+        const [, to] = this.limits(0, end);
+        return new HtmlScanGuard((at, numbers) => this.#scanInlineHtml(at, to, numbers));
+    }
+
+    /**
+     * @param {number | bigint} at
+     * @param {number} to
+     * @param {Record<string, number>} numbers
+     */
+    #scanInlineHtml(at, to, numbers) {
+        const { engine } = this;
+        const place = this.anyInBytes(at);
+        engine.bring(this);
+        engine.write("htmlGuard", engine.guard, numbers);
+        const found = engine.calls.scanInlineHtml(this.address, to, place, engine.guard);
+        Object.assign(numbers, engine.read("htmlGuard", engine.guard));
+        return { status: found.status, end: this.placeOf(found.end), passed: found.passed };
+    }
+
+    /**
+     * The place behind what begins at each of the places in turn, or null, as an HtmlScanGuard finds them. Before a place that
+     * is refused the run stops: NoOpener, NotRising or InsideFind, whose `run` has the ends that were found before. (6.6)
+     * @param {(number | bigint)[]} places
+     */
+    runInlineHtml(places, end = this.length) {
+        const { engine } = this;
+        const [, to] = this.limits(0, end);
+        const listed = places.map((it) => this.anyInBytes(it));
+        engine.bring(this);
+        const given = engine.numbers(listed);
+        const room = engine.room(8 * listed.length);
+        const found = engine.calls.runInlineHtml(this.address, to, given, listed.length, room, listed.length);
+        const ends = listed.slice(0, found.count).map((_, index) => engine.size(room + 8 * index));
+        return ended(found.status, ends.map((it) => (it === NONE ? null : this.placeOf(it))));
+    }
+
+    /**
+     * A character reference: a number, or an entity of HTML. The first byte is taken for its `&`. Empty where there are no
+     * bytes. (2.5)
+     * @returns {{ end: number, text: Made } | null}
+     */
+    scanEntity(at = 0, end = this.length) {
+        const [found, text] = this.written("scanEntity", at, end, REFERENCE_ROOM);
+        return isAnswer(found.status) ? { end: this.placeOf(this.inBytes(at) + found.taken), text: this.made(text) } : null;
+    }
+
+    /**
+     * The text with its backslash escapes and character references resolved, and without CR; in a cell of a table two
+     * backslashes and a pipe give the pipe. NotUtf8. (2.4, 2.5)
+     */
+    unescape(inTable = false, at = 0, end = this.length) {
+        const [from, to] = this.limits(at, end);
+        const room = to - from + Math.floor((to - from) / 5);
+        const [found, text] = this.written("unescape", at, end, room, Boolean(inTable));
+        isAnswer(found.status);
+        return this.made(text);
+    }
+
+    /**
+     * The link label whose opening bracket stands just before the place, over lines of which the skips of the page are left
+     * out: the place behind its closing bracket, its words, joined by one space, and the place where they stand as they are, or
+     * null. In a cell of a table a pipe loses the backslash before it. (6.3)
+     * @param {{ inTable?: boolean, skips?: Skips | null }} how
+     * @param {number} [at]
+     * @returns {{ end: number, text: Made, start: number | null } | null}
+     */
+    scanLinkLabel({ inTable = false, skips = null } = {}, at = 0, end = this.length) {
+        const [from, to] = this.limits(at, end);
+        const table = this.#table(skips);
+        const length = Math.min(to - from, LABEL_ROOM);
+        const room = this.engine.room(length);
+        const found = this.engine.calls.scanLinkLabel(this.address, to, from, Boolean(inTable), ...table, room, length);
+        if (!isAnswer(found.status)) return null;
+        const text = this.made(this.engine.heap.bytes.subarray(room, room + found.length));
+        return { end: this.placeOf(found.end), text, start: found.start === NONE ? null : this.placeOf(found.start) };
+    }
+
+    /** The key of the whole text as a label: two labels match exactly where their keys are equal. NotUtf8. (6.3) */
+    labelKey() {
+        const [found, key] = this.written("labelKey", 0, this.length, 3 * this.bytes.length);
+        isAnswer(found.status);
+        return this.made(key);
+    }
+
+    /**
+     * The address of the table and how many rows it has. The text is then there too.
+     * @param {Skips | null} skips
+     */
+    #table(skips) {
+        if (skips && skips.of !== this) throw new TypeError("the skips are of another text");
+        if (skips) this.engine.bring(this, skips);
+        else this.engine.bring(this);
+        return skips ? [skips.address, skips.length] : [0, 0];
+    }
+
+    /**
+     * @param {string} name
+     * @param {number} at
+     * @param {number} end
+     * @param {...unknown} given
+     * @returns {Part | null}
+     */
+    #part(name, at, end, ...given) {
+        const [from, to] = this.limits(at, end);
+        this.engine.bring(this);
+        const found = this.engine.calls[name](this.address, to, from, ...given);
+        if (!isAnswer(found.status)) return null;
+        return { end: this.placeOf(found.end), start: this.placeOf(found.start), stop: this.placeOf(found.start + found.length) };
+    }
+}
+
+/** A table of what is left out of a text. */
+export class Skips {
+    /**
+     * @param {import("./source.mjs").Source<any>} of
+     * @param {(number | bigint)[][]} rows places and lengths in bytes
+     */
+    constructor(of, rows) {
+        this.of = of;
+        this.length = rows.length;
+        this.address = 0;
+        this.turn = 0;
+        this.bytes = new Uint8Array(16 * rows.length);
+        const view = new DataView(this.bytes.buffer);
+        rows.forEach(([place, length], index) => {
+            view.setBigUint64(16 * index, BigInt(place), true);
+            view.setBigUint64(16 * index + 8, BigInt(length), true);
+        });
+    }
+}
+
+/**
+ * What the scans of one text have searched in vain, so that none of them searches it again: k scans at rising places of n bytes,
+ * each at or behind the end that was found before it, pass over at most 4n + 8k bytes.
+ */
+export class HtmlScanGuard {
+    #scan;
+    /** @type {Record<string, number>} */
+    #numbers = { comment: 0, cdata: 0, declaration: 0, processing: 0 };
+    /** How many bytes the scans have passed over. */
+    passed = 0;
+
+    /** @param {(at: number | bigint, numbers: Record<string, number>) => { status: number, end: number, passed: number }} scan */
+    constructor(scan) {
+        this.#scan = scan;
+    }
+
+    /**
+     * The place behind the comment, CDATA section, declaration or processing instruction whose `<!` or `<?` ends at the place.
+     * NoOpener where none ends there. (6.6)
+     * @param {number | bigint} at
+     */
+    scan(at) {
+        const found = this.#scan(at, this.#numbers);
+        this.passed += found.passed;
+        return isAnswer(found.status) ? found.end : null;
+    }
+}

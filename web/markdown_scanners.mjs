@@ -1,0 +1,136 @@
+/**
+ * Scanners of Markdown's lines, blocks and inline text, proved to answer what CommonMark 0.31.2 says.
+ *
+ *     import { load } from "./markdown_scanners.mjs";
+ *
+ *     const scanners = await load();
+ *     const page = scanners.text("# A heading\n> - [b](<c d>)\n");
+ *     page.scanAtxHeading(); // 1
+ *     const start = page.lineStart(page.scanLine());
+ *     start.quote(); // true
+ *     start.upto(4); // 0
+ *     start.listItem(2); // { delimiter: "-", start: 0, indent: 4 }
+ *     page.scanLinkDest(start.place + 4); // { end: 25, start: 21, stop: 24 }
+ */
+import { VERSION } from "./lib/c.mjs";
+import { Engine } from "./lib/engine.mjs";
+import { BadModule, isAnswer, ModuleMissing, WrongVersion } from "./lib/errors.mjs";
+import { byteOf, bytesOf } from "./lib/source.mjs";
+import { Text } from "./lib/text.mjs";
+
+export * from "./lib/errors.mjs";
+export { HtmlScanGuard, Skips, Text } from "./lib/text.mjs";
+export { LineStart } from "./lib/line_start.mjs";
+export { VERSION };
+
+const MODULE = new URL("./markdown_scanners.wasm", import.meta.url);
+/** Node's files, which a browser has not. */
+const FILES = "node:fs/promises";
+/** The section of the module that tells its version. */
+const SECTION = "markdown_scanners";
+
+/** The scanners of one module. */
+export class Scanners {
+    #engine;
+
+    /** @param {WebAssembly.Module} module */
+    constructor(module) {
+        const [section] = WebAssembly.Module.customSections(module, SECTION);
+        const version = section && new TextDecoder().decode(section);
+        if (!version) throw new BadModule("the module is none of markdown_scanners");
+        if (version !== VERSION) throw new WrongVersion(`the module is of version ${version}, and this package of ${VERSION}`);
+        this.#engine = new Engine(module);
+    }
+
+    /**
+     * A text to scan. Its places are those of its UTF-8 bytes, or of UTF-16 units where these are asked for. Texts that are made
+     * of it are strings where it is given as a string, and else bytes. LoneSurrogate where a string has no UTF-8; NotUtf8 where
+     * bytes are not UTF-8 and have UTF-16 places.
+     * @template {string | Uint8Array} Made
+     * @param {Made} data
+     * @param {{ units?: import("./lib/source.mjs").Units }} how
+     * @returns {Text<Made extends string ? string : Uint8Array>}
+     */
+    text(data, { units = "utf-8" } = {}) {
+        return new Text(this.#engine, /** @type {any} */ (data), units);
+    }
+
+    /**
+     * Space, tab, LF, VT, FF or CR. (2.1)
+     * @param {string | number} character of ASCII, or a byte
+     * @returns {boolean}
+     */
+    isWhitespace(character) {
+        return this.#engine.calls.isWhitespace(byteOf(character));
+    }
+
+    /**
+     * Space, tab, VT or FF: white space that ends no line. (2.1)
+     * @param {string | number} character of ASCII, or a byte
+     * @returns {boolean}
+     */
+    isWhitespaceInLine(character) {
+        return this.#engine.calls.isWhitespaceInLine(byteOf(character));
+    }
+
+    /**
+     * An ASCII punctuation character. (2.1)
+     * @param {string | number} character of ASCII, or a byte
+     * @returns {boolean}
+     */
+    isPunctuation(character) {
+        return this.#engine.calls.isPunctuation(byteOf(character));
+    }
+
+    /**
+     * Whether two labels match: their full case foldings are equal. NotUtf8. (6.3)
+     * @param {string | Uint8Array} one
+     * @param {string | Uint8Array} other
+     */
+    labelsMatch(one, other) {
+        const engine = this.#engine;
+        const [first, second] = [one, other].map((it) => ({ bytes: bytesOf(it), address: 0, turn: 0 }));
+        engine.bring(first, second);
+        return isAnswer(engine.calls.labelsMatch(first.address, first.bytes.length, second.address, second.bytes.length));
+    }
+
+    /**
+     * The key of a label, its full case folding: two labels match exactly where their keys are equal. NotUtf8. (6.3)
+     * @template {string | Uint8Array} Made
+     * @param {Made} label
+     */
+    labelKey(label) {
+        return this.text(label).labelKey();
+    }
+}
+
+/**
+ * The scanners of a module: of the one that stands beside this file, or of another by its URL, its bytes, or itself.
+ * ModuleMissing where there is none, BadModule where it can't be run here, WrongVersion where it is of another version.
+ * @param {URL | string | Uint8Array | ArrayBuffer | WebAssembly.Module} [source]
+ */
+export async function load(source = MODULE) {
+    if (source instanceof WebAssembly.Module) return new Scanners(source);
+    const bytes = typeof source === "string" || source instanceof URL ? await fetched(new URL(source, MODULE)) : source;
+    try {
+        return new Scanners(await WebAssembly.compile(/** @type {any} */ (bytes)));
+    } catch (why) {
+        if (!(why instanceof WebAssembly.CompileError || why instanceof WebAssembly.LinkError)) throw why;
+        throw new BadModule(`the module can't be run, or this engine has no 64-bit memories (${why.message})`, why);
+    }
+}
+
+/**
+ * The bytes at a URL. Node's fetch knows no files.
+ * @param {URL} url
+ */
+async function fetched(url) {
+    try {
+        if (url.protocol === "file:") return await (await import(FILES)).readFile(url);
+        const response = await fetch(url);
+        if (response.ok) return await response.arrayBuffer();
+        throw new Error(`${response.status} ${response.statusText}`);
+    } catch (why) {
+        throw new ModuleMissing(`there is no module at ${url}: ${/** @type {Error} */ (why).message}`, why);
+    }
+}

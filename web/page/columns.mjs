@@ -1,0 +1,68 @@
+/** The columns of a line: which characters stand there, tabs written out to stops of four, and what took each. (2.2) */
+
+/** How many columns of a line are drawn. */
+export const MOST_COLUMNS = 200;
+
+/**
+ * @typedef {{ kind: string, taken: number | null, from: number, to: number, text: string }} Strip
+ * Columns that one call took, by its number in the line, or that none did; `→` is where a tab begins, `·` its other columns.
+ */
+
+/** The cells of a line: of each column its character, where that stands, and how many of its columns come behind. */
+function cellsOf(text, at) {
+    const cells = [];
+    let place = at;
+    for (const character of text.replace(/[\r\n]+$/, "")) {
+        const width = character === "\t" ? 4 - (cells.length % 4) : 1;
+        for (let column = 0; column < width; column++) {
+            cells.push({ place, behind: width - column - 1, character, isFirst: column === 0 });
+        }
+        place += character.codePointAt(0) < 0x80 ? 1 : new TextEncoder().encode(character).length;
+        if (cells.length > MOST_COLUMNS) break;
+    }
+    return cells;
+}
+
+/** What is drawn of a cell: a tab as an arrow and dots; spaces as dots where a container took them. */
+function drawn({ character, isFirst }, isTaken) {
+    if (character === "\t") return isFirst ? "→" : "·";
+    return character === " " && isTaken ? "·" : character;
+}
+
+/** Whether the cell stands before the place that was reached with so many columns pending. */
+function isBefore(cell, { place, pending }) {
+    return cell.place < place && !(cell.behind < pending && isLastOf(cell, place));
+}
+
+/** Whether the byte of the cell is the last one before the place: only its columns can be pending. */
+function isLastOf(cell, place) {
+    return cell.place === place - 1;
+}
+
+/**
+ * The line as strips, of what each call took and of what is left.
+ * @param {string} text
+ * @param {{ at: number, taken: { kind: string, place: number, pending: number }[] }} line
+ * @returns {{ strips: Strip[], more: boolean }}
+ */
+export function columnsOf(text, line) {
+    const cells = cellsOf(text, line.at);
+    const shown = cells.slice(0, MOST_COLUMNS);
+    /** @type {Strip[]} */
+    const strips = [];
+    let from = 0;
+    line.taken.forEach((it, index) => {
+        let to = from;
+        while (to < shown.length && isBefore(shown[to], it)) to++;
+        if (to > from) strips.push(strip(it.kind, index, shown, from, to));
+        from = to;
+    });
+    if (from < shown.length) strips.push(strip("text", null, shown, from, shown.length));
+    return { strips, more: cells.length > shown.length };
+}
+
+/** @returns {Strip} */
+function strip(kind, taken, cells, from, to) {
+    const text = cells.slice(from, to).map((it) => drawn(it, taken !== null)).join("");
+    return { kind, taken, from, to, text };
+}

@@ -1,0 +1,123 @@
+/** What is seen, as elements. Each answer is a button, which knows its answer. */
+import { CONTRACTS } from "./contracts.mjs";
+
+const BEGINS = /^(heading|underline|break|fence .$|HTML:|table|paragraph|indented)/;
+
+/**
+ * @param {string} tag
+ * @param {Record<string, string>} attributes
+ * @param {...(Node | string)} children
+ */
+export function element(tag, attributes = {}, ...children) {
+    const made = document.createElement(tag);
+    for (const [name, value] of Object.entries(attributes)) made.setAttribute(name, value);
+    made.append(...children);
+    return made;
+}
+
+/** The answers of the buttons that are drawn. */
+export const answers = new WeakMap();
+
+/** A button that stands for an answer. */
+function button(name, text, answer) {
+    const made = element("button", { class: name, type: "button", tabindex: "-1", title: `${answer.call}: ${JSON.stringify(answer.answer)}` }, text);
+    answers.set(made, answer);
+    return made;
+}
+
+/** What a container took: the bytes before its place, from where the one before it had come to. */
+function takenAnswer(row, index) {
+    const it = row.taken[index];
+    const from = index > 0 ? row.taken[index - 1].place : row.at;
+    return { ...it, from, to: it.place };
+}
+
+function blockAnswer(row) {
+    const { block } = row;
+    return { ...block, from: block.at, to: row.end };
+}
+
+/** A line, at its height in the list. */
+export function drawnRow(row) {
+    const { strips, more } = row.columns;
+    const drawn = strips.map((it) => {
+        if (it.taken === null) return element("span", { class: "strip text" }, it.text);
+        return button(`strip ${it.kind}`, it.text, takenAnswer(row, it.taken));
+    });
+    if (more) drawn.push(element("span", { class: "strip more" }, " .. and more"));
+    const name = row.block ? row.block.name : "";
+    const block = row.block ? button(`block${BEGINS.test(name) ? " begins" : ""}`, name, blockAnswer(row)) : "";
+    const made = element("div", { class: "row", "data-line": String(row.number) });
+    made.append(element("span", { class: "number" }, String(row.number)), block, element("span", { class: "strips" }, ...drawn));
+    return made;
+}
+
+/** An answer of a list. */
+function entry(number, what, answer) {
+    const made = button("entry", "", answer);
+    made.append(element("span", { class: "number" }, String(number)), what);
+    return made;
+}
+
+function note(text) {
+    return element("p", { class: "note" }, text);
+}
+
+/** A list that may be told in part. */
+function list({ count, first }, nothing, draw) {
+    const drawn = first.map(draw);
+    if (count === 0) drawn.push(note(nothing));
+    if (count > first.length) drawn.push(note(`and ${count - first.length} more`));
+    return drawn;
+}
+
+export function drawnOutline({ headings }) {
+    return list(headings, "There are no headings.", (it) => {
+        const what = element("span", { class: "what", style: `padding-left: ${1.2 * (it.level - 1)}rem` }, it.text || "(empty)");
+        return entry(it.number, what, it);
+    });
+}
+
+export function drawnTables({ tables }) {
+    return list(tables, "There are no tables.", (it) => {
+        const cells = (tag, row) => row.cells.map((cell, index) => {
+            const drawn = element(tag, { style: `text-align: ${it.alignments[index] === "none" ? "left" : it.alignments[index]}` });
+            drawn.append(button("strip", cell.text || " ", { ...cell, answer: cell.text }));
+            return drawn;
+        });
+        const [head, ...rows] = it.rows;
+        const table = element("table", {}, element("tr", {}, ...cells("th", head)), ...rows.map((row) => element("tr", {}, ...cells("td", row))));
+        const what = element("span", { class: "what" }, `a delimiter row of ${it.alignments.length}: ${it.alignments.join(", ")}`);
+        return element("div", {}, entry(it.number, what, it), table);
+    });
+}
+
+export function drawnLabels({ labels }) {
+    return list(labels, "There are no links and no definitions.", (it) => {
+        const leads = it.target === null ? element("span", { class: "nowhere" }, "leads nowhere") : element("span", { class: "leads" }, `→ ${it.target}`);
+        const what = element("span", { class: "what" }, it.label ? `[${it.label}] ` : "", leads);
+        return entry(it.kind, what, it);
+    });
+}
+
+export function drawnHtml({ html, passed, bound, scans }) {
+    const budget = `${scans} scans for comments, CDATA, declarations and instructions passed over ${passed} bytes; 4n + 8k is ${bound}.`;
+    const found = list(html, "There is no inline HTML.", (it) => entry(it.call === "scanHtmlTagOverLines" ? "tag" : "other", element("span", { class: "what" }, `bytes ${it.from} to ${it.to}`), it));
+    return [note(budget), ...found];
+}
+
+/** What is told of an answer: the call, its bytes, its section and its contract. */
+export function drawnAnswer(it) {
+    const contract = CONTRACTS[it.call];
+    const given = (it.given ?? []).map((word) => JSON.stringify(word)).join(", ");
+    const link = element("a", { href: contract.url, target: "_blank", rel: "noreferrer" }, contract.section);
+    const words = contract.words.flatMap((word, index) => [index > 0 ? ", " : "", element("code", {}, word)]);
+    const of = it.joinedText === undefined ? [] : [element("p", {}, "Of the text ", element("code", { id: "of" }, it.joinedText))];
+    return [
+        element("p", {}, element("code", { id: "call" }, `${it.call}(${given})`), " answers ", element("code", { id: "found" }, JSON.stringify(it.answer))),
+        ...of,
+        element("p", { id: "bytes" }, `Bytes ${it.from} to ${it.to}`),
+        element("p", {}, "CommonMark, ", link),
+        element("p", {}, "Contract of ", element("code", {}, contract.symbol), ": ", ...words),
+    ];
+}

@@ -1,0 +1,87 @@
+/** Reads texts beside the page, so that it never waits: answers what is in a text, and the rows that are in sight. */
+import { load } from "../markdown_scanners.mjs";
+import { columnsOf } from "./columns.mjs";
+import { decode } from "./paragraph.mjs";
+import { Reading } from "./reading.mjs";
+
+/** Of each list so many are told. */
+const MOST = 1000;
+/** How many bytes of a line, or of a text that was scanned, are shown. */
+const SHOWN = 1000;
+/** So many milliseconds are read before another text is heard of. */
+const PAUSE = 50;
+
+/** @type {any} */
+let scanners = null;
+/** @type {Reading | null} */
+let reading = null;
+let turn = 0;
+
+const pause = () => new Promise((resolve) => setTimeout(resolve));
+
+/** The bytes between two places as a text, cut where it is long. */
+function cut(from, to) {
+    const { page } = reading;
+    return decode(page.bytes.subarray(from, Math.min(to, from + SHOWN)));
+}
+
+/** An answer as it is told: without the text that it is of, but with that text's beginning. */
+function told({ joined, ...answer }) {
+    return joined ? { ...answer, joinedText: decode(joined.bytes(reading.page).subarray(0, 4 * SHOWN)) } : answer;
+}
+
+/** What a text has, apart from its lines. */
+function summary() {
+    const found = (...kinds) => reading.found.filter((it) => kinds.includes(it.kind));
+    const list = (all) => ({ count: all.length, first: all.slice(0, MOST).map(told) });
+    return {
+        lines: reading.lines.length,
+        bytes: reading.page.length,
+        headings: list(reading.headings),
+        tables: list(reading.tables),
+        labels: list(found("definition", "reference", "shortcut", "link")),
+        html: list(found("html")),
+        passed: reading.passed,
+        bound: reading.bound,
+        scans: reading.scans,
+    };
+}
+
+/** Reads a text, as long as no other one comes. */
+async function read(text) {
+    const mine = ++turn;
+    const begun = performance.now();
+    let last = begun;
+    const next = new Reading(scanners, text);
+    for (const _ of next.read()) {
+        if (performance.now() - last < PAUSE) continue;
+        await pause();
+        if (mine !== turn) return null;
+        last = performance.now();
+    }
+    reading = next;
+    return { ...summary(), milliseconds: performance.now() - begun };
+}
+
+/** What is drawn of the lines from one on. */
+function rows(first, count) {
+    return reading.lines.slice(first, first + count).map((line) => {
+        const text = cut(line.at, line.end);
+        return { ...line, text, columns: columnsOf(text, line) };
+    });
+}
+
+async function answer({ kind, ...given }) {
+    scanners ??= await load();
+    if (kind === "read") return read(given.text);
+    return { first: given.first, rows: reading ? rows(given.first, given.count) : [] };
+}
+
+self.onmessage = async ({ data }) => {
+    try {
+        const found = await answer(data);
+        if (found) self.postMessage({ kind: data.kind, id: data.id, ...found });
+    } catch (why) {
+        self.postMessage({ kind: "refused", id: data.id, name: why.name, message: why.message });
+    }
+};

@@ -1,0 +1,218 @@
+/**
+ * Each function of the header by its name, as the package's calls answer it: what C would answer is made of the package's
+ * answer. What C gives is given three times: as bytes by itself, inside of other bytes, and, where it is UTF-8, as a string
+ * whose places are those of UTF-16 units, behind characters of several bytes. All must answer alike.
+ */
+import * as c from "../lib/c.mjs";
+import * as mds from "../markdown_scanners.mjs";
+
+export const NONE = 2n ** 64n - 1n;
+export const scanners = await mds.load();
+
+const BEFORE = Buffer.from("<!>\xff", "latin1");
+const BEHIND = Buffer.from("-->]");
+const BEFORE_UNITS = "é🍔\n";
+const STATUSES = [
+    [mds.NotUtf8, c.NOT_UTF8],
+    [RangeError, c.PAST_END],
+    [mds.BadSkips, c.BAD_SKIPS],
+    [mds.TooLarge, c.TOO_LARGE],
+    [mds.Empty, c.EMPTY],
+    [mds.OutOfMemory, c.NO_MEMORY],
+    [mds.NoOpener, c.NO_OPENER],
+    [mds.NotRising, c.NOT_RISING],
+    [mds.InsideFind, c.INSIDE_FIND],
+    [mds.SpacePending, c.SPACE_PENDING],
+];
+
+/** The bytes of what a call has made. */
+export const bytesOf = (made) => Buffer.from(made);
+
+/** Numbers of C as numbers of JavaScript, so that they can be compared. */
+export function plain(it) {
+    if (typeof it === "bigint") return Number(it);
+    if (Buffer.isBuffer(it)) return it.toString("hex");
+    if (it === null || typeof it !== "object") return it;
+    if (Array.isArray(it)) return it.map(plain);
+    return Object.fromEntries(Object.entries(it).map(([key, value]) => [key, plain(value)]));
+}
+
+/** A text of the bytes that C is given. */
+class Given {
+    constructor(text, at, end) {
+        Object.assign(this, { text, at, end });
+    }
+
+    /** The place in the bytes of C of a place of the text. */
+    place(place) {
+        return bytesOf(this.text.slice(this.at, place)).length;
+    }
+
+    /** What C has as a length. */
+    length(end) {
+        return end === null ? NONE : this.place(end);
+    }
+
+    /** The place of the text of a place in the bytes of C, or one that the text has not. */
+    placeIn(place) {
+        const bytes = bytesOf(this.text.slice(this.at, this.end));
+        return place > bytes.length ? this.text.length + 1 : this.at + this.text.made(bytes.subarray(0, Number(place))).length;
+    }
+}
+
+function isText(data) {
+    return Buffer.from(data.toString("utf8"), "utf8").equals(data);
+}
+
+/** Whether a place, if this is one, is inside of a character. */
+function isInside(data, place) {
+    return typeof place === "number" && (data[place] & 0xc0) === 0x80;
+}
+
+/** The ways in which bytes are given, with these numbers, of which a string has no place inside of a character. */
+export function ways(data, numbers = []) {
+    const made = [new Given(scanners.text(data), 0, data.length)];
+    const inside = Buffer.concat([BEFORE, data, BEHIND]);
+    made.push(new Given(scanners.text(inside), BEFORE.length, BEFORE.length + data.length));
+    if (isText(data) && !numbers.some((it) => isInside(data, it))) {
+        const text = scanners.text(BEFORE_UNITS + data.toString("utf8") + BEHIND, { units: "utf-16" });
+        made.push(new Given(text, BEFORE_UNITS.length, text.length - BEHIND.length));
+    }
+    return made;
+}
+
+/** The status that C would answer, and the answer or the refusal. */
+export function told(call) {
+    try {
+        const found = call();
+        return [found === null ? c.NOTHING : c.OK, found];
+    } catch (why) {
+        const row = STATUSES.find(([kind]) => why instanceof kind);
+        if (!row) throw why;
+        return [row[1], why];
+    }
+}
+
+const ends = (name) => (d, ...given) => d.length(d.text[name](...given, d.at, d.end));
+const whole = (name) => (d, ...given) => d.text[name](...given, d.at, d.end);
+const code = (character) => character.charCodeAt(0);
+
+function listItem(d) {
+    const found = d.text.scanListitem(d.at, d.end);
+    if (!found) return { length: NONE, start: 0, indent: 0, delimiter: 0 };
+    return { length: d.length(found.end), start: found.start, indent: found.indent, delimiter: code(found.delimiter) };
+}
+
+function indent(d, limit) {
+    const [status, found] = told(() => d.text.calcIndent(limit, d.at, d.end));
+    const isOk = status === c.OK;
+    return { status, place: isOk ? d.place(found.place) : 0, columns: isOk ? found.columns : 0 };
+}
+
+function hrule(d) {
+    const end = d.text.scanHrule(d.at, d.end);
+    return { length: d.length(end), none_before: end === null ? d.place(d.text.noHruleBefore(d.at, d.end)) : 0 };
+}
+
+function underline(d) {
+    const found = d.text.scanSetextHeading(d.at, d.end);
+    return { length: d.length(found && found.end), level: found ? found.level : 0 };
+}
+
+const fence = (name) => (d, ...given) => {
+    const found = d.text[name](...given, d.at, d.end);
+    return { length: d.length(found && found.end), byte: found ? code(found.character) : 0 };
+};
+
+const part = (call) => (d, start, ...more) => {
+    const [status, found] = told(() => call(d, d.placeIn(start), ...more));
+    if (status !== c.OK) return { status, end: 0, start: 0, length: 0 };
+    return { status, end: d.place(found.end), start: d.place(found.start), length: bytesOf(d.text.slice(found.start, found.stop)).length };
+};
+
+/** A text that is made, as struct mds_text tells it. */
+const text = (call, textOf = (found) => bytesOf(found.text)) => (d) => {
+    const [status, found] = told(() => call(d));
+    if (status !== c.OK) return { status, taken: 0, text: "" };
+    return { status, taken: d.place(found.end ?? d.end), text: textOf(found).toString("hex") };
+};
+
+/** A table of the text, as far as there is one. */
+function tableOf(d, skips) {
+    const size = d.place(d.end);
+    const rows = skips.filter(([place]) => place <= size).map(([place, length]) => [d.placeIn(place), Math.min(length, size - place)]);
+    return d.text.skips(rows);
+}
+
+export function checkSkips(data, skips) {
+    return told(() => scanners.text(data).skips(skips))[0];
+}
+
+export function tag(d, skips, start = 0) {
+    const [status, found] = told(() => d.text.scanHtmlTagOverLines(tableOf(d, skips), d.placeIn(start), d.end));
+    const isOk = status === c.OK;
+    return { status, taken: isOk ? d.place(found.end) : 0, text: isOk && found.text !== null ? bytesOf(found.text).toString("hex") : "" };
+}
+
+export function label(d, skips, inTable, start = 0) {
+    const [status, found] = told(() => d.text.scanLinkLabel({ inTable, skips: tableOf(d, skips) }, d.placeIn(start), d.end));
+    if (status !== c.OK) return { status, taken: 0, text: "", start: 0 };
+    return { status, taken: d.place(found.end), text: bytesOf(found.text).toString("hex"), start: d.length(found.start) };
+}
+
+function htmlEnd(d, kind) {
+    if (kind < 1 || kind > 7) return c.BAD_KIND;
+    return d.text.endsHtmlBlock(kind, d.at, d.end) ? c.OK : c.NOTHING;
+}
+
+/** A guard is for a text from its front. */
+function firstEnd(d, place) {
+    const whole = scanners.text(d.text.slice(d.at, d.end));
+    const [status, found] = told(() => whole.htmlScanGuard().scan(place));
+    return { status, end: status === c.OK ? found : 0 };
+}
+
+const matches = ([status, found]) => (status === c.OK && !found ? c.NOTHING : status);
+const alignments = (found) => Buffer.from(found.alignments.map((it) => ["none", "left", "center", "right"].indexOf(it)));
+
+export const labelsMatch = (one, other) => matches(told(() => scanners.labelsMatch(one, other)));
+
+export const CALLS = {
+    mds_scan_ch: ends("scanCh"),
+    mds_scan_ch_repeat: ends("scanChRepeat"),
+    mds_scan_whitespace_in_line: ends("scanWhitespaceInLine"),
+    mds_scan_eol: ends("scanEol"),
+    mds_scan_line: ends("scanLine"),
+    mds_scan_nextline: ends("scanNextline"),
+    mds_scan_blank_line: ends("scanBlankLine"),
+    mds_scan_blockquote_start: ends("scanBlockquoteStart"),
+    mds_scan_closing_code_fence: ends("scanClosingCodeFence"),
+    mds_scan_closing_metadata_block: ends("scanClosingMetadataBlock"),
+    mds_scan_html_type_7: ends("scanHtmlType7"),
+    mds_scan_html_tag: ends("scanHtmlTag"),
+    mds_is_utf8: whole("isUtf8"),
+    mds_starts_html_block_type_6: whole("startsHtmlBlockType6"),
+    mds_interrupts_paragraph: whole("interruptsParagraph"),
+    mds_scan_code_fence: fence("scanCodeFence"),
+    mds_scan_metadata_block: fence("scanMetadataBlock"),
+    mds_scan_link_dest: part((d, start, maxNext) => d.text.scanLinkDest(start, maxNext, d.end)),
+    mds_scan_autolink: part((d, start) => d.text.scanAutolink(start, d.end)),
+    mds_scan_wikilink_pipe: part((d, start, count) => {
+        const stop = d.placeIn(BigInt(d.place(start)) + BigInt(count));
+        return d.text.scanWikilinkPipe(start, stop < d.end ? stop : d.end, d.end);
+    }),
+    mds_scan_atx_heading: (d) => d.text.scanAtxHeading(d.at, d.end) ?? 0,
+    mds_scan_listitem: listItem,
+    mds_calc_indent: indent,
+    mds_scan_hrule: hrule,
+    mds_scan_setext_heading: underline,
+    mds_scan_table_head: text((d) => d.text.scanTableHead(d.at, d.end), alignments),
+    mds_scan_html_block_start: (d) => d.text.scanHtmlBlockStart(d.at, d.end) ?? 0,
+    mds_ends_html_block: htmlEnd,
+    mds_scan_entity: text((d) => d.text.scanEntity(d.at, d.end)),
+    unescape: text((d) => d.text.unescape(false, d.at, d.end), bytesOf),
+    unescape_cell: text((d) => d.text.unescape(true, d.at, d.end), bytesOf),
+    label: (d) => label(d, [], false),
+    label_in_cell: (d) => label(d, [], true),
+    first_end: firstEnd,
+};

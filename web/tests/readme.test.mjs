@@ -1,0 +1,18 @@
+/** The example of the README: behind `//` stands what a line answers. */
+import assert from "node:assert/strict";
+import { readFileSync } from "node:fs";
+import { test } from "node:test";
+import { load } from "../markdown_scanners.mjs";
+import { hold } from "./totals.mjs";
+
+const AsyncFunction = (async () => null).constructor;
+
+test("the example of the README", async () => {
+    const [, example] = /```js\n([\s\S]*?)```/.exec(readFileSync(new URL("../README.md", import.meta.url), "utf8"));
+    const lines = example.split("\n").filter((it) => it && !it.startsWith("import"));
+    const body = lines.map((it) => it.replace(/^(.*); \/\/ (.*)$/, "told.push([$1, $2]);")).join("\n");
+    const told = [];
+    await new AsyncFunction("load", "told", body)(load, told);
+    told.forEach(([found, wanted]) => assert.deepEqual(found, wanted));
+    hold("examples", told.length);
+});
