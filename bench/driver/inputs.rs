@@ -26,8 +26,10 @@ pub const CALLS: &[(&str, &str)] = &[
     ("metadata", "scan_metadata_block"),
     ("closing_metadata", "scan_closing_metadata_block"),
     ("table_head", "scan_table_head"),
+    ("interrupts", "interrupts_paragraph"),
     ("listitem", "scan_listitem"),
     ("blank", "scan_blank_line"),
+    ("line", "scan_line"),
     ("nextline", "scan_nextline"),
     ("indent", "calc_indent, 4 columns"),
     ("indent_deep", "calc_indent, no limit"),
@@ -36,16 +38,20 @@ pub const CALLS: &[(&str, &str)] = &[
     ("while", "scan_while"),
     ("rev_while", "scan_rev_while"),
     ("entity", "scan_entity"),
+    ("entity_html", "scan_entity, HTML's entities"),
     ("entity_name", "HtmlEntities::get, each name"),
     ("no_entity_name", "HtmlEntities::get, other names"),
     ("unescape", "unescape, a line"),
     ("unescape_table", "unescape, a line in a table"),
+    ("unescape_html", "unescape, HTML's entities"),
     ("link_dest", "scan_link_dest, 32 parentheses"),
     ("link_dest_deep", "scan_link_dest, no limit"),
     ("autolink", "scan_autolink"),
     ("wikilink", "scan_wikilink_pipe"),
     ("type_6", "starts_html_block_type_6"),
     ("type_7", "scan_html_type_7"),
+    ("html_start", "scan_html_block_start"),
+    ("html_end", "ends_html_block, a comment"),
     ("tag", "scan_html_block_inner"),
     ("tag_lines", "scan_html_block_inner, with a handler"),
     ("inline_html", "guarded scans of inline HTML"),
@@ -59,9 +65,19 @@ pub const CALLS: &[(&str, &str)] = &[
     ("clone_inlined", "CowStr::clone, inlined"),
     ("clone_boxed", "CowStr::clone, boxed"),
     ("static_lent", "CowStr::into_static, borrowed"),
+    ("tag_made", "Tag: a link made"),
+    ("tag_end", "Tag: a link made, to_end"),
+    ("tag_clone", "Tag: a link made, clone"),
+    ("tag_eq", "Tag: two links made, =="),
+    ("event_clone", "Event: a text made, clone"),
+    ("event_eq", "Event: two texts made, =="),
     ("tree_flat", "Tree::append"),
     ("tree_nested", "Tree: append, push, pop, walk"),
     ("tree_walk", "Tree: walk"),
+    ("tree_two", "Tree: two nodes made"),
+    ("tree_two_remove", "Tree: two nodes made, remove_node"),
+    ("tree_two_raise", "Tree: two nodes made, truncate_to_parent"),
+    ("tree_two_cut", "Tree: two nodes made, truncate_siblings"),
 ];
 
 fn input(text: Vec<u8>, at: Vec<usize>) -> Input {
@@ -139,12 +155,16 @@ fn stretches(text: &[u8], ends: &[usize]) -> Input {
 pub fn real(call: &str, text: &[u8]) -> Option<Input> {
     let at = match call {
         "label_new" | "label_hash" | "label_eq" => return Some(stretches(text, &labels(text))),
+        "tag_made" | "tag_end" | "tag_clone" | "tag_eq" | "event_clone" | "event_eq" => {
+            return Some(stretches(text, &labels(text)));
+        }
         "clone_inlined" => return Some(stretches(text, &words(text))),
         "tree_flat" | "tree_nested" | "tree_walk" => return None,
+        "tree_two" | "tree_two_remove" | "tree_two_raise" | "tree_two_cut" => return None,
         "line_tag" => [line_texts(text), each(text, b'[')].concat(),
-        "hrule" | "atx" | "setext" | "fence" | "metadata" | "table_head" | "listitem" | "while" => line_texts(text),
+        "hrule" | "atx" | "setext" | "fence" | "metadata" | "table_head" | "listitem" | "while" | "html_start" => line_texts(text),
         "rev_while" => each(text, b'\n'),
-        "entity" => each(text, b'&'),
+        "entity" | "entity_html" => each(text, b'&'),
         "link_dest" | "link_dest_deep" => after_pair(text, |first, second| first == b']' && second == b'('),
         "autolink" | "type_6" => after(text, b'<'),
         "type_7" | "tag" | "tag_lines" => each(text, b'<'),
@@ -166,9 +186,20 @@ pub struct Hostile {
 }
 
 impl Hostile {
-    /// The input of a size; 1 is the size that its name says. What comes once comes once at each size.
+    /// The input of a size; 1 is the size that its name says.
     pub fn input(&self, size: usize) -> Input {
-        let times = |count: usize| if count == 1 { 1 } else { count * size };
+        self.made(|count| count * size)
+    }
+
+    /// The input of about so many bytes.
+    pub fn of_length(&self, bytes: usize) -> Input {
+        let all: usize = self.pieces.iter().map(|(piece, count)| piece.len() * count).sum();
+        self.made(|count| (count * bytes / all).max(1))
+    }
+
+    /// What comes once comes once at each size.
+    fn made(&self, times: impl Fn(usize) -> usize) -> Input {
+        let times = |count: usize| if count == 1 { 1 } else { times(count) };
         let text: String = self.pieces.iter().map(|(piece, count)| piece.repeat(times(*count))).collect();
         let (text, at) = (text.into_bytes(), self.at);
         let at = at(&text);
@@ -258,6 +289,9 @@ pub fn hostile() -> Vec<Hostile> {
         }),
         made("50000 x '`'", "fence", &[("`", 50000)], start),
         made("50000 x '-|'", "table_head", &[("-|", 50000)], start),
+        made("50000 x '|', from each", "table_head", &[("|", 50000)], |text| each(text, b'|')),
+        made("50000 x '|:', from each", "table_head", &[("|:", 50000)], |text| (0..text.len()).collect()),
+        made("50000 spaces, from each", "table_head", &[(" ", 50000)], |text| each(text, b' ')),
         made("50000 x '-'", "setext", &[("-", 50000)], start),
         made("50000 digits", "listitem", &[("1", 50000)], start),
         made("50000 letters", "autolink", &[("a", 50000)], start),
@@ -266,5 +300,9 @@ pub fn hostile() -> Vec<Hostile> {
         made("100000 nodes", "tree_flat", &[("-", 100000)], len),
         made("100000 nodes", "tree_nested", &[("-", 100000)], len),
         made("100000 nodes", "tree_walk", &[("-", 100000)], len),
+        made("10000 times", "tree_two", &[("-", 10000)], |text| each(text, b'-')),
+        made("10000 times", "tree_two_remove", &[("-", 10000)], |text| each(text, b'-')),
+        made("10000 times", "tree_two_raise", &[("-", 10000)], |text| each(text, b'-')),
+        made("10000 times", "tree_two_cut", &[("-", 10000)], |text| each(text, b'-')),
     ]
 }

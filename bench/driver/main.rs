@@ -1,10 +1,14 @@
 //! Runs the same calls of two builds side by side, on the same inputs and in the same loops; `bench/run` builds and
 //! starts it.
 //!
-//! `side_by_side MODE real FILE [CALL..]` or `side_by_side MODE hostile [CALL..]`, where MODE is `check`, `time`,
-//! `allocations` or `callgrind`. A side is a set of C functions `SIDE_CALL(text, its length, places, how many, rounds)`,
-//! each of which answers the sum of its answers. Those of `ours` are linked in; those of `reference` are in the shared
-//! library that the variable REFERENCE names, if it is set. What a side lacks is left out.
+//! `side_by_side MODE real FILE [CALL..]`, `side_by_side MODE hostile [CALL..]` or `side_by_side MODE growth BYTES
+//! [CALL..]`, where MODE is `check`, `time`, `allocations` or `callgrind`. A side is a set of C functions
+//! `SIDE_CALL(text, its length, places, how many, rounds)`, each of which answers the sum of its answers. Those of
+//! `ours` are linked in; those of `reference` and of `c` are in the shared libraries that the variables REFERENCE and
+//! THROUGH_C name, where they are set. What a side lacks is left out.
+//!
+//! `growth` takes the hostile texts at about that many bytes, but for those that the variable LEFT_OUT names, as
+//! `CALL|NAME`, each in a line; it prints the bytes of a text in the place of how many places it has.
 use std::ffi::{CStr, CString, c_char, c_int, c_ulong, c_void};
 use std::hint::black_box;
 use std::time::Instant;
@@ -39,19 +43,26 @@ struct Side {
 impl Side {
     fn all() -> Vec<Side> {
         let mut all = vec![Side { name: "ours", library: std::ptr::null_mut() }];
-        if let Some(path) = std::env::var("REFERENCE").ok().filter(|path| !path.is_empty()) {
-            let path = CString::new(path).expect("a path without a NUL");
-            let library = unsafe { dlopen(path.as_ptr(), RTLD_NOW) };
-            assert!(!library.is_null(), "{}", unsafe { CStr::from_ptr(dlerror()) }.to_string_lossy());
-            all.push(Side { name: "reference", library });
+        for (variable, name) in [("REFERENCE", "reference"), ("THROUGH_C", "c")] {
+            if let Some(path) = std::env::var(variable).ok().filter(|path| !path.is_empty()) {
+                let path = CString::new(path).expect("a path without a NUL");
+                let library = unsafe { dlopen(path.as_ptr(), RTLD_NOW) };
+                assert!(!library.is_null(), "{}", unsafe { CStr::from_ptr(dlerror()) }.to_string_lossy());
+                all.push(Side { name, library });
+            }
         }
         all
     }
 
-    fn function(&self, call: &str) -> Option<Function> {
+    fn function(&self, call: &str, is_made: bool) -> Option<Function> {
         if self.name == "reference" && entities::names(call).is_some() {
             return Some(entities::by_halves);
         }
+        // what C knows are all of HTML's entities; on hostile texts that changes no answer
+        let call = match call {
+            "entity" | "unescape" | "unescape_table" if self.name == "c" && is_made => &format!("{call}_html"),
+            _ => call,
+        };
         let name = CString::new(format!("{}_{call}", self.name)).expect("a name without a NUL");
         let found = unsafe { dlsym(self.library, name.as_ptr()) };
         (!found.is_null()).then(|| unsafe { std::mem::transmute::<*mut c_void, Function>(found) })
@@ -113,10 +124,10 @@ fn dump(function: Function, input: &Input, name: &str, call: &str) {
     }
 }
 
-/// Prints a line for a call on an input: both names, how many places, and an answer a side.
-fn report(mode: &str, what: &str, call: &str, input: &Input, sides: &[Side]) {
-    let found = sides.iter().filter_map(|side| Some((side.name, side.function(call)?)));
-    let places = input.at.len();
+/// Prints a line for a call on an input: both names, how many places or bytes, and an answer a side.
+fn report(mode: &str, what: &str, call: &str, input: &Input, sides: &[Side], places: usize) {
+    let is_made = !matches!(what, "real" | "names");
+    let found = sides.iter().filter_map(|side| Some((side.name, side.function(call, is_made)?)));
     let mut answers = vec![];
     for (side, function) in found {
         answers.push(match mode {
@@ -140,32 +151,48 @@ fn report(mode: &str, what: &str, call: &str, input: &Input, sides: &[Side]) {
 
 fn main() {
     let words: Vec<String> = std::env::args().collect();
-    let (mode, is_real) = (words[1].as_str(), words[2] == "real");
-    let only = &words[if is_real { 4 } else { 3 }..];
+    let (mode, what) = (words[1].as_str(), words[2].as_str());
+    let only = &words[if what == "hostile" { 3 } else { 4 }..];
     let is_wanted = |call: &str| only.is_empty() || only.iter().any(|word| word == call);
     let sides = Side::all();
     // what is done once for a process, such as asking which processor this is, is done here
     let text = b"[a]: <b> \\& &amp; <!-- c --><?d?><![CDATA[e]]>\n---\nf: g\n---\n| - |\n".to_vec();
     let small = Input { at: (0..text.len()).collect(), text };
     for (call, _) in inputs::CALLS.iter().filter(|(call, _)| is_wanted(call)) {
-        for function in sides.iter().filter_map(|side| side.function(call)) {
+        for function in sides.iter().filter_map(|side| side.function(call, true)) {
             run(function, &small, 1);
         }
     }
-    if is_real {
-        let text = std::fs::read(&words[3]).expect("the text");
-        for (call, _) in inputs::CALLS.iter().filter(|(call, _)| is_wanted(call)) {
-            if let Some(input) = entities::names(call) {
-                report(mode, "names", call, &input, &sides);
-            } else if let Some(input) = inputs::real(call, &text) {
-                report(mode, "real", call, &input, &sides);
+    match what {
+        "real" => {
+            let text = std::fs::read(&words[3]).expect("the text");
+            for (call, _) in inputs::CALLS.iter().filter(|(call, _)| is_wanted(call)) {
+                if let Some(input) = entities::names(call) {
+                    report(mode, "names", call, &input, &sides, input.at.len());
+                } else if let Some(input) = inputs::real(call, &text) {
+                    report(mode, "real", call, &input, &sides, input.at.len());
+                }
             }
         }
-    } else {
-        for hostile in inputs::hostile().iter().filter(|hostile| is_wanted(hostile.call)) {
-            for size in [1, 2] {
-                report(mode, &format!("{} (x{size})", hostile.name), hostile.call, &hostile.input(size), &sides);
+        "hostile" => {
+            for hostile in inputs::hostile().iter().filter(|hostile| is_wanted(hostile.call)) {
+                for size in [1, 2] {
+                    let input = hostile.input(size);
+                    report(mode, &format!("{} (x{size})", hostile.name), hostile.call, &input, &sides, input.at.len());
+                }
             }
         }
+        "growth" => {
+            let bytes = words[3].parse().expect("a number of bytes");
+            let left_out = std::env::var("LEFT_OUT").unwrap_or_default();
+            for hostile in inputs::hostile().iter().filter(|hostile| is_wanted(hostile.call)) {
+                let name = format!("{}|{}", hostile.call, hostile.name);
+                if !left_out.lines().any(|line| line == name) {
+                    let input = hostile.of_length(bytes);
+                    report(mode, hostile.name, hostile.call, &input, &sides, input.text.len());
+                }
+            }
+        }
+        _ => panic!("no such inputs: {what}"),
     }
 }

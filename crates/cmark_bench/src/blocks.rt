@@ -135,6 +135,12 @@ pub extern "C" fn ours_blank(text: &[u8], at: &[usize], rounds: usize) -> u64 {
 }
 
 #[unsafe(no_mangle)]
+pub extern "C" fn ours_line(text: &[u8], at: &[usize], rounds: usize) -> u64 {
+    let call = |b: &[u8]| -> u64 { scan_line(b) as u64 };
+    each_rest(text, at, rounds, &call)
+}
+
+#[unsafe(no_mangle)]
 pub extern "C" fn ours_nextline(text: &[u8], at: &[usize], rounds: usize) -> u64 {
     let call = |b: &[u8]| -> u64 { scan_nextline(b) as u64 };
     each_rest(text, at, rounds, &call)
@@ -173,6 +179,41 @@ pub extern "C" fn ours_type_6(text: &[u8], at: &[usize], rounds: usize) -> u64 {
 #[unsafe(no_mangle)]
 pub extern "C" fn ours_type_7(text: &[u8], at: &[usize], rounds: usize) -> u64 {
     let call = |b: &[u8]| -> u64 { count(scan_html_type_7(b)) };
+    each_rest(text, at, rounds, &call)
+}
+
+fn html_kind(kind: HtmlBlockKind) -> u64 {
+    match kind {
+        HtmlBlockKind::RawText => 1,
+        HtmlBlockKind::Comment => 2,
+        HtmlBlockKind::Processing => 3,
+        HtmlBlockKind::Declaration => 4,
+        HtmlBlockKind::Cdata => 5,
+        HtmlBlockKind::BlockName => 6,
+        HtmlBlockKind::TagAlone => 7,
+    }
+}
+
+#[unsafe(no_mangle)]
+pub extern "C" fn ours_html_start(text: &[u8], at: &[usize], rounds: usize) -> u64 {
+    let call = |b: &[u8]| -> u64 {
+        match scan_html_block_start(b) {
+            Some(kind) => html_kind(kind),
+            None => 0,
+        }
+    };
+    each_rest(text, at, rounds, &call)
+}
+
+#[unsafe(no_mangle)]
+pub extern "C" fn ours_html_end(text: &[u8], at: &[usize], rounds: usize) -> u64 {
+    let call = |b: &[u8]| -> u64 { bit(ends_html_block(b, HtmlBlockKind::Comment)) };
+    each_rest(text, at, rounds, &call)
+}
+
+#[unsafe(no_mangle)]
+pub extern "C" fn ours_interrupts(text: &[u8], at: &[usize], rounds: usize) -> u64 {
+    let call = |b: &[u8]| -> u64 { bit(interrupts_paragraph(b)) };
     each_rest(text, at, rounds, &call)
 }
 

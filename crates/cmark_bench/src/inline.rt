@@ -26,8 +26,23 @@ pub extern "C" fn ours_entity(text: &[u8], at: &[usize], rounds: usize) -> u64 {
     each_rest(text, at, rounds, &call)
 }
 
+// With all of HTML's entities.
 #[unsafe(no_mangle)]
-pub extern "C" fn ours_entity_name(text: &[u8], at: &[usize], rounds: usize) -> u64 {
+pub extern "C" fn ours_entity_html(text: &[u8], at: &[usize], rounds: usize) -> u64 {
+    let call = |b: &[u8]| -> u64 {
+        if b.is_empty() {
+            return 0;
+        }
+        let (n, text) = scan_entity(b, &HtmlEntities);
+        match text {
+            Some(text) => two(n, text.as_str().len() as u64),
+            None => 0,
+        }
+    };
+    each_rest(text, at, rounds, &call)
+}
+
+fn names(text: &[u8], at: &[usize], rounds: usize) -> u64 {
     let call = |name: &str| -> u64 {
         count(HtmlEntities.get(name.as_bytes()).map(|text| text.len()))
     };
@@ -35,8 +50,13 @@ pub extern "C" fn ours_entity_name(text: &[u8], at: &[usize], rounds: usize) -> 
 }
 
 #[unsafe(no_mangle)]
+pub extern "C" fn ours_entity_name(text: &[u8], at: &[usize], rounds: usize) -> u64 {
+    names(text, at, rounds)
+}
+
+#[unsafe(no_mangle)]
 pub extern "C" fn ours_no_entity_name(text: &[u8], at: &[usize], rounds: usize) -> u64 {
-    ours_entity_name(text, at, rounds)
+    names(text, at, rounds)
 }
 
 fn unescaped(alloc: Global, text: &str, is_in_table: bool) -> u64 {
@@ -60,6 +80,23 @@ pub extern "C" fn ours_unescape_table(
     rounds: usize,
 ) -> u64 {
     let call = |text: &str| -> u64 { unescaped(alloc, text, true) };
+    each_stretch(text, at, rounds, &call)
+}
+
+// With all of HTML's entities.
+#[unsafe(no_mangle)]
+pub extern "C" fn ours_unescape_html(
+    alloc: Global,
+    text: &[u8],
+    at: &[usize],
+    rounds: usize,
+) -> u64 {
+    let call = |text: &str| -> u64 {
+        match unescape(alloc, CowStr::from(text), false, &HtmlEntities) {
+            Ok(out) => two(out.as_str().len(), bit(matches!(&out, CowStr::Borrowed(_)))),
+            Err(_) => 0,
+        }
+    };
     each_stretch(text, at, rounds, &call)
 }
 

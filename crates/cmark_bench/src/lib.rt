@@ -13,5 +13,7 @@ mod inline;
 mod labels;
 mod lines;
 mod loops;
+mod small_trees;
 mod texts;
 mod trees;
+mod values;

@@ -3,3 +3,4 @@ pub mod CellScan
 pub mod DelimiterRowLemmas
 pub mod OneRow
 pub mod RowLemmas
+pub mod RowPassLemmas

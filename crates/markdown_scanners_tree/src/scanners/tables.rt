@@ -3,11 +3,12 @@ ghost use Rattle.std.specs.Prelude.{◌≡◌, ◌+◌, ◌<◌, ◌≤◌, ◌=
 ghost use Rattle.std.specs.List.{prefix_len, list_any};
 ghost use Rattle.markdown_scanners_tree.specs.Bytes.{begins_with};
 ghost use Rattle.markdown_scanners_tree.specs.scanners.tables.DelimiterRow.{is_cell_byte, alignment, alignment_by, counted_last_cell, is_space, is_hyphen, is_colon, is_pipe, IsDelimiterRow, NoDelimiterRow};
-ghost use Rattle.markdown_scanners_tree.specs.scanners.tables.BegunRow.{is_row_byte, may_be_row, begins_with_cell, begins_row};
+ghost use Rattle.markdown_scanners_tree.specs.scanners.tables.BegunRow.{begins_with_cell, begins_row};
+ghost use Rattle.markdown_scanners_tree.specs.scanners.tables.private.RowPass.{hyphen_after, row_len, is_passed};
 ghost use Rattle.markdown_scanners_tree.specs.scanners.tables.private.ScannedCells.{after_cell, NoCells, AreScannedCells};
 
 use crate::scanners::lines::scan_eol;
-use crate::scanners::runs::{has_byte, scan_ch, scan_ch_repeat};
+use crate::scanners::runs::{first_bytes, has_byte, scan_ch, scan_ch_repeat};
 use markdown_values::values::Alignment;
 use std::alloc::{AllocError, Global};
 
@@ -38,7 +39,7 @@ pub fn scan_table_head(alloc: Global, bytes: &[u8]) -> Result<(usize, Vec<Alignm
     // Memory is asked for where the first cell of a row is read.
     ensures asked { OnErr result (IsTrue (begins_row bytes.now)) }
 {
-    let indent = scan_ch_repeat(bytes, b' ');
+    let indent = scan_ch_repeat(first_bytes(bytes, MOST_SPACES + 1), b' ');
     if indent > MOST_SPACES {
         return Ok((0, Vec::new(alloc)));
     }
@@ -57,24 +58,44 @@ pub fn scan_table_head(alloc: Global, bytes: &[u8]) -> Result<(usize, Vec<Alignm
     }
 }
 
-// Whether nothing but pipes and bytes of cells stands at the front up to the line's end, and a pipe
-// among them. Few lines that are no delimiter row get past this, and none of a text without pipes.
+// Whether a first pass over the bytes of a row goes to the line's end, and over a pipe. It ends where
+// the row does not go on; so few lines that are no delimiter row get past this, none of a text
+// without pipes, and from each of many pipes a line is read no farther than to the next.
 fn may_be_row(bytes: &[u8]) -> bool
-    ensures { result ≡ may_be_row bytes.now }
+    ensures { result ≡ is_passed bytes.now }
 {
     let n = scan_row_bytes(bytes);
     scan_eol(&bytes[n..]).is_some() && has_byte(&bytes[..n], b'|')
 }
 
-// The length of the longest prefix of pipes and bytes of cells.
+// The length of the longest prefix of pipes and bytes of cells in which each pipe, but one in front,
+// ends a cell that has a hyphen.
 fn scan_row_bytes(bytes: &[u8]) -> usize
-    ensures run { result ≡ prefix_len is_row_byte bytes.now }
+    ensures run { result ≡ row_len bytes.now }
     ensures within { result ≤ length bytes.now }
 {
-    bytes
-        .iter()
-        .take_while(|b| matches!(**b, b'-' | b'|' | b' ' | b':'))
-        .count()
+    let mut hyphen = matches!(bytes, [b'|', ..]);
+    let mut count = 0;
+    while count < bytes.len() {
+        let Some(next) = hyphen_after(hyphen, bytes[count]) else {
+            return count;
+        };
+        hyphen = next;
+        count += 1;
+    }
+    count
+}
+
+// Whether the cell has a hyphen after this byte; None where no row goes on with it.
+fn hyphen_after(hyphen: bool, byte: u8) -> Option<bool>
+    ensures { result ≡ hyphen_after hyphen byte }
+{
+    match byte {
+        b'-' => Some(true),
+        b' ' | b':' => Some(hyphen),
+        b'|' if hyphen => Some(false),
+        _ => None,
+    }
 }
 
 // Whether a hyphen stands in the cells: each that a pipe ended has one.

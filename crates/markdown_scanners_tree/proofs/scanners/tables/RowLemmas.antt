@@ -1,21 +1,23 @@
 -- What a delimiter row is made of.
-use Rattle.std.proofs.Common.{take, ◌&&◌, ◌≡◌, ◌+◌, ◌-◌, ◌==◌, cond, inl, inr, ℕ, Bool, true, false, not, ◌||◌, List, [], ◌∷◌, ◌++◌, length, drop, refl, sym, ap, ◌∙◌, Some, append_assoc}
+use Rattle.std.proofs.Common.{take, ◌&&◌, ◌≡◌, ◌+◌, ◌-◌, ◌==◌, cond, inl, inr, ℕ, Bool, true, false, not, ◌||◌, List, [], ◌∷◌, ◌++◌, length, drop, refl, sym, ap, ◌∙◌, append_assoc}
 use Rattle.std.specs.List.{prefix_len, list_all, list_any, flat_map}
-use Rattle.std.proofs.lemmas.List.Folds.{list_all-append, list_any-append}
+use Rattle.std.proofs.lemmas.List.Folds.{list_any-append}
 use Rattle.std.proofs.Math.Seq.{drop-append_seam, take-append_seam}
 use Rattle.std.proofs.Math.ListN.{replicate}
 use Rattle.std.proofs.lemmas.List.{length-replicate}
 use Rattle.std.proofs.lemmas.Bool.{false≢true, cases_Bool, or_right}
 use Rattle.markdown_scanners_tree.specs.Ascii.{vertical_line}
-use Rattle.markdown_scanners_tree.specs.Bytes.{begins_with, line_ending}
+use Rattle.markdown_scanners_tree.specs.Bytes.{begins_with}
 use Rattle.markdown_values.specs.declared.values.Alignment.{Alignment}
-use Rattle.markdown_scanners_tree.specs.scanners.tables.DelimiterRow.{is_cell_byte, is_cell, is_pipe, is_space, is_empty, ended_cell, delimiter_row, NoDelimiterRow}
+use Rattle.markdown_scanners_tree.specs.scanners.tables.DelimiterRow.{is_cell_byte, is_pipe, is_space, is_empty, ended_cell, delimiter_row, NoDelimiterRow}
 use Rattle.markdown_scanners_tree.specs.scanners.tables.BegunRow.{is_row_byte, may_be_row}
+use Rattle.markdown_scanners_tree.specs.scanners.tables.private.RowPass.{is_passed}
 use Rattle.markdown_scanners_tree.specs.scanners.tables.private.ScannedCells.{AreCells, AreScannedCells}
 use Rattle.markdown_scanners_tree.proofs.PrefixLemmas.{from_place, both_true, prefix_len-parts}
 use Rattle.markdown_scanners_tree.proofs.scanners.lines.BlankLemmas.{first-line_ending}
 use Rattle.markdown_scanners_tree.proofs.scanners.tables.CellLemmas.{cell_byte_no_pipe}
 use Rattle.markdown_scanners_tree.proofs.scanners.tables.DelimiterRowLemmas.{IsDelimiterRow-only, pipe_length, pipe_test, cells_start}
+use Rattle.markdown_scanners_tree.proofs.scanners.tables.RowPassLemmas.{passed_len-row, made_row, passed-may}
 
 -- all bytes of a delimiter row are those of cells, and pipes
 row_bytes : (bytes : List ℕ) → list_all is_cell_byte bytes ≡ true → list_all is_row_byte bytes ≡ true
@@ -23,27 +25,6 @@ row_bytes [] all = refl
 row_bytes (b ∷ bytes) all =
     let both = both_true (is_cell_byte b) (list_all is_cell_byte bytes) all in
     rw both.0 (row_bytes bytes both.1)
-
-cells_bytes : (cells : List (List ℕ)) → list_all is_cell cells ≡ true
-    → list_all is_row_byte (flat_map ended_cell cells) ≡ true
-cells_bytes [] all = refl
-cells_bytes (c ∷ cells) all =
-    let both = both_true (is_cell c) (list_all is_cell cells) all in
-    let cell = (both_true (list_all is_cell_byte c) _ both.0).0 in
-    rw (
-      list_all-append is_row_byte (c ++ vertical_line ∷ []) (flat_map ended_cell cells),
-      list_all-append is_row_byte c
-          (vertical_line ∷ []),
-      row_bytes c cell,
-      cells_bytes cells both.1,
-    ) refl
-
-row_all : (piped : Bool) (cells : List (List ℕ)) (last : List ℕ) → list_all is_cell cells ≡ true
-    → list_all is_cell_byte last ≡ true → list_all is_row_byte (delimiter_row piped cells last) ≡ true
-row_all true cells last all all' =
-    rw (list_all-append is_row_byte (flat_map ended_cell cells) last, cells_bytes cells all, row_bytes last all') refl
-row_all false cells last all all' =
-    rw (list_all-append is_row_byte (flat_map ended_cell cells) last, cells_bytes cells all, row_bytes last all') refl
 
 -- a pipe is among them
 row_pipe : (piped : Bool) (cells : List (List ℕ)) (last : List ℕ) → (piped || not (is_empty cells)) ≡ true
@@ -63,15 +44,7 @@ row_pipe false (c ∷ cells) last some =
     or_true true b c = refl
     or_true false b c = refl
 
--- what is made of such bytes and then ends its line may be a row
-made_row : (row rest : List ℕ) (ending : ℕ) → list_all is_row_byte row ≡ true → list_any is_pipe row ≡ true
-    → line_ending rest ≡ Some ending → may_be_row (row ++ rest) ≡ true
-made_row row rest ending all some ends =
-    let run : prefix_len is_row_byte (row ++ rest) ≡ length row =
-    prefix_len-parts is_row_byte row rest all (first-line_ending is_row_byte refl refl rest ending ends) in
-    rw (run, drop-append_seam row rest, take-append_seam row rest, ends, some) refl
-
-pub no_row : (bytes : List ℕ) → may_be_row (drop (prefix_len is_space bytes) bytes) ≡ false → NoDelimiterRow bytes
+pub no_row : (bytes : List ℕ) → is_passed (drop (prefix_len is_space bytes) bytes) ≡ false → NoDelimiterRow bytes
 no_row bytes none n alignments it =
     let only = IsDelimiterRow-only bytes n alignments it in
     let row = delimiter_row it.piped it.cells it.last in
@@ -80,10 +53,12 @@ no_row bytes none n alignments it =
     let dropped : drop it.indent bytes ≡ row ++ it.rest =
     rw parts (ap (λ m. drop m (replicate it.indent 32 ++ (row ++ it.rest))) (sym (length-replicate it.indent 32)) ∙
     drop-append_seam (replicate it.indent 32) (row ++ it.rest)) in
+    let at : drop (prefix_len is_space bytes) bytes ≡ row ++ it.rest = ap (λ m. drop m bytes) only.0 ∙ dropped in
     let made =
-    made_row row it.rest it.ending (row_all it.piped it.cells it.last it.all_cells it.last_cell)
+    made_row row it.rest it.ending it.piped (ap (begins_with is_pipe) (sym at) ∙ only.1)
+    (passed_len-row it.piped it.cells it.last it.rest it.ending it.all_cells it.last_cell it.ends)
     (row_pipe it.piped it.cells it.last it.some_pipe) it.ends in
-    false≢true (sym none ∙ ap may_be_row (ap (λ m. drop m bytes) only.0 ∙ dropped) ∙ made)
+    false≢true (sym none ∙ ap is_passed at ∙ made)
 
 -- what may be a row has a pipe in front of its cells or behind one
 no_pipe : (bytes : List ℕ) → list_all is_cell_byte bytes ≡ true → list_any is_pipe bytes ≡ false
@@ -114,13 +89,13 @@ pub row_tests : (bytes : List ℕ) (indent pipe : ℕ) (run : indent ≡ prefix_
     (pipe_is : pipe ≡ cond (begins_with is_pipe (take (length bytes - indent) (drop indent bytes))) 1 0)
     → (n : ℕ) (alignments : List Alignment) (some_ended hyphen : Bool) (scanned : AreScannedCells
     (take (length bytes - (indent + pipe)) (drop (indent + pipe) bytes)) n alignments some_ended hyphen)
-    → may_be_row (take (length bytes - indent) (drop indent bytes)) ≡ true → (some_ended || hyphen) ≡ true →
+    → is_passed (take (length bytes - indent) (drop indent bytes)) ≡ true → (some_ended || hyphen) ≡ true →
     (((pipe == 1) || some_ended) && (some_ended || hyphen)) ≡ true
-row_tests bytes indent pipe run pipe_is n alignments some_ended hyphen scanned may hyphens =
+row_tests bytes indent pipe run pipe_is n alignments some_ended hyphen scanned passed hyphens =
     let at : take (length bytes - indent) (drop indent bytes) ≡ drop (prefix_len is_space bytes) bytes =
     from_place bytes indent ∙ ap (λ i. drop i bytes) run in
     let pipes =
     some_pipe (drop (prefix_len is_space bytes) bytes) scanned.cells scanned.last scanned.rest scanned.ending
-    (ap may_be_row (sym at) ∙ may) (rw (cells_start bytes indent pipe run pipe_is) at scanned.are_cells) in
+    (passed-may (drop (prefix_len is_space bytes) bytes) (ap is_passed (sym at) ∙ passed)) (rw (cells_start bytes indent pipe run pipe_is) at scanned.are_cells) in
     let some = rw scanned.tells_ended at hyphens in
     rw (pipe_test bytes indent pipe run pipe_is, scanned.tells_ended) (rw pipes some)

@@ -1,1 +1,2 @@
+pub mod RowPass
 pub mod ScannedCells
