@@ -268,12 +268,11 @@ impl<'page> Page<'page> {
 type LabelText = Result<Range<usize>, String>;
 
 fn label_at(bytes: &[u8], start: usize, skips: &[Skip], is_in_table: bool) -> Option<(usize, LabelText)> {
-    let mut room = [0; SMALL];
-    let label = raw::scan_link_label(bytes, start, is_in_table, skips, &mut room);
+    // Most stand in the bytes, and need not be written.
+    let label = raw::scan_link_label(bytes, start, is_in_table, skips, &mut []);
     let text = match label.status {
         ffi::OK | ffi::TOO_SHORT if label.start != ffi::NONE => Ok(label.start..label.start + label.length),
-        ffi::OK => Err(string(room[..label.length].to_vec())),
-        ffi::TOO_SHORT => {
+        ffi::OK | ffi::TOO_SHORT => {
             let mut room = vec![0; label.length];
             raw::scan_link_label(bytes, start, is_in_table, skips, &mut room);
             Err(string(room))
@@ -382,7 +381,7 @@ pub fn scan_link_label_rest<'text>(
     skips: &[Skip],
     is_in_table: bool,
 ) -> Result<Option<(usize, Cow<'text, str>)>, BadSkips> {
-    if !raw::check_skips(text.as_bytes(), skips) {
+    if !skips.is_empty() && !raw::check_skips(text.as_bytes(), skips) {
         return Err(BadSkips);
     }
     let own = |label: LabelText| label.map_or_else(Cow::Owned, |place| Cow::Borrowed(&text[place]));

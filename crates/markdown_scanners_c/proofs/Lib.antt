@@ -8,6 +8,7 @@ pub mod LineRests
 pub mod LineRuns
 pub mod Meanings
 pub mod Parts
+pub mod PlainLabels
 pub mod Rows
 pub mod SkipLemmas
 pub mod TagLemmas

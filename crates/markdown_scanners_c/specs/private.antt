@@ -1,2 +1,3 @@
 pub mod LabelText
+pub mod PlainLabel
 pub mod Searched

@@ -13,6 +13,7 @@ ghost use Rattle.markdown_scanners_c.specs.Skips.{are_skips, are_ascii_skips};
 ghost use Rattle.markdown_scanners_c.specs.Status.{ok, not_utf8, past_end};
 ghost use Rattle.markdown_scanners_c.specs.private.LabelText.{told_ascii, IsWindow, IsWindowLabel, is_mark, ending_len, space_len};
 
+use crate::plain_labels::{plain_label, plain_len};
 use crate::skips::{Skip, searched, told_ascii};
 use crate::status::{NO_MEMORY, NONE, NOT_UTF8, NOTHING, OK, PAST_END};
 use crate::texts::{Text, write_text};
@@ -21,8 +22,8 @@ use markdown_scanners_tree::scanners::is_ascii_punctuation;
 use markdown_values::strings::CowStr;
 use std::alloc::Global;
 
-// How many characters the content of a label may have.
-const MOST_CHARACTERS: usize = 999;
+/// How many characters the content of a label may have.
+pub(crate) const MOST_CHARACTERS: usize = 999;
 
 /// `struct mds_label` of C: the place behind a label, its text, and where it stands in the input, if
 /// it does.
@@ -70,6 +71,9 @@ pub extern "C" fn mds_scan_link_label(
 {
     if start > bytes.len() {
         return no_label(PAST_END);
+    }
+    if let Some(count) = plain_len(&bytes[start..]) {
+        return plain_label(bytes, start, count, buffer);
     }
     let end = label_end(bytes, start, skips);
     label_text(alloc, bytes, start, end, is_in_table, skips, buffer)

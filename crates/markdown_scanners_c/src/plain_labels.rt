@@ -1,0 +1,98 @@
+//! Link labels whose text stands in the input as it is: words, with one space between. Most labels
+//! are such, and are told by one look at each of their bytes.
+ghost use Rattle.std.specs.Prelude.{◌≡◌, ◌≢◌, ◌≤◌, ◌<◌, ◌-◌, ◌==◌, ℕ, Bool, List, true, false, length, drop, take, IsTrue, IfSome};
+ghost use Rattle.std.specs.Str.{IsUtf8};
+ghost use Rattle.markdown_scanners_tree.specs.Ascii.{right_bracket};
+ghost use Rattle.markdown_scanners_tree.specs.Bytes.{begins_with};
+ghost use Rattle.markdown_scanners_c.specs.Buffer.{IsChangedFront};
+ghost use Rattle.markdown_scanners_c.specs.Labels.{IsLabelAt, IsLabelText};
+ghost use Rattle.markdown_scanners_c.specs.Status.{past_end};
+ghost use Rattle.markdown_scanners_c.specs.private.PlainLabel.{is_word_byte, joins_words, are_words, IsPlainLabel};
+ghost use Rattle.markdown_scanners_c.specs.declared.skips.Skip.{Skip};
+
+use crate::labels::{LabelText, MOST_CHARACTERS};
+use crate::texts::{Text, write_text};
+
+/// How many bytes such a label at the front takes before its closing bracket. None where it has
+/// other white space, an escape or too many bytes, or where there is none.
+pub(crate) fn plain_len(rest: &[u8]) -> Option<usize>
+    ensures plain { IfSome result (IsPlainLabel rest.now) }
+{
+    let front = &rest[..rest.len().min(MOST_CHARACTERS + 1)];
+    let count = words_len(front);
+    if count > 0 && is_closed(&front[count..]) && is_text(&front[..count]) {
+        Some(count)
+    } else {
+        None
+    }
+}
+
+// How many bytes the words at the front take, with one space between.
+fn words_len(bytes: &[u8]) -> usize
+    ensures words { 0 < result → are_words false (take result bytes.now) ≡ true }
+    ensures within { result ≤ length bytes.now }
+{
+    let mut place = 0;
+    while place < bytes.len() {
+        if is_word_byte(bytes[place]) {
+            place += 1;
+        } else if place > 0 && joins_words(&bytes[place..]) {
+            place += 2;
+        } else {
+            return place;
+        }
+    }
+    place
+}
+
+fn is_word_byte(byte: u8) -> bool
+    ensures { result ≡ is_word_byte byte }
+{
+    byte > b']' || byte > b' ' && byte < b'['
+}
+
+fn joins_words(rest: &[u8]) -> bool
+    ensures { result ≡ joins_words rest.now }
+{
+    match rest {
+        [b' ', next, ..] => is_word_byte(*next),
+        _ => false,
+    }
+}
+
+fn is_closed(rest: &[u8]) -> bool
+    ensures { result ≡ begins_with (λ b. b == right_bracket) rest.now }
+{
+    matches!(rest, [b']', ..])
+}
+
+fn is_text(words: &[u8]) -> bool
+    ensures { IsTrue result → IsUtf8 words.now }
+{
+    words.is_ascii() || str::from_utf8(words).is_ok()
+}
+
+/// The label of so many bytes at the place, whose text is written.
+pub(crate) fn plain_label(bytes: &[u8], start: usize, count: usize, buffer: &mut [u8]) -> LabelText
+    requires there { start ≤ length bytes.now }
+    requires plain { IsPlainLabel (drop start bytes.now) count }
+    ensures label { (skips : List Skip) (is_in_table : Bool)
+        → IsLabelText (IsLabelAt skips bytes.now start is_in_table)
+        bytes.now start buffer.old buffer.new result }
+    ensures there { result.status ≢ past_end }
+    ensures within { result.end ≤ length bytes.now }
+    ensures room { result.length ≤ result.end - start }
+    ensures kept { IsChangedFront buffer.old buffer.new result.status result.length }
+{
+    let Text {
+        status,
+        taken,
+        length,
+    } = write_text(&bytes[start..start + count], count + 1, buffer);
+    LabelText {
+        status,
+        end: start + taken,
+        length,
+        start,
+    }
+}
