@@ -182,7 +182,7 @@ pub(crate) fn scan_link_label_rest<'text>(
     text: &'text str,
     linebreak_handler: &dyn Fn(&[u8]) -> Option<usize>,
 ) -> Option<(usize, CowStr<'text>)> {
-    if let Ok(Some((length, label))) = markdown_scanners::scan_link_label_rest(text, &[], false) {
+    if let Ok(Some((length, label))) = markdown_scanners::scan_link_label_rest(first_line(text), &[], false) {
         // a label that stands there as it is has no line ending
         if matches!(label, Cow::Borrowed(own) if own.len() + 1 == length) || !has_line_ending(&text[..length]) {
             return Some((length, label.into()));
@@ -192,6 +192,15 @@ pub(crate) fn scan_link_label_rest<'text>(
     let label = markdown_scanners::scan_link_label_rest(&text[..end], &skips, false);
     label.expect("skips rise").map(|(length, label)| (length, label.into()))
 }
+
+/// The first line without its ending, where that is near; else all of the text.
+fn first_line(text: &str) -> &str {
+    let near = &text.as_bytes()[..text.len().min(NEAR)];
+    memchr::memchr2(b'\n', b'\r', near).map_or(text, |end| &text[..end])
+}
+
+/// So long are most lines at most.
+const NEAR: usize = 200;
 
 fn has_line_ending(text: &str) -> bool {
     text.bytes().any(|byte| matches!(byte, b'\n' | b'\r'))

@@ -268,11 +268,12 @@ impl<'page> Page<'page> {
 type LabelText = Result<Range<usize>, String>;
 
 fn label_at(bytes: &[u8], start: usize, skips: &[Skip], is_in_table: bool) -> Option<(usize, LabelText)> {
-    // Most stand in the bytes, and need not be written.
-    let label = raw::scan_link_label(bytes, start, is_in_table, skips, &mut []);
+    let mut room = [0; SMALL];
+    let label = raw::scan_link_label(bytes, start, is_in_table, skips, &mut room);
     let text = match label.status {
         ffi::OK | ffi::TOO_SHORT if label.start != ffi::NONE => Ok(label.start..label.start + label.length),
-        ffi::OK | ffi::TOO_SHORT => {
+        ffi::OK => Err(string(room[..label.length].to_vec())),
+        ffi::TOO_SHORT => {
             let mut room = vec![0; label.length];
             raw::scan_link_label(bytes, start, is_in_table, skips, &mut room);
             Err(string(room))

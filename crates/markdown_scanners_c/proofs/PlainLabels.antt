@@ -12,35 +12,36 @@ use Rattle.std.proofs.lemmas.Str.{IsUtf8-append, IsUtf8-from_ascii}
 use Rattle.markdown_scanners_tree.specs.Bytes.{is_white_space, is_line_ending, is_between}
 use Rattle.markdown_scanners_tree.specs.Kept.{KeptByte, in_line, kept_head, kept_text}
 use Rattle.markdown_scanners_tree.specs.linklabel.Label.{Label, IsLabel, preceded, bracketed, kept_units, is_white, white_runs, characters, has_pipe_backslash, is_one_space, in_cell, joined_words, is_label_content, is_plain, label_between, label_of}
+use Rattle.markdown_scanners_tree.specs.linklabel.private.Run.{is_ordinary}
 use Rattle.markdown_scanners_tree.proofs.linklabel.CellText.{in_cell-same}
 use Rattle.markdown_scanners_tree.proofs.linklabel.JoinedWords.{text_from, joined_words-from}
 use Rattle.markdown_scanners_tree.proofs.linklabel.WhiteRuns.{few, few-white_runs, lone, lone_runs}
-use Rattle.markdown_scanners_c.specs.private.PlainLabel.{is_word_byte, joins_words, are_words, IsPlainLabel}
+use Rattle.markdown_scanners_c.specs.private.PlainLabel.{joins_words, are_words, IsPlainLabel}
 
 -- ---- bytes
 
-word_white : (b : ℕ) → is_word_byte b ≡ true → is_white_space b ≡ false
+word_white : (b : ℕ) → is_ordinary b ≡ true → is_white_space b ≡ false
 word_white b word = grind (arith, nat_tests, word)
 
-word_line : (b : ℕ) → is_word_byte b ≡ true → is_line_ending b ≡ false
+word_line : (b : ℕ) → is_ordinary b ≡ true → is_line_ending b ≡ false
 word_line b word = grind (arith, nat_tests, word)
 
-word_closing : (b : ℕ) → is_word_byte b ≡ true → (b == 93) ≡ false
+word_closing : (b : ℕ) → is_ordinary b ≡ true → (b == 93) ≡ false
 word_closing b word = grind (arith, nat_tests, word)
 
-word_opening : (b : ℕ) → is_word_byte b ≡ true → (b == 91) ≡ false
+word_opening : (b : ℕ) → is_ordinary b ≡ true → (b == 91) ≡ false
 word_opening b word = grind (arith, nat_tests, word)
 
-word_backslash : (b : ℕ) → is_word_byte b ≡ true → (b == 92) ≡ false
+word_backslash : (b : ℕ) → is_ordinary b ≡ true → (b == 92) ≡ false
 word_backslash b word = grind (arith, nat_tests, word)
 
 -- what stands next in words, which have or have not begun
 data IsNext (begun : Bool) (b : ℕ) (bs : List ℕ) : Type 0 where
-  word : is_word_byte b ≡ true → are_words true bs ≡ true → IsNext begun b bs
+  word : is_ordinary b ≡ true → are_words true bs ≡ true → IsNext begun b bs
   gap : begun ≡ true → b ≡ 32 → are_words false bs ≡ true → IsNext begun b bs
 
 next : (begun : Bool) (b : ℕ) (bs : List ℕ) → are_words begun (b ∷ bs) ≡ true → IsNext begun b bs
-next begun b bs are = elim (cases_Bool (is_word_byte b)) [
+next begun b bs are = elim (cases_Bool (is_ordinary b)) [
   | inl is ↦ word is (rw is at are)
   | inr other ↦
       (let parts = and_parts (begun && b == 32) (are_words false bs) (rw other at are) in
@@ -145,7 +146,7 @@ text_of_words : (p : ℕ) (xs : List ℕ)
 text_of_words p [] = (λ are. refl, λ are. cc)
 text_of_words p (b ∷ xs) =
     let more = text_of_words (p + 1) xs in
-    let of_word : is_word_byte b ≡ true → are_words true xs ≡ true → text_from true false (placed p (b ∷ xs)) ≡ b ∷ xs =
+    let of_word : is_ordinary b ≡ true → are_words true xs ≡ true → text_from true false (placed p (b ∷ xs)) ≡ b ∷ xs =
     λ is are. rw (word_white b is) (ap (λ ys. b ∷ ys) (more.0 are)) in (
       λ are. elim (next true b xs are) [
         | word is words ↦ of_word is words
@@ -246,7 +247,7 @@ goes_at_start bytes m are = subst (λ n. are_words false (take n bytes) ≡ true
 begun_behind : (place : ℕ) → 0 < place → (not (place == 0)) ≡ true
 begun_behind place behind = rw (ne_eqb place 0 (λ same. omega (arith, same, behind))) refl
 
-pub goes_by_byte : (bytes : List ℕ) (place : ℕ) → place < length bytes → is_word_byte (get_or bytes place 0) ≡ true
+pub goes_by_byte : (bytes : List ℕ) (place : ℕ) → place < length bytes → is_ordinary (get_or bytes place 0) ≡ true
     → GoesOn bytes place → GoesOn bytes (place + 1)
 goes_by_byte bytes place inside is before m are =
     let begun = not (place == 0) in
@@ -260,11 +261,11 @@ goes_by_byte bytes place inside is before m are =
 
 -- the two bytes of a space and what is behind it
 gap_of : (rest : List ℕ) → joins_words rest ≡ true
-    → (bs : List ℕ) × (c : ℕ) × (rest ≡ 32 ∷ c ∷ bs) × (is_word_byte c ≡ true)
+    → (bs : List ℕ) × (c : ℕ) × (rest ≡ 32 ∷ c ∷ bs) × (is_ordinary c ≡ true)
 gap_of [] joins = cc
 gap_of (b ∷ []) joins = cc
 gap_of (b ∷ c ∷ bs) joins =
-    let parts = and_parts (b == 32) (is_word_byte c) joins in
+    let parts = and_parts (b == 32) (is_ordinary c) joins in
     (bs, c, ap (λ d. d ∷ c ∷ bs) (eqb-true b 32 parts.0), parts.1)
 
 pub gap_inside : (bytes : List ℕ) (place : ℕ) → joins_words (drop place bytes) ≡ true → place + 2 ≤ length bytes

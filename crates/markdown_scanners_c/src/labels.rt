@@ -1,5 +1,5 @@
 //! Link labels.
-ghost use Rattle.std.specs.Prelude.{◌≡◌, ◌≢◌, ◌≤◌, ◌<◌, ◌+◌, ◌-◌, ◌==◌, ◌&&◌, ◌||◌, not, ◌++◌, ◌⊎◌, ◌↔◌, ℕ, List, true, length, drop, if◌then◌else◌};
+ghost use Rattle.std.specs.Prelude.{◌≡◌, ◌≢◌, ◌≤◌, ◌<◌, ◌+◌, ◌-◌, ◌==◌, ◌&&◌, ◌||◌, not, ◌++◌, ◌⊎◌, ◌↔◌, ℕ, List, true, length, drop, if◌then◌else◌, IfSome, IfNone};
 ghost use Rattle.std.specs.Str.{IsUtf8};
 ghost use Rattle.markdown_values.specs.strings.Text.{is_borrowed};
 ghost use Rattle.markdown_scanners_tree.specs.Ascii.{left_bracket, right_bracket};
@@ -11,7 +11,7 @@ ghost use Rattle.markdown_scanners_c.specs.Keys.{key_bytes};
 ghost use Rattle.markdown_scanners_c.specs.Labels.{IsNoLabelText, IsLabelText, IsScannedLabel, match_status};
 ghost use Rattle.markdown_scanners_c.specs.Skips.{are_skips, are_ascii_skips};
 ghost use Rattle.markdown_scanners_c.specs.Status.{ok, not_utf8, past_end};
-ghost use Rattle.markdown_scanners_c.specs.private.LabelText.{told_ascii, IsWindow, IsWindowLabel, is_mark, ending_len, space_len};
+ghost use Rattle.markdown_scanners_c.specs.private.LabelText.{told_ascii, HasNoLabelAt, IsWindow, IsWindowLabel, is_mark, ending_len, space_len};
 
 use crate::plain_labels::{plain_label, plain_len};
 use crate::skips::{Skip, searched, told_ascii};
@@ -75,20 +75,25 @@ pub extern "C" fn mds_scan_link_label(
     if let Some(count) = plain_len(&bytes[start..]) {
         return plain_label(bytes, start, count, buffer);
     }
-    let end = label_end(bytes, start, skips);
+    let Some(end) = label_end(bytes, start, skips) else {
+        return no_label(NOTHING);
+    };
     label_text(alloc, bytes, start, end, is_in_table, skips, buffer)
 }
 
-// The place behind the bracket that closes the label at the place; where there is none, one behind
-// which no label ends. No more is read than up to the first bracket that no backslash escapes, and
-// no more characters than a label has, and two.
-fn label_end(bytes: &[u8], start: usize, skips: &[Skip]) -> usize
+// The place behind the bracket that closes the label at the place; None where there is no label. No
+// more is read than up to the first bracket that no backslash escapes, and no more characters than a
+// label has, and two.
+fn label_end(bytes: &[u8], start: usize, skips: &[Skip]) -> Option<usize>
     requires { start ≤ length bytes.now }
-    ensures ordered { start ≤ result }
-    ensures within { result ≤ length bytes.now }
+    ensures ordered { IfSome result (λ end. start ≤ end) }
+    ensures within { IfSome result (λ end. end ≤ length bytes.now) }
     ensures window { (behind : List ℕ) → are_skips skips.now (bytes.now ++ behind) ≡ true
         → are_ascii_skips skips.now (bytes.now ++ behind) ≡ true
-        → IsWindow skips.now bytes.now start result }
+        → IfSome result (IsWindow skips.now bytes.now start) }
+    ensures none { (behind : List ℕ) → are_skips skips.now (bytes.now ++ behind) ≡ true
+        → are_ascii_skips skips.now (bytes.now ++ behind) ≡ true
+        → IfNone result (HasNoLabelAt skips.now bytes.now start) }
 {
     let (mut place, mut escaped, mut characters) = (start, false, 0);
     while place < bytes.len() && characters <= MOST_CHARACTERS {
@@ -103,19 +108,23 @@ fn label_end(bytes: &[u8], start: usize, skips: &[Skip]) -> usize
         if ending > 0 {
             let skip = searched(skips, place + ending);
             if skip > bytes.len() - (place + ending) {
-                return place + ending;
+                return None;
             }
             place += ending + skip;
             characters += ending;
         } else if ends_label(rest[0], escaped) {
-            return place + 1;
+            return if rest[0] == b']' {
+                Some(place + 1)
+            } else {
+                None
+            };
         } else {
             characters += begun_at(rest[0]);
             escaped = escapes(rest, escaped);
             place += 1;
         }
     }
-    place
+    None
 }
 
 // Whether a line ending, a bracket or an escape may begin at the byte.

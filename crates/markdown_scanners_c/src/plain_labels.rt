@@ -4,14 +4,16 @@ ghost use Rattle.std.specs.Prelude.{◌≡◌, ◌≢◌, ◌≤◌, ◌<◌, �
 ghost use Rattle.std.specs.Str.{IsUtf8};
 ghost use Rattle.markdown_scanners_tree.specs.Ascii.{right_bracket};
 ghost use Rattle.markdown_scanners_tree.specs.Bytes.{begins_with};
+ghost use Rattle.markdown_scanners_tree.specs.linklabel.private.Run.{is_ordinary};
 ghost use Rattle.markdown_scanners_c.specs.Buffer.{IsChangedFront};
 ghost use Rattle.markdown_scanners_c.specs.Labels.{IsLabelAt, IsLabelText};
 ghost use Rattle.markdown_scanners_c.specs.Status.{past_end};
-ghost use Rattle.markdown_scanners_c.specs.private.PlainLabel.{is_word_byte, joins_words, are_words, IsPlainLabel};
+ghost use Rattle.markdown_scanners_c.specs.private.PlainLabel.{joins_words, are_words, IsPlainLabel};
 ghost use Rattle.markdown_scanners_c.specs.declared.skips.Skip.{Skip};
 
 use crate::labels::{LabelText, MOST_CHARACTERS};
 use crate::texts::{Text, write_text};
+use markdown_scanners_tree::scanners::is_ascii_whitespace;
 
 /// How many bytes such a label at the front takes before its closing bracket. None where it has
 /// other white space, an escape or too many bytes, or where there is none.
@@ -34,7 +36,7 @@ fn words_len(bytes: &[u8]) -> usize
 {
     let mut place = 0;
     while place < bytes.len() {
-        if is_word_byte(bytes[place]) {
+        if is_ordinary(bytes[place]) {
             place += 1;
         } else if place > 0 && joins_words(&bytes[place..]) {
             place += 2;
@@ -45,17 +47,18 @@ fn words_len(bytes: &[u8]) -> usize
     place
 }
 
-fn is_word_byte(byte: u8) -> bool
-    ensures { result ≡ is_word_byte byte }
+// Whether the byte is no white space, bracket or backslash.
+fn is_ordinary(byte: u8) -> bool
+    ensures { result ≡ is_ordinary byte }
 {
-    byte > b']' || byte > b' ' && byte < b'['
+    byte > b']' || byte < b'[' && !is_ascii_whitespace(byte)
 }
 
 fn joins_words(rest: &[u8]) -> bool
     ensures { result ≡ joins_words rest.now }
 {
     match rest {
-        [b' ', next, ..] => is_word_byte(*next),
+        [b' ', next, ..] => is_ordinary(*next),
         _ => false,
     }
 }

@@ -1,23 +1,20 @@
 -- Labels whose text stands in the input as it is: words, with one space between.
-use Rattle.std.specs.Prelude.{ℕ, Bool, true, false, ◌||◌, ◌&&◌, ◌==◌, nat_lt, List, [], ◌∷◌, ◌≡◌, ◌≤◌, ◌<◌, length, take, get_or, if◌then◌else◌}
+use Rattle.std.specs.Prelude.{ℕ, Bool, true, false, ◌&&◌, ◌==◌, List, [], ◌∷◌, ◌≡◌, ◌≤◌, ◌<◌, length, take, get_or, if◌then◌else◌}
 use Rattle.std.specs.Str.{IsUtf8}
-use Rattle.markdown_scanners_tree.specs.Ascii.{space, left_bracket, right_bracket}
-
--- no white space, and none of `[`, `\` and `]`, which are neighbors
-abbrev pub is_word_byte : ℕ → Bool
-is_word_byte b = nat_lt right_bracket b || (nat_lt space b && nat_lt b left_bracket)
+use Rattle.markdown_scanners_tree.specs.Ascii.{space, right_bracket}
+use Rattle.markdown_scanners_tree.specs.linklabel.private.Run.{is_ordinary}
 
 -- a space, and a word behind it
 abbrev pub joins_words : List ℕ → Bool
 joins_words [] = false
 joins_words (b ∷ []) = false
-joins_words (b ∷ c ∷ bs) = b == space && is_word_byte c
+joins_words (b ∷ c ∷ bs) = b == space && is_ordinary c
 
 -- words with one space between, where the first has or has not begun before
 abbrev pub are_words : Bool → List ℕ → Bool
 are_words begun [] = begun
 are_words begun (b ∷ bs) =
-    if is_word_byte b then are_words true bs else (begun && b == space) && are_words false bs
+    if is_ordinary b then are_words true bs else (begun && b == space) && are_words false bs
 
 -- the bytes up to a closing bracket are such a text
 pub record IsPlainLabel (rest : List ℕ) (n : ℕ) : Type 0 where

@@ -8,11 +8,11 @@ use Rattle.markdown_scanners_c.proofs.plain_labels.words_len.Goals as goal
 pub loop-place-init : goal.loop-place-init
 loop-place-init c = record { within = omega arith; goes = goes_at_start c.args.bytes.now }
 
-pub loop-place-preserved-then-is_word_byte : goal.loop-place-preserved-then-is_word_byte
-loop-place-preserved-then-is_word_byte c = record {
+pub loop-place-preserved-then-is_ordinary : goal.loop-place-preserved-then-is_ordinary
+loop-place-preserved-then-is_ordinary c = record {
   within = omega (arith, c.loop-place-test.true);
   goes = goes_by_byte c.args.bytes.now c.loop-place.place c.loop-place-test.true
-      (sym c.is_word_byte.ensures ∙ c.if-is_word_byte.true) c.loop-place.invariant.goes;
+      (sym c.is_ordinary.ensures ∙ c.if-is_ordinary.true) c.loop-place.invariant.goes;
 }
 
 pub loop-place-preserved : goal.loop-place-preserved
