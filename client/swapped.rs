@@ -213,19 +213,21 @@ const LABEL: usize = 4 * 999;
 /// it stands in the first line, where there is none in so many bytes, or where the handler wants no more lines.
 fn lines_of_label(bytes: &[u8], handler: &dyn Fn(&[u8]) -> Option<usize>) -> Option<(usize, Vec<Skip>)> {
     let mut skips = Vec::new();
-    let (mut ix, mut line) = (0, 0);
-    for _ in 0..=LABEL {
-        match *bytes.get(ix)? {
+    let (mut ix, mut line, mut most) = (0, 0, LABEL + 1);
+    loop {
+        let rest = bytes.get(ix..bytes.len().min(most))?;
+        ix += rest.iter().position(|byte| matches!(byte, b'[' | b'\\' | b']' | b'\n' | b'\r'))?;
+        match bytes[ix] {
             b'[' | b']' => return (line > 0).then_some((ix + 1, skips)),
-            b'\n' | b'\r' => {
+            b'\\' if bytes.get(ix + 1).map_or(false, |next| is_ascii_punctuation(*next)) => ix += 2,
+            b'\\' => ix += 1,
+            _ => {
                 line = ix + scan_eol(&bytes[ix..])?;
                 ix = leave_out(line, handler(&bytes[line..])?, &mut skips);
+                most += ix - line;
             }
-            b'\\' if bytes.get(ix + 1).map_or(false, |next| is_ascii_punctuation(*next)) => ix += 2,
-            _ => ix += 1,
         }
     }
-    None
 }
 
 /// A label in the table of definitions, equal to those that match it. The passes make one under this name.

@@ -1,10 +1,11 @@
 -- The search for a label's end takes the steps of the scan, over all bytes from the place on, and over those up to the end.
 use Rattle.std.proofs.Common.{ℕ, zero, suc, ◌+◌, ◌-◌, ◌≤◌, ◌<◌, ◌≡◌, ◌==◌, ◌&&◌, ◌||◌, ◌⊎◌, Bool, true, false, not, nat_le, nat_lt, List, [], ◌∷◌, ◌++◌, Option, Some, None}
-use Rattle.std.proofs.Common.{length, take, drop, get_or, inl, inr, refl, sym, ap, subst, ◌∙◌, arith}
+use Rattle.std.proofs.Common.{length, take, drop, get_or, IsAscii, inl, inr, refl, sym, ap, subst, ◌∙◌, arith}
 use Rattle.std.specs.List.{list_all}
 use Rattle.std.proofs.lemmas.Bool.{cases_Bool, and_parts, or_parts, and_from, leb-true, le-leb, eqb-true}
+use Rattle.std.proofs.lemmas.Bool.Decides.{nat_tests}
 use Rattle.std.proofs.Math.Bool.{and-false}
-use Rattle.std.proofs.lemmas.List.{drop-drop, drop_all, drop_more, take_rest, length-drop, take-take, drop-append-le, take-append-le}
+use Rattle.std.proofs.lemmas.List.{drop-drop, drop_all, drop_more, take_rest, length-drop, length-take, take-take, drop-append-le, take-append-le, get_or-take, get_or-drop}
 use Rattle.std.proofs.lemmas.List.Sums.{sum_by-append}
 use Rattle.markdown_scanners_tree.specs.Ascii.{line_feed, carriage_return}
 use Rattle.markdown_scanners_tree.specs.Bytes.{begins_with, is_line_ending, is_punctuation}
@@ -19,7 +20,9 @@ use Rattle.markdown_scanners_c.specs.Skips.{are_skips, are_ascii_skips, is_ascii
 use Rattle.markdown_scanners_c.specs.private.LabelText.{told_ascii, ToldAscii, HasNoLabelAt, IsWindow, is_mark, ending_len}
 use Rattle.markdown_scanners_c.specs.private.Searched.{searched}
 use Rattle.markdown_scanners_c.specs.declared.skips.Skip.{Skip}
+use Rattle.markdown_scanners_c.specs.private.PlainLabel.{AreLeadingWords}
 use Rattle.markdown_scanners_c.proofs.LabelLemmas.{front_at}
+use Rattle.markdown_scanners_c.proofs.PlainLabels.{no_mark}
 use Rattle.markdown_scanners_c.proofs.SkipLemmas.{search_finds}
 use Rattle.markdown_scanners_c.proofs.Windows.{window, window_drop, window_byte, window_length}
 
@@ -197,7 +200,7 @@ module _ (skips : List Skip) (bytes behind : List ℕ) (stand : are_skips skips 
     pub part : (end : ℕ) → place ≤ end → end ≤ length bytes → (e : Bool) × (place < end → e ≡ escaped)
         × PartAt start end e seen ix (window bytes place end)
 
-  pub walk_starts : (start : ℕ) → IsWalked start false start 0
+  walk_starts : (start : ℕ) → IsWalked start false start 0
   walk_starts start = record {
     ix = 0;
     ix_is = omega arith;
@@ -400,3 +403,34 @@ module _ (skips : List Skip) (bytes behind : List ℕ) (stand : are_skips skips 
           let size : len ≡ ending_len (byte ∷ others) = len_is ∙ ap ending_len slice in
           let line = ending_at byte others (omega (arith, some, size)) in
           none_in_skip byte others front len line.0 (size ∙ line.1) fits outside
+
+  ascii_begins : (b : ℕ) → b < 128 → begun b ≡ 1
+  ascii_begins b ascii = grind (arith, nat_tests, ascii)
+
+  -- behind words of ASCII
+  module _ (start n : ℕ) (within : start + n ≤ length bytes) (words : AreLeadingWords (drop start bytes) n)
+      (low : IsAscii (take n (drop start bytes))) where
+    abbrev front_words : List ℕ
+    front_words = take n (drop start bytes)
+
+    size_of_words : length front_words ≡ n
+    size_of_words = omega (arith, length-take n (drop start bytes), length-drop start bytes, within)
+
+    word_at : (i : ℕ) → i < n → get_or front_words i 0 ≡ get_or bytes (start + i) 0
+    word_at i inside = get_or-take n (drop start bytes) i 0 inside ∙ get_or-drop start bytes i 0
+
+    walk_to : (i : ℕ) → i ≤ n → IsWalked start false (start + i) i
+    walk_to zero inside = subst (λ p. IsWalked start false p 0) (omega arith) (walk_starts start)
+    walk_to (suc i) inside =
+        let before = walk_to i (omega (arith, inside)) in
+        let there : start + i < length bytes = omega (arith, inside, within) in
+        let same = word_at i (omega (arith, inside)) in
+        let plain : is_mark (get_or bytes (start + i) 0) ≡ false =
+        ap is_mark (sym same) ∙ no_mark false front_words (words (omega (arith, inside))) i (omega (arith, size_of_words, inside)) in
+        let one : begun (get_or bytes (start + i) 0) ≡ 1 = ap begun (sym same) ∙ ascii_begins (get_or front_words i 0) (low i) in
+        let next = turn_goes_on start false (start + i) i before there _ refl plain in
+        subst (λ p. IsWalked start false p (suc i)) (omega arith)
+        (subst (λ m. IsWalked start false (start + i + 1) m) (omega (arith, one)) next)
+
+    pub walk_words : IsWalked start false (start + n) n
+    walk_words = walk_to n (omega arith)

@@ -16,6 +16,7 @@ use Rattle.markdown_scanners_tree.specs.linklabel.private.Run.{is_ordinary}
 use Rattle.markdown_scanners_tree.proofs.linklabel.CellText.{in_cell-same}
 use Rattle.markdown_scanners_tree.proofs.linklabel.JoinedWords.{text_from, joined_words-from}
 use Rattle.markdown_scanners_tree.proofs.linklabel.WhiteRuns.{few, few-white_runs, lone, lone_runs}
+use Rattle.markdown_scanners_c.specs.private.LabelText.{is_mark}
 use Rattle.markdown_scanners_c.specs.private.PlainLabel.{joins_words, are_words, IsPlainLabel}
 
 -- ---- bytes
@@ -47,6 +48,19 @@ next begun b bs are = elim (cases_Bool (is_ordinary b)) [
       (let parts = and_parts (begun && b == 32) (are_words false bs) (rw other at are) in
       let space = and_parts begun (b == 32) parts.0 in
       gap space.0 (eqb-true b 32 space.1) parts.1)
+]
+
+-- they have no line ending, bracket or backslash
+pub no_mark : (begun : Bool) (xs : List ℕ) → are_words begun xs ≡ true → (i : ℕ) → i < length xs
+    → is_mark (get_or xs i 0) ≡ false
+no_mark begun [] are i inside = absurd (omega (arith, inside))
+no_mark begun (b ∷ xs) are zero inside = elim (next begun b xs are) [
+  | word is more ↦ rw (word_line b is, word_opening b is, word_backslash b is, word_closing b is) refl
+  | gap was is more ↦ ap is_mark is
+]
+no_mark begun (b ∷ xs) are (suc i) inside = elim (next begun b xs are) [
+  | word is more ↦ no_mark true xs more i (omega (arith, inside))
+  | gap was is more ↦ no_mark false xs more i (omega (arith, inside))
 ]
 
 -- ---- what is kept of them

@@ -1,5 +1,5 @@
 //! Link labels.
-ghost use Rattle.std.specs.Prelude.{◌≡◌, ◌≢◌, ◌≤◌, ◌<◌, ◌+◌, ◌-◌, ◌==◌, ◌&&◌, ◌||◌, not, ◌++◌, ◌⊎◌, ◌↔◌, ℕ, List, true, length, drop, if◌then◌else◌, IfSome, IfNone};
+ghost use Rattle.std.specs.Prelude.{◌≡◌, ◌≢◌, ◌≤◌, ◌<◌, ◌+◌, ◌-◌, ◌==◌, ◌&&◌, ◌||◌, not, ◌++◌, ◌⊎◌, ◌↔◌, ℕ, List, true, length, drop, take, IsAscii, if◌then◌else◌, IfSome, IfNone};
 ghost use Rattle.std.specs.Str.{IsUtf8};
 ghost use Rattle.markdown_values.specs.strings.Text.{is_borrowed};
 ghost use Rattle.markdown_scanners_tree.specs.Ascii.{left_bracket, right_bracket};
@@ -11,9 +11,10 @@ ghost use Rattle.markdown_scanners_c.specs.Keys.{key_bytes};
 ghost use Rattle.markdown_scanners_c.specs.Labels.{IsNoLabelText, IsLabelText, IsScannedLabel, match_status};
 ghost use Rattle.markdown_scanners_c.specs.Skips.{are_skips, are_ascii_skips};
 ghost use Rattle.markdown_scanners_c.specs.Status.{ok, not_utf8, past_end};
+ghost use Rattle.markdown_scanners_c.specs.private.PlainLabel.{AreLeadingWords};
 ghost use Rattle.markdown_scanners_c.specs.private.LabelText.{told_ascii, HasNoLabelAt, IsWindow, IsWindowLabel, is_mark, ending_len, space_len};
 
-use crate::plain_labels::{plain_label, plain_len};
+use crate::plain_labels::{ascii_len, is_plain, leading_words, plain_label};
 use crate::skips::{Skip, searched, told_ascii};
 use crate::status::{NO_MEMORY, NONE, NOT_UTF8, NOTHING, OK, PAST_END};
 use crate::texts::{Text, write_text};
@@ -72,20 +73,25 @@ pub extern "C" fn mds_scan_link_label(
     if start > bytes.len() {
         return no_label(PAST_END);
     }
-    if let Some(count) = plain_len(&bytes[start..]) {
-        return plain_label(bytes, start, count, buffer);
+    let rest = &bytes[start..];
+    let words = leading_words(rest);
+    if is_plain(rest, words) {
+        return plain_label(bytes, start, words, buffer);
     }
-    let Some(end) = label_end(bytes, start, skips) else {
+    let Some(end) = label_end(bytes, start, ascii_len(rest, words), skips) else {
         return no_label(NOTHING);
     };
     label_text(alloc, bytes, start, end, is_in_table, skips, buffer)
 }
 
-// The place behind the bracket that closes the label at the place; None where there is no label. No
+// The place behind the bracket that closes the label at the place, whose first bytes are words that
+// were read; None where there is no label. No
 // more is read than up to the first bracket that no backslash escapes, and no more characters than a
 // label has, and two.
-fn label_end(bytes: &[u8], start: usize, skips: &[Skip]) -> Option<usize>
-    requires { start ≤ length bytes.now }
+fn label_end(bytes: &[u8], start: usize, words: usize, skips: &[Skip]) -> Option<usize>
+    requires within { start + words ≤ length bytes.now }
+    requires words { AreLeadingWords (drop start bytes.now) words }
+    requires ascii { IsAscii (take words (drop start bytes.now)) }
     ensures ordered { IfSome result (λ end. start ≤ end) }
     ensures within { IfSome result (λ end. end ≤ length bytes.now) }
     ensures window { (behind : List ℕ) → are_skips skips.now (bytes.now ++ behind) ≡ true
@@ -95,7 +101,7 @@ fn label_end(bytes: &[u8], start: usize, skips: &[Skip]) -> Option<usize>
         → are_ascii_skips skips.now (bytes.now ++ behind) ≡ true
         → IfNone result (HasNoLabelAt skips.now bytes.now start) }
 {
-    let (mut place, mut escaped, mut characters) = (start, false, 0);
+    let (mut place, mut escaped, mut characters) = (start + words, false, words);
     while place < bytes.len() && characters <= MOST_CHARACTERS {
         if !is_mark(bytes[place]) {
             characters += begun_at(bytes[place]);

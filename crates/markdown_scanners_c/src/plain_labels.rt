@@ -1,6 +1,6 @@
 //! Link labels whose text stands in the input as it is: words, with one space between. Most labels
 //! are such, and are told by one look at each of their bytes.
-ghost use Rattle.std.specs.Prelude.{◌≡◌, ◌≢◌, ◌≤◌, ◌<◌, ◌-◌, ◌==◌, ℕ, Bool, List, true, false, length, drop, take, IsTrue, IfSome};
+ghost use Rattle.std.specs.Prelude.{◌≡◌, ◌≢◌, ◌≤◌, ◌<◌, ◌-◌, ◌==◌, ℕ, Bool, List, true, false, length, drop, take, IsTrue, IsAscii};
 ghost use Rattle.std.specs.Str.{IsUtf8};
 ghost use Rattle.markdown_scanners_tree.specs.Ascii.{right_bracket};
 ghost use Rattle.markdown_scanners_tree.specs.Bytes.{begins_with};
@@ -8,30 +8,44 @@ ghost use Rattle.markdown_scanners_tree.specs.linklabel.private.Run.{is_ordinary
 ghost use Rattle.markdown_scanners_c.specs.Buffer.{IsChangedFront};
 ghost use Rattle.markdown_scanners_c.specs.Labels.{IsLabelAt, IsLabelText};
 ghost use Rattle.markdown_scanners_c.specs.Status.{past_end};
-ghost use Rattle.markdown_scanners_c.specs.private.PlainLabel.{joins_words, are_words, IsPlainLabel};
+ghost use Rattle.markdown_scanners_c.specs.private.PlainLabel.{joins_words, AreLeadingWords, IsPlainLabel};
 ghost use Rattle.markdown_scanners_c.specs.declared.skips.Skip.{Skip};
 
 use crate::labels::{LabelText, MOST_CHARACTERS};
 use crate::texts::{Text, write_text};
 use markdown_scanners_tree::scanners::is_ascii_whitespace;
 
-/// How many bytes such a label at the front takes before its closing bracket. None where it has
-/// other white space, an escape or too many bytes, or where there is none.
-pub(crate) fn plain_len(rest: &[u8]) -> Option<usize>
-    ensures plain { IfSome result (IsPlainLabel rest.now) }
+/// Whether these words are such a label: a bracket closes it, and it is UTF-8 and not too long.
+pub(crate) fn is_plain(rest: &[u8], count: usize) -> bool
+    requires within { count ≤ length rest.now }
+    requires words { AreLeadingWords rest.now count }
+    ensures plain { IsTrue result → IsPlainLabel rest.now count }
 {
-    let front = &rest[..rest.len().min(MOST_CHARACTERS + 1)];
-    let count = words_len(front);
-    if count > 0 && is_closed(&front[count..]) && is_text(&front[..count]) {
-        Some(count)
-    } else {
-        None
-    }
+    count > 0 && count <= MOST_CHARACTERS && is_closed(&rest[count..]) && is_text(&rest[..count])
 }
 
-// How many bytes the words at the front take, with one space between.
+/// As many bytes where they are ASCII, else none.
+pub(crate) fn ascii_len(rest: &[u8], count: usize) -> usize
+    requires within { count ≤ length rest.now }
+    requires words { AreLeadingWords rest.now count }
+    ensures within { result ≤ count }
+    ensures words { AreLeadingWords rest.now result }
+    ensures ascii { IsAscii (take result rest.now) }
+{
+    if rest[..count].is_ascii() { count } else { 0 }
+}
+
+/// How many bytes the words at the front take, with one space between: of so many as a label may
+/// have and one.
+pub(crate) fn leading_words(rest: &[u8]) -> usize
+    ensures words { AreLeadingWords rest.now result }
+    ensures within { result ≤ length rest.now }
+{
+    words_len(&rest[..rest.len().min(MOST_CHARACTERS + 1)])
+}
+
 fn words_len(bytes: &[u8]) -> usize
-    ensures words { 0 < result → are_words false (take result bytes.now) ≡ true }
+    ensures words { AreLeadingWords bytes.now result }
     ensures within { result ≤ length bytes.now }
 {
     let mut place = 0;

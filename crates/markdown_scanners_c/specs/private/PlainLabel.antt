@@ -16,6 +16,10 @@ are_words begun [] = begun
 are_words begun (b ∷ bs) =
     if is_ordinary b then are_words true bs else (begun && b == space) && are_words false bs
 
+-- so many bytes at the front are such a text, or none
+abbrev pub AreLeadingWords : List ℕ → ℕ → Type 0
+AreLeadingWords rest n = 0 < n → are_words false (take n rest) ≡ true
+
 -- the bytes up to a closing bracket are such a text
 pub record IsPlainLabel (rest : List ℕ) (n : ℕ) : Type 0 where
   pub words : are_words false (take n rest) ≡ true

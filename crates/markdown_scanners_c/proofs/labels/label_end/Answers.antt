@@ -1,13 +1,14 @@
 -- Each turn takes a step of the scan.
 use Rattle.std.proofs.Common.{◌≡◌, ◌∙◌, ◌++◌, sym, refl, arith, length}
-use Rattle.markdown_scanners_c.proofs.LabelEnds.{walk_starts, none_past, none_behind, turn_closes, turn_opens, turn_passes, turn_goes_on, turn_skips, turn_ends_in_skip}
+use Rattle.markdown_scanners_c.proofs.LabelEnds.{walk_words, none_past, none_behind, turn_closes, turn_opens, turn_passes, turn_goes_on, turn_skips, turn_ends_in_skip}
 use Rattle.markdown_scanners_c.proofs.labels.label_end.Goals as goal
 
 pub loop-place-init : goal.loop-place-init
 loop-place-init c = record {
   behind_start = omega arith;
-  within = omega (arith, c.requires);
-  walked = λ behind stand ascii. walk_starts c.args.skips.now c.args.bytes.now behind stand ascii c.args.start;
+  within = omega (arith, c.requires.within);
+  walked = λ behind stand ascii. walk_words c.args.skips.now c.args.bytes.now behind stand ascii c.args.start c.args.words
+      c.requires.within c.requires.words c.requires.ascii;
 }
 
 pub returns-then-skip-bytes-clause-none : goal.returns-then-skip-bytes-clause-none

@@ -8,15 +8,15 @@ pub returns-clause-label : goal.returns-clause-label
 returns-clause-label c behind stand ascii =
     inr (
       c.if-start-bytes.false,
-      told_of_window c.args.skips.now c.args.bytes.now c.args.start c.in-Some-label_end.end c.args.is_in_table
-          (c.in-Some-label_end.ensures.window behind stand ascii) c.args.buffer.now c.label_text.new.buffer c.label_text.result
+      told_of_window c.args.skips.now c.args.bytes.now c.args.start c.in-Some.end c.args.is_in_table
+          (c.in-Some.ensures.window behind stand ascii) c.args.buffer.now c.label_text.new.buffer c.label_text.result
           c.label_text.ensures.label,
     )
 
-pub returns-in_default-label_end-clause-label : goal.returns-in_default-label_end-clause-label
+pub returns-in_default-clause-label : goal.returns-in_default-clause-label
 unfolding IsLabelText
-returns-in_default-label_end-clause-label c behind stand ascii =
+returns-in_default-clause-label c behind stand ascii =
     inr (
       c.if-start-bytes.false,
-      inl (c.no_label-in_default-label_end.ensures, refl, λ label is. c.in_default-label_end.ensures.none behind stand ascii c.args.is_in_table label is.0),
+      inl (c.no_label-in_default.ensures, refl, λ label is. c.in_default.ensures.none behind stand ascii c.args.is_in_table label is.0),
     )
