@@ -196,7 +196,7 @@ pub(crate) fn scan_link_label_rest<'text>(
 /// The first line without its ending, where that is near; else all of the text.
 fn first_line(text: &str) -> &str {
     let near = &text.as_bytes()[..text.len().min(NEAR)];
-    memchr::memchr2(b'\n', b'\r', near).map_or(text, |end| &text[..end])
+    memchr::memchr(b'\n', near).map_or(text, |end| &text[..end])
 }
 
 /// So long are most lines at most.

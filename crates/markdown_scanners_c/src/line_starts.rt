@@ -37,12 +37,16 @@ impl Start {
         LineStart::resumed(bytes, self.place, self.pending, self.phase)
     }
 
-    // Whether no space stands at the place, and nothing is pending: most often it is so.
+    // Whether this is a place in these bytes, with nothing pending and a byte that is no space: most
+    // often it is. It is asked first, so that most calls make no line start.
     fn has_no_space(&self, bytes: &[u8]) -> bool
-        requires { IsLineState (state_on bytes.now self.now) }
-        ensures { IsTrue result → HasNoSpace (state_on bytes.now self.now) }
+        ensures { IsTrue result → IsLineState (state_on bytes.now self.now)
+            × HasNoSpace (state_on bytes.now self.now) }
     {
-        self.pending == 0 && !begins_with_space(&bytes[self.place..])
+        if self.pending > 0 || self.phase > 3 || self.place >= bytes.len() {
+            return false;
+        }
+        !is_space(bytes[self.place])
     }
 
     // Keeps the place of the library's line start.
@@ -77,10 +81,10 @@ impl Start {
     }
 }
 
-fn begins_with_space(rest: &[u8]) -> bool
-    ensures { result ≡ begins_with is_space_or_tab rest.now }
+fn is_space(byte: u8) -> bool
+    ensures { result ≡ is_space_or_tab byte }
 {
-    matches!(rest, [b' ' | b'\t', ..])
+    matches!(byte, b' ' | b'\t')
 }
 
 fn status_of(found: bool) -> u32
@@ -101,12 +105,12 @@ pub extern "C" fn mds_line_space(bytes: &[u8], start: &mut Start, count: usize) 
     ensures next { OfState bytes.now start.old (λ s. IsNext bytes.now start.old start.new) }
     ensures kept { known_breaks start.new ≡ known_breaks start.old }
 {
-    let Some(mut line) = start.on(bytes) else {
-        return BAD_STATE;
-    };
     if start.has_no_space(bytes) {
         return status_of(count == 0);
     }
+    let Some(mut line) = start.on(bytes) else {
+        return BAD_STATE;
+    };
     let found = line.scan_space(count);
     start.keep(&line);
     status_of(found)
@@ -137,12 +141,12 @@ pub extern "C" fn mds_line_upto(bytes: &[u8], start: &mut Start, count: usize) -
     ensures next { OfState bytes.now start.old (λ s. IsNext bytes.now start.old start.new) }
     ensures kept { known_breaks start.new ≡ known_breaks start.old }
 {
-    let Some(mut line) = start.on(bytes) else {
-        return no_columns(BAD_STATE);
-    };
     if start.has_no_space(bytes) {
         return no_columns(OK);
     }
+    let Some(mut line) = start.on(bytes) else {
+        return no_columns(BAD_STATE);
+    };
     let columns = line.scan_space_upto(count);
     start.keep(&line);
     Columns {
