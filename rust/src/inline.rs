@@ -267,6 +267,7 @@ impl<'page> Page<'page> {
 /// The text of a label: where it stands in the bytes, or the text that was made.
 type LabelText = Result<Range<usize>, String>;
 
+#[inline]
 fn label_at(bytes: &[u8], start: usize, skips: &[Skip], is_in_table: bool) -> Option<(usize, LabelText)> {
     let mut room = [0; SMALL];
     let label = raw::scan_link_label(bytes, start, is_in_table, skips, &mut room);
