@@ -182,7 +182,7 @@ pub(crate) fn scan_link_label_rest<'text>(
     text: &'text str,
     linebreak_handler: &dyn Fn(&[u8]) -> Option<usize>,
 ) -> Option<(usize, CowStr<'text>)> {
-    if let Ok(Some((length, label))) = markdown_scanners::scan_link_label_rest(text, &[], false) {
+    if let Ok(Some((length, label))) = markdown_scanners::scan_link_label_rest(first_line(text), &[], false) {
         // a label that stands there as it is has no line ending
         if matches!(label, Cow::Borrowed(own) if own.len() + 1 == length) || !has_line_ending(&text[..length]) {
             return Some((length, label.into()));
@@ -192,6 +192,15 @@ pub(crate) fn scan_link_label_rest<'text>(
     let label = markdown_scanners::scan_link_label_rest(&text[..end], &skips, false);
     label.expect("skips rise").map(|(length, label)| (length, label.into()))
 }
+
+/// The first line without its ending, where that is near; else all of the text.
+fn first_line(text: &str) -> &str {
+    let near = &text.as_bytes()[..text.len().min(NEAR)];
+    memchr::memchr(b'\n', near).map_or(text, |end| &text[..end])
+}
+
+/// So long are most lines at most.
+const NEAR: usize = 200;
 
 fn has_line_ending(text: &str) -> bool {
     text.bytes().any(|byte| matches!(byte, b'\n' | b'\r'))
@@ -204,19 +213,21 @@ const LABEL: usize = 4 * 999;
 /// it stands in the first line, where there is none in so many bytes, or where the handler wants no more lines.
 fn lines_of_label(bytes: &[u8], handler: &dyn Fn(&[u8]) -> Option<usize>) -> Option<(usize, Vec<Skip>)> {
     let mut skips = Vec::new();
-    let (mut ix, mut line) = (0, 0);
-    for _ in 0..=LABEL {
-        match *bytes.get(ix)? {
+    let (mut ix, mut line, mut most) = (0, 0, LABEL + 1);
+    loop {
+        let rest = bytes.get(ix..bytes.len().min(most))?;
+        ix += rest.iter().position(|byte| matches!(byte, b'[' | b'\\' | b']' | b'\n' | b'\r'))?;
+        match bytes[ix] {
             b'[' | b']' => return (line > 0).then_some((ix + 1, skips)),
-            b'\n' | b'\r' => {
+            b'\\' if bytes.get(ix + 1).map_or(false, |next| is_ascii_punctuation(*next)) => ix += 2,
+            b'\\' => ix += 1,
+            _ => {
                 line = ix + scan_eol(&bytes[ix..])?;
                 ix = leave_out(line, handler(&bytes[line..])?, &mut skips);
+                most += ix - line;
             }
-            b'\\' if bytes.get(ix + 1).map_or(false, |next| is_ascii_punctuation(*next)) => ix += 2,
-            _ => ix += 1,
         }
     }
-    None
 }
 
 /// A label in the table of definitions, equal to those that match it. The passes make one under this name.

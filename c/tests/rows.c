@@ -371,6 +371,15 @@ static void labels(void) {
     MAKES(label, "a\n> b]", 6, "a > b");
     MAKES(label_in_cell, "a\\|b]", 5, "a|b");
     MAKES(label_in_cell, "a\\\\|b]", 6, "a\\|b");
+    MAKES(label, " a ]", 4, "a");
+    MAKES(label, "a  b]", 5, "a b");
+    MAKES(label, "a\vb]", 4, "a b");
+    MAKES(label, "a b\nc d]", 8, "a b c d");
+    MAKES(label, "a b\\]c]", 7, "a b\\]c");
+    MAKES(label, "\xc3\xa9 b]", 5, "\xc3\xa9 b");
+    MAKES(label, "\x01]", 2, "\x01");
+    REFUSES(label, "a b[c]", MDS_NOTHING);
+    REFUSES(label, "]", MDS_NOTHING);
     REFUSES(label, " ]", MDS_NOTHING);
     REFUSES(label, "a[b]", MDS_NOTHING);
     REFUSES(label, "a\n\nb]", MDS_NOTHING);
@@ -391,6 +400,12 @@ static void long_labels(void) {
     SAME(is_left(BUFFER, 999), true);
     text[999] = 'a', text[1000] = ']';
     refuses(__LINE__, label, text, 1001, MDS_NOTHING);
+    static char wide[2001]; // of two bytes each
+    for (size_t i = 0; i < 1000; i++) memcpy(wide + 2 * i, "\xc3\xa9", 2);
+    wide[2000] = ']';
+    refuses(__LINE__, label, wide, 2001, MDS_NOTHING);
+    found = label(given(BYTES, wide + 2, 1999), 1999, writable(BUFFER, 1998), 1998);
+    SAME(found.status, MDS_OK), SAME(found.taken, 1999), SAME(found.length, 1998);
 }
 
 static void matches(void) {

@@ -267,6 +267,7 @@ impl<'page> Page<'page> {
 /// The text of a label: where it stands in the bytes, or the text that was made.
 type LabelText = Result<Range<usize>, String>;
 
+#[inline]
 fn label_at(bytes: &[u8], start: usize, skips: &[Skip], is_in_table: bool) -> Option<(usize, LabelText)> {
     let mut room = [0; SMALL];
     let label = raw::scan_link_label(bytes, start, is_in_table, skips, &mut room);
@@ -382,7 +383,7 @@ pub fn scan_link_label_rest<'text>(
     skips: &[Skip],
     is_in_table: bool,
 ) -> Result<Option<(usize, Cow<'text, str>)>, BadSkips> {
-    if !raw::check_skips(text.as_bytes(), skips) {
+    if !skips.is_empty() && !raw::check_skips(text.as_bytes(), skips) {
         return Err(BadSkips);
     }
     let own = |label: LabelText| label.map_or_else(Cow::Owned, |place| Cow::Borrowed(&text[place]));

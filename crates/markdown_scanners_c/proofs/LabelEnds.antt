@@ -1,10 +1,11 @@
 -- The search for a label's end takes the steps of the scan, over all bytes from the place on, and over those up to the end.
 use Rattle.std.proofs.Common.{ℕ, zero, suc, ◌+◌, ◌-◌, ◌≤◌, ◌<◌, ◌≡◌, ◌==◌, ◌&&◌, ◌||◌, ◌⊎◌, Bool, true, false, not, nat_le, nat_lt, List, [], ◌∷◌, ◌++◌, Option, Some, None}
-use Rattle.std.proofs.Common.{length, take, drop, get_or, inl, inr, refl, sym, ap, subst, ◌∙◌, arith}
+use Rattle.std.proofs.Common.{length, take, drop, get_or, IsAscii, inl, inr, refl, sym, ap, subst, ◌∙◌, arith}
 use Rattle.std.specs.List.{list_all}
 use Rattle.std.proofs.lemmas.Bool.{cases_Bool, and_parts, or_parts, and_from, leb-true, le-leb, eqb-true}
+use Rattle.std.proofs.lemmas.Bool.Decides.{nat_tests}
 use Rattle.std.proofs.Math.Bool.{and-false}
-use Rattle.std.proofs.lemmas.List.{drop-drop, drop_all, drop_more, take_rest, length-drop, take-take, drop-append-le, take-append-le}
+use Rattle.std.proofs.lemmas.List.{drop-drop, drop_all, drop_more, take_rest, length-drop, length-take, take-take, drop-append-le, take-append-le, get_or-take, get_or-drop}
 use Rattle.std.proofs.lemmas.List.Sums.{sum_by-append}
 use Rattle.markdown_scanners_tree.specs.Ascii.{line_feed, carriage_return}
 use Rattle.markdown_scanners_tree.specs.Bytes.{begins_with, is_line_ending, is_punctuation}
@@ -14,12 +15,14 @@ use Rattle.markdown_scanners_tree.specs.linklabel.private.NextPart.{IsBracket, I
 use Rattle.markdown_scanners_tree.specs.linklabel.private.Pass.{begun}
 use Rattle.markdown_scanners_tree.specs.scanners.Escapes.{starts_escape}
 use Rattle.markdown_scanners_tree.proofs.linklabel.KeptTextSteps.{Goes, past_byte, at_byte, bracketed_after}
-use Rattle.markdown_scanners_tree.proofs.linklabel.SourceSteps.{IsAt, IsOnlySkip, at_start, none_at_end, none_at_opening, at_closing, from_closing, after_ending, none_at_ending, byte_rest}
+use Rattle.markdown_scanners_tree.proofs.linklabel.SourceSteps.{IsAt, IsOnlySkip, at_start, none_at_end, none_at_opening, at_closing, from_closing, after_ending, byte_rest}
 use Rattle.markdown_scanners_c.specs.Skips.{are_skips, are_ascii_skips, is_ascii_front, left_out, LeavesOut}
-use Rattle.markdown_scanners_c.specs.private.LabelText.{told_ascii, ToldAscii, IsWindow, is_mark, ending_len}
+use Rattle.markdown_scanners_c.specs.private.LabelText.{told_ascii, ToldAscii, HasNoLabelAt, IsWindow, is_mark, ending_len}
 use Rattle.markdown_scanners_c.specs.private.Searched.{searched}
 use Rattle.markdown_scanners_c.specs.declared.skips.Skip.{Skip}
+use Rattle.markdown_scanners_c.specs.private.PlainLabel.{AreLeadingWords}
 use Rattle.markdown_scanners_c.proofs.LabelLemmas.{front_at}
+use Rattle.markdown_scanners_c.proofs.PlainLabels.{no_mark}
 use Rattle.markdown_scanners_c.proofs.SkipLemmas.{search_finds}
 use Rattle.markdown_scanners_c.proofs.Windows.{window, window_drop, window_byte, window_length}
 
@@ -179,18 +182,6 @@ module _ (skips : List Skip) (bytes behind : List ℕ) (stand : are_skips skips 
       let found : searched skips (end - length (window bytes place end)) ≡ left_out skips place = ap (searched skips) here ∙ finds place in
       rw (found, front_there place end fits within) refl
 
-  -- where more is left out than there is, nothing is told at the end
-  none_told : (place : ℕ) → 0 < left_out skips place → (skip : ℕ) → ToldAscii skips place [] skip → ⊥
-  none_told place some skip told =
-      let found : searched skips (place - 0) ≡ left_out skips place = ap (searched skips) (omega arith) ∙ finds place in
-      let no_front : is_ascii_front [] (searched skips (place - 0)) ≡ false =
-      rw found (elim (cases_Bool (nat_le (left_out skips place) 0)) [
-        | inl fits ↦ absurd (omega (arith, some, leb-true _ _ fits))
-        | inr not ↦ rw not refl
-      ]) in
-      let nothing = rw no_front at told in
-      cc
-
   -- a place of the scan over all bytes from the start on, and of that over those up to the end
   abbrev WholeAt : ℕ → Bool → List KeptByte → ℕ → List ℕ → Type 0
   WholeAt start = IsAt (LeavesOut skips bytes) (drop start bytes)
@@ -209,7 +200,7 @@ module _ (skips : List Skip) (bytes behind : List ℕ) (stand : are_skips skips 
     pub part : (end : ℕ) → place ≤ end → end ≤ length bytes → (e : Bool) × (place < end → e ≡ escaped)
         × PartAt start end e seen ix (window bytes place end)
 
-  pub walk_starts : (start : ℕ) → IsWalked start false start 0
+  walk_starts : (start : ℕ) → IsWalked start false start 0
   walk_starts start = record {
     ix = 0;
     ix_is = omega arith;
@@ -220,53 +211,25 @@ module _ (skips : List Skip) (bytes behind : List ℕ) (stand : are_skips skips 
   }
 
   module _ (start : ℕ) (escaped : Bool) (place count : ℕ) (w : IsWalked start escaped place count) where
-    -- a search ends where there is no label, neither of all bytes nor of those up to the end
-    no_label : (end : ℕ)
-        → ((t : Bool) (label : Label) → IsLabel (LeavesOut skips bytes) (drop start bytes) t label → ⊥)
-        → ((t : Bool) (label : Label) → IsLabel (ToldAscii skips end) (window bytes start end) t label → ⊥)
-        → IsWindow skips bytes start end
-    no_label end whole part = record {
-      to = λ t label l. absurd (whole t label l);
-      from = λ t label l. absurd (part t label l);
-      ends = λ t label l. absurd (whole t label l);
-    }
+    -- at the end of the bytes, and behind too many characters, there is no label
+    pub none_past : place ≡ length bytes → HasNoLabelAt skips bytes start
+    none_past past =
+        none_at_end (LeavesOut skips bytes) (drop start bytes) escaped w.seen w.ix (drop place bytes) w.whole
+        (drop_all place bytes (omega (arith, past)))
 
-    -- at the end of the bytes, and behind too many characters
-    none_here : place ≤ length bytes → (t : Bool) (label : Label)
-        → IsLabel (ToldAscii skips place) (window bytes start place) t label → ⊥
-    none_here within =
-        let at = w.part place (omega arith) within in
-        let no_bytes : place - place ≡ 0 = omega arith in
-        let none : window bytes place place ≡ [] = ap (λ n. take n (drop place bytes)) no_bytes in
-        none_at_end (ToldAscii skips place) (window bytes start place) at.0 w.seen w.ix (window bytes place place) at.2 none
-
-    pub ends_at_end : place ≡ length bytes → IsWindow skips bytes start place
-    ends_at_end past =
-        no_label place
-        (none_at_end (LeavesOut skips bytes) (drop start bytes) escaped w.seen w.ix (drop place bytes) w.whole
-        (drop_all place bytes (omega (arith, past))))
-        (none_here (omega (arith, past)))
-
-    pub ends_late : place ≤ length bytes → 999 < count → IsWindow skips bytes start place
-    ends_late within many =
-        no_label place
-        (none_late (LeavesOut skips bytes) (drop start bytes) escaped w.seen w.ix (drop place bytes) w.whole (omega (arith, many, w.counted)))
-        (none_here within)
+    pub none_behind : 999 < count → HasNoLabelAt skips bytes start
+    none_behind many =
+        none_late (LeavesOut skips bytes) (drop start bytes) escaped w.seen w.ix (drop place bytes) w.whole (omega (arith, many, w.counted))
 
     module _ (b : ℕ) (bs : List ℕ) (parts : drop place bytes ≡ b ∷ bs) where
       size : place + suc (length bs) ≡ length bytes
       size = omega (arith, ap length parts, length-drop place bytes)
 
       -- at a bracket that no backslash escapes
-      pub ends_at_opening : escaped ≡ false → b ≡ 91 → IsWindow skips bytes start (place + 1)
-      ends_at_opening plain opens =
-          let at = w.part (place + 1) (omega arith) (omega (arith, size)) in
-          let byte = window_byte bytes place (place + 1) b bs parts (omega arith) in
-          no_label (place + 1)
-          (none_at_opening (LeavesOut skips bytes) (drop start bytes) escaped w.seen w.ix (drop place bytes) w.whole
-          (plain, (bs, parts ∙ ap (λ x. x ∷ bs) opens)))
-          (none_at_opening (ToldAscii skips (place + 1)) (window bytes start (place + 1)) at.0 w.seen w.ix (window bytes place (place + 1)) at.2
-          (at.1 (omega arith) ∙ plain, (_, byte ∙ ap (λ x. x ∷ take (place + 1 - (place + 1)) bs) opens)))
+      pub none_at_bracket : escaped ≡ false → b ≡ 91 → HasNoLabelAt skips bytes start
+      none_at_bracket plain opens =
+          none_at_opening (LeavesOut skips bytes) (drop start bytes) escaped w.seen w.ix (drop place bytes) w.whole
+          (plain, (bs, parts ∙ ap (λ x. x ∷ bs) opens))
 
       pub ends_at_closing : escaped ≡ false → b ≡ 93 → IsWindow skips bytes start (place + 1)
       ends_at_closing plain closes =
@@ -372,21 +335,13 @@ module _ (skips : List Skip) (bytes behind : List ℕ) (stand : are_skips skips 
             }
 
         -- where more is left out than there is
-        pub ends_in_skip : length bytes < place + len + left_out skips (place + len) → IsWindow skips bytes start (place + len)
-        ends_in_skip outside =
+        pub none_in_skip : length bytes < place + len + left_out skips (place + len) → HasNoLabelAt skips bytes start
+        none_in_skip outside =
             let skip = left_out skips (place + len) in
-            let at = w.part (place + len) (omega arith) fits in
             let past = after_ending (LeavesOut skips bytes) (drop start bytes) escaped w.seen w.ix (drop place bytes) w.whole len ending skip one_skip in
-            let none : drop (len + skip) (drop place bytes) ≡ [] =
-            drop_all (len + skip) (drop place bytes) (omega (arith, outside, length-drop place bytes)) in
-            let rest : drop len (window bytes place (place + len)) ≡ [] =
-            drop_all len (window bytes place (place + len)) (omega (arith, window_length bytes place (place + len) fits)) in
-            no_label (place + len)
-            (none_at_end (LeavesOut skips bytes) (drop start bytes) escaped (w.seen ++ kept_line w.ix (drop place bytes)) (w.ix + (len + skip))
-            (drop (len + skip) (drop place bytes)) past none)
-            (none_at_ending (ToldAscii skips (place + len)) (window bytes start (place + len)) at.0 w.seen w.ix (window bytes place (place + len)) at.2 len
-            (there (place + len) (omega arith))
-            (λ m told. none_told (place + len) (omega (arith, outside, fits)) m (subst (λ r. ToldAscii skips (place + len) r m) rest told)))
+            none_at_end (LeavesOut skips bytes) (drop start bytes) escaped (w.seen ++ kept_line w.ix (drop place bytes)) (w.ix + (len + skip))
+            (drop (len + skip) (drop place bytes)) past
+            (drop_all (len + skip) (drop place bytes) (omega (arith, outside, length-drop place bytes)))
 
     -- a turn of the search, at a byte
     module _ (inside : place < length bytes) (rest : List ℕ) (rest_is : rest ≡ take (length bytes - place) (drop place bytes)) where
@@ -402,14 +357,18 @@ module _ (skips : List Skip) (bytes behind : List ℕ) (stand : are_skips skips 
       slice : rest ≡ byte ∷ others
       slice = rest_is ∙ take_rest bytes place ∙ front
 
-      pub turn_ends : ends_here escaped (get_or rest 0 0) ≡ true → IsWindow skips bytes start (place + 1)
-      turn_ends ends =
-          let first : get_or rest 0 0 ≡ byte = ap (λ r. get_or r 0 0) slice in
-          let bracket = which_bracket escaped byte (subst (λ b. ends_here escaped b ≡ true) first ends) in
-          elim bracket.1 [
-            | inl opens ↦ ends_at_opening byte others front bracket.0 opens
-            | inr closes ↦ ends_at_closing byte others front bracket.0 closes
-          ]
+      bracket : ends_here escaped (get_or rest 0 0) ≡ true → (escaped ≡ false) × ((byte ≡ 91) ⊎ (byte ≡ 93))
+      bracket ends = which_bracket escaped byte (subst (λ b. ends_here escaped b ≡ true) (ap (λ r. get_or r 0 0) slice) ends)
+
+      pub turn_closes : ends_here escaped (get_or rest 0 0) ≡ true → get_or rest 0 0 ≡ 93 → IsWindow skips bytes start (place + 1)
+      turn_closes ends closes =
+          ends_at_closing byte others front (bracket ends).0 (sym (ap (λ r. get_or r 0 0) slice) ∙ closes)
+
+      pub turn_opens : ends_here escaped (get_or rest 0 0) ≡ true → (get_or rest 0 0 ≡ 93 → ⊥) → HasNoLabelAt skips bytes start
+      turn_opens ends other = elim (bracket ends).1 [
+        | inl opens ↦ none_at_bracket byte others front (bracket ends).0 opens
+        | inr closes ↦ absurd (other (ap (λ r. get_or r 0 0) slice ∙ closes))
+      ]
 
       pub turn_passes : ending_len rest ≡ 0 → ends_here escaped (get_or rest 0 0) ≡ false
           → IsWalked start (not escaped && starts_escape rest) (place + 1) (count + begun (get_or rest 0 0))
@@ -439,8 +398,39 @@ module _ (skips : List Skip) (bytes behind : List ℕ) (stand : are_skips skips 
           walks_over byte others front len line.0 (size ∙ line.1) fits there
 
       pub turn_ends_in_skip : (len : ℕ) → len ≡ ending_len rest → 0 < len → place + len ≤ length bytes
-          → length bytes < place + len + left_out skips (place + len) → IsWindow skips bytes start (place + len)
+          → length bytes < place + len + left_out skips (place + len) → HasNoLabelAt skips bytes start
       turn_ends_in_skip len len_is some fits outside =
           let size : len ≡ ending_len (byte ∷ others) = len_is ∙ ap ending_len slice in
           let line = ending_at byte others (omega (arith, some, size)) in
-          ends_in_skip byte others front len line.0 (size ∙ line.1) fits outside
+          none_in_skip byte others front len line.0 (size ∙ line.1) fits outside
+
+  ascii_begins : (b : ℕ) → b < 128 → begun b ≡ 1
+  ascii_begins b ascii = grind (arith, nat_tests, ascii)
+
+  -- behind words of ASCII
+  module _ (start n : ℕ) (within : start + n ≤ length bytes) (words : AreLeadingWords (drop start bytes) n)
+      (low : IsAscii (take n (drop start bytes))) where
+    abbrev front_words : List ℕ
+    front_words = take n (drop start bytes)
+
+    size_of_words : length front_words ≡ n
+    size_of_words = omega (arith, length-take n (drop start bytes), length-drop start bytes, within)
+
+    word_at : (i : ℕ) → i < n → get_or front_words i 0 ≡ get_or bytes (start + i) 0
+    word_at i inside = get_or-take n (drop start bytes) i 0 inside ∙ get_or-drop start bytes i 0
+
+    walk_to : (i : ℕ) → i ≤ n → IsWalked start false (start + i) i
+    walk_to zero inside = subst (λ p. IsWalked start false p 0) (omega arith) (walk_starts start)
+    walk_to (suc i) inside =
+        let before = walk_to i (omega (arith, inside)) in
+        let there : start + i < length bytes = omega (arith, inside, within) in
+        let same = word_at i (omega (arith, inside)) in
+        let plain : is_mark (get_or bytes (start + i) 0) ≡ false =
+        ap is_mark (sym same) ∙ no_mark false front_words (words (omega (arith, inside))) i (omega (arith, size_of_words, inside)) in
+        let one : begun (get_or bytes (start + i) 0) ≡ 1 = ap begun (sym same) ∙ ascii_begins (get_or front_words i 0) (low i) in
+        let next = turn_goes_on start false (start + i) i before there _ refl plain in
+        subst (λ p. IsWalked start false p (suc i)) (omega arith)
+        (subst (λ m. IsWalked start false (start + i + 1) m) (omega (arith, one)) next)
+
+    pub walk_words : IsWalked start false (start + n) n
+    walk_words = walk_to n (omega arith)

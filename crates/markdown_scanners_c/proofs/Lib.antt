@@ -7,7 +7,9 @@ pub mod LabelRoom
 pub mod LineRests
 pub mod LineRuns
 pub mod Meanings
+pub mod NoSpaces
 pub mod Parts
+pub mod PlainLabels
 pub mod Rows
 pub mod SkipLemmas
 pub mod TagLemmas

@@ -1,2 +1,4 @@
 pub mod LabelText
+pub mod NoSpace
+pub mod PlainLabel
 pub mod Searched

@@ -1,5 +1,5 @@
 //! Link labels.
-ghost use Rattle.std.specs.Prelude.{◌≡◌, ◌≢◌, ◌≤◌, ◌<◌, ◌+◌, ◌-◌, ◌==◌, ◌&&◌, ◌||◌, not, ◌++◌, ◌⊎◌, ◌↔◌, ℕ, List, true, length, drop, if◌then◌else◌};
+ghost use Rattle.std.specs.Prelude.{◌≡◌, ◌≢◌, ◌≤◌, ◌<◌, ◌+◌, ◌-◌, ◌==◌, ◌&&◌, ◌||◌, not, ◌++◌, ◌⊎◌, ◌↔◌, ℕ, List, true, length, drop, take, IsAscii, if◌then◌else◌, IfSome, IfNone};
 ghost use Rattle.std.specs.Str.{IsUtf8};
 ghost use Rattle.markdown_values.specs.strings.Text.{is_borrowed};
 ghost use Rattle.markdown_scanners_tree.specs.Ascii.{left_bracket, right_bracket};
@@ -11,8 +11,10 @@ ghost use Rattle.markdown_scanners_c.specs.Keys.{key_bytes};
 ghost use Rattle.markdown_scanners_c.specs.Labels.{IsNoLabelText, IsLabelText, IsScannedLabel, match_status};
 ghost use Rattle.markdown_scanners_c.specs.Skips.{are_skips, are_ascii_skips};
 ghost use Rattle.markdown_scanners_c.specs.Status.{ok, not_utf8, past_end};
-ghost use Rattle.markdown_scanners_c.specs.private.LabelText.{told_ascii, IsWindow, IsWindowLabel, is_mark, ending_len, space_len};
+ghost use Rattle.markdown_scanners_c.specs.private.PlainLabel.{AreLeadingWords};
+ghost use Rattle.markdown_scanners_c.specs.private.LabelText.{told_ascii, HasNoLabelAt, IsWindow, IsWindowLabel, is_mark, ending_len, space_len};
 
+use crate::plain_labels::{ascii_len, is_plain, leading_words, plain_label};
 use crate::skips::{Skip, searched, told_ascii};
 use crate::status::{NO_MEMORY, NONE, NOT_UTF8, NOTHING, OK, PAST_END};
 use crate::texts::{Text, write_text};
@@ -21,8 +23,8 @@ use markdown_scanners_tree::scanners::is_ascii_punctuation;
 use markdown_values::strings::CowStr;
 use std::alloc::Global;
 
-// How many characters the content of a label may have.
-const MOST_CHARACTERS: usize = 999;
+/// How many characters the content of a label may have.
+pub(crate) const MOST_CHARACTERS: usize = 999;
 
 /// `struct mds_label` of C: the place behind a label, its text, and where it stands in the input, if
 /// it does.
@@ -71,22 +73,35 @@ pub extern "C" fn mds_scan_link_label(
     if start > bytes.len() {
         return no_label(PAST_END);
     }
-    let end = label_end(bytes, start, skips);
+    let rest = &bytes[start..];
+    let words = leading_words(rest);
+    if is_plain(rest, words) {
+        return plain_label(bytes, start, words, buffer);
+    }
+    let Some(end) = label_end(bytes, start, ascii_len(rest, words), skips) else {
+        return no_label(NOTHING);
+    };
     label_text(alloc, bytes, start, end, is_in_table, skips, buffer)
 }
 
-// The place behind the bracket that closes the label at the place; where there is none, one behind
-// which no label ends. No more is read than up to the first bracket that no backslash escapes, and
-// no more characters than a label has, and two.
-fn label_end(bytes: &[u8], start: usize, skips: &[Skip]) -> usize
-    requires { start ≤ length bytes.now }
-    ensures ordered { start ≤ result }
-    ensures within { result ≤ length bytes.now }
+// The place behind the bracket that closes the label at the place, whose first bytes are words that
+// were read; None where there is no label. No
+// more is read than up to the first bracket that no backslash escapes, and no more characters than a
+// label has, and two.
+fn label_end(bytes: &[u8], start: usize, words: usize, skips: &[Skip]) -> Option<usize>
+    requires within { start + words ≤ length bytes.now }
+    requires words { AreLeadingWords (drop start bytes.now) words }
+    requires ascii { IsAscii (take words (drop start bytes.now)) }
+    ensures ordered { IfSome result (λ end. start ≤ end) }
+    ensures within { IfSome result (λ end. end ≤ length bytes.now) }
     ensures window { (behind : List ℕ) → are_skips skips.now (bytes.now ++ behind) ≡ true
         → are_ascii_skips skips.now (bytes.now ++ behind) ≡ true
-        → IsWindow skips.now bytes.now start result }
+        → IfSome result (IsWindow skips.now bytes.now start) }
+    ensures none { (behind : List ℕ) → are_skips skips.now (bytes.now ++ behind) ≡ true
+        → are_ascii_skips skips.now (bytes.now ++ behind) ≡ true
+        → IfNone result (HasNoLabelAt skips.now bytes.now start) }
 {
-    let (mut place, mut escaped, mut characters) = (start, false, 0);
+    let (mut place, mut escaped, mut characters) = (start + words, false, words);
     while place < bytes.len() && characters <= MOST_CHARACTERS {
         if !is_mark(bytes[place]) {
             characters += begun_at(bytes[place]);
@@ -99,19 +114,23 @@ fn label_end(bytes: &[u8], start: usize, skips: &[Skip]) -> usize
         if ending > 0 {
             let skip = searched(skips, place + ending);
             if skip > bytes.len() - (place + ending) {
-                return place + ending;
+                return None;
             }
             place += ending + skip;
             characters += ending;
         } else if ends_label(rest[0], escaped) {
-            return place + 1;
+            return if rest[0] == b']' {
+                Some(place + 1)
+            } else {
+                None
+            };
         } else {
             characters += begun_at(rest[0]);
             escaped = escapes(rest, escaped);
             place += 1;
         }
     }
-    place
+    None
 }
 
 // Whether a line ending, a bracket or an escape may begin at the byte.

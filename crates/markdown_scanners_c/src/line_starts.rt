@@ -1,12 +1,13 @@
 //! Line starts in the caller's storage, and the calls on them.
-ghost use Rattle.std.specs.Prelude.{ℕ, ◌≡◌, ◌==◌, ◌≤◌, ◌<◌, ◌-◌, ◌⊎◌, List, IfSome, IfNone};
+ghost use Rattle.std.specs.Prelude.{ℕ, ◌≡◌, ◌==◌, ◌≤◌, ◌<◌, ◌-◌, ◌⊎◌, List, IsTrue, IfSome, IfNone};
 ghost use Rattle.markdown_values.specs.declared.values.BlockQuoteKind.{BlockQuoteKind as Quoted};
 ghost use Rattle.markdown_scanners_tree.specs.Ascii.{greater_than_sign};
-ghost use Rattle.markdown_scanners_tree.specs.Bytes.{begins_with, is_at_line_end};
+ghost use Rattle.markdown_scanners_tree.specs.Bytes.{begins_with, is_at_line_end, is_space_or_tab};
 ghost use Rattle.markdown_scanners_tree.specs.line.KnownBreaks.{learnt_by_marker};
 ghost use Rattle.markdown_scanners_tree.specs.line.Outcome.{after_all_space, after_quote, alert_outcome, definition_outcome, item_outcome, task_outcome};
 ghost use Rattle.markdown_scanners_tree.specs.line.State.{IsLineState, after_space, space_within, unscanned};
 ghost use Rattle.markdown_scanners_c.specs.LineStarts.{state_on, known_breaks, IsTrueStart, OfState, IsNext, found_status, no_columns, columns_told, no_item, item_told, no_task, task_told, alert_number, no_alert, alert_told};
+ghost use Rattle.markdown_scanners_c.specs.private.NoSpace.{HasNoSpace};
 ghost use Rattle.markdown_scanners_c.specs.Status.{ok, nothing, bad_state, too_large};
 
 use crate::status::{BAD_STATE, NOTHING, OK, TOO_LARGE};
@@ -34,6 +35,18 @@ impl Start {
         ensures none { IfNone result (¬ IsLineState (state_on bytes.now self.now)) }
     {
         LineStart::resumed(bytes, self.place, self.pending, self.phase)
+    }
+
+    // Whether this is a place in these bytes, with nothing pending and a byte that is no space: most
+    // often it is. It is asked first, so that most calls make no line start.
+    fn has_no_space(&self, bytes: &[u8]) -> bool
+        ensures { IsTrue result → IsLineState (state_on bytes.now self.now)
+            × HasNoSpace (state_on bytes.now self.now) }
+    {
+        if self.pending > 0 || self.phase > 3 || self.place >= bytes.len() {
+            return false;
+        }
+        !is_space(bytes[self.place])
     }
 
     // Keeps the place of the library's line start.
@@ -68,6 +81,12 @@ impl Start {
     }
 }
 
+fn is_space(byte: u8) -> bool
+    ensures { result ≡ is_space_or_tab byte }
+{
+    matches!(byte, b' ' | b'\t')
+}
+
 fn status_of(found: bool) -> u32
     ensures { result ≡ found_status found }
 {
@@ -86,6 +105,9 @@ pub extern "C" fn mds_line_space(bytes: &[u8], start: &mut Start, count: usize) 
     ensures next { OfState bytes.now start.old (λ s. IsNext bytes.now start.old start.new) }
     ensures kept { known_breaks start.new ≡ known_breaks start.old }
 {
+    if start.has_no_space(bytes) {
+        return status_of(count == 0);
+    }
     let Some(mut line) = start.on(bytes) else {
         return BAD_STATE;
     };
@@ -119,6 +141,9 @@ pub extern "C" fn mds_line_upto(bytes: &[u8], start: &mut Start, count: usize) -
     ensures next { OfState bytes.now start.old (λ s. IsNext bytes.now start.old start.new) }
     ensures kept { known_breaks start.new ≡ known_breaks start.old }
 {
+    if start.has_no_space(bytes) {
+        return no_columns(OK);
+    }
     let Some(mut line) = start.on(bytes) else {
         return no_columns(BAD_STATE);
     };

@@ -4,7 +4,7 @@ use Rattle.std.specs.Str.{IsUtf8}
 use Rattle.markdown_scanners_tree.specs.Ascii.{space, left_bracket, backslash, right_bracket}
 use Rattle.markdown_scanners_tree.specs.Bytes.{begins_with, is_line_ending}
 use Rattle.markdown_scanners_tree.specs.Kept.{line_len}
-use Rattle.markdown_scanners_tree.specs.linklabel.Label.{Label, IsLabel}
+use Rattle.markdown_scanners_tree.specs.linklabel.Label.{Label, IsLabel, HasNoLabel}
 use Rattle.markdown_scanners_c.specs.Skips.{is_ascii_front, LeavesOut}
 use Rattle.markdown_scanners_c.specs.private.Searched.{searched}
 use Rattle.markdown_scanners_c.specs.declared.skips.Skip.{Skip}
@@ -22,6 +22,10 @@ abbrev pub IsWindowLabel : List Skip → List ℕ → ℕ → ℕ → Bool → L
 IsWindowLabel skips bytes start end in_table label =
     IsLabel (ToldAscii skips end) (take (end - start) (drop start bytes)) in_table label
     × IsUtf8 (take (end - start) (drop start bytes))
+
+-- No label of the bytes stands at the start.
+abbrev pub HasNoLabelAt : List Skip → List ℕ → ℕ → Type 0
+HasNoLabelAt skips bytes start = (in_table : Bool) → HasNoLabel (LeavesOut skips bytes) (drop start bytes) in_table
 
 -- The label of the bytes from the start on is that of those up to the end, and it ends there.
 pub record IsWindow (skips : List Skip) (bytes : List ℕ) (start end : ℕ) : Type 0 where

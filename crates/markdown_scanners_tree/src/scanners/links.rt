@@ -137,6 +137,11 @@ fn bare_len(bytes: &[u8], max_next: usize) -> Option<usize>
     let mut i = 0;
     let mut depth = 0;
     while i < bytes.len() {
+        // One comparison tells most bytes.
+        if bytes[i] > b'\\' {
+            i += 1;
+            continue;
+        }
         match bytes[i] {
             b'\0'..=b' ' => break,
             b'\\' if starts_escape(bytes, i) => i += 1,
