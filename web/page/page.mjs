@@ -155,7 +155,7 @@ function mark(from, to) {
     const first = text.value.lastIndexOf("\n", from - 1) + 1;
     const before = text.value.slice(0, first).split("\n").length - 1;
     let at = first;
-    const lines = text.value.slice(first, to).split("\n").slice(0, MOST_MARKS).map((line, index) => {
+    const lines = text.value.slice(first, to).replace(/\n$/, "").split("\n").slice(0, MOST_MARKS).map((line, index) => {
         const hidden = line.slice(0, Math.max(0, from - at));
         const made = element("div", {}, hidden, element("mark", {}, line.slice(hidden.length) || " "));
         made.style.top = `${parseFloat(paddingTop) + (before + index) * height}px`;
