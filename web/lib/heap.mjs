@@ -1,7 +1,6 @@
 /** The free memory of a module behind its constants and its stack. */
 
 const PAGE = 65536;
-const LARGEST = 2 ** 53;
 
 /** Blocks one behind another, of which only the last can grow or be given back by itself. */
 export class Heap {
@@ -50,7 +49,7 @@ export class Heap {
      */
     take(size, alignment = 16) {
         const at = Math.ceil(this.top / alignment) * alignment;
-        if (size > LARGEST || !this.reaches(at + size)) return null;
+        if (!this.reaches(at + size)) return null;
         this.#last = at;
         this.top = at + size;
         return at;
@@ -65,7 +64,7 @@ export class Heap {
      */
     resize(at, kept, size, alignment) {
         if (at === this.#last) {
-            if (size > LARGEST || !this.reaches(at + size)) return null;
+            if (!this.reaches(at + size)) return null;
             this.top = at + size;
             return at;
         }

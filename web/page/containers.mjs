@@ -3,6 +3,9 @@
 /** @typedef {{ call: string, given: unknown[], answer: any }} Told a call of the package, and its answer */
 /** @typedef {Told & { kind: string, place: number, pending: number }} Taken what it took of the line, up to a place and columns behind */
 
+/** What a container begins with. */
+const FIRST = new Set([...">-+*0123456789"].map((it) => it.charCodeAt(0)));
+
 /** A line, while it is read: the place in it, and what each call has taken up to there. */
 export class Line {
     /**
@@ -93,8 +96,12 @@ export class Containers {
     opens(line, number, endsParagraph, close) {
         const mark = line.mark();
         const columns = line.take("indent", "upto", 4);
-        const isQuote = columns < 4 && line.take("quote", "quote");
-        const item = columns < 4 && !isQuote ? line.take("item", "listItem", columns) : null;
+        if (columns === 4 || !FIRST.has(line.page.bytes[line.start.place])) {
+            line.back(mark);
+            return false;
+        }
+        const isQuote = line.take("quote", "quote");
+        const item = isQuote ? null : line.take("item", "listItem", columns);
         const countsOn = item && item.start !== 1 && ".)".includes(item.delimiter);
         if (!isQuote && (!item || (endsParagraph && (countsOn || line.isBlank())))) {
             line.back(mark);

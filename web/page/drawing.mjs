@@ -102,7 +102,10 @@ export function drawnLabels({ labels }) {
 
 export function drawnHtml({ html, passed, bound, scans }) {
     const budget = `${scans} scans for comments, CDATA, declarations and instructions passed over ${passed} bytes; 4n + 8k is ${bound}.`;
-    const found = list(html, "There is no inline HTML.", (it) => entry(it.call === "scanHtmlTagOverLines" ? "tag" : "other", element("span", { class: "what" }, `bytes ${it.from} to ${it.to}`), it));
+    const found = list(html, "There is no inline HTML.", (it) => {
+        const what = element("span", { class: "what" }, `bytes ${it.from} to ${it.to}`);
+        return entry(it.call === "scanHtmlTagOverLines" ? "tag" : "other", what, it);
+    });
     return [note(budget), ...found];
 }
 

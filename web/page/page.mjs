@@ -32,7 +32,7 @@ const DELAY = 120;
 /** Lines that are marked in the text at once. */
 const MOST_MARKS = 100;
 
-const [text, marks, view, told, answer, views] = ["text", "marks", "view", "told", "answer", "views"].map((it) => document.getElementById(it));
+const [text, file, marks, view, told, answer, views] = ["text", "file", "marks", "view", "told", "answer", "views"].map((it) => document.getElementById(it));
 const state = { view: "lines", seen: null, id: 0, timer: 0 };
 const worker = new Worker(new URL("worker.mjs", import.meta.url), { type: "module" });
 
@@ -106,10 +106,25 @@ function say(words, isRefused = false) {
     told.classList.toggle("refused", isRefused);
 }
 
+/** Asks for the text of the file that was chosen. */
+async function open() {
+    const [chosen] = file.files;
+    if (!chosen) return;
+    const bytes = new Uint8Array(await chosen.arrayBuffer());
+    settle("reading");
+    state.id += 1;
+    worker.postMessage({ kind: "open", id: state.id, bytes });
+    file.value = "";
+}
+
 function heard({ data }) {
     if (data.id !== state.id) return;
     if (data.kind === "rows") drawRows(data);
-    else if (data.kind === "refused") {
+    else if (data.kind === "open") {
+        text.value = data.text;
+        marks.replaceChildren();
+        read();
+    } else if (data.kind === "refused") {
         say(`${data.name}: ${data.message}. What is drawn is of the text before.`, true);
         settle("refused");
     } else {
@@ -140,7 +155,7 @@ function mark(from, to) {
     const first = text.value.lastIndexOf("\n", from - 1) + 1;
     const before = text.value.slice(0, first).split("\n").length - 1;
     let at = first;
-    const lines = text.value.slice(first, to).split("\n").slice(0, MOST_MARKS).map((line, index) => {
+    const lines = text.value.slice(first, to).replace(/\n$/, "").split("\n").slice(0, MOST_MARKS).map((line, index) => {
         const hidden = line.slice(0, Math.max(0, from - at));
         const made = element("div", {}, hidden, element("mark", {}, line.slice(hidden.length) || " "));
         made.style.top = `${parseFloat(paddingTop) + (before + index) * height}px`;
@@ -217,6 +232,7 @@ function movedTab(event) {
 
 worker.onmessage = heard;
 worker.onerror = (event) => say(`The scanners can't be had: ${event.message ?? "the worker has stopped"}`, true);
+file.addEventListener("change", open);
 text.addEventListener("scroll", follow);
 text.addEventListener("input", () => {
     settle("reading");

@@ -1,5 +1,5 @@
 /** Reads texts beside the page, so that it never waits: answers what is in a text, and the rows that are in sight. */
-import { load } from "../markdown_scanners.mjs";
+import { load, NotUtf8, Refusal } from "../markdown_scanners.mjs";
 import { columnsOf } from "./columns.mjs";
 import { decode } from "./paragraph.mjs";
 import { Reading } from "./reading.mjs";
@@ -8,6 +8,8 @@ import { Reading } from "./reading.mjs";
 const MOST = 1000;
 /** How many bytes of a line, or of a text that was scanned, are shown. */
 const SHOWN = 1000;
+/** How many lines are read at most: what is known of them takes memory. */
+const MOST_LINES = 250_000;
 /** So many milliseconds are read before another text is heard of. */
 const PAUSE = 50;
 
@@ -47,6 +49,9 @@ function summary() {
     };
 }
 
+/** A text has more lines than the page reads. */
+class TooManyLines extends Refusal {}
+
 /** Reads a text, as long as no other one comes. */
 async function read(text) {
     const mine = ++turn;
@@ -54,6 +59,7 @@ async function read(text) {
     let last = begun;
     const next = new Reading(scanners, text);
     for (const _ of next.read()) {
+        if (next.lines.length > MOST_LINES) throw new TooManyLines(`the page reads ${MOST_LINES} lines at most`);
         if (performance.now() - last < PAUSE) continue;
         await pause();
         if (mine !== turn) return null;
@@ -71,8 +77,15 @@ function rows(first, count) {
     });
 }
 
+/** The bytes of a file as a text. */
+function opened(bytes) {
+    if (!scanners.text(bytes).isUtf8()) throw new NotUtf8("the file is not UTF-8");
+    return { text: decode(bytes) };
+}
+
 async function answer({ kind, ...given }) {
     scanners ??= await load();
+    if (kind === "open") return opened(given.bytes);
     if (kind === "read") return read(given.text);
     return { first: given.first, rows: reading ? rows(given.first, given.count) : [] };
 }

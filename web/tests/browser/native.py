@@ -66,11 +66,12 @@ LINE_CALLS = {
 
 
 def taken(data, line):
-    """What the calls of a line answer in turn, and the place behind each."""
+    """What the calls of a line answer in turn, and the places before and behind each."""
     start, found = mds.LineStart(data, line["at"], line["end"]), []
     for call in line["taken"]:
+        before = start.place
         answer = LINE_CALLS[call["call"]](start, *call["given"])
-        found.append({"answer": answer, "to": start.place})
+        found.append({"answer": answer, "from": before, "to": start.place})
     return found
 
 

@@ -38,7 +38,7 @@ after(async () => {
 
 /** Waits until the page says of itself that it is so. */
 async function settled(name) {
-    for (let tries = 0; tries < 600; tries++) {
+    for (let tries = 0; tries < 4000; tries++) {
         if ((await browser.ask(() => document.body.dataset.state)) === name) return;
         await new Promise((resolve) => setTimeout(resolve, 50));
     }
@@ -61,6 +61,15 @@ async function type(text) {
     });
     await browser.send("Input.insertText", { text });
     await settled("drawn");
+}
+
+/** Puts a text there that is too long to be typed, or that can't be. */
+async function fill(text) {
+    await browser.ask((it) => {
+        const area = document.getElementById("text");
+        area.value = it;
+        area.dispatchEvent(new Event("input"));
+    }, text);
 }
 
 async function choose(name) {
@@ -93,7 +102,8 @@ function drawnEntries() {
         const [, call, given] = /^(\w+)\((.*)\)$/.exec(words("call"));
         const [from, to] = words("bytes").match(/\d+/g).map(Number);
         const parts = [".number", ".what"].map((part) => it.querySelector(part)?.textContent ?? it.textContent);
-        return { parts, call, given: JSON.parse(`[${given}]`), answer: JSON.parse(words("found")), of: words("of"), from, to };
+        const marked = [...document.querySelectorAll("#marks mark")].map((mark) => mark.textContent).join("\n");
+        return { parts, call, given: JSON.parse(`[${given}]`), answer: JSON.parse(words("found")), of: words("of"), from, to, marked };
     });
 }
 
@@ -144,7 +154,7 @@ async function typeAndCompare(text) {
     const lines = linesOf(text);
     assert.match(await told(), new RegExp(`^${lines.length} lines, ${Buffer.byteLength(text)} bytes`));
     const rows = await allRows(lines.length);
-    const taken = rows.map((it) => it.taken.map(({ answer, to }) => ({ answer, to })));
+    const taken = rows.map((it) => it.taken.map(({ answer, from, to }) => ({ answer, from, to })));
     compare(text, taken, rows.map((it, index) => ({ ...lines[index], taken: it.taken.map(({ call, given }) => ({ call, given })) })));
     const blocks = rows.map((it) => it.block).filter((it) => it.call !== "upto" && it.call !== "unescape");
     compare(text, blocks.map((it) => it.answer), blocks.map((it) => ({ call: it.call, given: it.given, at: it.from, end: it.to })));
@@ -198,8 +208,10 @@ test("labels, links, HTML and cells are what the C functions answer", async () =
     for (const name of ["labels", "html", "tables"]) {
         await choose(name);
         const entries = await browser.ask(drawnEntries);
-        const calls = entries.map((it) => (it.of === null ? { call: it.call, given: it.given, at: it.from, end: it.to } : { call: it.call, given: it.given, of: it.of }));
+        const calls = entries.map(({ call, given, of, from, to }) => (of === null ? { call, given, at: from, end: to } : { call, given, of }));
         tried += compare(TYPED, entries.map((it) => it.answer), calls);
+        const bytes = Buffer.from(TYPED);
+        assert.deepEqual(entries.map((it) => it.marked), entries.map((it) => bytes.subarray(it.from, it.to).toString().replace(/\n$/, "")));
     }
     hold("drawn_inline", tried);
     await choose("html");
@@ -237,7 +249,8 @@ test("nothing is wider than 400 pixels, in light and in dark", async () => {
         await open({ width: 400, height: 800, dark });
         await settled("drawn");
         assert.ok((await browser.ask(() => document.documentElement.scrollWidth)) <= 400);
-        const [paper, ink] = await browser.ask(() => ["backgroundColor", "color"].map((it) => getComputedStyle(document.body)[it].match(/\d+/g).map(Number)[0]));
+        const style = await browser.ask(() => ["backgroundColor", "color"].map((it) => getComputedStyle(document.body)[it]));
+        const [paper, ink] = style.map((it) => Number(/\d+/.exec(it)[0]));
         assert.ok(dark ? paper < 60 && ink > 180 : paper > 200 && ink < 80);
     }
 });
@@ -265,19 +278,61 @@ test("1 MB is read without a stall", async () => {
     });
     console.log(`# 1 MB: ${await told()}; the page never waited longer than ${Math.round(most)} ms`);
     assert.match(await told(), / 1\d{6} bytes/);
-    assert.ok(most < 1000, `the page waited ${most} ms`);
+    const [, , milliseconds] = (await told()).match(/\d+/g).map(Number);
+    assert.ok(most < milliseconds / 2, `the page waited ${most} ms`);
+    await overtaken(text, milliseconds);
 });
+
+/** A text that comes while a longer one is read is what is drawn, also when that one would have been read. */
+async function overtaken(text, milliseconds) {
+    await fill(text);
+    await new Promise((resolve) => setTimeout(resolve, 400));
+    await type("# new");
+    await new Promise((resolve) => setTimeout(resolve, milliseconds));
+    await browser.ask(() => document.getElementById("view").dispatchEvent(new Event("scroll")));
+    await new Promise((resolve) => setTimeout(resolve, 300));
+    assert.deepEqual((await browser.ask(drawnRows)).map((it) => it.text), ["# new"]);
+}
 
 test("bad input has a message, and the page goes on", async () => {
     await open();
     await settled("drawn");
-    await browser.ask(() => {
-        const area = document.getElementById("text");
-        area.value = "a\ud800b";
-        area.dispatchEvent(new Event("input"));
-    });
+    await fill("a\ud800b");
     await settled("refused");
     assert.match(await told(), /^LoneSurrogate: .* at index 1/);
+    await type("# again");
+    assert.match(await told(), /^1 lines, 7 bytes/);
+    await choosing([0x61, 0xff]);
+    await settled("refused");
+    assert.match(await told(), /^NotUtf8: the file is not UTF-8/);
+    await choosing([...Buffer.from("## é")]);
+    await settled("drawn");
+    assert.match(await told(), /^1 lines, 5 bytes/);
+    await fill("\n".repeat(300_000));
+    await settled("refused");
+    assert.match(await told(), /^TooManyLines: /);
+    await type("# and again");
+    assert.match(await told(), /^1 lines, 11 bytes/);
+});
+
+/** Chooses a file of these bytes. */
+async function choosing(bytes) {
+    await browser.ask((it) => {
+        const files = new DataTransfer();
+        files.items.add(new File([new Uint8Array(it)], "chosen.md"));
+        const file = document.getElementById("file");
+        file.files = files.files;
+        document.body.dataset.state = "reading";
+        file.dispatchEvent(new Event("change"));
+    }, bytes);
+}
+
+test("10 MB are read, and another text behind them", async () => {
+    await open();
+    await settled("drawn");
+    await fill(`${"A line of [some] words, as <b>they</b> are. ".repeat(4)}\n\n`.repeat(57_000));
+    await settled("drawn");
+    assert.match(await told(), /^114000 lines, 10\d{6} bytes/);
     await type("# again");
     assert.match(await told(), /^1 lines, 7 bytes/);
 });

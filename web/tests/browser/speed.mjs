@@ -26,7 +26,8 @@ function bundle(name, entry) {
         Object.values(paths).forEach(add);
     };
     add(entry);
-    const rows = [...modules].map(([path, { body, paths }]) => `${JSON.stringify(path)}: [(module, exports, require) => {${body}\n}, ${JSON.stringify(paths)}]`);
+    const row = ([path, { body, paths }]) => `${JSON.stringify(path)}: [(module, exports, require) => {${body}\n}, ${JSON.stringify(paths)}]`;
+    const rows = [...modules].map(row);
     return `const modules = {${rows.join(",\n")}}, made = {};
         function load(path) {
             if (!made[path]) {

@@ -50,7 +50,10 @@ const HOSTILE = [
 
 export const TYPED = `${PAGE}${TABS}${TABLES}${LINKS}\n${HOSTILE.join("\n\n")}\n`;
 
-const PIECES = ["> ", ">", "- ", "+\t", "1. ", "12) ", "\t", " ", "   ", "a", "# ", "\n```\n", "\n~~~\n", "|", "---", "===", "* * *", "<!-- -->", "<div>", "", "[b]: c", "\\"];
+const PIECES = [
+    "> ", ">", "- ", "+\t", "1. ", "12) ", "\t", " ", "   ", "a", "# ",
+    "\n```\n", "\n~~~\n", "|", "---", "===", "* * *", "<!-- -->", "<div>", "", "[b]: c", "\\",
+];
 
 /** Lines of such pieces, the same each time. */
 function madeLines(count) {

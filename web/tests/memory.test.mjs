@@ -1,0 +1,85 @@
+/** The memory that a module is given: blocks that grow, move and are given back, and what is refused. */
+import assert from "node:assert/strict";
+import { test } from "node:test";
+import { Heap } from "../lib/heap.mjs";
+import * as mds from "../markdown_scanners.mjs";
+
+const PAGE = 65536;
+const scanners = await mds.load();
+
+test("the last block grows where it stands, another one moves", () => {
+    const heap = new Heap(new WebAssembly.Memory({ initial: 1, maximum: 4 }), 16);
+    const first = heap.take(10);
+    const last = heap.take(10);
+    assert.deepEqual([first, last], [16, 32]);
+    heap.bytes.fill(7, first, first + 10);
+    assert.equal(heap.resize(last, 10, 20, 16), last);
+    const moved = heap.resize(first, 10, 40, 16);
+    assert.ok(moved >= last + 20);
+    assert.deepEqual([...heap.bytes.subarray(moved, moved + 12)], [...Array(10).fill(7), 0, 0]);
+});
+
+test("only the last block is given back by itself", () => {
+    const heap = new Heap(new WebAssembly.Memory({ initial: 1, maximum: 4 }), 16);
+    const [first, last] = [heap.take(10), heap.take(10)];
+    heap.give(first);
+    assert.equal(heap.take(1), last + 16);
+    heap.give(last + 16);
+    assert.equal(heap.take(1), last + 16);
+});
+
+test("what a memory has no room for is refused, and less is given", () => {
+    const heap = new Heap(new WebAssembly.Memory({ initial: 1, maximum: 3 }), 16);
+    for (const size of [3 * PAGE, 2 ** 40, 2 ** 63]) assert.equal(heap.take(size), null);
+    const at = heap.take(2 * PAGE);
+    assert.equal(at, 16);
+    assert.equal(heap.resize(at, 2 * PAGE, 4 * PAGE, 16), null);
+    heap.bytes[at + 2 * PAGE - 1] = 1;
+    assert.equal(heap.bytes.length, 3 * PAGE);
+});
+
+test("memory that is refused within a call has an error, and the next call has it", () => {
+    const calls = [
+        () => scanners.text("a &amp; b").unescape(),
+        () => scanners.text("[a\n b]").scanLinkLabel({}, 1),
+        () => scanners.labelKey("Straße"),
+        () => scanners.text("|-|").scanTableHead(),
+        () => scanners.text("<!a>").runInlineHtml([2]),
+    ];
+    for (const call of calls) {
+        const wanted = call();
+        assert.throws(() => refusing(call), mds.OutOfMemory);
+        assert.deepEqual(call(), wanted);
+    }
+});
+
+/** Makes a call while the functions of the module are refused memory; the buffers that they are given are there. */
+function refusing(call) {
+    const { engine } = scanners.text("");
+    const { calls, heap } = engine;
+    engine.calls = Object.fromEntries(Object.entries(calls).map(([name, it]) => [name, without(heap, it)]));
+    try {
+        return call();
+    } finally {
+        engine.calls = calls;
+    }
+}
+
+/** A call during which the heap takes nothing. */
+function without(heap, call) {
+    return (...given) => {
+        heap.take = () => null;
+        try {
+            return call(...given);
+        } finally {
+            delete heap.take;
+        }
+    };
+}
+
+test("a guard counts what its scans pass over", () => {
+    const text = scanners.text("<!-- a\n".repeat(1000));
+    const guard = text.htmlScanGuard();
+    for (let at = 2; at < text.length; at += 7) assert.equal(guard.scan(at), null);
+    assert.ok(guard.passed >= text.length - 4 && guard.passed <= 4 * text.length + 8 * 1000, `${guard.passed}`);
+});
