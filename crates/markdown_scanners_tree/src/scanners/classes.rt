@@ -1,7 +1,7 @@
 //! The classes of bytes, read from one table.
 ghost use Rattle.std.specs.Prelude.{◌≡◌};
 ghost use Rattle.markdown_scanners_tree.specs.Bytes.{is_line_ending, is_white_space, is_white_space_in_line, is_punctuation, is_letter, is_digit, is_alphanumeric, is_unquoted};
-ghost use Rattle.markdown_scanners_tree.specs.scanners.classes.private.ClassBits.{class_bits};
+ghost use Rattle.markdown_scanners_tree.specs.scanners.classes.private.ClassBits.{class_bits, is_in_destination};
 
 const WHITE_SPACE: u8 = 1;
 
@@ -15,19 +15,22 @@ const DIGIT: u8 = 16;
 
 const UNQUOTED: u8 = 32;
 
+const IN_DESTINATION: u8 = 64;
+
 // For each byte the sum of the bits of its classes.
 const CLASSES: [u8; 256] = [
     32, 32, 32, 32, 32, 32, 32, 32, 32, 35, 1, 35, 35, 1, 32, 32, 32, 32, 32, 32, 32, 32, 32, 32,
-    32, 32, 32, 32, 32, 32, 32, 32, 3, 36, 4, 36, 36, 36, 36, 4, 36, 36, 36, 36, 36, 36, 36, 36,
-    48, 48, 48, 48, 48, 48, 48, 48, 48, 48, 36, 36, 4, 4, 4, 36, 36, 40, 40, 40, 40, 40, 40, 40,
-    40, 40, 40, 40, 40, 40, 40, 40, 40, 40, 40, 40, 40, 40, 40, 40, 40, 40, 40, 36, 36, 36, 36, 36,
-    4, 40, 40, 40, 40, 40, 40, 40, 40, 40, 40, 40, 40, 40, 40, 40, 40, 40, 40, 40, 40, 40, 40, 40,
-    40, 40, 40, 36, 36, 36, 36, 32, 32, 32, 32, 32, 32, 32, 32, 32, 32, 32, 32, 32, 32, 32, 32, 32,
-    32, 32, 32, 32, 32, 32, 32, 32, 32, 32, 32, 32, 32, 32, 32, 32, 32, 32, 32, 32, 32, 32, 32, 32,
-    32, 32, 32, 32, 32, 32, 32, 32, 32, 32, 32, 32, 32, 32, 32, 32, 32, 32, 32, 32, 32, 32, 32, 32,
-    32, 32, 32, 32, 32, 32, 32, 32, 32, 32, 32, 32, 32, 32, 32, 32, 32, 32, 32, 32, 32, 32, 32, 32,
-    32, 32, 32, 32, 32, 32, 32, 32, 32, 32, 32, 32, 32, 32, 32, 32, 32, 32, 32, 32, 32, 32, 32, 32,
-    32, 32, 32, 32, 32, 32, 32, 32, 32, 32, 32, 32, 32, 32, 32, 32,
+    32, 32, 32, 32, 32, 32, 32, 32, 3, 100, 68, 100, 100, 100, 100, 68, 36, 36, 100, 100, 100, 100,
+    100, 100, 112, 112, 112, 112, 112, 112, 112, 112, 112, 112, 100, 100, 68, 68, 68, 100, 100,
+    104, 104, 104, 104, 104, 104, 104, 104, 104, 104, 104, 104, 104, 104, 104, 104, 104, 104, 104,
+    104, 104, 104, 104, 104, 104, 104, 100, 36, 100, 100, 100, 68, 104, 104, 104, 104, 104, 104,
+    104, 104, 104, 104, 104, 104, 104, 104, 104, 104, 104, 104, 104, 104, 104, 104, 104, 104, 104,
+    104, 100, 100, 100, 100, 96, 96, 96, 96, 96, 96, 96, 96, 96, 96, 96, 96, 96, 96, 96, 96, 96,
+    96, 96, 96, 96, 96, 96, 96, 96, 96, 96, 96, 96, 96, 96, 96, 96, 96, 96, 96, 96, 96, 96, 96, 96,
+    96, 96, 96, 96, 96, 96, 96, 96, 96, 96, 96, 96, 96, 96, 96, 96, 96, 96, 96, 96, 96, 96, 96, 96,
+    96, 96, 96, 96, 96, 96, 96, 96, 96, 96, 96, 96, 96, 96, 96, 96, 96, 96, 96, 96, 96, 96, 96, 96,
+    96, 96, 96, 96, 96, 96, 96, 96, 96, 96, 96, 96, 96, 96, 96, 96, 96, 96, 96, 96, 96, 96, 96, 96,
+    96, 96, 96, 96, 96, 96, 96, 96, 96, 96, 96, 96, 96, 96, 96, 96,
 ];
 
 // The sum of the bits of the classes that the byte is in.
@@ -95,4 +98,11 @@ pub(in crate::scanners) fn is_unquoted_byte(c: u8) -> bool
     ensures { result ≡ is_unquoted c }
 {
     classes_of(c) & UNQUOTED != 0
+}
+
+// Whether the byte is one of a bare link destination, of which no escape or parenthesis begins.
+pub(in crate::scanners) fn is_in_destination(c: u8) -> bool
+    ensures { result ≡ is_in_destination c }
+{
+    classes_of(c) & IN_DESTINATION != 0
 }

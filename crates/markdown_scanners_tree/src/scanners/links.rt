@@ -10,7 +10,9 @@ ghost use Rattle.markdown_scanners_tree.specs.SomeExactly.{SomeExactly, IsOnly};
 ghost use Rattle.markdown_scanners_tree.specs.scanners.links.LinkDestination.{IsLinkDestination, IsBareFrom, IsPointedFrom, StandsInside};
 ghost use Rattle.markdown_scanners_tree.specs.scanners.links.Autolink.{IsUriAutolink, StartsWithScheme, is_scheme_byte, is_uri_byte};
 
-use crate::scanners::classes::{is_ascii_alphanumeric, is_ascii_letter, is_line_ending};
+use crate::scanners::classes::{
+    is_ascii_alphanumeric, is_ascii_letter, is_in_destination, is_line_ending,
+};
 use crate::scanners::escapes::starts_escape;
 use crate::scanners::runs::first_bytes;
 use markdown_values::strings::CowStr;
@@ -137,8 +139,8 @@ fn bare_len(bytes: &[u8], max_next: usize) -> Option<usize>
     let mut i = 0;
     let mut depth = 0;
     while i < bytes.len() {
-        // One comparison tells most bytes.
-        if bytes[i] > b'\\' {
+        // One look at a table tells most bytes.
+        if is_in_destination(bytes[i]) {
             i += 1;
             continue;
         }

@@ -49,17 +49,26 @@ carriage_return = refl
 space : class_bits 0x20 ≡ 3
 space = refl
 
-hyphen : class_bits 0x2D ≡ 36
+left_parenthesis : class_bits 0x28 ≡ 36
+left_parenthesis = refl
+
+right_parenthesis : class_bits 0x29 ≡ 36
+right_parenthesis = refl
+
+hyphen : class_bits 0x2D ≡ 100
 hyphen = refl
 
-digit_zero : class_bits 0x30 ≡ 48
+digit_zero : class_bits 0x30 ≡ 112
 digit_zero = refl
 
-less_than_sign : class_bits 0x3C ≡ 4
+less_than_sign : class_bits 0x3C ≡ 68
 less_than_sign = refl
 
-capital_a : class_bits 0x41 ≡ 40
+capital_a : class_bits 0x41 ≡ 104
 capital_a = refl
 
-largest_byte : class_bits 0xFF ≡ 32
+backslash : class_bits 0x5C ≡ 36
+backslash = refl
+
+largest_byte : class_bits 0xFF ≡ 96
 largest_byte = refl

@@ -1,11 +1,31 @@
-use Rattle.std.proofs.Common.{◌∙◌, ◌+◌, ◌≡◌, ◌<◌, ◌≢◌, arith, refl, sym, subst, ℕ, inl, inr, get_or, [], ◌∷◌, ◌≤◌}
+use Rattle.std.proofs.Common.{◌∙◌, ◌+◌, ◌≡◌, ◌<◌, ◌≢◌, arith, refl, sym, subst, ℕ, inl, inr, get_or, [], ◌∷◌, ◌≤◌, ◌==◌, not, nat_lt, true, false}
+use Rattle.std.proofs.lemmas.Bool.{and_parts, ltb-true}
 use Rattle.markdown_scanners_tree.specs.Ascii.{backslash}
+use Rattle.markdown_scanners_tree.specs.scanners.classes.private.ClassBits.{is_in_destination}
 use Rattle.markdown_scanners_tree.proofs.scanners.escapes.UnitLemmas.{plain_byte}
 use Rattle.markdown_scanners_tree.proofs.scanners.links.BareLemmas.{so_far_escape, so_far_single, found_here, none_open, none_deep, turns_open, turns_close}
 use Rattle.markdown_scanners_tree.proofs.scanners.links.BareLemmas.{turns_other, ends_low, ends_closing, no_end, IsBareSoFar, IsStop, Turns}
 use Rattle.markdown_scanners_tree.proofs.scanners.links.bare_len.Goals as goal
 use Rattle.markdown_scanners_tree.proofs.scanners.links.bare_len.Goals.{in-92, in-92+else-starts_escape, in-40-2, in-41-2, in_default+else-this-lt33}
-use Rattle.markdown_scanners_tree.proofs.scanners.links.bare_len.Goals.{else-loop-i-test, then-loop-i-test+else-bytes-i-gt92+in-41, then-loop-i-test+else-bytes-i-gt92+in-0-to-32}
+use Rattle.markdown_scanners_tree.proofs.scanners.links.bare_len.Goals.{else-loop-i-test, then-loop-i-test+else-is_in_destination+in-41, then-loop-i-test+else-is_in_destination+in-0-to-32}
+
+-- a byte that neither ends nor nests a destination, nor escapes
+record IsPlain (b : ℕ) : Type 0 where
+  high : 32 < b
+  no_open : b ≢ 40
+  no_close : b ≢ 41
+  no_escape : b ≢ backslash
+
+in_destination : (b : ℕ) → is_in_destination b ≡ true → IsPlain b
+in_destination b is =
+    let parts = and_parts (nat_lt 32 b) _ is in
+    let open_parts = and_parts (not (b == 40)) _ parts.1 in
+    let close_parts = and_parts (not (b == 41)) (not (b == 92)) open_parts.1 in record {
+      high = ltb-true 32 b parts.0;
+      no_open = λ same. (let no : not (b == 40) ≡ false = rw same refl in cc);
+      no_close = λ same. (let no : not (b == 41) ≡ false = rw same refl in cc);
+      no_escape = λ same. (let no : not (b == 92) ≡ false = rw same refl in cc);
+    }
 
 pub returns-in-40-clause-found : goal.returns-in-40-clause-found
 returns-in-40-clause-found c = λ n there.
@@ -14,19 +34,17 @@ returns-in-40-clause-found c = λ n there.
     (λ is. absurd (omega (arith, is, c.in-40.is)))) c.in-40.is
     (omega (arith, c.if-depth-max_next.true, c.loop-i.invariant.so_far.depth_at_most)) there
 
-pub loop-i-preserved-then-bytes-i-gt92 : goal.loop-i-preserved-then-bytes-i-gt92
-loop-i-preserved-then-bytes-i-gt92 c =
+pub loop-i-preserved-then-is_in_destination : goal.loop-i-preserved-then-is_in_destination
+loop-i-preserved-then-is_in_destination c =
     let bytes = c.args.bytes.now in
     let i = c.loop-i.i in
     let depth = c.loop-i.depth in
-    let high = c.if-bytes-i-gt92.true in
-    let no_close : get_or bytes i 0 ≢ 41 = λ b. absurd (omega (arith, b, high)) in
-    let no_open : get_or bytes i 0 ≢ 40 = λ b. absurd (omega (arith, b, high)) in record {
+    let plain = in_destination (get_or bytes i 0) (sym c.is_in_destination.ensures ∙ c.if-is_in_destination.true) in record {
       so_far =
           so_far_single (c.args.max_next + 1) depth depth i bytes c.loop-i.invariant.so_far c.loop-i-test.true
-          (plain_byte bytes i c.loop-i-test.true (λ is. absurd (omega (arith, is, high))))
-          (no_end (get_or bytes i 0) depth (omega (arith, high)) (λ close none. no_close close))
-          (turns_other _ depth depth no_open no_close refl) c.loop-i.invariant.so_far.depth_at_most;
+          (plain_byte bytes i c.loop-i-test.true plain.no_escape)
+          (no_end (get_or bytes i 0) depth plain.high (λ close none. plain.no_close close))
+          (turns_other _ depth depth plain.no_open plain.no_close refl) c.loop-i.invariant.so_far.depth_at_most;
       depth_within = omega (arith, c.loop-i.invariant.depth_within);
     }
 
@@ -100,12 +118,12 @@ pub returns-then-depth-eq0-2-clause-found : goal.returns-then-depth-eq0-2-clause
 returns-then-depth-eq0-2-clause-found c =
     let stop : IsStop c.args.bytes.now c.loop-i.i c.loop-i.depth = elim c.loop-i-test.branch [
       | else-loop-i-test w ↦ inl w.loop-i-test.false
-      | then-loop-i-test+else-bytes-i-gt92+in-41 w ↦
+      | then-loop-i-test+else-is_in_destination+in-41 w ↦
           inr (
             w.loop-i-test.true,
             ends_closing (get_or c.args.bytes.now c.loop-i.i 0) c.loop-i.depth w.in-41.is w.if-depth-eq0.true,
           )
-      | then-loop-i-test+else-bytes-i-gt92+in-0-to-32 w ↦
+      | then-loop-i-test+else-is_in_destination+in-0-to-32 w ↦
           inr (
             w.loop-i-test.true,
             ends_low (get_or c.args.bytes.now c.loop-i.i 0) c.loop-i.depth (omega (arith, w.in-0-to-32)),
@@ -120,12 +138,12 @@ pub returns-else-depth-eq0-2-clause-found : goal.returns-else-depth-eq0-2-clause
 returns-else-depth-eq0-2-clause-found c = λ n there.
     let stop : IsStop c.args.bytes.now c.loop-i.i c.loop-i.depth = elim c.loop-i-test.branch [
       | else-loop-i-test w ↦ inl w.loop-i-test.false
-      | then-loop-i-test+else-bytes-i-gt92+in-41 w ↦
+      | then-loop-i-test+else-is_in_destination+in-41 w ↦
           inr (
             w.loop-i-test.true,
             ends_closing (get_or c.args.bytes.now c.loop-i.i 0) c.loop-i.depth w.in-41.is w.if-depth-eq0.true,
           )
-      | then-loop-i-test+else-bytes-i-gt92+in-0-to-32 w ↦
+      | then-loop-i-test+else-is_in_destination+in-0-to-32 w ↦
           inr (
             w.loop-i-test.true,
             ends_low (get_or c.args.bytes.now c.loop-i.i 0) c.loop-i.depth (omega (arith, w.in-0-to-32)),
