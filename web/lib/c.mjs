@@ -45,93 +45,196 @@ export const HTML_BLOCK_NAME = 6;
 export const HTML_TAG_ALONE = 7;
 
 /**
- * Of each struct the size, and of each field the name, the place and the type.
- * @type {Record<string, { size: number, fields: [string, number, string][] }>}
+ * Of each struct the size, of each field the name, the place and the type, and what reads it at an address.
+ * @type {Record<string, { size: number, fields: [string, number, string][], read: (from: any, at: number) => any }>}
  */
 export const STRUCTS = {
     text: {
         size: 24,
         fields: [["status", 0, "uint32_t"], ["taken", 8, "size_t"], ["length", 16, "size_t"]],
+        read: (from, at) => ({
+            status: from.uint32(at),
+            taken: from.size(at + 8),
+            length: from.size(at + 16),
+        }),
     },
     listItem: {
         size: 32,
         fields: [["length", 0, "size_t"], ["start", 8, "size_t"], ["indent", 16, "size_t"], ["delimiter", 24, "uint8_t"]],
+        read: (from, at) => ({
+            length: from.size(at),
+            start: from.size(at + 8),
+            indent: from.size(at + 16),
+            delimiter: from.uint8(at + 24),
+        }),
     },
     indent: {
         size: 24,
         fields: [["status", 0, "uint32_t"], ["place", 8, "size_t"], ["columns", 16, "size_t"]],
+        read: (from, at) => ({
+            status: from.uint32(at),
+            place: from.size(at + 8),
+            columns: from.size(at + 16),
+        }),
     },
     lineStart: {
         size: 40,
         fields: [["place", 0, "size_t"], ["pending", 8, "size_t"], ["phase", 16, "size_t"], ["noneBefore", 24, "size_t"], ["behindBreak", 32, "size_t"]],
+        read: (from, at) => ({
+            place: from.size(at),
+            pending: from.size(at + 8),
+            phase: from.size(at + 16),
+            noneBefore: from.size(at + 24),
+            behindBreak: from.size(at + 32),
+        }),
     },
     columns: {
         size: 16,
         fields: [["status", 0, "uint32_t"], ["columns", 8, "size_t"]],
+        read: (from, at) => ({
+            status: from.uint32(at),
+            columns: from.size(at + 8),
+        }),
     },
     lineItem: {
         size: 24,
         fields: [["status", 0, "uint32_t"], ["delimiter", 4, "uint8_t"], ["start", 8, "uint64_t"], ["indent", 16, "size_t"]],
+        read: (from, at) => ({
+            status: from.uint32(at),
+            delimiter: from.uint8(at + 4),
+            start: from.size(at + 8),
+            indent: from.size(at + 16),
+        }),
     },
     task: {
         size: 8,
         fields: [["status", 0, "uint32_t"], ["checked", 4, "bool"]],
+        read: (from, at) => ({
+            status: from.uint32(at),
+            checked: from.bool(at + 4),
+        }),
     },
     alert: {
         size: 8,
         fields: [["status", 0, "uint32_t"], ["kind", 4, "uint32_t"]],
+        read: (from, at) => ({
+            status: from.uint32(at),
+            kind: from.uint32(at + 4),
+        }),
     },
     lineCall: {
         size: 16,
         fields: [["kind", 0, "uint32_t"], ["number", 8, "size_t"]],
+        read: (from, at) => ({
+            kind: from.uint32(at),
+            number: from.size(at + 8),
+        }),
     },
     lineAnswer: {
         size: 24,
         fields: [["found", 0, "bool"], ["delimiter", 1, "uint8_t"], ["start", 8, "uint64_t"], ["number", 16, "size_t"]],
+        read: (from, at) => ({
+            found: from.bool(at),
+            delimiter: from.uint8(at + 1),
+            start: from.size(at + 8),
+            number: from.size(at + 16),
+        }),
     },
     lineRun: {
         size: 16,
         fields: [["status", 0, "uint32_t"], ["count", 8, "size_t"]],
+        read: (from, at) => ({
+            status: from.uint32(at),
+            count: from.size(at + 8),
+        }),
     },
     break: {
         size: 16,
         fields: [["length", 0, "size_t"], ["noneBefore", 8, "size_t"]],
+        read: (from, at) => ({
+            length: from.size(at),
+            noneBefore: from.size(at + 8),
+        }),
     },
     underline: {
         size: 16,
         fields: [["length", 0, "size_t"], ["level", 8, "uint32_t"]],
+        read: (from, at) => ({
+            length: from.size(at),
+            level: from.uint32(at + 8),
+        }),
     },
     fence: {
         size: 16,
         fields: [["length", 0, "size_t"], ["byte", 8, "uint8_t"]],
+        read: (from, at) => ({
+            length: from.size(at),
+            byte: from.uint8(at + 8),
+        }),
     },
     part: {
         size: 32,
         fields: [["status", 0, "uint32_t"], ["end", 8, "size_t"], ["start", 16, "size_t"], ["length", 24, "size_t"]],
+        read: (from, at) => ({
+            status: from.uint32(at),
+            end: from.size(at + 8),
+            start: from.size(at + 16),
+            length: from.size(at + 24),
+        }),
     },
     skip: {
         size: 16,
         fields: [["place", 0, "size_t"], ["length", 8, "size_t"]],
+        read: (from, at) => ({
+            place: from.size(at),
+            length: from.size(at + 8),
+        }),
     },
     tag: {
         size: 24,
         fields: [["status", 0, "uint32_t"], ["end", 8, "size_t"], ["length", 16, "size_t"]],
+        read: (from, at) => ({
+            status: from.uint32(at),
+            end: from.size(at + 8),
+            length: from.size(at + 16),
+        }),
     },
     htmlGuard: {
         size: 32,
         fields: [["comment", 0, "size_t"], ["cdata", 8, "size_t"], ["declaration", 16, "size_t"], ["processing", 24, "size_t"]],
+        read: (from, at) => ({
+            comment: from.size(at),
+            cdata: from.size(at + 8),
+            declaration: from.size(at + 16),
+            processing: from.size(at + 24),
+        }),
     },
     end: {
         size: 24,
         fields: [["status", 0, "uint32_t"], ["end", 8, "size_t"], ["passed", 16, "size_t"]],
+        read: (from, at) => ({
+            status: from.uint32(at),
+            end: from.size(at + 8),
+            passed: from.size(at + 16),
+        }),
     },
     htmlRun: {
         size: 16,
         fields: [["status", 0, "uint32_t"], ["count", 8, "size_t"]],
+        read: (from, at) => ({
+            status: from.uint32(at),
+            count: from.size(at + 8),
+        }),
     },
     label: {
         size: 32,
         fields: [["status", 0, "uint32_t"], ["end", 8, "size_t"], ["length", 16, "size_t"], ["start", 24, "size_t"]],
+        read: (from, at) => ({
+            status: from.uint32(at),
+            end: from.size(at + 8),
+            length: from.size(at + 16),
+            start: from.size(at + 24),
+        }),
     },
 };
 

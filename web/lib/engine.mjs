@@ -86,18 +86,18 @@ export class Engine {
      * @returns {(...given: any[]) => any}
      */
     #caller(call, answer, taken) {
-        const size = STRUCTS[answer]?.size ?? 0;
+        const { size, read } = STRUCTS[answer] ?? { size: 0, read: Boolean };
         const run = this.#guarded(bound(call, size > 8 ? ["pointer", ...taken] : taken));
         if (size > 8) {
             return (...given) => {
                 run(this.answer, ...given);
-                return this.read(answer, this.answer);
+                return read(this, this.answer);
             };
         }
         if (size > 0) {
             return (...given) => {
                 this.heap.view.setBigInt64(this.answer, run(...given), true);
-                return this.read(answer, this.answer);
+                return read(this, this.answer);
             };
         }
         if (answer === "size_t") return (...given) => Number(BigInt.asUintN(64, run(...given)));
@@ -196,21 +196,22 @@ export class Engine {
      * @returns {Record<string, any>}
      */
     read(name, at) {
-        /** @type {Record<string, any>} */
-        const found = {};
-        for (const [field, place, type] of STRUCTS[name].fields) found[field] = this.#number(type, at + place);
-        return found;
+        return STRUCTS[name].read(this, at);
     }
 
-    /**
-     * @param {string} type
-     * @param {number} at
-     */
-    #number(type, at) {
-        if (type === "size_t" || type === "uint64_t") return this.size(at);
-        if (type === "uint32_t") return this.heap.view.getUint32(at, true);
-        const byte = this.heap.view.getUint8(at);
-        return type === "bool" ? byte !== 0 : byte;
+    /** @param {number} at */
+    bool(at) {
+        return this.heap.view.getUint8(at) !== 0;
+    }
+
+    /** @param {number} at */
+    uint8(at) {
+        return this.heap.view.getUint8(at);
+    }
+
+    /** @param {number} at */
+    uint32(at) {
+        return this.heap.view.getUint32(at, true);
     }
 
     /**

@@ -3,8 +3,9 @@
 /** @typedef {{ call: string, given: unknown[], answer: any }} Told a call of the package, and its answer */
 /** @typedef {Told & { kind: string, place: number, pending: number }} Taken what it took of the line, up to a place and columns behind */
 
-/** What a container begins with. */
+/** What a container begins with, behind spaces and tabs. */
 const FIRST = new Set([...">-+*0123456789"].map((it) => it.charCodeAt(0)));
+const SPACE = new Set([..." \t"].map((it) => it.charCodeAt(0)));
 
 /** A line, while it is read: the place in it, and what each call has taken up to there. */
 export class Line {
@@ -44,6 +45,14 @@ export class Line {
         const moved = this.start.place !== place || this.start.pending !== pending;
         if (moved) this.taken.push({ kind, call, given, answer, place: this.start.place, pending: this.start.pending });
         return answer;
+    }
+
+    /** Whether a container may begin in what is left, by its first byte behind at most three that are space. */
+    mayOpen() {
+        const { bytes } = this.page;
+        let { place } = this.start;
+        for (let passed = 0; passed < 3 && SPACE.has(bytes[place]); passed++) place++;
+        return FIRST.has(bytes[place]);
     }
 
     isBlank() {
@@ -94,14 +103,11 @@ export class Containers {
      * @param {() => void} close
      */
     opens(line, number, endsParagraph, close) {
+        if (!line.mayOpen()) return false;
         const mark = line.mark();
         const columns = line.take("indent", "upto", 4);
-        if (columns === 4 || !FIRST.has(line.page.bytes[line.start.place])) {
-            line.back(mark);
-            return false;
-        }
-        const isQuote = line.take("quote", "quote");
-        const item = isQuote ? null : line.take("item", "listItem", columns);
+        const isQuote = columns < 4 && line.take("quote", "quote");
+        const item = columns < 4 && !isQuote ? line.take("item", "listItem", columns) : null;
         const countsOn = item && item.start !== 1 && ".)".includes(item.delimiter);
         if (!isQuote && (!item || (endsParagraph && (countsOn || line.isBlank())))) {
             line.back(mark);
