@@ -371,6 +371,7 @@ static void labels(void) {
     MAKES(label, "a\n> b]", 6, "a > b");
     MAKES(label_in_cell, "a\\|b]", 5, "a|b");
     MAKES(label_in_cell, "a\\\\|b]", 6, "a\\|b");
+    MAKES(label, " a]", 3, "a");
     MAKES(label, " a ]", 4, "a");
     MAKES(label, "a  b]", 5, "a b");
     MAKES(label, "a\vb]", 4, "a b");
