@@ -147,12 +147,19 @@ def cloned():
     return [tree.told("before", 4), "ready", tree.told("copy", 4), tree.told("after", 4)]
 
 
+def ordered():
+    tree = nested(*"ABCD")
+    order = [(index(node), depth) for node, depth in tree.in_order()]
+    return [tree.told("before", 4), "ready", shown(order), tree.told("after", 4)]
+
+
 def trees():
     yield "tree_with_capacity", call("no tree", True)
     yield "tree_append", appended()
     yield "tree_create_node", changed(nested(*"ABCD"), lambda it: it.create_node("E"), 4, 5)
     yield "tree_push", pushed()
     yield "tree_clone", cloned()
+    yield "tree_in_order", ordered()
 
 
 def main():

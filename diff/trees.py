@@ -50,6 +50,14 @@ class Tree:
         self.focus = self.nodes[node][2]
         return self.focus
 
+    def in_order(self, node=1, depth=0):
+        """Each node from this one on with its depth: the node, what is below it, and its later siblings."""
+        found = []
+        while node in self.nodes:
+            found += [(node, depth), *self.in_order(self.nodes[node][1], depth + 1)]
+            node = self.nodes[node][2]
+        return found
+
     def truncate_to_parent(self, node):
         """The next link of a node goes to the focus, or to the parent as its child; the focus moves along it."""
         taken, self.nodes[node][2] = self.nodes[node][2], None

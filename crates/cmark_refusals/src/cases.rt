@@ -36,7 +36,7 @@ enum Case {
     NoMemory(NoMemoryCase),
 }
 
-const CASES: [(&str, Case); 52] = [
+const CASES: [(&str, Case); 53] = [
     ("text_from_string", Case::Text(TextCase::FromString)),
     ("text_clone", Case::Text(TextCase::Clone)),
     ("text_into_string", Case::Text(TextCase::IntoString)),
@@ -91,6 +91,7 @@ const CASES: [(&str, Case); 52] = [
     ("tree_create_node", Case::Tree(TreeCase::CreateNode)),
     ("tree_push", Case::Tree(TreeCase::Push)),
     ("tree_clone", Case::Tree(TreeCase::Clone)),
+    ("tree_in_order", Case::Tree(TreeCase::InOrder)),
     ("no_memory_texts", Case::NoMemory(NoMemoryCase::Texts)),
     (
         "no_memory_copied_short_text",

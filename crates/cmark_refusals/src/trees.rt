@@ -14,6 +14,7 @@ pub(crate) enum TreeCase {
     CreateNode,
     Push,
     Clone,
+    InOrder,
 }
 
 pub(crate) fn run<W: Write>(alloc: Global, output: &mut W, case: TreeCase) -> Result<(), Stop> {
@@ -23,6 +24,7 @@ pub(crate) fn run<W: Write>(alloc: Global, output: &mut W, case: TreeCase) -> Re
         TreeCase::CreateNode => create_node(alloc, output),
         TreeCase::Push => push(alloc, output),
         TreeCase::Clone => clone(alloc, output),
+        TreeCase::InOrder => in_order(alloc, output),
     }
 }
 
@@ -211,5 +213,21 @@ pub(crate) fn clone<W: Write>(alloc: Global, output: &mut W) -> Result<(), Stop>
         }
     };
     tell_tree(output, "copy", &copy, first, 4)?;
+    tell_tree(output, "after", &tree, first, 4)
+}
+
+/// The nodes are told in order.
+pub(crate) fn in_order<W: Write>(alloc: Global, output: &mut W) -> Result<(), Stop> {
+    let (tree, first) = full(alloc)?;
+    tell_tree(output, "before", &tree, first, 4)?;
+    tell_ready(output)?;
+    let order = match tree.in_order() {
+        Ok(order) => order,
+        Err(_) => {
+            tell_tree(output, "refused", &tree, first, 4)?;
+            tree.in_order()?
+        }
+    };
+    tell(output, order)?;
     tell_tree(output, "after", &tree, first, 4)
 }

@@ -1,6 +1,7 @@
 //! Nested lists as a tree, built item by item and walked.
-ghost use Rattle.std.specs.Prelude.{◌≡◌, ℕ, Some, IfOk, IfSome, IsSome};
+ghost use Rattle.std.specs.Prelude.{◌≡◌, ℕ, Some, IfOk, IfSome, IsSome, map};
 ghost use Rattle.markdown_values.specs.tree.Forest.{Focused, StandsFor, appended, pushed, popped, empty_forest};
+ghost use Rattle.markdown_values.specs.tree.Order.{in_order};
 
 use markdown_values::tree::{Tree, TreeIndex};
 use std::alloc::{AllocError, Global};
@@ -43,22 +44,25 @@ pub fn end_inner(outline: &mut Tree<Item>)
     outline.pop();
 }
 
-/// The items in order, with the lists in an item in brackets.
-pub fn written(alloc: Global, outline: &mut Tree<Item>) -> Result<String, AllocError> {
+/// How deep each item stands, in order.
+pub fn levels(alloc: Global, outline: &Tree<Item>) -> Result<Vec<usize>, AllocError>
+    ensures { IfOk result (λ levels. (f : Focused) → StandsFor outline.now f
+        → levels.items ≡ map (λ node. node.1) (in_order 0 f.forest)) }
+{
+    let order = outline.in_order()?;
+    order.iter().map(|(_, depth)| *depth).collect(alloc)
+}
+
+/// The items in order, a line for each, behind two spaces for each level.
+pub fn written(alloc: Global, outline: &Tree<Item>) -> Result<String, AllocError> {
     let mut text = String::new(alloc);
-    outline.reset();
-    for _ in 0..100 {
-        if let Some(ix) = outline.cur() {
-            text.push(outline[ix].item.first)?;
-            if outline[ix].child.is_some() {
-                text.push('(')?;
-                outline.push()?;
-            } else {
-                outline.next_sibling(ix);
-            }
-        } else if let Some(parent) = outline.pop() {
-            text.push(')')?;
-            outline.next_sibling(parent);
+    for (ix, depth) in outline.in_order()? {
+        for _ in 0..depth {
+            text.push_str("  ")?;
+        }
+        if let Some(node) = outline.get(ix) {
+            text.push(node.item.first)?;
+            text.push('\n')?;
         }
     }
     Ok(text)
@@ -88,7 +92,11 @@ mod tests {
         end_inner(&mut outline);
         assert_eq!(rt; outline.cur(), Some(a));
         add_item(&mut outline, item('d'))?;
-        assert_eq!(rt; written(rt.alloc(), &mut outline)?.as_str(), "a(bc)d");
+        assert_eq!(rt;
+            levels(rt.alloc(), &outline)?.as_slice(),
+            [0, 1, 1, 0].as_slice()
+        );
+        assert_eq!(rt; written(rt.alloc(), &outline)?.as_str(), "a\n  b\n  c\nd\n");
         Ok(())
     }
 }

@@ -53,6 +53,15 @@ fn forest(alloc: Global, tree: &mut Tree<Piece>) -> Result<String, AllocError> {
     Ok(text)
 }
 
+// The nodes in order, each as its number and its depth.
+fn order(alloc: Global, tree: &Tree<Piece>) -> Result<Vec<(usize, usize)>, AllocError> {
+    let mut order = Vec::new(alloc);
+    for (ix, depth) in tree.in_order()? {
+        order.push((ix.get(), depth))?;
+    }
+    Ok(order)
+}
+
 // The names on the spine, from the root.
 fn spine_names(alloc: Global, tree: &Tree<Piece>) -> Result<String, AllocError> {
     let mut text = String::new(alloc);
@@ -208,6 +217,62 @@ fn indices_are_added_and_ordered(rt: HostRuntime) -> Result<(), Fail> {
     assert_same(&rt, index_before(b), Some(a));
     assert_same(&rt, index_before(a), None);
     assert!(rt; a < b && c > b && c == c);
+    Ok(())
+}
+
+#[test]
+fn nodes_are_told_in_order(rt: HostRuntime) -> Result<(), Fail> {
+    let alloc = rt.alloc();
+    let mut tree: Tree<Piece> = Tree::with_capacity(alloc, 4)?;
+    assert!(rt; order(alloc, &tree)?.is_empty());
+    tree.append(named('A'))?;
+    assert_same(&rt, order(alloc, &tree)?.as_slice(), [(1, 0)].as_slice());
+    tree.append(named('B'))?;
+    tree.push()?;
+    tree.append(named('C'))?;
+    tree.append(named('D'))?;
+    tree.push()?;
+    tree.append(named('E'))?;
+    tree.pop();
+    tree.append(named('F'))?;
+    tree.pop();
+    tree.append(named('G'))?;
+    assert_same(
+        &rt,
+        order(alloc, &tree)?.as_slice(),
+        [(1, 0), (2, 0), (3, 1), (4, 1), (5, 2), (6, 1), (7, 0)].as_slice(),
+    );
+    Ok(())
+}
+
+#[test]
+fn nodes_that_no_link_leads_to_are_not_told(rt: HostRuntime) -> Result<(), Fail> {
+    let alloc = rt.alloc();
+    let (mut tree, [a, b, c, d]) = nested(alloc)?;
+    tree.set_child(b, Some(d));
+    assert_same(
+        &rt,
+        order(alloc, &tree)?.as_slice(),
+        [(1, 0), (2, 1), (4, 2)].as_slice(),
+    );
+    assert_same(&rt, tree.cur(), Some(d));
+    assert_same(&rt, tree.peek_up(), Some(b));
+    tree.set_child(a, Some(c));
+    tree.set_child(b, None);
+    assert_same(
+        &rt,
+        order(alloc, &tree)?.as_slice(),
+        [(1, 0), (3, 1), (4, 1)].as_slice(),
+    );
+    Ok(())
+}
+
+#[test]
+fn a_circle_of_links_is_left(rt: HostRuntime) -> Result<(), Fail> {
+    let alloc = rt.alloc();
+    let (mut tree, [a, _, _, d]) = nested(alloc)?;
+    tree.set_child(d, Some(a));
+    assert_same(&rt, order(alloc, &tree)?.len(), 5);
     Ok(())
 }
 

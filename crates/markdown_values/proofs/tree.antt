@@ -1,5 +1,7 @@
 pub mod CloneLemmas
 pub mod ForestLemmas
+pub mod OrderLemmas
 pub mod RemovalLemmas
 pub mod Rows
+pub mod SiblingLemmas
 pub mod TreeLemmas

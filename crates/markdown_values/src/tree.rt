@@ -3,6 +3,7 @@ ghost use Rattle.std.specs.Prelude.{◌≡◌, ◌+◌, ◌-◌, ◌<◌, IfOk, 
 ghost use Rattle.std.specs.Borrow.{sem};
 ghost use Rattle.std.specs.Slice.Iter.{iter_rest};
 
+mod order;
 mod truncate;
 
 use std::alloc::{AllocError, Global};
@@ -108,10 +109,10 @@ impl<T> Model for Tree<T> {
 }
 
 impl<T: Drop> Tree<T> {
-    ghost use Rattle.markdown_values.specs.tree.Tree.{empty_tree, with_node, after_append, last, but_last, IsLinkWithin, IsNodeAt, with_next, with_child, with_item, linked_from_focus, after_push, after_pop, removed, IsLastLinkedFromAlone, after_reset, next_of, truncated_to_parent};
+    ghost use Rattle.markdown_values.specs.tree.Tree.{empty_tree, with_node, after_append, last, but_last, first_root, IsLinkWithin, IsNodeAt, with_next, with_child, with_item, linked_from_focus, after_push, after_pop, removed, IsLastLinkedFromAlone, after_reset, next_of, truncated_to_parent};
     ghost use Rattle.markdown_values.specs.tree.Lends.{lends_item, item_of};
     ghost use Rattle.markdown_values.specs.tree.Forest as forest;
-    ghost use Rattle.markdown_values.specs.tree.Forest.{Focused, StandsFor};
+    ghost use Rattle.markdown_values.specs.tree.Forest.{Focused, StandsFor, IsRoot, siblings};
 
     /// A tree of the dummy alone. Room for `cap` nodes is asked for at once.
     ///
@@ -328,12 +329,20 @@ impl<T: Drop> Tree<T> {
         ensures forest { (f : Focused) → StandsFor self.old f
             → StandsFor self.new (forest.reset_of f) }
     {
-        self.focus = if self.is_empty() {
-            None
-        } else {
-            Some(TreeIndex { value: 1 })
-        };
+        self.focus = self.first_root();
         self.spine.clear();
+    }
+
+    // The first node after the dummy, if there is one.
+    fn first_root(&self) -> Option<TreeIndex>
+        ensures root { result ≡ first_root self.now.nodes }
+        ensures within { IsLinkWithin (length self.now.nodes) result }
+    {
+        if self.nodes.len() > 1 {
+            Some(TreeIndex { value: 1 })
+        } else {
+            None
+        }
     }
 
     /// The nodes of the spine, from the root.
@@ -351,6 +360,11 @@ impl<T: Drop> Tree<T> {
         ensures within { IsLinkWithin (length self.new.nodes) result }
         ensures count { length self.new.nodes ≡ length self.old.nodes }
         ensures state { self.new ≡ record self.old { focus = next_of self.old.nodes ix } }
+
+        // The same, by the forest that the tree stands for, unless no root is left to be in focus.
+        ensures forest { (f : Focused) → StandsFor self.old f → IsRoot ix (siblings f)
+            → forest.KeepsFocus (forest.moved_after f ix)
+            → StandsFor self.new (forest.moved_after f ix) }
     {
         self.focus = self.nodes[ix.get()].next;
         self.focus

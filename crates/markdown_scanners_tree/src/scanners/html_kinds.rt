@@ -1,10 +1,12 @@
 //! Kinds of HTML blocks: where they begin and end.
-ghost use Rattle.std.specs.Prelude.{◌≡◌, ◌≤◌, ◌==◌, ◌∷◌, None, length, take, IsTrue, IfSome};
+ghost use Rattle.std.specs.Prelude.{◌≡◌, ◌↔◌, ◌≤◌, ◌==◌, ◌∷◌, None, length, take, IsTrue, IfSome};
 ghost use Rattle.std.specs.Str.{str_eq_ignore_ascii_case};
 ghost use Rattle.markdown_scanners_tree.specs.SomeExactly.{SomeExactly, IsOnly};
 ghost use Rattle.markdown_scanners_tree.specs.Ascii.{less_than_sign, greater_than_sign};
 ghost use Rattle.markdown_scanners_tree.specs.Bytes.{begins_with, is_letter};
 ghost use Rattle.markdown_scanners_tree.specs.declared.scanners.html_kinds.HtmlBlockKind.TheVariants.{RawText};
+ghost use Rattle.markdown_scanners_tree.specs.scanners.Interrupts.{IsInterruptingHtml};
+ghost use Rattle.markdown_scanners_tree.specs.scanners.html_block.HtmlBlock.{IsBlockStart};
 ghost use Rattle.markdown_scanners_tree.specs.scanners.html_kinds.HtmlKinds.{IsHtmlBlockStart, raw_text_names, name_among, begins_with_raw_name, ends_raw_name, ends_tag_name, begins_html_end, ends_before_blank, is_somewhere, is_html_end};
 ghost use Rattle.markdown_scanners_tree.specs.scanners.html_kinds.private.Marks.{declared_kind, marked_kind, first_of_end};
 
@@ -102,13 +104,35 @@ fn scan_tag_kind(bytes: &[u8], rest: &[u8]) -> Option<HtmlBlockKind>
     if begins_raw_text(rest) {
         return Some(HtmlBlockKind::RawText);
     }
-    if starts_html_block_type_6(first_bytes(rest, BLOCK_NAME_BYTES)) {
+    if begins_block_name(rest) {
         return Some(HtmlBlockKind::BlockName);
     }
     if scan_html_type_7(bytes).is_some() && !has_raw_name(rest) {
         return Some(HtmlBlockKind::TagAlone);
     }
     None
+}
+
+// Whether an HTML block that can interrupt a paragraph begins with `<` and these bytes: one by the
+// conditions 1 to 6, which read no tag.
+pub(in crate::scanners) fn begins_interrupting_html(rest: &[u8]) -> bool
+    ensures { IsTrue result ↔ IsInterruptingHtml (less_than_sign ∷ rest.now) }
+{
+    if scan_marked_kind(rest).is_some() {
+        return true;
+    }
+    if begins_raw_text(rest) {
+        return true;
+    }
+    begins_block_name(rest)
+}
+
+// Whether a name of start condition 6 stands behind `<`, and what must follow it. Only the bytes
+// that tell it are looked at.
+fn begins_block_name(rest: &[u8]) -> bool
+    ensures { IsTrue result ↔ IsBlockStart rest.now }
+{
+    starts_html_block_type_6(first_bytes(rest, BLOCK_NAME_BYTES))
 }
 
 // Whether a name of start condition 1 stands behind `<`, and what must follow it.

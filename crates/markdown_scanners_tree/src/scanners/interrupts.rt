@@ -1,14 +1,13 @@
 //! Lines that interrupt a paragraph.
-ghost use Rattle.std.specs.Prelude.{◌≡◌, ◌↔◌, IsTrue, nat_le};
+ghost use Rattle.std.specs.Prelude.{◌≡◌, ◌↔◌, IsTrue};
 ghost use Rattle.markdown_scanners_tree.specs.Bytes.{begins_with, is_space_or_tab};
 ghost use Rattle.markdown_scanners_tree.specs.scanners.Breaks.{IsThematicBreak};
 ghost use Rattle.markdown_scanners_tree.specs.scanners.Interrupts.{InterruptsParagraph, Interrupts, IsSomeHeading, IsSomeFence, IsSomeQuote, IsInterruptingItem, IsInterruptingHtml, item_interrupts, behind_indent};
-ghost use Rattle.markdown_scanners_tree.specs.scanners.html_kinds.HtmlKinds.{condition_number};
 
 use crate::scanners::breaks::scan_hrule;
 use crate::scanners::fences::scan_code_fence;
 use crate::scanners::headings::scan_atx_heading;
-use crate::scanners::html_kinds::{HtmlBlockKind, scan_html_block_start};
+use crate::scanners::html_kinds::begins_interrupting_html;
 use crate::scanners::lines::{line_head, scan_blank_line, scan_blockquote_start};
 use crate::scanners::list_items::scan_marker;
 use crate::scanners::runs::{first_bytes, scan_ch_repeat};
@@ -102,15 +101,8 @@ fn begins_with_space(rest: &[u8]) -> bool
 fn is_interrupting_html(bytes: &[u8]) -> bool
     ensures { IsTrue result ↔ IsInterruptingHtml bytes.now }
 {
-    match scan_html_block_start(bytes) {
-        Some(kind) => kind_interrupts(kind),
-        None => false,
-    }
-}
-
-// Whether an HTML block of this kind interrupts a paragraph.
-fn kind_interrupts(kind: HtmlBlockKind) -> bool
-    ensures { result ≡ nat_le (condition_number kind) 6 }
-{
-    !matches!(kind, HtmlBlockKind::TagAlone)
+    let Some(rest) = bytes.strip_prefix(b"<") else {
+        return false;
+    };
+    begins_interrupting_html(rest)
 }

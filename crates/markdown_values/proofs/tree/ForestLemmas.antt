@@ -14,10 +14,10 @@ use Rattle.markdown_values.proofs.tree.TreeLemmas.{first_root-empty, first_root-
 
 -- the tests of the definitions, at equal and at different nodes
 
-count_in-here : (a r : ℕ) (cs later : Forest) → a ≡ r → count_in a (tree r cs later) ≡ 1 + (count_in a cs + count_in a later)
+pub count_in-here : (a r : ℕ) (cs later : Forest) → a ≡ r → count_in a (tree r cs later) ≡ 1 + (count_in a cs + count_in a later)
 count_in-here a r cs later e = rw (eq-eqb a r e)
 
-count_in-there : (a r : ℕ) (cs later : Forest) → a ≢ r → count_in a (tree r cs later) ≡ count_in a cs + count_in a later
+pub count_in-there : (a r : ℕ) (cs later : Forest) → a ≢ r → count_in a (tree r cs later) ≡ count_in a cs + count_in a later
 count_in-there a r cs later ne = rw (ne_eqb a r ne) (omega arith)
 
 children_of-here : (a r : ℕ) (cs later : Forest) → a ≡ r → children_of a (tree r cs later) ≡ cs
@@ -91,7 +91,7 @@ count_in-put_after k f n (tree r cs later) =
     ]
 
 -- a root that is not the first is among the later ones
-IsRoot-later : (a r : ℕ) (cs later : Forest) → a ≢ r → IsRoot a (tree r cs later) → IsRoot a later
+pub IsRoot-later : (a r : ℕ) (cs later : Forest) → a ≢ r → IsRoot a (tree r cs later) → IsRoot a later
 IsRoot-later a r cs later ne (inl e) = absurd (ne e)
 IsRoot-later a r cs later ne (inr h) = h
 
@@ -304,7 +304,7 @@ module _ {T : Type 0} where
   new_at_end g nodes node x h = get-update_at_other g (nodes ++ node ∷ []) x (length nodes) (λ e. omega arith) ∙ get-push nodes node
 
   -- a node that stands in a linked forest is within the nodes
-  count_in-within : (nodes : List (Node T)) (k : ℕ) (link : Option ℕ) (forest : Forest) → IsLinkedAs nodes link forest → 1 ≤ count_in k forest → k < length nodes
+  pub count_in-within : (nodes : List (Node T)) (k : ℕ) (link : Option ℕ) (forest : Forest) → IsLinkedAs nodes link forest → 1 ≤ count_in k forest → k < length nodes
   count_in-within nodes k link forest h among =
       elim (cases_lt k (length nodes)) [ inl within ↦ within | inr past ↦ absurd (let none = count_in-past nodes k link forest past h in omega arith) ]
 
@@ -449,7 +449,7 @@ push-not-nil [] a e = cc
 push-not-nil (x ∷ xs) a e = cc
 
 module _ {T : Type 0} where
-  IsLinkedAs-first : (nodes : List (Node T)) (link : Option ℕ) (forest : Forest) → IsLinkedAs nodes link forest → link ≡ first forest
+  pub IsLinkedAs-first : (nodes : List (Node T)) (link : Option ℕ) (forest : Forest) → IsLinkedAs nodes link forest → link ≡ first forest
   IsLinkedAs-first nodes link no_tree h = h
   IsLinkedAs-first nodes link (tree r cs later) h = h.0
 
@@ -464,7 +464,7 @@ module _ {T : Type 0} where
         | inr ne ↦ rw (children_of-there a r cs later ne) (IsLinkedAs-children nodes h.1.next a later h.4 (IsRoot-later a r cs later ne root))
       ]
 
-  IsLinkedAs-at_end : (nodes : List (Node T)) (link : Option ℕ) (path : List ℕ) (forest : Forest)
+  pub IsLinkedAs-at_end : (nodes : List (Node T)) (link : Option ℕ) (path : List ℕ) (forest : Forest)
       → IsLinkedAs nodes link forest → IsPath path forest → (l : Option ℕ) × IsLinkedAs nodes l (at_end path forest)
   IsLinkedAs-at_end nodes link [] forest h leads = (link, h)
   IsLinkedAs-at_end nodes link (a ∷ path) forest h leads =

@@ -5,6 +5,7 @@ use Rattle.markdown_values.specs.tree.Linked.{Linked}
 use Rattle.markdown_values.specs.tree.Tree.{empty_tree, after_append, after_push, after_pop, removed, after_reset, truncated_to_parent, with_node}
 use Rattle.markdown_values.specs.tree.Forest as forest
 use Rattle.markdown_values.specs.tree.Forest.{Forest, no_tree, tree, Focused}
+use Rattle.markdown_values.specs.tree.Order.{in_order}
 
 -- items are numbers: the dummy 0, and A to D as 65 to 68
 node : Option ℕ → Option ℕ → ℕ → Node ℕ
@@ -60,3 +61,19 @@ reset_empty = refl
 reset_isolated : after_reset (after_append (with_node (empty_tree 0) 65) 66) ≡ record { nodes = node None None 0 ∷ node None None 65 ∷ node None None 66 ∷ []; spine = []; focus = Some 1 }
 unfolding node
 reset_isolated = refl
+
+-- A, B under A, C under B, D after B, E after A
+abbrev five : Forest
+five = tree 1 (tree 2 (tree 3 no_tree no_tree) (tree 4 no_tree no_tree)) (tree 5 no_tree no_tree)
+
+five_in_order : in_order 0 five ≡ (1, 0) ∷ (2, 1) ∷ (3, 2) ∷ (4, 1) ∷ (5, 0) ∷ []
+five_in_order = refl
+
+none_in_order : in_order 0 no_tree ≡ []
+none_in_order = refl
+
+sibling_in_focus : forest.moved_after (record { forest = five; path = 1 ∷ []; focus = None }) 2 ≡ record { forest = five; path = 1 ∷ []; focus = Some 4 }
+sibling_in_focus = refl
+
+no_sibling_left : forest.moved_after (record { forest = five; path = 1 ∷ []; focus = Some 4 }) 4 ≡ record { forest = five; path = 1 ∷ []; focus = None }
+no_sibling_left = refl

@@ -3,7 +3,7 @@ use Rattle.std.proofs.Common.{◌≡◌, ◌≢◌, ℕ, zero, suc, ◌-◌, ◌
 use Rattle.std.specs.Prelude.{slice_get, slice_set, All}
 use Rattle.std.proofs.lemmas.Option.{get_or_from_slice_get, slice_get_read, slice_get_within}
 use Rattle.markdown_values.specs.declared.tree.Node.{Node}
-use Rattle.markdown_values.specs.tree.Tree.{last, but_last, update_at, IsLinkWithin, IsNodeWithin, child_of, linked_from_focus, linked_from_parent, first_root}
+use Rattle.markdown_values.specs.tree.Tree.{last, but_last, update_at, IsLinkWithin, IsNodeWithin, child_of, next_of, linked_from_focus, linked_from_parent, first_root}
 
 module _ {A : Type 0} where
   -- the last of a list that ends in x
@@ -109,6 +109,9 @@ module _ {T : Type 0} where
 
   pub child_of-read : (nodes : List (Node T)) (i : ℕ) (node : Node T) → i < length nodes → node ≡ get_or nodes i node → node.child ≡ child_of nodes i
   child_of-read nodes i node h e = rw (slice_get_read nodes (length nodes) i node refl h e)
+
+  pub next_of-read : (nodes : List (Node T)) (i : ℕ) (node : Node T) → i < length nodes → node ≡ get_or nodes i node → node.next ≡ next_of nodes i
+  next_of-read nodes i node h e = rw (slice_get_read nodes (length nodes) i node refl h e)
 
   pub length-linked : (nodes : List (Node T)) (focus : Option ℕ) (spine : List ℕ) (link : Option ℕ) → length (linked_from_focus nodes focus spine link) ≡ length nodes
   length-linked nodes (Some f) spine link = length-update_at _ nodes f

@@ -1,5 +1,5 @@
 -- The ordered forest with a focus that a `Tree` stands for, apart from its links.
-use Rattle.std.specs.Prelude.{◌≡◌, ◌⊎◌, ℕ, ◌+◌, ◌≤◌, ◌==◌, if◌then◌else◌, List, [], ◌∷◌, ◌++◌, length, Option, Some, None, IfSome, slice_get}
+use Rattle.std.specs.Prelude.{◌≡◌, ◌⊎◌, ℕ, ◌+◌, ◌≤◌, ◌==◌, if◌then◌else◌, List, [], ◌∷◌, ◌++◌, length, Option, Some, None, IfSome, IsSome, slice_get}
 use Rattle.markdown_values.specs.declared.tree.Node.{Node}
 use Rattle.markdown_values.specs.tree.Linked.{Linked}
 use Rattle.markdown_values.specs.tree.Tree.{last, but_last, first_root}
@@ -18,6 +18,11 @@ first (tree root children later) = Some root
 abbrev pub IsRoot : ℕ → Forest → Type 0
 IsRoot node no_tree = ⊥
 IsRoot node (tree root children later) = (node ≡ root) ⊎ IsRoot node later
+
+-- the root after this one, if there is one
+abbrev pub root_after : ℕ → Forest → Option ℕ
+root_after node no_tree = None
+root_after node (tree root children later) = if node == root then first later else root_after node later
 
 -- how often the node stands in the forest
 abbrev pub count_in : ℕ → Forest → ℕ
@@ -98,6 +103,14 @@ popped f = popped_to f (last f.path)
 -- an empty path, and the first root, if there is one, in focus
 abbrev pub reset_of : Focused → Focused
 reset_of f = record { forest = f.forest; path = []; focus = first f.forest }
+
+-- the root after this one, if there is one, is in focus
+abbrev pub moved_after : Focused → ℕ → Focused
+moved_after f node = record { forest = f.forest; path = f.path; focus = root_after node (siblings f) }
+
+-- the path is not empty, or there is a focus
+abbrev pub KeepsFocus : Focused → Type 0
+KeepsFocus f = f.path ≡ [] → IsSome f.focus
 
 module _ {T : Type 0} where
   -- from this link on, the child and next links are those of the forest

@@ -1,8 +1,8 @@
 -- The kind of the HTML block that begins at a place is one, and the tests of a scan tell it.
 use Rattle.std.proofs.Common.{ℕ, zero, suc, List, [], ◌∷◌, ◌++◌, ◌<◌, ◌≡◌, ◌⊎◌, ◌==◌, not, Bool, true, false, cond, IsTrue, Option, Some, None}
 use Rattle.std.proofs.Common.{drop, refl, sym, ap, ◌∙◌, subst, arith, inl, inr}
-use Rattle.std.specs.Prelude.{codes}
-use Rattle.std.proofs.lemmas.Bool.{cases_Bool, cases_lt, eqb-true, and_from}
+use Rattle.std.specs.Prelude.{codes, nat_le, is_some}
+use Rattle.std.proofs.lemmas.Bool.{cases_Bool, cases_lt, eqb-true, and_from, leb-true}
 use Rattle.markdown_scanners_tree.specs.SomeExactly.{SomeExactly, IsOnly}
 use Rattle.markdown_scanners_tree.specs.Bytes.{begins_with, is_letter}
 use Rattle.markdown_scanners_tree.specs.declared.scanners.html_kinds.HtmlBlockKind.{HtmlBlockKind}
@@ -11,6 +11,7 @@ use Rattle.markdown_scanners_tree.specs.scanners.html_block.HtmlBlock.{IsBlockSt
 use Rattle.markdown_scanners_tree.specs.scanners.html_tag.HtmlTag.{IsTagAloneInLine, IsOpenTag, IsClosingTag}
 use Rattle.markdown_scanners_tree.specs.scanners.html_kinds.HtmlKinds.{condition_number, begins_with_text, begins_with_raw_name, ends_raw_name, ends_tag_name, MeetsStart, IsHtmlBlockStart}
 use Rattle.markdown_scanners_tree.specs.scanners.html_kinds.private.Marks.{declared_kind, marked_kind}
+use Rattle.markdown_scanners_tree.specs.scanners.Interrupts.{IsInterruptingHtml}
 use Rattle.markdown_scanners_tree.proofs.PrefixLemmas.{both_true}
 use Rattle.markdown_scanners_tree.proofs.SomeExactlyLemmas.{IsOnly-found}
 
@@ -272,6 +273,43 @@ module _ (rest : List ℕ) (none : marked_kind rest ≡ None) where
       no_start not_alone Cdata is = lower_or_name Cdata (omega arith) is.met
       no_start not_alone BlockName is = lower_or_name BlockName (omega arith) is.met
       no_start not_alone TagAlone is = not_alone is.met
+
+      -- none of the kinds that interrupt a paragraph
+      pub no_interruption : ¬ IsInterruptingHtml (60 ∷ rest)
+      no_interruption (k, is, low) = lower_or_name k (let most = leb-true (condition_number k) 6 low in omega arith) is.met
+
+-- a mark tells a kind that interrupts a paragraph
+marked_low : (rest : List ℕ) (k : HtmlBlockKind) → marked_kind rest ≡ Some k → IsTrue (nat_le (condition_number k) 6)
+marked_low rest RawText is = refl
+marked_low rest Comment is = refl
+marked_low rest Processing is = refl
+marked_low rest Declaration is = refl
+marked_low rest Cdata is = refl
+marked_low rest BlockName is = refl
+marked_low [] TagAlone is = cc
+marked_low (m ∷ bs) TagAlone is = by (m == 63) (m == 33) (begins_with_text (codes "--") bs) (begins_with is_letter bs)
+    (begins_with_text (codes "[CDATA[") bs) is
+  where
+    by : (question exclaims comment letter cdata : Bool)
+        → cond question (Some Processing) (cond exclaims (cond comment (Some Comment) (cond letter (Some Declaration) (cond cdata (Some Cdata) None))) None)
+        ≡ Some TagAlone → IsTrue (nat_le 7 6)
+    by true exclaims comment letter cdata h = cc
+    by false false comment letter cdata h = cc
+    by false true true letter cdata h = cc
+    by false true false true cdata h = cc
+    by false true false false true h = cc
+    by false true false false false h = cc
+
+pub unmarked_kind : (mark : Option HtmlBlockKind) → is_some mark ≡ false → mark ≡ None
+unmarked_kind None none = refl
+unmarked_kind (Some k) none = cc
+
+pub marked_interruption : (rest : List ℕ) → is_some (marked_kind rest) ≡ true → IsInterruptingHtml (60 ∷ rest)
+marked_interruption rest some = by (marked_kind rest) refl some
+  where
+    by : (mark : Option HtmlBlockKind) → marked_kind rest ≡ mark → is_some mark ≡ true → IsInterruptingHtml (60 ∷ rest)
+    by None is some = cc
+    by (Some k) is some = (k, marked_start rest k is, marked_low rest k is)
 
 -- what stands behind the `<` that was found
 pub behind_opener : (bytes rest : List ℕ) → begins_with_text (codes "<") bytes ≡ true → rest ≡ drop 1 bytes

@@ -4,7 +4,6 @@ use Rattle.markdown_scanners_tree.specs.scanners.html_tag.HtmlTag.{IsTagAloneInL
 use Rattle.markdown_scanners_tree.specs.scanners.html_kinds.HtmlKinds.{IsHtmlBlockStart, MeetsStart}
 use Rattle.markdown_scanners_tree.specs.declared.scanners.html_kinds.HtmlBlockKind.TheVariants.{RawText, BlockName, TagAlone}
 use Rattle.markdown_scanners_tree.proofs.SomeExactlyLemmas.{SomeExactly-some, SomeExactly-none}
-use Rattle.markdown_scanners_tree.proofs.scanners.html_kinds.NameCut.{told_by_front}
 use Rattle.markdown_scanners_tree.proofs.scanners.html_kinds.StartLemmas.{raw_start, name_start, alone_start, no_start, not_false, named_raw}
 use Rattle.markdown_scanners_tree.proofs.scanners.html_kinds.scan_tag_kind.Goals as goal
 use Rattle.markdown_scanners_tree.proofs.scanners.html_kinds.scan_tag_kind.Goals.{else-is_some-via-then-is_some+else-not-has_raw_name, else-is_some-via-else-is_some}
@@ -14,18 +13,14 @@ returns-then-begins_raw_text c =
     subst (λ bytes. IsHtmlBlockStart bytes RawText) (sym c.requires.opened)
     (raw_start c.args.rest.now c.requires.no_mark (sym c.begins_raw_text.ensures ∙ c.if-begins_raw_text.true))
 
-pub returns-then-starts_html_block_type_6 : goal.returns-then-starts_html_block_type_6
-returns-then-starts_html_block_type_6 c =
+pub returns-then-begins_block_name : goal.returns-then-begins_block_name
+returns-then-begins_block_name c =
     subst (λ bytes. IsHtmlBlockStart bytes BlockName) (sym c.requires.opened)
-    (name_start c.args.rest.now c.requires.no_mark (sym c.begins_raw_text.ensures ∙ c.if-begins_raw_text.false)
-    ((told_by_front c.args.rest.now _ c.first_bytes.result.now c.first_bytes.ensures.first
-    c.starts_html_block_type_6.ensures).0 c.if-starts_html_block_type_6.true))
+    (name_start c.args.rest.now c.requires.no_mark (sym c.begins_raw_text.ensures ∙ c.if-begins_raw_text.false) (c.begins_block_name.ensures.0 c.if-begins_block_name.true))
 
 pub returns-then-not-has_raw_name : goal.returns-then-not-has_raw_name
 returns-then-not-has_raw_name c =
-    let no_name : ¬ IsBlockStart c.args.rest.now = λ b. not_false c.if-starts_html_block_type_6.false
-    ((told_by_front c.args.rest.now _ c.first_bytes.result.now c.first_bytes.ensures.first
-    c.starts_html_block_type_6.ensures).1 b) in
+    let no_name : ¬ IsBlockStart c.args.rest.now = λ b. not_false c.if-begins_block_name.false (c.begins_block_name.ensures.1 b) in
     let alone =
     SomeExactly-some (IsTagAloneInLine c.args.bytes.now) c.scan_html_type_7.result
     (sym c.is_some.ensures ∙ c.if-is_some.true) c.scan_html_type_7.ensures.found in
@@ -36,9 +31,7 @@ returns-then-not-has_raw_name c =
 
 pub returns : goal.returns
 returns c =
-    let no_name : ¬ IsBlockStart c.args.rest.now = λ b. not_false c.if-starts_html_block_type_6.false
-    ((told_by_front c.args.rest.now _ c.first_bytes.result.now c.first_bytes.ensures.first
-    c.starts_html_block_type_6.ensures).1 b) in
+    let no_name : ¬ IsBlockStart c.args.rest.now = λ b. not_false c.if-begins_block_name.false (c.begins_block_name.ensures.1 b) in
     let none : ¬ MeetsStart TagAlone (60 ∷ c.args.rest.now) = elim c.else-is_some.branch [
       | else-is_some-via-then-is_some+else-not-has_raw_name w ↦ λ h.
           named_raw (sym w.has_raw_name.ensures ∙ w.if-not-has_raw_name.false) h.2
