@@ -1,7 +1,7 @@
 -- Where nothing is pending and no space stands, none is taken.
-use Rattle.std.proofs.Common.{ℕ, ◌≡◌, ◌%◌, Bool, true, false, not, IsTrue, refl, sym, subst, arith}
+use Rattle.std.proofs.Common.{◌≡◌, ◌%◌, Bool, true, false, not, IsTrue, refl, sym, subst, arith}
 use Rattle.markdown_scanners_tree.specs.Bytes.{begins_with, is_space_or_tab}
-use Rattle.markdown_scanners_tree.specs.line.State.{LineState, IsLineState, after_space, space_within, unscanned}
+use Rattle.markdown_scanners_tree.specs.line.State.{LineState, IsLineState, unscanned}
 use Rattle.markdown_scanners_tree.proofs.line.SpaceLemmas.{IsTaken, none_at_front, none_of_byte}
 use Rattle.markdown_scanners_c.specs.private.NoSpace.{HasNoSpace}
 
