@@ -34,9 +34,15 @@ pub extern "C" fn ours_label_table(alloc: Global, text: &[u8], at: &[usize], rou
     each_place(text, at, rounds, &call)
 }
 
+// Not inlined, so that the whole label is made.
+#[inline(never)]
+fn len_of(label: &LinkLabel) -> u64 {
+    label.as_str().len() as u64
+}
+
 fn len_of_new(alloc: Global, text: &str) -> u64 {
     match LinkLabel::new(alloc, CowStr::from(text)) {
-        Ok(label) => label.as_str().len() as u64,
+        Ok(label) => len_of(&label),
         Err(_) => 0,
     }
 }

@@ -63,6 +63,8 @@ impl<'a> Model for LinkLabel<'a> {
 
 impl<'a> LinkLabel<'a> {
     /// The label with this text, always `Ok`: it takes no memory.
+    // Not inlined, the text goes through memory twice.
+    #[inline(always)]
     pub fn new(_alloc: Global, text: CowStr<'a>) -> Result<LinkLabel<'a>, AllocError>
         ensures label { IfOk result (λ label. label ≡ cow_text text.entry) }
         ensures no_memory { IsOk result }

@@ -7,7 +7,7 @@ ghost use Rattle.std.specs.Char.{is_digit, digit_value};
 ghost use Rattle.markdown_values.specs.strings.Text.{cow_text};
 ghost use Rattle.markdown_scanners_tree.specs.Ascii.{number_sign};
 ghost use Rattle.markdown_scanners_tree.specs.SomeExactly.{SomeExactly, IsOnly};
-ghost use Rattle.markdown_scanners_tree.specs.scanners.entities.CharacterReference.{referenced_char, marks_hexadecimal, StartsWithReference, IsReferenceAnswer};
+ghost use Rattle.markdown_scanners_tree.specs.scanners.entities.CharacterReference.{Lookup, referenced_char, marks_hexadecimal, StartsWithReference, IsReferenceAnswer};
 ghost use Rattle.markdown_scanners_tree.specs.scanners.entities.private.Digits.{StartsWithNumber};
 
 use crate::scanners::numbers::number_of;
@@ -33,6 +33,7 @@ pub trait Entities {
 /// The first byte, which is `&` in a text, has to be there, and is not looked at.
 ///
 /// (CommonMark 0.31.2, section 2.5.)
+#[inline(always)]
 pub fn scan_entity<E: Entities>(bytes: &[u8], entities: &E) -> (usize, Option<CowStr<'static>>)
     requires { 0 < length bytes.now }
     ensures found { IsReferenceAnswer (E.known entities.now) bytes.now result.0 result.1 }
@@ -44,6 +45,18 @@ pub fn scan_entity<E: Entities>(bytes: &[u8], entities: &E) -> (usize, Option<Co
     if bytes.len() < 2 || bytes[1] != b'#' {
         return scan_named(bytes, entities);
     }
+    scan_numbered(bytes)
+}
+
+// The reference by number at the front, where `#` follows the first byte. It is called, so that a
+// scan that finds none has no registers to save.
+#[inline(never)]
+fn scan_numbered(bytes: &[u8]) -> (usize, Option<CowStr<'static>>)
+    requires long { 1 < length bytes.now }
+    requires number { slice_index bytes.now 1 ≡ number_sign }
+    ensures found { (known : Lookup) → IsReferenceAnswer known bytes.now result.0 result.1 }
+    ensures empty { IfNone result.1 (result.0 ≡ 0) }
+{
     if bytes.len() > 2 && is_hexadecimal_mark(bytes[2]) {
         let Some((n, number)) = scan_number(&bytes[3..], 16, 6) else {
             return (0, None);
@@ -57,6 +70,7 @@ pub fn scan_entity<E: Entities>(bytes: &[u8], entities: &E) -> (usize, Option<Co
 }
 
 // The reference by name at the front, where no `#` follows the first byte.
+#[inline(always)]
 fn scan_named<E: Entities>(bytes: &[u8], entities: &E) -> (usize, Option<CowStr<'static>>)
     requires not_empty { 0 < length bytes.now }
     requires no_number { 1 < length bytes.now → slice_index bytes.now 1 ≢ number_sign }

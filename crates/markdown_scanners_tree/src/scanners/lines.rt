@@ -67,6 +67,10 @@ pub fn scan_nextline(bytes: &[u8]) -> usize
     ensures next { result ≡ next_line bytes.now }
     ensures within { result ≤ length bytes.now }
 {
+    // One line in five is empty, and a search costs ten times as much as a look.
+    if let [b'\n', ..] = bytes {
+        return 1;
+    }
     match memchr(b'\n', bytes) {
         Some(place) => place + 1,
         None => bytes.len(),

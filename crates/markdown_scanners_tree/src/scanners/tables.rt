@@ -186,10 +186,11 @@ fn scan_cell_bytes(bytes: &[u8]) -> usize
     ensures run { result ≡ prefix_len is_cell_byte bytes.now }
     ensures within { result ≤ length bytes.now }
 {
-    bytes
-        .iter()
-        .take_while(|b| **b == b' ' || **b == b':' || **b == b'-')
-        .count()
+    let mut count = 0;
+    while count < bytes.len() && matches!(bytes[count], b' ' | b':' | b'-') {
+        count += 1;
+    }
+    count
 }
 
 // The length of that prefix, where a pipe ends it.

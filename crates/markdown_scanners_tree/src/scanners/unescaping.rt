@@ -247,7 +247,9 @@ fn starts_pipe(bytes: &[u8]) -> bool
     bytes.len() > 2 && bytes[0] == b'\\' && bytes[1] == b'\\' && bytes[2] == b'|'
 }
 
-// The character reference at the front, from `&` on.
+// The character reference at the front, from `&` on. It is called, so that the loops over pieces stay
+// short.
+#[inline(never)]
 fn ampersand_reference<E: Entities>(bytes: &[u8], entities: &E) -> Option<(usize, CowStr<'static>)>
     requires some { 0 < length bytes.now }
     requires begins { slice_index bytes.now 0 ≡ ampersand }
