@@ -20,6 +20,7 @@ TELLERS = {
     "markdown_values": ["tests cmark_vectors_values", "run cmark_replay", "tests cmark_uses"],
     "markdown_scanners_tree": ["run cmark_replay", "tests cmark_vectors", "tests cmark_vectors_scanners"],
     "cmark_scan": ["run cmark_scan", "tests cmark_scan"],
+    "cmark_blocks": ["run cmark_blocks", "tests cmark_blocks"],
 }
 
 

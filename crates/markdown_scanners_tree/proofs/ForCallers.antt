@@ -15,6 +15,7 @@ pub use Rattle.markdown_scanners_tree.proofs.scanners.Scanned.{one_atx_heading, 
 pub use Rattle.markdown_scanners_tree.proofs.scanners.Scanned.{one_html_block_start, one_indent, one_item, one_metadata_block, one_quote_start, one_reference, one_row}
 pub use Rattle.markdown_scanners_tree.proofs.scanners.Scanned.{one_tag, one_tag_alone, one_underline, one_uri}
 pub use Rattle.markdown_scanners_tree.proofs.scanners.runs.CallableLemmas.{callable_in_turn}
+pub use Rattle.markdown_scanners_tree.proofs.scanners.text_lines.LineSteps.{first_line-taken}
 
 -- A text has one answer: two that meet a definition there are equal.
 pub ruleset only_answers = (

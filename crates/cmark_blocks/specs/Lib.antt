@@ -1,0 +1,5 @@
+pub mod blocks
+pub mod faults
+pub mod page
+pub mod taken
+pub mod words

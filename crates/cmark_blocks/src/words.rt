@@ -1,0 +1,34 @@
+//! The words of the command line.
+ghost use Rattle.std.specs.Prelude.{◌≡◌};
+ghost use Rattle.cmark_blocks.specs.words.Words.{request_of, request_of_word};
+
+/// What the command line asks for.
+#[derive(Clone, Copy)]
+pub(crate) enum Request {
+    /// A line for each block.
+    Plain,
+    /// The help.
+    Help,
+}
+
+/// What the words ask for.
+pub(crate) fn parse_request(words: &[&str]) -> Option<Request>
+    ensures { result ≡ request_of words.now }
+{
+    match words {
+        [] => Some(Request::Plain),
+        [word] => parse_word(word),
+        _ => None,
+    }
+}
+
+// What one word asks for.
+fn parse_word(word: &str) -> Option<Request>
+    ensures { result ≡ request_of_word word.now }
+{
+    if word == "--help" {
+        Some(Request::Help)
+    } else {
+        None
+    }
+}
