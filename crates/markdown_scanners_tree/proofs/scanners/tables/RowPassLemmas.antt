@@ -1,5 +1,6 @@
 -- The first pass over a delimiter row: it passes all of a row, and what it passes may be one.
-use Rattle.std.proofs.Common.{take, ◌≡◌, ◌+◌, inl, inr, ℕ, suc, Bool, true, false, ◌||◌, Option, Some, None, List, [], ◌∷◌, ◌++◌, length, drop, is_some, arith, refl, ap, ◌∙◌, append_assoc, one-add}
+use Rattle.std.proofs.Common.{take, ◌≡◌, ◌+◌, inl, inr, ℕ, suc, Bool, true, false, ◌||◌, Option, Some}
+use Rattle.std.proofs.Common.{None, List, [], ◌∷◌, ◌++◌, length, drop, is_some, arith, refl, ap, ◌∙◌, append_assoc, one-add}
 use Rattle.std.specs.List.{prefix_len, list_all, list_any, flat_map}
 use Rattle.std.proofs.lemmas.List.{length-append}
 use Rattle.std.proofs.Math.Bool.{or_assoc, or-false}
