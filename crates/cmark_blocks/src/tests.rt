@@ -6,11 +6,13 @@ use std::process::Abort;
 use std::test::Fail;
 
 // A page with every kind of block.
-const PAGE: &[u8] =
-    b"# One\n\nA paragraph\nof two lines\n\nTwo\n===\n* * *\n    code\n\n\tmore\n\ntext\n```` c\n```\n````\n<!-- a\n\nb --> c\n<div>\nx\n\n> quote\n- item\n3) third\n~~~\nopen";
+const PAGE: &[u8] = b"# One\n\nA paragraph\nof two lines\n\nTwo\n===\n\
+    * * *\n    code\n\n\tmore\n\ntext\n```` c\n```\n````\n\
+    <!-- a\n\nb --> c\n<div>\nx\n\n> quote\n- item\n3) third\n~~~\nopen";
 
-const TOLD: &str =
-    "1 1 heading 1\n2 2 blank\n3 4 paragraph\n5 5 blank\n6 7 setext 1\n8 8 break\n9 11 indented\n12 12 blank\n13 13 paragraph\n14 16 fenced 4 `\n17 19 html 2\n20 21 html 6\n22 22 blank\n23 23 quote\n24 24 item\n25 25 item\n26 27 fenced 3 ~\n";
+const TOLD: &str = "1 1 heading 1\n2 2 blank\n3 4 paragraph\n5 5 blank\n6 7 setext 1\n8 8 break\n\
+    9 11 indented\n12 12 blank\n13 13 paragraph\n14 16 fenced 4 `\n\
+    17 19 html 2\n20 21 html 6\n22 22 blank\n23 23 quote\n24 24 item\n25 25 item\n26 27 fenced 3 ~\n";
 
 // Fails at each read.
 #[derive(Drop)]

@@ -1,11 +1,11 @@
 //! Lines in containers, read column by column: their markers, and what stands behind them.
-ghost use Rattle.std.specs.Prelude.{◌≡◌, ◌++◌, length, count_by, false, is_some, IfOk};
-ghost use Rattle.std.specs.List.{filter_map};
+ghost use Rattle.std.specs.Prelude.{◌≡◌, ◌++◌, ◌<◌, ◌≤◌, length, map, count_by, false, is_some, IfOk};
+ghost use Rattle.std.specs.List.{concat, filter_map};
 ghost use Rattle.markdown_scanners_tree.specs.line.ItemRules.{is_item_alone, item_at_start};
 ghost use Rattle.cmark_uses.specs.Markers.{start_of, behind_quote, behind_item, item_behind, box_behind};
 
 use markdown_scanners_tree::line::LineStart;
-use markdown_scanners_tree::scanners::scan_listitem;
+use markdown_scanners_tree::scanners::{scan_line, scan_listitem};
 use std::alloc::{AllocError, Global};
 
 // Goes past the marker of a block quote, behind at most three spaces.
@@ -61,6 +61,32 @@ pub fn items_of(alloc: Global, lines: &[&[u8]]) -> Result<Vec<(u8, u64, usize)>,
         ≡ filter_map (λ line. item_behind (start_of line.now)) lines.now) }
 {
     lines.iter().filter_map(|line| item_of(line)).collect(alloc)
+}
+
+// The length of the item at the front: its first line, and those behind it that begin no item.
+fn item_length(text: &[u8]) -> usize
+    ensures within { result ≤ length text.now }
+    ensures rises { 0 < length text.now → 0 < result }
+{
+    let mut end = scan_line(text);
+    while end < text.len() && begun_item(&text[end..]).is_none() {
+        end += scan_line(&text[end..]);
+    }
+    end
+}
+
+/// The items of a list, each as a part of its text, which the parts together are.
+pub fn list_items(alloc: Global, text: &[u8]) -> Result<Vec<&[u8]>, AllocError>
+    ensures parts { IfOk result (λ items. concat (map (λ item. item.now) items.items) ≡ text.now) }
+{
+    let mut items = Vec::new(alloc);
+    let mut rest = text;
+    while !rest.is_empty() {
+        let (item, later) = rest.split_at(item_length(rest));
+        items.push(item)?;
+        rest = later;
+    }
+    Ok(items)
 }
 
 /// How many items lines begin.
@@ -122,6 +148,14 @@ mod tests {
             [(b'.', 7, 3), (b'.', 8, 3), (b')', 9, 3)].as_slice()
         );
         assert_eq!(rt; item_count(&lines), 3);
+        Ok(())
+    }
+
+    #[test]
+    fn items_are_parts_of_their_list(rt: HostRuntime) -> Result<(), Fail> {
+        let items = list_items(rt.alloc(), b"- a\n  b\n\n- c\r- d")?;
+        let parts: [&[u8]; 3] = [b"- a\n  b\n\n", b"- c\r", b"- d"];
+        assert_eq!(rt; items.as_slice(), parts.as_slice());
         Ok(())
     }
 

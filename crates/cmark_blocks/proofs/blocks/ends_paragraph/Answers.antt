@@ -9,7 +9,8 @@ returns c = (
   λ ends. elim ends [
     | inl blank ↦ absurd (not_told c.if-is_blank.false c.is_blank.ensures.1 blank)
     | inr more ↦ elim more [
-      | inl underline ↦ absurd (none_told (λ level. IsUnderline level c.args.line.now) c.underline_level.result (sym c.is_some.ensures ∙ c.if-is_some.false) c.underline_level.ensures underline.0 underline.1)
+      | inl underline ↦ absurd (none_told (λ level. IsUnderline level c.args.line.now) c.underline_level.result
+          (sym c.is_some.ensures ∙ c.if-is_some.false) c.underline_level.ensures underline.0 underline.1)
       | inr interrupts ↦ c.interrupts_paragraph.ensures.1 interrupts
     ]
   ],
