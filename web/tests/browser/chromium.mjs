@@ -5,11 +5,9 @@ import { createServer } from "node:http";
 import { tmpdir } from "node:os";
 import { extname, join, normalize } from "node:path";
 
-const NAMES = ["/usr/bin/chromium"];
 const TYPES = { ".html": "text/html", ".mjs": "text/javascript", ".css": "text/css", ".wasm": "application/wasm" };
 
-/** Where Chromium is, or undefined. */
-export const chromium = process.env.CHROMIUM ?? NAMES.find((it) => existsSync(it));
+const CHROMIUM = process.env.CHROMIUM ?? "chromium";
 
 /** Serves the files of a folder, but for those that `changed` answers otherwise; its URL, and what ends it. */
 export async function serve(folder, changed = () => null) {
@@ -35,13 +33,24 @@ export class Browser {
     #next = 1;
     #session;
     #said = "";
+    #ended = null;
 
     constructor() {
         this.folder = mkdtempSync(join(tmpdir(), "chromium-"));
         const words = ["--headless=new", "--remote-debugging-pipe", "--no-first-run", "--no-sandbox", "--disable-gpu", "--hide-scrollbars"];
         const options = { stdio: ["ignore", "ignore", "ignore", "pipe", "pipe"] };
-        this.#process = spawn(chromium, [...words, `--user-data-dir=${this.folder}`, "about:blank"], options);
+        this.#process = spawn(CHROMIUM, [...words, `--user-data-dir=${this.folder}`, "about:blank"], options);
+        this.#process.stdio[3].on("error", (why) => this.#end(why));
         this.#process.stdio[4].on("data", (data) => this.#hear(data));
+        this.#process.on("error", (why) => this.#end(why));
+        this.#process.on("exit", () => this.#end(new Error("the browser has ended")));
+    }
+
+    /** Nothing is answered any more. */
+    #end(why) {
+        this.#ended = why;
+        this.#waiting.forEach((it) => it.reject(why));
+        this.#waiting.clear();
     }
 
     #hear(data) {
@@ -58,6 +67,7 @@ export class Browser {
 
     /** Sends a command of the protocol, and answers its result. */
     send(method, params = {}, sessionId = this.#session) {
+        if (this.#ended) return Promise.reject(this.#ended);
         const id = this.#next++;
         this.#process.stdio[3].write(`${JSON.stringify({ id, method, params, sessionId })}\0`);
         return new Promise((resolve, reject) => this.#waiting.set(id, { resolve, reject }));
@@ -107,9 +117,9 @@ export class Browser {
     }
 
     async close() {
-        const ended = new Promise((resolve) => this.#process.on("exit", resolve));
+        const ended = this.#ended ? null : new Promise((resolve) => this.#process.on("exit", resolve));
         this.send("Browser.close", {}, undefined).catch(() => null);
         await ended;
-        rmSync(this.folder, { recursive: true, force: true });
+        rmSync(this.folder, { recursive: true, force: true, maxRetries: 5 });
     }
 }
