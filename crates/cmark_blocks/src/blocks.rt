@@ -3,7 +3,8 @@ ghost use Rattle.std.specs.Prelude.{◌≡◌, ◌↔◌, ◌++◌, ◌∷◌, [
 ghost use Rattle.markdown_scanners_tree.specs.SomeExactly.{SomeExactly};
 ghost use Rattle.markdown_scanners_tree.specs.scanners.TextLines.{lines_of};
 ghost use Rattle.markdown_scanners_tree.specs.scanners.html_kinds.HtmlKinds.{ends_before_blank};
-ghost use Rattle.cmark_blocks.specs.blocks.Leaves.{Begins, IsBlank, IsUnderline, EndsParagraph, ClosesFence, StopsBefore, StopsBehind, EndsAsHtml, GoesOnIndented};
+ghost use Rattle.cmark_blocks.specs.blocks.Leaves.{Begins, IsBlank, IsUnderline, EndsParagraph, ClosesFence};
+ghost use Rattle.cmark_blocks.specs.blocks.Leaves.{StopsBefore, StopsBehind, EndsAsHtml, GoesOnIndented};
 ghost use Rattle.cmark_blocks.specs.blocks.Endings.{IsEnd};
 ghost use Rattle.cmark_blocks.specs.blocks.Pages.{IsBlockOf};
 ghost use Rattle.cmark_blocks.specs.declared.blocks.BlockKind.TheVariants.{Paragraph};

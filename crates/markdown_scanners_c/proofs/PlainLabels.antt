@@ -11,7 +11,8 @@ use Rattle.std.proofs.lemmas.List.Sums.{count_by-le-length}
 use Rattle.std.proofs.lemmas.Str.{IsUtf8-append, IsUtf8-from_ascii}
 use Rattle.markdown_scanners_tree.specs.Bytes.{is_white_space, is_line_ending, is_between}
 use Rattle.markdown_scanners_tree.specs.Kept.{KeptByte, in_line, kept_head, kept_text}
-use Rattle.markdown_scanners_tree.specs.linklabel.Label.{Label, IsLabel, preceded, bracketed, kept_units, is_white, white_runs, characters, has_pipe_backslash, is_one_space, in_cell, joined_words, is_label_content, is_plain, label_between, label_of}
+use Rattle.markdown_scanners_tree.specs.linklabel.Label.{Label, IsLabel, preceded, bracketed, kept_units, is_white, white_runs, characters, has_pipe_backslash}
+use Rattle.markdown_scanners_tree.specs.linklabel.Label.{is_one_space, in_cell, joined_words, is_label_content, is_plain, label_between, label_of}
 use Rattle.markdown_scanners_tree.specs.linklabel.private.Run.{is_ordinary}
 use Rattle.markdown_scanners_tree.proofs.linklabel.CellText.{in_cell-same}
 use Rattle.markdown_scanners_tree.proofs.linklabel.JoinedWords.{text_from, joined_words-from}

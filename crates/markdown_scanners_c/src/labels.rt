@@ -1,5 +1,6 @@
 //! Link labels.
-ghost use Rattle.std.specs.Prelude.{◌≡◌, ◌≢◌, ◌≤◌, ◌<◌, ◌+◌, ◌-◌, ◌==◌, ◌&&◌, ◌||◌, not, ◌++◌, ◌⊎◌, ◌↔◌, ℕ, List, true, length, drop, take, IsAscii, if◌then◌else◌, IfSome, IfNone};
+ghost use Rattle.std.specs.Prelude.{◌≡◌, ◌≢◌, ◌≤◌, ◌<◌, ◌+◌, ◌-◌, ◌==◌, ◌&&◌, ◌||◌, not, ◌++◌, ◌⊎◌, ◌↔◌, ℕ};
+ghost use Rattle.std.specs.Prelude.{List, true, length, drop, take, IsAscii, if◌then◌else◌, IfSome, IfNone};
 ghost use Rattle.std.specs.Str.{IsUtf8};
 ghost use Rattle.markdown_values.specs.strings.Text.{is_borrowed};
 ghost use Rattle.markdown_scanners_tree.specs.Ascii.{left_bracket, right_bracket};

@@ -6,7 +6,8 @@ ghost use Rattle.markdown_scanners_tree.specs.Bytes.{begins_with, is_at_line_end
 ghost use Rattle.markdown_scanners_tree.specs.line.KnownBreaks.{learnt_by_marker};
 ghost use Rattle.markdown_scanners_tree.specs.line.Outcome.{after_all_space, after_quote, alert_outcome, definition_outcome, item_outcome, task_outcome};
 ghost use Rattle.markdown_scanners_tree.specs.line.State.{IsLineState, after_space, space_within, unscanned};
-ghost use Rattle.markdown_scanners_c.specs.LineStarts.{state_on, known_breaks, IsTrueStart, OfState, IsNext, found_status, no_columns, columns_told, no_item, item_told, no_task, task_told, alert_number, no_alert, alert_told};
+ghost use Rattle.markdown_scanners_c.specs.LineStarts.{state_on, known_breaks, IsTrueStart, OfState, IsNext, found_status, no_columns, columns_told};
+ghost use Rattle.markdown_scanners_c.specs.LineStarts.{no_item, item_told, no_task, task_told, alert_number, no_alert, alert_told};
 ghost use Rattle.markdown_scanners_c.specs.private.NoSpace.{HasNoSpace};
 ghost use Rattle.markdown_scanners_c.specs.Status.{ok, nothing, bad_state, too_large};
 

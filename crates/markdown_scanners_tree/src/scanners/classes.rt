@@ -1,6 +1,7 @@
 //! The classes of bytes, read from one table.
 ghost use Rattle.std.specs.Prelude.{◌≡◌};
-ghost use Rattle.markdown_scanners_tree.specs.Bytes.{is_line_ending, is_white_space, is_white_space_in_line, is_punctuation, is_letter, is_digit, is_alphanumeric, is_unquoted};
+ghost use Rattle.markdown_scanners_tree.specs.Bytes.{is_line_ending, is_white_space, is_white_space_in_line, is_punctuation};
+ghost use Rattle.markdown_scanners_tree.specs.Bytes.{is_letter, is_digit, is_alphanumeric, is_unquoted};
 ghost use Rattle.markdown_scanners_tree.specs.scanners.classes.private.ClassBits.{class_bits, is_in_destination};
 
 const WHITE_SPACE: u8 = 1;

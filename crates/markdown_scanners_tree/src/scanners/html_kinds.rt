@@ -7,7 +7,8 @@ ghost use Rattle.markdown_scanners_tree.specs.Bytes.{begins_with, is_letter};
 ghost use Rattle.markdown_scanners_tree.specs.declared.scanners.html_kinds.HtmlBlockKind.TheVariants.{RawText};
 ghost use Rattle.markdown_scanners_tree.specs.scanners.Interrupts.{IsInterruptingHtml};
 ghost use Rattle.markdown_scanners_tree.specs.scanners.html_block.HtmlBlock.{IsBlockStart};
-ghost use Rattle.markdown_scanners_tree.specs.scanners.html_kinds.HtmlKinds.{IsHtmlBlockStart, raw_text_names, name_among, begins_with_raw_name, ends_raw_name, ends_tag_name, begins_html_end, ends_before_blank, is_somewhere, is_html_end};
+ghost use Rattle.markdown_scanners_tree.specs.scanners.html_kinds.HtmlKinds.{IsHtmlBlockStart, raw_text_names, name_among, begins_with_raw_name, ends_raw_name};
+ghost use Rattle.markdown_scanners_tree.specs.scanners.html_kinds.HtmlKinds.{ends_tag_name, begins_html_end, ends_before_blank, is_somewhere, is_html_end};
 ghost use Rattle.markdown_scanners_tree.specs.scanners.html_kinds.private.Marks.{declared_kind, marked_kind, first_of_end};
 
 use crate::scanners::classes::{is_ascii_alphanumeric, is_ascii_letter};

@@ -2,7 +2,8 @@
 ghost use Rattle.std.specs.Prelude.{◌≡◌, ◌↔◌, IsTrue};
 ghost use Rattle.markdown_scanners_tree.specs.Bytes.{begins_with, is_space_or_tab};
 ghost use Rattle.markdown_scanners_tree.specs.scanners.Breaks.{IsThematicBreak};
-ghost use Rattle.markdown_scanners_tree.specs.scanners.Interrupts.{InterruptsParagraph, Interrupts, IsSomeHeading, IsSomeFence, IsSomeQuote, IsInterruptingItem, IsInterruptingHtml, item_interrupts, behind_indent};
+ghost use Rattle.markdown_scanners_tree.specs.scanners.Interrupts.{InterruptsParagraph, Interrupts, IsSomeHeading, IsSomeFence, IsSomeQuote};
+ghost use Rattle.markdown_scanners_tree.specs.scanners.Interrupts.{IsInterruptingItem, IsInterruptingHtml, item_interrupts, behind_indent};
 
 use crate::scanners::breaks::scan_hrule;
 use crate::scanners::fences::scan_code_fence;

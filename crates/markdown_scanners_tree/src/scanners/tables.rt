@@ -1,8 +1,10 @@
 //! The delimiter row of a table.
-ghost use Rattle.std.specs.Prelude.{◌≡◌, ◌+◌, ◌<◌, ◌≤◌, ◌==◌, ℕ, List, [], length, drop, ◌++◌, map, IsTrue, false, not, ◌||◌, ◌&&◌, OnOk, OnErr, IfSome, IfNone, IfOk};
+ghost use Rattle.std.specs.Prelude.{◌≡◌, ◌+◌, ◌<◌, ◌≤◌, ◌==◌, ℕ, List, [], length, drop, ◌++◌, map};
+ghost use Rattle.std.specs.Prelude.{IsTrue, false, not, ◌||◌, ◌&&◌, OnOk, OnErr, IfSome, IfNone, IfOk};
 ghost use Rattle.std.specs.List.{prefix_len, list_any};
 ghost use Rattle.markdown_scanners_tree.specs.Bytes.{begins_with};
-ghost use Rattle.markdown_scanners_tree.specs.scanners.tables.DelimiterRow.{is_cell_byte, alignment, alignment_by, counted_last_cell, is_space, is_hyphen, is_colon, is_pipe, IsDelimiterRow, NoDelimiterRow};
+ghost use Rattle.markdown_scanners_tree.specs.scanners.tables.DelimiterRow.{is_cell_byte, alignment, alignment_by, counted_last_cell, is_space};
+ghost use Rattle.markdown_scanners_tree.specs.scanners.tables.DelimiterRow.{is_hyphen, is_colon, is_pipe, IsDelimiterRow, NoDelimiterRow};
 ghost use Rattle.markdown_scanners_tree.specs.scanners.tables.BegunRow.{begins_with_cell, begins_row};
 ghost use Rattle.markdown_scanners_tree.specs.scanners.tables.private.RowPass.{hyphen_after, row_len, is_passed};
 ghost use Rattle.markdown_scanners_tree.specs.scanners.tables.private.ScannedCells.{after_cell, NoCells, AreScannedCells};

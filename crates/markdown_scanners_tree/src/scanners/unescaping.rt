@@ -7,7 +7,8 @@ ghost use Rattle.markdown_scanners_tree.specs.Ascii.{ampersand, backslash};
 ghost use Rattle.markdown_scanners_tree.specs.SomeExactly.{SomeExactly};
 ghost use Rattle.markdown_scanners_tree.specs.scanners.entities.CharacterReference.{Lookup};
 ghost use Rattle.markdown_scanners_tree.specs.scanners.unescaping.Unescaping.{HasPieces, ForPieces, joined_meanings, AreThemselves};
-ghost use Rattle.markdown_scanners_tree.specs.scanners.unescaping.private.FirstPiece.{IsFirstPiece, IsFirstSize, IsPushed, HasRoom, StartsWithAmpersandReference, begins_change, starts_pipe as starts_pipe_at};
+ghost use Rattle.markdown_scanners_tree.specs.scanners.unescaping.private.FirstPiece.{IsFirstPiece, IsFirstSize, IsPushed, HasRoom, StartsWithAmpersandReference};
+ghost use Rattle.markdown_scanners_tree.specs.scanners.unescaping.private.FirstPiece.{begins_change, starts_pipe as starts_pipe_at};
 
 use crate::scanners::entities::{Entities, scan_entity};
 use crate::scanners::escapes::starts_escape;

@@ -7,7 +7,8 @@ use Rattle.markdown_values.specs.declared.tree.Node.{Node}
 use Rattle.markdown_values.specs.tree.Linked.{Linked}
 use Rattle.markdown_values.specs.tree.Tree.{last, but_last, first_root, update_at, isolated, with_next, with_child}
 use Rattle.markdown_values.specs.tree.Tree as effect
-use Rattle.markdown_values.specs.tree.Forest.{Forest, no_tree, tree, first, IsRoot, count_in, children_of, with_children, IsPath, at_end, with_at_end, put_after, Focused, siblings, appended, pushed, popped, popped_to, reset_of, IsLinkedAs, StandsFor}
+use Rattle.markdown_values.specs.tree.Forest.{Forest, no_tree, tree, first, IsRoot, count_in, children_of, with_children, IsPath, at_end, with_at_end}
+use Rattle.markdown_values.specs.tree.Forest.{put_after, Focused, siblings, appended, pushed, popped, popped_to, reset_of, IsLinkedAs, StandsFor}
 use Rattle.std.proofs.lemmas.Bool.{cases_lt}
 use Rattle.std.proofs.lemmas.List.{length_push}
 use Rattle.markdown_values.proofs.tree.TreeLemmas.{first_root-empty, first_root-some, get-update_at_other, get-update_at_same, get-append_left, get-push, length-update_at, last-none, last-split}
