@@ -9,3 +9,4 @@ pub mod lines;
 pub mod links;
 pub mod options;
 pub mod outline;
+pub mod pass;
