@@ -43,16 +43,17 @@ impl<'line> LineStart<'line> {
         self.start.is_at_eol()
     }
 
-    fn next(&self) -> Option<&u8> {
-        self.bytes.get(self.start.bytes_scanned())
+    /// The byte at which a line start of these bytes stands.
+    fn next(&self, start: &markdown_scanners::LineStart) -> Option<u8> {
+        self.bytes.get(start.bytes_scanned()).copied()
     }
 
     pub(crate) fn scan_blockquote_marker(&mut self) -> bool {
-        if !matches!(self.next(), Some(b' ' | b'\t' | b'>')) {
+        if !matches!(self.next(&self.start), Some(b' ' | b'\t' | b'>')) {
             return false;
         }
         let mut start = self.start.clone();
-        let found = start.scan_space_upto(4) < 4 && start.scan_blockquote_marker();
+        let found = start.scan_space_upto(4) < 4 && self.next(&start) == Some(b'>') && start.scan_blockquote_marker();
         if found {
             self.start = start;
         }
@@ -60,12 +61,12 @@ impl<'line> LineStart<'line> {
     }
 
     pub(crate) fn scan_list_marker(&mut self) -> Option<(u8, u64, usize)> {
-        if !self.next().map_or(false, |byte| matches!(byte, b' ' | b'\t') || begins_item(*byte)) {
+        if !self.next(&self.start).map_or(false, |byte| matches!(byte, b' ' | b'\t') || begins_item(byte)) {
             return None;
         }
         let mut start = self.start.clone();
         let indent = start.scan_space_upto(4);
-        if indent == 4 {
+        if indent == 4 || !self.next(&start).map_or(false, begins_item) {
             return None;
         }
         let item = start.scan_list_marker_with_indent(indent)?;
@@ -112,7 +113,7 @@ pub(crate) fn scan_table_head(data: &[u8]) -> (usize, Vec<Alignment>) {
 
 /// Asks what the passes ask where an item begins, as the header advises: so a paragraph ends exactly before an item.
 pub(crate) fn scan_listitem(bytes: &[u8]) -> Option<(usize, u8, usize, usize)> {
-    if !bytes.first().map_or(false, |byte| begins_item(*byte)) {
+    if !bytes.first().copied().map_or(false, begins_item) {
         return None;
     }
     let mut start = markdown_scanners::LineStart::new(bytes);
@@ -182,49 +183,49 @@ pub(crate) fn scan_link_label_rest<'text>(
     text: &'text str,
     linebreak_handler: &dyn Fn(&[u8]) -> Option<usize>,
 ) -> Option<(usize, CowStr<'text>)> {
-    if let Ok(Some((length, label))) = markdown_scanners::scan_link_label_rest(first_line(text), &[], false) {
-        // a label that stands there as it is has no line ending
-        if matches!(label, Cow::Borrowed(own) if own.len() + 1 == length) || !has_line_ending(&text[..length]) {
-            return Some((length, label.into()));
-        }
+    if let Some(found) = label_in_a_line(text) {
+        return Some(found);
     }
     let (end, skips) = lines_of_label(text.as_bytes(), linebreak_handler)?;
     let label = markdown_scanners::scan_link_label_rest(&text[..end], &skips, false);
     label.expect("skips rise").map(|(length, label)| (length, label.into()))
 }
 
-/// The first line without its ending, where that is near; else all of the text.
-fn first_line(text: &str) -> &str {
+/// The label that the first closing bracket ends, if it is near and no line ends before it.
+fn label_in_a_line(text: &str) -> Option<(usize, CowStr<'_>)> {
     let near = &text.as_bytes()[..text.len().min(NEAR)];
-    memchr::memchr(b'\n', near).map_or(text, |end| &text[..end])
+    let end = memchr::memchr2(b']', b'\n', near).filter(|end| near[*end] == b']')?;
+    let (length, label) = markdown_scanners::scan_link_label_rest(&text[..=end], &[], false).ok()??;
+    // a label that stands there as it is has no line ending
+    let is_whole = matches!(label, Cow::Borrowed(own) if own.len() + 1 == length);
+    (is_whole || !text[..length].contains('\r')).then(|| (length, label.into()))
 }
 
 /// So long are most lines at most.
 const NEAR: usize = 200;
 
-fn has_line_ending(text: &str) -> bool {
-    text.bytes().any(|byte| matches!(byte, b'\n' | b'\r'))
-}
-
 /// Bytes that no label has more of: 999 characters of four.
 const LABEL: usize = 4 * 999;
 
 /// Behind the first bracket that no backslash escapes, with what the handler leaves out of the lines up to there; None where
-/// it stands in the first line, where there is none in so many bytes, or where the handler wants no more lines.
+/// it is an opening one, where there is none in so many bytes, or where the handler wants no more lines.
 fn lines_of_label(bytes: &[u8], handler: &dyn Fn(&[u8]) -> Option<usize>) -> Option<(usize, Vec<Skip>)> {
     let mut skips = Vec::new();
-    let (mut ix, mut line, mut most) = (0, 0, LABEL + 1);
+    let (mut ix, mut most) = (0, LABEL + 1);
     loop {
         let rest = bytes.get(ix..bytes.len().min(most))?;
         ix += rest.iter().position(|byte| matches!(byte, b'[' | b'\\' | b']' | b'\n' | b'\r'))?;
         match bytes[ix] {
-            b'[' | b']' => return (line > 0).then_some((ix + 1, skips)),
+            b'[' => return None,
+            b']' => return Some((ix + 1, skips)),
             b'\\' if bytes.get(ix + 1).map_or(false, |next| is_ascii_punctuation(*next)) => ix += 2,
             b'\\' => ix += 1,
             _ => {
-                line = ix + scan_eol(&bytes[ix..])?;
-                ix = leave_out(line, handler(&bytes[line..])?, &mut skips);
-                most += ix - line;
+                let line = ix + scan_eol(&bytes[ix..])?;
+                let length = handler(&bytes[line..])?;
+                skips.push(Skip::new(line, length));
+                ix = line + length;
+                most += length;
             }
         }
     }

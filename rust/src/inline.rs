@@ -269,8 +269,15 @@ type LabelText = Result<Range<usize>, String>;
 
 #[inline]
 fn label_at(bytes: &[u8], start: usize, skips: &[Skip], is_in_table: bool) -> Option<(usize, LabelText)> {
-    let mut room = [0; SMALL];
-    let label = raw::scan_link_label(bytes, start, is_in_table, skips, &mut room);
+    // Where nothing is left out most labels stand in the bytes as they are, and want no room.
+    let mut small;
+    let room: &mut [u8] = if skips.is_empty() {
+        &mut []
+    } else {
+        small = [0; SMALL];
+        &mut small
+    };
+    let label = raw::scan_link_label(bytes, start, is_in_table, skips, room);
     let text = match label.status {
         ffi::OK | ffi::TOO_SHORT if label.start != ffi::NONE => Ok(label.start..label.start + label.length),
         ffi::OK => Err(string(room[..label.length].to_vec())),

@@ -17,6 +17,9 @@ pub extern "C" fn mds_label_key(alloc: Global, text: &[u8], buffer: &mut [u8]) -
     ensures room { result.length ≤ 3 * length text.now }
     ensures no_memory { IsAscii text.now → result.status ≢ no_memory }
 {
+    if text.is_ascii() {
+        return write_lowercase(text, buffer);
+    }
     match str::from_utf8(text) {
         Ok(text) => key_text(alloc, text, buffer),
         Err(_) => no_text(NOT_UTF8),
@@ -26,11 +29,7 @@ pub extern "C" fn mds_label_key(alloc: Global, text: &[u8], buffer: &mut [u8]) -
 fn key_text(alloc: Global, text: &str, buffer: &mut [u8]) -> Text
     ensures key { IsKeyText text.now buffer.old buffer.new result }
     ensures room { result.length ≤ 3 * length text.now }
-    ensures no_memory { IsAscii text.now → result.status ≢ no_memory }
 {
-    if text.is_ascii() {
-        return write_lowercase(text.as_bytes(), buffer);
-    }
     match default_case_fold_str(alloc, text) {
         Ok(key) => write_text(key.as_bytes(), text.len(), buffer),
         Err(_) => no_text(NO_MEMORY),

@@ -109,12 +109,10 @@ pub extern "C" fn mds_line_space(bytes: &[u8], start: &mut Start, count: usize) 
     if start.has_no_space(bytes) {
         return status_of(count == 0);
     }
-    let Some(mut line) = start.on(bytes) else {
+    let Some(taken) = take_space(bytes, start, count) else {
         return BAD_STATE;
     };
-    let found = line.scan_space(count);
-    start.keep(&line);
-    status_of(found)
+    status_of(taken == count)
 }
 
 /// `struct mds_columns` of C: columns, where the status is `OK`.
@@ -145,15 +143,33 @@ pub extern "C" fn mds_line_upto(bytes: &[u8], start: &mut Start, count: usize) -
     if start.has_no_space(bytes) {
         return no_columns(OK);
     }
-    let Some(mut line) = start.on(bytes) else {
+    let Some(columns) = take_space(bytes, start, count) else {
         return no_columns(BAD_STATE);
     };
-    let columns = line.scan_space_upto(count);
-    start.keep(&line);
     Columns {
         status: OK,
         columns,
     }
+}
+
+// Takes up to so many columns of space, and says how many; None where no line start has these
+// numbers. Not inlined, or each call would save registers for it, and most take nothing.
+#[inline(never)]
+fn take_space(bytes: &[u8], start: &mut Start, count: usize) -> Option<usize>
+    ensures is_state { IfSome result (λ _. IsLineState (state_on bytes.now start.old)) }
+    ensures answer { IfSome result (λ columns.
+        columns ≡ space_within count (state_on bytes.now start.old)) }
+    ensures state { IfSome result (λ _.
+        state_on bytes.now start.new ≡ after_space count (state_on bytes.now start.old)) }
+    ensures next { IfSome result (λ _. IsNext bytes.now start.old start.new) }
+    ensures none { IfNone result (¬ IsLineState (state_on bytes.now start.old)) }
+    ensures unchanged { IfNone result (start.new ≡ start.old) }
+    ensures kept { known_breaks start.new ≡ known_breaks start.old }
+{
+    let mut line = start.on(bytes)?;
+    let columns = line.scan_space_upto(count);
+    start.keep(&line);
+    Some(columns)
 }
 
 /// Passes all spaces and tabs, each as one column, and drops pending columns. (CommonMark 0.31.2,

@@ -2,6 +2,7 @@ pub mod AsciiKeys
 pub mod CellText
 pub mod JoinedWords
 pub mod KeptTextSteps
+pub mod KeyBlocks
 pub mod MeasureLemmas
 pub mod OneLabel
 pub mod ReadsBack
@@ -12,3 +13,4 @@ pub mod WhiteRuns
 pub mod WordRunSteps
 pub mod WriteLemmas
 pub mod WrittenFits
+pub mod WrittenRuns

@@ -1,6 +1,6 @@
 //! Link labels: the bracketed names by which references and footnotes are matched.
-ghost use Rattle.std.specs.Prelude.{◌≡◌, ◌⊎◌, ◌≤◌, ◌<◌, ◌+◌, ◌-◌, ◌++◌, ◌&&◌, not, if◌then◌else◌, true, false, ℕ, nat_eq, List, length, drop, map};
-ghost use Rattle.std.specs.Prelude.{IfOk, OnOk, OnErr, IsOk, is_ok, IfSome, IfNone, option_map, string_bytes, encode_utf8, IsAscii, IsTrue, IsCharBoundary};
+ghost use Rattle.std.specs.Prelude.{◌≡◌, ◌⊎◌, ◌≤◌, ◌<◌, ◌+◌, ◌-◌, ◌++◌, ◌&&◌, not, if◌then◌else◌, true, false, ℕ, nat_eq, List, length, drop};
+ghost use Rattle.std.specs.Prelude.{IfOk, OnOk, OnErr, IsOk, is_ok, IfSome, IfNone, option_map, string_bytes, IsAscii, IsTrue, IsCharBoundary};
 ghost use Rattle.std.specs.Cmp.{on_equiv, on_per, partial_equiv_from_equiv};
 ghost use Rattle.std.specs.Cmp.Lexicographic.{pointwise, nat_list_eq_equiv};
 ghost use Rattle.std.specs.Cmp.Rules.{hashing};
@@ -13,10 +13,11 @@ ghost use Rattle.markdown_scanners_tree.specs.Handler.{Skips, IsSteadyAtChars};
 ghost use Rattle.markdown_scanners_tree.specs.linklabel.Label.{Label, IsLabel, HasNoLabel, ends_in_backslash, ReadsBack};
 ghost use Rattle.markdown_scanners_tree.specs.linklabel.Answer.{answered_label, slice_before, without_first_space, without_last_space};
 ghost use Rattle.markdown_scanners_tree.specs.linklabel.private.NextPart.{IsNextPart};
-ghost use Rattle.markdown_scanners_tree.specs.linklabel.Key.{label_key};
+ghost use Rattle.markdown_scanners_tree.specs.linklabel.Key.{label_key, key_bytes, blocks};
 ghost use Rattle.markdown_scanners_tree.specs.linklabel.private.Pass.{starts_dropped, due_len, IsWordWritten, IsMeasure};
 
 mod key;
+mod key_block;
 mod tally;
 mod word;
 
@@ -102,7 +103,7 @@ impl<'a> Eq for LinkLabel<'a> {
 }
 
 impl<'a> Hash for LinkLabel<'a> {
-    ghost hash_input = { λ l. map encode_utf8 (label_key l) ++ fed.u8 255 };
+    ghost hash_input = { λ l. blocks (key_bytes l) ++ fed.u8 255 };
 
     ghost respects_eq = { Prim.search (hashing, rules) };
 
@@ -359,10 +360,11 @@ fn write_label<F: Fn(&[u8]) -> Option<usize>>(
             }
             NextPart::Word(_, escapes) => {
                 mark = write_word(out, text, mark, ix, has_word && in_run, is_in_table)?;
+                let run = word_run(&bytes[ix + 1..], escapes, is_in_table);
                 has_word = true;
                 in_run = false;
-                escaped = escapes;
-                ix += 1;
+                escaped = run.escapes;
+                ix += 1 + run.len;
             }
         }
     }

@@ -17,7 +17,8 @@ pub(crate) struct Run {
 
 // The bytes of a word at the front, up to one that a cell of a table drops. They are read at once,
 // so that the tally is changed once for all of them. No more are read than a label has characters,
-// and one.
+// and one. It is inlined into both passes, or each would make a call for each word.
+#[inline(always)]
 pub(crate) fn word_run(rest: &[u8], escaped: bool, is_in_table: bool) -> Run
     ensures run { IsRun is_in_table escaped rest.now result.len result.characters result.escapes }
     ensures within { result.len ≤ length rest.now }

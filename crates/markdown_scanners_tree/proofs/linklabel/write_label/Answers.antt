@@ -1,8 +1,9 @@
 -- The second pass over a label.
-use Rattle.std.proofs.Common.{length-append, ◌≤◌, ℕ, ◌≡◌, ◌+◌, ◌-◌, ◌∷◌, ◌++◌, ◌&&◌, [], refl, sym, ◌∙◌, ap, subst, cond, drop, take, length, arith, inl, inr, is_ok, true≢false, get_or}
+use Rattle.std.proofs.Common.{append_assoc, length-append, length-take-le, ◌≤◌, ℕ, ◌≡◌, ◌+◌, ◌-◌, ◌∷◌, ◌++◌, ◌&&◌, [], refl, sym}
+use Rattle.std.proofs.Common.{◌∙◌, ap, subst, cond, drop, take, length, arith, inl, inr, is_ok, true, false, true≢false, get_or}
 use Rattle.std.proofs.lemmas.Bool.{false≢true}
 use Rattle.std.specs.Prelude.{slice_range}
-use Rattle.std.proofs.lemmas.List.{drop-drop}
+use Rattle.std.proofs.lemmas.List.{drop-drop, length-drop}
 use Rattle.std.proofs.lemmas.Str.{IsCharBoundary-start}
 use Rattle.std.specs.Str.{IsCharBoundary}
 use Rattle.std.specs.String.{string_bytes, string_len, string_capacity}
@@ -10,12 +11,14 @@ use Rattle.markdown_scanners_tree.specs.Handler.{Skips}
 use Rattle.markdown_scanners_tree.specs.Kept.{in_line, kept_line}
 use Rattle.markdown_scanners_tree.specs.linklabel.private.NextPart.{IsNextPart}
 use Rattle.markdown_scanners_tree.specs.linklabel.private.Pass.{due_len, starts_dropped, word_text, IsWordWritten}
+use Rattle.markdown_scanners_tree.specs.linklabel.private.Run.{IsRun}
 use Rattle.markdown_scanners_tree.specs.declared.linklabel.NextPart.TheVariants.{End, Open, Close, Ending, Space, Word}
 use Rattle.markdown_scanners_tree.proofs.linklabel.WrittenFits.{pushed_fits, no_room}
 use Rattle.markdown_scanners_tree.proofs.linklabel.SourceSteps.{IsAt, IsOnlySkip, at_start, none_at_end, none_at_opening, none_at_ending, after_word, after_space, after_ending}
-use Rattle.markdown_scanners_tree.proofs.linklabel.SourceSteps.{next_part_at, byte_fits, byte_rest, cut_after, cut_after_ending, white_small, byte_at}
-use Rattle.markdown_scanners_tree.proofs.linklabel.SeenBytes.{Written-none, word_text-length}
+use Rattle.markdown_scanners_tree.proofs.linklabel.SourceSteps.{next_part_at, byte_fits, byte_rest, cut_after, cut_after_ending, white_small, byte_at, rest_is}
+use Rattle.markdown_scanners_tree.proofs.linklabel.SeenBytes.{Written, Written-none, word_text-length}
 use Rattle.markdown_scanners_tree.proofs.linklabel.WriteLemmas.{label_written, word_written, appended, ending_written, space_written, word_follows, flushed_out}
+use Rattle.markdown_scanners_tree.proofs.linklabel.WrittenRuns.{past_run, slice_run}
 use Rattle.markdown_scanners_tree.proofs.linklabel.write_label.Goals as goal
 use Rattle.markdown_scanners_tree.proofs.linklabel.write_label.Goals.{then-has_word, else-has_word}
 
@@ -149,6 +152,8 @@ loop-out-preserved g c =
     let ix = c.loop-out.ix in
     let b = c.in-Word.field-0 in
     let inv = c.loop-out.invariant in
+    let len = c.word_run-run.result.len in
+    let behind = drop (ix + 1) text in
     let o : IsNextPart c.loop-out.escaped (drop c.loop-out.ix c.args.text.now)
     (Word c.in-Word.field-0 c.in-Word.escapes) =
     next_part_at _ _ _ _ _ _ c.as_bytes-bytes.ensures.value c.next_part.ensures c.in-Word.is in
@@ -165,22 +170,58 @@ loop-out-preserved g c =
     c.in_ok-mark-in-Word.ensures.written in
     let more = word_text (c.loop-out.has_word && c.loop-out.in_run) (starts_dropped t (drop ix text)) in
     let byte : get_or text ix 0 ≡ b = (byte_at text ix b o.others o.parts).1 in
+    let rest_of : drop (ix + 1) c.as_bytes-bytes.result.now ≡ behind =
+    ap (drop (ix + 1)) c.as_bytes-bytes.ensures.value in
+    let sliced = rest_is c.as_bytes-bytes.result.now (ix + 1) ∙ rest_of in
+    let run : IsRun t c.in-Word.escapes behind len c.word_run-run.result.characters c.word_run-run.result.escapes =
+    subst (λ z. IsRun t c.in-Word.escapes z len c.word_run-run.result.characters c.word_run-run.result.escapes) sliced
+    c.word_run-run.ensures.run in
+    let inside : len ≤ length behind = omega (arith, c.word_run-run.ensures.within, ap length sliced) in
+    let p = past_run _ _ t _ _ (ix + 1) _ _ (after_word _ _ _ _ _ _ inv.at _ _ _ o next)
+    (word_follows _ _ _ _ _ _ _ _ _ _ _ o next inv.written) _ _ _ run in
+    let place : ix + 1 + len ≡ ix + (1 + len) = omega arith in
+    let rest : drop len behind ≡ drop (ix + (1 + len)) text =
+    drop-drop len (ix + 1) text ∙ ap (λ n. drop n text) place in
+    let first = word_written (string_bytes c.args.out.now) inv.pushed (string_bytes c.loop-out.out)
+    (string_bytes c.write_word.new.out) (slice_range text c.loop-out.mark ix)
+    (slice_range text c.in_ok-mark-in-Word.mark (ix + 1)) (more b) inv.same
+    (word.text_is ∙ ap (λ n. (string_bytes c.loop-out.out ++ slice_range text c.loop-out.mark ix) ++ more n) byte) in
+    let old = string_bytes c.args.out.now in
+    let new = string_bytes c.write_word.new.out in
     record {
-      within = omega (arith, ap length c.as_bytes-bytes.ensures.value, byte_fits text ix b o.others o.parts);
-      behind = word.within;
+      within =
+          omega (
+            arith,
+            ap length c.as_bytes-bytes.ensures.value,
+            byte_fits text ix b o.others o.parts,
+            inside,
+            length-drop (ix + 1) text,
+          );
+      behind = omega (arith, word.within);
       cut = word.start;
       flushed = λ h. absurd (true≢false (sym h));
-      seen = inv.seen ++ in_line b ix ∷ [];
-      at = after_word _ _ _ _ _ _ inv.at _ _ _ o next;
-      pushed = inv.pushed ++ more b;
-      written = word_follows _ _ _ _ _ _ _ _ _ _ _ o next inv.written;
-      same = word_written (string_bytes c.args.out.now) inv.pushed (string_bytes c.loop-out.out)
-          (string_bytes c.write_word.new.out) (slice_range text c.loop-out.mark ix)
-          (slice_range text c.in_ok-mark-in-Word.mark (ix + 1)) (more b) inv.same
-          (word.text_is ∙ ap (λ n. (string_bytes c.loop-out.out ++ slice_range text c.loop-out.mark ix) ++ more n)
-          byte);
+      seen = p.seen;
+      at = subst (λ z. z) (λ i. IsAt (Skips g.F.Fn c.args.handler.now) text c.word_run-run.result.escapes p.seen
+          (place i) (rest i)) p.at;
+      pushed = (inv.pushed ++ more b) ++ take len behind;
+      written = subst (λ z. z) (λ i. Written t p.seen (place i) (rest i) true false
+          ((inv.pushed ++ more b) ++ take len behind)) p.written;
+      same = sym (append_assoc old (inv.pushed ++ more b) (take len behind))
+          ∙ ap (λ z. z ++ take len behind) first
+          ∙ append_assoc new (slice_range text c.in_ok-mark-in-Word.mark (ix + 1)) (take len behind)
+          ∙ ap (λ z. new ++ z) (slice_run text c.in_ok-mark-in-Word.mark (ix + 1) (ix + (1 + len)) len word.within
+          (sym place));
       counts =
-          omega (arith, inv.counts, length-append inv.pushed (more b), word.len_is, ap (λ n. length (more n)) byte);
+          omega (
+            arith,
+            inv.counts,
+            length-append (inv.pushed ++ more b) (take len behind),
+            length-append inv.pushed (more b),
+            length-take-le len behind inside,
+            word.within,
+            word.len_is,
+            ap (λ n. length (more n)) byte,
+          );
       room = omega (arith, inv.room, c.in_ok-mark-in-Word.ensures.capacity);
     }
 

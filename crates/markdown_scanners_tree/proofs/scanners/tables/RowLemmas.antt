@@ -1,5 +1,6 @@
 -- What a delimiter row is made of.
-use Rattle.std.proofs.Common.{take, ◌&&◌, ◌≡◌, ◌+◌, ◌-◌, ◌==◌, cond, inl, inr, ℕ, Bool, true, false, not, ◌||◌, List, [], ◌∷◌, ◌++◌, length, drop, refl, sym, ap, ◌∙◌, append_assoc}
+use Rattle.std.proofs.Common.{take, ◌&&◌, ◌≡◌, ◌+◌, ◌-◌, ◌==◌, cond, inl, inr, ℕ, Bool}
+use Rattle.std.proofs.Common.{true, false, not, ◌||◌, List, [], ◌∷◌, ◌++◌, length, drop, refl, sym, ap, ◌∙◌, append_assoc}
 use Rattle.std.specs.List.{prefix_len, list_all, list_any, flat_map}
 use Rattle.std.proofs.lemmas.List.Folds.{list_any-append}
 use Rattle.std.proofs.Math.Seq.{drop-append_seam, take-append_seam}

@@ -1,9 +1,9 @@
--- The characters of the key are hashed as they are folded.
-use Rattle.std.proofs.Common.{ℕ, List, [], ◌∷◌, ◌≡◌, Option, Some, None, refl, sym, ◌∙◌, ap, subst, MatchOption, encode_utf8, fold, map}
+-- The bytes of the key are gathered as its characters are folded.
+use Rattle.std.proofs.Common.{ℕ, List, [], ◌∷◌, ◌≡◌, Option, Some, None, sym, ◌∙◌, ap, subst, MatchOption, encode_utf8, flat_map, fold, take}
 use Rattle.std.specs.Str.Iter.{chars_steps}
 use Rattle.caseless.specs.CaseFold.{FoldsCaseTo}
 use Rattle.std.proofs.lemmas.Str.{Chars-gives, encodes-chars}
-use Rattle.markdown_scanners_tree.specs.linklabel.Key.{label_key}
+use Rattle.markdown_scanners_tree.specs.linklabel.Key.{blocks_behind, label_key}
 use Rattle.markdown_scanners_tree.proofs.linklabel.key.hash_folded.Goals as goal
 
 -- what a call gave of the characters that are left
@@ -24,7 +24,8 @@ loop-c-init g c = record {
       (label_key c.args.text.now))
       (c.default_case_fold-c-items.ensures.text _
       (Chars-gives _ _ (encodes-chars _ c.utf8.text ∙ sym c.chars.ensures.rest)));
-  same = refl;
+  same = ap (λ gathered. fold g.H.Hasher.write c.args.state.now
+      (blocks_behind gathered (flat_map encode_utf8 (label_key c.args.text.now)))) c.new-block.ensures;
 }
 
 pub loop-c-preserved : goal.loop-c-preserved
@@ -34,10 +35,9 @@ loop-c-preserved g c =
     (c.next.ensures.steps.first.at _ c.loop-c.invariant.folds) c.in-Some.is in record {
       left = first.0;
       folds = first.2;
-      same = ap (λ s. fold g.H.Hasher.write s (map encode_utf8 first.0))
-          (c.write.ensures ∙ ap (g.H.Hasher.write c.loop-c.state)
-          (c.as_bytes.ensures.value ∙ c.encode_utf8.ensures.value))
-          ∙ ap (λ left. fold g.H.Hasher.write c.loop-c.state (map encode_utf8 left)) (sym first.1)
+      same = c.push_char.ensures (flat_map encode_utf8 first.0)
+          ∙ ap (λ left. fold g.H.Hasher.write c.loop-c.state
+          (blocks_behind (take c.loop-c.block.len c.loop-c.block.bytes) (flat_map encode_utf8 left))) (sym first.1)
           ∙ c.loop-c.invariant.same;
     }
 
@@ -46,4 +46,7 @@ returns g c =
     let done =
     none_left (FoldsCaseTo chars_steps c.next.new.self) _ _
     (c.next.ensures.steps.first.at _ c.loop-c.invariant.folds) c.in-None.is in
-    ap (λ left. fold g.H.Hasher.write c.loop-c.state (map encode_utf8 left)) (sym done) ∙ c.loop-c.invariant.same
+    c.end.ensures
+    ∙ ap (λ left. fold g.H.Hasher.write c.loop-c.state
+    (blocks_behind (take c.loop-c.block.len c.loop-c.block.bytes) (flat_map encode_utf8 left))) (sym done)
+    ∙ c.loop-c.invariant.same

@@ -1,0 +1,58 @@
+-- Past the bytes of a word that are read at once: where the scan is then, and what is written of
+-- the label's text.
+use Rattle.std.proofs.Common.{ℕ, Bool, true, false, List, [], ◌∷◌, ◌++◌, ◌≡◌, ◌≤◌, ◌+◌, ◌-◌}
+use Rattle.std.proofs.Common.{sym, ◌∙◌, ap, subst, cond, arith, drop, take, add-zero, append_assoc, append-nil, take-add}
+use Rattle.std.proofs.lemmas.List.{drop-drop, take_more}
+use Rattle.markdown_scanners_tree.specs.Kept.{KeptByte, in_line}
+use Rattle.markdown_scanners_tree.specs.linklabel.private.Pass.{starts_dropped}
+use Rattle.markdown_scanners_tree.specs.linklabel.private.Run.{IsRun, none, more}
+use Rattle.markdown_scanners_tree.proofs.linklabel.SourceSteps.{IsAt, after_word, byte_at, byte_rest, same_take}
+use Rattle.markdown_scanners_tree.proofs.linklabel.SeenBytes.{Written}
+use Rattle.markdown_scanners_tree.proofs.linklabel.WriteLemmas.{word_follows}
+
+take_next : (xs : List ℕ) (n b : ℕ) (bs : List ℕ) → drop n xs ≡ b ∷ bs → take (n + 1) xs ≡ take n xs ++ b ∷ []
+take_next xs n b bs e = (let at = byte_at xs n b bs e in
+    take_more xs n 0 at.0 ∙ ap (λ x. take n xs ++ x ∷ []) at.1)
+
+-- a part of the text up to a place, and the bytes behind it
+pub slice_run : (text : List ℕ) (mark ix jx len : ℕ) → mark ≤ ix → jx ≡ ix + len
+    → take (ix - mark) (drop mark text) ++ take len (drop ix text) ≡ take (jx - mark) (drop mark text)
+slice_run text mark ix jx len h e =
+    let place : mark + (ix - mark) ≡ ix = omega (arith, h) in
+    let size : (ix - mark) + len ≡ jx - mark = omega (arith, h, e) in
+    ap (λ z. take (ix - mark) (drop mark text) ++ take len z)
+    (sym (drop-drop (ix - mark) mark text ∙ ap (λ n. drop n text) place))
+    ∙ sym (take-add (ix - mark) len (drop mark text)) ∙ same_take (drop mark text) ((ix - mark) + len) (jx - mark) size
+
+-- the state after a run
+pub record IsPast (a : List ℕ → ℕ → Type 0) (source : List ℕ) (t : Bool) (ix : ℕ) (rest pushed : List ℕ) (len : ℕ)
+    (escapes : Bool) : Type 0 where
+  pub seen : List KeptByte
+  pub at : IsAt a source escapes seen (ix + len) (drop len rest)
+  pub written : Written t seen (ix + len) (drop len rest) true false (pushed ++ take len rest)
+
+module _ (a : List ℕ → ℕ → Type 0) (source : List ℕ) (t escaped : Bool) (seen : List KeptByte) (ix : ℕ)
+    (rest pushed : List ℕ) (here : IsAt a source escaped seen ix rest)
+    (written : Written t seen ix rest true false pushed) where
+  pub past_run : (len characters : ℕ) (escapes : Bool) → IsRun t escaped rest len characters escapes
+      → IsPast a source t ix rest pushed len escapes
+  past_run len characters escapes none = record {
+    seen = seen;
+    at = subst (λ n. IsAt a source escaped seen n rest) (sym (add-zero ix)) here;
+    written = subst (λ z. z) (λ i. Written t seen (sym (add-zero ix) i) rest true false (sym (append-nil pushed) i))
+        written;
+  }
+  past_run len characters escapes (more n c byte before after r k) =
+      let p = past_run n c before r in
+      let next = byte_rest rest n byte k.word.others k.word.parts in
+      let place : (ix + n) + 1 ≡ ix + (n + 1) = omega arith in
+      let text : (pushed ++ take n rest) ++ cond (starts_dropped t (drop n rest)) [] (byte ∷ [])
+      ≡ pushed ++ take (n + 1) rest =
+      ap (λ v. (pushed ++ take n rest) ++ cond v [] (byte ∷ [])) k.kept ∙ append_assoc pushed (take n rest) (byte ∷ [])
+      ∙ ap (λ z. pushed ++ z) (sym (take_next rest n byte k.word.others k.word.parts)) in record {
+        seen = p.seen ++ in_line byte (ix + n) ∷ [];
+        at = subst (λ m. IsAt a source after (p.seen ++ in_line byte (ix + n) ∷ []) m (drop (n + 1) rest)) place
+            (after_word _ _ _ _ _ _ p.at _ _ _ k.word next);
+        written = subst (λ z. z) (λ i. Written t (p.seen ++ in_line byte (ix + n) ∷ []) (place i) (drop (n + 1) rest)
+            true false (text i)) (word_follows _ _ _ _ _ _ _ _ _ _ _ k.word next p.written);
+      }
