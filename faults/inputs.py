@@ -4,6 +4,16 @@ from running import Scan
 # How many reads and writes a run on a long input makes at least.
 MANY = 100
 
+USAGE = b"usage: cmark_scan line CALL.. | html | label | unescape\n"
+# Words that are answered, and as many that are not.
+KNOWN, OTHER = ["html"], ["htmk"]
+# What is told on standard error: by which words, under what, and with which status.
+COMPLAINTS = [
+    ("other words", OTHER, {}, 2),
+    ("no text", ["label"], {"given": b"\xff"}, 1),
+    ("a read fault", ["html"], {"read_fail": 1}, 3),
+]
+
 LIST_LINES = b"quote true\nupto 2\nlist - 0 4\nscanned 4\nrest 78\n"
 HTML_LINES = b"2 none\n7 9\n12 none\n17 28\npassed 42 of 144\n"
 
@@ -14,6 +24,9 @@ ESCAPES = Scan("escapes", "unescape", b"&lt;a&gt; \\*b", b"<a> *b")
 
 # One of each command.
 PLAIN = [A_LINE, INLINE_HTML, A_LABEL, ESCAPES]
+
+# Words whose answer wants no input.
+UNREAD = []
 
 SMALL = [
     *PLAIN,

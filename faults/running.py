@@ -32,7 +32,7 @@ class Run:
 
 
 class Scan:
-    """Words and input of a run of cmark_scan, and what it prints and answers with ample memory."""
+    """Words and input of a run of a program, and what it prints and answers with ample memory."""
 
     def __init__(self, name, words, given, out, status=0, err=b""):
         self.name, self.words, self.given = name, words.split(), given

@@ -1,12 +1,9 @@
-"""Runs of cmark_scan with memory, reads and writes refused: each has the output of the ample run, or status 3 and a word
-on why. What it is run on stands in inputs.py."""
+"""Runs of cmark_scan and cmark_blocks with memory, reads and writes refused: each has the output of the ample run, or status
+3 and a word on why. What they are run on stands in inputs.py and pages.py, and is called `inputs` here."""
 import errno
 import os
 
-import inputs
-
 NO_MEMORY, READ_FAULT, WRITE_FAULT = b"out of memory\n", b"read fault\n", b"write fault\n"
-USAGE = b"usage: cmark_scan line CALL.. | html | label | unescape\n"
 READS = 1_048_576
 HALF_GIBIBYTE = 1 << 29
 TOO_MANY = 10_000
@@ -47,15 +44,19 @@ def refused_memory(program, scan, tally):
         tally.check(f"{program.name} {scan.name}, {how}: requests that were refused", refused > 0)
 
 
-def other_words(program, tally):
+def for_words(run):
+    """The requests for the words of the command line alone, of a run that makes others behind its first read."""
+    return run.count("at_first_read" if run.count("reads") else "requests")
+
+
+def other_words(program, inputs, tally):
     """Status 2 without a read, and with no request but those for the words themselves."""
-    known = program.run(["html"])
-    run = program.run(["htmk"], b"x", read_fail=1)
-    well = (run.out, run.err, run.status) == (b"", USAGE, 2) and run.told and run.count("reads") == 0
-    well = well and run.count("requests") == known.count("at_first_read")
-    tally.check(f"{program.name}, other words", well, run)
-    run = program.run(["htmk"], b"x", refuse_from=known.count("at_first_read") + 1)
-    well = (run.out, run.err, run.status) == (b"", USAGE, 2)
+    known = for_words(program.run(inputs.KNOWN))
+    run = program.run(inputs.OTHER, b"x", read_fail=1)
+    well = (run.out, run.err, run.status) == (b"", inputs.USAGE, 2) and run.told and run.count("reads") == 0
+    tally.check(f"{program.name}, other words", well and run.count("requests") == known, run)
+    run = program.run(inputs.OTHER, b"x", refuse_from=known + 1)
+    well = (run.out, run.err, run.status) == (b"", inputs.USAGE, 2)
     tally.check(f"{program.name}, other words without memory", well and run.told, run)
 
 
@@ -101,14 +102,9 @@ def writes_of(program, scan, sizes, tally):
         tally.check(f"{program.name} {scan.name}, writes of {size} bytes", run.told and scan.is_answered(run), run)
 
 
-def failing_errors(program, tally):
+def failing_errors(program, inputs, tally):
     """What becomes of the words on standard error changes no status."""
-    rows = [
-        ("other words", ["htmk"], {}, 2),
-        ("no text", ["label"], {"given": b"\xff"}, 1),
-        ("a read fault", ["html"], {"read_fail": 1}, 3),
-    ]
-    for name, words, asked, status in rows:
+    for name, words, asked, status in inputs.COMPLAINTS:
         run = program.run(words, error_fail=1, errno=errno.EIO, **asked)
         well = (run.out, run.err, run.status) == (b"", b"", status) and run.count("errors") == 1
         tally.check(f"{program.name}, {name} that can't be told", well, run)
@@ -136,18 +132,30 @@ def real_faults(program, scan, tally):
     tally.check(f"{program.name} {scan.name}, a pipe that nobody reads", is_ended(run, WRITE_FAULT), run)
 
 
-def endless_input(program, words, tally):
-    run = program.run(words, endless=1)
+def endless_input(program, scan, tally):
+    run = program.run(scan.words, endless=1)
     well = is_ended(run, READ_FAULT) and run.count("reads") == READS
-    tally.check(f"{program.name} {words[0]}, endless input a byte a read", well, run)
-    run = program.run(words, endless=4096, memory=HALF_GIBIBYTE)
+    tally.check(f"{program.name} {scan.name}, endless input a byte a read", well, run)
+    run = program.run(scan.words, endless=4096, memory=HALF_GIBIBYTE)
     well = is_ended(run, NO_MEMORY) and 0 < run.count("reads") <= READS
-    tally.check(f"{program.name} {words[0]}, endless input in half a gibibyte", well, run)
+    tally.check(f"{program.name} {scan.name}, endless input in half a gibibyte", well, run)
 
 
-def run_scans(program, tally):
+def without_input(program, scan, tally):
+    """Words whose answer wants no input: nothing is read, and beside the words themselves nothing asks for memory."""
+    run = program.run(scan.words, closed=[0])
+    tally.check(f"{program.name} {scan.name}, no input", scan.is_answered(run) and run.count("reads") == 0, run)
+    run = program.run(scan.words, refuse_from=run.count("requests") + 1)
+    tally.check(f"{program.name} {scan.name}, without memory", scan.is_answered(run), run)
+    writes_of(program, scan, (1, 7), tally)
+    failing_writes(program, scan, 7, FAILING_WRITES, tally)
+
+
+def run_scans(program, inputs, tally):
     for scan in inputs.SMALL + inputs.large():
         refused_memory(program, scan, tally)
+    for scan in inputs.UNREAD:
+        without_input(program, scan, tally)
     for scan in inputs.SMALL:
         failing_reads(program, scan, 1, tally)
         short_reads(program, scan, 1, tally)
@@ -161,8 +169,8 @@ def run_scans(program, tally):
     for scan in inputs.large():
         reads_of(program, scan, (4095,), tally)
         writes_of(program, scan, (4095,), tally)
-    other_words(program, tally)
-    failing_errors(program, tally)
+    other_words(program, inputs, tally)
+    failing_errors(program, inputs, tally)
     for scan in inputs.PLAIN:
         real_faults(program, scan, tally)
-        endless_input(program, scan.words, tally)
+        endless_input(program, scan, tally)

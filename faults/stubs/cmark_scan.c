@@ -1,5 +1,5 @@
-/* Stands for cmark_scan in the tests of faults/run: each command prints its input. The words that may be defined are faults
- * that faults/run must tell. */
+/* Stands for cmark_scan in the tests of faults/run, and where BLOCKS is defined for cmark_blocks: each command prints its
+ * input. The other words that may be defined are faults that faults/run must tell. */
 #include <errno.h>
 #include <signal.h>
 #include <stdlib.h>
@@ -54,9 +54,9 @@ static const char *read_all(void) {
   return "read fault\n";
 }
 
-static int write_all(void) {
+static int write_all(const char *bytes, size_t length) {
   for (size_t at = 0; at < length;) {
-    ssize_t count = write(1, text + at, length - at);
+    ssize_t count = write(1, bytes + at, length - at);
     if (count < 0 && errno == EINTR)
       continue;
     if (count <= 0)
@@ -71,23 +71,36 @@ static int write_all(void) {
   return 0;
 }
 
-static int is_known(const char *word) {
-  return !strcmp(word, "line") || !strcmp(word, "html") || !strcmp(word, "label") || !strcmp(word, "unescape");
+#ifdef BLOCKS
+
+static const char usage[] = "usage: cmark_blocks [--help] < PAGE\n";
+
+static int is_known(int count, char **words) { return count < 2 || (count == 2 && !strcmp(words[1], "--help")); }
+
+#else
+
+static const char usage[] = "usage: cmark_scan line CALL.. | html | label | unescape\n";
+
+static int is_known(int count, char **words) {
+  return count > 1 && (!strcmp(words[1], "line") || !strcmp(words[1], "html") || !strcmp(words[1], "label") || !strcmp(words[1], "unescape"));
 }
+
+#endif
 
 int main(int count, char **words) {
   signal(SIGPIPE, SIG_IGN);
   char *kept = malloc(8);
   if (!kept)
     return complain("read fault\n", 3);
-  int is_label = count > 1 && !strcmp(words[1], "label"), is_other = count < 2 || !is_known(words[1]);
   free(kept);
-  if (is_other)
-    return complain("usage: cmark_scan line CALL.. | html | label | unescape\n", 2);
+  if (!is_known(count, words))
+    return complain(usage, 2);
+  if (count > 1 && !strcmp(words[1], "--help"))
+    return write_all(usage, sizeof usage - 1);
   const char *why = read_all();
   if (why)
     return complain(why, 3);
-  if (is_label && memchr(text, 0xff, length))
+  if (count > 1 && !strcmp(words[1], "label") && memchr(text, 0xff, length))
     return complain("not UTF-8\n", 1);
-  return write_all();
+  return write_all(text, length);
 }

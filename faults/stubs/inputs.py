@@ -2,6 +2,13 @@
 from running import Scan
 
 MANY = 5
+USAGE = b"usage: cmark_scan line CALL.. | html | label | unescape\n"
+KNOWN, OTHER, UNREAD = ["html"], ["htmk"], []
+COMPLAINTS = [
+    ("other words", OTHER, {}, 2),
+    ("no text", ["label"], {"given": b"\xff"}, 1),
+    ("a read fault", ["html"], {"read_fail": 1}, 3),
+]
 
 A_TEXT = Scan("a text", "unescape", b"some text", b"some text")
 PLAIN = [A_TEXT]

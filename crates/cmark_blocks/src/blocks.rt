@@ -1,17 +1,20 @@
-//! Blocks of a page, each as a whole from the front of what is left.
-ghost use Rattle.std.specs.Prelude.{◌≡◌, ◌↔◌, ◌++◌, ◌∷◌, [], List, ℕ, drop, IsTrue, MatchOption};
+//! Blocks of a page, each as a whole from the front of what is left, in their containers.
+ghost use Rattle.std.specs.Prelude.{◌≡◌, ◌↔◌, ◌++◌, ◌∷◌, [], List, ℕ, drop, IsTrue};
 ghost use Rattle.markdown_scanners_tree.specs.SomeExactly.{SomeExactly};
 ghost use Rattle.markdown_scanners_tree.specs.scanners.TextLines.{lines_of};
 ghost use Rattle.markdown_scanners_tree.specs.scanners.html_kinds.HtmlKinds.{ends_before_blank};
-ghost use Rattle.cmark_blocks.specs.blocks.Leaves.{Begins, IsBlank, IsUnderline, EndsParagraph, ClosesFence};
-ghost use Rattle.cmark_blocks.specs.blocks.Leaves.{StopsBefore, StopsBehind, EndsAsHtml, GoesOnIndented};
+ghost use Rattle.cmark_blocks.specs.blocks.Leaves.{Begins, IsUnderline, EndsParagraph, ClosesFence, HasIndent};
+ghost use Rattle.cmark_blocks.specs.blocks.Leaves.{In, IsLazy, StopsBefore, StopsBehind, EndsAsHtml, GoesOnIndented};
 ghost use Rattle.cmark_blocks.specs.blocks.Endings.{IsEnd};
 ghost use Rattle.cmark_blocks.specs.blocks.Pages.{IsBlockOf};
+ghost use Rattle.cmark_blocks.specs.containers.Containers.{IsInside, Rest};
 ghost use Rattle.cmark_blocks.specs.declared.blocks.BlockKind.TheVariants.{Paragraph};
 ghost use Rattle.cmark_blocks.specs.taken.Lines.{IsTaken};
 
-use crate::kinds::{has_indent, is_blank, kind_of, without_indent};
+use crate::containers::{Outer, go_on, rest_behind, scan_container};
+use crate::kinds::{is_blank, kind_of};
 use crate::taken::Taken;
+use markdown_scanners_tree::line::LineStart;
 use markdown_scanners_tree::scanners::{
     HtmlBlockKind, ends_html_block, interrupts_paragraph, scan_closing_code_fence,
     scan_setext_heading,
@@ -35,10 +38,6 @@ pub(crate) enum BlockKind {
     Fenced(usize, u8),
     /// An HTML block.
     Html(HtmlBlockKind),
-    /// A line that begins a block quote.
-    Quote,
-    /// A line that begins a list item.
-    Item,
     /// A paragraph.
     Paragraph,
 }
@@ -63,42 +62,41 @@ enum Ending {
     Html(HtmlBlockKind),
 }
 
-/// The block at the front of a text, if a line is left.
-pub(crate) fn scan_block(text: &[u8]) -> Option<Block>
-    ensures { MatchOption result (lines_of text.now ≡ []) (IsBlockOf text.now) }
+/// The block at the front of a text, in these containers, where its first line is taken, and has
+/// this text behind so many columns of indent.
+pub(crate) fn scan_block(
+    text: &[u8],
+    first: Taken,
+    outer: Outer,
+    indent: usize,
+    words: &[u8],
+) -> Block
+    ensures { (line : List ℕ) → IsTaken text.now first (line ∷ [])
+        → IsBlockOf text.now outer.entry.containers.now line (record { indent = indent; text = words.now }) result }
 {
-    let (line, first) = Taken::nothing().next(text)?;
-    Some(match kind_of(line) {
-        BlockKind::Blank => Block {
-            kind: BlockKind::Blank,
-            taken: take_until(text, first, Ending::Text),
-        },
-        BlockKind::Indented => Block {
-            kind: BlockKind::Indented,
-            taken: take_indented(text, first),
-        },
-        BlockKind::Fenced(count, byte) => Block {
-            kind: BlockKind::Fenced(count, byte),
-            taken: take_through(text, first, Ending::Fence(count, byte)),
-        },
-        BlockKind::Html(kind) => Block {
-            kind: BlockKind::Html(kind),
-            taken: take_html(text, kind),
-        },
-        BlockKind::Paragraph => scan_paragraph(text, first),
-        kind => Block { kind, taken: first },
-    })
+    let kind = kind_of(indent, words);
+    let taken = match kind {
+        BlockKind::Blank => take_until(text, first, outer, Ending::Text),
+        BlockKind::Indented => take_indented(text, first, outer),
+        BlockKind::Fenced(count, byte) => {
+            take_through(text, first, outer, Ending::Fence(count, byte))
+        }
+        BlockKind::Html(kind) => take_html(text, first, outer, kind, words),
+        BlockKind::Paragraph => return scan_paragraph(text, first, outer),
+        _ => first,
+    };
+    Block { kind, taken }
 }
 
 // The lines, and those behind them up to the first with this ending.
-fn take_until(text: &[u8], first: Taken, ending: Ending) -> Taken
+fn take_until(text: &[u8], first: Taken, outer: Outer, ending: Ending) -> Taken
     ensures { (lines : List (List ℕ)) → IsTaken text.now first lines
         → (more : List (List ℕ)) × IsTaken text.now result (lines ++ more)
-        × StopsBefore (IsEnd ending) more (lines_of (drop result.bytes text.now)) }
+        × StopsBefore (IsEnd outer.entry.containers.now ending) more (lines_of (drop result.bytes text.now)) }
 {
     let mut taken = first;
     while let Some((line, more)) = taken.next(text) {
-        if ends(line, ending) {
+        if ends(line, outer, ending) {
             return taken;
         }
         taken = more;
@@ -106,29 +104,35 @@ fn take_until(text: &[u8], first: Taken, ending: Ending) -> Taken
     taken
 }
 
-// The same, and that first line too.
-fn take_through(text: &[u8], first: Taken, ending: Ending) -> Taken
+// The same, and that first line too, if it stands in the containers.
+fn take_through(text: &[u8], first: Taken, outer: Outer, ending: Ending) -> Taken
     ensures { (lines : List (List ℕ)) → IsTaken text.now first lines
         → (more : List (List ℕ)) × IsTaken text.now result (lines ++ more)
-        × StopsBehind (IsEnd ending) more (lines_of (drop result.bytes text.now)) }
+        × StopsBehind outer.entry.containers.now (IsEnd outer.entry.containers.now ending) more (lines_of (drop result.bytes text.now)) }
 {
-    let taken = take_until(text, first, ending);
-    match taken.next(text) {
-        Some((_, more)) => more,
-        None => taken,
+    let taken = take_until(text, first, outer, ending);
+    if let Some((line, more)) = taken.next(text) {
+        if is_inside(line, outer) {
+            return more;
+        }
     }
+    taken
 }
 
-// The lines of an HTML block of this kind.
-fn take_html(text: &[u8], kind: HtmlBlockKind) -> Taken
-    ensures { (lines : List (List ℕ)) × IsTaken text.now result lines
-        × EndsAsHtml kind lines (lines_of (drop result.bytes text.now)) }
+// The lines of an HTML block of this kind, whose first line has this text.
+fn take_html(text: &[u8], first: Taken, outer: Outer, kind: HtmlBlockKind, words: &[u8]) -> Taken
+    ensures { (lines : List (List ℕ)) → (indent : ℕ) → IsTaken text.now first lines
+        → (more : List (List ℕ)) × IsTaken text.now result (lines ++ more)
+        × EndsAsHtml outer.entry.containers.now kind (record { indent = indent; text = words.now }) more
+        (lines_of (drop result.bytes text.now)) }
 {
     if ends_before_blank(kind) {
-        take_until(text, Taken::nothing(), Ending::Html(kind))
-    } else {
-        take_through(text, Taken::nothing(), Ending::Html(kind))
+        return take_until(text, first, outer, Ending::Html(kind));
     }
+    if ends_html_block(words, kind) {
+        return first;
+    }
+    take_through(text, first, outer, Ending::Html(kind))
 }
 
 // Whether an HTML block of this kind goes on to the next blank line.
@@ -139,16 +143,16 @@ fn ends_before_blank(kind: HtmlBlockKind) -> bool
 }
 
 // The lines, and those of the indented code that they begin: up to its last line with text.
-fn take_indented(text: &[u8], first: Taken) -> Taken
-    ensures { (line : List ℕ) → IsTaken text.now first (line ∷ []) → ¬ IsBlank line
-        → (more : List (List ℕ)) × IsTaken text.now result (line ∷ more)
-        × GoesOnIndented line more (lines_of (drop result.bytes text.now)) }
+fn take_indented(text: &[u8], first: Taken, outer: Outer) -> Taken
+    ensures { (lines : List (List ℕ)) → IsTaken text.now first lines
+        → (more : List (List ℕ)) × IsTaken text.now result (lines ++ more)
+        × GoesOnIndented outer.entry.containers.now more (lines_of (drop result.bytes text.now)) }
 {
     let mut taken = first;
     let mut seen = first;
     while let Some((line, more)) = seen.next(text) {
-        if !is_blank(line) {
-            if !has_indent(line) {
+        if ends(line, outer, Ending::Text) {
+            if !is_indented(line, outer) {
                 return taken;
             }
             taken = more;
@@ -158,14 +162,14 @@ fn take_indented(text: &[u8], first: Taken) -> Taken
     taken
 }
 
-// The paragraph that begins with this line, or the heading that it turns out to be.
-fn scan_paragraph(text: &[u8], first: Taken) -> Block
-    ensures { (line : List ℕ) → IsTaken text.now first (line ∷ []) → Begins Paragraph line
-        → IsBlockOf text.now result }
+// The paragraph whose first line this is, or the heading that it turns out to be.
+fn scan_paragraph(text: &[u8], first: Taken, outer: Outer) -> Block
+    ensures { (line : List ℕ) (rest : Rest) → IsTaken text.now first (line ∷ [])
+        → Begins Paragraph rest → IsBlockOf text.now outer.entry.containers.now line rest result }
 {
-    let taken = take_until(text, first, Ending::Paragraph);
+    let taken = take_until(text, first, outer, Ending::Paragraph);
     if let Some((line, more)) = taken.next(text) {
-        if let Some(level) = underline_level(line) {
+        if let Some(level) = underline_in(line, outer) {
             return Block {
                 kind: BlockKind::Setext(level),
                 taken: more,
@@ -178,42 +182,104 @@ fn scan_paragraph(text: &[u8], first: Taken) -> Block
     }
 }
 
-// Whether the line has this ending.
-fn ends(line: &[u8], ending: Ending) -> bool
-    ensures { IsTrue result ↔ IsEnd ending line.now }
+// Whether the line ends a block with this ending.
+fn ends(line: &[u8], outer: Outer, ending: Ending) -> bool
+    ensures { IsTrue result ↔ IsEnd outer.entry.containers.now ending line.now }
 {
+    let (kept, start) = go_on(line, outer);
+    if kept < outer.containers.len() {
+        return match ending {
+            Ending::Paragraph => !is_lazy(line, start),
+            _ => true,
+        };
+    }
+    let (indent, text) = rest_behind(line, start);
     match ending {
-        Ending::Text => !is_blank(line),
-        Ending::Paragraph => ends_paragraph(line),
-        Ending::Fence(count, byte) => closes_fence(line, count, byte),
-        Ending::Html(kind) => ends_html_block(line, kind),
+        Ending::Text => !is_blank(text),
+        Ending::Paragraph => ends_paragraph(indent, text),
+        Ending::Fence(count, byte) => closes_fence(indent, text, count, byte),
+        Ending::Html(kind) => ends_html_block(text, kind),
     }
 }
 
-// Whether the line goes on with no paragraph.
-fn ends_paragraph(line: &[u8]) -> bool
-    ensures { IsTrue result ↔ EndsParagraph line.now }
+// Whether the line stands in the containers.
+fn is_inside(line: &[u8], outer: Outer) -> bool
+    ensures { IsTrue result ↔ IsInside outer.entry.containers.now line.now }
 {
-    if is_blank(line) {
-        return true;
-    }
-    if underline_level(line).is_some() {
-        return true;
-    }
-    interrupts_paragraph(line)
+    let (kept, _) = go_on(line, outer);
+    kept == outer.containers.len()
 }
 
-// The level of the setext heading whose underline the line is.
-fn underline_level(line: &[u8]) -> Option<HeadingLevel>
-    ensures { SomeExactly (λ level. IsUnderline level line.now) result }
+// Whether the line stands in the containers, behind an indent of four columns.
+fn is_indented(line: &[u8], outer: Outer) -> bool
+    ensures { IsTrue result ↔ In outer.entry.containers.now HasIndent line.now }
 {
-    let (_, level) = scan_setext_heading(without_indent(line))?;
+    let (kept, start) = go_on(line, outer);
+    let (indent, _) = rest_behind(line, start);
+    kept == outer.containers.len() && indent == 4
+}
+
+// Whether the rest of a line, behind fewer containers than those of the paragraph before it, goes
+// on with that.
+fn is_lazy(line: &[u8], mut start: LineStart) -> bool
+    requires { start.bytes ≡ line.now }
+    ensures { IsTrue result ↔ IsLazy start.entry }
+{
+    let indent = start.scan_space_upto(4);
+    let text = &line[start.bytes_scanned()..];
+    if scan_container(line, &mut start, indent).is_some() {
+        return false;
+    }
+    if is_blank(text) {
+        return false;
+    }
+    if indent == 4 {
+        return true;
+    }
+    !interrupts_paragraph(text)
+}
+
+// Whether a line with this text behind its indent goes on with no paragraph.
+fn ends_paragraph(indent: usize, text: &[u8]) -> bool
+    ensures { IsTrue result ↔ EndsParagraph (record { indent = indent; text = text.now }) }
+{
+    if is_blank(text) {
+        return true;
+    }
+    if underline_level(indent, text).is_some() {
+        return true;
+    }
+    indent != 4 && interrupts_paragraph(text)
+}
+
+// The level of the setext heading whose underline it is.
+fn underline_level(indent: usize, text: &[u8]) -> Option<HeadingLevel>
+    ensures { SomeExactly (λ level. IsUnderline level (record { indent = indent; text = text.now }))
+        result }
+{
+    if indent == 4 {
+        return None;
+    }
+    let (_, level) = scan_setext_heading(text)?;
     Some(level)
 }
 
-// Whether the line closes fenced code.
-fn closes_fence(line: &[u8], count: usize, byte: u8) -> bool
-    ensures { IsTrue result ↔ ClosesFence count byte line.now }
+// The same of a line in the containers.
+fn underline_in(line: &[u8], outer: Outer) -> Option<HeadingLevel>
+    ensures { SomeExactly (λ level. In outer.entry.containers.now (IsUnderline level) line.now) result }
 {
-    scan_closing_code_fence(without_indent(line), byte, count).is_some()
+    let (kept, start) = go_on(line, outer);
+    if kept < outer.containers.len() {
+        return None;
+    }
+    let (indent, text) = rest_behind(line, start);
+    underline_level(indent, text)
+}
+
+// Whether it closes fenced code.
+fn closes_fence(indent: usize, text: &[u8], count: usize, byte: u8) -> bool
+    ensures { IsTrue result
+        ↔ ClosesFence count byte (record { indent = indent; text = text.now }) }
+{
+    indent != 4 && scan_closing_code_fence(text, byte, count).is_some()
 }

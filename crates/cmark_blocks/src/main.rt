@@ -2,7 +2,10 @@
 #![tactic(auto)]
 
 mod blocks;
+mod containers;
 mod faults;
+mod info;
+mod json;
 mod kinds;
 mod page;
 mod printing;

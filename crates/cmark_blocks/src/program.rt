@@ -2,38 +2,48 @@
 ghost use Rattle.std.specs.Prelude.{◌≡◌, ◌≢◌, IfOk, IfSome, IfErr, IsNone, Some};
 ghost use Rattle.std.specs.Io.KnownBytes.{IsAtEnd, Appends};
 ghost use Rattle.cmark_blocks.specs.words.Words.{request_of};
-ghost use Rattle.cmark_blocks.specs.declared.words.Request.TheVariants.{Plain};
+ghost use Rattle.cmark_blocks.specs.declared.words.Form.{Form};
+ghost use Rattle.cmark_blocks.specs.declared.words.Request.TheVariants.{Page};
 ghost use Rattle.cmark_blocks.specs.page.Told.{IsToldTo};
 ghost use Rattle.cmark_blocks.specs.faults.Faults.{IsBeforeWriting, TellsFault};
 
 use crate::faults::{Fault, complain, report_fault};
 use crate::page::page_text;
 use crate::reading::read_all;
-use crate::words::{Request, parse_request};
+use crate::words::{Form, Request, parse_request};
 use std::alloc::Global;
 use std::io::{Read, Write};
 
-const USAGE: &str = "usage: cmark_blocks [--help] < PAGE\n";
+const USAGE: &str = "usage: cmark_blocks [--json | --help] < PAGE\n";
 
 const HELP: &str = "\
-usage: cmark_blocks [--help] < PAGE
+usage: cmark_blocks [--json | --help] < PAGE
 
-Prints a line for each block of a page of Markdown, at its outermost level: the number of its
-first line, that of its last, and its kind.
+Prints a line for each block of a page of Markdown: the number of its first line, that of its
+last, how many containers it stands in, and its kind. Before it stands a line for each container
+that its first line begins, the outermost first, with the number of that line twice.
 
   blank            blank lines in a row
   break            a thematic break
   heading LEVEL    an ATX heading
   setext LEVEL     a setext heading
   indented         indented code
-  fenced COUNT C   fenced code, with the length of its fence and the byte that it is made of
+  fenced COUNT C INFO
+                   fenced code, with the length of its fence, the byte that it is made of, and
+                   the info string, unless it is empty; each byte of that which is a quotation
+                   mark, a backslash or no printable ASCII is told as \\u00 and two hexadecimal
+                   digits
   html NUMBER      an HTML block, by the number of its start condition
-  quote            a line that begins a block quote; what stands in it is not told
-  item             a line that begins a list item; what stands in it is not told
-  paragraph        a paragraph
+  paragraph        a paragraph, with its lazy lines
+  quote            a block quote
+  item C START     a list item, by its bullet or delimiter, and the number that it starts at
+
+With --json each line is an object with the members first, last, depth and kind; level of a
+heading; count, fence and info of fenced code; condition of an HTML block; delimiter and start of
+an item.
 
 Together the blocks have all lines of the page. Link reference definitions and tables are told as
-paragraphs.
+paragraphs. Where a container ends, and which items make a list, tight or loose, is not told.
 ";
 
 /// Runs the program on its words, without its name, and answers its status.
@@ -51,10 +61,10 @@ pub fn run_program<R: Read, W: Write, V: Write>(
         (result ≡ 2) × (input.new ≡ input.old) × (output.new ≡ output.old) }
     ensures status { result ≡ 2 → IsNone (request_of words.now) }
 
-    ensures told { result ≢ 3 → request_of words.now ≡ Some Plain →
+    ensures told { (form : Form) → result ≢ 3 → request_of words.now ≡ Some (Page form) →
         IfSome (R.remaining input.old) (λ bytes.
-        IsToldTo bytes (W.contents output.old) (W.contents output.new)) }
-    ensures read { result ≢ 3 → request_of words.now ≡ Some Plain →
+        IsToldTo form bytes (W.contents output.old) (W.contents output.new)) }
+    ensures read { (form : Form) → result ≢ 3 → request_of words.now ≡ Some (Page form) →
         IsAtEnd (R.remaining input.new) }
 
     // After a read fault, or out of memory, nothing was written.
@@ -80,26 +90,33 @@ fn answer<R: Read, W: Write>(
     input: &mut R,
     output: &mut W,
 ) -> Result<(), Fault>
-    ensures told { IfOk result (λ _. request ≡ Plain → IfSome (R.remaining input.old) (λ bytes.
-        IsToldTo bytes (W.contents output.old) (W.contents output.new))) }
-    ensures read { IfOk result (λ _. request ≡ Plain → IsAtEnd (R.remaining input.new)) }
+    ensures told { IfOk result (λ _. (form : Form) → request ≡ Page form →
+        IfSome (R.remaining input.old) (λ bytes.
+        IsToldTo form bytes (W.contents output.old) (W.contents output.new))) }
+    ensures read { IfOk result (λ _. (form : Form) → request ≡ Page form →
+        IsAtEnd (R.remaining input.new)) }
     ensures unwritten { IfErr result (λ fault. IsBeforeWriting fault → output.new ≡ output.old) }
 {
     match request {
-        Request::Plain => tell_page(alloc, input, output),
+        Request::Page(form) => tell_page(alloc, form, input, output),
         Request::Help => write_text(output, HELP),
     }
 }
 
-// Writes a line for each block of the input.
-fn tell_page<R: Read, W: Write>(alloc: Global, input: &mut R, output: &mut W) -> Result<(), Fault>
+// Writes a line for each block of the input, in this form.
+fn tell_page<R: Read, W: Write>(
+    alloc: Global,
+    form: Form,
+    input: &mut R,
+    output: &mut W,
+) -> Result<(), Fault>
     ensures told { IfOk result (λ _. IfSome (R.remaining input.old) (λ bytes.
-        IsToldTo bytes (W.contents output.old) (W.contents output.new))) }
+        IsToldTo form bytes (W.contents output.old) (W.contents output.new))) }
     ensures read { IfOk result (λ _. IsAtEnd (R.remaining input.new)) }
     ensures unwritten { IfErr result (λ fault. IsBeforeWriting fault → output.new ≡ output.old) }
 {
     let bytes = read_all(alloc, input)?;
-    let told = page_text(alloc, &bytes)?;
+    let told = page_text(alloc, &bytes, form)?;
     write_text(output, told.as_str())
 }
 

@@ -2,11 +2,20 @@
 ghost use Rattle.std.specs.Prelude.{◌≡◌};
 ghost use Rattle.cmark_blocks.specs.words.Words.{request_of, request_of_word};
 
+/// How a block is told.
+#[derive(Clone, Copy)]
+pub(crate) enum Form {
+    /// By words.
+    Words,
+    /// As JSON.
+    Json,
+}
+
 /// What the command line asks for.
 #[derive(Clone, Copy)]
 pub(crate) enum Request {
-    /// A line for each block.
-    Plain,
+    /// A line for each block, in this form.
+    Page(Form),
     /// The help.
     Help,
 }
@@ -16,7 +25,7 @@ pub(crate) fn parse_request(words: &[&str]) -> Option<Request>
     ensures { result ≡ request_of words.now }
 {
     match words {
-        [] => Some(Request::Plain),
+        [] => Some(Request::Page(Form::Words)),
         [word] => parse_word(word),
         _ => None,
     }
@@ -26,7 +35,9 @@ pub(crate) fn parse_request(words: &[&str]) -> Option<Request>
 fn parse_word(word: &str) -> Option<Request>
     ensures { result ≡ request_of_word word.now }
 {
-    if word == "--help" {
+    if word == "--json" {
+        Some(Request::Page(Form::Json))
+    } else if word == "--help" {
         Some(Request::Help)
     } else {
         None

@@ -8,7 +8,9 @@ use Rattle.markdown_scanners_tree.specs.Bytes.{line_length}
 use Rattle.markdown_scanners_tree.specs.scanners.TextLines.{lines_of}
 use Rattle.cmark_blocks.specs.declared.taken.Taken.{Taken}
 use Rattle.cmark_blocks.specs.taken.Lines.{IsTaken, IsNext}
-use Rattle.cmark_blocks.specs.blocks.Leaves.{StopsBefore, StopsBehind}
+use Rattle.cmark_blocks.specs.declared.containers.Container.{Container}
+use Rattle.cmark_blocks.specs.containers.Containers.{IsInside}
+use Rattle.cmark_blocks.specs.blocks.Leaves.{OnFirst, StopsBefore, StopsBehind}
 
 -- a slice from a place on is what is behind it
 pub slice_behind : (text : List ℕ) (b : ℕ) → take (length text - b) (drop b text) ≡ drop b text
@@ -53,9 +55,9 @@ module _ (P : List ℕ → Type 0) (text : List ℕ) where
   Until first taken = (lines : List (List ℕ)) → IsTaken text first lines
       → (more : List (List ℕ)) × IsTaken text taken (lines ++ more) × StopsBefore P more (lines_of (drop taken.bytes text))
 
-  abbrev pub Through : Taken → Taken → Type 0
-  Through first taken = (lines : List (List ℕ)) → IsTaken text first lines
-      → (more : List (List ℕ)) × IsTaken text taken (lines ++ more) × StopsBehind P more (lines_of (drop taken.bytes text))
+  abbrev pub Through : List Container → Taken → Taken → Type 0
+  Through outer first taken = (lines : List (List ℕ)) → IsTaken text first lines
+      → (more : List (List ℕ)) × IsTaken text taken (lines ++ more) × StopsBehind outer P more (lines_of (drop taken.bytes text))
 
   pub passed-none : (first : Taken) → Passed first first
   passed-none first lines h = ([], rw append-nil h, tt)
@@ -76,14 +78,16 @@ module _ (P : List ℕ → Type 0) (text : List ℕ) where
   until-end first taken p end lines h =
       let before = p lines h in (before.0, before.1, record { none = before.2; stopped = rw end tt })
 
-  pub through-found : (first taken more : Taken) (line : List ℕ) → Until first taken → IsNext text taken line more → Through first more
-  through-found first taken more line u n lines h =
+  pub through-found : (outer : List Container) (first taken more : Taken) (line : List ℕ) → Until first taken → IsNext text taken line more
+      → IsInside outer line → Through outer first more
+  through-found outer first taken more line u n inside lines h =
       let before = u lines h in (
         before.0 ++ line ∷ [],
         rw (← append_assoc) (taken-next text taken more (lines ++ before.0) line before.1 n),
-        inl (before.0, line, refl, record { none = before.2.none; stopped = rw n.parts at before.2.stopped }),
+        inl (before.0, line, refl, record { none = before.2.none; stopped = rw n.parts at before.2.stopped }, inside),
       )
 
-  pub through-end : (first taken : Taken) → Until first taken → lines_of (drop taken.bytes text) ≡ [] → Through first taken
-  through-end first taken u end lines h =
-      let before = u lines h in (before.0, before.1, inr (record { none = before.2.none; stopped = tt }, end))
+  pub through-end : (outer : List Container) (first taken : Taken) → Until first taken → OnFirst (λ line. ¬ IsInside outer line) (lines_of
+      (drop taken.bytes text)) → Through outer first taken
+  through-end outer first taken u end lines h =
+      let before = u lines h in (before.0, before.1, inr (before.2, end))

@@ -1,74 +1,83 @@
--- Where the blocks of a page begin and end, line by line, outside of containers. (CommonMark 0.31.2, chapter 4)
-use Rattle.std.specs.Prelude.{ℕ, List, [], ◌∷◌, ◌++◌, ◌≡◌, ◌⊎◌, ⊤, IsTrue, MatchBool}
+-- Where the blocks of a page begin and end, line by line, in their containers. (CommonMark 0.31.2, chapter 4)
+use Rattle.std.specs.Prelude.{ℕ, List, [], ◌∷◌, ◌++◌, ◌≡◌, ◌⊎◌, ⊤, None, IsTrue, MatchBool}
 use Rattle.std.specs.List.{AllByRecursion}
 use Rattle.markdown_values.specs.declared.values.HeadingLevel.{HeadingLevel}
 use Rattle.markdown_scanners_tree.specs.Bytes.{is_blank}
 use Rattle.markdown_scanners_tree.specs.declared.scanners.html_kinds.HtmlBlockKind.{HtmlBlockKind}
+use Rattle.markdown_scanners_tree.specs.line.State.{LineState}
 use Rattle.markdown_scanners_tree.specs.scanners.Breaks.{IsThematicBreak}
 use Rattle.markdown_scanners_tree.specs.scanners.Fences.{IsCodeFence, IsClosingCodeFence}
 use Rattle.markdown_scanners_tree.specs.scanners.Headings.{IsAtxHeading, IsSetextUnderline}
-use Rattle.markdown_scanners_tree.specs.scanners.Indent.{IsIndent}
-use Rattle.markdown_scanners_tree.specs.scanners.Interrupts.{InterruptsParagraph, behind_indent}
-use Rattle.markdown_scanners_tree.specs.scanners.Lines.{IsBlockQuoteStart}
+use Rattle.markdown_scanners_tree.specs.scanners.Interrupts.{InterruptsParagraph}
 use Rattle.markdown_scanners_tree.specs.scanners.html_kinds.HtmlKinds.{IsHtmlBlockStart, ends_before_blank, is_html_end}
-use Rattle.markdown_scanners_tree.specs.scanners.list_items.ListItem.{IsListItem}
+use Rattle.cmark_blocks.specs.containers.Containers.{Rest, rest_at, begun_at, behind, IsInside, rest_in}
 use Rattle.cmark_blocks.specs.declared.blocks.BlockKind.{BlockKind}
-use Rattle.cmark_blocks.specs.declared.blocks.BlockKind.TheVariants.{Blank, Break, Heading, Setext, Indented, Fenced, Html, Quote, Item, Paragraph}
+use Rattle.cmark_blocks.specs.declared.blocks.BlockKind.TheVariants.{Blank, Break, Heading, Setext, Indented, Fenced, Html, Paragraph}
+use Rattle.cmark_blocks.specs.declared.containers.Container.{Container}
 
--- the line is blank (4.9)
-abbrev pub IsBlank : List ℕ → Type 0
-IsBlank line = IsTrue (is_blank line)
+-- the rest of a line is blank (4.9)
+abbrev pub IsBlank : Rest → Type 0
+IsBlank rest = IsTrue (is_blank rest.text)
 
--- four columns of space stand before the text of the line (4.4)
-abbrev pub HasIndent : List ℕ → Type 0
-HasIndent line = (place : ℕ) × IsIndent line 4 place 4
+-- four columns of space stand before its text (4.4)
+abbrev pub HasIndent : Rest → Type 0
+HasIndent rest = rest.indent ≡ 4
 
--- a list item begins with these bytes (5.2)
-abbrev pub IsSomeItem : List ℕ → Type 0
-IsSomeItem bytes = (item : ℕ × ℕ × ℕ × ℕ) × IsListItem bytes item.0 item.1 item.2 item.3
-
--- The line is the first of a block of this kind, if these bytes are what it has behind its indent. A list item is one unless
--- it is a thematic break, and a paragraph is what is nothing else.
+-- The rest of a line is the first of a block of this kind, if this is its text behind its indent and it begins no container.
+-- A paragraph is what is nothing else.
 abbrev pub BeginsAt : BlockKind → List ℕ → Type 0
-BeginsAt Blank bytes = ⊥
-BeginsAt Indented bytes = ⊥
-BeginsAt (Setext level) bytes = ⊥
-BeginsAt Break bytes = IsThematicBreak bytes
-BeginsAt (Heading level) bytes = IsAtxHeading bytes level
-BeginsAt (Fenced count byte) bytes = IsCodeFence bytes count byte
-BeginsAt (Html kind) bytes = IsHtmlBlockStart bytes kind
-BeginsAt Quote bytes = (n : ℕ) × IsBlockQuoteStart bytes n
-BeginsAt Item bytes = IsSomeItem bytes × (¬ IsThematicBreak bytes)
-BeginsAt Paragraph bytes =
-    (¬ IsThematicBreak bytes) × ((level : HeadingLevel) → ¬ IsAtxHeading bytes level)
-    × ((fence : ℕ × ℕ) → ¬ IsCodeFence bytes fence.0 fence.1) × ((kind : HtmlBlockKind) → ¬ IsHtmlBlockStart bytes kind)
-    × ((n : ℕ) → ¬ IsBlockQuoteStart bytes n) × (¬ IsSomeItem bytes)
+BeginsAt Blank text = ⊥
+BeginsAt Indented text = ⊥
+BeginsAt (Setext level) text = ⊥
+BeginsAt Break text = IsThematicBreak text
+BeginsAt (Heading level) text = IsAtxHeading text level
+BeginsAt (Fenced count byte) text = IsCodeFence text count byte
+BeginsAt (Html kind) text = IsHtmlBlockStart text kind
+BeginsAt Paragraph text =
+    (¬ IsThematicBreak text) × ((level : HeadingLevel) → ¬ IsAtxHeading text level)
+    × ((fence : ℕ × ℕ) → ¬ IsCodeFence text fence.0 fence.1) × ((kind : HtmlBlockKind) → ¬ IsHtmlBlockStart text kind)
 
--- the line is the first of a block of this kind
-abbrev pub Begins : BlockKind → List ℕ → Type 0
-Begins Blank line = IsBlank line
-Begins Indented line = (¬ IsBlank line) × HasIndent line
-Begins kind line = (¬ IsBlank line) × (¬ HasIndent line) × BeginsAt kind (behind_indent line)
+-- the rest of a line is the first of a block of this kind
+abbrev pub Begins : BlockKind → Rest → Type 0
+Begins Blank rest = IsBlank rest
+Begins Indented rest = (¬ IsBlank rest) × HasIndent rest
+Begins kind rest = (¬ IsBlank rest) × (¬ HasIndent rest) × BeginsAt kind rest.text
 
--- the line is the underline of a setext heading of this level (4.3)
-abbrev pub IsUnderline : HeadingLevel → List ℕ → Type 0
-IsUnderline level line = (n : ℕ) × IsSetextUnderline (behind_indent line) n level
+-- it is the underline of a setext heading of this level (4.3)
+abbrev pub IsUnderline : HeadingLevel → Rest → Type 0
+IsUnderline level rest = (¬ HasIndent rest) × (n : ℕ) × IsSetextUnderline rest.text n level
 
--- the line goes on with no paragraph: it is blank, an underline, or interrupts it (4.8)
-abbrev pub EndsParagraph : List ℕ → Type 0
-EndsParagraph line = IsBlank line ⊎ (((level : HeadingLevel) × IsUnderline level line) ⊎ InterruptsParagraph line)
+-- it goes on with no paragraph: it is blank, an underline, or interrupts it (4.8)
+abbrev pub EndsParagraph : Rest → Type 0
+EndsParagraph rest =
+    IsBlank rest ⊎ (((level : HeadingLevel) × IsUnderline level rest) ⊎ ((¬ HasIndent rest) × InterruptsParagraph rest.text))
 
--- the line closes fenced code with this fence (4.5)
-abbrev pub ClosesFence : ℕ → ℕ → List ℕ → Type 0
-ClosesFence count byte line = (n : ℕ) × IsClosingCodeFence (behind_indent line) byte count n
+-- it closes fenced code with this fence (4.5)
+abbrev pub ClosesFence : ℕ → ℕ → Rest → Type 0
+ClosesFence count byte rest = (¬ HasIndent rest) × (n : ℕ) × IsClosingCodeFence rest.text byte count n
 
--- the line meets the end condition of an HTML block (4.6)
-abbrev pub EndsHtml : HtmlBlockKind → List ℕ → Type 0
-EndsHtml kind line = IsTrue (is_html_end kind line)
+-- it meets the end condition of an HTML block (4.6)
+abbrev pub EndsHtml : HtmlBlockKind → Rest → Type 0
+EndsHtml kind rest = IsTrue (is_html_end kind rest.text)
 
--- the line is not part of indented code: it is not blank, and has no indent (4.4)
-abbrev pub EndsIndented : List ℕ → Type 0
-EndsIndented line = (¬ IsBlank line) × (¬ HasIndent line)
+-- The line is lazy, with this rest behind fewer containers than the paragraph before it stands in: the rest begins no container,
+-- and it is text that does not interrupt a paragraph. (5.1, laziness; 5.2, rule 5; "Parsing strategy", phase 1)
+abbrev pub IsLazy : LineState → Type 0
+IsLazy s =
+    (begun_at s ≡ None) × (¬ IsBlank (rest_at s)) × (HasIndent (rest_at s) ⊎ (¬ InterruptsParagraph (rest_at s).text))
+
+-- the line stands in the open containers, and what it has behind them has the property
+abbrev pub In : List Container → (Rest → Type 0) → List ℕ → Type 0
+In outer P line = IsInside outer line × P (rest_in outer line)
+
+-- the line doesn't stand in them, or what it has behind them has the property
+abbrev pub OutOr : List Container → (Rest → Type 0) → List ℕ → Type 0
+OutOr outer P line = (¬ IsInside outer line) ⊎ In outer P line
+
+-- the line goes on with no paragraph in them
+abbrev pub LeavesParagraph : List Container → List ℕ → Type 0
+LeavesParagraph outer line =
+    ((¬ IsInside outer line) × (¬ IsLazy (behind outer line).state)) ⊎ In outer EndsParagraph line
 
 -- the first of the lines, if there is one
 abbrev pub OnFirst : (List ℕ → Type 0) → List (List ℕ) → Type 0
@@ -80,47 +89,55 @@ pub record StopsBefore (P : List ℕ → Type 0) (lines rest : List (List ℕ)) 
   pub none : AllByRecursion (λ line. ¬ P line) lines
   pub stopped : OnFirst P rest
 
--- the last of the lines is the first that has the property; or none has it, and they are all
-abbrev pub StopsBehind : (List ℕ → Type 0) → List (List ℕ) → List (List ℕ) → Type 0
-StopsBehind P lines rest =
-    ((before : List (List ℕ)) × (last : List ℕ) × (lines ≡ before ++ last ∷ []) × StopsBefore P before (last ∷ rest))
-    ⊎ (StopsBefore P lines [] × (rest ≡ []))
+-- the last of the lines is the first that has the property, and stands in the containers; or no such line does
+abbrev pub StopsBehind : List Container → (List ℕ → Type 0) → List (List ℕ) → List (List ℕ) → Type 0
+StopsBehind outer P lines rest =
+    ((before : List (List ℕ)) × (last : List ℕ) × (lines ≡ before ++ last ∷ []) × StopsBefore P before (last ∷ rest)
+    × IsInside outer last)
+    ⊎ (StopsBefore P lines rest × OnFirst (λ line. ¬ IsInside outer line) rest)
+
+-- the line is blank in the containers, or no part of indented code in them
+abbrev pub IsBlankIn : List Container → List ℕ → Type 0
+IsBlankIn outer line = In outer IsBlank line
+
+abbrev pub EndsIndented : List Container → List ℕ → Type 0
+EndsIndented outer line = OutOr outer (λ rest. (¬ IsBlank rest) × (¬ HasIndent rest)) line
 
 -- behind blank lines, if there are any, comes a line that is no part of indented code, or nothing
-abbrev pub NoMoreIndented : List (List ℕ) → Type 0
-NoMoreIndented [] = ⊤
-NoMoreIndented (line ∷ lines) = (IsBlank line × NoMoreIndented lines) ⊎ EndsIndented line
+abbrev pub NoMoreIndented : List Container → List (List ℕ) → Type 0
+NoMoreIndented outer [] = ⊤
+NoMoreIndented outer (line ∷ lines) = (IsBlankIn outer line × NoMoreIndented outer lines) ⊎ EndsIndented outer line
 
--- the last of the lines is not blank
-abbrev pub LastHasText : List (List ℕ) → Type 0
-LastHasText [] = ⊥
-LastHasText (line ∷ []) = ¬ IsBlank line
-LastHasText (line ∷ next ∷ lines) = LastHasText (next ∷ lines)
-
--- lines of an HTML block of this kind, from its first on
-abbrev pub EndsAsHtml : HtmlBlockKind → List (List ℕ) → List (List ℕ) → Type 0
-EndsAsHtml kind lines rest =
-    MatchBool (ends_before_blank kind) (StopsBefore (EndsHtml kind) lines rest) (StopsBehind (EndsHtml kind) lines rest)
+-- the last of the lines, if there is one, is not blank
+abbrev pub LastHasText : List Container → List (List ℕ) → Type 0
+LastHasText outer [] = ⊤
+LastHasText outer (line ∷ []) = ¬ IsBlankIn outer line
+LastHasText outer (line ∷ next ∷ lines) = LastHasText outer (next ∷ lines)
 
 -- the lines of indented code behind its first
-pub record GoesOnIndented (first : List ℕ) (later rest : List (List ℕ)) : Type 0 where
-  pub inside : AllByRecursion (λ line. ¬ EndsIndented line) later
-  pub last : LastHasText (first ∷ later)
-  pub stopped : NoMoreIndented rest
+pub record GoesOnIndented (outer : List Container) (later rest : List (List ℕ)) : Type 0 where
+  pub inside : AllByRecursion (λ line. ¬ EndsIndented outer line) later
+  pub last : LastHasText outer later
+  pub stopped : NoMoreIndented outer rest
 
--- The lines are a block of this kind, and this rest follows. A quote and an item are their first line here.
-abbrev pub IsLeaf : BlockKind → List (List ℕ) → List (List ℕ) → Type 0
-IsLeaf kind [] rest = ⊥
-IsLeaf Blank (first ∷ later) rest = Begins Blank first × StopsBefore (λ line. ¬ IsBlank line) later rest
-IsLeaf Indented (first ∷ later) rest = Begins Indented first × GoesOnIndented first later rest
-IsLeaf (Fenced count byte) (first ∷ later) rest =
-    Begins (Fenced count byte) first × StopsBehind (ClosesFence count byte) later rest
-IsLeaf (Html kind) (first ∷ later) rest = Begins (Html kind) first × EndsAsHtml kind (first ∷ later) rest
-IsLeaf Paragraph (first ∷ later) rest =
-    Begins Paragraph first × StopsBefore EndsParagraph later rest
-    × OnFirst (λ line. (level : HeadingLevel) → ¬ IsUnderline level line) rest
-IsLeaf (Setext level) (first ∷ later) rest =
+-- the lines of an HTML block of this kind behind its first: none where the first meets the end condition
+abbrev pub EndsAsHtml : List Container → HtmlBlockKind → Rest → List (List ℕ) → List (List ℕ) → Type 0
+EndsAsHtml outer kind first later rest =
+    MatchBool (ends_before_blank kind) (StopsBefore (OutOr outer (EndsHtml kind)) later rest)
+    ((EndsHtml kind first × (later ≡ [])) ⊎ ((¬ EndsHtml kind first) × StopsBehind outer (OutOr outer (EndsHtml kind)) later rest))
+
+-- In these containers a line with this rest and the later lines are a block of this kind, and this rest of the page follows.
+abbrev pub IsLeaf : List Container → BlockKind → Rest → List (List ℕ) → List (List ℕ) → Type 0
+IsLeaf outer Blank first later rest = Begins Blank first × StopsBefore (OutOr outer (λ r. ¬ IsBlank r)) later rest
+IsLeaf outer Indented first later rest = Begins Indented first × GoesOnIndented outer later rest
+IsLeaf outer (Fenced count byte) first later rest =
+    Begins (Fenced count byte) first × StopsBehind outer (OutOr outer (ClosesFence count byte)) later rest
+IsLeaf outer (Html kind) first later rest = Begins (Html kind) first × EndsAsHtml outer kind first later rest
+IsLeaf outer Paragraph first later rest =
+    Begins Paragraph first × StopsBefore (LeavesParagraph outer) later rest
+    × OnFirst (λ line. (level : HeadingLevel) → ¬ In outer (IsUnderline level) line) rest
+IsLeaf outer (Setext level) first later rest =
     Begins Paragraph first
-    × (middle : List (List ℕ)) × (last : List ℕ) × (later ≡ middle ++ last ∷ []) × StopsBefore EndsParagraph middle (last ∷ rest)
-    × IsUnderline level last
-IsLeaf kind (first ∷ later) rest = Begins kind first × (later ≡ [])
+    × (middle : List (List ℕ)) × (last : List ℕ) × (later ≡ middle ++ last ∷ [])
+    × StopsBefore (LeavesParagraph outer) middle (last ∷ rest) × In outer (IsUnderline level) last
+IsLeaf outer kind first later rest = Begins kind first × (later ≡ [])

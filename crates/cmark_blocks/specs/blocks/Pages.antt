@@ -1,33 +1,53 @@
--- A page cut into its blocks.
-use Rattle.std.specs.Prelude.{ℕ, ◌≡◌, List, [], ◌∷◌, drop, ⊤}
+-- A page cut into its blocks, in their containers.
+use Rattle.std.specs.Prelude.{ℕ, ◌≡◌, ◌++◌, List, [], ◌∷◌, drop, take, ⊤}
 use Rattle.std.specs.List.{flat_map}
+use Rattle.markdown_scanners_tree.specs.line.State.{LineState}
 use Rattle.markdown_scanners_tree.specs.scanners.TextLines.{lines_of}
+use Rattle.cmark_blocks.specs.containers.Containers.{Rest, rest_at, behind, Opens, settled_last}
 use Rattle.cmark_blocks.specs.declared.blocks.BlockKind.{BlockKind}
 use Rattle.cmark_blocks.specs.declared.blocks.Block.{Block}
+use Rattle.cmark_blocks.specs.declared.containers.Container.{Container}
 use Rattle.cmark_blocks.specs.blocks.Leaves.{IsLeaf}
 use Rattle.cmark_blocks.specs.taken.Lines.{IsTaken}
 
--- a block of a page: its kind and its lines
+-- a block of a page: the open containers that its first line goes on with, those that it begins, what it has behind them, the
+-- block's kind, and its lines
 pub record Piece : Type 0 where
+  pub kept : List Container
+  pub begun : List Container
+  pub words : Rest
   pub kind : BlockKind
-  pub lines : List (List ℕ)
+  pub first : List ℕ
+  pub later : List (List ℕ)
 
 -- the lines of the blocks, joined
 abbrev pub lines_in : List Piece → List (List ℕ)
-lines_in pieces = flat_map (λ piece. piece.lines) pieces
+lines_in pieces = flat_map (λ piece. piece.first ∷ piece.later) pieces
 
--- each is a block, and the blocks behind it are the rest
-abbrev pub AreBlocks : List Piece → Type 0
-AreBlocks [] = ⊤
-AreBlocks (piece ∷ later) = IsLeaf piece.kind piece.lines (lines_in later) × AreBlocks later
+-- of these open containers the line goes on with the first ones alone, and begins the others, which have this rest of it
+pub record AreOpened (outer : List Container) (line : List ℕ) (kept begun : List Container) (rest : Rest) : Type 0 where
+  pub goes_on : kept ≡ settled_last (take (behind outer line).kept outer)
+  pub place : LineState
+  pub begins : Opens (behind outer line).state begun place
+  pub is_rest : rest ≡ rest_at place
+
+-- where these containers are open, the piece is a block, and this rest of the page follows
+pub record IsPiece (outer : List Container) (piece : Piece) (rest : List (List ℕ)) : Type 0 where
+  pub opened : AreOpened outer piece.first piece.kept piece.begun piece.words
+  pub leaf : IsLeaf (piece.kept ++ piece.begun) piece.kind piece.words piece.later rest
+
+-- each is a block where the containers of the one before it are open, and the blocks behind it are the rest
+abbrev pub AreBlocks : List Container → List Piece → Type 0
+AreBlocks outer [] = ⊤
+AreBlocks outer (piece ∷ later) = IsPiece outer piece (lines_in later) × AreBlocks (piece.kept ++ piece.begun) later
 
 -- the blocks, joined, are the lines of the text, and each of them is a block
 pub record IsPage (text : List ℕ) (pieces : List Piece) : Type 0 where
   pub joined : lines_in pieces ≡ lines_of text
-  pub each : AreBlocks pieces
+  pub each : AreBlocks [] pieces
 
--- the block at the front of a text: its kind, its lines, and the rest behind it
-pub record IsBlockOf (text : List ℕ) (block : Block) : Type 0 where
-  pub lines : List (List ℕ)
-  pub taken : IsTaken text block.taken lines
-  pub leaf : IsLeaf block.kind lines (lines_of (drop block.taken.bytes text))
+-- the block at the front of a text, in these containers, whose first line has this rest
+pub record IsBlockOf (text : List ℕ) (outer : List Container) (line : List ℕ) (first : Rest) (block : Block) : Type 0 where
+  pub later : List (List ℕ)
+  pub taken : IsTaken text block.taken (line ∷ later)
+  pub leaf : IsLeaf outer block.kind first later (lines_of (drop block.taken.bytes text))

@@ -1,11 +1,10 @@
-use Rattle.std.proofs.Common.{ℕ, List, [], ◌∷◌, length, ◌-◌}
+use Rattle.std.proofs.Common.{ℕ, List, length, ◌-◌}
 use Rattle.cmark_blocks.specs.taken.Lines.{IsTaken}
-use Rattle.cmark_blocks.specs.blocks.Leaves.{IsBlank}
 use Rattle.cmark_blocks.proofs.blocks.IndentedLemmas.{Seen}
 use Rattle.cmark_blocks.proofs.blocks.take_indented.Given as goal
 
 abbrev pub invariant-loop-line : goal.invariant-loop-line
-invariant-loop-line l = (line : List ℕ) → IsTaken l.text l.fn.first (line ∷ []) → ¬ IsBlank line → Seen l.text line l.taken l.seen
+invariant-loop-line l = (lines : List (List ℕ)) → IsTaken l.text l.fn.first lines → Seen l.outer.containers.now l.text lines l.taken l.seen
 
 abbrev pub decreases-loop-line : goal.decreases-loop-line
 decreases-loop-line l = length l.text - l.seen.bytes

@@ -1,9 +1,8 @@
-use Rattle.cmark_blocks.specs.blocks.Leaves.{BeginsAt}
-use Rattle.std.proofs.Common.{subst}
-use Rattle.cmark_blocks.proofs.kinds.KindLemmas.{not_told, begins_behind}
+use Rattle.std.proofs.Common.{◌∙◌}
+use Rattle.cmark_blocks.proofs.kinds.KindLemmas.{begins_behind, not_told}
 use Rattle.cmark_blocks.proofs.kinds.kind_of.Goals as goal
 
 pub returns : goal.returns
 returns c =
-    begins_behind c.kind_at.result c.args.line.now (not_told c.if-is_blank.false c.is_blank.ensures.1) (not_told c.if-has_indent.false c.has_indent.ensures.1)
-    (subst (BeginsAt c.kind_at.result) c.without_indent.ensures c.kind_at.ensures)
+    begins_behind c.kind_at.result (record { indent = c.args.indent; text = c.args.text.now })
+    (not_told c.if-is_blank.false (λ t. c.is_blank.ensures ∙ t)) c.if-indent-eq4.false c.kind_at.ensures

@@ -1,0 +1,79 @@
+"""What cmark_blocks is run on: its words, its input, and what it then prints and answers with ample memory."""
+from running import TOP, Scan
+
+# How many reads and writes a run on a long input makes at least.
+MANY = 100
+
+# So many containers in each other take more memory than the first request gives room.
+DEEP = 40
+
+USAGE = b"usage: cmark_blocks [--json | --help] < PAGE\n"
+# Words that are answered, and as many that are not.
+KNOWN, OTHER = ["--json"], ["--jsom"]
+# What is told on standard error: by which words, under what, and with which status.
+COMPLAINTS = [("other words", OTHER, {}, 2), ("a read fault", [], {"read_fail": 1}, 3)]
+
+
+def help_text():
+    """The help, as the source has it."""
+    source = (TOP / "crates/cmark_blocks/src/program.rt").read_text()
+    return source.split('HELP: &str = "\\\n')[1].split('";\n')[0].replace("\\\\", "\\").encode()
+
+
+A_PAGE = Scan("a page", "", b"# a\n\nb\n===\n", b"1 1 0 heading 1\n2 2 0 blank\n3 4 0 setext 1\n")
+OBJECTS = Scan(
+    "objects",
+    "--json",
+    b"> ~~~ a",
+    b'{"first":1,"last":1,"depth":0,"kind":"quote"}\n'
+    b'{"first":1,"last":1,"depth":1,"kind":"fenced","count":3,"fence":"~","info":"a"}\n',
+)
+
+# One of each form.
+PLAIN = [A_PAGE, OBJECTS]
+
+# Words whose answer wants no input.
+UNREAD = [Scan("help", "--help", b"", help_text())]
+
+SMALL = [
+    *PLAIN,
+    Scan("code", "", b"    a\n\n~~~\nb", b"1 1 0 indented\n2 2 0 blank\n3 4 0 fenced 3 ~\n"),
+    Scan("an info string", "", b"``` \xc3\n", b"1 1 0 fenced 3 ` \\u00c3\n"),
+    Scan("HTML", "", b"<!--\n\n-->\n<p>\n", b"1 3 0 html 2\n4 4 0 html 6\n"),
+    Scan("containers", "", b"> a\n2) b\n***\n", b"1 1 0 quote\n1 1 1 paragraph\n2 2 0 item ) 2\n2 2 1 paragraph\n3 3 0 break\n"),
+    Scan("deep containers", "", b">" * DEEP + b"a\n", b"".join(b"1 1 %d quote\n" % it for it in range(DEEP)) + b"1 1 %d paragraph\n" % DEEP),
+    Scan("no page", "", b"", b""),
+]
+
+
+def headings(count):
+    shown = b"".join(b"%d %d 0 heading 1\n" % (line, line) for line in range(1, count + 1))
+    return Scan("headings", "", b"# ab cd\n" * count, shown)
+
+
+def objects(count):
+    shown = b"".join(b'{"first":%d,"last":%d,"depth":0,"kind":"break"}\n' % (line, line) for line in range(1, count + 1))
+    return Scan("objects of breaks", "--json", b"* * * *\n" * count, shown)
+
+
+def items(count):
+    shown = b"".join(b"%d %d 0 item - 0\n%d %d 1 paragraph\n" % ((line,) * 4) for line in range(1, count + 1))
+    return Scan("items", "", b"- ab cd\n" * count, shown)
+
+
+def a_paragraph(count):
+    return Scan("a paragraph", "", b"ab cd\n" * count, b"1 %d 0 paragraph\n" % count)
+
+
+def open_code(count):
+    return Scan("open code", "", b"```\n" + b"\n" * count, b"1 %d 0 fenced 3 `\n" % (count + 1))
+
+
+def long():
+    """Pages that take more than MANY reads of 4,096 bytes."""
+    return [headings(52_000), objects(52_000)]
+
+
+def large():
+    """Pages of a mebibyte or so."""
+    return [headings(130_000), objects(130_000), items(130_000), a_paragraph(175_000), open_code(1_000_000)]
