@@ -10,6 +10,7 @@ use std::alloc::{AllocError, Global};
 use std::cmp::Ordering;
 use std::fmt::Debug;
 use std::hash::Hash;
+use std::process::Abort;
 use std::test::Fail;
 
 fn is_printed<T: Debug>(alloc: Global, value: &T) -> Result<bool, AllocError> {
@@ -73,35 +74,40 @@ fn links_and_alignments_are_copied_and_compared(rt: HostRuntime) -> Result<(), F
     Ok(())
 }
 
-fn is_compared<T: Debug + PartialEq>(
+fn is_compared<T: Debug + Drop + PartialEq>(
     alloc: Global,
-    one: &T,
-    other: &T,
+    one: T,
+    other: T,
 ) -> Result<bool, AllocError> {
-    let is_printed = is_printed(alloc, one)?;
-    Ok(*one == *one && *one != *other && is_printed)
+    let is_printed = is_printed(alloc, &one)?;
+    Ok(one == one && one != other && is_printed)
 }
 
 #[test]
 fn tags_and_events_are_compared(rt: HostRuntime) -> Result<(), Fail> {
     let alloc = rt.alloc();
     let fenced = CodeBlockKind::Fenced(CowStr::from("a"));
-    assert!(rt; is_compared(alloc, &CodeBlockKind::Indented, &fenced)?);
-    assert!(rt; is_compared(alloc, &Tag::Paragraph, &Tag::Item)?);
-    assert!(rt; is_compared(alloc, &Event::Rule, &Event::HardBreak)?);
+    assert!(rt; is_compared(alloc, fenced, CodeBlockKind::Indented)?);
+    assert!(rt; is_compared(alloc, Tag::Paragraph, Tag::Item)?);
+    assert!(rt; is_compared(alloc, Event::Rule, Event::HardBreak)?);
+    Ok(())
+}
+
+fn print_boxed(rt: &impl Abort, alloc: Global, text: &CowStr<'_>) -> Result<(), AllocError> {
+    if let CowStr::Boxed(text) = text {
+        assert!(rt; is_printed(alloc, text)?);
+    }
+    assert!(rt; is_printed(alloc, text)?);
     Ok(())
 }
 
 #[test]
 fn texts_are_printed_by_debug(rt: HostRuntime) -> Result<(), Fail> {
     let alloc = rt.alloc();
-    let owned = CowStr::from_string(alloc, String::from_str(alloc, "a")?)?;
-    if let CowStr::Boxed(text) = &owned {
-        assert!(rt; is_printed(alloc, text)?);
-    }
-    assert!(rt; is_printed(alloc, &owned)?);
     assert!(rt; is_printed(alloc, &InlineStr::from('a'))?);
     assert!(rt; is_printed(alloc, &StringTooLongError)?);
+    let owned = CowStr::from_string(alloc, String::from_str(alloc, "a")?)?;
+    print_boxed(&rt, alloc, &owned)?;
     Ok(())
 }
 
@@ -116,12 +122,16 @@ fn is_between<T: Clone + Copy + Debug + Eq + PartialOrd>(
     Ok(is_same && less < more && !(more <= less) && is_printed)
 }
 
-#[test]
-fn indices_of_a_tree_are_copied_and_ordered(rt: HostRuntime) -> Result<(), Fail> {
-    let alloc = rt.alloc();
-    let mut tree: Tree<u8> = Tree::with_capacity(alloc, 3)?;
+fn compare_indices(rt: &impl Abort, alloc: Global, tree: &mut Tree<u8>) -> Result<(), AllocError> {
     let first: TreeIndex = tree.append(b'a')?;
     let second = tree.append(b'b')?;
     assert!(rt; is_between(alloc, first, second)?);
+    Ok(())
+}
+
+#[test]
+fn indices_of_a_tree_are_copied_and_ordered(rt: HostRuntime) -> Result<(), Fail> {
+    let mut tree = Tree::with_capacity(rt.alloc(), 3)?;
+    compare_indices(&rt, rt.alloc(), &mut tree)?;
     Ok(())
 }

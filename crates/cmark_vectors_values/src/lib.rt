@@ -8,6 +8,8 @@ mod asserts;
 mod bounds;
 #[cfg(test)]
 mod derives;
+#[cfg(test)]
+mod kept;
 pub mod pieces;
 #[cfg(test)]
 mod strings;

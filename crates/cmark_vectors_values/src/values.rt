@@ -1,6 +1,7 @@
 //! Tags, events, headings and links: rows of their calls.
-use crate::asserts::{are_different, are_made_same, are_same, assert_same};
+use crate::asserts::{are_different, are_made_same, are_same, assert_same, assert_text};
 use crate::bounds::printed;
+use crate::kept::{Kept, assert_kept, assert_made_kept};
 use markdown_values::strings::CowStr;
 use markdown_values::values::{
     Alignment, BlockQuoteKind, CodeBlockKind, Event, HeadingLevel, InvalidHeadingLevel, LinkType,
@@ -28,12 +29,10 @@ fn assert_level(
     number: usize,
     level: HeadingLevel,
     name: &str,
-) -> Result<(), Fail> {
+) -> Result<(), AllocError> {
     assert_same(rt, HeadingLevel::try_from(number), Ok(level));
     assert_same(rt, level as usize, number);
-    let text = printed(alloc, &level)?;
-    assert_same(rt, text.as_str(), name);
-    Ok(())
+    assert_text(rt, printed(alloc, &level), name)
 }
 
 fn printed_wide(alloc: Global, level: HeadingLevel) -> Result<String, AllocError> {
@@ -61,8 +60,7 @@ fn levels_are_one_to_six(rt: HostRuntime) -> Result<(), Fail> {
         );
     }
     assert_same(&rt, level_of(6_usize), Ok(HeadingLevel::H6));
-    let wide = printed_wide(rt.alloc(), HeadingLevel::H3)?;
-    assert_same(&rt, wide.as_str(), "<h3>");
+    assert_text(&rt, printed_wide(rt.alloc(), HeadingLevel::H3), "<h3>")?;
     Ok(())
 }
 
@@ -85,50 +83,6 @@ fn references_become_unknown(rt: HostRuntime) {
     );
 }
 
-// A value, a copy of it, and it with nothing borrowed.
-trait Kept {
-    fn copied(&self, alloc: Global) -> Result<Self, AllocError>;
-
-    fn made_static(self, alloc: Global) -> Result<Self, AllocError>;
-}
-
-impl Kept for CodeBlockKind<'static> {
-    fn copied(&self, alloc: Global) -> Result<CodeBlockKind<'static>, AllocError> {
-        self.clone(alloc)
-    }
-
-    fn made_static(self, alloc: Global) -> Result<CodeBlockKind<'static>, AllocError> {
-        self.into_static(alloc)
-    }
-}
-
-impl Kept for Tag<'static> {
-    fn copied(&self, alloc: Global) -> Result<Tag<'static>, AllocError> {
-        self.clone(alloc)
-    }
-
-    fn made_static(self, alloc: Global) -> Result<Tag<'static>, AllocError> {
-        self.into_static(alloc)
-    }
-}
-
-impl Kept for Event<'static> {
-    fn copied(&self, alloc: Global) -> Result<Event<'static>, AllocError> {
-        self.clone(alloc)
-    }
-
-    fn made_static(self, alloc: Global) -> Result<Event<'static>, AllocError> {
-        self.into_static(alloc)
-    }
-}
-
-// A copy of a value, and the value with nothing borrowed, equal the value.
-fn is_kept<T: Drop + Kept + PartialEq>(alloc: Global, value: T) -> Result<bool, AllocError> {
-    let copy = value.copied(alloc)?;
-    let is_equal = copy == value;
-    Ok(value.made_static(alloc)? == copy && is_equal)
-}
-
 // Whether a code block is indented, and whether it is fenced.
 fn indented_and_fenced(kind: CodeBlockKind<'_>) -> (bool, bool) {
     (kind.is_indented(), kind.is_fenced())
@@ -146,8 +100,8 @@ fn code_blocks_are_indented_or_fenced(rt: HostRuntime) -> Result<(), Fail> {
         (true, false),
     );
     assert_same(&rt, indented_and_fenced(fenced("rust")), (false, true));
-    assert!(rt; is_kept(rt.alloc(), fenced("rust"))?);
-    assert!(rt; is_kept(rt.alloc(), CodeBlockKind::Indented)?);
+    assert_kept(&rt, rt.alloc(), fenced("rust"))?;
+    assert_kept(&rt, rt.alloc(), CodeBlockKind::Indented)?;
     assert!(rt; are_different(fenced("rust"), CodeBlockKind::Indented));
     assert!(rt; are_different(fenced("rust"), fenced("rus")));
     Ok(())
@@ -215,64 +169,77 @@ fn table(alloc: Global, last: Alignment) -> Result<Tag<'static>, AllocError> {
 }
 
 // A tag is ended by `end`, however it is asked.
-fn ends_as(tag: Tag<'_>, end: TagEnd) -> bool {
-    let of_reference = tag.to_end();
-    let of_value = TagEnd::from(tag);
-    of_reference == end && of_value == end
+fn assert_end(rt: &impl Abort, tag: Tag<'_>, end: TagEnd) {
+    assert_same(rt, tag.to_end(), end);
+    assert_same(rt, TagEnd::from(tag), end);
+}
+
+// The same of a tag that is made first.
+fn assert_made_end(
+    rt: &impl Abort,
+    made: Result<Tag<'_>, AllocError>,
+    end: TagEnd,
+) -> Result<(), AllocError> {
+    assert_end(rt, made?, end);
+    Ok(())
 }
 
 #[test]
-fn tags_with_contents_end_as_the_table_says(rt: HostRuntime) -> Result<(), Fail> {
+fn headings_and_tables_end_as_the_table_says(rt: HostRuntime) -> Result<(), Fail> {
     let alloc = rt.alloc();
-    let tag = heading(alloc, ("i", "c", "a", None))?;
-    assert!(rt; ends_as(tag, TagEnd::Heading(HeadingLevel::H2)));
+    let level = HeadingLevel::H2;
+    assert_made_end(
+        &rt,
+        heading(alloc, ("i", "c", "a", None)),
+        TagEnd::Heading(level),
+    )?;
+    assert_made_end(&rt, table(alloc, Alignment::Left), TagEnd::Table)?;
+    Ok(())
+}
+
+#[test]
+fn tags_with_contents_end_as_the_table_says(rt: HostRuntime) {
     for kind in [
         None,
         Some(BlockQuoteKind::Tip),
         Some(BlockQuoteKind::Caution),
     ] {
-        assert!(rt; ends_as(Tag::BlockQuote(kind), TagEnd::BlockQuote(kind)));
+        assert_end(&rt, Tag::BlockQuote(kind), TagEnd::BlockQuote(kind));
     }
-    assert!(rt; ends_as(Tag::CodeBlock(CodeBlockKind::Indented), TagEnd::CodeBlock));
-    assert!(rt; ends_as(Tag::List(Some(3)), TagEnd::List(true)));
-    assert!(rt; ends_as(Tag::List(Some(0)), TagEnd::List(true)));
-    assert!(rt; ends_as(Tag::List(None), TagEnd::List(false)));
-    assert!(rt;
-        ends_as(
-            Tag::FootnoteDefinition(CowStr::from("1")),
-            TagEnd::FootnoteDefinition
-        )
+    assert_end(
+        &rt,
+        Tag::CodeBlock(CodeBlockKind::Indented),
+        TagEnd::CodeBlock,
     );
-    assert!(rt; ends_as(table(alloc, Alignment::Left)?, TagEnd::Table));
-    assert!(rt; ends_as(link("d", "t", "i"), TagEnd::Link));
-    assert!(rt; ends_as(image(LinkType::Email), TagEnd::Image));
+    assert_end(&rt, Tag::List(Some(3)), TagEnd::List(true));
+    assert_end(&rt, Tag::List(Some(0)), TagEnd::List(true));
+    assert_end(&rt, Tag::List(None), TagEnd::List(false));
+    let footnote = Tag::FootnoteDefinition(CowStr::from("1"));
+    assert_end(&rt, footnote, TagEnd::FootnoteDefinition);
+    assert_end(&rt, link("d", "t", "i"), TagEnd::Link);
+    assert_end(&rt, image(LinkType::Email), TagEnd::Image);
     for kind in [MetadataBlockKind::YamlStyle, MetadataBlockKind::PlusesStyle] {
-        assert!(rt; ends_as(Tag::MetadataBlock(kind), TagEnd::MetadataBlock(kind)));
+        assert_end(&rt, Tag::MetadataBlock(kind), TagEnd::MetadataBlock(kind));
     }
-    Ok(())
 }
 
 #[test]
 fn plain_tags_end_as_the_table_says(rt: HostRuntime) {
-    assert!(rt; ends_as(Tag::Paragraph, TagEnd::Paragraph));
-    assert!(rt; ends_as(Tag::HtmlBlock, TagEnd::HtmlBlock));
-    assert!(rt; ends_as(Tag::Item, TagEnd::Item));
-    assert!(rt; ends_as(Tag::DefinitionList, TagEnd::DefinitionList));
-    assert!(rt; ends_as(Tag::DefinitionListTitle, TagEnd::DefinitionListTitle));
-    assert!(rt;
-        ends_as(
-            Tag::DefinitionListDefinition,
-            TagEnd::DefinitionListDefinition
-        )
-    );
-    assert!(rt; ends_as(Tag::TableHead, TagEnd::TableHead));
-    assert!(rt; ends_as(Tag::TableRow, TagEnd::TableRow));
-    assert!(rt; ends_as(Tag::TableCell, TagEnd::TableCell));
-    assert!(rt; ends_as(Tag::Emphasis, TagEnd::Emphasis));
-    assert!(rt; ends_as(Tag::Strong, TagEnd::Strong));
-    assert!(rt; ends_as(Tag::Strikethrough, TagEnd::Strikethrough));
-    assert!(rt; ends_as(Tag::Superscript, TagEnd::Superscript));
-    assert!(rt; ends_as(Tag::Subscript, TagEnd::Subscript));
+    assert_end(&rt, Tag::Paragraph, TagEnd::Paragraph);
+    assert_end(&rt, Tag::HtmlBlock, TagEnd::HtmlBlock);
+    assert_end(&rt, Tag::Item, TagEnd::Item);
+    assert_end(&rt, Tag::DefinitionList, TagEnd::DefinitionList);
+    assert_end(&rt, Tag::DefinitionListTitle, TagEnd::DefinitionListTitle);
+    let definition = TagEnd::DefinitionListDefinition;
+    assert_end(&rt, Tag::DefinitionListDefinition, definition);
+    assert_end(&rt, Tag::TableHead, TagEnd::TableHead);
+    assert_end(&rt, Tag::TableRow, TagEnd::TableRow);
+    assert_end(&rt, Tag::TableCell, TagEnd::TableCell);
+    assert_end(&rt, Tag::Emphasis, TagEnd::Emphasis);
+    assert_end(&rt, Tag::Strong, TagEnd::Strong);
+    assert_end(&rt, Tag::Strikethrough, TagEnd::Strikethrough);
+    assert_end(&rt, Tag::Superscript, TagEnd::Superscript);
+    assert_end(&rt, Tag::Subscript, TagEnd::Subscript);
 }
 
 // Whether headings made of these are equal.
@@ -349,41 +316,52 @@ fn tables_differ_in_their_alignments(rt: HostRuntime) -> Result<(), Fail> {
 #[test]
 fn copies_and_static_tags_equal_the_tag(rt: HostRuntime) -> Result<(), Fail> {
     let alloc = rt.alloc();
-    assert!(rt; is_kept(alloc, Tag::Paragraph)?);
-    assert!(rt; is_kept(alloc, heading(alloc, ("i", OF_30, "a", Some(OF_30)))?)?);
-    assert!(rt; is_kept(alloc, Tag::BlockQuote(Some(BlockQuoteKind::Note)))?);
-    assert!(rt;
-        is_kept(
-            alloc,
-            Tag::CodeBlock(CodeBlockKind::Fenced(CowStr::from(OF_30)))
-        )?
-    );
-    assert!(rt; is_kept(alloc, Tag::List(Some(3)))?);
-    assert!(rt; is_kept(alloc, Tag::FootnoteDefinition(CowStr::from(OF_15)))?);
-    assert!(rt; is_kept(alloc, table(alloc, Alignment::Center)?)?);
-    assert!(rt; is_kept(alloc, link(OF_30, OF_15, ""))?);
-    assert!(rt; is_kept(alloc, image(LinkType::WikiLink { has_pothole: true }))?);
-    assert!(rt; is_kept(alloc, Tag::MetadataBlock(MetadataBlockKind::PlusesStyle))?);
+    assert_kept(&rt, alloc, Tag::Paragraph)?;
+    assert_made_kept(&rt, alloc, heading(alloc, ("i", OF_30, "a", Some(OF_30))))?;
+    assert_kept(&rt, alloc, Tag::BlockQuote(Some(BlockQuoteKind::Note)))?;
+    assert_kept(&rt, alloc, Tag::CodeBlock(fenced(OF_30)))?;
+    assert_kept(&rt, alloc, Tag::List(Some(3)))?;
+    assert_kept(&rt, alloc, Tag::Item)?;
+    assert_kept(&rt, alloc, Tag::FootnoteDefinition(CowStr::from(OF_15)))?;
+    assert_made_kept(&rt, alloc, table(alloc, Alignment::Center))?;
+    assert_kept(&rt, alloc, link(OF_30, OF_15, ""))?;
+    assert_kept(&rt, alloc, image(LinkType::WikiLink { has_pothole: true }))?;
+    assert_kept(
+        &rt,
+        alloc,
+        Tag::MetadataBlock(MetadataBlockKind::PlusesStyle),
+    )?;
+    Ok(())
+}
+
+// A start of a table.
+fn start_of_table(alloc: Global) -> Result<Event<'static>, AllocError> {
+    Ok(Event::Start(table(alloc, Alignment::Right)?))
+}
+
+#[test]
+fn copies_and_static_events_of_texts_equal_the_event(rt: HostRuntime) -> Result<(), Fail> {
+    let alloc = rt.alloc();
+    let text = CowStr::from;
+    assert_kept(&rt, alloc, Event::Text(text(OF_30)))?;
+    assert_kept(&rt, alloc, Event::Code(text(OF_15)))?;
+    assert_kept(&rt, alloc, Event::InlineMath(text("x")))?;
+    assert_kept(&rt, alloc, Event::DisplayMath(text("x")))?;
+    assert_kept(&rt, alloc, Event::Html(text("<a>")))?;
+    assert_kept(&rt, alloc, Event::InlineHtml(text("<a>")))?;
+    assert_kept(&rt, alloc, Event::FootnoteReference(text("1")))?;
     Ok(())
 }
 
 #[test]
 fn copies_and_static_events_equal_the_event(rt: HostRuntime) -> Result<(), Fail> {
     let alloc = rt.alloc();
-    let text = CowStr::from;
-    assert!(rt; is_kept(alloc, Event::Start(table(alloc, Alignment::Right)?))?);
-    assert!(rt; is_kept(alloc, Event::End(TagEnd::List(true)))?);
-    assert!(rt; is_kept(alloc, Event::Text(text(OF_30)))?);
-    assert!(rt; is_kept(alloc, Event::Code(text(OF_15)))?);
-    assert!(rt; is_kept(alloc, Event::InlineMath(text("x")))?);
-    assert!(rt; is_kept(alloc, Event::DisplayMath(text("x")))?);
-    assert!(rt; is_kept(alloc, Event::Html(text("<a>")))?);
-    assert!(rt; is_kept(alloc, Event::InlineHtml(text("<a>")))?);
-    assert!(rt; is_kept(alloc, Event::FootnoteReference(text("1")))?);
-    assert!(rt; is_kept(alloc, Event::SoftBreak)?);
-    assert!(rt; is_kept(alloc, Event::HardBreak)?);
-    assert!(rt; is_kept(alloc, Event::Rule)?);
-    assert!(rt; is_kept(alloc, Event::TaskListMarker(true))?);
+    assert_made_kept(&rt, alloc, start_of_table(alloc))?;
+    assert_kept(&rt, alloc, Event::End(TagEnd::List(true)))?;
+    assert_kept(&rt, alloc, Event::SoftBreak)?;
+    assert_kept(&rt, alloc, Event::HardBreak)?;
+    assert_kept(&rt, alloc, Event::Rule)?;
+    assert_kept(&rt, alloc, Event::TaskListMarker(true))?;
     Ok(())
 }
 

@@ -5,6 +5,7 @@ ghost use Rattle.std.specs.Int.RustNames.{bit_and, bit_or, bit_xor};
 use crate::asserts::assert_same;
 use bitflags::Flags;
 use markdown_values::values::Options;
+use std::process::Abort;
 
 // What each call answers, by the bits of its arguments.
 fn bits_of_empty() -> u32
@@ -153,51 +154,57 @@ fn old_footnotes() -> u32
 }
 
 #[test]
-fn flags_have_the_names_and_bits_of_the_table(rt: HostRuntime) {
-    let rows = [
-        (Options::ENABLE_TABLES, "ENABLE_TABLES", 2),
-        (Options::ENABLE_FOOTNOTES, "ENABLE_FOOTNOTES", 4),
-        (Options::ENABLE_STRIKETHROUGH, "ENABLE_STRIKETHROUGH", 8),
-        (Options::ENABLE_TASKLISTS, "ENABLE_TASKLISTS", 16),
-        (
-            Options::ENABLE_SMART_PUNCTUATION,
-            "ENABLE_SMART_PUNCTUATION",
-            32,
-        ),
-        (
-            Options::ENABLE_HEADING_ATTRIBUTES,
-            "ENABLE_HEADING_ATTRIBUTES",
-            64,
-        ),
-        (
-            Options::ENABLE_YAML_STYLE_METADATA_BLOCKS,
-            "ENABLE_YAML_STYLE_METADATA_BLOCKS",
-            128,
-        ),
-        (
-            Options::ENABLE_PLUSES_DELIMITED_METADATA_BLOCKS,
-            "ENABLE_PLUSES_DELIMITED_METADATA_BLOCKS",
-            256,
-        ),
-        (Options::ENABLE_OLD_FOOTNOTES, "ENABLE_OLD_FOOTNOTES", 516),
-        (Options::ENABLE_MATH, "ENABLE_MATH", 1024),
-        (Options::ENABLE_GFM, "ENABLE_GFM", 2048),
-        (
-            Options::ENABLE_DEFINITION_LIST,
-            "ENABLE_DEFINITION_LIST",
-            4096,
-        ),
-        (Options::ENABLE_SUPERSCRIPT, "ENABLE_SUPERSCRIPT", 8192),
-        (Options::ENABLE_SUBSCRIPT, "ENABLE_SUBSCRIPT", 16384),
-        (Options::ENABLE_WIKILINKS, "ENABLE_WIKILINKS", 32768),
-    ];
-    let flags = Options::flags();
-    assert_same(&rt, flags.len(), rows.len());
-    for (flag, (options, name, bits)) in flags.iter().zip(rows) {
-        assert_eq!(rt; options.bits(), bits, "at {name}");
-        assert_same(&rt, flag.name(), name);
-        assert_eq!(rt; flag.value().bits(), bits, "at {name}");
+fn options_have_the_bits_of_the_table(rt: HostRuntime) {
+    assert_same(&rt, Options::ENABLE_TABLES.bits(), 2);
+    assert_same(&rt, Options::ENABLE_FOOTNOTES.bits(), 4);
+    assert_same(&rt, Options::ENABLE_STRIKETHROUGH.bits(), 8);
+    assert_same(&rt, Options::ENABLE_TASKLISTS.bits(), 16);
+    assert_same(&rt, Options::ENABLE_SMART_PUNCTUATION.bits(), 32);
+    assert_same(&rt, Options::ENABLE_HEADING_ATTRIBUTES.bits(), 64);
+    assert_same(&rt, Options::ENABLE_YAML_STYLE_METADATA_BLOCKS.bits(), 128);
+    assert_same(
+        &rt,
+        Options::ENABLE_PLUSES_DELIMITED_METADATA_BLOCKS.bits(),
+        256,
+    );
+    assert_same(&rt, Options::ENABLE_OLD_FOOTNOTES.bits(), 516);
+    assert_same(&rt, Options::ENABLE_MATH.bits(), 1024);
+    assert_same(&rt, Options::ENABLE_GFM.bits(), 2048);
+    assert_same(&rt, Options::ENABLE_DEFINITION_LIST.bits(), 4096);
+    assert_same(&rt, Options::ENABLE_SUPERSCRIPT.bits(), 8192);
+    assert_same(&rt, Options::ENABLE_SUBSCRIPT.bits(), 16384);
+    assert_same(&rt, Options::ENABLE_WIKILINKS.bits(), 32768);
+}
+
+// The flag of this position has this name and these bits.
+fn assert_flag(rt: &impl Abort, position: usize, name: &str, bits: u32) {
+    match Options::flags().get(position) {
+        Some(flag) => {
+            assert_same(rt, flag.name(), name);
+            assert_same(rt, flag.value().bits(), bits);
+        }
+        None => assert!(rt; false, "no {name}"),
     }
+}
+
+#[test]
+fn flags_have_the_names_and_bits_of_the_table(rt: HostRuntime) {
+    assert_same(&rt, Options::flags().len(), 15);
+    assert_flag(&rt, 0, "ENABLE_TABLES", 2);
+    assert_flag(&rt, 1, "ENABLE_FOOTNOTES", 4);
+    assert_flag(&rt, 2, "ENABLE_STRIKETHROUGH", 8);
+    assert_flag(&rt, 3, "ENABLE_TASKLISTS", 16);
+    assert_flag(&rt, 4, "ENABLE_SMART_PUNCTUATION", 32);
+    assert_flag(&rt, 5, "ENABLE_HEADING_ATTRIBUTES", 64);
+    assert_flag(&rt, 6, "ENABLE_YAML_STYLE_METADATA_BLOCKS", 128);
+    assert_flag(&rt, 7, "ENABLE_PLUSES_DELIMITED_METADATA_BLOCKS", 256);
+    assert_flag(&rt, 8, "ENABLE_OLD_FOOTNOTES", 516);
+    assert_flag(&rt, 9, "ENABLE_MATH", 1024);
+    assert_flag(&rt, 10, "ENABLE_GFM", 2048);
+    assert_flag(&rt, 11, "ENABLE_DEFINITION_LIST", 4096);
+    assert_flag(&rt, 12, "ENABLE_SUPERSCRIPT", 8192);
+    assert_flag(&rt, 13, "ENABLE_SUBSCRIPT", 16384);
+    assert_flag(&rt, 14, "ENABLE_WIKILINKS", 32768);
 }
 
 #[test]

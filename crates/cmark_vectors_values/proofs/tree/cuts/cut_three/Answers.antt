@@ -3,7 +3,7 @@ use Rattle.markdown_values.specs.tree.Linked.{Linked}
 use Rattle.markdown_values.specs.tree.Tree.{after_append}
 use Rattle.cmark_vectors_values.specs.declared.pieces.Piece.{Piece}
 use Rattle.cmark_vectors_values.proofs.PieceTrees.{can_cut_three}
-use Rattle.cmark_vectors_values.proofs.tree.cut_three.Goals as goal
+use Rattle.cmark_vectors_values.proofs.tree.cuts.cut_three.Goals as goal
 
 pub truncate_siblings-requires-clause-range : goal.truncate_siblings-requires-clause-range
 truncate_siblings-requires-clause-range c =

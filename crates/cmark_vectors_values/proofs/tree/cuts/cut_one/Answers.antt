@@ -1,5 +1,5 @@
 use Rattle.cmark_vectors_values.proofs.PieceTrees.{can_cut_one}
-use Rattle.cmark_vectors_values.proofs.tree.cut_one.Goals as goal
+use Rattle.cmark_vectors_values.proofs.tree.cuts.cut_one.Goals as goal
 
 pub truncate_siblings-requires-clause-range : goal.truncate_siblings-requires-clause-range
 truncate_siblings-requires-clause-range c =

@@ -1,0 +1,75 @@
+//! The calls that copy a value, and that make one with nothing borrowed, of all types alike.
+use crate::asserts::assert_same;
+use markdown_values::strings::CowStr;
+use markdown_values::values::{CodeBlockKind, Event, Tag};
+use std::alloc::{AllocError, Global};
+use std::fmt::Debug;
+use std::process::Abort;
+
+/// A value, a copy of it, and it with nothing borrowed.
+pub(crate) trait Kept {
+    fn copied(&self, alloc: Global) -> Result<Self, AllocError>;
+
+    fn made_static(self, alloc: Global) -> Result<Self, AllocError>;
+}
+
+impl Kept for CowStr<'static> {
+    fn copied(&self, alloc: Global) -> Result<CowStr<'static>, AllocError> {
+        self.clone(alloc)
+    }
+
+    fn made_static(self, alloc: Global) -> Result<CowStr<'static>, AllocError> {
+        self.into_static(alloc)
+    }
+}
+
+impl Kept for CodeBlockKind<'static> {
+    fn copied(&self, alloc: Global) -> Result<CodeBlockKind<'static>, AllocError> {
+        self.clone(alloc)
+    }
+
+    fn made_static(self, alloc: Global) -> Result<CodeBlockKind<'static>, AllocError> {
+        self.into_static(alloc)
+    }
+}
+
+impl Kept for Tag<'static> {
+    fn copied(&self, alloc: Global) -> Result<Tag<'static>, AllocError> {
+        self.clone(alloc)
+    }
+
+    fn made_static(self, alloc: Global) -> Result<Tag<'static>, AllocError> {
+        self.into_static(alloc)
+    }
+}
+
+impl Kept for Event<'static> {
+    fn copied(&self, alloc: Global) -> Result<Event<'static>, AllocError> {
+        self.clone(alloc)
+    }
+
+    fn made_static(self, alloc: Global) -> Result<Event<'static>, AllocError> {
+        self.into_static(alloc)
+    }
+}
+
+/// A copy of a value, and the value with nothing borrowed, equal the value.
+pub(crate) fn assert_kept<T: Debug + Drop + Kept + PartialEq>(
+    rt: &impl Abort,
+    alloc: Global,
+    value: T,
+) -> Result<(), AllocError> {
+    let copy = value.copied(alloc)?;
+    assert_same(rt, &copy, &value);
+    assert_same(rt, value.made_static(alloc)?, copy);
+    Ok(())
+}
+
+/// The same of a value that is made first.
+pub(crate) fn assert_made_kept<T: Debug + Drop + Kept + PartialEq>(
+    rt: &impl Abort,
+    alloc: Global,
+    made: Result<T, AllocError>,
+) -> Result<(), AllocError> {
+    assert_kept(rt, alloc, made?)
+}
