@@ -1,5 +1,6 @@
 //! Each call that a case may name: its arguments are read, it is made, and its answer is written.
 pub(crate) mod blocks;
+pub(crate) mod html_blocks;
 pub(crate) mod inline;
 pub(crate) mod inline_html;
 pub(crate) mod line;
@@ -21,6 +22,7 @@ pub(crate) fn answer(
         b"line" => line::run(alloc, arguments),
         b"eol" => lines::eol(alloc, arguments),
         b"blank" => lines::blank_line(alloc, arguments),
+        b"linelength" => lines::line_length(alloc, arguments),
         b"nextline" => lines::next_line(alloc, arguments),
         b"wsnonl" => lines::white_space(alloc, arguments),
         b"chrepeat" => lines::repeated(alloc, arguments),
@@ -35,6 +37,7 @@ pub(crate) fn answer(
         b"closemeta" => blocks::closing_metadata(alloc, arguments),
         b"listitem" => blocks::list_item(alloc, arguments),
         b"tablehead" => blocks::delimiter_row(alloc, arguments),
+        b"interrupts" => blocks::interruption(alloc, arguments),
         b"entity" => inline::character_reference(alloc, arguments),
         b"unescape" => inline::unescaped(alloc, arguments),
         b"wikilink" => inline::wikilink_pipe(alloc, arguments),
@@ -42,6 +45,8 @@ pub(crate) fn answer(
         b"autolink" => inline::autolink(alloc, arguments),
         b"type6" => tags::block_name(alloc, arguments),
         b"type7" => tags::tag_alone(alloc, arguments),
+        b"htmlstart" => html_blocks::start(alloc, arguments),
+        b"htmlends" => html_blocks::end(alloc, arguments),
         b"htmlinner" => tags::tag(alloc, arguments),
         b"inlinehtml" => inline_html::finds(alloc, arguments),
         b"label" => linklabel::label(alloc, arguments),

@@ -12,7 +12,7 @@ pub(crate) struct OrNone<T>(pub Option<T>);
 impl<T: fmt::Display> fmt::Display for OrNone<T> {
     fn fmt<W: fmt::Write>(&self, f: &mut fmt::Formatter<W>) -> fmt::Result {
         match &self.0 {
-            Some(value) => write!(f, "{value}"),
+            Some(value) => value.fmt(f),
             None => f.write_str(NONE),
         }
     }

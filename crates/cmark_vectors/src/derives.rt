@@ -5,40 +5,67 @@ use markdown_scanners_tree::linklabel::ReferenceLabel;
 use markdown_values::strings::CowStr;
 use std::alloc::{AllocError, Global};
 use std::fmt::Debug;
+use std::process::Abort;
 use std::test::Fail;
 
 fn debug_printed<T: Debug>(alloc: Global, value: &T) -> Result<String, AllocError> {
     format!(in alloc; "{value:?}")
 }
 
-fn is_compared<T: Debug + PartialEq>(
+// Two values of one type are printed, and differ.
+fn expect_different<T: Debug + PartialEq>(
+    rt: &impl Abort,
     alloc: Global,
     one: &T,
     other: &T,
-) -> Result<bool, AllocError> {
+) -> Result<(), Fail> {
     let text = debug_printed(alloc, one)?;
-    Ok(*one == *one && *one != *other && !text.is_empty())
-}
-
-#[test]
-fn runs_are_compared(rt: HostRuntime) -> Result<(), Fail> {
-    let alloc = rt.alloc();
-    assert!(rt; is_compared(alloc, &LineCall::Eol, &LineCall::Quote)?);
-    assert!(rt; is_compared(alloc, &LineAnswer::Count(0), &LineAnswer::Count(1))?);
-    assert!(rt; is_compared(alloc, &LineStop::SpacePending, &LineStop::IndentTooLarge)?);
-    let empty = run_line(alloc, b"", &[])?;
-    assert!(rt; is_compared(alloc, &empty, &run_line(alloc, b"", &[LineCall::Eol])?)?);
-    assert!(rt; is_compared(alloc, &HtmlStop::NoOpener, &HtmlStop::NotRising)?);
-    let empty = run_inline_html(alloc, b"<!", &[])?;
-    assert!(rt; is_compared(alloc, &empty, &run_inline_html(alloc, b"<!", &[2])?)?);
+    assert!(rt; *one == *one && *one != *other && !text.is_empty());
     Ok(())
 }
 
 #[test]
-fn references_are_printed_by_debug(rt: HostRuntime) -> Result<(), Fail> {
+fn answers_are_compared(rt: HostRuntime) -> Result<(), Fail> {
     let alloc = rt.alloc();
-    let link = debug_printed(alloc, &ReferenceLabel::Link(CowStr::from("a")))?;
-    let note = debug_printed(alloc, &ReferenceLabel::Footnote(CowStr::from("a")))?;
-    assert!(rt; link != note);
+    expect_different(&rt, alloc, &LineCall::Eol, &LineCall::Quote)?;
+    expect_different(&rt, alloc, &LineAnswer::Count(0), &LineAnswer::Count(1))?;
+    expect_different(
+        &rt,
+        alloc,
+        &LineStop::SpacePending,
+        &LineStop::IndentTooLarge,
+    )?;
+    expect_different(&rt, alloc, &HtmlStop::NoOpener, &HtmlStop::NotRising)
+}
+
+#[test]
+fn runs_of_lines_are_compared(rt: HostRuntime) -> Result<(), Fail> {
+    let empty = run_line(rt.alloc(), b"", &[])?;
+    expect_different(
+        &rt,
+        rt.alloc(),
+        &empty,
+        &run_line(rt.alloc(), b"", &[LineCall::Eol])?,
+    )
+}
+
+#[test]
+fn runs_of_html_are_compared(rt: HostRuntime) -> Result<(), Fail> {
+    let empty = run_inline_html(rt.alloc(), b"<!", &[])?;
+    expect_different(
+        &rt,
+        rt.alloc(),
+        &empty,
+        &run_inline_html(rt.alloc(), b"<!", &[2])?,
+    )
+}
+
+#[test]
+fn references_are_printed_by_debug(rt: HostRuntime) -> Result<(), Fail> {
+    let link = ReferenceLabel::Link(CowStr::from("a"));
+    let note = ReferenceLabel::Footnote(CowStr::from("a"));
+    let one = debug_printed(rt.alloc(), &link)?;
+    let other = debug_printed(rt.alloc(), &note)?;
+    assert!(rt; one != other);
     Ok(())
 }

@@ -9,9 +9,6 @@ use std::mem::size_of;
 use std::process::Abort;
 use std::test::Fail;
 
-// A place just after an opener, and the find there.
-type Find = (usize, Option<usize>);
-
 // The scan that the mark before the place asks for.
 fn find_at(text: &[u8], place: usize, guard: &mut HtmlScanGuard) -> Option<usize> {
     match text.get(place.wrapping_sub(1)) {
@@ -33,169 +30,243 @@ fn a_run_has_room_for_its_fields_alone(rt: HostRuntime) {
     assert_eq!(rt; size_of::<InlineHtmlRun>(), 32 + 4 * 8 + 3 * 8 + 8);
 }
 
+fn expect_end(rt: &impl Abort, text: &[u8], place: usize, end: Option<usize>) {
+    assert!(rt; find_with_new_guard(text, place) == end, "in {text:?}");
+}
+
 #[test]
 fn scans_find_where_a_construct_ends(rt: HostRuntime) {
-    assert_eq!(rt; find_with_new_guard(b"<![CDATA[a]>b]]>", 2), Some(16));
-    assert_eq!(rt; find_with_new_guard(b"<!-->", 2), Some(5));
-    assert_eq!(rt; find_with_new_guard(b"<!--->", 2), Some(6));
-    assert_eq!(rt; find_with_new_guard(b"<?>", 2), None);
-    assert_eq!(rt; find_with_new_guard(b"<?>?>", 2), Some(5));
+    expect_end(&rt, b"<![CDATA[a]>b]]>", 2, Some(16));
+    expect_end(&rt, b"<!-->", 2, Some(5));
+    expect_end(&rt, b"<!--->", 2, Some(6));
+    expect_end(&rt, b"<?>", 2, None);
+    expect_end(&rt, b"<?>?>", 2, Some(5));
     let mut guard = HtmlScanGuard::new();
-    assert_eq!(rt; scan_inline_html_processing(b"?>", 0, &mut guard), None);
+    assert!(rt; scan_inline_html_processing(b"?>", 0, &mut guard).is_none());
+}
+
+// A scan finds nothing, and leaves its kinds shut up to these places: comments, processing
+// instructions, CDATA sections and declarations.
+fn expect_shut(
+    rt: &impl Abort,
+    text: &[u8],
+    guard: &mut HtmlScanGuard,
+    shut: (usize, usize, usize, usize),
+) {
+    assert!(rt; find_at(text, 2, guard).is_none(), "in {text:?}");
+    let found = (
+        guard.comment,
+        guard.processing,
+        guard.cdata,
+        guard.declaration,
+    );
+    assert!(rt; found == shut, "in {text:?}");
 }
 
 #[test]
 fn a_scan_that_finds_no_end_shuts_its_kind(rt: HostRuntime) {
     let mut guard = HtmlScanGuard::new();
-    assert_eq!(rt; scan_inline_html_comment(b"<!--a", 2, &mut guard), None);
-    assert_eq!(rt; guard.comment, 5);
-    assert_eq!(rt; scan_inline_html_comment(b"<!-->", 2, &mut guard), None);
-    assert_eq!(rt; scan_inline_html_processing(b"<?a", 2, &mut guard), None);
-    assert_eq!(rt; guard.processing, 3);
-    assert_eq!(rt; scan_inline_html_processing(b"<??>", 2, &mut guard), None);
-    assert_eq!(rt; (guard.cdata, guard.declaration), (0, 0));
+    expect_shut(&rt, b"<!--a", &mut guard, (5, 0, 0, 0));
+    expect_shut(&rt, b"<!-->", &mut guard, (5, 0, 0, 0));
+    expect_shut(&rt, b"<?a", &mut guard, (5, 3, 0, 0));
+    expect_shut(&rt, b"<??>", &mut guard, (5, 3, 0, 0));
+}
+
+// A counted scan at the place: where its construct ends, and the bytes passed over by then.
+fn expect_counted(
+    rt: &impl Abort,
+    text: &mut CountedText<'_>,
+    guard: &mut HtmlScanGuard,
+    place: usize,
+    wanted: (Option<usize>, u128),
+) {
+    assert!(rt; text.passed() < 1_000_000 && place <= text.len());
+    let end = match text.opener_before(place) {
+        Some(b'!') => scan_inline_html_comment_counted(text, place, guard),
+        _ => scan_inline_html_processing_counted(text, place, guard),
+    };
+    assert!(rt; end == wanted.0 && text.passed() == wanted.1, "at {place}");
 }
 
 #[test]
 fn counted_scans_count_what_they_pass_over(rt: HostRuntime) {
     let mut guard = HtmlScanGuard::new();
     let mut text = CountedText::new(b"<!--<?a?><!--");
-    assert_eq!(rt; text.len(), 13);
-    assert_eq!(rt; text.opener_before(2), Some(b'!'));
-    assert_eq!(rt; text.opener_before(6), Some(b'?'));
-    assert_eq!(rt; text.opener_before(3), None);
-    assert_eq!(rt; text.passed(), 0);
-    assert_eq!(rt;
-        scan_inline_html_comment_counted(&mut text, 2, &mut guard),
-        None
+    expect_counted(&rt, &mut text, &mut guard, 2, (None, 13));
+    expect_counted(&rt, &mut text, &mut guard, 6, (Some(9), 16));
+    expect_counted(&rt, &mut text, &mut guard, 11, (None, 17));
+    assert!(rt; guard.comment == 13);
+}
+
+fn expect_opener(rt: &impl Abort, text: &CountedText<'_>, place: usize, opener: Option<u8>) {
+    assert!(rt; text.opener_before(place) == opener, "before {place}");
+}
+
+#[test]
+fn openers_are_looked_at_uncounted(rt: HostRuntime) {
+    let text = CountedText::new(b"<!--<?a?><!--");
+    assert!(rt; text.len() == 13);
+    expect_opener(&rt, &text, 2, Some(b'!'));
+    expect_opener(&rt, &text, 6, Some(b'?'));
+    expect_opener(&rt, &text, 3, None);
+    assert!(rt; text.passed() == 0);
+}
+
+fn expect_look(
+    rt: &impl Abort,
+    text: &mut CountedText<'_>,
+    place: usize,
+    byte: Option<u8>,
+    passed: u128,
+) {
+    assert!(rt; text.passed() < 1_000_000);
+    assert!(rt;
+        text.look(place) == byte && text.passed() == passed,
+        "at {place}"
     );
-    assert_eq!(rt; guard.comment, 13);
-    assert_eq!(rt; text.passed(), 13);
-    assert_eq!(rt;
-        scan_inline_html_processing_counted(&mut text, 6, &mut guard),
-        Some(9)
+}
+
+fn expect_part(
+    rt: &impl Abort,
+    text: &mut CountedText<'_>,
+    place: usize,
+    stands: bool,
+    passed: u128,
+) {
+    assert!(rt; text.passed() < 1_000_000);
+    assert!(rt;
+        text.starts(place, b"-->") == stands && text.passed() == passed,
+        "at {place}"
     );
-    assert_eq!(rt; text.passed(), 16);
-    assert_eq!(rt;
-        scan_inline_html_comment_counted(&mut text, 11, &mut guard),
-        None
+}
+
+fn expect_found(
+    rt: &impl Abort,
+    text: &mut CountedText<'_>,
+    place: usize,
+    found: Option<usize>,
+    passed: u128,
+) {
+    assert!(rt; text.passed() < 1_000_000);
+    assert!(rt;
+        text.find(b"-->", place) == found && text.passed() == passed,
+        "from {place}"
     );
-    assert_eq!(rt; text.passed(), 17);
 }
 
 #[test]
 fn each_call_of_a_counted_text_counts(rt: HostRuntime) {
     let mut text = CountedText::new(b"a-->b");
-    assert_eq!(rt; text.look(4), Some(b'b'));
-    assert_eq!(rt; text.look(5), None);
-    assert_eq!(rt; text.passed(), 2);
-    assert_eq!(rt; text.starts(1, b"-->"), true);
-    assert_eq!(rt; text.starts(2, b"-->"), false);
-    assert_eq!(rt; text.passed(), 8);
-    assert_eq!(rt; text.find(b"-->", 0), Some(1));
-    assert_eq!(rt; text.passed(), 12);
-    assert_eq!(rt; text.find(b"-->", 2), None);
-    assert_eq!(rt; text.passed(), 15);
-    assert_eq!(rt; text.find(b"-->", 6), None);
-    assert_eq!(rt; text.passed(), 15);
+    expect_look(&rt, &mut text, 4, Some(b'b'), 1);
+    expect_look(&rt, &mut text, 5, None, 2);
+    expect_part(&rt, &mut text, 1, true, 5);
+    expect_part(&rt, &mut text, 2, false, 8);
+    expect_found(&rt, &mut text, 0, Some(1), 12);
+    expect_found(&rt, &mut text, 2, None, 15);
+    expect_found(&rt, &mut text, 6, None, 15);
 }
-
-// A text, the finds at its places, the bytes passed over, and the most that the budget allows.
-type Row = (&'static [u8], &'static [Find], u128, u128);
-
-const ROWS: [Row; 9] = [
-    (
-        b"<!-- <!x> <!-- <![CDATA[ ]]>",
-        &[(2, None), (7, Some(9)), (12, None), (17, Some(28))],
-        42,
-        144,
-    ),
-    (b"<!DOCTYPE html>", &[(2, Some(15))], 13, 68),
-    (b"<!-->", &[(2, Some(5))], 5, 28),
-    (b"<!->", &[(2, None)], 2, 24),
-    (b"<!", &[(2, None)], 1, 16),
-    (b"<![CDATA[", &[(2, None)], 7, 44),
-    (b"<?a?>", &[(2, Some(5))], 3, 28),
-    (b"<!a><!b>", &[(2, Some(4)), (6, Some(8))], 4, 48),
-    (b"<!-x<!-->", &[(2, None), (6, Some(9))], 7, 52),
-];
 
 // Four bytes for each byte of the text, and eight for each step.
 fn budget(size: usize, steps: usize) -> u128 {
     4 * size as u128 + 8 * steps as u128
 }
 
+// A run at these places of a text: what it finds, the bytes passed over, and the most that the
+// budget allows.
+fn expect_run(
+    rt: &impl Abort,
+    alloc: Global,
+    text: &[u8],
+    places: &[usize],
+    finds: &[Option<usize>],
+    counts: (u128, u128),
+) -> Result<(), Fail> {
+    let run = run_inline_html(alloc, text, places)?;
+    assert!(rt;
+        run.answers.as_slice() == finds && run.passed == counts.0,
+        "on {text:?}"
+    );
+    assert!(rt;
+        run.stop.is_none() && budget(text.len(), places.len()) == counts.1,
+        "on {text:?}"
+    );
+    Ok(())
+}
+
 #[test]
 fn runs_answer_and_count(rt: HostRuntime) -> Result<(), Fail> {
-    for (text, finds, passed, most) in ROWS {
-        let mut places = Vec::new(rt.alloc());
-        let mut answers = Vec::new(rt.alloc());
-        for (place, answer) in finds {
-            places.push(*place)?;
-            answers.push(*answer)?;
-        }
-        let run = run_inline_html(rt.alloc(), text, &places)?;
-        assert_eq!(rt; run.answers, answers, "on {text:?}");
-        assert_eq!(rt; run.passed, passed, "on {text:?}");
-        assert_eq!(rt; run.stop, None, "on {text:?}");
-        assert_eq!(rt; budget(text.len(), finds.len()), most, "on {text:?}");
-    }
-    Ok(())
+    let alloc = rt.alloc();
+    let finds = [None, Some(9), None, Some(28)];
+    let text = b"<!-- <!x> <!-- <![CDATA[ ]]>";
+    expect_run(&rt, alloc, text, &[2, 7, 12, 17], &finds, (42, 144))?;
+    expect_run(&rt, alloc, b"<!DOCTYPE html>", &[2], &[Some(15)], (13, 68))?;
+    expect_run(&rt, alloc, b"<!-->", &[2], &[Some(5)], (5, 28))?;
+    expect_run(&rt, alloc, b"<!->", &[2], &[None], (2, 24))?;
+    expect_run(&rt, alloc, b"<!", &[2], &[None], (1, 16))?;
+    expect_run(&rt, alloc, b"<![CDATA[", &[2], &[None], (7, 44))?;
+    expect_run(&rt, alloc, b"<?a?>", &[2], &[Some(5)], (3, 28))?;
+    expect_run(
+        &rt,
+        alloc,
+        b"<!a><!b>",
+        &[2, 6],
+        &[Some(4), Some(8)],
+        (4, 48),
+    )?;
+    expect_run(&rt, alloc, b"<!-x<!-->", &[2, 6], &[None, Some(9)], (7, 52))
+}
+
+// A step at the place: what it answers, the bytes passed over by then, and the steps.
+fn expect_step(
+    rt: &impl Abort,
+    run: &mut InlineHtmlRun<'_>,
+    place: usize,
+    answer: Result<Option<usize>, HtmlStop>,
+    counts: (u128, usize),
+) {
+    assert!(rt; run.step(place) == answer, "at {place}");
+    assert!(rt;
+        run.passed() == counts.0 && run.steps() == counts.1,
+        "at {place}"
+    );
 }
 
 #[test]
 fn each_scan_of_a_run_is_counted(rt: HostRuntime) {
     let mut run = InlineHtmlRun::new(b"<!-- <!x> <!-- <![CDATA[ ]]>");
-    for (place, find, passed) in [
-        (2, None, 28),
-        (7, Some(9), 2),
-        (12, None, 1),
-        (17, Some(28), 11),
-    ] {
-        let before = run.passed();
-        assert_eq!(rt; run.step(place), Ok(find));
-        assert_eq!(rt;
-            run.passed().checked_sub(before),
-            Some(passed),
-            "at {place}"
-        );
-    }
+    expect_step(&rt, &mut run, 2, Ok(None), (28, 1));
+    expect_step(&rt, &mut run, 7, Ok(Some(9)), (30, 2));
+    expect_step(&rt, &mut run, 12, Ok(None), (31, 3));
+    expect_step(&rt, &mut run, 17, Ok(Some(28)), (42, 4));
 }
 
 #[test]
 fn a_run_ends_before_a_refused_place(rt: HostRuntime) -> Result<(), Fail> {
     let text = b"<!-- a <!-- b --> <!-- c";
     let run = run_inline_html(rt.alloc(), text, &[2, 9, 20])?;
-    assert_eq!(rt; run.answers.as_slice(), [Some(17)].as_slice());
-    assert_eq!(rt; run.passed, 17);
-    assert_eq!(rt; run.stop, Some((1, HtmlStop::InsideFind)));
+    assert!(rt; run.answers.as_slice() == [Some(17)].as_slice() && run.passed == 17);
+    assert!(rt; run.stop == Some((1, HtmlStop::InsideFind)));
     Ok(())
 }
 
 #[test]
 fn a_step_follows_a_refused_place(rt: HostRuntime) {
     let mut run = InlineHtmlRun::new(b"<!-- a <!-- b --> <!-- c");
-    assert_eq!(rt; run.step(2), Ok(Some(17)));
-    assert_eq!(rt; run.step(9), Err(HtmlStop::InsideFind));
-    assert_eq!(rt; run.passed(), 17);
-    assert_eq!(rt; run.steps(), 1);
-    assert_eq!(rt; run.step(20), Ok(None));
-    assert_eq!(rt; run.passed(), 23);
-    assert_eq!(rt; run.steps(), 2);
-    assert_eq!(rt; budget(24, run.steps()), 112);
+    expect_step(&rt, &mut run, 2, Ok(Some(17)), (17, 1));
+    expect_step(&rt, &mut run, 9, Err(HtmlStop::InsideFind), (17, 1));
+    expect_step(&rt, &mut run, 20, Ok(None), (23, 2));
+    assert!(rt; budget(24, run.steps()) == 112);
 }
 
 #[test]
 fn refused_places_change_nothing(rt: HostRuntime) {
     let mut run = InlineHtmlRun::new(b"<!a<!>x");
-    for place in [0, 1, 8] {
-        assert_eq!(rt; run.step(place), Err(HtmlStop::NoOpener));
-    }
-    assert_eq!(rt; run.step(2), Ok(Some(6)));
-    assert_eq!(rt; run.step(2), Err(HtmlStop::NotRising));
-    assert_eq!(rt; run.step(5), Err(HtmlStop::InsideFind));
-    assert_eq!(rt; run.passed(), 4);
-    assert_eq!(rt; run.steps(), 1);
+    expect_step(&rt, &mut run, 0, Err(HtmlStop::NoOpener), (0, 0));
+    expect_step(&rt, &mut run, 1, Err(HtmlStop::NoOpener), (0, 0));
+    expect_step(&rt, &mut run, 8, Err(HtmlStop::NoOpener), (0, 0));
+    expect_step(&rt, &mut run, 2, Ok(Some(6)), (4, 1));
+    expect_step(&rt, &mut run, 2, Err(HtmlStop::NotRising), (4, 1));
+    expect_step(&rt, &mut run, 5, Err(HtmlStop::InsideFind), (4, 1));
 }
 
 // The places just after `<!` or `<?`, in rising order.
@@ -232,22 +303,28 @@ const HOSTILE_TEXTS: [Hostile; 6] = [
     (b"<!-->", 5000, Some(3), 25000, 140000),
 ];
 
+// Each answer is this far after its place.
+fn are_so_long(answers: &[Option<usize>], places: &[usize], length: Option<usize>) -> bool {
+    for (answer, place) in answers.iter().zip(places.iter()) {
+        let found = match answer {
+            Some(end) => Some(end.wrapping_sub(*place)),
+            None => None,
+        };
+        if found != length {
+            return false;
+        }
+    }
+    answers.len() == places.len()
+}
+
 fn assert_hostile(rt: &impl Abort, alloc: Global, hostile: &Hostile) -> Result<(), Fail> {
     let (part, count, length, passed, most) = hostile;
     let text = part.repeat(alloc, *count)?;
     let places = places_after_openers(alloc, &text)?;
     let run = run_inline_html(alloc, &text, &places)?;
-    assert_eq!(rt; run.answers.len(), places.len(), "of {part:?}");
-    for (answer, place) in run.answers.iter().zip(places.iter()) {
-        assert_eq!(rt;
-            answer.map(|end| end.wrapping_sub(*place)),
-            *length,
-            "of {part:?}"
-        );
-    }
-    assert_eq!(rt; run.passed, *passed, "of {part:?}");
-    assert_eq!(rt; run.stop, None, "of {part:?}");
-    assert_eq!(rt; budget(text.len(), places.len()), *most, "of {part:?}");
+    assert!(rt; are_so_long(&run.answers, &places, *length), "of {part:?}");
+    assert!(rt; run.passed == *passed && run.stop.is_none(), "of {part:?}");
+    assert!(rt; budget(text.len(), places.len()) == *most, "of {part:?}");
     assert_within_budget(rt, &text, &places);
     Ok(())
 }
@@ -261,17 +338,19 @@ fn passes_over_hostile_texts_once(rt: HostRuntime) -> Result<(), Fail> {
 }
 
 // The text's first and last 200 bytes are where it is cut off.
+fn assert_cuts_within_budget(rt: &impl Abort, text: &[u8], places: &[usize]) {
+    for cut in 0..200 {
+        assert_within_budget(rt, &text[..text.len().min(cut)], places);
+        assert_within_budget(rt, &text[..text.len().saturating_sub(cut)], places);
+    }
+}
+
 #[test]
 fn passes_over_cut_texts(rt: HostRuntime) -> Result<(), Fail> {
     for (part, count, _, _, _) in HOSTILE_TEXTS.iter() {
         let text = part.repeat(rt.alloc(), *count)?;
         let places = places_after_openers(rt.alloc(), &text)?;
-        for cut in 0..200 {
-            let front = &text[..text.len().min(cut)];
-            assert_within_budget(&rt, front, &places);
-            let most = &text[..text.len().saturating_sub(cut)];
-            assert_within_budget(&rt, most, &places);
-        }
+        assert_cuts_within_budget(&rt, &text, &places);
     }
     Ok(())
 }

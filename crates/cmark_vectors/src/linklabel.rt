@@ -1,4 +1,4 @@
-//! Link labels: worked rows, hostile texts, and which labels match.
+//! Link labels: hostile texts and handlers, and which labels match.
 ghost use Rattle.std.specs.Prelude.{◌≡◌, ◌↔◌, ◌≤◌, ◌<◌, ◌-◌, length, slice_index, IsTrue};
 ghost use Rattle.markdown_scanners_tree.specs.linklabel.Key.{label_key};
 ghost use Rattle.cmark_vectors.specs.Markers.{skipped};
@@ -21,22 +21,66 @@ fn link_label(alloc: Global, text: &'static str) -> Result<LinkLabel<'static>, A
     LinkLabel::new(alloc, CowStr::from(text))
 }
 
-const EQUAL: [(&str, &str); 2] = [("Straße", "STRASSE"), ("a", "A")];
+// Two labels match, whatever is asked, and the first lends its text.
+fn expect_match(
+    rt: &impl Abort,
+    alloc: Global,
+    one: &'static str,
+    other: &'static str,
+) -> Result<(), Fail> {
+    let a = link_label(alloc, one)?;
+    let b = link_label(alloc, other)?;
+    assert!(rt;
+        are_equal(&a, &b) && have_equal_keys(&a, &b),
+        "of {one} and {other}"
+    );
+    assert!(rt;
+        hash_of(&a) == hash_of(&b) && a.as_str() == one,
+        "of {one} and {other}"
+    );
+    Ok(())
+}
 
 #[test]
 fn labels_match_without_regard_to_case(rt: HostRuntime) -> Result<(), Fail> {
-    for (one, other) in EQUAL {
-        let a = link_label(rt.alloc(), one)?;
-        let b = link_label(rt.alloc(), other)?;
-        assert!(rt; are_equal(&a, &b), "of {one} and {other}");
-        assert!(rt; have_equal_keys(&a, &b), "of {one} and {other}");
-        assert_eq!(rt; hash_of(&a), hash_of(&b), "of {one} and {other}");
-        assert_eq!(rt; a.as_str(), one);
-    }
+    expect_match(&rt, rt.alloc(), "Straße", "STRASSE")?;
+    expect_match(&rt, rt.alloc(), "a", "A")?;
     let a = link_label(rt.alloc(), "a")?;
     let b = link_label(rt.alloc(), "b")?;
     assert!(rt; !are_equal(&a, &b));
     Ok(())
+}
+
+fn assert_one_hash(
+    rt: &impl Abort,
+    alloc: Global,
+    one: &'static str,
+    other: &'static str,
+) -> Result<(), Fail> {
+    let a = link_label(alloc, one)?;
+    let b = link_label(alloc, other)?;
+    assert!(rt; hash_of(&a) == hash_of(&b), "of {one} and {other}");
+    Ok(())
+}
+
+// Of sixteen bytes, of one more, of two blocks, and of more than two.
+#[test]
+fn long_labels_have_one_hash(rt: HostRuntime) -> Result<(), Fail> {
+    let alloc = rt.alloc();
+    assert_one_hash(&rt, alloc, "ſixteen letters!", "SIXTEEN LETTERS!")?;
+    assert_one_hash(&rt, alloc, "ſeventeen letters", "Seventeen Letters")?;
+    assert_one_hash(
+        &rt,
+        alloc,
+        "thirty-two bytes make two blockſ",
+        "Thirty-Two Bytes Make Two Blocks",
+    )?;
+    assert_one_hash(
+        &rt,
+        alloc,
+        "ſtraight into the third block of it",
+        "STRAIGHT into the third BLOCK of it",
+    )
 }
 
 #[test]
@@ -101,155 +145,19 @@ fn scan_skipping_all(alloc: Global, text: &str) -> Result<Answer<'_>, AllocError
     Ok(with_variant(found))
 }
 
-// The bytes taken, whether the text is borrowed, and the text, as a row has them.
-type Expected = Option<(usize, bool, &'static str)>;
-
-// A text, the marker before its lines, whether it is in a table, and the answer.
-type Row = (&'static str, &'static [u8], bool, Expected);
-
-// A text in a container that ends with its first line, whether it is in a table, and the answer.
-type LineRow = (&'static str, bool, Expected);
-
-fn assert_answer(rt: &impl Abort, answer: &Answer<'_>, expected: &Expected, text: &str) {
-    let found = match answer {
-        Some((taken, borrowed, label)) => Some((*taken, *borrowed, label.as_str())),
-        None => None,
-    };
-    assert_eq!(rt; found, *expected, "on {text:?}");
-}
-
-fn assert_rows(rt: &impl Abort, alloc: Global, rows: &[Row]) -> Result<(), Fail> {
-    for (text, marker, is_in_table, expected) in rows {
-        let answer = scan_after_markers(alloc, text, marker, *is_in_table)?;
-        assert_answer(rt, &answer, expected, text);
-    }
-    Ok(())
-}
-
-fn assert_line_rows(rt: &impl Abort, alloc: Global, rows: &[LineRow]) -> Result<(), Fail> {
-    for (text, is_in_table, expected) in rows {
-        let answer = scan_in_one_line(alloc, text, *is_in_table)?;
-        assert_answer(rt, &answer, expected, text);
-    }
-    Ok(())
-}
-
-const ROWS: [Row; 20] = [
-    (
-        "«\t\tBlurry Eyes\t\t»]",
-        b"",
-        false,
-        Some((20, false, "« Blurry Eyes »")),
-    ),
-    ("a\\ ]", b"", false, Some((4, true, "a\\"))),
-    (
-        "hello\r\nworld\r\n]",
-        b"",
-        false,
-        Some((15, false, "hello world")),
-    ),
-    (" ]", b"", false, None),
-    ("a\\|b]", b"", true, Some((5, false, "a|b"))),
-    ("a\\|b]", b"", false, Some((5, true, "a\\|b"))),
-    ("a\\\\|b]", b"", true, Some((6, false, "a\\|b"))),
-    ("a[b]", b"", false, None),
-    ("", b"", false, None),
-    ("a", b"", false, None),
-    ("a\\[b]", b"", false, Some((5, true, "a\\[b"))),
-    (" a ]", b"", false, Some((4, true, "a"))),
-    ("a\nb]", b"", false, Some((4, false, "a b"))),
-    ("a\n\nb]", b"", false, None),
-    ("a\n> b]", b"> ", false, Some((6, false, "a b"))),
-    ("a\n\\|b]", b"\\", true, Some((6, false, "a |b"))),
-    // Line endings of several bytes.
-    ("a\r\nb]", b"", false, Some((5, false, "a b"))),
-    ("a\n\rb]", b"", false, None),
-    ("a\rX\nb]", b"X", false, None),
-    ("Foo  Bar]", b"", false, Some((9, false, "Foo Bar"))),
-];
-
-#[test]
-fn labels_are_read_up_to_their_bracket(rt: HostRuntime) -> Result<(), Fail> {
-    assert_rows(&rt, rt.alloc(), &ROWS)
-}
-
-#[test]
-fn labels_end_with_the_last_line_of_their_container(rt: HostRuntime) -> Result<(), Fail> {
-    let rows: [LineRow; 2] = [
-        ("a\nb]", false, None),
-        (
-            "«\t\tBlurry Eyes\t\t»][blurry_eyes]",
-            false,
-            Some((20, false, "« Blurry Eyes »")),
-        ),
-    ];
-    assert_line_rows(&rt, rt.alloc(), &rows)
-}
-
 #[test]
 fn no_label_ends_where_all_that_follows_is_skipped(rt: HostRuntime) -> Result<(), Fail> {
-    assert_answer(&rt, &scan_skipping_all(rt.alloc(), "a\n]")?, &None, "a");
+    assert!(rt; scan_skipping_all(rt.alloc(), "a\n]")?.is_none());
     Ok(())
 }
 
-// So many times the letter, and then the rest.
-fn with_letters(
-    alloc: Global,
-    front: usize,
-    middle: &str,
-    back: usize,
-) -> Result<String, AllocError> {
-    let mut text = "a".repeat(alloc, front)?;
-    text.push_str(middle)?;
-    text.push_str("a".repeat(alloc, back)?.as_str())?;
-    text.push(']')?;
-    Ok(text)
-}
-
-// Letters, what stands between them, letters, the marker, the bytes taken, and whether the label is
-// borrowed.
-const LONG_ROWS: [(usize, &str, usize, &[u8], usize, bool); 5] = [
-    (999, "", 0, b"", 1000, true),
-    (998, "é", 0, b"", 1001, true),
-    (499, "\n> ", 499, b"> ", 1002, false),
-    (449, "  ", 450, b"", 902, false),
-    (997, "\n", 1, b"", 1000, false),
-];
-
+// A backslash that a handler skips escapes nothing.
 #[test]
-fn labels_of_999_characters_are_read(rt: HostRuntime) -> Result<(), Fail> {
-    for (front, middle, back, marker, taken, borrowed) in LONG_ROWS {
-        let text = with_letters(rt.alloc(), front, middle, back)?;
-        let answer = scan_after_markers(rt.alloc(), text.as_str(), marker, false)?;
-        let Some((bytes, is_borrowed, label)) = answer else {
-            return Err(Fail::from("no label"));
-        };
-        let skipped = if borrowed { 1 } else { middle.len() };
-        assert_eq!(rt; bytes, taken, "of {middle:?}");
-        assert_eq!(rt; is_borrowed, borrowed, "of {middle:?}");
-        assert_eq!(rt; label.as_str().len(), taken - skipped, "of {middle:?}");
-    }
-    Ok(())
-}
-
-#[test]
-fn a_line_ending_may_be_the_999th_character(rt: HostRuntime) -> Result<(), Fail> {
-    let text = with_letters(rt.alloc(), 998, "\n", 0)?;
-    let Some((bytes, _, label)) = scan_after_markers(rt.alloc(), text.as_str(), b"", false)? else {
+fn skipped_backslashes_escape_nothing(rt: HostRuntime) -> Result<(), Fail> {
+    let Some((taken, _, label)) = scan_after_markers(rt.alloc(), "a\n\\|b]", b"\\", true)? else {
         return Err(Fail::from("no label"));
     };
-    assert_eq!(rt; bytes, 1000);
-    assert_eq!(rt; label.as_str().len(), 998);
-    Ok(())
-}
-
-#[test]
-fn labels_of_more_characters_are_not_read(rt: HostRuntime) -> Result<(), Fail> {
-    for (count, middle) in [(1000, ""), (999, " "), (998, "\r\n")] {
-        let text = with_letters(rt.alloc(), count, middle, 0)?;
-        let answer = scan_after_markers(rt.alloc(), text.as_str(), b"", false)?;
-        assert!(rt; answer.is_none(), "of {count}");
-    }
+    assert!(rt; taken == 6 && label.as_str() == "a |b");
     Ok(())
 }
 
@@ -270,34 +178,25 @@ fn reads_labels_up_to_their_thousandth_character(rt: HostRuntime) -> Result<(), 
     Ok(())
 }
 
-// What is answered, with a bracket behind it, is the label of itself, whatever the handler.
-#[test]
-fn labels_read_back(rt: HostRuntime) -> Result<(), Fail> {
-    for (text, marker, is_in_table, _) in ROWS {
-        let Some((_, _, label)) = scan_after_markers(rt.alloc(), text, marker, is_in_table)? else {
-            continue;
-        };
-        if is_in_table || label.as_str().ends_with('\\') {
-            continue;
-        }
-        let mut closed = String::from_str(rt.alloc(), label.as_str())?;
-        closed.push(']')?;
-        let again = scan_in_one_line(rt.alloc(), closed.as_str(), false)?;
-        let Some((taken, borrowed, same)) = again else {
-            return Err(Fail::from("no label"));
-        };
-        assert_eq!(rt; taken, closed.len(), "on {text:?}");
-        assert!(rt; borrowed, "on {text:?}");
-        assert_eq!(rt; same.as_str(), label.as_str(), "on {text:?}");
-    }
+// What is answered, with a bracket behind it, is the label of itself.
+fn assert_read_back(rt: &impl Abort, alloc: Global, text: &str, marker: &[u8]) -> Result<(), Fail> {
+    let Some((_, _, label)) = scan_after_markers(alloc, text, marker, false)? else {
+        return Err(Fail::from("no label"));
+    };
+    let mut closed = String::from_str(alloc, label.as_str())?;
+    closed.push(']')?;
+    let Some((taken, borrowed, same)) = scan_in_one_line(alloc, closed.as_str(), false)? else {
+        return Err(Fail::from("no label again"));
+    };
+    assert!(rt; taken == closed.len() && borrowed, "on {text:?}");
+    assert!(rt; same.as_str() == label.as_str(), "on {text:?}");
     Ok(())
 }
 
 #[test]
-fn a_label_that_ends_in_a_backslash_does_not_read_back(rt: HostRuntime) -> Result<(), Fail> {
-    let rows: [LineRow; 2] = [
-        ("a\\ ]", false, Some((4, true, "a\\"))),
-        ("a\\]", false, None),
-    ];
-    assert_line_rows(&rt, rt.alloc(), &rows)
+fn labels_read_back(rt: HostRuntime) -> Result<(), Fail> {
+    assert_read_back(&rt, rt.alloc(), "«\t\tBlurry Eyes\t\t»]", b"")?;
+    assert_read_back(&rt, rt.alloc(), "hello\r\nworld\r\n]", b"")?;
+    assert_read_back(&rt, rt.alloc(), "a\n> b]", b"> ")?;
+    assert_read_back(&rt, rt.alloc(), "a\\[b]", b"")
 }

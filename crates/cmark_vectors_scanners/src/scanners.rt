@@ -1,19 +1,9 @@
-//! Scanners of lines, blocks and inline texts, a file a construct.
-mod breaks;
+//! What the cases of `cmark_replay` don't say: hostile texts, closures, calls of bytes, and types.
 mod classes;
 mod entities;
-mod fences;
-mod headings;
-mod html_block;
 mod html_kinds;
 mod html_tag;
-mod indent;
-mod interrupts;
-mod lines;
 mod links;
 mod list_items;
-mod metadata;
 mod runs;
-mod tables;
 mod text_lines;
-mod unescaping;

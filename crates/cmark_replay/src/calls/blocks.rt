@@ -1,10 +1,12 @@
-//! Thematic breaks, headings, code fences, metadata blocks, list items and delimiter rows.
+//! Thematic breaks, headings, code fences, metadata blocks, list items and delimiter rows, and what
+//! interrupts a paragraph.
 use crate::arguments::Arguments;
 use crate::printing::{NONE, OrNone};
 use crate::stop::CaseError;
 use markdown_scanners_tree::scanners::{
-    scan_atx_heading, scan_closing_code_fence, scan_closing_metadata_block, scan_code_fence,
-    scan_hrule, scan_listitem, scan_metadata_block, scan_setext_heading, scan_table_head,
+    interrupts_paragraph, scan_atx_heading, scan_closing_code_fence, scan_closing_metadata_block,
+    scan_code_fence, scan_hrule, scan_listitem, scan_metadata_block, scan_setext_heading,
+    scan_table_head,
 };
 use std::alloc::Global;
 
@@ -103,4 +105,12 @@ pub(crate) fn delimiter_row(
     let bytes = arguments.bytes(alloc)?;
     let (length, alignments) = scan_table_head(alloc, &bytes)?;
     Ok(format!(in alloc; "{length} {alignments:?}")?)
+}
+
+pub(crate) fn interruption(
+    alloc: Global,
+    arguments: &mut Arguments<'_>,
+) -> Result<String, CaseError> {
+    let bytes = arguments.bytes(alloc)?;
+    Ok(format!(in alloc; "{}", interrupts_paragraph(&bytes))?)
 }

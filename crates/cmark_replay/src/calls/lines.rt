@@ -3,8 +3,8 @@ use crate::arguments::Arguments;
 use crate::printing::OrNone;
 use crate::stop::{CaseError, Unreadable};
 use markdown_scanners_tree::scanners::{
-    calc_indent, scan_blank_line, scan_blockquote_start, scan_ch_repeat, scan_eol, scan_nextline,
-    scan_whitespace_no_nl,
+    calc_indent, scan_blank_line, scan_blockquote_start, scan_ch_repeat, scan_eol, scan_line,
+    scan_nextline, scan_whitespace_no_nl,
 };
 use std::alloc::Global;
 
@@ -19,6 +19,14 @@ pub(crate) fn blank_line(
 ) -> Result<String, CaseError> {
     let bytes = arguments.bytes(alloc)?;
     Ok(format!(in alloc; "{}", OrNone(scan_blank_line(&bytes)))?)
+}
+
+pub(crate) fn line_length(
+    alloc: Global,
+    arguments: &mut Arguments<'_>,
+) -> Result<String, CaseError> {
+    let bytes = arguments.bytes(alloc)?;
+    Ok(format!(in alloc; "{}", scan_line(&bytes))?)
 }
 
 pub(crate) fn next_line(alloc: Global, arguments: &mut Arguments<'_>) -> Result<String, CaseError> {

@@ -17,10 +17,8 @@ fn expect_space(rt: &impl Abort, pending: usize, phase: usize, taken: usize, end
         assert!(rt; false, "no line start");
         return;
     };
-    assert_eq!(rt; start.phase(), phase);
-    assert_eq!(rt; start.scan_space_upto(6), taken);
-    assert_eq!(rt; (start.bytes_scanned(), start.remaining_space()), ends);
-    assert_eq!(rt; start.phase(), 0);
+    assert!(rt; start.phase() == phase && start.scan_space_upto(6) == taken);
+    assert!(rt; (start.bytes_scanned(), start.remaining_space()) == ends && start.phase() == 0);
 }
 
 // The column decides how far a tab reaches (2.2).
@@ -32,28 +30,51 @@ fn tabs_go_on_from_the_column(rt: HostRuntime) {
     expect_space(&rt, 3, 3, 6, (3, 2));
 }
 
-// An item at a place, by a line start that is made anew.
-fn item_at(line: &[u8], place: usize, breaks: &mut KnownBreaks) -> Option<(u8, u64, usize)> {
-    LineStart::resumed(line, place, 0, 0)?.scan_list_marker_with_breaks(0, breaks)
+// An item at a place, by a line start that is made anew, and what is known of breaks from then on.
+fn expect_item(
+    rt: &impl Abort,
+    line: &[u8],
+    place: usize,
+    breaks: &mut KnownBreaks,
+    wanted: (Option<(u8, u64, usize)>, usize, usize),
+) {
+    let Some(mut start) = LineStart::resumed(line, place, 0, 0) else {
+        assert!(rt; false, "no line start");
+        return;
+    };
+    assert!(rt;
+        start.scan_list_marker_with_breaks(0, breaks) == wanted.0,
+        "at {place}"
+    );
+    assert!(rt;
+        (breaks.none_before, breaks.behind_break) == (wanted.1, wanted.2),
+        "at {place}"
+    );
+}
+
+fn expect_break(
+    rt: &impl Abort,
+    breaks: &mut KnownBreaks,
+    line: &[u8],
+    place: usize,
+    begins: bool,
+) {
+    assert!(rt; breaks.begins_break(line, place) == begins, "at {place}");
 }
 
 // A thematic break is no item (4.1), and what was read to tell is kept.
 #[test]
 fn breaks_are_known_from_then_on(rt: HostRuntime) {
     let mut breaks = KnownBreaks::new();
-    assert_eq!(rt; item_at(b"- - x", 0, &mut breaks), Some((b'-', 0, 2)));
-    assert_eq!(rt; (breaks.none_before, breaks.behind_break), (4, 0));
-    assert_eq!(rt; item_at(b"- - x", 2, &mut breaks), Some((b'-', 0, 2)));
-    assert_eq!(rt; (breaks.none_before, breaks.behind_break), (4, 0));
+    expect_item(&rt, b"- - x", 0, &mut breaks, (Some((b'-', 0, 2)), 4, 0));
+    expect_item(&rt, b"- - x", 2, &mut breaks, (Some((b'-', 0, 2)), 4, 0));
 
     let mut breaks = KnownBreaks::new();
-    assert_eq!(rt; item_at(b"+ * * *", 0, &mut breaks), Some((b'+', 0, 2)));
-    assert_eq!(rt; (breaks.none_before, breaks.behind_break), (0, 0));
-    assert_eq!(rt; item_at(b"+ * * *", 2, &mut breaks), None);
-    assert_eq!(rt; (breaks.none_before, breaks.behind_break), (0, 3));
-    assert_eq!(rt; breaks.begins_break(b"+ * * *", 2), true);
-    assert_eq!(rt; breaks.begins_break(b"+ * * *", 3), false);
-    assert_eq!(rt; breaks.begins_break(b"+ * * *", 7), false);
+    expect_item(&rt, b"+ * * *", 0, &mut breaks, (Some((b'+', 0, 2)), 0, 0));
+    expect_item(&rt, b"+ * * *", 2, &mut breaks, (None, 0, 3));
+    expect_break(&rt, &mut breaks, b"+ * * *", 2, true);
+    expect_break(&rt, &mut breaks, b"+ * * *", 3, false);
+    expect_break(&rt, &mut breaks, b"+ * * *", 7, false);
 }
 
 // A call of a run, and what it answers.
@@ -73,14 +94,14 @@ fn expect_calls(
             assert!(rt; false, "no line start");
             return;
         };
-        assert_eq!(rt; start.call_with_breaks(call, &mut breaks), *wanted);
+        assert!(rt; start.call_with_breaks(call, &mut breaks) == *wanted);
         at = (
             start.bytes_scanned(),
             start.remaining_space(),
             start.phase(),
         );
     }
-    assert_eq!(rt; (at.0, at.1), ends);
+    assert!(rt; (at.0, at.1) == ends);
 }
 
 // Columns of a tab are pending, and calls that take no space are refused (2.2).
@@ -142,22 +163,32 @@ fn large_indents_are_refused(rt: HostRuntime) {
     expect_calls(&rt, b"- x", (0, 0, 0), &rows, (2, 0));
 }
 
+// A call on a line start, and what is known of breaks from then on.
+fn expect_call(
+    rt: &impl Abort,
+    start: &mut LineStart<'_>,
+    breaks: &mut KnownBreaks,
+    call: LineCall,
+    wanted: (Result<LineAnswer, LineStop>, usize, usize),
+) {
+    assert!(rt; start.call_with_breaks(&call, breaks) == wanted.0);
+    assert!(rt; (breaks.none_before, breaks.behind_break) == (wanted.1, wanted.2));
+    assert!(rt; start.bytes_scanned() == 0);
+}
+
 // A thematic break is no item, whatever begins it (4.1), and a refused call learns nothing.
 #[test]
 fn calls_learn_of_breaks(rt: HostRuntime) {
     let mut breaks = KnownBreaks::new();
     let mut start = LineStart::new(b"* * *");
-    let large = LineCall::List(usize::MAX);
-    assert_eq!(rt;
-        start.call_with_breaks(&large, &mut breaks),
-        Err(LineStop::IndentTooLarge)
+    let refused = (Err(LineStop::IndentTooLarge), 0, 0);
+    expect_call(
+        &rt,
+        &mut start,
+        &mut breaks,
+        LineCall::List(usize::MAX),
+        refused,
     );
-    assert_eq!(rt; (breaks.none_before, breaks.behind_break), (0, 0));
-    let item = LineCall::List(0);
-    assert_eq!(rt;
-        start.call_with_breaks(&item, &mut breaks),
-        Ok(LineAnswer::List(None))
-    );
-    assert_eq!(rt; (breaks.none_before, breaks.behind_break), (0, 1));
-    assert_eq!(rt; start.bytes_scanned(), 0);
+    let none = (Ok(LineAnswer::List(None)), 0, 1);
+    expect_call(&rt, &mut start, &mut breaks, LineCall::List(0), none);
 }

@@ -1,15 +1,16 @@
-//! Runs of bytes.
-use markdown_scanners_tree::scanners::{
-    scan_ch, scan_ch_repeat, scan_rev_while, scan_while, scan_whitespace_no_nl,
-};
+//! Runs of bytes, by closures.
+use markdown_scanners_tree::scanners::{scan_ch, scan_rev_while, scan_while};
+use std::process::Abort;
+
+fn expect_byte(rt: &impl Abort, bytes: &[u8], count: usize) {
+    assert!(rt; scan_ch(bytes, b'a') == count, "of {bytes:?}");
+}
 
 #[test]
-fn counts_runs_of_bytes(rt: HostRuntime) {
-    assert_eq!(rt; scan_ch(b"ab", b'a'), 1);
-    assert_eq!(rt; scan_ch(b"ba", b'a'), 0);
-    assert_eq!(rt; scan_ch(b"", b'a'), 0);
-    assert_eq!(rt; scan_ch_repeat(b"aab", b'a'), 2);
-    assert_eq!(rt; scan_whitespace_no_nl(b" \t\x0b\x0c\n"), 4);
+fn counts_a_byte_once(rt: HostRuntime) {
+    expect_byte(&rt, b"ab", 1);
+    expect_byte(&rt, b"ba", 0);
+    expect_byte(&rt, b"", 0);
 }
 
 #[test]
@@ -41,44 +42,43 @@ fn passes_a_closure_on(rt: HostRuntime) {
     assert_eq!(rt; count_accepted(b"aab", |b| b == b'a'), 2);
 }
 
-// Bytes, the same bytes from the last one on, how many of them are accepted by a closure that
-// accepts each `a`, how often it is asked, and about which bytes: the digits of a number.
-type Asked = (&'static [u8], &'static [u8], usize, usize, u64);
+// How many bytes from the front a closure accepts that accepts each `a`, and about which bytes it is
+// asked: the digits of a number behind a first 1.
+fn expect_asked(rt: &impl Abort, bytes: &[u8], count: usize, asked: u64) {
+    let mut digits = 1_u64;
+    let accepts = |b: u8| {
+        digits = digits.wrapping_mul(256).wrapping_add(u64::from(b));
+        b == b'a'
+    };
+    assert!(rt; scan_while(bytes, accepts) == count, "on {bytes:?}");
+    assert!(rt; digits == asked, "on {bytes:?}");
+}
 
-const ASKED: [Asked; 5] = [
-    (b"aab", b"baa", 2, 3, 0x61_61_62),
-    (b"aabaa", b"aabaa", 2, 3, 0x61_61_62),
-    (b"aaa", b"aaa", 3, 3, 0x61_61_61),
-    (b"ba", b"ab", 0, 1, 0x62),
-    (b"", b"", 0, 0, 0),
-];
+// The same from the last byte on.
+fn expect_asked_back(rt: &impl Abort, bytes: &[u8], count: usize, asked: u64) {
+    let mut digits = 1_u64;
+    let accepts = |b: u8| {
+        digits = digits.wrapping_mul(256).wrapping_add(u64::from(b));
+        b == b'a'
+    };
+    assert!(rt; scan_rev_while(bytes, accepts) == count, "on {bytes:?}");
+    assert!(rt; digits == asked, "on {bytes:?}");
+}
 
 #[test]
 fn asks_a_closure_once_for_each_byte(rt: HostRuntime) {
-    for (bytes, _, count, calls, asked) in ASKED {
-        let (mut made, mut digits) = (0_usize, 0_u64);
-        let accepts = |b: u8| {
-            made = made.wrapping_add(1);
-            digits = digits.wrapping_mul(256).wrapping_add(u64::from(b));
-            b == b'a'
-        };
-        assert_eq!(rt; scan_while(bytes, accepts), count, "on {bytes:?}");
-        assert_eq!(rt; made, calls, "on {bytes:?}");
-        assert_eq!(rt; digits, asked, "on {bytes:?}");
-    }
+    expect_asked(&rt, b"aab", 2, 0x01_61_61_62);
+    expect_asked(&rt, b"aabaa", 2, 0x01_61_61_62);
+    expect_asked(&rt, b"aaa", 3, 0x01_61_61_61);
+    expect_asked(&rt, b"ba", 0, 0x01_62);
+    expect_asked(&rt, b"", 0, 0x01);
 }
 
 #[test]
 fn asks_a_closure_from_the_last_byte_on(rt: HostRuntime) {
-    for (_, bytes, count, calls, asked) in ASKED {
-        let (mut made, mut digits) = (0_usize, 0_u64);
-        let accepts = |b: u8| {
-            made = made.wrapping_add(1);
-            digits = digits.wrapping_mul(256).wrapping_add(u64::from(b));
-            b == b'a'
-        };
-        assert_eq!(rt; scan_rev_while(bytes, accepts), count, "on {bytes:?}");
-        assert_eq!(rt; made, calls, "on {bytes:?}");
-        assert_eq!(rt; digits, asked, "on {bytes:?}");
-    }
+    expect_asked_back(&rt, b"baa", 2, 0x01_61_61_62);
+    expect_asked_back(&rt, b"aabaa", 2, 0x01_61_61_62);
+    expect_asked_back(&rt, b"aaa", 3, 0x01_61_61_61);
+    expect_asked_back(&rt, b"ab", 0, 0x01_62);
+    expect_asked_back(&rt, b"", 0, 0x01);
 }

@@ -1,0 +1,34 @@
+//! Where HTML blocks begin and end.
+use crate::arguments::Arguments;
+use crate::printing::NONE;
+use crate::stop::{CaseError, Unreadable};
+use markdown_scanners_tree::scanners::{HtmlBlockKind, ends_html_block, scan_html_block_start};
+use std::alloc::Global;
+
+// The kind of the block that the start condition of this number begins.
+fn kind_numbered(number: usize) -> Option<HtmlBlockKind> {
+    match number {
+        1 => Some(HtmlBlockKind::RawText),
+        2 => Some(HtmlBlockKind::Comment),
+        3 => Some(HtmlBlockKind::Processing),
+        4 => Some(HtmlBlockKind::Declaration),
+        5 => Some(HtmlBlockKind::Cdata),
+        6 => Some(HtmlBlockKind::BlockName),
+        7 => Some(HtmlBlockKind::TagAlone),
+        _ => None,
+    }
+}
+
+pub(crate) fn start(alloc: Global, arguments: &mut Arguments<'_>) -> Result<String, CaseError> {
+    let bytes = arguments.bytes(alloc)?;
+    Ok(match scan_html_block_start(&bytes) {
+        Some(kind) => format!(in alloc; "{kind:?}")?,
+        None => String::from_str(alloc, NONE)?,
+    })
+}
+
+pub(crate) fn end(alloc: Global, arguments: &mut Arguments<'_>) -> Result<String, CaseError> {
+    let line = arguments.bytes(alloc)?;
+    let kind = kind_numbered(arguments.number()?).ok_or(Unreadable::UnknownKind)?;
+    Ok(format!(in alloc; "{}", ends_html_block(&line, kind))?)
+}
