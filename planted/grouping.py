@@ -2,21 +2,18 @@
 
 A function is proved from its body and from the contracts of what it calls. So where each edit of a group stands in other
 functions, the prover refuses in one check what it refuses in a check of each edit. The check is of these functions and of
-what they call: the functions that rest on them are not looked at. Of a function that calls a refused one the prover says that
-it waits for that, and then nothing is known of its own body. So no function of a group rests on another, as far as names
-tell; an edit that waits all the same is tried alone. A group where a function that has no edit is refused for itself shows
-nothing.
+what they call: the functions that rest on them are not looked at, but for callers where an edit changes a contract. Of a
+function that calls a refused one the prover says that it waits for that, and then nothing is known of its own body. So no
+function of a group rests on one that another edit changes; an edit that waits all the same is tried alone. A group where a
+function that has no edit is refused for itself shows nothing.
 """
 import re
-import sys
-from functools import cache
 
+from calls import functions_of, holder_of
 from edits import TOP, crate_of, edited
-
-sys.path.insert(0, str(TOP / "docs"))
 from reading import in_braces, items_of
 
-MOST = 16
+MOST = 24
 PROVED = re.compile(r"^fn (\S+): proved$", re.M)
 NOT_PROVED = re.compile(r"^fn (\S+): (?:not proved|no proof)\b(.*)", re.M)
 WAITS = "it calls"
@@ -30,13 +27,13 @@ OF_A_FUNCTION = {"Answers", "Invariants", "Proof"}
 
 
 def changed_lines(edit):
-    """The lines that an edit changes: their texts by their place, a path and a number from 1."""
+    """The lines that an edit changes: what stands there before and after it, by their place, a path and a number from 1."""
     found = {}
     for path, text in edited(edit).items():
         before = (TOP / "crates" / crate_of(edit) / path).read_text().split("\n")
         for number, (old, new) in enumerate(zip(before, text.split("\n"), strict=True), 1):
             if old != new:
-                found[path, number] = new
+                found[path, number] = old, new
     return found
 
 
@@ -49,91 +46,82 @@ def head_at(text, number):
     return "".join(text[:at].split())
 
 
-def functions_of(edit, lines):
-    """The functions that hold the lines, where the edit leaves the heads of all of them as they are."""
-    found, after = {}, edited(edit)
-    for path, number in lines:
-        named = f"crates/{crate_of(edit)}/{path}"
-        item = next((it for it in items_of(crate_of(edit)) if it.kind == "fn" and it.path == named and it.line <= number <= it.end), None)
-        if item is None or head_at((TOP / named).read_text(), item.line) != head_at(after[path], item.line):
-            return []
-        found[key_of(item)] = item
-    return list(found)
+def item_at(crate, path, number):
+    """The function or constant that holds a line."""
+    named = f"crates/{crate}/{path}"
+    return next((it for it in items_of(crate) if it.kind in ("fn", "const") and it.path == named and it.line <= number <= it.end), None)
 
 
-def key_of(item):
-    """What the prover's name for a function has of it: the type or the module that it stands in, and its own name."""
-    return (item.of_type or item.module.split("/")[-1], item.short)
+def changed_by(item, after, calls):
+    """The functions that may be refused where an item is changed so: the function itself, or those that name the constant; with
+    their callers where a contract is another one then. What calls those rests on contracts that stay as they are."""
+    if item.kind == "const":
+        named = re.compile(rf"\b{item.name}\b")
+        using = [it for it in functions_of(item.crate).values() if named.search(it.body) or named.search(it.contract)]
+        names = set().union(*map(calls.named, using))
+        contract = any(named.search(it.contract) for it in using)
+    else:
+        names = calls.named(item)
+        before = (TOP / item.path).read_text()
+        contract = head_at(before, item.line) != head_at(after, item.line)
+    return names | calls.callers_of(names) if contract else names
 
 
-@cache
-def callers(crate):
-    """The functions of a crate that seem to call each of its functions, by their keys."""
-    functions = [it for it in items_of(crate) if it.kind == "fn"]
-    called = {key_of(it): set(re.findall(r"(\w+)\(", it.body)) for it in functions}
-    return {key: {it for it in called if key[1] in called[it]} - {key} for key in called}
-
-
-@cache
-def resting_on(crate, key):
-    """The functions of the crate that seem to rest on this one, near or far."""
-    found, new = set(), {key}
-    while new:
-        found |= new
-        new = set().union(*(callers(crate)[it] for it in new)) - found
+def changed_functions(edit, lines, calls):
+    """The functions that an edit may have refused, by the prover's names; none where these can't be told. What it writes in the
+    place of a comment between functions is new ones."""
+    crate, after, found = crate_of(edit), edited(edit), set()
+    for (path, number), (old, _) in lines.items():
+        item = item_at(crate, path, number)
+        if item:
+            found |= changed_by(item, after[path], calls)
+        elif not old.startswith("//"):
+            return set()
     return found
 
 
-def groups_of(edits):
-    """Groups of edits, no two in functions of one key or in functions of which one rests on another, as dicts of edits and
-    changed lines by key. Functions on which many rest come first: what is left then fits into few groups."""
+def groups_of(edits, calls):
+    """Groups of edits, no two in one function or in functions of which one rests on another, as dicts of edits and changed
+    lines by function. Functions on which many rest come first: what is left then fits into few groups."""
     found, groups = [], []
     for edit in edits:
         lines = changed_lines(edit)
-        if keys := functions_of(edit, lines):
-            resting = set().union(*(resting_on(crate_of(edit), key) for key in keys))
-            found.append((resting, keys, (edit, lines)))
-    for resting, keys, change in sorted(found, key=lambda it: -len(it[0])):
-        fitting = [it for it in groups if not (resting & it[0].keys() or it[1] & set(keys)) and len(it[0]) < MOST]
+        if names := changed_functions(edit, lines, calls):
+            found.append((names, names | calls.above(names), (edit, lines)))
+    for names, resting, change in sorted(found, key=lambda it: -len(it[1])):
+        fitting = [it for it in groups if not (resting & it[0].keys() or it[1] & names) and len(it[2]) < MOST]
         if not fitting:
-            fitting = [({}, set())]
+            fitting = [({}, set(), [])]
             groups += fitting
-        fitting[0][0].update(dict.fromkeys(keys, change))
+        fitting[0][0].update(dict.fromkeys(names, change))
         fitting[0][1].update(resting)
-    return [group for group, _ in groups]
+        fitting[0][2].append(change)
+    return [group for group, _, _ in groups]
+
+
+def edits_in(group):
+    """The edits of a group."""
+    return {edit for edit, _ in group.values()}
 
 
 def texts_of(group):
     """The texts of the files with all edits of a group, by path."""
     texts = {}
     for edit, lines in group.values():
-        for (path, number), new in lines.items():
+        for (path, number), (_, new) in lines.items():
             if path not in texts:
                 texts[path] = (TOP / "crates" / crate_of(edit) / path).read_text().split("\n")
             texts[path][number - 1] = new
     return {path: "\n".join(lines) for path, lines in texts.items()}
 
 
-def key_named(name, keys):
-    """The key that a name of the prover's is of: `crate::tree::Tree::push`, `crate::tree::TreeClone::clone`, `crate::line::run_line`."""
-    place, short = name.split("::")[-2:]
-    found = [key for key in keys if key[1] == short and place.startswith(key[0])]
-    return max(found, key=lambda key: len(key[0]), default=None)
-
-
-def asked_for(group, names):
-    """The flags by which a check is of the functions of a group alone, by the prover's names for all functions."""
-    paths = [name.partition("::")[2] for name in names if "::" in name and key_named(name, group)]
-    return [word for path in paths for word in ("--only", path)]
-
-
 def refused_in(group, said):
     """The edits of a group that a check of its functions shows to be refused, by what it said: none where it can't be read so."""
     gone = NAMES_WHAT_IS_GONE.findall(said)
     if not ONLY.fullmatch(said.rstrip("\n").rpartition("\n")[2]) or any(file not in OF_A_FUNCTION for _, file in gone):
-        return []
-    keys = [key_named(name, group) for name, why in NOT_PROVED.findall(said) if WAITS not in why]
-    if None in keys or len(set(keys)) < len(keys):
-        return []
+        return set()
+    names = {holder_of(name) for name, why in NOT_PROVED.findall(said) if WAITS not in why}
     folders = {folder for folder, _ in gone}
-    return [group[key][0] for key in keys if key[1] not in folders]
+    if not group.keys() >= names:
+        return set()
+    return {group[name][0] for name in names if name.rpartition("::")[2] not in folders}

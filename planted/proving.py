@@ -15,11 +15,12 @@ from importlib.machinery import SourceFileLoader
 from importlib.util import module_from_spec, spec_from_loader
 from pathlib import Path
 
+from calls import Calls, asked_for, calls_in_code, calls_in_sources
 from edits import TOP, crate_of, free_memory
-from grouping import PROVED, asked_for, groups_of, refused_in, texts_of
+from grouping import PROVED, changed_functions, changed_lines, edits_in, groups_of, refused_in, texts_of
 
 ONE_JOB = ["--jobs", "1"]
-CRATE_PROVED = re.compile(r"^rt: (\w+) proved$", re.M)
+CRATE_PROVED = re.compile(r"^rt: (\w+) (?:proved$|is kept:)", re.M)
 
 
 def rt_program():
@@ -69,7 +70,7 @@ class Checks:
     """The checks of all crates: as many side by side as there are lanes, and memory for. Of a crate as it stands the check goes
     ahead of them, since the crate's other ones wait for it."""
 
-    OF_A_CRATE = ["--jobs", "2"]
+    AHEAD = ["--jobs", "2"]
 
     def __init__(self, rt, lanes):
         self.rt, self.room, self.lanes = rt, Room(), ThreadPoolExecutor(lanes)
@@ -83,60 +84,91 @@ class Checks:
         print(f"{time.monotonic() - since:4.0f} s  {what}", flush=True)
         return answer
 
-    def of_crate(self, crate, kept):
-        """What a check of the crate as it stands says."""
-        return self.timed(crate.name, lambda: self.rt.checked(crate, {}, self.OF_A_CRATE, kept))
+    def as_it_stands(self, crate, flags, kept):
+        """What a check of the crate as it stands says, of all of it or of what the flags name."""
+        said = self.timed(crate.name, lambda: self.rt.checked(crate, {}, [*self.AHEAD, *flags], kept))
+        if said.returncode:
+            raise SystemExit(f"planted: {crate.name} is not proved as it stands, so its edits say nothing")
+        return said.stdout
 
 
-def shown(rt, crate, group, names, kept):
+def shown(rt, crate, group, kept):
     """The edits of a group that one check shows to be refused."""
     texts = texts_of(group)
-    said = rt.checked(crate, texts, [*ONE_JOB, *asked_for(group, names)], kept).stdout
-    return [] if any(rt.unread(line, texts) for line in said.split("\n")) else refused_in(group, said)
+    said = rt.checked(crate, texts, [*ONE_JOB, *asked_for(group)], kept).stdout
+    return set() if any(rt.unread(line, texts) for line in said.split("\n")) else refused_in(group, said)
 
 
-def tried_over(checks, crate, edits, names, kept):
-    """The edits that groups show to be refused, and what rt says of each other one, alone."""
-    rt = checks.rt
-    alone = lambda it: checks.begin(f"{crate.name}, {it.stem}", lambda: rt.must_fail(crate, str(it), ONE_JOB, kept))
-    groups = groups_of(edits)
-    in_groups = {edit for group in groups for edit, _ in group.values()}
-    said = {edit: alone(edit) for edit in edits if edit not in in_groups}
-    found = [
-        checks.begin(f"{crate.name}, {', '.join(sorted({it.stem for it, _ in group.values()}))}", lambda it=group: shown(rt, crate, it, names, kept))
-        for group in groups
-    ]
-    refused = {edit for it in found for edit in it.result()}
-    said |= {edit: alone(edit) for edit in edits if edit in in_groups - refused}
+def shown_in(checks, crate, groups, kept):
+    """The edits of these groups that are refused in checks of the groups."""
+    name_of = lambda group: f"{crate.name}, {', '.join(sorted(it.stem for it in edits_in(group)))}"
+    found = [checks.begin(name_of(it), lambda it=it: shown(checks.rt, crate, it, kept)) for it in groups]
+    return set().union(*(it.result() for it in found))
+
+
+def tried_alone(rt, crate, edit, kept):
+    """Whether rt says that the edit is refused, and what it says."""
+    how, text = rt.must_fail(crate, str(edit), ONE_JOB, kept)
+    return how in (rt.REFUSED, rt.AT_LIMIT), text
+
+
+def tried_over(checks, crate, edits, calls, kept):
+    """The edits that checks of groups show to be refused, or of their own functions alone, and what rt says of each other one."""
+    refused = shown_in(checks, crate, groups_of(edits, calls), kept)
+    others = [group for it in edits if it not in refused for group in groups_of([it], calls)]
+    refused |= shown_in(checks, crate, others, kept)
+    alone = lambda it: checks.begin(f"{crate.name}, {it.stem}", lambda: tried_alone(checks.rt, crate, it, kept))
+    said = {edit: alone(edit) for edit in edits if edit not in refused}
     return refused, {edit: it.result() for edit, it in said.items()}
 
 
-def tried(checks, crate, edits):
-    """Whether each edit is refused, and what rt says of it where it was tried alone. That the crate is proved as it stands is
-    seen before and after. What is checked is kept where `rt check` and `rt lib` keep theirs, for these too."""
-    kept = Path(crate.folder) / "out/incremental"
+def ahead_of(checks, crate, edits, kept):
+    """The calls of a crate, and the flags of a check after which its edits can be tried: in it what the edited functions call is
+    proved as it stands. Of a library that is built the rest is proved too; of any other crate the check is of all."""
+    calls = calls_in_code(crate.folder)
+    if calls is None:
+        calls = Calls(crate.name, calls_in_sources(crate.name, PROVED.findall(checks.as_it_stands(crate, [], kept))))
+        return calls, []
+    calls = Calls(crate.name, calls)
+    edited = set().union(*(changed_functions(it, changed_lines(it), calls) for it in edits))
+    return calls, asked_for(calls.below(edited))
+
+
+def kept_of(crate, said):
+    """Where what is checked is kept: where `rt check` and `rt lib` keep theirs, for these too; beside a run of rt ci, which begins
+    with an empty folder of each library, in a folder of its own."""
+    kept = said.parent / "kept" / crate.name if said and not crate.is_static else Path(crate.folder) / "out/incremental"
     kept.mkdir(parents=True, exist_ok=True)
-    proof = checks.of_crate(crate, kept)
-    if proof.returncode:
-        raise SystemExit(f"planted: {crate.name} is not proved as it stands, so its edits say nothing")
-    refused, said = tried_over(checks, crate, edits, PROVED.findall(proof.stdout), kept)
-    if checks.of_crate(crate, kept).returncode:
-        raise SystemExit(f"planted: {crate.name} is not proved over what its edits left, so they say nothing")
-    print(f"{crate.name}: {len(refused)} tried in groups, {len(said)} alone", flush=True)
-    return [(True, "") if it in refused else said[it] for it in edits]
+    return kept
+
+
+def tried(checks, crate, edits, said):
+    """Whether each edit is refused, and what rt says of it where it was tried alone. That what they stand on is proved is seen
+    before, and after where rt ci does not prove all of it from nothing."""
+    kept = kept_of(crate, said)
+    calls, flags = ahead_of(checks, crate, edits, kept)
+    if flags:
+        checks.as_it_stands(crate, flags, kept)
+    refused, alone = tried_over(checks, crate, edits, calls, kept)
+    if not said:
+        checks.as_it_stands(crate, flags, kept)
+    print(f"{crate.name}: {len(refused)} tried in groups, {len(alone)} alone", flush=True)
+    return [(True, "") if it in refused else alone[it] for it in edits]
 
 
 def wait_for_libraries(crate, said):
-    """Waits until rt ci has said that it proved the libraries that the crate uses."""
-    wanted = {it.name for it in crate.below()}
+    """Waits until rt ci has said that it proved the libraries that the crate uses, and the crate itself if it is one. The one that
+    uses none goes on beside that proof, which leaves processors idle."""
+    below = {it.name for it in crate.below()}
+    wanted = below | ({crate.name} if below and not crate.is_static else set())
     while said and not wanted <= set(CRATE_PROVED.findall(said.read_text())):
         time.sleep(2)
 
 
 def prove_all(edits, lanes, built=None, said=None):
     """Tries the edits, those of all crates side by side, and prints what is not refused. An edit that is refused only since a
-    proof names what it took away is counted as refused, with a line. The libraries are built here first, or by rt ci, which
-    works on a copy of the tree and writes to a file what it has proved."""
+    proof names what it took away, or by a limit of the prover, is counted as refused, with a line. The libraries are built
+    here first, or by rt ci, which works on a copy of the tree and writes to a file what it has proved."""
     if not built:
         build_libraries()
     rt = rt_program()
@@ -147,12 +179,12 @@ def prove_all(edits, lanes, built=None, said=None):
 
     def answers(name):
         wait_for_libraries(crates[name], said)
-        return tried(checks, crates[name], of_crate[name])
+        return tried(checks, crates[name], of_crate[name], said)
 
     with ThreadPoolExecutor(max(1, len(of_crate))) as pool:
         found = [it for its in pool.map(answers, of_crate) for it in its]
     for is_refused, text in found:
-        if not is_refused or "(only because" in text:
+        if not is_refused or "(only b" in text:
             print(text.removeprefix("must-fail "), flush=True)
     refused = sum(is_refused for is_refused, _ in found)
     print(f"{refused} refused, {len(found) - refused} not refused")
