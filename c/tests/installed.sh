@@ -78,7 +78,7 @@ END
 
 # What is packed is what is installed; it says by which kit it was proved, and how; and it may stand anywhere.
 check_dist() {
-    local name=markdown-scanners-$version-x86_64-linux runs=0 file at
+    local name=markdown-scanners-$version-x86_64-linux runs=0 at
     mkdir "$room/once" "$room/again" "$room/anywhere"
     c/dist "$room/once" && c/dist "$room/again"
     cmp "$room/once/$name.tar.gz" "$room/again/$name.tar.gz" || stop "the same files are packed in two ways"
@@ -87,9 +87,37 @@ check_dist() {
     (cd "$at" && sha256sum --quiet --strict -c SHA256SUMS) || stop "a checksum of what is packed is another"
     [ "$(cat "$at/VERSION")" = "$version" ] && cmp LICENSE "$at/LICENSE" || stop "the version or the licence is another"
     grep -q 'rattle-kit-' "$at/PROOF" && [[ $(tail -n 1 "$at/PROOF") = logic=proved\ * ]] || stop "the proof is not told"
-    for file in PROOF VERSION LICENSE SHA256SUMS; do rm "$at/$file"; done
-    has_files "$at"
     cmp "$archive" "$at/lib/libmarkdown_scanners.a" && cmp "$shared" "$at/lib/$shared_name" || stop "other libraries are packed"
     by_pkg_config "$at"
+    check_packed_python "$at"
+    check_packed_rust "$at"
+    rm -r "$at"/{LICENSE,VERSION,PROOF,SHA256SUMS,README.md,python,rust,examples}
+    has_files "$at"
     passed dist "$runs"
+}
+
+# prints_outline WORD..: the command prints the outline of what is packed.
+prints_outline() {
+    printf '1: # markdown-scanners %s, for Linux on x86-64\n13: ## C\n23: ## Python\n30: ## Rust\n' "$version" >"$room/wanted"
+    "$@" >"$room/printed" && cmp "$room/wanted" "$room/printed" || stop "$* prints something else"
+}
+
+# The package, of the wheel alone, and the example on it.
+check_packed_python() {
+    python3 -m pip --version >/dev/null 2>&1 || { leave packed_python pip; return; }
+    python3 -m pip install -q --root-user-action ignore --no-index --no-deps --target "$room/site" "$1"/python/markdown_scanners-*.whl ||
+        stop "the wheel that is packed is not installed"
+    (unset MARKDOWN_SCANNERS_LIBRARY && cd "$1" && PYTHONPATH=$room/site prints_outline python3 examples/outline.py README.md)
+    passed packed_python 1
+}
+
+# The crate, and its example, with the archive that is packed.
+check_packed_rust() {
+    command -v cargo >/dev/null || { leave packed_rust cargo; return; }
+    (
+        cd "$1/rust"
+        export MARKDOWN_SCANNERS_LIB_DIR=$1/lib MARKDOWN_SCANNERS_STATIC=1 CARGO_TARGET_DIR=$room/packed
+        prints_outline cargo run -q --offline --example headings ../README.md
+    )
+    passed packed_rust 1
 }
