@@ -1,4 +1,5 @@
 pub mod CloneLemmas
+pub mod ForestCounts
 pub mod ForestLemmas
 pub mod OrderLemmas
 pub mod RemovalLemmas

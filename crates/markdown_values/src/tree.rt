@@ -109,7 +109,9 @@ impl<T> Model for Tree<T> {
 }
 
 impl<T: Drop> Tree<T> {
-    ghost use Rattle.markdown_values.specs.tree.Tree.{empty_tree, with_node, after_append, last, but_last, first_root, IsLinkWithin, IsNodeAt, with_next, with_child, with_item, linked_from_focus, after_push, after_pop, removed, IsLastLinkedFromAlone, after_reset, next_of, truncated_to_parent};
+    ghost use Rattle.markdown_values.specs.tree.Tree.{empty_tree, with_node, after_append, last, but_last, first_root, IsLinkWithin};
+    ghost use Rattle.markdown_values.specs.tree.Tree.{IsNodeAt, with_next, with_child, with_item, linked_from_focus, after_push, after_pop};
+    ghost use Rattle.markdown_values.specs.tree.Tree.{removed, IsLastLinkedFromAlone, after_reset, next_of, truncated_to_parent};
     ghost use Rattle.markdown_values.specs.tree.Lends.{lends_item, item_of};
     ghost use Rattle.markdown_values.specs.tree.Forest as forest;
     ghost use Rattle.markdown_values.specs.tree.Forest.{Focused, StandsFor, IsRoot, siblings};

@@ -4,7 +4,8 @@ use Rattle.std.specs.Prelude.{option_map}
 use Rattle.memchr.specs.Find.{FindsNeedle}
 use Rattle.markdown_scanners_tree.specs.declared.inline_html.HtmlScanGuard.{HtmlScanGuard}
 use Rattle.markdown_scanners_tree.specs.inline_html.CountedText.{CountedBytes, passing, searched_bytes}
-use Rattle.markdown_scanners_tree.specs.inline_html.InlineHtml.{Kind, Comment, Cdata, Declaration, Processing, Opening, Begins, Hyphen, Bracket, Nothing, closer, lead, first_place, first_closer, closed_at, span, looked_at, searched, cost}
+use Rattle.markdown_scanners_tree.specs.inline_html.InlineHtml.{Kind, Comment, Cdata, Declaration, Processing, Opening, Begins, Hyphen, Bracket, Nothing}
+use Rattle.markdown_scanners_tree.specs.inline_html.InlineHtml.{closer, lead, first_place, first_closer, closed_at, span, looked_at, searched, cost}
 use Rattle.markdown_scanners_tree.specs.inline_html.Guard.{is_stopped, searched_guard, guarded_answer, guard_after}
 use Rattle.markdown_scanners_tree.proofs.inline_html.LeastPlaces.{first_place-FindsNeedle}
 

@@ -1,5 +1,6 @@
 -- A guard that is true at a place stays true, and a scan under it answers the find.
-use Rattle.std.proofs.Common.{◌≡◌, ℕ, zero, suc, ◌+◌, ◌-◌, ◌≤◌, ◌<◌, Bool, true, false, List, [], ◌∷◌, length, get_or, refl, sym, ap, subst, ◌∙◌, arith, ⊎_elim, Option, Some, None, cond, add-zero, ◌⊎◌, inl, inr}
+use Rattle.std.proofs.Common.{◌≡◌, ℕ, zero, suc, ◌+◌, ◌-◌, ◌≤◌, ◌<◌, Bool, true, false, List, [], ◌∷◌, length, get_or, refl}
+use Rattle.std.proofs.Common.{sym, ap, subst, ◌∙◌, arith, ⊎_elim, Option, Some, None, cond, add-zero, ◌⊎◌, inl, inr}
 use Rattle.std.specs.Prelude.{codes, IfSome, slice_index, not, ◌==◌, nat_le}
 use Rattle.std.specs.List.{list_all}
 use Rattle.std.proofs.lemmas.Bool.{false≢true, ltb-true, leb-true, lt-ltb, le-leb, and_parts, eq-eqb, false_from_ne_true}
@@ -11,7 +12,8 @@ use Rattle.markdown_scanners_tree.specs.declared.inline_html.HtmlScanGuard.{Html
 use Rattle.markdown_scanners_tree.specs.Ascii.{exclamation_mark, less_than_sign, greater_than_sign, question_mark, right_bracket}
 use Rattle.markdown_scanners_tree.specs.Bytes.{is_letter}
 use Rattle.markdown_scanners_tree.specs.inline_html.CountedText.{CountedBytes, passing}
-use Rattle.markdown_scanners_tree.specs.inline_html.InlineHtml.{Kind, Comment, Cdata, Declaration, Processing, Opening, Begins, Hyphen, Bracket, Nothing, closer, lead, first_closer, closed_at, end_of, declared_at, opening_at, ends_opener, opener_before}
+use Rattle.markdown_scanners_tree.specs.inline_html.InlineHtml.{Kind, Comment, Cdata, Declaration, Processing, Opening, Begins, Hyphen, Bracket, Nothing, closer}
+use Rattle.markdown_scanners_tree.specs.inline_html.InlineHtml.{lead, first_closer, closed_at, end_of, declared_at, opening_at, ends_opener, opener_before}
 use Rattle.markdown_scanners_tree.specs.inline_html.Guard.{is_stopped, with_number, searched_guard, guarded_answer, guard_after, answer_of_scan, guard_after_scan, IsTrueGuard, IsTrueScan}
 use Rattle.markdown_scanners_tree.proofs.inline_html.LeastPlaces.{first_place-FindsNeedle, first_place-value}
 

@@ -4,7 +4,8 @@ use Rattle.std.specs.Prelude.{ℕ, ◌+◌, ◌≡◌, ◌≤◌, ◌<◌, Bool,
 use Rattle.memchr.specs.Find.{Nowhere, OccursAt}
 use Rattle.markdown_scanners_tree.specs.declared.inline_html.HtmlScanGuard.{HtmlScanGuard}
 use Rattle.markdown_scanners_tree.specs.inline_html.CountedText.{CountedBytes, passing}
-use Rattle.markdown_scanners_tree.specs.inline_html.InlineHtml.{Kind, Comment, Cdata, Declaration, Processing, Opening, Begins, Hyphen, Bracket, Nothing, closer, first_closer, closed_at, find_at, cost}
+use Rattle.markdown_scanners_tree.specs.inline_html.InlineHtml.{Kind, Comment, Cdata, Declaration, Processing, Opening, Begins, Hyphen}
+use Rattle.markdown_scanners_tree.specs.inline_html.InlineHtml.{Bracket, Nothing, closer, first_closer, closed_at, find_at, cost}
 
 -- the guard has a scan at place p search for no closer of the kind
 abbrev pub is_stopped : HtmlScanGuard → ℕ → Kind → Bool

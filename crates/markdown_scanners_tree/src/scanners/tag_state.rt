@@ -2,7 +2,8 @@
 ghost use Rattle.std.specs.Prelude.{ℕ, ◌≡◌, ◌≤◌, ◌<◌, ◌⊎◌, length, take, drop, slice_index, true, false};
 ghost use Rattle.markdown_scanners_tree.specs.Bytes.{is_line_ending, is_at_line_end, is_unquoted, is_white_space_in_line};
 ghost use Rattle.markdown_scanners_tree.specs.scanners.html_tag.HtmlTag.{is_tag_name_byte, is_attribute_start, is_attribute_byte};
-ghost use Rattle.markdown_scanners_tree.specs.scanners.tag_state.private.TagMachine.{next_state, after_part, after_attribute_name, before_value, after_closing_name, is_tag_end, is_final, LeadsTo, BeginsWith, AllKeep, is_quoted_in_line};
+ghost use Rattle.markdown_scanners_tree.specs.scanners.tag_state.private.TagMachine.{next_state, after_part, after_attribute_name, before_value, after_closing_name};
+ghost use Rattle.markdown_scanners_tree.specs.scanners.tag_state.private.TagMachine.{is_tag_end, is_final, LeadsTo, BeginsWith, AllKeep, is_quoted_in_line};
 
 use crate::scanners::classes::{
     is_ascii_alphanumeric, is_ascii_letter, is_ascii_whitespace, is_ascii_whitespace_no_nl,

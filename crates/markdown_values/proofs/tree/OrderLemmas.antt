@@ -12,7 +12,8 @@ use Rattle.markdown_values.specs.tree.Linked.{Linked}
 use Rattle.markdown_values.specs.tree.Tree.{first_root, IsLinkWithin, IsNodeAt}
 use Rattle.markdown_values.specs.tree.Forest.{Forest, no_tree, tree, count_in, Focused, IsLinkedAs, StandsFor}
 use Rattle.markdown_values.specs.tree.Order.{in_order}
-use Rattle.markdown_values.proofs.tree.ForestLemmas.{count_in-here, count_in-there, count_in-within}
+use Rattle.markdown_values.proofs.tree.ForestCounts.{count_in-here, count_in-there}
+use Rattle.markdown_values.proofs.tree.ForestLemmas.{count_in-within}
 
 -- a link, if it leads to a node, is put on those that are still to be followed
 abbrev pub with_link : List (ℕ × ℕ) → Option ℕ → ℕ → List (ℕ × ℕ)

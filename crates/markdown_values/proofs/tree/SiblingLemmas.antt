@@ -6,7 +6,8 @@ use Rattle.markdown_values.specs.declared.tree.Node.{Node}
 use Rattle.markdown_values.specs.tree.Linked.{Linked}
 use Rattle.markdown_values.specs.tree.Tree.{first_root, next_of}
 use Rattle.markdown_values.specs.tree.Forest.{Forest, no_tree, tree, first, IsRoot, root_after, Focused, siblings, moved_after, KeepsFocus, IsLinkedAs, StandsFor}
-use Rattle.markdown_values.proofs.tree.ForestLemmas.{IsRoot-later, IsLinkedAs-first, IsLinkedAs-at_end}
+use Rattle.markdown_values.proofs.tree.ForestCounts.{IsRoot-later}
+use Rattle.markdown_values.proofs.tree.ForestLemmas.{IsLinkedAs-first, IsLinkedAs-at_end}
 
 root_after-here : (a r : ℕ) (cs later : Forest) → a ≡ r → root_after a (tree r cs later) ≡ first later
 root_after-here a r cs later e = rw (eq-eqb a r e)

@@ -4,7 +4,8 @@ use Rattle.markdown_values.specs.values.Tags.{TagView, tag_view}
 use Rattle.markdown_values.specs.declared.strings.CowStr.{CowStr}
 use Rattle.markdown_values.specs.declared.values.tags.TagEnd.{TagEnd}
 use Rattle.markdown_values.specs.declared.values.events.Event.{Event}
-use Rattle.markdown_values.specs.declared.values.events.Event.TheVariants.{Start, End, Text, Code, InlineMath, DisplayMath, Html, InlineHtml, FootnoteReference, SoftBreak, HardBreak, Rule, TaskListMarker}
+use Rattle.markdown_values.specs.declared.values.events.Event.TheVariants.{Start, End, Text, Code, InlineMath, DisplayMath, Html, InlineHtml}
+use Rattle.markdown_values.specs.declared.values.events.Event.TheVariants.{FootnoteReference, SoftBreak, HardBreak, Rule, TaskListMarker}
 
 -- what an event says, where `A` is what is seen of a text
 pub data EventView (A : Type 0) : Type 0 where

@@ -35,7 +35,8 @@ pub trait SpanItem {
 
 impl<T: SpanItem + Drop> Tree<T> {
     ghost use Rattle.markdown_values.specs.tree.Tree.{last, child_of, with_item, IsLinkWithin};
-    ghost use Rattle.markdown_values.specs.tree.Truncate.{CanCut, CanTruncate, AllEndBefore, CutsFirstOther, cut_tree, dropped_after, first_sibling, HasChildren, HasSiblings, truncated, truncated_focus, FindsOther};
+    ghost use Rattle.markdown_values.specs.tree.Truncate.{CanCut, CanTruncate, AllEndBefore, CutsFirstOther, cut_tree, dropped_after};
+    ghost use Rattle.markdown_values.specs.tree.Truncate.{first_sibling, HasChildren, HasSiblings, truncated, truncated_focus, FindsOther};
 
     /// Cuts the children of the parent where its text now ends, at the byte `end`, and moves the
     /// focus to the last child that is left of those up to there.

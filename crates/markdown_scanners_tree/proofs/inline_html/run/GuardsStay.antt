@@ -10,7 +10,8 @@ use Rattle.std.proofs.lemmas.Bool.{cases_eq, cases_lt, lt-ltb, le-ltb, le-leb, l
 use Rattle.std.proofs.lemmas.Option.{slice_get_past}
 use Rattle.markdown_scanners_tree.specs.declared.inline_html.HtmlScanGuard.{HtmlScanGuard}
 use Rattle.markdown_scanners_tree.specs.inline_html.CountedText.{CountedBytes, passing}
-use Rattle.markdown_scanners_tree.specs.inline_html.InlineHtml.{Kind, Comment, Cdata, Declaration, Processing, Opening, Begins, Hyphen, Bracket, Nothing, closer, lead, first_closer, closed_at, end_of, find_at, declared_at, opening_at, opener_before, cost}
+use Rattle.markdown_scanners_tree.specs.inline_html.InlineHtml.{Kind, Comment, Cdata, Declaration, Processing, Opening, Begins, Hyphen, Bracket, Nothing, closer}
+use Rattle.markdown_scanners_tree.specs.inline_html.InlineHtml.{lead, first_closer, closed_at, end_of, find_at, declared_at, opening_at, opener_before, cost}
 use Rattle.markdown_scanners_tree.specs.inline_html.Guard.{is_stopped, with_number, searched_guard, guarded_answer, guard_after, IsTrueGuard, IsTrueScan}
 use Rattle.markdown_scanners_tree.specs.inline_html.run.Run.{ShutKinds, Run, is_shut, shutting, shut_by, run_step, place_refusal, IsWithinBudget}
 use Rattle.markdown_scanners_tree.specs.inline_html.run.private.RunFields.{says_shut, shut_kinds, run_of, AreRunFields}

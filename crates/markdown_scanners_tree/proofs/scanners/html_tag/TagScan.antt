@@ -4,7 +4,8 @@
 -- alone (`TagEnds`). And a loop over the source reads a kept text byte by byte: reading on from a
 -- place, with what was passed before it, is reading from the start, and each tag begins with what
 -- was passed (`TagScan`). So the grammar never meets the skips.
-use Rattle.std.proofs.Common.{ℕ, zero, suc, List, [], ◌∷◌, ◌++◌, ◌+◌, ◌-◌, ◌<◌, ◌≤◌, ◌≡◌, true, false, cond, length, take, drop, get_or, Option, Some, None, IfSome, refl, sym, ap, ◌∙◌, subst, append_assoc, length-append, inl, inr, ◌⊎◌, arith}
+use Rattle.std.proofs.Common.{ℕ, zero, suc, List, [], ◌∷◌, ◌++◌, ◌+◌, ◌-◌, ◌<◌, ◌≤◌, ◌≡◌, true, false, cond, length, take, drop, get_or}
+use Rattle.std.proofs.Common.{Option, Some, None, IfSome, refl, sym, ap, ◌∙◌, subst, append_assoc, length-append, inl, inr, ◌⊎◌, arith}
 use Rattle.std.proofs.lemmas.Bool.{cases_Bool}
 use Rattle.std.proofs.lemmas.List.{drop_more, drop-drop, drop_all, length-drop, append-nil, map-append}
 use Rattle.std.proofs.lemmas.List.Sums.{sum_by-append}

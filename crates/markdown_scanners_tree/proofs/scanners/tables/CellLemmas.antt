@@ -1,6 +1,7 @@
 -- The cells of a delimiter row: which bytes the first is, by the byte after it, and that all of them are determined. And
 -- the alignment that a cell stands for.
-use Rattle.std.proofs.Common.{◌≡◌, ℕ, ◌+◌, ◌-◌, ◌<◌, Bool, true, false, not, ◌==◌, List, [], ◌∷◌, ◌++◌, length, take, drop, get_or, refl, sym, ap, ◌∙◌, arith, inl, inr, Some, one-add, add-one, append_assoc}
+use Rattle.std.proofs.Common.{◌≡◌, ℕ, ◌+◌, ◌-◌, ◌<◌, Bool, true, false, not, ◌==◌, List, [], ◌∷◌, ◌++◌, length, take}
+use Rattle.std.proofs.Common.{drop, get_or, refl, sym, ap, ◌∙◌, arith, inl, inr, Some, one-add, add-one, append_assoc}
 use Rattle.std.specs.List.{prefix_len, list_all, list_any, flat_map, filter}
 use Rattle.std.proofs.lemmas.Bool.{cases_Bool, eqb-true}
 use Rattle.std.proofs.lemmas.Bool.Decides.{nat_tests}

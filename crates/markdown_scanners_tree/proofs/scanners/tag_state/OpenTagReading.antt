@@ -8,8 +8,10 @@ use Rattle.markdown_scanners_tree.specs.Ascii.{quotation_mark, apostrophe, slash
 use Rattle.markdown_scanners_tree.specs.Bytes.{is_letter, is_unquoted, is_white_space}
 use Rattle.markdown_scanners_tree.specs.scanners.html_tag.HtmlTag.{IsName, IsTagName, IsQuotedValue, is_tag_name_byte, is_attribute_start, is_attribute_byte}
 use Rattle.markdown_scanners_tree.specs.scanners.tag_state.private.TagMachine.{next_state}
-use Rattle.markdown_scanners_tree.specs.declared.scanners.tag_state.TagState.TheVariants.{Start, Opened, Name, Spaced, AttributeName, AfterName, BeforeValue, Unquoted, Quoted, AfterValue, Slashed, Open, Closing}
-use Rattle.markdown_scanners_tree.proofs.scanners.tag_state.TagReading.{choose, name_more, name_all, Reading, more, committed, bare, with_value, Valued, value_more, QuoteRead, Ended, opened, after_leads, Leads}
+use Rattle.markdown_scanners_tree.specs.declared.scanners.tag_state.TagState.TheVariants.{Start, Opened, Name, Spaced, AttributeName, AfterName, BeforeValue}
+use Rattle.markdown_scanners_tree.specs.declared.scanners.tag_state.TagState.TheVariants.{Unquoted, Quoted, AfterValue, Slashed, Open, Closing}
+use Rattle.markdown_scanners_tree.proofs.scanners.tag_state.TagReading.{choose, name_more, name_all, Reading, more, committed, bare, with_value}
+use Rattle.markdown_scanners_tree.proofs.scanners.tag_state.TagReading.{Valued, value_more, QuoteRead, Ended, opened, after_leads, Leads}
 
 -- the first bytes of a tag name, and the first attribute's place
 named_only : (name : List ℕ) → IsTagName name → (b : ℕ) (pre : List ℕ) → pre ≡ less_than_sign ∷ name

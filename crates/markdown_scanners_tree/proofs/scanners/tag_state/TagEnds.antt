@@ -8,9 +8,11 @@ use Rattle.markdown_scanners_tree.specs.Bytes.{is_letter, is_white_space, is_whi
 use Rattle.markdown_scanners_tree.specs.scanners.html_tag.HtmlTag.{IsOpenTag, IsClosingTag, is_tag_name_byte, is_attribute_start, is_attribute_byte}
 use Rattle.markdown_scanners_tree.specs.scanners.tag_state.private.TagMachine.{next_state, after_part, after_attribute_name, before_value, after_closing_name, state_after, is_tag_end, is_final}
 use Rattle.markdown_scanners_tree.specs.declared.scanners.tag_state.TagState.{TagState}
-use Rattle.markdown_scanners_tree.specs.declared.scanners.tag_state.TagState.TheVariants.{Start, Opened, Name, Spaced, AttributeName, AfterName, BeforeValue, Unquoted, Quoted, AfterValue, Slashed, Open, Closing, ClosingName, ClosingSpaced, ClosingReturned, ClosingEnded, Closed, Refused}
+use Rattle.markdown_scanners_tree.specs.declared.scanners.tag_state.TagState.TheVariants.{Start, Opened, Name, Spaced, AttributeName, AfterName, BeforeValue, Unquoted, Quoted, AfterValue}
+use Rattle.markdown_scanners_tree.specs.declared.scanners.tag_state.TagState.TheVariants.{Slashed, Open, Closing, ClosingName, ClosingSpaced, ClosingReturned, ClosingEnded, Closed, Refused}
 use Rattle.markdown_scanners_tree.proofs.scanners.tag_state.ClosingTagReading.{leads_closing, leads_closing_name, leads_closing_spaced, leads_closing_ended, leads_closing_returned}
-use Rattle.markdown_scanners_tree.proofs.scanners.tag_state.OpenTagReading.{leads_name, leads_start, leads_opened, leads_spaced, leads_attribute, leads_after_name, leads_before_value, leads_unquoted, leads_quoted, leads_after_value, leads_slashed}
+use Rattle.markdown_scanners_tree.proofs.scanners.tag_state.OpenTagReading.{leads_name, leads_start, leads_opened, leads_spaced, leads_attribute, leads_after_name}
+use Rattle.markdown_scanners_tree.proofs.scanners.tag_state.OpenTagReading.{leads_before_value, leads_unquoted, leads_quoted, leads_after_value, leads_slashed}
 use Rattle.markdown_scanners_tree.proofs.scanners.tag_state.TagReading.{Leads}
 use Rattle.markdown_scanners_tree.proofs.scanners.tag_state.TagWhole.{open_whole, closing_whole, refused_stays}
 

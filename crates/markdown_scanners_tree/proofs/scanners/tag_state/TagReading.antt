@@ -9,10 +9,12 @@ use Rattle.std.proofs.lemmas.Bool.{eqb-true}
 use Rattle.markdown_scanners_tree.proofs.PassLemmas.{AllPass-nil, AllPass-cons, AllPass-head, AllPass-tail, AllPass-snoc}
 use Rattle.markdown_scanners_tree.specs.Ascii.{carriage_return, quotation_mark, apostrophe, slash, less_than_sign, equals_sign, greater_than_sign}
 use Rattle.markdown_scanners_tree.specs.Bytes.{is_unquoted, is_white_space, is_white_space_in_line}
-use Rattle.markdown_scanners_tree.specs.scanners.html_tag.HtmlTag.{IsName, IsTagName, IsAttributeName, IsQuotedValue, IsUnquotedValue, IsAttribute, joined, AreAttributes, IsOpenTag, IsClosingTag, IsLineEndingOrNone}
+use Rattle.markdown_scanners_tree.specs.scanners.html_tag.HtmlTag.{IsName, IsTagName, IsAttributeName, IsQuotedValue, IsUnquotedValue, IsAttribute}
+use Rattle.markdown_scanners_tree.specs.scanners.html_tag.HtmlTag.{joined, AreAttributes, IsOpenTag, IsClosingTag, IsLineEndingOrNone}
 use Rattle.markdown_scanners_tree.specs.scanners.tag_state.private.TagMachine.{after_part}
 use Rattle.markdown_scanners_tree.specs.declared.scanners.tag_state.TagState.{TagState}
-use Rattle.markdown_scanners_tree.specs.declared.scanners.tag_state.TagState.TheVariants.{Start, Opened, Name, Spaced, AttributeName, AfterName, BeforeValue, Unquoted, Quoted, AfterValue, Slashed, Open, Closing, ClosingName, ClosingSpaced, ClosingReturned, ClosingEnded, Closed, Refused}
+use Rattle.markdown_scanners_tree.specs.declared.scanners.tag_state.TagState.TheVariants.{Start, Opened, Name, Spaced, AttributeName, AfterName, BeforeValue, Unquoted, Quoted, AfterValue}
+use Rattle.markdown_scanners_tree.specs.declared.scanners.tag_state.TagState.TheVariants.{Slashed, Open, Closing, ClosingName, ClosingSpaced, ClosingReturned, ClosingEnded, Closed, Refused}
 
 pub choose : (t : Bool) (x y : TagState) (P : TagState → Type 0) → (t ≡ true → P x) → (t ≡ false → P y) → P (cond t x y)
 choose true x y P f g = f refl

@@ -5,10 +5,13 @@ use Rattle.std.specs.List.{AllPass}
 use Rattle.std.proofs.lemmas.Bool.Decides.{nat_tests}
 use Rattle.markdown_scanners_tree.specs.Ascii.{line_feed, carriage_return, quotation_mark, apostrophe, slash, equals_sign, greater_than_sign}
 use Rattle.markdown_scanners_tree.specs.Bytes.{is_letter, is_unquoted, is_white_space, is_white_space_in_line}
-use Rattle.markdown_scanners_tree.specs.scanners.html_tag.HtmlTag.{BeginsWithout, IsName, IsAttributeName, IsQuotedValue, IsUnquotedValue, IsValueSpecification, IsAttribute, joined, AreAttributes, IsOpenTag, IsClosingTag, IsLineEndingOrNone, is_tag_name_byte, is_attribute_start, is_attribute_byte}
+use Rattle.markdown_scanners_tree.specs.scanners.html_tag.HtmlTag.{BeginsWithout, IsName, IsAttributeName, IsQuotedValue, IsUnquotedValue}
+use Rattle.markdown_scanners_tree.specs.scanners.html_tag.HtmlTag.{IsValueSpecification, IsAttribute, joined, AreAttributes, IsOpenTag, IsClosingTag}
+use Rattle.markdown_scanners_tree.specs.scanners.html_tag.HtmlTag.{IsLineEndingOrNone, is_tag_name_byte, is_attribute_start, is_attribute_byte}
 use Rattle.markdown_scanners_tree.specs.scanners.tag_state.private.TagMachine.{next_state, state_after}
 use Rattle.markdown_scanners_tree.specs.declared.scanners.tag_state.TagState.{TagState}
-use Rattle.markdown_scanners_tree.specs.declared.scanners.tag_state.TagState.TheVariants.{Start, Opened, Name, Spaced, AttributeName, AfterName, BeforeValue, Unquoted, Quoted, AfterValue, Open, Closing, ClosingName, ClosingSpaced, ClosingReturned, ClosingEnded, Closed, Refused}
+use Rattle.markdown_scanners_tree.specs.declared.scanners.tag_state.TagState.TheVariants.{Start, Opened, Name, Spaced, AttributeName, AfterName, BeforeValue, Unquoted, Quoted, AfterValue}
+use Rattle.markdown_scanners_tree.specs.declared.scanners.tag_state.TagState.TheVariants.{Open, Closing, ClosingName, ClosingSpaced, ClosingReturned, ClosingEnded, Closed, Refused}
 use Rattle.markdown_scanners_tree.proofs.PrefixLemmas.{both_true}
 use Rattle.markdown_scanners_tree.proofs.PassLemmas.{AllPass-head, AllPass-tail}
 use Rattle.markdown_scanners_tree.proofs.RunLemmas.{not_true}

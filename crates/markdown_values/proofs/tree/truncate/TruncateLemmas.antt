@@ -6,7 +6,8 @@ use Rattle.std.proofs.lemmas.List.{map-append}
 use Rattle.markdown_values.specs.declared.tree.Node.{Node}
 use Rattle.markdown_values.specs.tree.Linked.{Linked}
 use Rattle.markdown_values.specs.tree.Tree.{last, but_last, child_of, update_at, with_next, with_item}
-use Rattle.markdown_values.specs.tree.Truncate.{Span, IsChain, last_index, EndsBefore, IsFirstOther, AllEndBefore, HasChildren, HasSiblings, cut_tree, dropped_after, cut, cut_focus, first_other, CanCut, CanTruncate, truncated, truncated_focus}
+use Rattle.markdown_values.specs.tree.Truncate.{Span, IsChain, last_index, EndsBefore, IsFirstOther, AllEndBefore, HasChildren, HasSiblings, cut_tree}
+use Rattle.markdown_values.specs.tree.Truncate.{dropped_after, cut, cut_focus, first_other, CanCut, CanTruncate, truncated, truncated_focus}
 use Rattle.markdown_values.proofs.tree.TreeLemmas.{get-update_at_same, last-none, last-split}
 use Rattle.markdown_values.proofs.tree.truncate.ChainLemmas.{same_chain}
 use Rattle.markdown_values.proofs.tree.truncate.ChainChanges.{chain_from, IsChain-ended, IsChain-changed, KeepsBut-update, KeepsBut-twice, child_of-update, child_of-with_child}

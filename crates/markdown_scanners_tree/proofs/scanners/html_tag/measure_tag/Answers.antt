@@ -3,8 +3,10 @@ use Rattle.markdown_scanners_tree.specs.Handler.{Answers}
 use Rattle.markdown_scanners_tree.specs.scanners.html_tag.KeptTag.{AnswersIfAny}
 use Rattle.markdown_scanners_tree.specs.scanners.tag_state.private.TagMachine.{is_final}
 use Rattle.markdown_scanners_tree.proofs.scanners.html_tag.TagBuffer.{if_none, none_given}
-use Rattle.markdown_scanners_tree.proofs.scanners.html_tag.TagScan.{Scanned, turn_with_skip, turn_without, skip_inside, scan_begins, scan_reads_on, scan_goes_on, scan_finds, scan_only, scan_ends, no_handler_stops}
-use Rattle.markdown_scanners_tree.proofs.scanners.html_tag.measure_tag.Goals.{else-loop-state-test, then-loop-state-test+then-place-bytes, then-place-bytes-via-then-place-bytes, then-place-bytes-via-else-place-bytes+then-is_final}
+use Rattle.markdown_scanners_tree.proofs.scanners.html_tag.TagScan.{Scanned, turn_with_skip, turn_without, skip_inside, scan_begins, scan_reads_on}
+use Rattle.markdown_scanners_tree.proofs.scanners.html_tag.TagScan.{scan_goes_on, scan_finds, scan_only, scan_ends, no_handler_stops}
+use Rattle.markdown_scanners_tree.proofs.scanners.html_tag.measure_tag.Goals.{else-loop-state-test, then-loop-state-test+then-place-bytes}
+use Rattle.markdown_scanners_tree.proofs.scanners.html_tag.measure_tag.Goals.{then-place-bytes-via-then-place-bytes, then-place-bytes-via-else-place-bytes+then-is_final}
 use Rattle.markdown_scanners_tree.proofs.scanners.html_tag.measure_tag.Goals as goal
 
 pub loop-state-init : goal.loop-state-init

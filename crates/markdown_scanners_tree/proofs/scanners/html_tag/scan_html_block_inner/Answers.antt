@@ -1,6 +1,7 @@
 use Rattle.std.proofs.Common.{◌≡◌, ◌∙◌, ap, Vec, Global, ℕ}
 use Rattle.markdown_scanners_tree.proofs.scanners.html_tag.TagBuffer.{buffer_built, buffer_empty, prefix_under, none_given}
-use Rattle.markdown_scanners_tree.proofs.scanners.html_tag.scan_html_block_inner.Goals.{in-Some-handler+in_ok-buffer-in-Some-handler, in_default-handler, in_default-handler-via-in-Some-handler+else-tag, in_default-handler-via-in_default-handler}
+use Rattle.markdown_scanners_tree.proofs.scanners.html_tag.scan_html_block_inner.Goals.{in-Some-handler+in_ok-buffer-in-Some-handler, in_default-handler}
+use Rattle.markdown_scanners_tree.proofs.scanners.html_tag.scan_html_block_inner.Goals.{in_default-handler-via-in-Some-handler+else-tag, in_default-handler-via-in_default-handler}
 use Rattle.markdown_scanners_tree.proofs.scanners.html_tag.scan_html_block_inner.Goals as goal
 
 pub copy_kept-requires-clause-some : goal.copy_kept-requires-clause-some
