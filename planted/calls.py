@@ -66,6 +66,15 @@ def key_named(name, crate):
     return max(found, key=lambda key: len(key[0]), default=None)
 
 
+def names_in_sources(crate):
+    """The names that the prover has for a crate's functions outside impls of traits."""
+    found = set()
+    for item in functions_of(crate).values():
+        places = [] if item.module in ("main", "lib") else item.module.split("/")
+        found.add("::".join([crate, *places, *([item.of_type] if item.of_type else []), item.short]))
+    return found
+
+
 def calls_in_sources(crate, names):
     """What each of these functions seems to call, by the sources."""
     short = {}

@@ -15,7 +15,7 @@ from importlib.machinery import SourceFileLoader
 from importlib.util import module_from_spec, spec_from_loader
 from pathlib import Path
 
-from calls import Calls, asked_for, calls_in_code, calls_in_sources
+from calls import Calls, asked_for, calls_in_code, calls_in_sources, names_in_sources
 from edits import TOP, crate_of, free_memory
 from grouping import PROVED, changed_functions, changed_lines, edits_in, groups_of, refused_in, texts_of
 
@@ -122,21 +122,29 @@ def tried_over(checks, crate, edits, calls, kept):
     return refused, {edit: it.result() for edit, it in said.items()}
 
 
-def ahead_of(checks, crate, edits, kept):
-    """The calls of a crate, and the flags of a check after which its edits can be tried: in it what the edited functions call is
-    proved as it stands. Of a library that is built the rest is proved too; of any other crate the check is of all."""
-    calls = calls_in_code(crate.folder)
-    if calls is None:
-        calls = Calls(crate.name, calls_in_sources(crate.name, PROVED.findall(checks.as_it_stands(crate, [], kept))))
-        return calls, []
-    calls = Calls(crate.name, calls)
-    edited = set().union(*(changed_functions(it, changed_lines(it), calls) for it in edits))
-    return calls, asked_for(calls.below(edited))
+def ahead_of(checks, crate, edits, said, kept):
+    """The calls of a crate, once what its edits stand on is proved as it stands, and the flags of a check that shows this again.
+    Of a library that is built that is what the edited functions call, and its code tells the calls. Of any other crate all is
+    proved; of a library too while rt ci builds it, so that the check goes on beside that. Where nothing is kept it is proved with
+    the edit."""
+    if not kept:
+        return Calls(crate.name, calls_in_sources(crate.name, names_in_sources(crate.name))), []
+    code = None if said else calls_in_code(crate.folder)
+    if code is None:
+        proved = PROVED.findall(checks.as_it_stands(crate, [], kept))
+        wait_for(set() if crate.is_static else {crate.name}, said)
+        return Calls(crate.name, calls_in_code(crate.folder) or calls_in_sources(crate.name, proved)), []
+    calls = Calls(crate.name, code)
+    flags = asked_for(calls.below(set().union(*(changed_functions(it, changed_lines(it), calls) for it in edits))))
+    checks.as_it_stands(crate, flags, kept)
+    return calls, flags
 
 
-def kept_of(crate, said):
+def kept_of(crate, edits, said):
     """Where what is checked is kept: where `rt check` and `rt lib` keep theirs, for these too; beside a run of rt ci, which begins
-    with an empty folder of each library, in a folder of its own."""
+    with an empty folder of each crate, in a folder of its own. Of a crate with one edit nothing is, since nothing else needs it."""
+    if said and len(edits) == 1:
+        return None
     kept = said.parent / "kept" / crate.name if said and not crate.is_static else Path(crate.folder) / "out/incremental"
     kept.mkdir(parents=True, exist_ok=True)
     return kept
@@ -145,10 +153,8 @@ def kept_of(crate, said):
 def tried(checks, crate, edits, said):
     """Whether each edit is refused, and what rt says of it where it was tried alone. That what they stand on is proved is seen
     before, and after where rt ci does not prove all of it from nothing."""
-    kept = kept_of(crate, said)
-    calls, flags = ahead_of(checks, crate, edits, kept)
-    if flags:
-        checks.as_it_stands(crate, flags, kept)
+    kept = kept_of(crate, edits, said)
+    calls, flags = ahead_of(checks, crate, edits, said, kept)
     refused, alone = tried_over(checks, crate, edits, calls, kept)
     if not said:
         checks.as_it_stands(crate, flags, kept)
@@ -156,12 +162,9 @@ def tried(checks, crate, edits, said):
     return [(True, "") if it in refused else alone[it] for it in edits]
 
 
-def wait_for_libraries(crate, said):
-    """Waits until rt ci has said that it proved the libraries that the crate uses, and the crate itself if it is one. The one that
-    uses none goes on beside that proof, which leaves processors idle."""
-    below = {it.name for it in crate.below()}
-    wanted = below | ({crate.name} if below and not crate.is_static else set())
-    while said and not wanted <= set(CRATE_PROVED.findall(said.read_text())):
+def wait_for(names, said):
+    """Waits until rt ci has said that it proved the libraries of these names."""
+    while said and not names <= set(CRATE_PROVED.findall(said.read_text())):
         time.sleep(2)
 
 
@@ -178,7 +181,7 @@ def prove_all(edits, lanes, built=None, said=None):
     checks = Checks(rt, lanes)
 
     def answers(name):
-        wait_for_libraries(crates[name], said)
+        wait_for({it.name for it in crates[name].below()}, said)
         return tried(checks, crates[name], of_crate[name], said)
 
     with ThreadPoolExecutor(max(1, len(of_crate))) as pool:
