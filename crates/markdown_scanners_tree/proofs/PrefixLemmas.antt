@@ -81,7 +81,7 @@ split_at bytes n byte inside here =
     ∙ take-append-drop n bytes)
 
 -- the longest prefix of the first bytes alone
-prefix_len-first : (p : ℕ → Bool) (n : ℕ) (bytes : List ℕ) → prefix_len p (take n bytes) ≡ min n (prefix_len p bytes)
+pub prefix_len-first : (p : ℕ → Bool) (n : ℕ) (bytes : List ℕ) → prefix_len p (take n bytes) ≡ min n (prefix_len p bytes)
 prefix_len-first p zero bytes = omega arith
 prefix_len-first p (suc n) [] = omega arith
 prefix_len-first p (suc n) (b ∷ bytes) =

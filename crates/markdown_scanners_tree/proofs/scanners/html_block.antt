@@ -1,2 +1,3 @@
 pub mod BlockNames
 pub mod BlockStart
+pub mod CompareLemmas

@@ -79,13 +79,16 @@ const BLOCK_NAMES: [&str; 62] = [
 fn compare_in_lowercase(row: &str, name: &[u8]) -> Ordering
     ensures { result ≡ slice_cmp nat_cmp row.now (map to_ascii_lowercase name.now) }
 {
-    let lowercase = |b: &u8| -> u8
-        ensures { result ≡ to_ascii_lowercase b.now }
-    { b.to_ascii_lowercase() };
-    row.as_bytes()
-        .iter()
-        .copied()
-        .cmp(name.iter().map(lowercase))
+    let letters = row.as_bytes();
+    let mut i = 0;
+    while i < letters.len() && i < name.len() {
+        let letter = name[i].to_ascii_lowercase();
+        if letters[i] != letter {
+            return letters[i].cmp(&letter);
+        }
+        i += 1;
+    }
+    letters.len().cmp(&name.len())
 }
 
 // Whether the name is one of the rows without regard to ASCII case.

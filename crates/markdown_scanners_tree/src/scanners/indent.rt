@@ -21,7 +21,7 @@ pub fn calc_indent(text: &[u8], max: usize) -> (usize, usize)
         match text[i] {
             b' ' if column + 1 == max => return (i, max),
             b' ' => column += 1,
-            b'\t' if tab_stop(column) <= max => column = tab_stop(column),
+            b'\t' if last_of_tab(column) < max => column = last_of_tab(column) + 1,
             _ => return (i, column),
         }
         i += 1;
@@ -29,10 +29,10 @@ pub fn calc_indent(text: &[u8], max: usize) -> (usize, usize)
     (i.saturating_sub(1), column)
 }
 
-// The next multiple of four above the column.
-fn tab_stop(column: usize) -> usize
+// The last column that a tab at this column takes.
+fn last_of_tab(column: usize) -> usize
     requires { column < usize.MAX - 4 }
-    ensures { result ≡ next_tab_stop column }
+    ensures { result + 1 ≡ next_tab_stop column }
 {
-    column - column % 4 + 4
+    column - column % 4 + 3
 }

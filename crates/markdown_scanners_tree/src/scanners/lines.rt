@@ -1,11 +1,16 @@
 //! Line endings, blank lines and the marks at the front of a line.
-ghost use Rattle.std.specs.Prelude.{◌≡◌, ◌<◌, ◌≤◌, length, IfSome};
+ghost use Rattle.std.specs.Prelude.{◌≡◌, ◌<◌, ◌≤◌, ◌==◌, length, take, not, IfSome};
+ghost use Rattle.std.specs.List.{prefix_len};
 ghost use Rattle.markdown_scanners_tree.specs.SomeExactly.{SomeExactly, IsOnly};
 ghost use Rattle.markdown_scanners_tree.specs.Bytes.{line_ending, line_head, line_length, IsBlankLine, blank_line};
 ghost use Rattle.markdown_scanners_tree.specs.scanners.Lines.{next_line, IsBlockQuoteStart};
 
 use crate::scanners::runs::scan_whitespace_no_nl;
 use memchr::{memchr, memchr2};
+use std::simd::prelude::*;
+
+// How many bytes a vector holds.
+const LANES: usize = 32;
 
 /// The length in bytes of the line ending at the front: LF, CR LF, or a CR alone.
 ///
@@ -61,18 +66,37 @@ pub(in crate::scanners) fn line_head(text: &[u8]) -> &[u8]
     }
 }
 
+// How many of the bytes in a vector stand before the first such byte.
+fn count_before(byte: u8, bytes: &[u8]) -> usize
+    requires { LANES ≤ length bytes.now }
+    ensures { result ≡ prefix_len (λ b. not (b == byte)) (take LANES bytes.now) }
+{
+    let is_equal = u8x32::from_slice(bytes).simd_eq(u8x32::splat(byte));
+    let mask = is_equal.to_bitmask();
+    if mask == 0 {
+        LANES
+    } else {
+        mask.trailing_zeros() as usize
+    }
+}
+
 /// The place after the first LF, or the length where there is none. LF alone ends a line here;
 /// `scan_line` knows CR too.
 pub fn scan_nextline(bytes: &[u8]) -> usize
     ensures next { result ≡ next_line bytes.now }
     ensures within { result ≤ length bytes.now }
 {
-    // One line in five is empty, and a search costs ten times as much as a look.
-    if let [b'\n', ..] = bytes {
-        return 1;
+    // Most lines are short, and a search takes longer to begin than a few vectors.
+    let mut from = 0;
+    while bytes.len() - from >= LANES {
+        let before = count_before(b'\n', &bytes[from..]);
+        from += before;
+        if before < LANES {
+            return from + 1;
+        }
     }
-    match memchr(b'\n', bytes) {
-        Some(place) => place + 1,
+    match memchr(b'\n', &bytes[from..]) {
+        Some(place) => from + place + 1,
         None => bytes.len(),
     }
 }

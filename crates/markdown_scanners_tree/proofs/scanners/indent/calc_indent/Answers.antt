@@ -19,7 +19,7 @@ pub returns-in_default-clause-indent : goal.returns-in_default-clause-indent
 returns-in_default-clause-indent c =
     let before = c.loop-i.invariant in
     let stops : goes_on c.args.max c.loop-i.column (get_or c.args.text.now c.loop-i.i 0) ≡ false =
-    rw c.in-9.is (tab_stops c.args.max c.loop-i.column (rw (← c.tab_stop.ensures) c.if-tab_stop-max.false)) in
+    rw c.in-9.is (tab_stops c.args.max c.loop-i.column (omega (arith, c.last_of_tab.ensures))) in
     stopped-other c.args.text.now c.args.max c.loop-i.i c.loop-i.column c.loop-i-test.true before.1 before.2 stops
     (λ space. cc)
 
@@ -75,8 +75,8 @@ loop-i-preserved c =
         omega (arith, before.0, w.column-is),
       )
       | in-9 w ↦ (
-        rw w.in-9.is (tab_goes c.args.max c.loop-i.column (rw (← w.tab_stop.ensures) w.if-tab_stop-max.true)),
-        rw w.in-9.is (w.column-is ∙ w.tab_stop-column.ensures),
+        rw w.in-9.is (tab_goes c.args.max c.loop-i.column (omega (arith, w.last_of_tab.ensures))),
+        rw w.in-9.is (omega (arith, w.column-is, w.last_of_tab-column.ensures)),
         omega (arith, w.column-is),
       )
     ] in
