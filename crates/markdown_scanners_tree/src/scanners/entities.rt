@@ -1,15 +1,17 @@
 //! Character references: entities by name, and characters by number.
-ghost use Rattle.std.specs.Prelude.{◌≡◌, ◌+◌, ◌<◌, ◌≤◌, ◌≢◌, ℕ, slice_index, List, Option, IfNone, length};
+ghost use Rattle.std.specs.Prelude.{◌≡◌, ◌+◌, ◌<◌, ◌≤◌, ◌≢◌, ℕ, slice_index, List, Option, IfNone, IfSome, length, drop};
 ghost use Rattle.std.specs.Option.{option_copied, option_map};
 ghost use Rattle.std.specs.List.{prefix_len};
 ghost use Rattle.std.specs.Str.Parse.{AllDigits, digits_value};
 ghost use Rattle.std.specs.Char.{is_digit, digit_value};
 ghost use Rattle.markdown_values.specs.strings.Text.{cow_text};
 ghost use Rattle.markdown_scanners_tree.specs.Ascii.{number_sign};
+ghost use Rattle.markdown_scanners_tree.specs.Bytes.{is_alphanumeric};
 ghost use Rattle.markdown_scanners_tree.specs.SomeExactly.{SomeExactly, IsOnly};
 ghost use Rattle.markdown_scanners_tree.specs.scanners.entities.CharacterReference.{Lookup, referenced_char, marks_hexadecimal};
 ghost use Rattle.markdown_scanners_tree.specs.scanners.entities.CharacterReference.{StartsWithReference, IsReferenceAnswer};
 ghost use Rattle.markdown_scanners_tree.specs.scanners.entities.private.Digits.{StartsWithNumber};
+ghost use Rattle.markdown_scanners_tree.specs.scanners.entities.private.Name.{IsNameAnswer};
 
 use crate::scanners::numbers::number_of;
 use crate::scanners::runs::{first_bytes, scan_alphanumerics};
@@ -52,7 +54,7 @@ pub fn scan_entity<E: Entities>(bytes: &[u8], entities: &E) -> (usize, Option<Co
 // The reference by number at the front, where `#` follows the first byte. It is called, so that a
 // scan that finds none has no registers to save.
 #[inline(never)]
-fn scan_numbered(bytes: &[u8]) -> (usize, Option<CowStr<'static>>)
+pub(in crate::scanners) fn scan_numbered(bytes: &[u8]) -> (usize, Option<CowStr<'static>>)
     requires long { 1 < length bytes.now }
     requires number { slice_index bytes.now 1 ≡ number_sign }
     ensures found { (known : Lookup) → IsReferenceAnswer known bytes.now result.0 result.1 }
@@ -78,14 +80,32 @@ fn scan_named<E: Entities>(bytes: &[u8], entities: &E) -> (usize, Option<CowStr<
     ensures found { IsReferenceAnswer (E.known entities.now) bytes.now result.0 result.1 }
     ensures empty { IfNone result.1 (result.0 ≡ 0) }
 {
-    let n = scan_alphanumerics(&bytes[1..]);
-    if n + 1 == bytes.len() || bytes[n + 1] != b';' {
-        return (0, None);
-    }
-    match entities.get(&bytes[1..n + 1]) {
+    let (n, text) = scan_name(bytes, entities);
+    match text {
         Some(text) => (n + 2, Some(CowStr::from(text))),
         None => (0, None),
     }
+}
+
+// How many letters and digits follow the first byte, and where a semicolon ends them, the text of
+// the entity that has them as its name.
+#[inline(always)]
+pub(in crate::scanners) fn scan_name<E: Entities>(
+    bytes: &[u8],
+    entities: &E,
+) -> (usize, Option<&'static str>)
+    requires not_empty { 0 < length bytes.now }
+    requires no_number { 1 < length bytes.now → slice_index bytes.now 1 ≢ number_sign }
+    ensures name { result.0 ≡ prefix_len is_alphanumeric (drop 1 bytes.now) }
+    ensures found { IsNameAnswer (E.known entities.now) bytes.now result.0 (option_copied result.1) }
+    ensures within { result.0 + 1 ≤ length bytes.now }
+    ensures ended { IfSome result.1 (λ _. result.0 + 2 ≤ length bytes.now) }
+{
+    let n = scan_alphanumerics(&bytes[1..]);
+    if n + 1 == bytes.len() || bytes[n + 1] != b';' {
+        return (n, None);
+    }
+    (n, entities.get(&bytes[1..n + 1]))
 }
 
 // The character of a number; zero, surrogates and numbers above 0x10FFFF have U+FFFD.

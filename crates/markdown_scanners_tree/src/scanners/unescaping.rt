@@ -1,16 +1,16 @@
 //! Backslash escapes and character references in a text.
-ghost use Rattle.std.specs.Prelude.{◌≡◌, ◌+◌, ◌-◌, ◌<◌, ◌≤◌, ◌^◌, ◌++◌, ℕ, [], Ok, IfOk, IfSome, IsOk, OnOk, false, length, min, slice_index};
+ghost use Rattle.std.specs.Prelude.{Bool, ◌≡◌, ◌+◌, ◌-◌, ◌<◌, ◌≤◌, ◌^◌, ◌++◌, ℕ, [], Ok, IfOk, IfSome, IsOk, OnOk, false, length, min, slice_index};
 ghost use Rattle.std.specs.Str.{IsCharBoundary};
 ghost use Rattle.std.specs.String.{string_bytes, string_len, string_capacity};
 ghost use Rattle.markdown_values.specs.strings.Text.{cow_text, IsBoxed};
-ghost use Rattle.markdown_scanners_tree.specs.Ascii.{ampersand, backslash};
+ghost use Rattle.markdown_scanners_tree.specs.Ascii.{ampersand, backslash, number_sign};
 ghost use Rattle.markdown_scanners_tree.specs.SomeExactly.{SomeExactly};
 ghost use Rattle.markdown_scanners_tree.specs.scanners.entities.CharacterReference.{Lookup};
 ghost use Rattle.markdown_scanners_tree.specs.scanners.unescaping.Unescaping.{HasPieces, ForPieces, joined_meanings, AreThemselves};
 ghost use Rattle.markdown_scanners_tree.specs.scanners.unescaping.private.FirstPiece.{IsFirstPiece, IsFirstSize, IsPushed, HasRoom, StartsWithAmpersandReference};
 ghost use Rattle.markdown_scanners_tree.specs.scanners.unescaping.private.FirstPiece.{begins_change, starts_pipe as starts_pipe_at};
 
-use crate::scanners::entities::{Entities, scan_entity};
+use crate::scanners::entities::{Entities, scan_name, scan_numbered};
 use crate::scanners::escapes::starts_escape;
 use crate::texts::push_part;
 use markdown_values::strings::CowStr;
@@ -139,15 +139,47 @@ fn push_first<E: Entities>(
             push_part(out, &text[run..place])?;
             Ok((place + dropped, place + dropped + 1))
         }
-        b'&' => match ampersand_reference(bytes, entities) {
-            Some((length, meaning)) => {
-                push_both(out, &text[run..place], meaning.as_str())?;
-                Ok((place + length, place + length))
-            }
-            None => Ok((run, place + 1)),
-        },
+        b'&' => push_ampersand(out, text, run, place, entities),
         _ => Ok((run, place + plain_len(bytes))),
     }
+}
+
+// The same at an ampersand.
+fn push_ampersand<E: Entities>(
+    out: &mut String,
+    text: &str,
+    run: usize,
+    place: usize,
+    entities: &E,
+) -> Result<(usize, usize), AllocError>
+    requires ordered { run ≤ place }
+    requires within { place < length text.now }
+    requires start { IsCharBoundary text.now run }
+    requires begins { slice_index text.now place ≡ ampersand }
+    ensures within { IfOk result (λ r. r.1 ≤ length text.now) }
+    ensures on { IfOk result (λ r. place < r.1) }
+    ensures pushed { (in_table : Bool) → IfOk result (λ r. IsPushed in_table
+        (E.known entities.now) text.now run place out.old out.new r.0 r.1) }
+    ensures capacity { string_capacity out.old ≤ string_capacity out.new }
+    ensures room { (in_table : Bool) → HasRoom in_table (E.known entities.now) text.now run place
+        out.old → IsOk result }
+{
+    let bytes = &text.as_bytes()[place..];
+    if bytes.len() > 1 && bytes[1] == b'#' {
+        let Some((length, meaning)) = number_reference(bytes) else {
+            return Ok((run, place + 1));
+        };
+        push_both(out, &text[run..place], meaning.as_str())?;
+        return Ok((place + length, place + length));
+    }
+    let (name, meaning) = scan_name(bytes, entities);
+    let Some(meaning) = meaning else {
+        let plain = name + 1;
+        return Ok((run, place + plain));
+    };
+    let length = name + 2;
+    push_both(out, &text[run..place], meaning)?;
+    Ok((place + length, place + length))
 }
 
 // Appends two texts. With room for both no growth is refused.
@@ -187,11 +219,44 @@ fn first_size<E: Entities>(bytes: &[u8], is_in_table: bool, entities: &E) -> Pie
             let dropped = escape_len(bytes, is_in_table);
             piece_size(dropped + 1, dropped, 0)
         }
-        b'&' => match ampersand_reference(bytes, entities) {
-            Some((source, text)) => piece_size(source, source, text.as_str().len()),
-            None => piece_size(1, 0, 0),
-        },
+        b'&' => ampersand_size(bytes, entities),
         _ => piece_size(plain_len(bytes), 0, 0),
+    }
+}
+
+// The same at an ampersand. Where no reference stands there, the letters and digits behind it mean
+// themselves too.
+fn ampersand_size<E: Entities>(bytes: &[u8], entities: &E) -> PieceSize
+    requires some { 0 < length bytes.now }
+    requires begins { slice_index bytes.now 0 ≡ ampersand }
+    ensures some { 0 < result.source }
+    ensures within { result.source ≤ length bytes.now }
+    ensures size { (in_table : Bool) → IsFirstSize in_table (E.known entities.now) bytes.now
+        result.source result.dropped result.inserted }
+{
+    if bytes.len() > 1 && bytes[1] == b'#' {
+        return number_size(bytes);
+    }
+    let (name, text) = scan_name(bytes, entities);
+    match text {
+        Some(text) => piece_size(name + 2, name + 2, text.len()),
+        None => piece_size(name + 1, 0, 0),
+    }
+}
+
+// The same at an ampersand and `#`.
+fn number_size(bytes: &[u8]) -> PieceSize
+    requires long { 1 < length bytes.now }
+    requires begins { slice_index bytes.now 0 ≡ ampersand }
+    requires number { slice_index bytes.now 1 ≡ number_sign }
+    ensures some { 0 < result.source }
+    ensures within { result.source ≤ length bytes.now }
+    ensures size { (in_table : Bool) (known : Lookup) → IsFirstSize in_table known bytes.now
+        result.source result.dropped result.inserted }
+{
+    match number_reference(bytes) {
+        Some((source, text)) => piece_size(source, source, text.as_str().len()),
+        None => piece_size(1, 0, 0),
     }
 }
 
@@ -209,7 +274,7 @@ fn piece_size(source: usize, dropped: usize, inserted: usize) -> PieceSize
 
 // How many bytes at the front come before a byte with which a changed piece may begin. A byte alone
 // is told from a longer run before the search, which costs more than one byte is worth, as in
-// `&a&a&a`.
+// `\*a\*a`.
 fn plain_len(bytes: &[u8]) -> usize
     requires some { 0 < length bytes.now }
     requires plain { begins_change (slice_index bytes.now 0) ≡ false }
@@ -248,16 +313,18 @@ fn starts_pipe(bytes: &[u8]) -> bool
     bytes.len() > 2 && bytes[0] == b'\\' && bytes[1] == b'\\' && bytes[2] == b'|'
 }
 
-// The character reference at the front, from `&` on. It is called, so that the loops over pieces stay
-// short.
+// The character reference by number at the front, from `&` and `#` on. It is called, so that the
+// loops over pieces stay short.
 #[inline(never)]
-fn ampersand_reference<E: Entities>(bytes: &[u8], entities: &E) -> Option<(usize, CowStr<'static>)>
-    requires some { 0 < length bytes.now }
+fn number_reference(bytes: &[u8]) -> Option<(usize, CowStr<'static>)>
+    requires long { 1 < length bytes.now }
     requires begins { slice_index bytes.now 0 ≡ ampersand }
-    ensures reference { SomeExactly (λ r.
-        StartsWithAmpersandReference (E.known entities.now) bytes.now r.0 (cow_text r.1)) result }
+    requires number { slice_index bytes.now 1 ≡ number_sign }
+    ensures reference { (known : Lookup) → SomeExactly (λ r.
+        StartsWithAmpersandReference known bytes.now r.0 (cow_text r.1)) result }
+    ensures some { IfSome result (λ r. 0 < r.0) }
     ensures within { IfSome result (λ r. r.0 ≤ length bytes.now) }
 {
-    let (length, text) = scan_entity(bytes, entities);
+    let (length, text) = scan_numbered(bytes);
     Some((length, text?))
 }

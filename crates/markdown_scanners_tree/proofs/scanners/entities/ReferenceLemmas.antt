@@ -1,7 +1,8 @@
 -- What a character reference at the front says of the bytes at their places, and the other way
 -- round.
 use Rattle.std.proofs.Common.{◌≡◌, ℕ, suc, ◌+◌, ◌<◌, ◌≤◌, ◌⊎◌, true, List, [], ◌∷◌, ◌++◌, length, get_or, take, drop, refl}
-use Rattle.std.proofs.Common.{ap, ◌∙◌, sym, subst, inl, inr, arith, Some, encode_utf8, eqb, append_assoc, add-one}
+use Rattle.std.proofs.Common.{ap, ◌∙◌, sym, subst, inl, inr, arith, Option, Some, None, encode_utf8, eqb, append_assoc, add-one}
+use Rattle.std.specs.Option.{is_some}
 use Rattle.std.specs.List.{prefix_len, list_all}
 use Rattle.std.specs.Prelude.{IsTrue}
 use Rattle.std.specs.Char.{digit_value}
@@ -12,6 +13,7 @@ use Rattle.std.proofs.lemmas.Bool.{false≢true, or_cases, eqb-true}
 use Rattle.markdown_scanners_tree.specs.Ascii.{number_sign, semicolon, capital_x, small_x}
 use Rattle.markdown_scanners_tree.specs.Bytes.{is_alphanumeric}
 use Rattle.markdown_scanners_tree.specs.scanners.entities.private.Digits.{StartsWithNumber}
+use Rattle.markdown_scanners_tree.specs.scanners.entities.private.Name.{IsNameAnswer}
 use Rattle.markdown_scanners_tree.specs.scanners.entities.CharacterReference.{Lookup, referenced_char, marks_hexadecimal, StartsWithReference}
 use Rattle.markdown_scanners_tree.specs.scanners.entities.CharacterReference.{IsDecimalReference, IsHexadecimalReference, IsEntityReference}
 
@@ -280,3 +282,14 @@ no_decimal known bytes n meaning mark letter none is = elim (kinds_at known byte
     | inr entity ↦ entity_no_mark known bytes meaning entity mark
   ]
 ]
+
+-- what a lookup says of the name between the first byte and a semicolon
+pub looked_up : (known : Lookup) (bytes : List ℕ) (n : ℕ) (answer : Option (List ℕ)) → 0 < length bytes
+    → (1 < length bytes → get_or bytes 1 0 ≡ number_sign → ⊥) → n ≡ prefix_len is_alphanumeric (drop 1 bytes)
+    → n + 1 < length bytes → get_or bytes (n + 1) 0 ≡ semicolon → answer ≡ known (take n (drop 1 bytes))
+    → IsNameAnswer known bytes n answer
+looked_up known bytes n None some unmarked name inside ends is = λ k meaning starts.
+    let ended = entity_ended known bytes n meaning some name (only_entity known bytes k meaning unmarked starts) in
+    false≢true (ap is_some (is ∙ ended.means))
+looked_up known bytes n (Some meaning) some unmarked name inside ends is =
+    entity_found known bytes n meaning name inside ends (sym is)

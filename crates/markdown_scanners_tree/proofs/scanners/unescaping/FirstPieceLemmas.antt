@@ -2,11 +2,13 @@
 use Rattle.std.proofs.Common.{◌≡◌, ◌≢◌, ℕ, zero, suc, ◌+◌, ◌-◌, ◌<◌, ◌≤◌, Bool, true, false, List, [], ◌∷◌, ◌++◌, length, drop, get_or, refl, ap, ◌∙◌, sym, subst, arith, inl, inr, ◌⊎◌, eqb}
 use Rattle.std.specs.Prelude.{◌&&◌, ◌||◌}
 use Rattle.std.proofs.lemmas.List.{append-nil, drop_all, length-append, length-drop, get_or-drop, get_or_append_left, get_or_at}
-use Rattle.std.proofs.lemmas.Bool.{false≢true, and_parts, and_from, and_left, and_right, or_parts, eqb-true, eq-eqb, false_from_ne_true}
+use Rattle.std.proofs.lemmas.Bool.{false≢true, and_parts, and_from, and_left, and_right, or_parts, eqb-true, eq-eqb, ne_eqb, false_from_ne_true}
+use Rattle.std.proofs.lemmas.List.Sums.{prefix_len_passes, prefix_len-le-length}
+use Rattle.std.specs.List.{prefix_len}
 use Rattle.markdown_scanners_tree.specs.Ascii.{carriage_return, number_sign, ampersand, semicolon, backslash, vertical_line}
-use Rattle.markdown_scanners_tree.specs.Bytes.{is_punctuation}
+use Rattle.markdown_scanners_tree.specs.Bytes.{is_punctuation, is_alphanumeric}
 use Rattle.markdown_scanners_tree.specs.scanners.Escapes.{starts_escape}
-use Rattle.markdown_scanners_tree.specs.scanners.entities.CharacterReference.{Lookup, IsReference}
+use Rattle.markdown_scanners_tree.specs.scanners.entities.CharacterReference.{Lookup, IsReference, StartsWithReference}
 use Rattle.markdown_scanners_tree.specs.scanners.unescaping.Unescaping.{Piece, IsFirstFit, IsItself, Fits, IsTablePipe, IsBackslashEscape, IsAmpersandReference, IsDroppedReturn}
 use Rattle.markdown_scanners_tree.specs.scanners.unescaping.private.FirstPiece.{IsFirstPiece, StartsWithAmpersandReference, IsChanged, IsFirstSize, ArePlain, begins_change, starts_pipe}
 use Rattle.markdown_scanners_tree.proofs.scanners.escapes.UnitLemmas.{plain_byte}
@@ -248,6 +250,30 @@ are_plain t known text n within plain k in' =
     let at : k + 0 ≡ k = omega arith in
     plain_piece t known (drop k text) (omega (arith, length-drop k text, within, in'))
     (ap begins_change (get_or-drop k text 0 0 ∙ ap (λ m. get_or text m 0) at) ∙ plain k in')
+
+-- no letter and no digit begins a change
+plain_alphanumeric : (b : ℕ) → is_alphanumeric b ≡ true → begins_change b ≡ false
+plain_alphanumeric b made =
+    let other : (c : ℕ) → is_alphanumeric c ≡ false → b ≡ c → ⊥ = λ c none is.
+    false≢true (sym none ∙ (ap is_alphanumeric (sym is) ∙ made)) in
+    rw (
+      ne_eqb b backslash (other backslash refl),
+      ne_eqb b ampersand (other ampersand refl),
+      ne_eqb b carriage_return (other carriage_return refl),
+    ) refl
+
+-- where no reference stands at `&`, it means itself, and so do the letters and digits behind it
+pub name_plain : (t : Bool) (known : Lookup) (text : List ℕ) (n : ℕ) → 0 < length text → get_or text 0 0 ≡ ampersand
+    → ((k : ℕ) (meaning : List ℕ) → ¬ StartsWithReference known text k meaning)
+    → n ≡ prefix_len is_alphanumeric (drop 1 text) → ArePlain t known text (n + 1)
+name_plain t known [] n some at none name k in' = absurd (omega (arith, some))
+name_plain t known (b ∷ rest) n some at none name zero in' =
+    lone_piece t known (b ∷ rest) some (λ is. absurd (omega (arith, is, at))) (λ is. absurd (omega (arith, is, at)))
+    (λ m meaning starts. none m meaning starts.1)
+name_plain t known (b ∷ rest) n some at none name (suc k) in' =
+    are_plain t known rest n (omega (arith, name, prefix_len-le-length is_alphanumeric rest))
+    (λ j below. plain_alphanumeric (get_or rest j 0) (prefix_len_passes is_alphanumeric rest j 0 (omega (arith, name, below))))
+    k (omega (arith, in'))
 
 -- the sizes of a piece at the front of which some bytes, or none, are dropped
 pub escape_size : (t : Bool) (known : Lookup) (text : List ℕ) (dropped : ℕ)

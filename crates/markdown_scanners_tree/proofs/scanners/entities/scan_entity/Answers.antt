@@ -1,14 +1,10 @@
-use Rattle.std.proofs.Common.{ℕ, List, Option, Some, None, ◌+◌, arith, sym, ap, ◌∙◌, subst, encode_utf8}
+use Rattle.std.proofs.Common.{ℕ, List, Option, Some, None}
 use Rattle.std.specs.Option.{option_map}
 use Rattle.markdown_values.specs.declared.strings.CowStr.{CowStr}
 use Rattle.markdown_values.specs.strings.Text.{cow_text}
 use Rattle.markdown_scanners_tree.specs.SomeExactly.{IsOnly}
 use Rattle.markdown_scanners_tree.specs.scanners.entities.CharacterReference.{Lookup, StartsWithReference, IsReferenceAnswer}
-use Rattle.markdown_scanners_tree.specs.scanners.entities.private.Digits.{StartsWithNumber}
-use Rattle.markdown_scanners_tree.proofs.scanners.entities.ReferenceLemmas.{no_hexadecimal, no_decimal, hexadecimal_found, decimal_found}
 use Rattle.markdown_scanners_tree.proofs.scanners.entities.ReferenceUnique.{one_reference}
-use Rattle.std.proofs.lemmas.List.{take_rest}
-use Rattle.std.proofs.lemmas.Bool.{false≢true}
 use Rattle.markdown_scanners_tree.proofs.scanners.entities.scan_entity.Goals as goal
 
 -- no other reference is an answer than the one that is answered

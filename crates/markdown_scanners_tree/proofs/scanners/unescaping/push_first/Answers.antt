@@ -1,14 +1,11 @@
-use Rattle.std.proofs.Common.{◌≡◌, ◌+◌, ◌-◌, ◌<◌, ◌++◌, ap, ◌∙◌, subst, Bool, [], ℕ, List, take, drop, length, get_or, refl, arith}
+use Rattle.std.proofs.Common.{◌≡◌, ◌+◌, ◌-◌, ◌<◌, ap, ◌∙◌, subst, Bool, [], ℕ, List, take, drop, length, get_or, refl, arith}
 use Rattle.std.proofs.lemmas.Bool.{false≢true}
 use Rattle.std.proofs.lemmas.List.{take_rest}
-use Rattle.std.specs.String.{string_bytes}
-use Rattle.markdown_values.specs.declared.strings.CowStr.TheVariants.{Boxed}
-use Rattle.markdown_values.specs.strings.Text.{cow_text}
 use Rattle.markdown_scanners_tree.specs.Ascii.{carriage_return}
 use Rattle.markdown_scanners_tree.specs.scanners.entities.CharacterReference.{Lookup}
-use Rattle.markdown_scanners_tree.specs.scanners.unescaping.private.FirstPiece.{IsFirstPiece, IsChanged, ArePlain, StartsWithAmpersandReference}
-use Rattle.markdown_scanners_tree.proofs.scanners.unescaping.FirstPieceLemmas.{return_changed, reference_changed, lone_plain, are_plain, lone_piece}
-use Rattle.markdown_scanners_tree.proofs.scanners.unescaping.PieceLemmas.{pushed_change, pushed_drop, pushed_nothing}
+use Rattle.markdown_scanners_tree.specs.scanners.unescaping.private.FirstPiece.{IsFirstPiece, IsChanged, ArePlain}
+use Rattle.markdown_scanners_tree.proofs.scanners.unescaping.FirstPieceLemmas.{return_changed, lone_plain, are_plain}
+use Rattle.markdown_scanners_tree.proofs.scanners.unescaping.PieceLemmas.{pushed_drop, pushed_nothing}
 use Rattle.markdown_scanners_tree.proofs.scanners.unescaping.push_first.Goals as goal
 
 -- What the bytes from the place on are is so of the text from the place on.
@@ -27,11 +24,6 @@ module _ (text bytes : List ℕ) (place : ℕ) (same : bytes ≡ text) where
       → IsChanged t known (drop place text) n dropped []
   escape_at t known n dropped is some =
       subst (λ bs. IsChanged t known bs n dropped []) at record { first = is; some = some }
-
-  reference_at : (t : Bool) (known : Lookup) (n : ℕ) (meaning : List ℕ)
-      → StartsWithAmpersandReference known rest n meaning → IsChanged t known (drop place text) n n meaning
-  reference_at t known n meaning is =
-      subst (λ bs. IsChanged t known bs n n meaning) at (reference_changed t known rest n meaning is)
 
   lone_at : (t : Bool) (known : Lookup) → IsFirstPiece t known rest 1 0 [] → ArePlain t known (drop place text) 1
   lone_at t known is = subst (λ bs. ArePlain t known bs 1) at (lone_plain t known rest is)
@@ -89,43 +81,11 @@ returns-then-dropped-eq0-clause-pushed g c =
     pushed_nothing c.args.is_in_table known c.args.text.now c.args.run c.args.place 1 c.args.out.now
     (lone_at c.args.text.now bytes c.args.place c.as_bytes.ensures.value c.args.is_in_table known is)
 
-pub returns-in_ok-push_both-in-Some-clause-pushed : goal.returns-in_ok-push_both-in-Some-clause-pushed
-returns-in_ok-push_both-in-Some-clause-pushed g c =
-    let known = g.E.Entities.known c.args.entities.now in
-    let place = c.args.place in
-    let n = c.in-Some.length in
-    let meaning = cow_text c.in-Some.meaning in
-    let is =
-    reference_at c.args.text.now c.as_bytes.result.now place c.as_bytes.ensures.value c.args.is_in_table known n
-    meaning c.in-Some.ensures.reference in
-    let kept = c.range-in-Some.result.now in
-    pushed_change c.args.is_in_table known c.args.text.now c.args.run place n n (place + n) meaning kept c.args.out.now
-    c.push_both.new.out is refl c.range-in-Some.ensures.value (omega (arith, c.range-in-Some.ensures.len))
-    (c.in_ok-push_both-in-Some.ensures.bytes ∙ ap (λ m. string_bytes c.args.out.now ++ (kept ++ m)) c.as_str.ensures)
-    (omega (arith, c.in_ok-push_both-in-Some.ensures.len, ap length c.as_str.ensures))
+pub returns-in-38-clause-pushed : goal.returns-in-38-clause-pushed
+returns-in-38-clause-pushed g c = c.push_ampersand.ensures.pushed c.args.is_in_table
 
-pub returns-in_err-push_both-in-Some-clause-room : goal.returns-in_err-push_both-in-Some-clause-room
-returns-in_err-push_both-in-Some-clause-room g c room =
-    let known = g.E.Entities.known c.args.entities.now in
-    let n = c.in-Some.length in
-    let meaning = cow_text c.in-Some.meaning in
-    let is =
-    reference_at c.args.text.now c.as_bytes.result.now c.args.place c.as_bytes.ensures.value c.args.is_in_table
-    known n meaning c.in-Some.ensures.reference in
-    absurd (false≢true (c.in_err-push_both-in-Some.ensures.succeeds
-    (omega (arith, room n n meaning is, c.range-in-Some.ensures.len, ap length c.as_str.ensures))))
-
-pub returns-in-None-clause-pushed : goal.returns-in-None-clause-pushed
-returns-in-None-clause-pushed g c =
-    let known = g.E.Entities.known c.args.entities.now in
-    let bytes = c.as_bytes.result.now in
-    let piece =
-    lone_piece c.args.is_in_table known (rest c.args.text.now bytes c.args.place c.as_bytes.ensures.value)
-    (omega (arith, c.requires.within, c.as_bytes.ensures.len))
-    (λ b. absurd (omega (arith, b, c.in-38.is))) (λ b. absurd (omega (arith, b, c.in-38.is)))
-    (λ n meaning. c.in-None.ensures.reference (n, Boxed meaning)) in
-    pushed_nothing c.args.is_in_table known c.args.text.now c.args.run c.args.place 1 c.args.out.now
-    (lone_at c.args.text.now bytes c.args.place c.as_bytes.ensures.value c.args.is_in_table known piece)
+pub returns-in-38-clause-room : goal.returns-in-38-clause-room
+returns-in-38-clause-room g c = c.push_ampersand.ensures.room c.args.is_in_table
 
 pub returns-in_default-clause-pushed : goal.returns-in_default-clause-pushed
 returns-in_default-clause-pushed g c =
