@@ -4,11 +4,12 @@
 //! `side_by_side MODE real FILE [CALL..]`, `side_by_side MODE hostile [CALL..]` or `side_by_side MODE growth BYTES
 //! [CALL..]`, where MODE is `check`, `time`, `allocations` or `callgrind`. A side is a set of C functions
 //! `SIDE_CALL(text, its length, places, how many, rounds)`, each of which answers the sum of its answers. Those of
-//! `ours` are linked in; those of `reference` and of `c` are in the shared libraries that the variables REFERENCE and
-//! THROUGH_C name, where they are set. What a side lacks is left out.
+//! `ours` are linked in, where there are any; those of `reference`, of `c` and of `default`, which is ours as built by
+//! default, are in the shared libraries that the variables REFERENCE, THROUGH_C and DEFAULT name, where they are set.
+//! What a side lacks is left out.
 //!
 //! `growth` takes the hostile texts at about that many bytes, but for those that the variable LEFT_OUT names, as
-//! `CALL|NAME`, each in a line; it prints the bytes of a text in the place of how many places it has.
+//! `CALL|NAME|SIDE`, each in a line; it prints the bytes of a text in the place of how many places it has.
 use std::ffi::{CStr, CString, c_char, c_int, c_ulong, c_void};
 use std::hint::black_box;
 use std::time::Instant;
@@ -33,22 +34,27 @@ const RTLD_NOW: c_int = 2;
 /// Times are the best of so many tries, each of at least so many seconds.
 const TRIES: usize = 7;
 const LEAST_SECONDS: f64 = 0.002;
+/// From so many bytes on, one round is enough to count.
+const LONG: usize = 5_000_000;
 
 /// A build of the calls: this program itself, where no library is given.
 struct Side {
     name: &'static str,
+    /// What the names of its functions begin with.
+    prefix: &'static str,
     library: *mut c_void,
 }
 
 impl Side {
     fn all() -> Vec<Side> {
-        let mut all = vec![Side { name: "ours", library: std::ptr::null_mut() }];
-        for (variable, name) in [("REFERENCE", "reference"), ("THROUGH_C", "c")] {
+        let mut all = vec![Side { name: "ours", prefix: "ours", library: std::ptr::null_mut() }];
+        let others = [("REFERENCE", "reference", "reference"), ("THROUGH_C", "c", "c"), ("DEFAULT", "default", "ours")];
+        for (variable, name, prefix) in others {
             if let Some(path) = std::env::var(variable).ok().filter(|path| !path.is_empty()) {
                 let path = CString::new(path).expect("a path without a NUL");
                 let library = unsafe { dlopen(path.as_ptr(), RTLD_NOW) };
                 assert!(!library.is_null(), "{}", unsafe { CStr::from_ptr(dlerror()) }.to_string_lossy());
-                all.push(Side { name, library });
+                all.push(Side { name, prefix, library });
             }
         }
         all
@@ -63,7 +69,7 @@ impl Side {
             "entity" | "unescape" | "unescape_table" if self.name == "c" && is_made => &format!("{call}_html"),
             _ => call,
         };
-        let name = CString::new(format!("{}_{call}", self.name)).expect("a name without a NUL");
+        let name = CString::new(format!("{}_{call}", self.prefix)).expect("a name without a NUL");
         let found = unsafe { dlsym(self.library, name.as_ptr()) };
         (!found.is_null()).then(|| unsafe { std::mem::transmute::<*mut c_void, Function>(found) })
     }
@@ -103,9 +109,10 @@ fn requests(function: Function, input: &Input) -> [u64; 2] {
 }
 
 /// How many rounds callgrind counts: more where much is made before the first, which costs a little more or less each
-/// time.
-fn counted_rounds(call: &str) -> usize {
+/// time; fewer where a text alone is long enough.
+fn counted_rounds(call: &str, is_long: bool) -> usize {
     match call {
+        _ if is_long => 1,
         "label_eq" => 200,
         "label_hash" => 20,
         "clone_lent" | "clone_inlined" | "clone_boxed" | "tree_walk" => 10,
@@ -114,9 +121,9 @@ fn counted_rounds(call: &str) -> usize {
 }
 
 /// Two dumps for callgrind, of no round and of some; their names tell what was run.
-fn dump(function: Function, input: &Input, name: &str, call: &str) {
+fn dump(function: Function, input: &Input, name: &str, counted: usize) {
     run(function, input, 0);
-    for rounds in [0, counted_rounds(call)] {
+    for rounds in [0, counted] {
         let part = CString::new(format!("{name}|{rounds}")).expect("a name without a NUL");
         unsafe { zero_instructions() };
         run(function, input, rounds);
@@ -124,8 +131,8 @@ fn dump(function: Function, input: &Input, name: &str, call: &str) {
     }
 }
 
-/// Prints a line for a call on an input: both names, how many places or bytes, and an answer a side.
-fn report(mode: &str, what: &str, call: &str, input: &Input, sides: &[Side], places: usize) {
+/// Prints a line for a call on an input: both names, how many places or bytes, and one answer per side.
+fn report(mode: &str, what: &str, call: &str, input: &Input, sides: &[&Side], places: usize) {
     let is_made = !matches!(what, "real" | "names");
     let found = sides.iter().filter_map(|side| Some((side.name, side.function(call, is_made)?)));
     let mut answers = vec![];
@@ -140,7 +147,8 @@ fn report(mode: &str, what: &str, call: &str, input: &Input, sides: &[Side], pla
                 format!("{side}={new}+{grown}")
             }
             "callgrind" => {
-                dump(function, input, &format!("{what}|{call}|{places}|{side}"), call);
+                let counted = counted_rounds(call, input.text.len() >= LONG);
+                dump(function, input, &format!("{what}|{call}|{places}|{side}"), counted);
                 continue;
             }
             _ => panic!("no such mode: {mode}"),
@@ -154,7 +162,8 @@ fn main() {
     let (mode, what) = (words[1].as_str(), words[2].as_str());
     let only = &words[if what == "hostile" { 3 } else { 4 }..];
     let is_wanted = |call: &str| only.is_empty() || only.iter().any(|word| word == call);
-    let sides = Side::all();
+    let all = Side::all();
+    let sides: Vec<&Side> = all.iter().collect();
     // what is done once for a process, such as asking which processor this is, is done here
     let text = b"[a]: <b> \\& &amp; <!-- c --><?d?><![CDATA[e]]>\n---\nf: g\n---\n| - |\n".to_vec();
     let small = Input { at: (0..text.len()).collect(), text };
@@ -186,8 +195,12 @@ fn main() {
             let bytes = words[3].parse().expect("a number of bytes");
             let left_out = std::env::var("LEFT_OUT").unwrap_or_default();
             for hostile in inputs::hostile().iter().filter(|hostile| is_wanted(hostile.call)) {
-                let name = format!("{}|{}", hostile.call, hostile.name);
-                if !left_out.lines().any(|line| line == name) {
+                let is_wanted = |side: &Side| {
+                    let name = format!("{}|{}|{}", hostile.call, hostile.name, side.name);
+                    !left_out.lines().any(|line| line == name)
+                };
+                let sides: Vec<&Side> = sides.iter().copied().filter(|side| is_wanted(side)).collect();
+                if !sides.is_empty() {
                     let input = hostile.of_length(bytes);
                     report(mode, hostile.name, hostile.call, &input, &sides, input.text.len());
                 }
