@@ -352,6 +352,19 @@ def destination(text, max_next):
     return len(text) if depth == 0 else None
 
 
+def link_title(text):
+    """The length of a title: two quotes or parentheses, between which neither of the two stands but behind a backslash, and none
+    of whose lines is blank."""
+    escape = rb"\\" + PUNCTUATION
+    between = rb"(?:%s|(?!%s)[^%s])*"
+    around = {b'"': b'""', b"'": b"''", b"(": b"()"}.get(text[:1])
+    if not around:
+        return None
+    opening, closing = (re.escape(around[it:it + 1]) for it in (0, 1))
+    length = length_of(opening + between % (escape, escape, opening + closing) + closing, text)
+    return length if length and all(blank_line(it) is None for it in lines(text[:length])) else None
+
+
 def wikilink(text, start, length):
     """The first pipe in so many bytes: the place behind it, and what stands before it."""
     hit = text.find(b"|", start, start + length)

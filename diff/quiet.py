@@ -128,6 +128,10 @@ def told_destination(text, max_next):
     return some(None if length is None else (length, text[:length].decode()))
 
 
+def told_title(text):
+    return some(answers.link_title(text))
+
+
 HTML_LINES = (b"<PRE>", b"a --> b", b"</td/>", b"<b c> \n")
 
 
@@ -147,7 +151,8 @@ def inline():
         *map(told_reference, ("&#x1F354;".encode(), b"&amp;", b"&#12345678;")),
         some(answers.wikilink(b"a|b]]", 0, 3)), told_destination(b"((a))", 1), told_destination(b"(((a)))", 1),
         some((end, borrowed(address), Value("Autolink"))), some(answers.wikilink(b"a|b]]", 0, 3)[0] - 1),
-        some((bare, Plain(f"0..{bare}"))), some(len(address)), answers.is_block_name(b"DIV>"),
+        some((bare, Plain(f"0..{bare}"))), some(len(address)), *map(told_title, (b"'a\n\\'b' c", b"(a\n\nb)")),
+        answers.is_block_name(b"DIV>"),
         some(answers.tag_alone(b"<a b=\t'c'>  \n")), *map(told_html, HTML_LINES), told_tag(b"<foo bar>", None), told_tag(b"</a\n>", None),
         told_tag(b"<a\nb\nc>", quote), told_tag(b"</a\n\n> >", quote), told("borrowed", plain),
         answers.table_head(b"| a |"), *map(told_label, (b"a\\ ]", b" a b ]", b"a  b", b"a\n\nb]")),

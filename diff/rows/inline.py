@@ -1,4 +1,4 @@
-"""References, escapes, destinations and autolinks."""
+"""References, escapes, destinations, titles and autolinks."""
 ROWS = [
     # numeric character references: length and text (2.5)
     ("entity", b"&#0;", (4, "\ufffd".encode())),
@@ -44,6 +44,36 @@ ROWS = [
     ("linkdest", b"<foo\nbar>", 0, 31, None),
     ("linkdest", b"<foo\\>)", 0, 31, None),
     ("linkdest", b"((a))", 0, 0, None),
+    # link titles: their length with what stands around them (6.3)
+    ("linktitle", b"\"title\"", 7),
+    ("linktitle", b"'title' b", 7),
+    ("linktitle", b"(title)", 7),
+    ("linktitle", b"\"\"", 2),
+    ("linktitle", b"title", None),
+    ("linktitle", b"\xe2\x80\x9ca\xe2\x80\x9d", None),
+    ("linktitle", b"", None),
+    ("linktitle", b"\"", None),
+    # what stands around them stands in them behind a backslash alone
+    ("linktitle", b"\"title \\\"&quot;\"", 16),
+    ("linktitle", b"\"title \"and\" title\"", 8),
+    ("linktitle", b"'title \"and\" title'", 19),
+    ("linktitle", b"\"(it's)\"", 8),
+    ("linktitle", b"(a \\(b\\) c)", 11),
+    ("linktitle", b"(a (b) c)", None),
+    ("linktitle", b"(a\\)", None),
+    ("linktitle", b"'\\\\'", 4),
+    ("linktitle", b"'title\"", None),
+    # they may span lines, of which none is blank (2.1)
+    ("linktitle", b"'\ntitle\nline1\nline2\n'", 21),
+    ("linktitle", b"'title\n\nwith blank line'", None),
+    ("linktitle", b"\"a\r\nb\"", 6),
+    ("linktitle", b"\"a\r\n\r\nb\"", None),
+    ("linktitle", b"(a\rb)", 5),
+    ("linktitle", b"(a\r\rb)", None),
+    ("linktitle", b"\"a\n \tb\"", 7),
+    ("linktitle", b"\"a\n \t\nb\"", None),
+    ("linktitle", b"\"a\\\nb\"", 6),
+    ("linktitle", b"\"a\\\n\nb\"", None),
     # autolinks, behind their bracket: the place after them, and the text (6.5)
     ("autolink", b"<https://a.b>", 1, (13, b"https://a.b", "Autolink")),
     ("autolink", b"<a:b>", 1, None),

@@ -42,6 +42,7 @@ pub(crate) fn answer(
         b"unescape" => inline::unescaped(alloc, arguments),
         b"wikilink" => inline::wikilink_pipe(alloc, arguments),
         b"linkdest" => inline::link_destination(alloc, arguments),
+        b"linktitle" => inline::link_title(alloc, arguments),
         b"autolink" => inline::autolink(alloc, arguments),
         b"type6" => tags::block_name(alloc, arguments),
         b"type7" => tags::tag_alone(alloc, arguments),

@@ -17,4 +17,5 @@ pub mod links
 pub mod list_items
 pub mod tables
 pub mod tag_state
+pub mod titles
 pub mod unescaping

@@ -20,6 +20,7 @@ mod runs;
 mod tables;
 mod tag_state;
 mod text_lines;
+mod titles;
 mod unescaping;
 
 pub use breaks::scan_hrule;
@@ -46,4 +47,5 @@ pub(crate) use runs::scan_spaces_and_tabs;
 pub use runs::{scan_ch, scan_ch_repeat, scan_rev_while, scan_while, scan_whitespace_no_nl};
 pub use tables::scan_table_head;
 pub use text_lines::{TextLines, scan_lines};
+pub use titles::scan_link_title;
 pub use unescaping::unescape;

@@ -10,8 +10,8 @@ use crate::unescaping::AMPERSAND;
 use markdown_scanners_tree::scanners::{
     HtmlBlockKind, ends_html_block, scan_autolink, scan_autolink_bytes, scan_entity,
     scan_html_block_inner, scan_html_block_start, scan_html_type_7, scan_link_dest,
-    scan_link_dest_bytes, scan_table_head, scan_wikilink_pipe, scan_wikilink_pipe_bytes,
-    starts_html_block_type_6, unescape,
+    scan_link_dest_bytes, scan_link_title, scan_table_head, scan_wikilink_pipe,
+    scan_wikilink_pipe_bytes, starts_html_block_type_6, unescape,
 };
 use markdown_values::strings::CowStr;
 use std::alloc::Global;
@@ -50,7 +50,9 @@ fn links<W: Write>(output: &mut W) -> Result<(), Stop> {
 fn links_of_bytes<W: Write>(output: &mut W) -> Result<(), Stop> {
     tell(output, scan_wikilink_pipe_bytes(b"a|b]]", 3))?;
     tell(output, scan_link_dest_bytes(b"((a)) b", 1))?;
-    tell(output, scan_autolink_bytes(b"https://a.b>"))
+    tell(output, scan_autolink_bytes(b"https://a.b>"))?;
+    tell(output, scan_link_title(b"'a\n\\'b' c"))?;
+    tell(output, scan_link_title(b"(a\n\nb)"))
 }
 
 fn tags<W: Write>(alloc: Global, output: &mut W) -> Result<(), Stop> {

@@ -1,13 +1,13 @@
-//! Character references, unescaping, pipes of wikilinks, link destinations and autolinks.
+//! Character references, unescaping, pipes of wikilinks, link destinations, link titles and autolinks.
 ghost use Rattle.std.specs.Prelude.{IfOk};
 ghost use Rattle.std.specs.Str.{IsCharBoundary};
 
 use crate::arguments::Arguments;
 use crate::entities::ENTITIES;
-use crate::printing::{NONE, hex_text};
+use crate::printing::{NONE, OrNone, hex_text};
 use crate::stop::{CaseError, Unreadable};
 use markdown_scanners_tree::scanners::{
-    scan_autolink, scan_entity, scan_link_dest, scan_wikilink_pipe, unescape,
+    scan_autolink, scan_entity, scan_link_dest, scan_link_title, scan_wikilink_pipe, unescape,
 };
 use markdown_values::strings::CowStr;
 use std::alloc::Global;
@@ -71,6 +71,14 @@ pub(crate) fn link_destination(
         Some((taken, raw)) => format!(in alloc; "{taken} {}", hex_text(alloc, raw.as_bytes())?)?,
         None => String::from_str(alloc, NONE)?,
     })
+}
+
+pub(crate) fn link_title(
+    alloc: Global,
+    arguments: &mut Arguments<'_>,
+) -> Result<String, CaseError> {
+    let bytes = arguments.bytes(alloc)?;
+    Ok(format!(in alloc; "{}", OrNone(scan_link_title(&bytes)))?)
 }
 
 pub(crate) fn autolink(alloc: Global, arguments: &mut Arguments<'_>) -> Result<String, CaseError> {

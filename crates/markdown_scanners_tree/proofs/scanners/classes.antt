@@ -1,2 +1,3 @@
 pub mod ClassLemmas
+pub mod DestinationBytes
 pub mod Rows

@@ -1,8 +1,9 @@
 -- The first unit of a text.
-use Rattle.std.proofs.Common.{◌≡◌, ℕ, true, false, List, [], ◌∷◌, refl, ap, ◌∙◌, sym, ◌+◌, ◌<◌, ◌≤◌, ◌≢◌, length, drop, get_or, arith, add-one}
+use Rattle.std.proofs.Common.{◌≡◌, ℕ, true, false, List, [], ◌∷◌, refl, ap, ◌∙◌, sym, ◌+◌, ◌<◌, ◌≤◌, ◌≢◌, length, drop, get_or, arith, add-one, inl, inr}
+use Rattle.std.specs.List.{concat}
 use Rattle.std.proofs.Math.Seq.{drop-cons}
 use Rattle.std.proofs.lemmas.List.{drop_all}
-use Rattle.std.proofs.lemmas.Bool.{ne_eqb}
+use Rattle.std.proofs.lemmas.Bool.{cases_Bool, ne_eqb}
 use Rattle.markdown_scanners_tree.specs.Ascii.{backslash}
 use Rattle.markdown_scanners_tree.specs.scanners.Escapes.{units, starts_escape}
 
@@ -14,8 +15,17 @@ units_escape : (b c : ℕ) (bs : List ℕ) → starts_escape (b ∷ c ∷ bs) �
     → units (b ∷ c ∷ bs) ≡ (b ∷ c ∷ []) ∷ units bs
 units_escape b c bs yes' = rw yes' refl
 
+-- joined, the units are the text
+pub units_joined : (bs : List ℕ) → concat (units bs) ≡ bs
+units_joined [] = refl
+units_joined (b ∷ []) = refl
+units_joined (b ∷ c ∷ bs) = elim (cases_Bool (starts_escape (b ∷ c ∷ bs))) [
+  | inl escape ↦ ap concat (units_escape b c bs escape) ∙ ap (λ rest. b ∷ c ∷ rest) (units_joined bs)
+  | inr plain ↦ ap concat (units_single b (c ∷ bs) plain) ∙ ap (λ rest. b ∷ rest) (units_joined (c ∷ bs))
+]
+
 -- the same at a place
-drop_at_place : (bs : List ℕ) (i : ℕ) → i < length bs → drop i bs ≡ get_or bs i 0 ∷ drop (i + 1) bs
+pub drop_at_place : (bs : List ℕ) (i : ℕ) → i < length bs → drop i bs ≡ get_or bs i 0 ∷ drop (i + 1) bs
 drop_at_place bs i l = drop-cons bs i 0 l ∙ ap (λ k. get_or bs i 0 ∷ drop k bs) (sym (add-one i))
 
 pub units_single_at : (bs : List ℕ) (i : ℕ) → i < length bs → starts_escape (drop i bs) ≡ false

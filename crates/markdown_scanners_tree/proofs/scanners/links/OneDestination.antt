@@ -1,5 +1,5 @@
 -- A text begins with one link destination at most.
-use Rattle.std.proofs.Common.{◌≡◌, ℕ, ◌+◌, ◌-◌, ◌≤◌, true, List, [], ◌∷◌, ◌++◌, length, take, drop, refl, ap, ◌∙◌, sym, subst, arith, inl, inr}
+use Rattle.std.proofs.Common.{◌≡◌, ℕ, ◌+◌, ◌-◌, ◌≤◌, Bool, true, false, List, [], ◌∷◌, ◌++◌, length, take, drop, refl, ap, ◌∙◌, sym, subst, arith, inl, inr}
 use Rattle.std.specs.Prelude.{slice_range}
 use Rattle.std.specs.List.{concat, list_all}
 use Rattle.std.proofs.lemmas.Bool.{false≢true}
@@ -9,23 +9,23 @@ use Rattle.markdown_scanners_tree.proofs.PrefixLemmas.{both_true}
 use Rattle.markdown_scanners_tree.proofs.SomeExactlyLemmas.{same_pair}
 use Rattle.markdown_scanners_tree.proofs.scanners.links.BareLemmas.{Turns, head_of, balanced_off, ends_unit}
 
--- between `<` and `>`: the units before the first `>`
-one_inner_pointed : (inner inner' more more' : List (List ℕ))
-    → inner ++ (greater_than_sign ∷ []) ∷ more ≡ inner' ++ (greater_than_sign ∷ []) ∷ more'
-    → list_all stands_pointed inner ≡ true → list_all stands_pointed inner' ≡ true → inner ≡ inner'
-one_inner_pointed [] [] more more' same made made' = refl
-one_inner_pointed [] (v ∷ inner') more more' same made made' =
-    absurd (false≢true (ap stands_pointed (ap head_of same)
-    ∙ (both_true (stands_pointed v) (list_all stands_pointed inner') made').0))
-one_inner_pointed (u ∷ inner) [] more more' same made made' =
-    absurd (false≢true (ap stands_pointed (ap head_of (sym same))
-    ∙ (both_true (stands_pointed u) (list_all stands_pointed inner) made).0))
-one_inner_pointed (u ∷ inner) (v ∷ inner') more more' same made made' =
-    let rest =
-    one_inner_pointed inner inner' more more' (ap (drop 1) same)
-    (both_true (stands_pointed u) (list_all stands_pointed inner) made).1
-    (both_true (stands_pointed v) (list_all stands_pointed inner') made').1 in
-    ap (λ x. x ∷ inner) (ap head_of same) ∙ ap (λ us. v ∷ us) rest
+-- the units before the first that does not pass a test, which is known
+module _ (test : List ℕ → Bool) (stop : List ℕ) (refused : test stop ≡ false) where
+  pub one_inner : (inner inner' more more' : List (List ℕ)) → inner ++ stop ∷ more ≡ inner' ++ stop ∷ more'
+      → list_all test inner ≡ true → list_all test inner' ≡ true → inner ≡ inner'
+  one_inner [] [] more more' same made made' = refl
+  one_inner [] (v ∷ inner') more more' same made made' =
+      absurd (false≢true (sym refused ∙ (ap test (ap head_of same)
+      ∙ (both_true (test v) (list_all test inner') made').0)))
+  one_inner (u ∷ inner) [] more more' same made made' =
+      absurd (false≢true (sym refused ∙ (ap test (ap head_of (sym same))
+      ∙ (both_true (test u) (list_all test inner) made).0)))
+  one_inner (u ∷ inner) (v ∷ inner') more more' same made made' =
+      let rest =
+      one_inner inner inner' more more' (ap (drop 1) same)
+      (both_true (test u) (list_all test inner) made).1
+      (both_true (test v) (list_all test inner') made').1 in
+      ap (λ x. x ∷ inner) (ap head_of same) ∙ ap (λ us. v ∷ us) rest
 
 -- a balanced list is not balanced up to a unit of it that ends a destination
 ended : (most d : ℕ) (v : List ℕ) (inner us : List (List ℕ)) → IsBalanced most d [] → IsBalanced most d (v ∷ inner)
@@ -63,8 +63,8 @@ one_inner_bare most d (u ∷ inner) (v ∷ inner') more more' same made made' is
 one_pointed : (after : List ℕ) (n n' : ℕ) → IsPointedFrom after n → IsPointedFrom after n' → n ≡ n'
 one_pointed after n n' is is' =
     let same =
-    one_inner_pointed is.inner is'.inner is.more is'.more (sym is.splits ∙ is'.splits) is.each_stands
-    is'.each_stands in
+    one_inner stands_pointed (greater_than_sign ∷ []) refl is.inner is'.inner is.more is'.more
+    (sym is.splits ∙ is'.splits) is.each_stands is'.each_stands in
     is.n_is_length ∙ (ap (λ us. length (concat us)) same ∙ sym is'.n_is_length)
 
 one_bare : (most d : ℕ) (text : List ℕ) (n n' : ℕ) → IsBareFrom most d text n → IsBareFrom most d text n' → n ≡ n'

@@ -1,31 +1,12 @@
-use Rattle.std.proofs.Common.{◌∙◌, ◌+◌, ◌≡◌, ◌<◌, ◌≢◌, arith, refl, sym, subst, ℕ, inl, inr, get_or, [], ◌∷◌, ◌≤◌, ◌==◌, not, nat_lt, true, false}
-use Rattle.std.proofs.lemmas.Bool.{and_parts, ltb-true}
+use Rattle.std.proofs.Common.{◌∙◌, ◌+◌, ◌≡◌, ◌<◌, ◌≢◌, arith, refl, sym, subst, ℕ, inl, inr, get_or, [], ◌∷◌, ◌≤◌}
 use Rattle.markdown_scanners_tree.specs.Ascii.{backslash}
-use Rattle.markdown_scanners_tree.specs.scanners.classes.private.ClassBits.{is_in_destination}
+use Rattle.markdown_scanners_tree.proofs.scanners.classes.DestinationBytes.{in_destination}
 use Rattle.markdown_scanners_tree.proofs.scanners.escapes.UnitLemmas.{plain_byte}
 use Rattle.markdown_scanners_tree.proofs.scanners.links.BareLemmas.{so_far_escape, so_far_single, found_here, none_open, none_deep, turns_open, turns_close}
 use Rattle.markdown_scanners_tree.proofs.scanners.links.BareLemmas.{turns_other, ends_low, ends_closing, no_end, IsBareSoFar, IsStop, Turns}
 use Rattle.markdown_scanners_tree.proofs.scanners.links.bare_len.Goals as goal
 use Rattle.markdown_scanners_tree.proofs.scanners.links.bare_len.Goals.{in-92, in-92+else-starts_escape, in-40-2, in-41-2, in_default+else-this-lt33}
 use Rattle.markdown_scanners_tree.proofs.scanners.links.bare_len.Goals.{else-loop-i-test, then-loop-i-test+else-is_in_destination+in-41, then-loop-i-test+else-is_in_destination+in-0-to-32}
-
--- a byte that neither ends nor nests a destination, nor escapes
-record IsPlain (b : ℕ) : Type 0 where
-  high : 32 < b
-  no_open : b ≢ 40
-  no_close : b ≢ 41
-  no_escape : b ≢ backslash
-
-in_destination : (b : ℕ) → is_in_destination b ≡ true → IsPlain b
-in_destination b is =
-    let parts = and_parts (nat_lt 32 b) _ is in
-    let open_parts = and_parts (not (b == 40)) _ parts.1 in
-    let close_parts = and_parts (not (b == 41)) (not (b == 92)) open_parts.1 in record {
-      high = ltb-true 32 b parts.0;
-      no_open = λ same. (let no : not (b == 40) ≡ false = rw same refl in cc);
-      no_close = λ same. (let no : not (b == 41) ≡ false = rw same refl in cc);
-      no_escape = λ same. (let no : not (b == 92) ≡ false = rw same refl in cc);
-    }
 
 pub returns-in-40-clause-found : goal.returns-in-40-clause-found
 returns-in-40-clause-found c = λ n there.

@@ -1,0 +1,4 @@
+pub mod BlankSteps
+pub mod OneTitle
+pub mod Rows
+pub mod TitleLemmas

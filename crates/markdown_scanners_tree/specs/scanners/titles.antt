@@ -1,0 +1,2 @@
+pub mod LinkTitle
+pub mod private
