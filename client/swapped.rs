@@ -15,7 +15,8 @@ use crate::strings::CowStr;
 use crate::{Alignment, HeadingLevel, LinkType};
 
 /// The start of a line. In the version of these passes its calls take the spaces before a marker themselves, so they are made
-/// where the next byte is a space or may begin one.
+/// where the next byte is a space or may begin one; and where it begins one and no column is pending, the marker is asked for at
+/// once.
 #[derive(Clone)]
 pub(crate) struct LineStart<'line> {
     bytes: &'line [u8],
@@ -48,10 +49,16 @@ impl<'line> LineStart<'line> {
         self.bytes.get(start.bytes_scanned()).copied()
     }
 
+    #[inline(always)]
     pub(crate) fn scan_blockquote_marker(&mut self) -> bool {
-        if !matches!(self.next(&self.start), Some(b' ' | b'\t' | b'>')) {
-            return false;
+        match self.next(&self.start) {
+            Some(b'>') if self.start.remaining_space() == 0 => self.start.scan_blockquote_marker(),
+            Some(b' ' | b'\t' | b'>') => self.scan_quote_behind_space(),
+            _ => false,
         }
+    }
+
+    fn scan_quote_behind_space(&mut self) -> bool {
         let mut start = self.start.clone();
         let found = start.scan_space_upto(4) < 4 && self.next(&start) == Some(b'>') && start.scan_blockquote_marker();
         if found {
@@ -60,10 +67,19 @@ impl<'line> LineStart<'line> {
         found
     }
 
+    #[inline(always)]
     pub(crate) fn scan_list_marker(&mut self) -> Option<(u8, u64, usize)> {
-        if !self.next(&self.start).map_or(false, |byte| matches!(byte, b' ' | b'\t') || begins_item(byte)) {
-            return None;
+        let next = self.next(&self.start)?;
+        if begins_item(next) && self.start.remaining_space() == 0 {
+            self.start.scan_list_marker_with_indent(0)
+        } else if begins_item(next) || matches!(next, b' ' | b'\t') {
+            self.scan_item_behind_space()
+        } else {
+            None
         }
+    }
+
+    fn scan_item_behind_space(&mut self) -> Option<(u8, u64, usize)> {
         let mut start = self.start.clone();
         let indent = start.scan_space_upto(4);
         if indent == 4 || !self.next(&start).map_or(false, begins_item) {
@@ -112,10 +128,15 @@ pub(crate) fn scan_table_head(data: &[u8]) -> (usize, Vec<Alignment>) {
 }
 
 /// Asks what the passes ask where an item begins, as the header advises: so a paragraph ends exactly before an item.
+#[inline(always)]
 pub(crate) fn scan_listitem(bytes: &[u8]) -> Option<(usize, u8, usize, usize)> {
     if !bytes.first().copied().map_or(false, begins_item) {
         return None;
     }
+    scan_item(bytes)
+}
+
+fn scan_item(bytes: &[u8]) -> Option<(usize, u8, usize, usize)> {
     let mut start = markdown_scanners::LineStart::new(bytes);
     let (delimiter, number, indent) = start.scan_list_marker_with_indent(0)?;
     Some((start.bytes_scanned(), delimiter, number as usize, indent))

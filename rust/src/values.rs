@@ -18,9 +18,17 @@ pub enum HeadingLevel {
 }
 
 impl HeadingLevel {
+    #[inline]
     pub(crate) fn of(level: u32) -> Option<Self> {
-        use HeadingLevel::*;
-        [H1, H2, H3, H4, H5, H6].into_iter().find(|it| *it as u32 == level)
+        match level {
+            1 => Some(HeadingLevel::H1),
+            2 => Some(HeadingLevel::H2),
+            3 => Some(HeadingLevel::H3),
+            4 => Some(HeadingLevel::H4),
+            5 => Some(HeadingLevel::H5),
+            6 => Some(HeadingLevel::H6),
+            _ => None,
+        }
     }
 }
 

@@ -42,7 +42,8 @@ impl Start {
     // often it is. It is asked first, so that most calls make no line start.
     fn has_no_space(&self, bytes: &[u8]) -> bool
         ensures { IsTrue result → IsLineState (state_on bytes.now self.now)
-            × HasNoSpace (state_on bytes.now self.now) }
+            × HasNoSpace (state_on bytes.now self.now)
+            × (after_all_space (state_on bytes.now self.now) ≡ state_on bytes.now self.now) }
     {
         if self.pending > 0 || self.phase > 3 || self.place >= bytes.len() {
             return false;
@@ -109,6 +110,22 @@ pub extern "C" fn mds_line_space(bytes: &[u8], start: &mut Start, count: usize) 
     if start.has_no_space(bytes) {
         return status_of(count == 0);
     }
+    take_all_of(bytes, start, count)
+}
+
+// The same where some space may be. Not inlined, as the last thing that the call does: so the call
+// itself saves no registers.
+#[inline(never)]
+fn take_all_of(bytes: &[u8], start: &mut Start, count: usize) -> u32
+    ensures refused { ¬ IsLineState (state_on bytes.now start.old)
+        → (result ≡ bad_state) × (start.new ≡ start.old) }
+    ensures answer { OfState bytes.now start.old (λ s.
+        result ≡ found_status (space_within count s == count)) }
+    ensures state { OfState bytes.now start.old (λ s.
+        state_on bytes.now start.new ≡ after_space count s) }
+    ensures next { OfState bytes.now start.old (λ s. IsNext bytes.now start.old start.new) }
+    ensures kept { known_breaks start.new ≡ known_breaks start.old }
+{
     let Some(taken) = take_space(bytes, start, count) else {
         return BAD_STATE;
     };
@@ -184,6 +201,9 @@ pub extern "C" fn mds_line_all_space(bytes: &[u8], start: &mut Start) -> u32
     ensures next { OfState bytes.now start.old (λ s. IsNext bytes.now start.old start.new) }
     ensures kept { known_breaks start.new ≡ known_breaks start.old }
 {
+    if start.has_no_space(bytes) {
+        return OK;
+    }
     let Some(mut line) = start.on(bytes) else {
         return BAD_STATE;
     };

@@ -3,7 +3,7 @@ use Rattle.std.proofs.lemmas.List.{drop_more}
 use Rattle.markdown_scanners_tree.specs.Bytes.{begins_with, is_space_or_tab}
 use Rattle.markdown_scanners_tree.specs.line.State.{IsLineState}
 use Rattle.markdown_scanners_c.specs.LineStarts.{state_on}
-use Rattle.markdown_scanners_c.proofs.NoSpaces.{no_space, is_not}
+use Rattle.markdown_scanners_c.proofs.NoSpaces.{no_space, all_space_stays, is_not}
 use Rattle.markdown_scanners_c.proofs.line_starts.Start.has_no_space.Goals as goal
 
 pub returns : goal.returns
@@ -14,4 +14,5 @@ returns c none =
     let other : begins_with is_space_or_tab (drop place bytes) ≡ false =
     ap (begins_with is_space_or_tab) (drop_more bytes place 0 (omega arith)) ∙ sym c.is_space.ensures
     ∙ is_not c.is_space.result none in
-    (is, no_space (state_on bytes c.args.self.now) is (omega arith) other)
+    let s = state_on bytes c.args.self.now in
+    (is, no_space s is (omega arith) other, all_space_stays s is (omega arith) other)
