@@ -409,6 +409,11 @@ struct mds_part {
  * (6.3) */
 struct mds_part mds_scan_link_dest(const void *bytes, size_t length, size_t start, size_t max_next);
 
+/* The link title that begins at the place `start`, in straight double quotes, straight single quotes or parentheses,
+ * which are not among its own bytes. It may go on over lines, of which none is blank; what stands at the front of a line
+ * in a container is not left out. (6.3) */
+struct mds_part mds_scan_link_title(const void *bytes, size_t length, size_t start);
+
 /* The absolute URI of the autolink whose `<`, at which the call doesn't look, stands just before the place `start`; the
  * end is behind its `>`. (6.5) */
 struct mds_part mds_scan_autolink(const void *bytes, size_t length, size_t start);

@@ -1,5 +1,5 @@
-/* What takes any bytes and is told by places in them: lines, thematic breaks, link destinations, autolinks, pipes of
- * wikilinks, and whether bytes are UTF-8. On worked rows and on hostile input, as rows.c has it, on all short strings over a
+/* What takes any bytes and is told by places in them: lines, thematic breaks, link destinations, link titles, autolinks,
+ * pipes of wikilinks, and whether bytes are UTF-8. On worked rows and on hostile input, as rows.c has it, on all short strings over a
  * few bytes, and on long ones of which only the front can be read. The expected values are worked out by hand from
  * CommonMark 0.31.2, or computed here in its words. */
 #define _DEFAULT_SOURCE
@@ -66,6 +66,34 @@ static bool is_break(const char *bytes, size_t length) {
     return markers >= 3;
 }
 
+/* Whether one of the lines is blank: it has nothing but spaces and tabs before its ending. (2.1) */
+static bool has_blank_line(const char *bytes, size_t length) {
+    for (size_t place = 0, line; place < length; place += line) {
+        line = length_of_line(bytes + place, length - place);
+        size_t blank = 0;
+        while (blank < line && strchr(" \t\n\r", bytes[place + blank]))
+            blank++;
+        if (blank == line)
+            return true;
+    }
+    return false;
+}
+
+/* A link title: straight quotes or parentheses, and between them neither of the two but behind a backslash; it may go on over
+ * lines, and not contain a blank one. (6.3) */
+static size_t length_of_title(const char *bytes, size_t length) {
+    size_t end = 1;
+    if (length == 0 || !strchr("\"'(", bytes[0]))
+        return MDS_NONE;
+    char closing = bytes[0] == '(' ? ')' : bytes[0];
+    while (end < length && bytes[end] != closing) {
+        if (bytes[end] == bytes[0])
+            return MDS_NONE;
+        end += bytes[end] == '\\' && end + 1 < length && strchr("\\\"'()", bytes[end + 1]) ? 2 : 1;
+    }
+    return end < length && !has_blank_line(bytes, end + 1) ? end + 1 : MDS_NONE;
+}
+
 static void check_line(const char *bytes, size_t length) {
     size_t place = 0;
     const uint8_t *put = given(BYTES, bytes, length);
@@ -84,6 +112,11 @@ static void check_break(const char *bytes, size_t length) {
     SAME(found.none_before <= (found.length == MDS_NONE ? length : 0), true);
     for (size_t place = 0; place < found.none_before && place < length; place++)
         SAME(is_break(bytes + place, length - place), false);
+}
+
+static void check_title(const char *bytes, size_t length) {
+    struct mds_part found = mds_scan_link_title(given(BYTES, bytes, length), length, 0);
+    SAME(found.status == MDS_OK ? found.end : MDS_NONE, length_of_title(bytes, length));
 }
 
 /* Each string of so many of the letters. */
@@ -105,6 +138,10 @@ static void short_strings(void) {
         each_string("a\n\r", length, check_line);
     for (size_t length = 0; length <= 5; length++)
         each_string("*- x\n", length, check_break);
+    for (size_t length = 0; length <= 5; length++) {
+        each_string("\"()\\ \n", length, check_title);
+        each_string("'\\a\r\n", length, check_title);
+    }
 }
 
 static void break_is(int line, struct mds_break found, size_t length, size_t none_before) {
@@ -176,6 +213,27 @@ static void destinations_in_bytes(void) {
     PART(mds_scan_link_dest(OF("\xc3\xa9\xff"), 1, 9), 3, 1, 2);
 }
 
+/* A link title, of which nothing is left out. */
+#define TITLE(literal) PART(mds_scan_link_title(OF(literal), 0), sizeof(literal) - 1, 1, sizeof(literal) - 3)
+#define NO_TITLE(literal) NO_PART(mds_scan_link_title(OF(literal), 0), MDS_NOTHING)
+
+static void titles(void) {
+    TITLE("\"title\""), TITLE("'title'"), TITLE("(title)"), TITLE("\"\""), TITLE("()"), TITLE("'titl\\'e'");
+    TITLE("\"title \\\"&quot;\""), TITLE("'title \"and\" title'"), TITLE("(a \\(b\\) \"c' d)"), TITLE("\"(\"");
+    TITLE("'\ntitle\nline1\nline2\n'"), TITLE("\"a\r\n \tb\""), TITLE("(a\rb)"), TITLE("'a\\\nb'");
+    NO_TITLE("\"title"), NO_TITLE("'title\""), NO_TITLE("(a (b) c)"), NO_TITLE("(title(\\)"), NO_TITLE("title"), NO_TITLE("<a>");
+    NO_TITLE("'title\n\nwith blank line'"), NO_TITLE("\"a\r\n\r\nb\""), NO_TITLE("(a\r\rb)"), NO_TITLE("\"a\n \t\nb\"");
+    NO_TITLE("\"a\\\n\nb\""), NO_TITLE("\"\\\"");
+    PART(mds_scan_link_title(OF("[a](/u \"b \\\" c\")"), 7), 15, 8, 6);
+    PART(mds_scan_link_title(OF("\"title \"and\" title\""), 0), 8, 1, 6);
+    PART(mds_scan_link_title(OF("\xe2\x82\xac'\xc3\xa9'"), 3), 7, 4, 2);
+    PART(mds_scan_link_title(OF("'\xff'\xff"), 0), 3, 1, 1);
+    NO_PART(mds_scan_link_title(OF("\xe2\x80\x9c" "a\xe2\x80\x9d"), 0), MDS_NOTHING);
+    NO_PART(mds_scan_link_title(NULL, 0, 0), MDS_NOTHING);
+    NO_PART(mds_scan_link_title(OF("'a'"), 3), MDS_NOTHING);
+    NO_PART(mds_scan_link_title(OF("'a'"), 4), MDS_PAST_END);
+}
+
 /* An autolink, of which nothing is left out. */
 #define URI(literal) PART(mds_scan_autolink(OF(literal), 1), sizeof(literal) - 1, 1, sizeof(literal) - 3)
 #define NO_URI(literal) NO_PART(mds_scan_autolink(OF(literal), 1), MDS_NOTHING)
@@ -244,6 +302,11 @@ static void last_bytes(void) {
     NO_PART(mds_scan_link_dest(before_far("((", 2), FAR, 0, 0), MDS_NOTHING);
     PART(mds_scan_link_dest(before_far(")", 1), FAR, 0, 31), 0, 0, 0);
     PART(mds_scan_link_dest(before_far("<>", 2), FAR, 0, 31), 2, 1, 0);
+    PART(mds_scan_link_title(before_far("'a\n b'", 6), FAR, 0), 6, 1, 4);
+    NO_PART(mds_scan_link_title(before_far("(a(", 3), FAR, 0), MDS_NOTHING);
+    NO_PART(mds_scan_link_title(before_far("\"a\n \n", 5), FAR, 0), MDS_NOTHING);
+    NO_PART(mds_scan_link_title(before_far("\"a\r\r", 4), FAR, 0), MDS_NOTHING);
+    NO_PART(mds_scan_link_title(before_far("a", 1), FAR, 0), MDS_NOTHING);
     NO_PART(mds_scan_autolink(before_far("a b", 2), FAR, 0), MDS_NOTHING);
     NO_PART(mds_scan_autolink(before_far("ab: ", 4), FAR, 0), MDS_NOTHING);
     NO_PART(mds_scan_autolink(before_far("abcdefghijklmnopqrstuvwxyzabcdefg", 33), FAR, 0), MDS_NOTHING);
@@ -253,7 +316,7 @@ static void last_bytes(void) {
 static void parts(void) {
     check_rooms();
     texts(), lines(), short_strings(), breaks();
-    destinations(), destinations_in_bytes(), autolinks(), pipes();
+    destinations(), destinations_in_bytes(), titles(), autolinks(), pipes();
 }
 
 int main(void) {

@@ -295,6 +295,7 @@ static void others_on_line_starts(void) {
 
 static void others_on_texts(void) {
     ASKS_NOT(mds_scan_link_dest(OF("<a>"), 0, 9).end, 3);
+    ASKS_NOT(mds_scan_link_title(OF("'a\nb'"), 0).end, 5);
     ASKS_NOT(mds_scan_autolink(OF("<ab:c>"), 1).end, 6);
     ASKS_NOT(mds_scan_wikilink_pipe(OF("a|b]]"), 0, 3).end, 2);
     ASKS_NOT(mds_starts_html_block_type_6(OF("div>")), true);

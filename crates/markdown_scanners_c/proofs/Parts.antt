@@ -45,6 +45,18 @@ cut_destination start taken from to bytes rest same text ordered begins ends beh
   place_in start bytes rest same text taken (start + taken) refl behind,
 )
 
+-- both ends of a title's own bytes, and the end of all that it takes
+pub cut_title : (start taken : ℕ) (bytes rest : List ℕ) → rest ≡ drop start bytes → IsTextPlace bytes start
+    → 2 ≤ taken → (IsUtf8 rest → IsCharBoundary rest 1) → (IsUtf8 rest → IsCharBoundary rest (taken - 1))
+    → (IsUtf8 rest → IsCharBoundary rest taken)
+    → IsCharBoundary bytes (start + 1) × IsCharBoundary bytes (start + 1 + (taken - 2))
+    × IsCharBoundary bytes (start + taken)
+cut_title start taken bytes rest same text two begins ends behind = (
+  place_in start bytes rest same text 1 (start + 1) refl begins,
+  place_in start bytes rest same text (taken - 1) (start + 1 + (taken - 2)) (omega (arith, two)) ends,
+  place_in start bytes rest same text taken (start + taken) refl behind,
+)
+
 -- both ends of n bytes before a closing byte, and the place behind that
 pub cut_closed : (start n : ℕ) (bytes rest : List ℕ) → rest ≡ drop start bytes → IsTextPlace bytes start
     → (IsUtf8 rest → IsCharBoundary rest n) → (IsUtf8 rest → IsCharBoundary rest (n + 1))

@@ -6,6 +6,7 @@ use Rattle.std.specs.Str.{IsCharBoundary}
 use Rattle.markdown_scanners_tree.specs.Ascii.{vertical_line}
 use Rattle.markdown_scanners_tree.specs.scanners.links.Autolink.{IsUriAutolink}
 use Rattle.markdown_scanners_tree.specs.scanners.links.LinkDestination.{IsLinkDestination}
+use Rattle.markdown_scanners_tree.specs.scanners.titles.LinkTitle.{IsLinkTitle}
 use Rattle.markdown_scanners_c.specs.Status.{ok, nothing}
 use Rattle.markdown_scanners_c.specs.TextPlace.{IsTextPlace}
 use Rattle.markdown_scanners_c.specs.declared.inline.Part.{Part}
@@ -48,6 +49,13 @@ IsDestinationPart most bytes place part =
     × ((r : ℕ × List ℕ) → ¬ IsLinkDestination most (drop place bytes) r.0 r.1))
     ⊎ ((part.status ≡ ok) × StandsFrom place part
     × IsLinkDestination most (drop place bytes) (part.end - place) (part_of bytes part))
+
+-- a link title, which begins at the place, with its own bytes between the two around it, or none
+unfoldable pub IsTitlePart : List ℕ → ℕ → Part → Type 0
+IsTitlePart bytes place part =
+    (IsNoPart nothing part × ((n : ℕ) → ¬ IsLinkTitle (drop place bytes) n))
+    ⊎ ((part.status ≡ ok) × IsLinkTitle (drop place bytes) (part.length + 2)
+    × (part.start ≡ place + 1) × (part.end ≡ place + part.length + 2))
 
 -- Where the bytes are a text and the place is between two of its characters, so are both ends of the part's own bytes, and
 -- the end of what belongs to it.

@@ -1,12 +1,12 @@
-//! Link destinations, autolinks and pipes of wikilinks.
+//! Link destinations, link titles, autolinks and pipes of wikilinks.
 ghost use Rattle.std.specs.Prelude.{◌≤◌, ◌+◌, length};
 ghost use Rattle.markdown_scanners_c.specs.Status.{past_end};
-ghost use Rattle.markdown_scanners_c.specs.Parts.{IsNoPart, IsUriPart, IsPipePart, IsDestinationPart, IsCutFromText};
+ghost use Rattle.markdown_scanners_c.specs.Parts.{IsNoPart, IsUriPart, IsPipePart, IsDestinationPart, IsTitlePart, IsCutFromText};
 ghost use Rattle.markdown_scanners_c.specs.TextPlace.{IsAnswerAt};
 
 use crate::status::{NOTHING, OK, PAST_END};
 use markdown_scanners_tree::scanners::{
-    scan_autolink_bytes, scan_link_dest_bytes, scan_wikilink_pipe_bytes,
+    scan_autolink_bytes, scan_link_dest_bytes, scan_link_title, scan_wikilink_pipe_bytes,
 };
 
 /// `struct mds_part` of C: a part of the bytes, by places from their front, where the status is
@@ -50,6 +50,30 @@ pub extern "C" fn mds_scan_link_dest(bytes: &[u8], start: usize, max_next: usize
             end: start + taken,
             start: start + raw.start,
             length: raw.end - raw.start,
+        },
+        None => no_part(NOTHING),
+    }
+}
+
+/// The link title that begins at the place. (CommonMark 0.31.2, section 6.3)
+#[tactic(auto, unfolding(crate::specs::Parts::IsTitlePart))]
+#[unsafe(no_mangle)]
+pub extern "C" fn mds_scan_link_title(bytes: &[u8], start: usize) -> Part
+    ensures part { IsAnswerAt bytes.now start (IsNoPart past_end result)
+        (IsTitlePart bytes.now start result) }
+    ensures within { (result.start + result.length ≤ result.end)
+        × (result.end ≤ length bytes.now) }
+    ensures boundary { IsCutFromText bytes.now start result }
+{
+    if start > bytes.len() {
+        return no_part(PAST_END);
+    }
+    match scan_link_title(&bytes[start..]) {
+        Some(whole) => Part {
+            status: OK,
+            end: start + whole,
+            start: start + 1,
+            length: whole - 2,
         },
         None => no_part(NOTHING),
     }
