@@ -30,6 +30,7 @@ fn number_of_row(name: &[u8]) -> usize
     row_in_tables(seeds, places, name)
 }
 
+// The row to which these tables lead from the name.
 fn row_in_tables(seeds: &[u16], places: &[u16], name: &[u8]) -> usize
     requires seeds { length seeds.now ≡ 1024 }
     requires places { length places.now ≡ 2125 }
@@ -40,6 +41,7 @@ fn row_in_tables(seeds: &[u16], places: &[u16], name: &[u8]) -> usize
     places[(hash / 1024 + seed) % 2125] as usize
 }
 
+// The hash of a name.
 fn hash_of(name: &[u8]) -> u32
     ensures { result ≡ hash_of name.now }
 {
@@ -50,6 +52,7 @@ fn hash_of(name: &[u8]) -> u32
     hash
 }
 
+// The name of a row.
 fn name_at(row: usize) -> &'static [u8]
     requires { row < 2125 }
     ensures { result.now ≡ get_or (names_of html_rows) row [] }
@@ -58,6 +61,7 @@ fn name_at(row: usize) -> &'static [u8]
     part_at(text, starts, row).as_bytes()
 }
 
+// The text that the entity of a row means.
 fn meaning_at(row: usize) -> &'static str
     requires { row < 2125 }
     ensures { result.now ≡ get_or (meanings_of html_rows) row [] }
@@ -81,18 +85,21 @@ fn part_at<'a>(text: &'a str, starts: &[u16], number: usize) -> &'a str
     &text[start..end]
 }
 
+// All names in one text, and where each begins.
 fn names() -> (&'static str, &'static [u16])
     ensures { AreParts result.0.now result.1.now (names_of html_rows) }
 {
     (NAMES, &NAME_STARTS)
 }
 
+// All meanings in one text, and where each begins.
 fn meanings() -> (&'static str, &'static [u16])
     ensures { AreParts result.0.now result.1.now (meanings_of html_rows) }
 {
     (MEANINGS, &MEANING_STARTS)
 }
 
+// The seeds, and the row at each place.
 fn tables() -> (&'static [u16], &'static [u16])
     ensures { LeadToRows result.0.now result.1.now (names_of html_rows) }
 {

@@ -151,6 +151,7 @@ pub extern "C" fn mds_scan_html_tag_over_lines(
     tag_text(alloc, bytes, start, skips, buffer)
 }
 
+// The tag at the place, over lines, and its text in the buffer.
 fn tag_text(alloc: Global, bytes: &[u8], start: usize, skips: &[Skip], buffer: &mut [u8]) -> Tag
     requires { start ≤ length bytes.now }
     ensures tag { (behind : List ℕ) → are_skips skips.now (bytes.now ++ behind) ≡ true

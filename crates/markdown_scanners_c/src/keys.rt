@@ -26,6 +26,7 @@ pub extern "C" fn mds_label_key(alloc: Global, text: &[u8], buffer: &mut [u8]) -
     }
 }
 
+// The key of a label, in the buffer.
 fn key_text(alloc: Global, text: &str, buffer: &mut [u8]) -> Text
     ensures key { IsKeyText text.now buffer.old buffer.new result }
     ensures room { result.length ≤ 3 * length text.now }

@@ -178,6 +178,7 @@ fn escapes(rest: &[u8], escaped: bool) -> bool
     }
 }
 
+// The label at the place, over lines, and its text in the buffer.
 fn label_text(
     alloc: Global,
     bytes: &[u8],

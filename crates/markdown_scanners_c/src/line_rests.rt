@@ -78,6 +78,7 @@ fn length_told(length: u128) -> usize
     }
 }
 
+// Whether the byte is LF or CR.
 fn is_line_ending(byte: u8) -> bool
     ensures { result ≡ is_line_ending byte }
 {

@@ -38,6 +38,7 @@ pub struct LineEnds {
     pub count: usize,
 }
 
+// A run with this status and no answers.
 fn no_run(status: u32) -> LineEnds
     ensures { result ≡ no_run status }
 {
@@ -146,6 +147,7 @@ fn made_run(
     }
 }
 
+// The call that the numbers of C name.
 fn line_call(call: Call) -> LineCall
     ensures { result ≡ line_call call }
 {
@@ -159,6 +161,7 @@ fn line_call(call: Call) -> LineCall
     }
 }
 
+// An answer as C has it.
 fn answer_of(answer: &LineAnswer) -> Answer
     ensures { result ≡ answer_of answer.now }
 {
@@ -192,6 +195,7 @@ fn answer_of(answer: &LineAnswer) -> Answer
     }
 }
 
+// The status of a run that stopped so.
 fn status_of(stop: &LineStop) -> u32
     ensures { result ≡ stop_status stop.now }
 {

@@ -83,12 +83,14 @@ impl Start {
     }
 }
 
+// Whether the byte is a space or a tab.
 fn is_space(byte: u8) -> bool
     ensures { result ≡ is_space_or_tab byte }
 {
     matches!(byte, b' ' | b'\t')
 }
 
+// The status of a call that found something or nothing.
 fn status_of(found: bool) -> u32
     ensures { result ≡ found_status found }
 {
@@ -139,6 +141,7 @@ pub struct Columns {
     pub columns: usize,
 }
 
+// No columns, with this status.
 fn no_columns(status: u32) -> Columns
     ensures { result ≡ no_columns status }
 {
@@ -254,6 +257,7 @@ pub struct LineItem {
     pub indent: usize,
 }
 
+// No list item, with this status.
 fn no_item(status: u32) -> LineItem
     ensures { result ≡ no_item status }
 {
@@ -306,6 +310,7 @@ pub extern "C" fn mds_line_list(bytes: &[u8], start: &mut Start, indent: usize) 
     item_of(item)
 }
 
+// A list item as C has it.
 fn item_of(item: Option<(u8, u64, usize)>) -> LineItem
     ensures { result ≡ item_told item }
 {
@@ -345,6 +350,7 @@ pub extern "C" fn mds_line_definition(bytes: &[u8], start: &mut Start, indent: u
     columns_of(columns)
 }
 
+// Columns as C has them.
 fn columns_of(columns: Option<usize>) -> Columns
     ensures { result ≡ columns_told columns }
 {
@@ -384,6 +390,7 @@ pub extern "C" fn mds_line_task(bytes: &[u8], start: &mut Start) -> Task
     task_of(checked)
 }
 
+// No task list marker, with this status.
 fn no_task(status: u32) -> Task
     ensures { result ≡ no_task status }
 {
@@ -393,6 +400,7 @@ fn no_task(status: u32) -> Task
     }
 }
 
+// A task list marker as C has it.
 fn task_of(checked: Option<bool>) -> Task
     ensures { result ≡ task_told checked }
 {
@@ -432,12 +440,14 @@ pub extern "C" fn mds_line_alert(bytes: &[u8], start: &mut Start) -> Alert
     alert_of(kind)
 }
 
+// No alert, with this status.
 fn no_alert(status: u32) -> Alert
     ensures { result ≡ no_alert status }
 {
     Alert { status, kind: 0 }
 }
 
+// An alert as C has it.
 fn alert_of(kind: Option<BlockQuoteKind>) -> Alert
     ensures { result ≡ alert_told kind }
 {
@@ -450,6 +460,7 @@ fn alert_of(kind: Option<BlockQuoteKind>) -> Alert
     }
 }
 
+// The number of an alert's kind.
 fn number_of(kind: BlockQuoteKind) -> u32
     ensures { result ≡ alert_number kind }
 {

@@ -44,6 +44,7 @@ pub(crate) fn leading_words(rest: &[u8]) -> usize
     words_len(&rest[..rest.len().min(MOST_CHARACTERS + 1)])
 }
 
+// How many bytes words with one space between them take at the front.
 fn words_len(bytes: &[u8]) -> usize
     ensures words { AreLeadingWords bytes.now result }
     ensures within { result ≤ length bytes.now }
@@ -68,6 +69,7 @@ fn is_ordinary(byte: u8) -> bool
     byte > b']' || byte < b'[' && !is_ascii_whitespace(byte)
 }
 
+// Whether a space stands there, and a word behind it.
 fn joins_words(rest: &[u8]) -> bool
     ensures { result ≡ joins_words rest.now }
 {
@@ -77,12 +79,14 @@ fn joins_words(rest: &[u8]) -> bool
     }
 }
 
+// Whether a closing bracket stands there.
 fn is_closed(rest: &[u8]) -> bool
     ensures { result ≡ begins_with (λ b. b == right_bracket) rest.now }
 {
     matches!(rest, [b']', ..])
 }
 
+// Whether the words are UTF-8.
 fn is_text(words: &[u8]) -> bool
     ensures { IsTrue result → IsUtf8 words.now }
 {

@@ -40,6 +40,7 @@ pub extern "C" fn mds_run_inline_html(
     }
 }
 
+// Writes all numbers where they fit, and answers the status.
 #[tactic(auto, unfolding(crate::specs::Runs::AreNumbersWritten))]
 fn write_numbers(numbers: &[usize], buffer: &mut [usize], done: u32) -> u32
     ensures { AreNumbersWritten numbers.now buffer.old buffer.new done result }
@@ -72,12 +73,14 @@ fn ends_of(alloc: Global, bytes: &[u8], places: &[usize]) -> Result<(Vec<usize>,
     Ok((ends, status_of(&run.stop)))
 }
 
+// An end as C has it.
 fn end_of(found: Option<usize>) -> usize
     ensures { result ≡ end_number found }
 {
     found.unwrap_or(NONE)
 }
 
+// The status of a run that stopped so.
 fn status_of(stop: &Option<(usize, HtmlStop)>) -> u32
     ensures { result ≡ stop_status stop.now }
 {

@@ -59,6 +59,7 @@ fn are_ascii_skips(skips: &[Skip], bytes: &[u8]) -> bool
     true
 }
 
+// Whether the bytes that are left out there are ASCII.
 fn is_ascii_skip(skip: Skip, bytes: &[u8]) -> bool
     ensures { result ≡ is_ascii_front (drop skip.place bytes.now) skip.length }
 {

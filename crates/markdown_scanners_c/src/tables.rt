@@ -49,6 +49,7 @@ fn numbered_columns(alloc: Global, bytes: &[u8]) -> Result<Option<(usize, Vec<u8
     Ok(Some((length, numbers)))
 }
 
+// The number of an alignment.
 fn number_of(alignment: Alignment) -> u8
     ensures { result ≡ alignment_number alignment }
 {

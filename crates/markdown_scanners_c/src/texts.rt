@@ -94,6 +94,7 @@ pub extern "C" fn mds_unescape(
     }
 }
 
+// The unescaped text, in the buffer.
 #[tactic(auto, unfolding(crate::specs::Texts::IsMeaningText))]
 fn unescaped(alloc: Global, text: &str, is_in_table: bool, buffer: &mut [u8]) -> Text
     ensures text { IsMeaningText is_in_table text.now buffer.old buffer.new result }

@@ -47,12 +47,14 @@ fn interrupts(bytes: &[u8]) -> bool
         || is_interrupting_html(bytes)
 }
 
+// Whether a thematic break begins there.
 fn is_break(bytes: &[u8]) -> bool
     ensures { IsTrue result ↔ IsThematicBreak bytes.now }
 {
     scan_hrule(bytes).is_ok()
 }
 
+// Whether an ATX heading begins there.
 fn is_heading(bytes: &[u8]) -> bool
     ensures { IsTrue result ↔ IsSomeHeading bytes.now }
 {
@@ -69,12 +71,14 @@ fn is_fence(bytes: &[u8]) -> bool
     }
 }
 
+// Whether a block quote begins there.
 fn is_quote(bytes: &[u8]) -> bool
     ensures { IsTrue result ↔ IsSomeQuote bytes.now }
 {
     scan_blockquote_start(bytes).is_some()
 }
 
+// Whether a list item begins there that interrupts a paragraph.
 fn is_interrupting_item(bytes: &[u8]) -> bool
     ensures { IsTrue result ↔ IsInterruptingItem bytes.now }
 {
@@ -99,6 +103,7 @@ fn begins_with_space(rest: &[u8]) -> bool
     matches!(rest, [b' ' | b'\t', ..])
 }
 
+// Whether an HTML block begins there that interrupts a paragraph.
 fn is_interrupting_html(bytes: &[u8]) -> bool
     ensures { IsTrue result ↔ IsInterruptingHtml bytes.now }
 {

@@ -40,18 +40,21 @@ pub(crate) enum TagState {
     Refused,
 }
 
+// Whether the byte may stand in a tag name behind its first.
 fn continues_tag_name(byte: u8) -> bool
     ensures { result ≡ is_tag_name_byte byte }
 {
     is_ascii_alphanumeric(byte) || byte == b'-'
 }
 
+// Whether an attribute name may begin with the byte.
 fn begins_attribute(byte: u8) -> bool
     ensures { result ≡ is_attribute_start byte }
 {
     is_ascii_letter(byte) || byte == b'_' || byte == b':'
 }
 
+// Whether the byte may stand in an attribute name behind its first.
 fn continues_attribute(byte: u8) -> bool
     ensures { result ≡ is_attribute_byte byte }
 {
