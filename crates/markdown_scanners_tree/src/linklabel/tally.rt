@@ -1,6 +1,6 @@
 //! What the first pass over a label keeps of the bytes that it has read.
 ghost use Rattle.std.specs.Prelude.{◌≡◌, ◌≤◌, ◌+◌, ◌-◌, ◌&&◌, not};
-ghost use Rattle.markdown_scanners_tree.specs.linklabel.private.Pass.{begun, continued, due_len, gap_len, new_tally, tally_past_ending, tally_past_space, tally_past_word};
+ghost use Rattle.markdown_scanners_tree.specs.linklabel.private.Pass.{continued, due_len, gap_len, new_tally, tally_past_ending, tally_past_space, tally_past_word};
 
 // What is known of the bytes of a label that were read: how many of them begin none of its
 // characters, how many its text leaves out, where the space between two words counts as soon as white
@@ -114,11 +114,4 @@ fn continued(byte: u8) -> usize
     ensures { result ≡ continued byte }
 {
     if byte < 128 || byte > 191 { 0 } else { 1 }
-}
-
-// How many characters begin at this byte.
-pub(crate) fn begun_at(byte: u8) -> usize
-    ensures { result ≡ begun byte }
-{
-    1 - continued(byte)
 }
