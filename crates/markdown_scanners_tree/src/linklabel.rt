@@ -230,7 +230,7 @@ fn next_part(rest: &[u8], escaped: bool) -> NextPart
 fn is_dropped(rest: &[u8], is_in_table: bool) -> bool
     ensures { result ≡ starts_dropped is_in_table rest.now }
 {
-    matches!(rest, [b'\\', b'|', ..]) && is_in_table
+    is_in_table && matches!(rest, [b'\\', b'|', ..])
 }
 
 // How many bytes the handler skips at the start of a line, if the text goes on there.
