@@ -256,6 +256,8 @@ struct Measure {
 
 // The first pass over a label, which takes no memory. It ends with the character that is one too
 // many, and asks the handler no more.
+// Each byte is matched by itself: most labels are read by this pass alone, and told in parts, as the
+// second pass has them, a byte would take about twice as long.
 fn measure_label<F: Fn(&[u8]) -> Option<usize>>(
     text: &str,
     handler: &F,
@@ -305,8 +307,11 @@ fn measure_label<F: Fn(&[u8]) -> Option<usize>>(
 fn measured(tally: Tally, close: usize) -> Option<Measure>
     requires fits { IsTrue tally.has_word → tally.left_out + due_len tally.in_run ≤ close }
     ensures found { IfSome result (λ measure. measure
-        ≡ record { close = close; length = close - (tally.left_out + due_len tally.in_run);
-        is_plain = tally.is_plain }) }
+        ≡ record {
+          close = close;
+          length = close - (tally.left_out + due_len tally.in_run);
+          is_plain = tally.is_plain;
+        }) }
     ensures word { IfSome result (λ _. tally.has_word ≡ true) }
     ensures none { IfNone result (tally.has_word ≡ false) }
 {

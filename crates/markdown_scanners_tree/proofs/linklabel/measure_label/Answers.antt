@@ -78,8 +78,8 @@ returns-in-93-clause-found g c =
     when_some _ _ (IsMeasure (Skips g.F.Fn c.args.handler.now) c.args.text.now c.args.is_in_table) c.measured.result
     c.measured.ensures.found c.measured.ensures.word
     (λ word. measured_by _ _ _ _ _ _ _ c.loop-ix.invariant.at o c.loop-ix.invariant.told _ c.loop-ix.invariant.tells
-        c.utf8.text c.loop-ix.invariant.within word
-        (omega (arith, c.if-characters-le-MOST_CHARACTERS.true, c.characters.ensures)))
+    c.utf8.text c.loop-ix.invariant.within word
+    (omega (arith, c.if-characters-le-MOST_CHARACTERS.true, c.characters.ensures)))
 
 pub returns-in-93-clause-none : goal.returns-in-93-clause-none
 returns-in-93-clause-none g c =
@@ -89,9 +89,9 @@ returns-in-93-clause-none g c =
     (refl, (_, starts c.args.text.now c.loop-ix.ix 93 inside (byte_of _ _ c.loop-ix.ix same ∙ c.in-93.is))) in
     let facts = c.loop-ix.invariant.facts in
     when_none _ _ c.measured.result c.measured.ensures.none (λ word.
-        (let none : facts.has_word ≡ false = sym c.loop-ix.invariant.tells.word_is ∙ word in
-        let no : (nat_le facts.characters 999 && facts.has_word) ≡ false = grind (arith, nat_tests, none) in
-        not_measured _ _ _ _ _ _ _ c.loop-ix.invariant.at o c.loop-ix.invariant.told no))
+    (let none : facts.has_word ≡ false = sym c.loop-ix.invariant.tells.word_is ∙ word in
+    let no : (nat_le facts.characters 999 && facts.has_word) ≡ false = grind (arith, nat_tests, none) in
+    not_measured _ _ _ _ _ _ _ c.loop-ix.invariant.at o c.loop-ix.invariant.told no))
 
 pub loop-ix-preserved-in-92 : goal.loop-ix-preserved-in-92
 loop-ix-preserved-in-92 g c =
@@ -172,8 +172,12 @@ past_ending-tally-requires-clause-some g c =
     let ends : is_line_ending (get_or c.as_bytes-bytes.result.now ix 0) ≡ true = grind (arith, nat_tests, c.in-10.is) in
     let here = ending_here (Skips g.F.Fn c.args.handler.now) c.args.is_in_table text ix c.loop-ix.tally _ c.loop-ix.invariant
     (inside_text _ _ _ same c.loop-ix-test.true) (byte_of _ _ ix same) ends in
-    omega (arith, c.ending_len-len.ensures, ap line_len (rest_of_text c.as_bytes-bytes.result.now text ix same),
-    (ending_fits text ix _ (here _ refl)).1)
+    omega (
+      arith,
+      c.ending_len-len.ensures,
+      ap line_len (rest_of_text c.as_bytes-bytes.result.now text ix same),
+      (ending_fits text ix _ (here _ refl)).1,
+    )
 
 pub loop-ix-smaller-in-10 : goal.loop-ix-smaller-in-10
 loop-ix-smaller-in-10 g c =
@@ -184,8 +188,13 @@ loop-ix-smaller-in-10 g c =
     let inside = inside_text _ _ ix same c.loop-ix-test.true in
     let here = ending_here (Skips g.F.Fn c.args.handler.now) c.args.is_in_table text ix c.loop-ix.tally _ c.loop-ix.invariant
     inside (byte_of _ _ ix same) ends in
-    omega (arith, inside, c.ending_len-len.ensures,
-    ap line_len (rest_of_text c.as_bytes-bytes.result.now text ix same), (ending_fits text ix _ (here _ refl)).1)
+    omega (
+      arith,
+      inside,
+      c.ending_len-len.ensures,
+      ap line_len (rest_of_text c.as_bytes-bytes.result.now text ix same),
+      (ending_fits text ix _ (here _ refl)).1,
+    )
 
 pub loop-ix-preserved-in-10 : goal.loop-ix-preserved-in-10
 loop-ix-preserved-in-10 g c =
