@@ -1,5 +1,6 @@
 pub mod AsciiKeys
 pub mod CellText
+pub mod Facts
 pub mod JoinedWords
 pub mod KeptTextSteps
 pub mod KeyBlocks
@@ -10,7 +11,6 @@ pub mod Rows
 pub mod SeenBytes
 pub mod SourceSteps
 pub mod WhiteRuns
-pub mod WordRunSteps
 pub mod WriteLemmas
 pub mod WrittenFits
 pub mod WrittenRuns

@@ -14,7 +14,9 @@ ghost use Rattle.markdown_scanners_tree.specs.linklabel.Label.{Label, IsLabel, H
 ghost use Rattle.markdown_scanners_tree.specs.linklabel.Answer.{answered_label, slice_before, without_first_space, without_last_space};
 ghost use Rattle.markdown_scanners_tree.specs.linklabel.private.NextPart.{IsNextPart};
 ghost use Rattle.markdown_scanners_tree.specs.linklabel.Key.{label_key, key_bytes, blocks};
-ghost use Rattle.markdown_scanners_tree.specs.linklabel.private.Pass.{starts_dropped, due_len, IsWordWritten, IsMeasure};
+ghost use Rattle.markdown_scanners_tree.specs.linklabel.private.Pass.{starts_dropped, due_len, backslash_len, tally_past_backslash, IsWordWritten, IsMeasure};
+ghost use Rattle.markdown_scanners_tree.specs.Bytes.{begins_with, is_line_ending, is_punctuation};
+ghost use Rattle.markdown_scanners_tree.specs.Kept.{line_len};
 
 mod key;
 mod key_block;
@@ -228,7 +230,7 @@ fn next_part(rest: &[u8], escaped: bool) -> NextPart
 fn is_dropped(rest: &[u8], is_in_table: bool) -> bool
     ensures { result ≡ starts_dropped is_in_table rest.now }
 {
-    is_in_table && rest.len() > 1 && rest[0] == b'\\' && rest[1] == b'|'
+    is_in_table && matches!(rest, [b'\\', b'|', ..])
 }
 
 // How many bytes the handler skips at the start of a line, if the text goes on there.
@@ -254,6 +256,8 @@ struct Measure {
 
 // The first pass over a label, which takes no memory. It ends with the character that is one too
 // many, and asks the handler no more.
+// Each byte is matched by itself: most labels are read by this pass alone, and told in parts, as the
+// second pass has them, a byte would take about twice as long.
 fn measure_label<F: Fn(&[u8]) -> Option<usize>>(
     text: &str,
     handler: &F,
@@ -265,43 +269,99 @@ fn measure_label<F: Fn(&[u8]) -> Option<usize>>(
     ensures none { IfNone result (HasNoLabel (Skips F.Fn handler.now) text.now is_in_table) }
 {
     let bytes = text.as_bytes();
-    let (mut ix, mut escaped) = (0, false);
+    let mut ix = 0;
     let mut tally = Tally::new();
-    while tally.characters <= MOST_CHARACTERS {
-        match next_part(&bytes[ix..], escaped) {
-            NextPart::End | NextPart::Open => return None,
-            NextPart::Close => {
-                if tally.has_word {
-                    return Some(Measure {
-                        close: ix,
-                        length: tally.length,
-                        is_plain: tally.is_plain(),
-                    });
-                }
-                return None;
+    while ix < bytes.len() && tally.characters(ix) <= MOST_CHARACTERS {
+        let byte = bytes[ix];
+        if is_ordinary(byte) {
+            tally = tally.past_word(byte, false);
+            ix += 1;
+            continue;
+        }
+        match byte {
+            b'[' => return None,
+            b']' => return measured(tally, ix),
+            b'\\' => {
+                tally = past_backslash(tally, &bytes[ix..], is_in_table);
+                ix += backslash_len(&bytes[ix..]);
             }
-            NextPart::Ending(len) => {
-                if tally.has_ending || tally.characters + len > MOST_CHARACTERS {
+            b'\n' | b'\r' => {
+                let len = ending_len(&bytes[ix..]);
+                if tally.ends_line() || tally.characters(ix) + len > MOST_CHARACTERS {
                     return None;
                 }
                 let skip = skip_at(text, ix + len, handler)?;
-                tally = tally.past_ending(len);
+                tally = tally.past_ending(len, skip);
                 ix += len + skip;
             }
-            NextPart::Space(byte) => {
+            _ => {
                 tally = tally.past_space(byte);
                 ix += 1;
-            }
-            NextPart::Word(byte, escapes) => {
-                let run = word_run(&bytes[ix + 1..], escapes, is_in_table);
-                let dropped = is_dropped(&bytes[ix..], is_in_table);
-                tally = tally.past_word(byte, dropped).past_run(run);
-                escaped = run.escapes;
-                ix += 1 + run.len;
             }
         }
     }
     None
+}
+
+// What is found at the closing bracket behind so many bytes.
+fn measured(tally: Tally, close: usize) -> Option<Measure>
+    requires fits { IsTrue tally.has_word → tally.left_out + due_len tally.in_run ≤ close }
+    ensures found { IfSome result (λ measure. measure
+        ≡ record {
+          close = close;
+          length = close - (tally.left_out + due_len tally.in_run);
+          is_plain = tally.is_plain;
+        }) }
+    ensures word { IfSome result (λ _. tally.has_word ≡ true) }
+    ensures none { IfNone result (tally.has_word ≡ false) }
+{
+    if !tally.has_word {
+        return None;
+    }
+    Some(Measure {
+        close,
+        length: tally.length(close),
+        is_plain: tally.is_plain,
+    })
+}
+
+// How many bytes the line ending at the front takes.
+fn ending_len(rest: &[u8]) -> usize
+    requires { begins_with is_line_ending rest.now ≡ true }
+    ensures { result ≡ line_len rest.now }
+{
+    match rest {
+        [b'\r', b'\n', ..] => 2,
+        _ => 1,
+    }
+}
+
+// How many bytes the backslash at the front takes, with the byte that it escapes.
+fn backslash_len(rest: &[u8]) -> usize
+    ensures { result ≡ backslash_len rest.now }
+{
+    if escapes(rest) { 2 } else { 1 }
+}
+
+// Whether the backslash at the front escapes the byte behind it.
+fn escapes(rest: &[u8]) -> bool
+    ensures answer { result ≡ begins_with is_punctuation (drop 1 rest.now) }
+    ensures inside { IsTrue result → 1 < length rest.now }
+{
+    rest.len() > 1 && is_ascii_punctuation(rest[1])
+}
+
+// The tally after the backslash at the front, and the byte that it escapes.
+fn past_backslash(tally: Tally, rest: &[u8], is_in_table: bool) -> Tally
+    requires skipped_fits { tally.skipped + 2 ≤ usize.MAX }
+    requires left_out_fits { tally.left_out + 2 ≤ usize.MAX }
+    ensures { result ≡ tally_past_backslash is_in_table tally rest.now }
+{
+    let tally = tally.past_word(b'\\', is_dropped(rest, is_in_table));
+    if !escapes(rest) {
+        return tally;
+    }
+    tally.past_word(rest[1], is_dropped(&rest[1..], is_in_table))
 }
 
 // A text after the space at its front, if one stands there.

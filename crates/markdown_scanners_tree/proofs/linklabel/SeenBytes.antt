@@ -14,8 +14,8 @@ use Rattle.markdown_scanners_tree.specs.Ascii.{right_bracket}
 use Rattle.markdown_scanners_tree.specs.Kept.{KeptByte, in_line, at_line_end, kept_line, kept_return, return_len, line_len, line_endings, bytes_of}
 use Rattle.markdown_scanners_tree.specs.linklabel.Answer.{without_first_space, without_last_space}
 use Rattle.markdown_scanners_tree.specs.linklabel.Label.{is_white, white_runs, characters, is_label_content, has_pipe_backslash, in_cell, joined_words, is_plain}
-use Rattle.markdown_scanners_tree.specs.linklabel.private.Pass.{begun, due_len, starts_dropped, word_text, new_tally, tally_past_ending, tally_past_space, tally_past_word}
-use Rattle.markdown_scanners_tree.specs.declared.linklabel.tally.Tally.{Tally}
+use Rattle.markdown_scanners_tree.specs.linklabel.private.Pass.{begun, due_len, starts_dropped, word_text}
+use Rattle.markdown_scanners_tree.proofs.linklabel.Facts.{Facts, no_facts, facts_past_ending, facts_past_space, facts_past_word}
 use Rattle.markdown_scanners_tree.proofs.linklabel.WhiteRuns.{few, few-white_runs, few_at_ending, lone, lone_runs}
 use Rattle.markdown_scanners_tree.specs.scanners.tables.DelimiterRow.{is_pipe}
 use Rattle.markdown_scanners_tree.proofs.linklabel.JoinedWords.{text_from, joined_words-from, lone_outer}
@@ -83,7 +83,7 @@ all_written t seen ix bs w r pushed s = joined_words-from (in_cell t seen)
     in_cell-nil false = refl
 
 -- the facts of the bytes that were seen, as a tally has them
-pub record Seen (t : Bool) (source : List ℕ) (seen : List KeptByte) (ix : ℕ) (rest : List ℕ) (y : Tally) : Type 0 where
+pub record Seen (t : Bool) (source : List ℕ) (seen : List KeptByte) (ix : ℕ) (rest : List ℕ) (y : Facts) : Type 0 where
   pub few_left : (ks : List KeptByte) → few false (seen ++ ks) ≡ few y.has_ending ks
   pub lone_left : (ks : List KeptByte) → lone false (seen ++ ks) ≡ (y.is_spaced && lone y.in_run ks)
   pub drops_left : (ks : List KeptByte) → Follows ix rest ks
@@ -95,7 +95,7 @@ pub record Seen (t : Bool) (source : List ℕ) (seen : List KeptByte) (ix : ℕ)
   pub written : Written t seen ix rest y.has_word y.in_run pushed
   pub length_is : length pushed ≡ y.length
 
-pub Seen-none : (t : Bool) (source : List ℕ) → Seen t source [] 0 source new_tally
+pub Seen-none : (t : Bool) (source : List ℕ) → Seen t source [] 0 source no_facts
 Seen-none t source = record {
   few_left = λ ks. refl;
   lone_left = λ ks. refl;
@@ -134,9 +134,9 @@ word_text-length false true b = refl
 word_text-length false false b = refl
 
 -- past a byte of a word
-pub Seen-word : (t : Bool) (source : List ℕ) (seen : List KeptByte) (ix b : ℕ) (bs : List ℕ) (y : Tally)
+pub Seen-word : (t : Bool) (source : List ℕ) (seen : List KeptByte) (ix b : ℕ) (bs : List ℕ) (y : Facts)
     → is_white_space b ≡ false → Seen t source seen ix (b ∷ bs) y
-    → Seen t source (seen ++ in_line b ix ∷ []) (ix + 1) bs (tally_past_word y b (starts_dropped t (b ∷ bs)))
+    → Seen t source (seen ++ in_line b ix ∷ []) (ix + 1) bs (facts_past_word y b (starts_dropped t (b ∷ bs)))
 Seen-word t source seen ix b bs y d s =
     let k = in_line b ix in
     let more = space_of y.has_word y.in_run ++ cond (starts_dropped t (b ∷ bs)) [] (b ∷ []) in record {
@@ -158,9 +158,9 @@ Seen-word t source seen ix b bs y d s =
     }
 
 -- past white space in a line
-pub Seen-space : (t : Bool) (source : List ℕ) (seen : List KeptByte) (ix b : ℕ) (bs : List ℕ) (y : Tally)
+pub Seen-space : (t : Bool) (source : List ℕ) (seen : List KeptByte) (ix b : ℕ) (bs : List ℕ) (y : Facts)
     → is_white_space b ≡ true → Seen t source seen ix (b ∷ bs) y
-    → Seen t source (seen ++ in_line b ix ∷ []) (ix + 1) bs (tally_past_space y b)
+    → Seen t source (seen ++ in_line b ix ∷ []) (ix + 1) bs (facts_past_space y b)
 Seen-space t source seen ix b bs y w s =
     let k = in_line b ix in record {
       few_left = λ ks. ap (few false) (append_assoc seen (k ∷ []) ks) ∙ s.few_left (k ∷ ks) ∙ rw w refl;
@@ -210,9 +210,9 @@ line_is ix b bs ends = by (b == 10) (b == 13) (eqb-true b 10) ends
     by false false f h = absurd (true≢false (sym h))
 
 -- past a line ending, the first of its run
-pub Seen-ending : (t : Bool) (source : List ℕ) (seen : List KeptByte) (ix b jx : ℕ) (bs rest' : List ℕ) (y : Tally)
+pub Seen-ending : (t : Bool) (source : List ℕ) (seen : List KeptByte) (ix b jx : ℕ) (bs rest' : List ℕ) (y : Facts)
     → is_line_ending b ≡ true → y.has_ending ≡ false → Seen t source seen ix (b ∷ bs) y
-    → Seen t source (seen ++ kept_line ix (b ∷ bs)) jx rest' (tally_past_ending y (line_len (b ∷ bs)))
+    → Seen t source (seen ++ kept_line ix (b ∷ bs)) jx rest' (facts_past_ending y (line_len (b ∷ bs)))
 Seen-ending t source seen ix b jx bs rest' y ends first s =
     let front = kept_line ix (b ∷ bs) in
     let l = line_is ix b bs ends in record {
@@ -234,7 +234,7 @@ Seen-ending t source seen ix b jx bs rest' y ends first s =
     }
 
 -- what was seen is a label's content where it has a word and few characters
-pub content_of_seen : (t : Bool) (source : List ℕ) (seen : List KeptByte) (ix : ℕ) (rest : List ℕ) (y : Tally)
+pub content_of_seen : (t : Bool) (source : List ℕ) (seen : List KeptByte) (ix : ℕ) (rest : List ℕ) (y : Facts)
     → Seen t source seen ix rest y → is_label_content seen ≡ (nat_le y.characters 999 && y.has_word)
 content_of_seen t source seen ix rest y s =
     let all_few = few-white_runs seen ∙ ap (few false) (sym (append-nil seen)) ∙ s.few_left [] in
@@ -249,12 +249,12 @@ too_many content many =
     let dark = not (list_all is_white content) in
     ap (λ v. (few_endings && v) && dark) over ∙ ap (λ v. v && dark) (and-false few_endings)
 
-pub many_seen : (t : Bool) (source : List ℕ) (seen : List KeptByte) (ix : ℕ) (rest : List ℕ) (y : Tally)
+pub many_seen : (t : Bool) (source : List ℕ) (seen : List KeptByte) (ix : ℕ) (rest : List ℕ) (y : Facts)
     (ks : List KeptByte) → Seen t source seen ix rest y → 999 < y.characters → is_label_content (seen ++ ks) ≡ false
 many_seen t source seen ix rest y ks s many =
     too_many (seen ++ ks) (omega (arith, s.characters_are, characters-append seen ks, many))
 
-pub many_with_ending : (t : Bool) (source : List ℕ) (seen : List KeptByte) (ix b : ℕ) (bs : List ℕ) (y : Tally)
+pub many_with_ending : (t : Bool) (source : List ℕ) (seen : List KeptByte) (ix b : ℕ) (bs : List ℕ) (y : Facts)
     (ks : List KeptByte) → is_line_ending b ≡ true → 999 < y.characters + line_len (b ∷ bs)
     → Seen t source seen ix (b ∷ bs) y
     → is_label_content ((seen ++ kept_line ix (b ∷ bs)) ++ ks) ≡ false
@@ -271,7 +271,7 @@ many_with_ending t source seen ix b bs y ks ends many s =
     ))
 
 -- nor does a second line ending in a run
-pub two_endings : (t : Bool) (source : List ℕ) (seen : List KeptByte) (ix b : ℕ) (bs : List ℕ) (y : Tally)
+pub two_endings : (t : Bool) (source : List ℕ) (seen : List KeptByte) (ix b : ℕ) (bs : List ℕ) (y : Facts)
     (ks : List KeptByte) → is_line_ending b ≡ true → y.has_ending ≡ true → Seen t source seen ix (b ∷ bs) y
     → is_label_content ((seen ++ kept_line ix (b ∷ bs)) ++ ks) ≡ false
 two_endings t source seen ix b bs y ks ends second s =
@@ -282,7 +282,7 @@ two_endings t source seen ix b bs y ks ends second s =
     && not (list_all is_white ((seen ++ front) ++ ks))
 
 -- at the closing bracket
-module _ (t : Bool) (source : List ℕ) (seen : List KeptByte) (ix : ℕ) (bs : List ℕ) (y : Tally)
+module _ (t : Bool) (source : List ℕ) (seen : List KeptByte) (ix : ℕ) (bs : List ℕ) (y : Facts)
     (s : Seen t source seen ix (right_bracket ∷ bs) y) where
   spaced : lone false seen ≡ y.is_spaced
   spaced = ap (lone false) (sym (append-nil seen)) ∙ s.lone_left [] ∙ and-true y.is_spaced

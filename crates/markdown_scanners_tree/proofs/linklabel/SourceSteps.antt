@@ -20,9 +20,9 @@ use Rattle.markdown_scanners_tree.specs.Ascii.{left_bracket, right_bracket}
 use Rattle.markdown_scanners_tree.specs.Kept.{KeptByte, in_line, kept_line, line_len, return_len, kept_from, kept_text, AreSkips}
 use Rattle.markdown_scanners_tree.specs.linklabel.Label.{Label, IsLabel, label_between, preceded, Bracketed, bracketed, kept_units, is_label_content}
 use Rattle.markdown_scanners_tree.specs.linklabel.private.NextPart.{IsBracket, IsEnding, IsSpace, IsWord, IsNextPart}
-use Rattle.markdown_scanners_tree.specs.linklabel.private.Pass.{starts_dropped, tally_past_ending, tally_past_space, tally_past_word}
+use Rattle.markdown_scanners_tree.specs.linklabel.private.Pass.{starts_dropped}
 use Rattle.markdown_scanners_tree.specs.declared.linklabel.NextPart.{NextPart}
-use Rattle.markdown_scanners_tree.specs.declared.linklabel.tally.Tally.{Tally}
+use Rattle.markdown_scanners_tree.proofs.linklabel.Facts.{Facts, facts_past_ending, facts_past_space, facts_past_word}
 use Rattle.markdown_scanners_tree.proofs.linklabel.CellText.{white_no_backslash}
 use Rattle.markdown_scanners_tree.proofs.linklabel.KeptTextSteps.{Goes, past_byte, at_byte, no_label_at_end, no_label_at_opening, label_at_closing, closing_label}
 use Rattle.markdown_scanners_tree.proofs.linklabel.KeptTextSteps.{past_ending, at_ending, no_label_at_ending, ending_seen, bracketed_after, label_from}
@@ -193,20 +193,20 @@ module _ (a : List ℕ → ℕ → Type 0) (source : List ℕ) where
                 (kept_from (ix + (line_len (h.byte ∷ h.others) + m))
                 (drop (line_len (h.byte ∷ h.others) + m) (h.byte ∷ h.others)) ms)) ∙ e)
 
-        pub none_at_second_ending : (t : Bool) (y : Tally) → y.has_ending ≡ true → Seen t source seen ix rest y
+        pub none_at_second_ending : (t : Bool) (y : Facts) → y.has_ending ≡ true → Seen t source seen ix rest y
             → (label : Label) → IsLabel a source t label → ⊥
         none_at_second_ending t y second s =
             none_behind_line t (λ ks. two_endings t source seen ix h.byte h.others y ks h.ends second
             (subst (λ r. Seen t source seen ix r y) h.parts s))
 
-        pub none_at_late_ending : (t : Bool) (y : Tally) → 999 < y.characters + len → Seen t source seen ix rest y
+        pub none_at_late_ending : (t : Bool) (y : Facts) → 999 < y.characters + len → Seen t source seen ix rest y
             → (label : Label) → IsLabel a source t label → ⊥
         none_at_late_ending t y many s =
             none_behind_line t (λ ks. many_with_ending t source seen ix h.byte h.others y ks h.ends (rw len_is at many)
             (subst (λ r. Seen t source seen ix r y) h.parts s))
 
       -- after too many characters no label comes
-      pub none_so_late : (t : Bool) (y : Tally) → 999 < y.characters → Seen t source seen ix rest y → (label : Label)
+      pub none_so_late : (t : Bool) (y : Facts) → 999 < y.characters → Seen t source seen ix rest y → (label : Label)
           → IsLabel a source t label → ⊥
       none_so_late t y many s label l =
           (let g = here.ahead t label l in after (bracketed_after escaped (kept_from ix rest g.skips)) g.label_is)
@@ -327,24 +327,24 @@ pub byte_rest : (source : List ℕ) (ix b : ℕ) (bs : List ℕ) → drop ix sou
 byte_rest source ix b bs e = sym (drop-drop 1 ix source) ∙ ap (drop 1) e
 
 -- the tally after what stands next
-module _ (t : Bool) (source : List ℕ) (seen : List KeptByte) (ix : ℕ) (rest rest' : List ℕ) (y : Tally)
+module _ (t : Bool) (source : List ℕ) (seen : List KeptByte) (ix : ℕ) (rest rest' : List ℕ) (y : Facts)
     (s : Seen t source seen ix rest y) where
   pub told_word : (escaped : Bool) (b : ℕ) (escapes : Bool) (h : IsWord escaped rest b escapes) → rest' ≡ h.others
-      → Seen t source (seen ++ in_line b ix ∷ []) (ix + 1) rest' (tally_past_word y b (starts_dropped t rest))
+      → Seen t source (seen ++ in_line b ix ∷ []) (ix + 1) rest' (facts_past_word y b (starts_dropped t rest))
   told_word escaped b escapes h e = subst (λ x. x)
       (λ i. Seen t source (seen ++ in_line b ix ∷ []) (ix + 1) (sym e i)
-      (tally_past_word y b (starts_dropped t (sym h.parts i))))
+      (facts_past_word y b (starts_dropped t (sym h.parts i))))
       (Seen-word t source seen ix b h.others y h.not_white (subst (λ r. Seen t source seen ix r y) h.parts s))
 
   pub told_space : (b : ℕ) (h : IsSpace rest b) → rest' ≡ h.others
-      → Seen t source (seen ++ in_line b ix ∷ []) (ix + 1) rest' (tally_past_space y b)
-  told_space b h e = subst (λ r. Seen t source (seen ++ in_line b ix ∷ []) (ix + 1) r (tally_past_space y b)) (sym e)
+      → Seen t source (seen ++ in_line b ix ∷ []) (ix + 1) rest' (facts_past_space y b)
+  told_space b h e = subst (λ r. Seen t source (seen ++ in_line b ix ∷ []) (ix + 1) r (facts_past_space y b)) (sym e)
       (Seen-space t source seen ix b h.others y h.white (subst (λ r. Seen t source seen ix r y) h.parts s))
 
   pub told_ending : (jx len : ℕ) (h : IsEnding rest len) → y.has_ending ≡ false
-      → Seen t source (seen ++ kept_line ix rest) jx rest' (tally_past_ending y len)
+      → Seen t source (seen ++ kept_line ix rest) jx rest' (facts_past_ending y len)
   told_ending jx len h first = subst (λ x. x)
       (λ i. Seen t source (seen ++ kept_line ix (sym h.parts i)) jx rest'
-      (tally_past_ending y (sym (h.takes ∙ ap line_len h.parts) i)))
+      (facts_past_ending y (sym (h.takes ∙ ap line_len h.parts) i)))
       (Seen-ending t source seen ix h.byte jx h.others rest' y h.ends first
       (subst (λ r. Seen t source seen ix r y) h.parts s))

@@ -34,16 +34,16 @@ pub record IsPast (a : List ℕ → ℕ → Type 0) (source : List ℕ) (t : Boo
 module _ (a : List ℕ → ℕ → Type 0) (source : List ℕ) (t escaped : Bool) (seen : List KeptByte) (ix : ℕ)
     (rest pushed : List ℕ) (here : IsAt a source escaped seen ix rest)
     (written : Written t seen ix rest true false pushed) where
-  pub past_run : (len characters : ℕ) (escapes : Bool) → IsRun t escaped rest len characters escapes
+  pub past_run : (len : ℕ) (escapes : Bool) → IsRun t escaped rest len escapes
       → IsPast a source t ix rest pushed len escapes
-  past_run len characters escapes none = record {
+  past_run len escapes none = record {
     seen = seen;
     at = subst (λ n. IsAt a source escaped seen n rest) (sym (add-zero ix)) here;
     written = subst (λ z. z) (λ i. Written t seen (sym (add-zero ix) i) rest true false (sym (append-nil pushed) i))
         written;
   }
-  past_run len characters escapes (more n c byte before after r k) =
-      let p = past_run n c before r in
+  past_run len escapes (more n byte before after r k) =
+      let p = past_run n before r in
       let next = byte_rest rest n byte k.word.others k.word.parts in
       let place : (ix + n) + 1 ≡ ix + (n + 1) = omega arith in
       let text : (pushed ++ take n rest) ++ cond (starts_dropped t (drop n rest)) [] (byte ∷ [])

@@ -1,22 +1,20 @@
 //! What the first pass over a label keeps of the bytes that it has read.
-ghost use Rattle.std.specs.Prelude.{◌≡◌, ◌≤◌, ◌+◌, ◌&&◌, not};
-ghost use Rattle.markdown_scanners_tree.specs.linklabel.private.Pass.{begun, space_len, new_tally, tally_past_ending, tally_past_space, tally_past_word, tally_past_run};
+ghost use Rattle.std.specs.Prelude.{◌≡◌, ◌≤◌, ◌+◌, ◌-◌, ◌&&◌, not};
+ghost use Rattle.markdown_scanners_tree.specs.linklabel.private.Pass.{continued, due_len, gap_len, new_tally, tally_past_ending, tally_past_space, tally_past_word};
 
-use crate::linklabel::word::Run;
-
-// What is known of the bytes of a label that were read: how many characters they are, how long a
-// text their words make, whether there is a word, whether a run of white space ends them and
-// whether a line ending is in it, whether each run is one space, and whether a backslash was
-// dropped.
+// What is known of the bytes of a label that were read: how many of them begin none of its
+// characters, how many its text leaves out, where the space between two words counts as soon as white
+// space stands behind the first; whether there is a word, whether a run of white space ends them, and
+// whether a line ending is in it; and whether they stand in the label as they are. What changes with
+// no byte of most words is kept, and the rest is derived from it.
 #[derive(Clone, Copy, Drop)]
 pub(crate) struct Tally {
-    pub(crate) characters: usize,
-    pub(crate) length: usize,
+    pub(crate) skipped: usize,
+    pub(crate) left_out: usize,
     pub(crate) has_word: bool,
     pub(crate) in_run: bool,
     pub(crate) has_ending: bool,
-    pub(crate) is_spaced: bool,
-    pub(crate) is_rewritten: bool,
+    pub(crate) is_plain: bool,
 }
 
 impl Tally {
@@ -24,85 +22,96 @@ impl Tally {
         ensures { result ≡ new_tally }
     {
         Tally {
-            characters: 0,
-            length: 0,
+            skipped: 0,
+            left_out: 0,
             has_word: false,
             in_run: false,
             has_ending: false,
-            is_spaced: true,
-            is_rewritten: false,
+            is_plain: true,
         }
     }
 
-    // After a line ending of this many bytes.
-    pub(crate) fn past_ending(self, len: usize) -> Tally
-        requires { self.characters + len ≤ usize.MAX }
-        ensures { result ≡ tally_past_ending self len }
+    // After a line ending of this many bytes, and those that are skipped behind it.
+    pub(crate) fn past_ending(self, len: usize, skip: usize) -> Tally
+        requires some { 1 ≤ len }
+        requires skipped_fits { self.skipped + skip ≤ usize.MAX }
+        requires left_out_fits { self.left_out + len + skip ≤ usize.MAX }
+        ensures { result ≡ tally_past_ending self len skip }
     {
         Tally {
-            characters: self.characters + len,
+            skipped: self.skipped + skip,
+            left_out: self.left_out + len + skip - self.gap(),
             in_run: true,
             has_ending: true,
-            is_spaced: false,
+            is_plain: false,
             ..self
         }
     }
 
     // After a byte of white space that ends no line.
     pub(crate) fn past_space(self, byte: u8) -> Tally
-        requires { self.characters + 1 ≤ usize.MAX }
+        requires { self.left_out + 1 ≤ usize.MAX }
         ensures { result ≡ tally_past_space self byte }
     {
         Tally {
-            characters: self.characters + 1,
+            left_out: self.left_out + 1 - self.gap(),
             in_run: true,
-            is_spaced: self.is_spaced && byte == b' ' && !self.in_run,
+            has_ending: self.ends_line(),
+            is_plain: self.is_plain && byte == b' ' && !self.in_run,
             ..self
         }
     }
 
     // After a byte of a word, which is or is not dropped.
     pub(crate) fn past_word(self, byte: u8, dropped: bool) -> Tally
-        requires characters_fit { self.characters + 1 ≤ usize.MAX }
-        requires length_fits { self.length + space_len self.has_word self.in_run + 1 ≤ usize.MAX }
+        requires skipped_fits { self.skipped + 1 ≤ usize.MAX }
+        requires left_out_fits { self.left_out + 1 ≤ usize.MAX }
         ensures { result ≡ tally_past_word self byte dropped }
     {
-        let space = if self.has_word && self.in_run { 1 } else { 0 };
         Tally {
-            characters: self.characters + begun_at(byte),
-            length: self.length + space + if dropped { 0 } else { 1 },
+            skipped: self.skipped + continued(byte),
+            left_out: self.left_out + if dropped { 1 } else { 0 },
             has_word: true,
             in_run: false,
-            has_ending: false,
-            is_rewritten: self.is_rewritten || dropped,
+            is_plain: self.is_plain && !dropped,
             ..self
         }
     }
 
-    // After more bytes of a word that has begun.
-    pub(crate) fn past_run(self, run: Run) -> Tally
-        requires characters_fit { self.characters + run.characters ≤ usize.MAX }
-        requires length_fits { self.length + run.len ≤ usize.MAX }
-        ensures { result ≡ tally_past_run self run.len run.characters }
+    // How many characters so many bytes are.
+    pub(crate) fn characters(self, bytes: usize) -> usize
+        requires { self.skipped ≤ bytes }
+        ensures { result ≡ bytes - self.skipped }
     {
-        Tally {
-            characters: self.characters + run.characters,
-            length: self.length + run.len,
-            ..self
-        }
+        bytes - self.skipped
     }
 
-    // Whether what was read stands in a label as it is.
-    pub(crate) fn is_plain(self) -> bool
-        ensures { result ≡ (self.is_spaced && not self.is_rewritten) }
+    // How long the text of so many bytes is, where there is a word.
+    pub(crate) fn length(self, bytes: usize) -> usize
+        requires { self.left_out + due_len self.in_run ≤ bytes }
+        ensures { result ≡ bytes - (self.left_out + due_len self.in_run) }
     {
-        self.is_spaced && !self.is_rewritten
+        bytes - (self.left_out + if self.in_run { 1 } else { 0 })
+    }
+
+    // Whether a line ending is in a run of white space at the end.
+    pub(crate) fn ends_line(self) -> bool
+        ensures { result ≡ (self.in_run && self.has_ending) }
+    {
+        self.in_run && self.has_ending
+    }
+
+    // How many bytes of the text white space adds: the space behind a word.
+    fn gap(self) -> usize
+        ensures { result ≡ gap_len self.has_word self.in_run }
+    {
+        if self.has_word && !self.in_run { 1 } else { 0 }
     }
 }
 
-// How many characters begin at this byte.
-pub(crate) fn begun_at(byte: u8) -> usize
-    ensures { result ≡ begun byte }
+// How many bytes this is that begin no character.
+fn continued(byte: u8) -> usize
+    ensures { result ≡ continued byte }
 {
-    if byte < 128 || byte > 191 { 1 } else { 0 }
+    if byte < 128 || byte > 191 { 0 } else { 1 }
 }

@@ -2,41 +2,33 @@
 ghost use Rattle.std.specs.Prelude.{length, ◌∷◌, ◌≡◌, ◌≤◌, IfSome};
 ghost use Rattle.markdown_scanners_tree.specs.linklabel.private.Run.{is_ordinary, IsKeptByte, IsRun};
 
-use crate::linklabel::MOST_CHARACTERS;
-use crate::linklabel::tally::begun_at;
 use crate::scanners::{is_ascii_punctuation, is_ascii_whitespace};
 
-// Bytes of a word: how many, how many characters begin in them, and whether the last one escapes
-// the next byte.
+// Bytes of a word: how many, and whether the last one escapes the next byte.
 #[derive(Clone, Copy, Drop)]
 pub(crate) struct Run {
     pub(crate) len: usize,
-    pub(crate) characters: usize,
     pub(crate) escapes: bool,
 }
 
-// The bytes of a word at the front, up to one that a cell of a table drops. They are read at once,
-// so that the tally is changed once for all of them. No more are read than a label has characters,
-// and one. It is inlined into both passes, or each would make a call for each word.
+// The bytes of a word at the front, up to one that a cell of a table drops. They are read at once, so
+// that they are appended at once. It is inlined, or there would be a call for each word.
 #[inline(always)]
 pub(crate) fn word_run(rest: &[u8], escaped: bool, is_in_table: bool) -> Run
-    ensures run { IsRun is_in_table escaped rest.now result.len result.characters result.escapes }
+    ensures run { IsRun is_in_table escaped rest.now result.len result.escapes }
     ensures within { result.len ≤ length rest.now }
-    ensures fits { result.characters ≤ result.len }
 {
     let mut run = Run {
         len: 0,
-        characters: 0,
         escapes: escaped,
     };
-    while run.len <= MOST_CHARACTERS && run.len < rest.len() {
+    while run.len < rest.len() {
         let byte = rest[run.len];
         let behind = &rest[run.len + 1..];
         let Some(escapes) = kept_byte(byte, behind, run.escapes, is_in_table) else {
             return run;
         };
         run.escapes = escapes;
-        run.characters += begun_at(byte);
         run.len += 1;
     }
     run

@@ -19,10 +19,12 @@ pub fn scan_atx_heading(bytes: &[u8]) -> Option<HeadingLevel>
     ensures within { IfSome result (λ level. heading_number level ≤ length bytes.now) }
 {
     let run = scan_ch_repeat(bytes, b'#');
-    if !ends_or_begins_with_space(&bytes[run..]) {
-        return None;
+    let level = HeadingLevel::try_from(run).ok()?;
+    if ends_or_begins_with_space(&bytes[run..]) {
+        Some(level)
+    } else {
+        None
     }
-    HeadingLevel::try_from(run).ok()
 }
 
 // Whether white space stands at the front, or nothing at all.

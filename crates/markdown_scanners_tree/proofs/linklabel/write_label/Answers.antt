@@ -173,12 +173,11 @@ loop-out-preserved g c =
     let rest_of : drop (ix + 1) c.as_bytes-bytes.result.now ≡ behind =
     ap (drop (ix + 1)) c.as_bytes-bytes.ensures.value in
     let sliced = rest_is c.as_bytes-bytes.result.now (ix + 1) ∙ rest_of in
-    let run : IsRun t c.in-Word.escapes behind len c.word_run-run.result.characters c.word_run-run.result.escapes =
-    subst (λ z. IsRun t c.in-Word.escapes z len c.word_run-run.result.characters c.word_run-run.result.escapes) sliced
-    c.word_run-run.ensures.run in
+    let run : IsRun t c.in-Word.escapes behind len c.word_run-run.result.escapes =
+    subst (λ z. IsRun t c.in-Word.escapes z len c.word_run-run.result.escapes) sliced c.word_run-run.ensures.run in
     let inside : len ≤ length behind = omega (arith, c.word_run-run.ensures.within, ap length sliced) in
     let p = past_run _ _ t _ _ (ix + 1) _ _ (after_word _ _ _ _ _ _ inv.at _ _ _ o next)
-    (word_follows _ _ _ _ _ _ _ _ _ _ _ o next inv.written) _ _ _ run in
+    (word_follows _ _ _ _ _ _ _ _ _ _ _ o next inv.written) _ _ run in
     let place : ix + 1 + len ≡ ix + (1 + len) = omega arith in
     let rest : drop len behind ≡ drop (ix + (1 + len)) text =
     drop-drop len (ix + 1) text ∙ ap (λ n. drop n text) place in

@@ -1,7 +1,7 @@
 -- What the two passes over a label tell each other.
-use Rattle.std.specs.Prelude.{ℕ, Bool, true, false, ◌||◌, ◌&&◌, ◌==◌, not, List, [], ◌∷◌, ◌≡◌, ◌++◌, ◌+◌, ◌-◌, ◌≤◌, length, drop, take, slice_index, slice_range, IsCharBoundary, String, if◌then◌else◌}
+use Rattle.std.specs.Prelude.{ℕ, Bool, true, false, ◌||◌, ◌&&◌, ◌==◌, not, List, [], ◌∷◌, ◌≡◌, ◌++◌, ◌+◌, ◌-◌, ◌≤◌, length, drop, take, get_or, slice_index, slice_range, IsCharBoundary, String, if◌then◌else◌}
 use Rattle.std.specs.String.{string_bytes, string_len}
-use Rattle.markdown_scanners_tree.specs.Bytes.{begins_with, is_between}
+use Rattle.markdown_scanners_tree.specs.Bytes.{begins_with, is_between, is_punctuation}
 use Rattle.markdown_scanners_tree.specs.Ascii.{space, backslash, vertical_line}
 use Rattle.markdown_scanners_tree.specs.linklabel.Answer.{without_first_space, without_last_space}
 use Rattle.markdown_scanners_tree.specs.linklabel.Label.{Label, IsLabel}
@@ -12,6 +12,10 @@ use Rattle.markdown_scanners_tree.specs.declared.linklabel.Measure.{Measure}
 abbrev pub begun : ℕ → ℕ
 begun byte = if not (is_between 128 191 byte) then 1 else 0
 
+-- how many bytes this is that begin no character
+abbrev pub continued : ℕ → ℕ
+continued byte = if is_between 128 191 byte then 1 else 0
+
 -- how many bytes a space takes where one is due
 abbrev pub due_len : Bool → ℕ
 due_len is_due = if is_due then 1 else 0
@@ -19,6 +23,10 @@ due_len is_due = if is_due then 1 else 0
 -- how many the space between a word that was read and the next one takes
 abbrev pub space_len : Bool → Bool → ℕ
 space_len has_word in_run = due_len (has_word && in_run)
+
+-- how many white space adds to a text: the space behind a word
+abbrev pub gap_len : Bool → Bool → ℕ
+gap_len has_word in_run = due_len (has_word && not in_run)
 
 -- a backslash directly before a pipe stands at the front, and a cell of a table drops it
 abbrev pub starts_dropped : Bool → List ℕ → Bool
@@ -29,49 +37,54 @@ starts_dropped is_in_table (b ∷ bs) =
 -- before anything was read
 abbrev pub new_tally : Tally
 new_tally = record {
-  characters = 0;
-  length = 0;
+  skipped = 0;
+  left_out = 0;
   has_word = false;
   in_run = false;
   has_ending = false;
-  is_spaced = true;
-  is_rewritten = false;
+  is_plain = true;
 }
 
--- after a line ending of this many bytes
-abbrev pub tally_past_ending : Tally → ℕ → Tally
-tally_past_ending y len = record y {
-  characters = y.characters + len;
+-- after a line ending of this many bytes, and those that are skipped behind it
+abbrev pub tally_past_ending : Tally → ℕ → ℕ → Tally
+tally_past_ending y len skip = record y {
+  skipped = y.skipped + skip;
+  left_out = y.left_out + len + skip - gap_len y.has_word y.in_run;
   in_run = true;
   has_ending = true;
-  is_spaced = false;
+  is_plain = false;
 }
 
 -- after a byte of white space that ends no line
 abbrev pub tally_past_space : Tally → ℕ → Tally
 tally_past_space y byte = record y {
-  characters = y.characters + 1;
+  left_out = y.left_out + 1 - gap_len y.has_word y.in_run;
   in_run = true;
-  is_spaced = y.is_spaced && (byte == space && not y.in_run);
+  has_ending = y.in_run && y.has_ending;
+  is_plain = y.is_plain && (byte == space && not y.in_run);
 }
 
 -- after a byte of a word, which is or is not dropped
 abbrev pub tally_past_word : Tally → ℕ → Bool → Tally
 tally_past_word y byte dropped = record y {
-  characters = y.characters + begun byte;
-  length = y.length + space_len y.has_word y.in_run + (if dropped then 0 else 1);
+  skipped = y.skipped + continued byte;
+  left_out = y.left_out + (if dropped then 1 else 0);
   has_word = true;
   in_run = false;
-  has_ending = false;
-  is_rewritten = y.is_rewritten || dropped;
+  is_plain = y.is_plain && not dropped;
 }
 
--- after more bytes of a word, in which so many characters begin
-abbrev pub tally_past_run : Tally → ℕ → ℕ → Tally
-tally_past_run y len characters = record y {
-  characters = y.characters + characters;
-  length = y.length + len;
-}
+-- how many bytes a backslash at the front takes, with the byte that it escapes
+abbrev pub backslash_len : List ℕ → ℕ
+backslash_len rest = if begins_with is_punctuation (drop 1 rest) then 2 else 1
+
+-- after a backslash at the front, and the byte that it escapes
+abbrev pub tally_past_backslash : Bool → Tally → List ℕ → Tally
+tally_past_backslash t y rest =
+    let after = tally_past_word y backslash (starts_dropped t rest) in
+    if begins_with is_punctuation (drop 1 rest)
+    then tally_past_word after (get_or rest 1 0) (starts_dropped t (drop 1 rest))
+    else after
 
 -- the source has one label, and the first pass told of it what the second one needs
 pub record IsMeasure (answers : List ℕ → ℕ → Type 0) (source : List ℕ) (is_in_table : Bool) (m : Measure) : Type 0 where

@@ -3,7 +3,7 @@ use Rattle.std.specs.Prelude.{ℕ, Bool, false, ◌&&◌, ◌==◌, not, List, �
 use Rattle.markdown_scanners_tree.specs.Bytes.{is_white_space}
 use Rattle.markdown_scanners_tree.specs.Ascii.{left_bracket, backslash, right_bracket}
 use Rattle.markdown_scanners_tree.specs.linklabel.private.NextPart.{IsWord}
-use Rattle.markdown_scanners_tree.specs.linklabel.private.Pass.{begun, starts_dropped}
+use Rattle.markdown_scanners_tree.specs.linklabel.private.Pass.{starts_dropped}
 
 -- the byte is no white space, bracket or backslash
 abbrev pub is_ordinary : ℕ → Bool
@@ -15,10 +15,8 @@ pub record IsKeptByte (is_in_table escaped : Bool) (rest : List ℕ) (byte : ℕ
   pub word : IsWord escaped rest byte escapes
   pub kept : starts_dropped is_in_table rest ≡ false
 
--- so many of them stand there, in which so many characters begin, and the last one escapes the next
--- byte or does not
-pub data IsRun (is_in_table escaped : Bool) (rest : List ℕ) : ℕ → ℕ → Bool → Type 0 where
-  none : IsRun is_in_table escaped rest 0 0 escaped
-  more : (len characters byte : ℕ) (before escapes : Bool) → IsRun is_in_table escaped rest len characters before
-      → IsKeptByte is_in_table before (drop len rest) byte escapes
-      → IsRun is_in_table escaped rest (len + 1) (characters + begun byte) escapes
+-- so many of them stand there, and the last one escapes the next byte or does not
+pub data IsRun (is_in_table escaped : Bool) (rest : List ℕ) : ℕ → Bool → Type 0 where
+  none : IsRun is_in_table escaped rest 0 escaped
+  more : (len byte : ℕ) (before escapes : Bool) → IsRun is_in_table escaped rest len before
+      → IsKeptByte is_in_table before (drop len rest) byte escapes → IsRun is_in_table escaped rest (len + 1) escapes
