@@ -1,5 +1,5 @@
 //! Backslash escapes and character references in a text.
-ghost use Rattle.std.specs.Prelude.{Bool, ◌≡◌, ◌+◌, ◌-◌, ◌<◌, ◌≤◌, ◌^◌, ◌++◌, ℕ, [], Ok, IfOk, IfSome, IsOk, OnOk, false, length, min, slice_index};
+ghost use Rattle.std.specs.Prelude.{Bool, ◌∷◌, ◌≡◌, ◌+◌, ◌-◌, ◌<◌, ◌≤◌, ◌^◌, ◌++◌, ℕ, [], Ok, IfOk, IfSome, IsOk, OnOk, false, length, min, slice_index};
 ghost use Rattle.std.specs.Str.{IsCharBoundary};
 ghost use Rattle.std.specs.String.{string_bytes, string_len, string_capacity};
 ghost use Rattle.markdown_values.specs.strings.Text.{cow_text, IsBoxed};
@@ -136,8 +136,9 @@ fn push_first<E: Entities>(
             if dropped == 0 {
                 return Ok((run, place + 1));
             }
-            push_part(out, &text[run..place])?;
-            Ok((place + dropped, place + dropped + 1))
+            push_with_byte(out, &text[run..place], bytes[dropped])?;
+            let length = dropped + 1;
+            Ok((place + length, place + length))
         }
         b'&' => push_ampersand(out, text, run, place, entities),
         _ => Ok((run, place + plain_len(bytes))),
@@ -180,6 +181,24 @@ fn push_ampersand<E: Entities>(
     let length = name + 2;
     push_both(out, &text[run..place], meaning)?;
     Ok((place + length, place + length))
+}
+
+// Appends a text and an ASCII byte. With room for both no growth is refused. What is left of an escape
+// is appended so, since nothing is copied between two escapes that touch then. It is always inlined,
+// so that the byte costs no call.
+#[inline(always)]
+fn push_with_byte(out: &mut String, first: &str, byte: u8) -> Result<(), AllocError>
+    requires ascii { byte < 128 }
+    ensures bytes { OnOk result
+        (string_bytes out.new ≡ string_bytes out.old ++ (first.now ++ byte ∷ [])) }
+    ensures len { OnOk result (string_len out.new
+        ≡ string_len out.old + (length first.now + 1)) }
+    ensures capacity { string_capacity out.old ≤ string_capacity out.new }
+    ensures succeeds { string_len out.old + (length first.now + 1) ≤ string_capacity out.old
+        → IsOk result }
+{
+    push_part(out, first)?;
+    out.push(char::from(byte))
 }
 
 // Appends two texts. With room for both no growth is refused.
@@ -296,6 +315,7 @@ fn escape_len(bytes: &[u8], is_in_table: bool) -> usize
     ensures piece { (known : Lookup)
         → IsFirstPiece is_in_table known bytes.now (result + 1) result [] }
     ensures within { result + 1 ≤ length bytes.now }
+    ensures ascii { 0 < result → slice_index bytes.now result < 128 }
 {
     if is_in_table && starts_pipe(bytes) {
         2

@@ -1,7 +1,8 @@
 -- The first piece of a text, by what stands at the front.
 use Rattle.std.proofs.Common.{◌≡◌, ◌≢◌, ℕ, zero, suc, ◌+◌, ◌-◌, ◌<◌, ◌≤◌, Bool, true, false, List, [], ◌∷◌, ◌++◌, length, drop, get_or, refl, ap, ◌∙◌, sym, subst, arith, inl, inr, ◌⊎◌, eqb}
 use Rattle.std.specs.Prelude.{◌&&◌, ◌||◌}
-use Rattle.std.proofs.lemmas.List.{append-nil, drop_all, length-append, length-drop, get_or-drop, get_or_append_left, get_or_at}
+use Rattle.std.proofs.lemmas.List.{append-nil, drop_all, drop_more, length-append, length-drop, get_or-drop, get_or_append_left, get_or_at}
+use Rattle.std.proofs.lemmas.Bool.Decides.{nat_tests}
 use Rattle.std.proofs.lemmas.Bool.{false≢true, and_parts, and_from, and_left, and_right, or_parts, eqb-true, eq-eqb, ne_eqb, false_from_ne_true}
 use Rattle.std.proofs.lemmas.List.Sums.{prefix_len_passes, prefix_len-le-length}
 use Rattle.std.specs.List.{prefix_len}
@@ -236,6 +237,51 @@ reference_changed t known text n meaning starts =
     reference_piece t known text n meaning (and_right t (starts_pipe text) (no_pipe_byte text other))
     (no_escape_byte text other) starts in
     record { first = piece; some = omega (arith, piece.at_least_one) }
+
+-- a piece from whose front all but one ASCII byte is dropped: the byte stands in for all of it
+pub escape_changed : (t : Bool) (known : Lookup) (text : List ℕ) (d : ℕ) → IsFirstPiece t known text (d + 1) d []
+    → 0 < d → get_or text d 0 < 128 → IsChanged t known text (d + 1) (d + 1) (get_or text d 0 ∷ [])
+escape_changed t known text d is some ascii =
+    let inside : d < length is.piece.source = omega (arith, is.n_is_length) in
+    let byte : get_or is.piece.source d 0 ≡ get_or text d 0 =
+    sym (ap (λ bs. get_or bs d 0) is.splits ∙ get_or_append_left is.piece.source is.rest 0 d inside) in
+    let last : d ≡ d + 1 - 1 = omega arith in
+    record {
+      first = record {
+        piece = is.piece;
+        rest = is.rest;
+        splits = is.splits;
+        first = is.first;
+        n_is_length = is.n_is_length;
+        at_least_one = is.at_least_one;
+        dropped_within = omega arith;
+        means = is.means
+            ∙ (drop_more is.piece.source d 0 inside ∙ ap (λ b. b ∷ drop (d + 1) is.piece.source) byte);
+        itself = λ e. absurd (omega (arith, e));
+        changed = λ _. is.changed some;
+        from_ascii = λ _. is.from_ascii some;
+        to_ascii = λ _. subst (λ k. get_or text k 0 < 128) last ascii;
+      };
+      some = omega arith;
+    }
+
+-- what a backslash is dropped from ends in ASCII
+pub pipe_ascii : (text : List ℕ) → starts_pipe text ≡ true → get_or text 2 0 < 128
+pipe_ascii [] starts = absurd (false≢true starts)
+pipe_ascii (a ∷ []) starts = absurd (false≢true starts)
+pipe_ascii (a ∷ b ∷ []) starts = absurd (false≢true starts)
+pipe_ascii (a ∷ b ∷ c ∷ rest) starts =
+    let is = eqb-true c vertical_line (and_parts (eqb a backslash && eqb b backslash) (eqb c vertical_line) starts).1 in
+    omega (arith, is)
+
+punctuation_ascii : (b : ℕ) → is_punctuation b ≡ true → b < 128
+punctuation_ascii b is = grind (arith, nat_tests, is)
+
+pub escape_ascii : (text : List ℕ) → starts_escape text ≡ true → get_or text 1 0 < 128
+escape_ascii [] starts = absurd (false≢true starts)
+escape_ascii (a ∷ []) starts = absurd (false≢true starts)
+escape_ascii (a ∷ p ∷ rest) starts =
+    punctuation_ascii p (and_parts (eqb a backslash) (is_punctuation p) starts).1
 
 -- one byte that means itself, and bytes that begin no change
 pub lone_plain : (t : Bool) (known : Lookup) (text : List ℕ) → IsFirstPiece t known text 1 0 []

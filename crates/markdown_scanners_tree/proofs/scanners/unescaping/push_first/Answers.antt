@@ -1,11 +1,11 @@
-use Rattle.std.proofs.Common.{◌≡◌, ◌+◌, ◌-◌, ◌<◌, ap, ◌∙◌, subst, Bool, [], ℕ, List, take, drop, length, get_or, refl, arith}
+use Rattle.std.proofs.Common.{◌∷◌, ◌≡◌, ◌+◌, ◌-◌, ◌<◌, ap, ◌∙◌, subst, Bool, [], ℕ, List, take, drop, length, get_or, refl, arith}
 use Rattle.std.proofs.lemmas.Bool.{false≢true}
 use Rattle.std.proofs.lemmas.List.{take_rest}
 use Rattle.markdown_scanners_tree.specs.Ascii.{carriage_return}
 use Rattle.markdown_scanners_tree.specs.scanners.entities.CharacterReference.{Lookup}
 use Rattle.markdown_scanners_tree.specs.scanners.unescaping.private.FirstPiece.{IsFirstPiece, IsChanged, ArePlain}
-use Rattle.markdown_scanners_tree.proofs.scanners.unescaping.FirstPieceLemmas.{return_changed, lone_plain, are_plain}
-use Rattle.markdown_scanners_tree.proofs.scanners.unescaping.PieceLemmas.{pushed_drop, pushed_nothing}
+use Rattle.markdown_scanners_tree.proofs.scanners.unescaping.FirstPieceLemmas.{return_changed, escape_changed, lone_plain, are_plain}
+use Rattle.markdown_scanners_tree.proofs.scanners.unescaping.PieceLemmas.{pushed_change, pushed_drop, pushed_nothing}
 use Rattle.markdown_scanners_tree.proofs.scanners.unescaping.push_first.Goals as goal
 
 -- What the bytes from the place on are is so of the text from the place on.
@@ -20,10 +20,11 @@ module _ (text bytes : List ℕ) (place : ℕ) (same : bytes ≡ text) where
       → IsChanged t known (drop place text) 1 1 []
   return_at t known some is = subst (λ bs. IsChanged t known bs 1 1 []) at (return_changed t known rest some is)
 
-  escape_at : (t : Bool) (known : Lookup) (n dropped : ℕ) → IsFirstPiece t known rest n dropped [] → 0 < dropped
-      → IsChanged t known (drop place text) n dropped []
-  escape_at t known n dropped is some =
-      subst (λ bs. IsChanged t known bs n dropped []) at record { first = is; some = some }
+  escape_at : (t : Bool) (known : Lookup) (d : ℕ) → IsFirstPiece t known rest (d + 1) d [] → 0 < d
+      → get_or rest d 0 < 128 → IsChanged t known (drop place text) (d + 1) (d + 1) (get_or rest d 0 ∷ [])
+  escape_at t known d is some ascii =
+      subst (λ bs. IsChanged t known bs (d + 1) (d + 1) (get_or rest d 0 ∷ [])) at
+      (escape_changed t known rest d is some ascii)
 
   lone_at : (t : Bool) (known : Lookup) → IsFirstPiece t known rest 1 0 [] → ArePlain t known (drop place text) 1
   lone_at t known is = subst (λ bs. ArePlain t known bs 1) at (lone_plain t known rest is)
@@ -47,28 +48,31 @@ returns-in_err-push_part-in-13-clause-room g c room =
     (omega (arith, c.requires.within, c.as_bytes.ensures.len)) c.in-13.is in
     absurd (false≢true (c.in_err-push_part-in-13.ensures.succeeds (omega (arith, room 1 1 [] is, c.range.ensures.len))))
 
-pub returns-in_ok-push_part-in-92-clause-pushed : goal.returns-in_ok-push_part-in-92-clause-pushed
-returns-in_ok-push_part-in-92-clause-pushed g c =
+pub returns-in_ok-push_with_byte-in-92-clause-pushed : goal.returns-in_ok-push_with_byte-in-92-clause-pushed
+returns-in_ok-push_with_byte-in-92-clause-pushed g c =
     let known = g.E.Entities.known c.args.entities.now in
     let place = c.args.place in
-    let dropped = c.escape_len-dropped.result in
+    let d = c.escape_len-dropped.result in
+    let some : 0 < d = omega (arith, c.if-dropped-eq0.false) in
     let is =
-    escape_at c.args.text.now c.as_bytes.result.now place c.as_bytes.ensures.value c.args.is_in_table known
-    (dropped + 1) dropped (c.escape_len-dropped.ensures.piece known) (omega (arith, c.if-dropped-eq0.false)) in
-    pushed_drop c.args.is_in_table known c.args.text.now c.args.run place (dropped + 1) dropped (place + dropped + 1)
-    c.range-in-92.result.now c.args.out.now c.push_part-in-92.new.out is (omega arith) c.range-in-92.ensures.value
-    (omega (arith, c.range-in-92.ensures.len))
-    c.in_ok-push_part-in-92.ensures.bytes c.in_ok-push_part-in-92.ensures.len
+    escape_at c.args.text.now c.as_bytes.result.now place c.as_bytes.ensures.value c.args.is_in_table known d
+    (c.escape_len-dropped.ensures.piece known) some (c.escape_len-dropped.ensures.ascii some) in
+    pushed_change c.args.is_in_table known c.args.text.now c.args.run place (d + 1) (d + 1) (place + (d + 1)) _
+    c.range-in-92.result.now c.args.out.now c.push_with_byte.new.out is refl c.range-in-92.ensures.value
+    (omega (arith, c.range-in-92.ensures.len)) c.in_ok-push_with_byte-in-92.ensures.bytes
+    c.in_ok-push_with_byte-in-92.ensures.len
 
-pub returns-in_err-push_part-in-92-clause-room : goal.returns-in_err-push_part-in-92-clause-room
-returns-in_err-push_part-in-92-clause-room g c room =
+pub returns-in_err-push_with_byte-in-92-clause-room : goal.returns-in_err-push_with_byte-in-92-clause-room
+returns-in_err-push_with_byte-in-92-clause-room g c room =
     let known = g.E.Entities.known c.args.entities.now in
-    let dropped = c.escape_len-dropped.result in
+    let place = c.args.place in
+    let d = c.escape_len-dropped.result in
+    let some : 0 < d = omega (arith, c.if-dropped-eq0.false) in
     let is =
-    escape_at c.args.text.now c.as_bytes.result.now c.args.place c.as_bytes.ensures.value c.args.is_in_table known
-    (dropped + 1) dropped (c.escape_len-dropped.ensures.piece known) (omega (arith, c.if-dropped-eq0.false)) in
-    absurd (false≢true (c.in_err-push_part-in-92.ensures.succeeds
-    (omega (arith, room (dropped + 1) dropped [] is, c.range-in-92.ensures.len))))
+    escape_at c.args.text.now c.as_bytes.result.now place c.as_bytes.ensures.value c.args.is_in_table known d
+    (c.escape_len-dropped.ensures.piece known) some (c.escape_len-dropped.ensures.ascii some) in
+    absurd (false≢true (c.in_err-push_with_byte-in-92.ensures.succeeds
+    (omega (arith, room (d + 1) (d + 1) _ is, c.range-in-92.ensures.len))))
 
 pub returns-then-dropped-eq0-clause-pushed : goal.returns-then-dropped-eq0-clause-pushed
 returns-then-dropped-eq0-clause-pushed g c =
