@@ -10,7 +10,7 @@ mod label;
 mod swapped;
 
 pub(crate) use crate::puncttable::is_punctuation;
-pub(crate) use before::{scan_email, scan_empty_list, scan_refdef_title, scan_rev_while, scan_while};
+pub(crate) use before::{scan_email, scan_rev_while, scan_while};
 
 use crate::parse::HtmlScanGuard;
 use crate::strings::CowStr;
@@ -86,6 +86,7 @@ of_bytes! {
     scan_table_head() -> (usize, Vec<Alignment>);
     scan_code_fence() -> Option<(usize, u8)>;
     scan_blockquote_start() -> Option<usize>;
+    scan_empty_list() -> bool;
     scan_entity() -> (usize, Option<CowStr<'static>>);
     starts_html_block_type_6() -> bool;
     scan_html_type_7() -> Option<usize>;
@@ -95,7 +96,7 @@ of_bytes! {
 /// Of an item, what the passes ask: its delimiter, its number, and whether it is empty.
 pub(crate) fn scan_listitem(bytes: &[u8]) -> Option<(usize, u8, usize, usize)> {
     let (before, swapped) = (before::scan_listitem(bytes), swapped::scan_listitem(bytes));
-    let asked = |item: (usize, u8, usize, usize)| (item.1, item.2, scan_empty_list(&bytes[item.0..]));
+    let asked = |item: (usize, u8, usize, usize)| (item.1, item.2, before::scan_empty_list(&bytes[item.0..]));
     compared("scan_listitem", bytes, before.map(asked), swapped.map(asked));
     before
 }
@@ -107,6 +108,10 @@ pub(crate) fn unescape(input: &str) -> CowStr<'_> {
 pub(crate) fn scan_link_dest(data: &str, start: usize, max: usize) -> Option<(usize, &str)> {
     let answers = (before::scan_link_dest(data, start, max), swapped::scan_link_dest(data, start, max));
     compared("scan_link_dest", &data.as_bytes()[start..], answers.0, answers.1)
+}
+
+pub(crate) fn scan_refdef_title(text: &str) -> Option<(usize, &str)> {
+    compared("scan_refdef_title", text.as_bytes(), before::scan_refdef_title(text), swapped::scan_refdef_title(text))
 }
 
 pub(crate) fn scan_autolink(text: &str, start: usize) -> Option<(usize, CowStr<'_>, LinkType)> {

@@ -19,8 +19,6 @@ KEPT = {
     "is_punctuation": "Unicode punctuation is none of the library's",
     "scan_while": "takes a closure",
     "scan_rev_while": "takes a closure",
-    "scan_empty_list": "two calls of scan_blank_line, which is swapped",
-    "scan_refdef_title": "titles are read by the passes of later versions",
 }
 # What is swapped in place, or by a name of ours.
 PASSES = {

@@ -142,6 +142,15 @@ fn scan_item(bytes: &[u8]) -> Option<(usize, u8, usize, usize)> {
     Some((start.bytes_scanned(), delimiter, number as usize, indent))
 }
 
+/// Whether what stands behind a marker is blank, and the line behind that.
+pub(crate) fn scan_empty_list(data: &[u8]) -> bool {
+    scan_blank_line(data).and_then(|line| scan_blank_line(&data[line..])).is_some()
+}
+
+pub(crate) fn scan_refdef_title(text: &str) -> Option<(usize, &str)> {
+    markdown_scanners::scan_link_title(text, 0)
+}
+
 pub(crate) fn scan_entity(bytes: &[u8]) -> (usize, Option<CowStr<'static>>) {
     let (length, meaning) = markdown_scanners::scan_entity(bytes);
     (length, meaning.map(CowStr::from))

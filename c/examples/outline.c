@@ -77,13 +77,6 @@ static struct text trimmed(struct text text) {
     return text;
 }
 
-/* The place of the first of the two bytes that no backslash stands before, or one behind the text. (2.4) */
-static size_t find(struct text text, size_t from, char one, char other) {
-    while (from < text.length && text.bytes[from] != one && text.bytes[from] != other)
-        from += text.bytes[from] == '\\' ? 2 : 1;
-    return from;
-}
-
 static struct text made(const uint8_t *buffer, struct mds_text found) {
     if (found.status == MDS_NO_MEMORY)
         fail("memory", "refused");
@@ -113,12 +106,9 @@ static size_t space_length(struct text text) {
 /* How many bytes of a definition stand behind its destination: a title, or none, and the line ending; or 0. (4.7) */
 static size_t definition_end(struct text text) {
     size_t space = space_length(text);
-    struct text title = rest_of(text, space);
-    char opens = title.length > 0 ? (char)title.bytes[0] : ' ', closes = opens == '(' ? ')' : opens;
-    size_t end = find(title, 1, opens, closes);
-    bool is_title = space > 0 && (opens == '"' || opens == '\'' || opens == '(') && end < title.length;
-    if (is_title && title.bytes[end] == (uint8_t)closes && begins_with(rest_of(title, end + 1), "\n"))
-        return space + end + 2;
+    struct mds_part title = mds_scan_link_title(text.bytes, text.length, space);
+    if (space > 0 && title.status == MDS_OK && begins_with(rest_of(text, title.end), "\n"))
+        return title.end + 1;
     return space > 0 && text.bytes[space - 1] == '\n' ? space : 0;
 }
 

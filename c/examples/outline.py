@@ -67,12 +67,9 @@ class Outline:
     def definition_end(self, text, place):
         """The end of the definition whose destination ends at the place, with a title or without; or 0. (4.7)"""
         start = self.space_end(text, place)
-        opens = text[start : start + 1]
-        closes = b")" if opens == b"(" else opens
-        if start > place and opens in (b'"', b"'", b"("):
-            end = find(text, start + 1, opens + closes)
-            if text[end : end + 2] == closes + b"\n":
-                return end + 2
+        title = mds.scan_link_title(text, start) if start > place else None
+        if title and text[title.end : title.end + 1] == b"\n":
+            return title.end + 1
         return start if text[place:start].endswith(b"\n") else 0
 
     def define(self, line, text, place):

@@ -310,6 +310,7 @@ FUNCTIONS = {
     "interrupts_paragraph": (c_bool, (c_void_p, c_size_t)),
     "scan_table_head": (Text, (c_void_p, c_size_t, c_void_p, c_size_t)),
     "scan_link_dest": (Part, (c_void_p, c_size_t, c_size_t, c_size_t)),
+    "scan_link_title": (Part, (c_void_p, c_size_t, c_size_t)),
     "scan_autolink": (Part, (c_void_p, c_size_t, c_size_t)),
     "scan_wikilink_pipe": (Part, (c_void_p, c_size_t, c_size_t, c_size_t)),
     "check_skips": (c_uint32, (c_void_p, c_size_t, POINTER(Skip), c_size_t)),

@@ -38,6 +38,16 @@ def scan_link_dest(data: bytes, at: int = 0, max_next: int = 31, end: Optional[i
     return _part("scan_link_dest", data, at, end, number("the depth", max_next))
 
 
+def scan_link_title(data: bytes, at: int = 0, end: Optional[int] = None) -> Optional[Part]:
+    r"""A link title; the quotes or parentheses around it are not among its own bytes. It may go on over lines, of which none
+    is blank. (6.3)
+
+    >>> scan_link_title(b"[a](/b 'c d')", 7), scan_link_title(b"'c\n\n d'")
+    (Part(end=12, start=8, stop=11), None)
+    """
+    return _part("scan_link_title", data, at, end)
+
+
 def scan_autolink(data: bytes, at: int = 0, end: Optional[int] = None) -> Optional[Part]:
     """The absolute URI of the autolink whose `<` stands just before the place. (6.5)
 

@@ -137,7 +137,7 @@ CALLS = {
         "scan_blockquote_start", "scan_closing_code_fence", "scan_closing_metadata_block", "scan_html_type_7", "scan_html_tag")},
     **{f"mds_{it}": plain(it) for it in ("is_utf8", "starts_html_block_type_6", "interrupts_paragraph")},
     **{f"mds_{it}": fence(it) for it in ("scan_code_fence", "scan_metadata_block")},
-    **{f"mds_{it}": part(it) for it in ("scan_link_dest", "scan_autolink")},
+    **{f"mds_{it}": part(it) for it in ("scan_link_dest", "scan_link_title", "scan_autolink")},
     "mds_scan_wikilink_pipe": part("scan_wikilink_pipe", lambda data, at, more: (data, *more, at)),
     "mds_scan_atx_heading": lambda d: mds.scan_atx_heading(d.data, d.at, d.end) or 0,
     "mds_scan_listitem": item,

@@ -221,9 +221,10 @@ class Rows(unittest.TestCase):
             self.check_start(row, *given)
         elif macro in FIELDS:
             self.check_call(row, *given)
-        elif macro in ("URI", "NO_URI"):
-            found = self.found(Call("mds_scan_autolink", [given[0], 1]))
-            wanted = (_c.OK, len(given[0]), 1) if macro == "URI" else (_c.NOTHING, 0, 0)
+        elif macro in ("URI", "NO_URI", "TITLE", "NO_TITLE"):
+            name, at = ("mds_scan_autolink", 1) if macro.endswith("URI") else ("mds_scan_link_title", 0)
+            found = self.found(Call(name, [given[0], at]))
+            wanted = (_c.NOTHING, 0, 0) if macro.startswith("NO_") else (_c.OK, len(given[0]), 1)
             self.same(row, (found["status"], found["end"], found["start"]), wanted)
         elif macro in ("MAKES", "REFUSES") and given[0].name in CALLS:
             wanted = (_c.OK, *given[2:]) if macro == "MAKES" else (given[2], 0, b"")

@@ -92,6 +92,34 @@ pub fn scan_link_dest_bytes(data: &[u8], start_ix: usize, max_next: usize) -> Op
     told.map(|(end, text)| (end - start_ix, text))
 }
 
+/// The link title at a place: how many bytes it takes, and its text, without the quotes or parentheses around it. It may go
+/// on over lines, of which none is blank. (6.3)
+///
+/// # Panics
+///
+/// Where the place is not in the text, between two characters.
+///
+/// ```
+/// assert_eq!(markdown_scanners::scan_link_title("[a](/b 'c d')", 7), Some((5, "c d")));
+/// ```
+#[inline]
+pub fn scan_link_title(data: &str, start_ix: usize) -> Option<(usize, &str)> {
+    check_place(data, start_ix);
+    let told = text_part(raw::scan_link_title(data.as_bytes(), start_ix), data);
+    told.map(|(end, text)| (end - start_ix, text))
+}
+
+/// The same of any bytes; `None` too where the place is past their end.
+///
+/// ```
+/// assert_eq!(markdown_scanners::scan_link_title_bytes(b"(\xff)", 0), Some((3, &b"\xff"[..])));
+/// ```
+#[inline]
+pub fn scan_link_title_bytes(data: &[u8], start_ix: usize) -> Option<(usize, &[u8])> {
+    let told = part(raw::scan_link_title(data, start_ix), data);
+    told.map(|(end, text)| (end - start_ix, text))
+}
+
 /// The absolute URI of the autolink whose `<` stands just before the place: the place behind its `>`, and the URI. (6.5)
 ///
 /// # Panics

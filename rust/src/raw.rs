@@ -93,6 +93,7 @@ reading! {
     scan_closing_metadata_block(fence: u8) -> usize = mds_scan_closing_metadata_block;
     interrupts_paragraph() -> bool = mds_interrupts_paragraph;
     scan_link_dest(start: usize, max_next: usize) -> ffi::Part = mds_scan_link_dest;
+    scan_link_title(start: usize) -> ffi::Part = mds_scan_link_title;
     scan_autolink(start: usize) -> ffi::Part = mds_scan_autolink;
     scan_wikilink_pipe(start: usize, count: usize) -> ffi::Part = mds_scan_wikilink_pipe;
     starts_html_block_type_6() -> bool = mds_starts_html_block_type_6;

@@ -92,12 +92,17 @@ fn parts() {
     assert_eq!(scan_link_dest("(((a)))", 0, 1), None);
     assert_eq!(scan_link_dest("[é](é\\)é)", 5, 31), Some((6, "é\\)é")));
     assert_eq!(scan_link_dest_bytes(b"a", 2, 31), None);
+    assert_eq!(scan_link_title("é 'a\\'é\n' b", 3), Some((8, "a\\'é\n")));
+    assert_eq!(scan_link_title("(a(b))", 0), None);
+    assert_eq!(scan_link_title_bytes(b"\"a\r\r\"", 0), None);
+    assert_eq!(scan_link_title_bytes(b"''", 3), None);
     assert_eq!(scan_autolink("<a:b>", 1), None);
     assert_eq!(scan_autolink_bytes(b"ab:", 4), None);
     assert_eq!(scan_wikilink_pipe("a|b]]", 0, 1), None);
     assert_eq!(scan_wikilink_pipe_bytes(b"", 1, 1), None);
     for start in [1, 3, usize::MAX] {
         assert!(catch_unwind(|| scan_link_dest("é", start, 31)).is_err());
+        assert!(catch_unwind(|| scan_link_title("é", start)).is_err());
         assert!(catch_unwind(|| scan_autolink("é", start)).is_err());
         assert!(catch_unwind(|| scan_wikilink_pipe("é", start, 1)).is_err());
     }

@@ -278,6 +278,7 @@ export const FUNCTIONS = {
     interruptsParagraph: ["mds_interrupts_paragraph", "bool", ["pointer", "size_t"]],
     scanTableHead: ["mds_scan_table_head", "text", ["pointer", "size_t", "pointer", "size_t"]],
     scanLinkDest: ["mds_scan_link_dest", "part", ["pointer", "size_t", "size_t", "size_t"]],
+    scanLinkTitle: ["mds_scan_link_title", "part", ["pointer", "size_t", "size_t"]],
     scanAutolink: ["mds_scan_autolink", "part", ["pointer", "size_t", "size_t"]],
     scanWikilinkPipe: ["mds_scan_wikilink_pipe", "part", ["pointer", "size_t", "size_t", "size_t"]],
     checkSkips: ["mds_check_skips", "uint32_t", ["pointer", "size_t", "pointer", "size_t"]],

@@ -29,6 +29,12 @@ export class Text extends Blocks {
         return this.#part("scanLinkDest", at, end, sizeOf("the depth", maxNext));
     }
 
+    /** A link title; the quotes or parentheses around it are not among its own bytes. It may go on over lines, of which none is
+     * blank. (6.3) */
+    scanLinkTitle(at = 0, end = this.length) {
+        return this.#part("scanLinkTitle", at, end);
+    }
+
     /** The absolute URI of the autolink whose `<` stands just before the place. (6.5) */
     scanAutolink(at = 0, end = this.length) {
         return this.#part("scanAutolink", at, end);

@@ -4,7 +4,6 @@
 const PUNCTUATION = new Set([..."!\"#$%&'()*+,-./:;<=>?@[\\]^_`{|}~"].map((it) => it.charCodeAt(0)));
 const [LF, BACKSLASH, BACKTICK, LESS, OPEN, CLOSE, PAREN, COLON] = [..."\n\\`<[](:"].map((it) => it.charCodeAt(0));
 const [EXCLAMATION, QUESTION] = [..."!?"].map((it) => it.charCodeAt(0));
-const CLOSERS = new Map([..."\"\"''()"].map((it) => it.charCodeAt(0)).flatMap((it, index, all) => (index % 2 ? [] : [[it, all[index + 1]]])));
 
 /** Lines of a text, one behind another with LF between them, and where they stand in the page. */
 export class Joined {
@@ -114,12 +113,9 @@ export class Inline {
      * @param {number} place
      */
     #titleEnd(place) {
-        const closer = CLOSERS.get(this.bytes[place]);
-        if (closer === undefined) return null;
-        let end = place + 1;
-        while (end < this.bytes.length && this.bytes[end] !== closer) end += this.bytes[end] === BACKSLASH ? 2 : 1;
-        if (end >= this.bytes.length) return null;
-        const behind = this.text.scanWhitespaceInLine(end + 1);
+        const title = this.text.scanLinkTitle(place);
+        if (!title) return null;
+        const behind = this.text.scanWhitespaceInLine(title.end);
         return behind === this.bytes.length || this.bytes[behind] === LF ? behind : null;
     }
 

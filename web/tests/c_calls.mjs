@@ -196,6 +196,7 @@ export const CALLS = {
     mds_scan_code_fence: fence("scanCodeFence"),
     mds_scan_metadata_block: fence("scanMetadataBlock"),
     mds_scan_link_dest: part((d, start, maxNext) => d.text.scanLinkDest(start, maxNext, d.end)),
+    mds_scan_link_title: part((d, start) => d.text.scanLinkTitle(start, d.end)),
     mds_scan_autolink: part((d, start) => d.text.scanAutolink(start, d.end)),
     mds_scan_wikilink_pipe: part((d, start, count) => {
         const stop = d.placeIn(BigInt(d.place(start)) + BigInt(count));

@@ -156,6 +156,7 @@ const CALLS = {
     unescape: (text, _, inTable) => hexOf(text.unescape(inTable === "1")),
     wikilink: (text, _, at, count) => wikilink(text, at, count),
     linkdest: (text, _, at, maxNext) => linkDest(text, at, maxNext),
+    linktitle: (text) => orNone(text.scanLinkTitle()?.end ?? null),
     autolink: (text, _, at) => autolink(text, at),
     linelength: (text) => `${text.scanLine()}`,
     interrupts: (text) => `${text.interruptsParagraph()}`,

@@ -118,9 +118,10 @@ class Rows {
         this.same(row, true, true);
     }
 
-    checkUri(row, data) {
-        const found = this.found({ call: "mds_scan_autolink", given: [data, 1] });
-        const wanted = row.macro === "URI" ? [c.OK, data.length, 1] : [c.NOTHING, 0, 0];
+    checkPart(row, data) {
+        const [call, at] = row.macro.endsWith("URI") ? ["mds_scan_autolink", 1] : ["mds_scan_link_title", 0];
+        const found = this.found({ call, given: [data, at] });
+        const wanted = row.macro.startsWith("NO_") ? [c.NOTHING, 0, 0] : [c.OK, data.length, 1];
         this.same(row, [found.status, found.end, found.start], wanted);
     }
 
@@ -146,7 +147,7 @@ class Rows {
         else if (macro === "SAME") this.checkSame(row, ...given);
         else if (this.lines.checks(row)) this.lines.check(row);
         else if (macro in FIELDS) this.checkCall(row, ...given);
-        else if (macro === "URI" || macro === "NO_URI") this.checkUri(row, ...given);
+        else if (/^(NO_)?(URI|TITLE)$/.test(macro)) this.checkPart(row, ...given);
         else if (macro === "MAKES" || macro === "REFUSES") this.checkMade(row, ...given);
         else if (TAGS_AND_LABELS.test(macro)) this.checkOver(row, ...given);
         else if (macro === "WRONG") this.checkWrong(row, ...given);

@@ -15,7 +15,8 @@ const PIECES: &[&str] = &[
     "\nb]: /u", "[\n> a]", "=\"", "/>", "]]]>", "<![CDATA[a]", "--", "&#", ";", "&", "&lt", "&ngE;", "&notit;", "(((",
     ")))", "<http:", "<a:b c>", "::", ":-", "|:-", "-:|\n", "|-\t|\n", "+", "+\n", "[ a ]", "[a ]: b\n", "[ß]: b\n[ss]",
     "[\u{1e9e}]: b\n[SS]", "[\u{a7c0}]: b\n[\u{a7c1}]", "[a](b\\\\|c)",
-    "```b\\\\|c\n", "[a]: b\\\\|c\n\n[a]",
+    "```b\\\\|c\n", "[a]: b\\\\|c\n\n[a]", "[a]: b \"c\n", "[a]: b 'c\\\n", "[a]: b\n(c", "d\"\n", "d'\n", "d)\n\n[a]", "\r\n\r\n",
+    "(c(", "\u{120}\n",
 ];
 /// How many of them may stand before a line.
 const MARKERS: usize = 32;

@@ -33,6 +33,7 @@ pub fn kind_of(note: &Note) -> &'static str {
         "scan_inline_html_comment" if input[2..].first().map_or(false, u8::is_ascii_alphabetic) => "declarations",
         "scan_entity" | "unescape" if input.windows(2).any(|it| it == b"&#") => "numbers of characters",
         "scan_link_dest" if finds_less && input.contains(&b'(') => "parentheses in destinations",
+        "scan_refdef_title" => kind_of_title(note),
         "scan_link_label_rest" => kind_of_label(note),
         "labels" if note.before == "false" => "foldings of labels",
         call => call,
@@ -77,6 +78,30 @@ fn is_box_before_eol(input: &[u8]) -> bool {
 fn has_changed_name(input: &[u8]) -> bool {
     let name = input.strip_prefix(b"/").unwrap_or(input);
     name.len() >= 6 && (name[..6].eq_ignore_ascii_case(b"search") || name[..6].eq_ignore_ascii_case(b"source"))
+}
+
+/// Of a title that one of the two finds.
+fn kind_of_title(note: &Note) -> &'static str {
+    let own = &note.input[..numbers(&note.before).first().map_or(0, |it| *it).min(note.input.len())];
+    match note.before == "None" {
+        true if !note.input.is_ascii() => "letters for white space in titles",
+        false if own[0] == b'(' && has_unescaped(&own[1..], b'(') => "parentheses in titles",
+        false if own.contains(&b'\r') => "line endings in titles",
+        false if own.windows(2).any(|it| it == b"\\\n") => "backslashes before line endings",
+        _ => note.call,
+    }
+}
+
+fn has_unescaped(bytes: &[u8], wanted: u8) -> bool {
+    let mut rest = bytes.iter();
+    while let Some(byte) = rest.next() {
+        match byte {
+            b'\\' => drop(rest.next()),
+            _ if *byte == wanted => return true,
+            _ => (),
+        }
+    }
+    false
 }
 
 fn kind_of_label(note: &Note) -> &'static str {
