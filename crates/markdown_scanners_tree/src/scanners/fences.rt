@@ -24,9 +24,7 @@ pub fn scan_code_fence(bytes: &[u8]) -> Option<(usize, u8)>
     }
 }
 
-// The same, where the first byte is known. Not inlined, or each call would save registers for the
-// search of a line, and at most places no fence begins.
-#[inline(never)]
+// The same, where the first byte is known.
 fn scan_fence_of(bytes: &[u8], byte: u8) -> Option<(usize, u8)>
     requires of_fence_byte { IsTrue (is_fence_byte byte) }
     requires begins { IsTrue (begins_with (λ b. b == byte) bytes.now) }
