@@ -10,7 +10,7 @@ mod label;
 mod swapped;
 
 pub(crate) use crate::puncttable::is_punctuation;
-pub(crate) use before::{scan_email, scan_rev_while, scan_while};
+pub(crate) use before::scan_email;
 
 use crate::parse::HtmlScanGuard;
 use crate::strings::CowStr;
@@ -61,6 +61,17 @@ macro_rules! of_a_byte {
         }
     )*};
 }
+
+macro_rules! by_a_closure {
+    ($($name:ident)*) => {$(
+        pub(crate) fn $name(bytes: &[u8], mut accepts: impl FnMut(u8) -> bool) -> usize {
+            let before = before::$name(bytes, &mut accepts);
+            compared(stringify!($name), bytes, before, swapped::$name(bytes, accepts))
+        }
+    )*};
+}
+
+by_a_closure! { scan_while scan_rev_while }
 
 of_a_byte! { is_ascii_whitespace is_ascii_whitespace_no_nl is_ascii_punctuation }
 

@@ -17,8 +17,6 @@ KEPT = {
     "scan_email": "e-mail autolinks are none of the library's",
     "is_ascii_alphanumeric": "called by scan_email alone",
     "is_punctuation": "Unicode punctuation is none of the library's",
-    "scan_while": "takes a closure",
-    "scan_rev_while": "takes a closure",
 }
 # What is swapped in place, or by a name of ours.
 PASSES = {

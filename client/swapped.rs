@@ -107,6 +107,47 @@ fn begins_item(byte: u8) -> bool {
     matches!(byte, b'-' | b'+' | b'*' | b'0'..=b'9')
 }
 
+#[inline(always)]
+pub(crate) fn scan_while(data: &[u8], mut accepts: impl FnMut(u8) -> bool) -> usize {
+    match data.first() {
+        Some(&first) if accepts(first) => {
+            scan_accepted(first, accepts, |bytes| markdown_scanners::scan_while(data, bytes), |length| data.get(length).copied())
+        }
+        _ => 0,
+    }
+}
+
+#[inline(always)]
+pub(crate) fn scan_rev_while(data: &[u8], mut accepts: impl FnMut(u8) -> bool) -> usize {
+    match data.last() {
+        Some(&last) if accepts(last) => {
+            let before = |length| data[..data.len() - length].last().copied();
+            scan_accepted(last, accepts, |bytes| markdown_scanners::scan_rev_while(data, bytes), before)
+        }
+        _ => 0,
+    }
+}
+
+/// Scans for bytes that the closure accepts, of which this is one. It is asked once for each other byte at which the scan for
+/// those so far ends, so that it need not be asked for all that there are.
+fn scan_accepted(
+    first: u8,
+    mut accepts: impl FnMut(u8) -> bool,
+    scan: impl Fn(&[u8]) -> usize,
+    behind: impl Fn(usize) -> Option<u8>,
+) -> usize {
+    let mut accepted = [first; 256];
+    let mut count = 1;
+    loop {
+        let length = scan(&accepted[..count]);
+        match behind(length) {
+            Some(next) if accepts(next) => accepted[count] = next,
+            _ => return length,
+        }
+        count += 1;
+    }
+}
+
 pub(crate) fn scan_atx_heading(data: &[u8]) -> Option<HeadingLevel> {
     HeadingLevel::try_from(markdown_scanners::scan_atx_heading(data)? as usize).ok()
 }

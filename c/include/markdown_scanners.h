@@ -132,6 +132,12 @@ size_t mds_scan_ch(const void *bytes, size_t length, uint8_t byte);
 /* How many of this byte stand at the front. */
 size_t mds_scan_ch_repeat(const void *bytes, size_t length, uint8_t byte);
 
+/* How many bytes from the front are among the accepted ones. Each is looked for among all of these. */
+size_t mds_scan_while(const void *bytes, size_t length, const void *accepted, size_t count);
+
+/* The same from the back. */
+size_t mds_scan_rev_while(const void *bytes, size_t length, const void *accepted, size_t count);
+
 /* How many bytes of white space that ends no line stand at the front. */
 size_t mds_scan_whitespace_in_line(const void *bytes, size_t length);
 

@@ -249,6 +249,8 @@ static void others_on_lines(void) {
     ASKS_NOT(mds_is_utf8(OF("\xc3\xa9")), true);
     ASKS_NOT(mds_scan_ch(OF("#x"), '#'), 1);
     ASKS_NOT(mds_scan_ch_repeat(OF("##x"), '#'), 2);
+    ASKS_NOT(mds_scan_while(OF("aab"), OTHER("a")), 2);
+    ASKS_NOT(mds_scan_rev_while(OF("baa"), OTHER("a")), 2);
     ASKS_NOT(mds_scan_whitespace_in_line(OF("  x")), 2);
     ASKS_NOT(mds_scan_eol(OF("\r\n")), 2);
     ASKS_NOT(mds_scan_line(OF("a\r\nb")), 3);

@@ -72,6 +72,8 @@ from .lines import (
     scan_line,
     scan_listitem,
     scan_nextline,
+    scan_rev_while,
+    scan_while,
     scan_whitespace_in_line,
 )
 from .runs import CallKind, LineAnswer, line_rest, run_inline_html, run_line
@@ -143,8 +145,10 @@ __all__ = [
     "scan_listitem",
     "scan_metadata_block",
     "scan_nextline",
+    "scan_rev_while",
     "scan_setext_heading",
     "scan_table_head",
+    "scan_while",
     "scan_whitespace_in_line",
     "scan_wikilink_pipe",
     "starts_html_block_type_6",

@@ -281,6 +281,8 @@ FUNCTIONS = {
     "is_utf8": (c_bool, (c_void_p, c_size_t)),
     "scan_ch": (c_size_t, (c_void_p, c_size_t, c_uint8)),
     "scan_ch_repeat": (c_size_t, (c_void_p, c_size_t, c_uint8)),
+    "scan_while": (c_size_t, (c_void_p, c_size_t, c_void_p, c_size_t)),
+    "scan_rev_while": (c_size_t, (c_void_p, c_size_t, c_void_p, c_size_t)),
     "scan_whitespace_in_line": (c_size_t, (c_void_p, c_size_t)),
     "scan_eol": (c_size_t, (c_void_p, c_size_t)),
     "scan_line": (c_size_t, (c_void_p, c_size_t)),

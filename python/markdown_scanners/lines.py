@@ -5,7 +5,7 @@ from typing import NamedTuple, Optional
 
 from . import _c
 from ._library import byte as _byte
-from ._library import call, number, place, scan, stated
+from ._library import call, front, number, place, scan, stated
 
 
 def is_whitespace(byte: int) -> bool:
@@ -60,6 +60,25 @@ def scan_ch_repeat(data: bytes, byte: int, at: int = 0, end: Optional[int] = Non
     3
     """
     return at + scan("scan_ch_repeat", data, at, end, _byte(byte))
+
+
+def scan_while(data: bytes, accepted: bytes, at: int = 0, end: Optional[int] = None) -> int:
+    """The place behind as many bytes as are among the accepted ones. Each is looked for among all of these.
+
+    >>> scan_while(b"-abca", b"ba", 1)
+    3
+    """
+    return at + scan("scan_while", data, at, end, *front(accepted, 0, None))
+
+
+def scan_rev_while(data: bytes, accepted: bytes, at: int = 0, end: Optional[int] = None) -> int:
+    r"""The place before as many bytes, up to the end, as are among the accepted ones.
+
+    >>> scan_rev_while(b"a \t", b" \t")
+    1
+    """
+    last = len(data) if end is None else end
+    return last - scan("scan_rev_while", data, at, end, *front(accepted, 0, None))
 
 
 def scan_whitespace_in_line(data: bytes, at: int = 0, end: Optional[int] = None) -> int:

@@ -39,6 +39,10 @@ def plain(name):
     return lambda d, *given: getattr(mds, name)(d.data, *given, at=d.at, end=d.end)
 
 
+def from_back(d, accepted):
+    return (len(d.data) if d.end is None else d.end) - mds.scan_rev_while(d.data, accepted, d.at, d.end)
+
+
 def item(d):
     found = mds.scan_listitem(d.data, d.at, d.end)
     return {"length": NONE, "start": 0, "indent": 0, "delimiter": 0} if found is None else {
@@ -133,12 +137,14 @@ def first_end(d, place):
 
 CALLS = {
     **{f"mds_{it}": ends(it) for it in (
-        "scan_ch", "scan_ch_repeat", "scan_whitespace_in_line", "scan_eol", "scan_line", "scan_nextline", "scan_blank_line",
-        "scan_blockquote_start", "scan_closing_code_fence", "scan_closing_metadata_block", "scan_html_type_7", "scan_html_tag")},
+        "scan_ch", "scan_ch_repeat", "scan_while", "scan_whitespace_in_line", "scan_eol", "scan_line", "scan_nextline",
+        "scan_blank_line", "scan_blockquote_start", "scan_closing_code_fence", "scan_closing_metadata_block",
+        "scan_html_type_7", "scan_html_tag")},
     **{f"mds_{it}": plain(it) for it in ("is_utf8", "starts_html_block_type_6", "interrupts_paragraph")},
     **{f"mds_{it}": fence(it) for it in ("scan_code_fence", "scan_metadata_block")},
     **{f"mds_{it}": part(it) for it in ("scan_link_dest", "scan_link_title", "scan_autolink")},
     "mds_scan_wikilink_pipe": part("scan_wikilink_pipe", lambda data, at, more: (data, *more, at)),
+    "mds_scan_rev_while": from_back,
     "mds_scan_atx_heading": lambda d: mds.scan_atx_heading(d.data, d.at, d.end) or 0,
     "mds_scan_listitem": item,
     "mds_calc_indent": indent,

@@ -53,6 +53,26 @@ pub fn scan_ch_repeat(data: &[u8], byte: u8) -> usize {
     raw::scan_ch_repeat(data, byte)
 }
 
+/// How many bytes from the front are among the accepted ones. Each is looked for among all of these.
+///
+/// ```
+/// assert_eq!(markdown_scanners::scan_while(b"abca", b"ba"), 2);
+/// ```
+#[inline]
+pub fn scan_while(data: &[u8], accepted: &[u8]) -> usize {
+    raw::scan_while(data, accepted)
+}
+
+/// The same from the back.
+///
+/// ```
+/// assert_eq!(markdown_scanners::scan_rev_while(b"a \t", b" \t"), 2);
+/// ```
+#[inline]
+pub fn scan_rev_while(data: &[u8], accepted: &[u8]) -> usize {
+    raw::scan_rev_while(data, accepted)
+}
+
 /// How many bytes of white space that ends no line stand at the front.
 ///
 /// ```

@@ -137,6 +137,22 @@ pub(crate) fn scan_inline_html(bytes: &[u8], place: usize, guard: &mut ffi::Html
     unsafe { ffi::mds_scan_inline_html(front(bytes), bytes.len(), place, guard) }
 }
 
+/// Functions that read two slices, and count bytes of the first.
+macro_rules! counting {
+    ($($name:ident = $function:ident;)*) => {$(
+        #[inline]
+        pub(crate) fn $name(bytes: &[u8], accepted: &[u8]) -> usize {
+            // SAFETY: each pointer and length are those of one slice, and nothing is written.
+            unsafe { ffi::$function(front(bytes), bytes.len(), front(accepted), accepted.len()) }
+        }
+    )*};
+}
+
+counting! {
+    scan_while = mds_scan_while;
+    scan_rev_while = mds_scan_rev_while;
+}
+
 #[inline]
 pub(crate) fn labels_match(one: &str, other: &str) -> bool {
     let (one, other) = (one.as_bytes(), other.as_bytes());

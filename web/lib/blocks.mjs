@@ -3,7 +3,7 @@ import * as c from "./c.mjs";
 import { NONE } from "./engine.mjs";
 import { isAnswer } from "./errors.mjs";
 import { LineStart } from "./line_start.mjs";
-import { byteOf, sizeOf, Source } from "./source.mjs";
+import { byteOf, bytesOf, sizeOf, Source } from "./source.mjs";
 
 /** @typedef {{ end: number, delimiter: string, start: number, indent: number }} ListItem `indent` is that of marker and space */
 /** @typedef {{ end: number, level: number }} Underline */
@@ -40,6 +40,34 @@ export class Blocks extends Source {
      */
     scanChRepeat(character, at = 0, end = this.length) {
         return this.#place("scanChRepeat", at, end, byteOf(character));
+    }
+
+    /**
+     * The place behind as many bytes there as are among the accepted ones: ASCII characters, or any bytes of a text of bytes.
+     * @param {string | Uint8Array} accepted
+     */
+    scanWhile(accepted, at = 0, end = this.length) {
+        return this.#place("scanWhile", at, end, ...this.#accepted(accepted));
+    }
+
+    /**
+     * The place before as many bytes, up to the place `end`, as are among the accepted ones.
+     * @param {string | Uint8Array} accepted
+     */
+    scanRevWhile(accepted, at = 0, end = this.length) {
+        const count = /** @type {number} */ (this.scan("scanRevWhile", at, end, ...this.#accepted(accepted)));
+        return this.placeOf(this.inBytes(end) - count);
+    }
+
+    /**
+     * Where accepted bytes stand in the module's memory, and how many they are.
+     * @param {string | Uint8Array} accepted
+     */
+    #accepted(accepted) {
+        const block = { bytes: bytesOf(accepted), address: 0, turn: 0 };
+        if (this.isString && block.bytes.some((it) => it > 127)) throw new RangeError("of a string ASCII characters are accepted");
+        this.engine.bring(this, block);
+        return [block.address, block.bytes.length];
     }
 
     /** The place behind the white space there that ends no line. */

@@ -249,6 +249,8 @@ export const FUNCTIONS = {
     isUtf8: ["mds_is_utf8", "bool", ["pointer", "size_t"]],
     scanCh: ["mds_scan_ch", "size_t", ["pointer", "size_t", "uint8_t"]],
     scanChRepeat: ["mds_scan_ch_repeat", "size_t", ["pointer", "size_t", "uint8_t"]],
+    scanWhile: ["mds_scan_while", "size_t", ["pointer", "size_t", "pointer", "size_t"]],
+    scanRevWhile: ["mds_scan_rev_while", "size_t", ["pointer", "size_t", "pointer", "size_t"]],
     scanWhitespaceInLine: ["mds_scan_whitespace_in_line", "size_t", ["pointer", "size_t"]],
     scanEol: ["mds_scan_eol", "size_t", ["pointer", "size_t"]],
     scanLine: ["mds_scan_line", "size_t", ["pointer", "size_t"]],

@@ -180,6 +180,8 @@ export const labelsMatch = (one, other) => matches(told(() => scanners.labelsMat
 export const CALLS = {
     mds_scan_ch: ends("scanCh"),
     mds_scan_ch_repeat: ends("scanChRepeat"),
+    mds_scan_while: ends("scanWhile"),
+    mds_scan_rev_while: (d, accepted) => d.place(d.end) - d.place(d.text.scanRevWhile(accepted, d.at, d.end)),
     mds_scan_whitespace_in_line: ends("scanWhitespaceInLine"),
     mds_scan_eol: ends("scanEol"),
     mds_scan_line: ends("scanLine"),

@@ -29,6 +29,7 @@ test("what is no byte, number, place or text is refused", () => {
     for (const it of [null, 1, ["a"], new ArrayBuffer(1)]) assert.throws(() => text(it), TypeError);
     assert.throws(() => text("a", { units: "utf-32" }), TypeError);
     assert.throws(() => text("é").scanLine(1), RangeError);
+    assert.throws(() => text("é").scanWhile("é"), RangeError);
     assert.throws(() => text("🍔", { units: "utf-16" }).scanLine(1), RangeError);
     assert.throws(() => text("a").lineStart().run([["quotes"]]), TypeError);
 });

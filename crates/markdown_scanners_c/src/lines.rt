@@ -1,5 +1,5 @@
 //! Bytes, lines, line endings, blank lines, indents, and markers of block quotes and list items.
-ghost use Rattle.std.specs.Prelude.{◌≡◌, ◌≤◌, ◌<◌, ◌/◌, ◌↔◌, ◌⊎◌, ◌==◌, ℕ, Some, length, IsTrue, if◌then◌else◌};
+ghost use Rattle.std.specs.Prelude.{◌≡◌, ◌≤◌, ◌<◌, ◌/◌, ◌↔◌, ◌⊎◌, ◌==◌, ℕ, Some, length, reverse, IsTrue, if◌then◌else◌};
 ghost use Rattle.std.specs.List.{prefix_len};
 ghost use Rattle.std.specs.Str.{IsUtf8};
 ghost use Rattle.markdown_scanners_tree.specs.Bytes.{IsBlankLine, begins_with, is_white_space, is_white_space_in_line, is_punctuation, line_ending, line_length};
@@ -7,6 +7,7 @@ ghost use Rattle.markdown_scanners_tree.specs.scanners.Indent.{IsIndent};
 ghost use Rattle.markdown_scanners_tree.specs.scanners.Lines.{next_line, IsBlockQuoteStart};
 ghost use Rattle.markdown_scanners_tree.specs.scanners.list_items.ListItem.{IsListItem};
 ghost use Rattle.markdown_scanners_c.specs.Answers.{none, FoundExactly, IsWithin};
+ghost use Rattle.markdown_scanners_c.specs.Among.{is_among};
 ghost use Rattle.markdown_scanners_c.specs.Status.{ok, too_large};
 
 use crate::status::{NONE, OK, TOO_LARGE};
@@ -64,6 +65,28 @@ pub extern "C" fn mds_scan_ch_repeat(bytes: &[u8], byte: u8) -> usize
     ensures within { result ≤ length bytes.now }
 {
     scan_ch_repeat(bytes, byte)
+}
+
+/// How many bytes from the front are among the accepted ones.
+#[unsafe(no_mangle)]
+pub extern "C" fn mds_scan_while(bytes: &[u8], accepted: &[u8]) -> usize
+    ensures run { result ≡ prefix_len (λ b. is_among accepted.now b) bytes.now }
+    ensures within { result ≤ length bytes.now }
+{
+    bytes.iter().take_while(|b| accepted.contains(*b)).count()
+}
+
+/// How many bytes from the back are among the accepted ones.
+#[unsafe(no_mangle)]
+pub extern "C" fn mds_scan_rev_while(bytes: &[u8], accepted: &[u8]) -> usize
+    ensures run { result ≡ prefix_len (λ b. is_among accepted.now b) (reverse bytes.now) }
+    ensures within { result ≤ length bytes.now }
+{
+    bytes
+        .iter()
+        .rev()
+        .take_while(|b| accepted.contains(*b))
+        .count()
 }
 
 /// How many bytes of white space that ends no line stand at the front.

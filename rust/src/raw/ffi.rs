@@ -219,6 +219,8 @@ extern "C" {
     pub fn mds_is_utf8(bytes: *const c_void, length: usize) -> bool;
     pub fn mds_scan_ch(bytes: *const c_void, length: usize, byte: u8) -> usize;
     pub fn mds_scan_ch_repeat(bytes: *const c_void, length: usize, byte: u8) -> usize;
+    pub fn mds_scan_while(bytes: *const c_void, length: usize, accepted: *const c_void, count: usize) -> usize;
+    pub fn mds_scan_rev_while(bytes: *const c_void, length: usize, accepted: *const c_void, count: usize) -> usize;
     pub fn mds_scan_whitespace_in_line(bytes: *const c_void, length: usize) -> usize;
     pub fn mds_scan_eol(bytes: *const c_void, length: usize) -> usize;
     pub fn mds_scan_line(bytes: *const c_void, length: usize) -> usize;
