@@ -4,6 +4,9 @@ from running import TOP, Scan
 # How many reads and writes a run on a long input makes at least.
 MANY = 100
 
+# In bytes.
+SMALL_MEMORY = 1 << 23
+
 # So many containers in each other take more memory than the first request gives room.
 DEEP = 40
 
@@ -84,6 +87,11 @@ def open_code(count):
 def long():
     """Pages that take more than MANY reads of 4,096 bytes."""
     return [headings(52_000), objects(52_000)]
+
+
+def passing():
+    """A page that is longer than the memory in which it is told, SMALL_MEMORY, and whose output is."""
+    return [headings(2_500_000)]
 
 
 def large():

@@ -148,6 +148,11 @@ def endless_input(program, scan, tally):
     tally.check(f"{program.name} {scan.name}, endless input in half a gibibyte", well, run)
 
 
+def in_small_memory(program, scan, size, tally):
+    run = program.run(scan.words, scan.given, memory=size)
+    tally.check(f"{program.name} {scan.name}, in {size} bytes of memory", run.told and scan.is_answered(run), run)
+
+
 def without_input(program, scan, tally):
     """Words whose answer wants no input: nothing is read, and beside the words themselves nothing asks for memory."""
     run = program.run(scan.words, closed=[0])
@@ -173,6 +178,8 @@ def run_scans(program, inputs, tally):
         failing_reads(program, scan, inputs.MANY, tally, read_size=PAGE)
         short_reads(program, scan, inputs.MANY, tally, read_size=PAGE)
         failing_writes(program, scan, len(scan.out) // inputs.MANY, (errno.ENOSPC, 0), tally)
+    for scan in inputs.passing():
+        in_small_memory(program, scan, inputs.SMALL_MEMORY, tally)
     for scan in inputs.large():
         reads_of(program, scan, (4095,), tally)
         writes_of(program, scan, (4095,), tally)

@@ -53,7 +53,8 @@ made, of at most 65,536 bytes each.
 /// Runs the program on its words, without its name, and answers its status.
 ///
 /// 0: done. 2: other words, and the input is not read. 3: a fault of the reader, of memory or of
-/// the writer. A block is written as soon as lines behind it show where it ends.
+/// the writer. Blocks are written while the page is read, so those at its front may be written
+/// before a fault.
 pub fn run_program<R: Read, W: Write, V: Write>(
     alloc: Global,
     words: &[&str],

@@ -6,11 +6,11 @@ use crate::faults::Fault;
 use std::alloc::Global;
 use std::io::Read;
 
-/// How many reads are made at most; the last of them gives no byte.
-pub(crate) const READS: usize = 1_048_576;
+// How many reads are made at most; the last of them gives no byte.
+const READS: usize = 1_048_576;
 
-/// How many bytes a read gives at most.
-pub(crate) const READ_SIZE: usize = 65_536;
+// How many bytes a read gives at most.
+const READ_SIZE: usize = 65_536;
 
 /// The bytes that are read and not yet told, and how many reads may still be made.
 #[derive(Drop)]
