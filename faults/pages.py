@@ -4,6 +4,9 @@ from running import TOP, Scan
 # How many reads and writes a run on a long input makes at least.
 MANY = 100
 
+# In bytes.
+SMALL_MEMORY = 1 << 23
+
 # So many containers in each other take more memory than the first request gives room.
 DEEP = 40
 
@@ -14,14 +17,26 @@ KNOWN, OTHER = ["--json"], ["--jsom"]
 COMPLAINTS = [("other words", OTHER, {}, 2), ("a read fault", [], {"read_fail": 1}, 3)]
 
 
+class Page(Scan):
+    """A page whose blocks are written while it is read, by one write for each part of it."""
+
+    def is_front(self, out):
+        """The lines of its first blocks."""
+        return self.out.startswith(out) and out[-1:] in (b"", b"\n")
+
+    def is_written(self, out, writes, size):
+        """The last write of a part takes fewer bytes."""
+        return self.out.startswith(out) and len(out) <= writes * size
+
+
 def help_text():
     """The help, as the source has it."""
     source = (TOP / "crates/cmark_blocks/src/program.rt").read_text()
     return source.split('HELP: &str = "\\\n')[1].split('";\n')[0].replace("\\\\", "\\").encode()
 
 
-A_PAGE = Scan("a page", "", b"# a\n\nb\n===\n", b"1 1 0 heading 1\n2 2 0 blank\n3 4 0 setext 1\n")
-OBJECTS = Scan(
+A_PAGE = Page("a page", "", b"# a\n\nb\n===\n", b"1 1 0 heading 1\n2 2 0 blank\n3 4 0 setext 1\n")
+OBJECTS = Page(
     "objects",
     "--json",
     b"> ~~~ a",
@@ -37,41 +52,46 @@ UNREAD = [Scan("help", "--help", b"", help_text())]
 
 SMALL = [
     *PLAIN,
-    Scan("code", "", b"    a\n\n~~~\nb", b"1 1 0 indented\n2 2 0 blank\n3 4 0 fenced 3 ~\n"),
-    Scan("an info string", "", b"``` \xc3\n", b"1 1 0 fenced 3 ` \\u00c3\n"),
-    Scan("HTML", "", b"<!--\n\n-->\n<p>\n", b"1 3 0 html 2\n4 4 0 html 6\n"),
-    Scan("containers", "", b"> a\n2) b\n***\n", b"1 1 0 quote\n1 1 1 paragraph\n2 2 0 item ) 2\n2 2 1 paragraph\n3 3 0 break\n"),
-    Scan("deep containers", "", b">" * DEEP + b"a\n", b"".join(b"1 1 %d quote\n" % it for it in range(DEEP)) + b"1 1 %d paragraph\n" % DEEP),
-    Scan("no page", "", b"", b""),
+    Page("code", "", b"    a\n\n~~~\nb", b"1 1 0 indented\n2 2 0 blank\n3 4 0 fenced 3 ~\n"),
+    Page("an info string", "", b"``` \xc3\n", b"1 1 0 fenced 3 ` \\u00c3\n"),
+    Page("HTML", "", b"<!--\n\n-->\n<p>\n", b"1 3 0 html 2\n4 4 0 html 6\n"),
+    Page("containers", "", b"> a\n2) b\n***\n", b"1 1 0 quote\n1 1 1 paragraph\n2 2 0 item ) 2\n2 2 1 paragraph\n3 3 0 break\n"),
+    Page("deep containers", "", b">" * DEEP + b"a\n", b"".join(b"1 1 %d quote\n" % it for it in range(DEEP)) + b"1 1 %d paragraph\n" % DEEP),
+    Page("no page", "", b"", b""),
 ]
 
 
 def headings(count):
     shown = b"".join(b"%d %d 0 heading 1\n" % (line, line) for line in range(1, count + 1))
-    return Scan("headings", "", b"# ab cd\n" * count, shown)
+    return Page("headings", "", b"# ab cd\n" * count, shown)
 
 
 def objects(count):
     shown = b"".join(b'{"first":%d,"last":%d,"depth":0,"kind":"break"}\n' % (line, line) for line in range(1, count + 1))
-    return Scan("objects of breaks", "--json", b"* * * *\n" * count, shown)
+    return Page("objects of breaks", "--json", b"* * * *\n" * count, shown)
 
 
 def items(count):
     shown = b"".join(b"%d %d 0 item - 0\n%d %d 1 paragraph\n" % ((line,) * 4) for line in range(1, count + 1))
-    return Scan("items", "", b"- ab cd\n" * count, shown)
+    return Page("items", "", b"- ab cd\n" * count, shown)
 
 
 def a_paragraph(count):
-    return Scan("a paragraph", "", b"ab cd\n" * count, b"1 %d 0 paragraph\n" % count)
+    return Page("a paragraph", "", b"ab cd\n" * count, b"1 %d 0 paragraph\n" % count)
 
 
 def open_code(count):
-    return Scan("open code", "", b"```\n" + b"\n" * count, b"1 %d 0 fenced 3 `\n" % (count + 1))
+    return Page("open code", "", b"```\n" + b"\n" * count, b"1 %d 0 fenced 3 `\n" % (count + 1))
 
 
 def long():
     """Pages that take more than MANY reads of 4,096 bytes."""
     return [headings(52_000), objects(52_000)]
+
+
+def passing():
+    """A page that is longer than the memory in which it is told, SMALL_MEMORY, and whose output is."""
+    return [headings(2_500_000)]
 
 
 def large():

@@ -41,6 +41,14 @@ class Scan:
     def is_answered(self, run):
         return run.same_as(self)
 
+    def is_front(self, out):
+        """Whether so much of the output may be there where input or memory is refused: nothing."""
+        return not out
+
+    def is_written(self, out, writes, size):
+        """Whether so many writes of so many bytes make this output."""
+        return out == self.out[: writes * size]
+
 
 def read_to_end(file):
     with os.fdopen(file, "rb") as it:

@@ -5,6 +5,8 @@ import os
 
 NO_MEMORY, READ_FAULT, WRITE_FAULT = b"out of memory\n", b"read fault\n", b"write fault\n"
 READS = 1_048_576
+# How many bytes a read of a long input gives.
+PAGE = 4_096
 HALF_GIBIBYTE = 1 << 29
 TOO_MANY = 10_000
 FAILING_READS = (errno.EIO, errno.EINTR, errno.EAGAIN)
@@ -25,8 +27,13 @@ def in_turn(program, scan, what, how, is_well, tally, **more):
     return 0
 
 
-def is_ended(run, word, out=b""):
-    return (run.out, run.err, run.status) == (out, word, 3)
+def is_ended(run, word):
+    return (run.out, run.err, run.status) == (b"", word, 3)
+
+
+def is_stopped(scan, run, word):
+    """Ended by a fault of the reader or of memory, with so much of the output as there may be then."""
+    return (run.err, run.status) == (word, 3) and scan.is_front(run.out)
 
 
 def refused_memory(program, scan, tally):
@@ -36,7 +43,7 @@ def refused_memory(program, scan, tally):
     def is_well(run, n):
         # the words of the command line that can't be had are a read fault
         says = (NO_MEMORY, READ_FAULT) if n <= ample.count("at_first_read") else (NO_MEMORY,)
-        is_refused = any(is_ended(run, word) for word in says)
+        is_refused = any(is_stopped(scan, run, word) for word in says)
         return (is_refused or scan.is_answered(run)) and run.count("live") == ample.count("live")
 
     for how in ("refuse", "refuse_from"):
@@ -60,18 +67,18 @@ def other_words(program, inputs, tally):
     tally.check(f"{program.name}, other words without memory", well and run.told, run)
 
 
-def failing_reads(program, scan, least, tally):
+def failing_reads(program, scan, least, tally, **more):
     """Each read fails in turn."""
     for number in FAILING_READS:
-        what, is_well = f"read with {errno.errorcode[number]}", lambda run, _: is_ended(run, READ_FAULT)
-        failed = in_turn(program, scan, what, ("read_fail", "reads"), is_well, tally, errno=number)
+        what, is_well = f"read with {errno.errorcode[number]}", lambda run, _: is_stopped(scan, run, READ_FAULT)
+        failed = in_turn(program, scan, what, ("read_fail", "reads"), is_well, tally, errno=number, **more)
         tally.check(f"{program.name} {scan.name}, {what}: reads that failed", failed >= least, why=f"{failed}")
 
 
-def short_reads(program, scan, least, tally):
+def short_reads(program, scan, least, tally, **more):
     """Each read is short in turn."""
     is_well = lambda run, _: run.told and scan.is_answered(run)
-    short = in_turn(program, scan, "short read", ("read_short", "reads"), is_well, tally)
+    short = in_turn(program, scan, "short read", ("read_short", "reads"), is_well, tally, **more)
     tally.check(f"{program.name} {scan.name}, reads that were short", short >= least, why=f"{short}")
 
 
@@ -90,8 +97,8 @@ def failing_writes(program, scan, size, numbers, tally):
     rows += [("interrupted write", "write_fail", {"errno": errno.EINTR}), ("short write", "write_short", {})]
     for what, word, more in rows:
         is_fault = what.startswith("write")
-        written = lambda n: scan.out[: (n - 1) * size]
-        is_well = lambda run, n: is_ended(run, WRITE_FAULT, written(n)) if is_fault else scan.is_answered(run)
+        is_ended_at = lambda run, n: (run.err, run.status) == (WRITE_FAULT, 3) and scan.is_written(run.out, n - 1, size)
+        is_well = lambda run, n: is_ended_at(run, n) if is_fault else scan.is_answered(run)
         made = in_turn(program, scan, what, (word, "writes"), is_well, tally, write_size=size, **more)
         tally.check(f"{program.name} {scan.name}, {what}: writes", made >= writes, why=f"{made} of {writes}")
 
@@ -141,6 +148,11 @@ def endless_input(program, scan, tally):
     tally.check(f"{program.name} {scan.name}, endless input in half a gibibyte", well, run)
 
 
+def in_small_memory(program, scan, size, tally):
+    run = program.run(scan.words, scan.given, memory=size)
+    tally.check(f"{program.name} {scan.name}, in {size} bytes of memory", run.told and scan.is_answered(run), run)
+
+
 def without_input(program, scan, tally):
     """Words whose answer wants no input: nothing is read, and beside the words themselves nothing asks for memory."""
     run = program.run(scan.words, closed=[0])
@@ -163,9 +175,11 @@ def run_scans(program, inputs, tally):
         writes_of(program, scan, (1, 7), tally)
         failing_writes(program, scan, 1, FAILING_WRITES, tally)
     for scan in inputs.long():
-        failing_reads(program, scan, inputs.MANY, tally)
-        short_reads(program, scan, inputs.MANY, tally)
+        failing_reads(program, scan, inputs.MANY, tally, read_size=PAGE)
+        short_reads(program, scan, inputs.MANY, tally, read_size=PAGE)
         failing_writes(program, scan, len(scan.out) // inputs.MANY, (errno.ENOSPC, 0), tally)
+    for scan in inputs.passing():
+        in_small_memory(program, scan, inputs.SMALL_MEMORY, tally)
     for scan in inputs.large():
         reads_of(program, scan, (4095,), tally)
         writes_of(program, scan, (4095,), tally)

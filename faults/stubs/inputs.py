@@ -22,3 +22,8 @@ def long():
 
 def large():
     return [Scan("a large text", "html", b"ab" * 9_000, b"ab" * 9_000)]
+
+
+def passing():
+    """None: all of the input is held."""
+    return []

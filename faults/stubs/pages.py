@@ -18,3 +18,8 @@ def long():
 
 def large():
     return [Scan("a large page", "", b"ab" * 9_000, b"ab" * 9_000)]
+
+
+def passing():
+    """None: all of the input is held."""
+    return []

@@ -1,3 +1,4 @@
 pub mod BlockLemmas
 pub mod IndentedLemmas
+pub mod OverLemmas
 pub mod RestLemmas

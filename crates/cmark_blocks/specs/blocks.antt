@@ -1,3 +1,4 @@
 pub mod Endings
 pub mod Leaves
+pub mod Over
 pub mod Pages

@@ -6,6 +6,7 @@ ghost use Rattle.markdown_scanners_tree.specs.scanners.html_kinds.HtmlKinds.{end
 ghost use Rattle.cmark_blocks.specs.blocks.Leaves.{Begins, IsUnderline, EndsParagraph, ClosesFence, HasIndent};
 ghost use Rattle.cmark_blocks.specs.blocks.Leaves.{In, IsLazy, StopsBefore, StopsBehind, EndsAsHtml, GoesOnIndented};
 ghost use Rattle.cmark_blocks.specs.blocks.Endings.{IsEnd};
+ghost use Rattle.cmark_blocks.specs.blocks.Over.{IsOver};
 ghost use Rattle.cmark_blocks.specs.blocks.Pages.{IsBlockOf};
 ghost use Rattle.cmark_blocks.specs.containers.Containers.{IsInside, Rest};
 ghost use Rattle.cmark_blocks.specs.declared.blocks.BlockKind.TheVariants.{Paragraph};
@@ -86,6 +87,25 @@ pub(crate) fn scan_block(
         _ => first,
     };
     Block { kind, taken }
+}
+
+/// Whether the block ends there: the text has a line behind it that shows it, whatever lines
+/// follow, or none follow since the input has ended.
+pub(crate) fn is_over(text: &[u8], block: Block, outer: Outer, has_ended: bool) -> bool
+    ensures { (lines : List (List ℕ)) → IsTaken text.now block.taken lines
+        → (IsTrue result ↔ IsOver outer.entry.containers.now block.kind has_ended
+        (lines_of (drop block.taken.bytes text.now))) }
+{
+    if has_ended {
+        return true;
+    }
+    match block.kind {
+        BlockKind::Indented => {
+            let blanks = take_until(text, block.taken, outer, Ending::Text);
+            blanks.next(text).is_some()
+        }
+        _ => block.taken.next(text).is_some(),
+    }
 }
 
 // The lines, and those behind them up to the first with this ending.

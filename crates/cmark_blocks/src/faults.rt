@@ -5,7 +5,7 @@ ghost use Rattle.cmark_blocks.specs.faults.Faults.{fault_line, AppendsPrefix};
 use std::alloc::AllocError;
 use std::io::Write;
 
-/// Why the program printed nothing, or not all of it.
+/// Why the program did not print all of it.
 #[derive(Clone, Copy, Debug, PartialEq, Eq)]
 pub(crate) enum Fault {
     Read,

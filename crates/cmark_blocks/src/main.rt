@@ -14,6 +14,7 @@ mod reading;
 mod taken;
 #[cfg(test)]
 mod tests;
+mod whole;
 mod words;
 
 use faults::{Fault, report_fault};

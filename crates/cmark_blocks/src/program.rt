@@ -4,12 +4,12 @@ ghost use Rattle.std.specs.Io.KnownBytes.{IsAtEnd, Appends};
 ghost use Rattle.cmark_blocks.specs.words.Words.{request_of};
 ghost use Rattle.cmark_blocks.specs.declared.words.Form.{Form};
 ghost use Rattle.cmark_blocks.specs.declared.words.Request.TheVariants.{Page};
-ghost use Rattle.cmark_blocks.specs.page.Told.{IsToldTo};
-ghost use Rattle.cmark_blocks.specs.faults.Faults.{IsBeforeWriting, TellsFault};
+ghost use Rattle.cmark_blocks.specs.page.Told.{IsToldTo, IsBegunTo};
+ghost use Rattle.cmark_blocks.specs.faults.Faults.{TellsFault};
 
 use crate::faults::{Fault, complain, report_fault};
-use crate::page::page_text;
-use crate::reading::read_all;
+use crate::page::Telling;
+use crate::reading::Unread;
 use crate::words::{Form, Request, parse_request};
 use std::alloc::Global;
 use std::io::{Read, Write};
@@ -44,12 +44,17 @@ an item.
 
 Together the blocks have all lines of the page. Link reference definitions and tables are told as
 paragraphs. Where a container ends, and which items make a list, tight or loose, is not told.
+
+Lines are printed while the page is read. Where it can't be read to its end, or memory is refused,
+what is printed is the lines of its first blocks, and the status is 3. At most 1,048,576 reads are
+made, of at most 65,536 bytes each.
 ";
 
 /// Runs the program on its words, without its name, and answers its status.
 ///
 /// 0: done. 2: other words, and the input is not read. 3: a fault of the reader, of memory or of
-/// the writer. All output is built before any of it is written.
+/// the writer. Blocks are written while the page is read, so those at its front may be written
+/// before a fault.
 pub fn run_program<R: Read, W: Write, V: Write>(
     alloc: Global,
     words: &[&str],
@@ -67,11 +72,16 @@ pub fn run_program<R: Read, W: Write, V: Write>(
     ensures read { (form : Form) → result ≢ 3 → request_of words.now ≡ Some (Page form) →
         IsAtEnd (R.remaining input.new) }
 
-    // After a read fault, or out of memory, nothing was written.
-    ensures unread { TellsFault Fault.Read (V.contents faults.old) (V.contents faults.new) →
-        output.new ≡ output.old }
-    ensures no_memory { TellsFault Fault.Memory (V.contents faults.old) (V.contents faults.new) →
-        output.new ≡ output.old }
+    // After a read fault, or out of memory, the lines of blocks at the front of what was read, and
+    // nothing else, were written.
+    ensures unread { (form : Form) → request_of words.now ≡ Some (Page form) →
+        TellsFault Fault.Read (V.contents faults.old) (V.contents faults.new) →
+        IsBegunTo form (R.remaining input.old) (R.remaining input.new)
+        (W.contents output.old) (W.contents output.new) }
+    ensures no_memory { (form : Form) → request_of words.now ≡ Some (Page form) →
+        TellsFault Fault.Memory (V.contents faults.old) (V.contents faults.new) →
+        IsBegunTo form (R.remaining input.old) (R.remaining input.new)
+        (W.contents output.old) (W.contents output.new) }
 {
     let Some(request) = parse_request(words) else {
         complain(faults, USAGE);
@@ -95,7 +105,9 @@ fn answer<R: Read, W: Write>(
         IsToldTo form bytes (W.contents output.old) (W.contents output.new))) }
     ensures read { IfOk result (λ _. (form : Form) → request ≡ Page form →
         IsAtEnd (R.remaining input.new)) }
-    ensures unwritten { IfErr result (λ fault. IsBeforeWriting fault → output.new ≡ output.old) }
+    ensures begun { IfErr result (λ fault. fault ≢ Fault.Write → (form : Form) →
+        request ≡ Page form → IsBegunTo form (R.remaining input.old) (R.remaining input.new)
+        (W.contents output.old) (W.contents output.new)) }
 {
     match request {
         Request::Page(form) => tell_page(alloc, form, input, output),
@@ -113,18 +125,29 @@ fn tell_page<R: Read, W: Write>(
     ensures told { IfOk result (λ _. IfSome (R.remaining input.old) (λ bytes.
         IsToldTo form bytes (W.contents output.old) (W.contents output.new))) }
     ensures read { IfOk result (λ _. IsAtEnd (R.remaining input.new)) }
-    ensures unwritten { IfErr result (λ fault. IsBeforeWriting fault → output.new ≡ output.old) }
+    ensures begun { IfErr result (λ fault. fault ≢ Fault.Write →
+        IsBegunTo form (R.remaining input.old) (R.remaining input.new)
+        (W.contents output.old) (W.contents output.new)) }
 {
-    let bytes = read_all(alloc, input)?;
-    let told = page_text(alloc, &bytes, form)?;
-    write_text(output, told.as_str())
+    let mut unread = Unread::new(alloc);
+    let mut telling = Telling::new(alloc, form);
+    loop {
+        let has_ended = unread.read_more(input)?;
+        let count = telling.tell(alloc, &unread.text, has_ended)?;
+        write_text(output, telling.told.as_str())?;
+        if has_ended {
+            return Ok(());
+        }
+        telling.told.clear();
+        unread.drop_front(count);
+    }
 }
 
 // Writes a text.
 fn write_text<W: Write>(output: &mut W, text: &str) -> Result<(), Fault>
     ensures written { IfOk result (λ _.
         Appends (W.contents output.old) (W.contents output.new) text.now) }
-    ensures fault { IfErr result (λ fault. ¬ IsBeforeWriting fault) }
+    ensures fault { IfErr result (λ fault. fault ≡ Fault.Write) }
 {
     if output.write_all(text.as_bytes()).is_err() {
         return Err(Fault::Write);

@@ -1,4 +1,6 @@
 //! Runs of the program over arrays, and over a reader and a writer that fail.
+mod reading;
+
 use crate::program::run_program;
 use std::alloc::Global;
 use std::io::{Error, Read, Result, Write};

@@ -1,7 +1,7 @@
 -- What was told of a fault says which fault it was.
-use Rattle.std.proofs.Common.{◌≡◌, ℕ, List, ◌∷◌, ◌++◌, ◌+◌, length, Option, Some, None, sym, ap, ◌∙◌, arith, length-append}
+use Rattle.std.proofs.Common.{◌≡◌, ◌≢◌, ℕ, List, ◌∷◌, ◌++◌, ◌+◌, length, Option, Some, None, sym, ap, ◌∙◌, arith, length-append}
 use Rattle.std.proofs.lemmas.List.{append_cancel_left}
-use Rattle.cmark_blocks.specs.faults.Faults.{AppendsPrefix, Tells, IsBeforeWriting, fault_line}
+use Rattle.cmark_blocks.specs.faults.Faults.{AppendsPrefix, Tells, fault_line}
 use Rattle.cmark_blocks.specs.declared.faults.Fault.{Fault}
 use Rattle.cmark_blocks.specs.declared.faults.Fault.TheVariants as fault
 
@@ -24,9 +24,9 @@ told_first None new a b tail bs prefix told = absurd told
 told_first (Some xs) None a b tail bs prefix told = absurd told
 told_first (Some xs) (Some ys) a b tail bs (rest, (prefix, all, grown)) told = same_first xs prefix rest tail bs a b all (sym grown ∙ told)
 
--- where another fault's line was told, the fault came before anything was written
-pub before_writing : (old new : Option (List ℕ)) (f : Fault) (b : ℕ) (bs : List ℕ) → (119 ≡ b → ⊥)
-    → AppendsPrefix old new (fault_line f) → Tells old new (b ∷ bs) → IsBeforeWriting f
-before_writing old new fault.Read b bs other line told = λ same. cc
-before_writing old new fault.Memory b bs other line told = λ same. cc
-before_writing old new fault.Write b bs other line told = absurd (other (told_first old new 119 b _ bs line told))
+-- where another fault's line was told, it was no fault of the writer
+pub not_written : (old new : Option (List ℕ)) (f : Fault) (b : ℕ) (bs : List ℕ) → (119 ≡ b → ⊥)
+    → AppendsPrefix old new (fault_line f) → Tells old new (b ∷ bs) → f ≢ fault.Write
+not_written old new fault.Read b bs other line told = λ same. cc
+not_written old new fault.Memory b bs other line told = λ same. cc
+not_written old new fault.Write b bs other line told = absurd (other (told_first old new 119 b _ bs line told))

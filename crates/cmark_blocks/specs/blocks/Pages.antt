@@ -36,15 +36,21 @@ pub record IsPiece (outer : List Container) (piece : Piece) (rest : List (List �
   pub opened : AreOpened outer piece.first piece.kept piece.begun piece.words
   pub leaf : IsLeaf (piece.kept ++ piece.begun) piece.kind piece.words piece.later rest
 
--- each is a block where the containers of the one before it are open, and the blocks behind it are the rest
-abbrev pub AreBlocks : List Container → List Piece → Type 0
-AreBlocks outer [] = ⊤
-AreBlocks outer (piece ∷ later) = IsPiece outer piece (lines_in later) × AreBlocks (piece.kept ++ piece.begun) later
+-- Each is a block where the containers of the one before it are open, and the blocks behind it and these lines are the rest.
+abbrev pub AreBlocks : List Container → List Piece → List (List ℕ) → Type 0
+AreBlocks outer [] rest = ⊤
+AreBlocks outer (piece ∷ later) rest =
+    IsPiece outer piece (lines_in later ++ rest) × AreBlocks (piece.kept ++ piece.begun) later rest
 
 -- the blocks, joined, are the lines of the text, and each of them is a block
 pub record IsPage (text : List ℕ) (pieces : List Piece) : Type 0 where
   pub joined : lines_in pieces ≡ lines_of text
-  pub each : AreBlocks [] pieces
+  pub each : AreBlocks [] pieces []
+
+-- the same of the lines at the front of the text, where these are behind them
+pub record IsFront (text : List ℕ) (pieces : List Piece) (rest : List (List ℕ)) : Type 0 where
+  pub joined : lines_in pieces ++ rest ≡ lines_of text
+  pub each : AreBlocks [] pieces rest
 
 -- the block at the front of a text, in these containers, whose first line has this rest
 pub record IsBlockOf (text : List ℕ) (outer : List Container) (line : List ℕ) (first : Rest) (block : Block) : Type 0 where

@@ -1,5 +1,5 @@
 -- What the program tells of a fault.
-use Rattle.std.specs.Prelude.{ℕ, List, [], ◌∷◌, ◌++◌, ◌≡◌, ◌≢◌, ⊤, Option, None, Some, codes}
+use Rattle.std.specs.Prelude.{ℕ, List, [], ◌∷◌, ◌++◌, ◌≡◌, ⊤, Option, None, Some, codes}
 use Rattle.markdown_scanners_tree.specs.Ascii.{line_feed}
 use Rattle.cmark_blocks.specs.declared.faults.Fault.{Fault}
 use Rattle.cmark_blocks.specs.declared.faults.Fault.TheVariants.{Read, Write, Memory}
@@ -9,10 +9,6 @@ abbrev pub fault_line : Fault → List ℕ
 fault_line Read = codes "read fault" ++ line_feed ∷ []
 fault_line Write = codes "write fault" ++ line_feed ∷ []
 fault_line Memory = codes "out of memory" ++ line_feed ∷ []
-
--- a fault of the reader or of memory, which comes before anything is written
-abbrev pub IsBeforeWriting : Fault → Type 0
-IsBeforeWriting fault = fault ≢ Write
 
 -- known bytes grow by what bs has before rest
 abbrev pub AppendsBefore : Option (List ℕ) → Option (List ℕ) → List ℕ → List ℕ → Type 0

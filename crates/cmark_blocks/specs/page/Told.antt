@@ -1,7 +1,7 @@
 -- What the program prints of the blocks of a page.
 use Rattle.std.specs.Prelude.{ℕ, suc, ◌+◌, ◌≡◌, List, [], ◌∷◌, ◌++◌, length, codes, encode_utf8, Option}
 use Rattle.std.specs.Fmt.{decimal}
-use Rattle.std.specs.Io.KnownBytes.{Appends}
+use Rattle.std.specs.Io.KnownBytes.{Appends, Consumes}
 use Rattle.markdown_values.specs.values.Headings.{heading_number}
 use Rattle.markdown_scanners_tree.specs.Ascii.{line_feed}
 use Rattle.markdown_scanners_tree.specs.scanners.html_kinds.HtmlKinds.{condition_number}
@@ -11,8 +11,7 @@ use Rattle.cmark_blocks.specs.declared.containers.Container.{Container}
 use Rattle.cmark_blocks.specs.declared.containers.Container.TheVariants.{Quote, Item}
 use Rattle.cmark_blocks.specs.declared.words.Form.{Form}
 use Rattle.cmark_blocks.specs.declared.words.Form.TheVariants.{Words, Json}
-use Rattle.cmark_blocks.specs.blocks.Pages.{Piece, AreOpened, IsPage}
-use Rattle.cmark_blocks.specs.containers.Containers.{Rest}
+use Rattle.cmark_blocks.specs.blocks.Pages.{Piece, IsPage, IsFront}
 use Rattle.cmark_blocks.specs.info.Info.{info_of, bytes_text}
 use Rattle.cmark_blocks.specs.json.Json.{kind_json, container_json, front_json}
 
@@ -71,15 +70,6 @@ told_containers form line depth [] = []
 told_containers form line depth (c ∷ inner) =
     told_line form line line depth (container_told form c) ++ told_containers form line (suc depth) inner
 
--- Behind so many lines a line opens these containers, what is left of it is this, and the text grows by what is told of them.
-pub record IsToldOpening (form : Form) (old : List Container) (line : List ℕ) (before : ℕ) (new : List Container) (words : Rest)
-    (text longer : List ℕ) : Type 0 where
-  pub kept : List Container
-  pub begun : List Container
-  pub open_now : new ≡ kept ++ begun
-  pub opened : AreOpened old line kept begun words
-  pub tells : longer ≡ text ++ told_containers form (before + 1) (length kept) begun
-
 -- the lines of a block behind so many lines
 abbrev pub told_piece : Form → ℕ → Piece → List ℕ
 told_piece form before piece =
@@ -100,3 +90,14 @@ TellsPage form input text = (pieces : List Piece) × IsPage input pieces × (tex
 -- known bytes grow by a text that tells the blocks of the page
 abbrev pub IsToldTo : Form → List ℕ → Option (List ℕ) → Option (List ℕ) → Type 0
 IsToldTo form input old new = (text : List ℕ) × TellsPage form input text × Appends old new text
+
+-- it tells blocks at the front of the page
+abbrev pub TellsFront : Form → List ℕ → List ℕ → Type 0
+TellsFront form input text =
+    (pieces : List Piece) × (rest : List (List ℕ)) × IsFront input pieces rest × (text ≡ told_from form 0 pieces)
+
+-- Known bytes grow by a text that tells blocks at the front of what was read of the input, whatever bytes follow that.
+abbrev pub IsBegunTo : Form → Option (List ℕ) → Option (List ℕ) → Option (List ℕ) → Option (List ℕ) → Type 0
+IsBegunTo form input left old new =
+    (read : List ℕ) × Consumes input left read
+    × (text : List ℕ) × ((more : List ℕ) → TellsFront form (read ++ more) text) × Appends old new text
