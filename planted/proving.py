@@ -124,16 +124,15 @@ def tried_over(checks, crate, edits, calls, kept):
 
 def ahead_of(checks, crate, edits, said, kept):
     """The calls of a crate, once what its edits stand on is proved as it stands, and the flags of a check that shows this again.
-    Of a library that is built that is what the edited functions call, and its code tells the calls. Of any other crate all is
-    proved; of a library too while rt ci builds it, so that the check goes on beside that. Where nothing is kept it is proved with
-    the edit."""
+    Of a library, once it is built, that is what the edited functions call, and its code tells the calls; of any other crate all is
+    proved. Where nothing is kept it is proved with the edit."""
     if not kept:
         return Calls(crate.name, calls_in_sources(crate.name, names_in_sources(crate.name))), []
-    code = None if said else calls_in_code(crate.folder)
+    wait_for(set() if crate.is_static or crate.is_program else {crate.name}, said)
+    code = calls_in_code(crate.folder)
     if code is None:
         proved = PROVED.findall(checks.as_it_stands(crate, [], kept))
-        wait_for(set() if crate.is_static else {crate.name}, said)
-        return Calls(crate.name, calls_in_code(crate.folder) or calls_in_sources(crate.name, proved)), []
+        return Calls(crate.name, calls_in_sources(crate.name, proved)), []
     calls = Calls(crate.name, code)
     flags = asked_for(calls.below(set().union(*(changed_functions(it, changed_lines(it), calls) for it in edits))))
     checks.as_it_stands(crate, flags, kept)
