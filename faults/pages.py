@@ -55,6 +55,7 @@ SMALL = [
     Page("code", "", b"    a\n\n~~~\nb", b"1 1 0 indented\n2 2 0 blank\n3 4 0 fenced 3 ~\n"),
     Page("an info string", "", b"``` \xc3\n", b"1 1 0 fenced 3 ` \\u00c3\n"),
     Page("HTML", "", b"<!--\n\n-->\n<p>\n", b"1 3 0 html 2\n4 4 0 html 6\n"),
+    Page("a table", "", b"|a|b|\n|-|-|\n|c|d|\n", b"1 3 0 table 2\n"),
     Page("containers", "", b"> a\n2) b\n***\n", b"1 1 0 quote\n1 1 1 paragraph\n2 2 0 item ) 2\n2 2 1 paragraph\n3 3 0 break\n"),
     Page("deep containers", "", b">" * DEEP + b"a\n", b"".join(b"1 1 %d quote\n" % it for it in range(DEEP)) + b"1 1 %d paragraph\n" % DEEP),
     Page("no page", "", b"", b""),
@@ -80,6 +81,10 @@ def a_paragraph(count):
     return Page("a paragraph", "", b"ab cd\n" * count, b"1 %d 0 paragraph\n" % count)
 
 
+def rows(count):
+    return Page("rows of a table", "", b"a|b\n-|-\n" + b"c|d\n" * count, b"1 %d 0 table 2\n" % (count + 2))
+
+
 def open_code(count):
     return Page("open code", "", b"```\n" + b"\n" * count, b"1 %d 0 fenced 3 `\n" % (count + 1))
 
@@ -96,4 +101,4 @@ def passing():
 
 def large():
     """Pages of a mebibyte or so."""
-    return [headings(130_000), objects(130_000), items(130_000), a_paragraph(175_000), open_code(1_000_000)]
+    return [headings(130_000), objects(130_000), items(130_000), a_paragraph(175_000), rows(260_000), open_code(1_000_000)]

@@ -2,3 +2,4 @@ pub mod Endings
 pub mod Leaves
 pub mod Over
 pub mod Pages
+pub mod Tables

@@ -1,19 +1,21 @@
 //! Blocks of a page, each as a whole from the front of what is left, in their containers.
-ghost use Rattle.std.specs.Prelude.{◌≡◌, ◌↔◌, ◌++◌, ◌∷◌, [], List, ℕ, drop, IsTrue};
+ghost use Rattle.std.specs.Prelude.{◌≡◌, ◌↔◌, ◌++◌, ◌∷◌, [], List, ℕ, drop, IsTrue, IfOk, IfSome, IfNone};
 ghost use Rattle.markdown_scanners_tree.specs.SomeExactly.{SomeExactly};
 ghost use Rattle.markdown_scanners_tree.specs.scanners.TextLines.{lines_of};
 ghost use Rattle.markdown_scanners_tree.specs.scanners.html_kinds.HtmlKinds.{ends_before_blank};
 ghost use Rattle.cmark_blocks.specs.blocks.Leaves.{Begins, IsUnderline, EndsParagraph, ClosesFence, HasIndent};
 ghost use Rattle.cmark_blocks.specs.blocks.Leaves.{In, IsLazy, StopsBefore, StopsBehind, EndsAsHtml, GoesOnIndented};
+ghost use Rattle.cmark_blocks.specs.blocks.Leaves.{IsHead, BeginsNoTable};
 ghost use Rattle.cmark_blocks.specs.blocks.Endings.{IsEnd};
 ghost use Rattle.cmark_blocks.specs.blocks.Over.{IsOver};
 ghost use Rattle.cmark_blocks.specs.blocks.Pages.{IsBlockOf};
 ghost use Rattle.cmark_blocks.specs.containers.Containers.{IsInside, Rest};
 ghost use Rattle.cmark_blocks.specs.declared.blocks.BlockKind.TheVariants.{Paragraph};
-ghost use Rattle.cmark_blocks.specs.taken.Lines.{IsTaken};
+ghost use Rattle.cmark_blocks.specs.taken.Lines.{IsTaken, IsNext};
 
 use crate::containers::{Outer, go_on, rest_behind, scan_container};
 use crate::kinds::{is_blank, kind_of};
+use crate::tables::{count_cells, delimiter_columns, take_rows};
 use crate::taken::Taken;
 use markdown_scanners_tree::line::LineStart;
 use markdown_scanners_tree::scanners::{
@@ -21,6 +23,7 @@ use markdown_scanners_tree::scanners::{
     scan_setext_heading,
 };
 use markdown_values::values::HeadingLevel;
+use std::alloc::{AllocError, Global};
 
 /// The kind of a block, with what its lines tell of it.
 #[derive(Clone, Copy)]
@@ -39,6 +42,8 @@ pub(crate) enum BlockKind {
     Fenced(usize, u8),
     /// An HTML block.
     Html(HtmlBlockKind),
+    /// A table with so many columns.
+    Table(usize),
     /// A paragraph.
     Paragraph,
 }
@@ -66,14 +71,15 @@ enum Ending {
 /// The block at the front of a text, in these containers, where its first line is taken, and has
 /// this text behind so many columns of indent.
 pub(crate) fn scan_block(
+    alloc: Global,
     text: &[u8],
     first: Taken,
     outer: Outer,
     indent: usize,
     words: &[u8],
-) -> Block
-    ensures { (line : List ℕ) → IsTaken text.now first (line ∷ [])
-        → IsBlockOf text.now outer.entry.containers.now line (record { indent = indent; text = words.now }) result }
+) -> Result<Block, AllocError>
+    ensures { IfOk result (λ block. (line : List ℕ) → IsTaken text.now first (line ∷ [])
+        → IsBlockOf text.now outer.entry.containers.now line (record { indent = indent; text = words.now }) block) }
 {
     let kind = kind_of(indent, words);
     let taken = match kind {
@@ -83,10 +89,10 @@ pub(crate) fn scan_block(
             take_through(text, first, outer, Ending::Fence(count, byte))
         }
         BlockKind::Html(kind) => take_html(text, first, outer, kind, words),
-        BlockKind::Paragraph => return scan_paragraph(text, first, outer),
+        BlockKind::Paragraph => return scan_paragraph(alloc, text, first, outer, words),
         _ => first,
     };
-    Block { kind, taken }
+    Ok(Block { kind, taken })
 }
 
 /// Whether the block ends there: the text has a line behind it that shows it, whatever lines
@@ -182,10 +188,33 @@ fn take_indented(text: &[u8], first: Taken, outer: Outer) -> Taken
     taken
 }
 
-// The paragraph whose first line this is, or the heading that it turns out to be.
-fn scan_paragraph(text: &[u8], first: Taken, outer: Outer) -> Block
+// The paragraph whose first line this is, with this text behind its indent, or the table or heading
+// that it turns out to be.
+fn scan_paragraph(
+    alloc: Global,
+    text: &[u8],
+    first: Taken,
+    outer: Outer,
+    words: &[u8],
+) -> Result<Block, AllocError>
+    ensures { IfOk result (λ block. (line : List ℕ) (indent : ℕ) → IsTaken text.now first (line ∷ [])
+        → Begins Paragraph (record { indent = indent; text = words.now })
+        → IsBlockOf text.now outer.entry.containers.now line (record { indent = indent; text = words.now }) block) }
+{
+    if let Some((columns, more)) = scan_head(alloc, text, first, outer, words)? {
+        return Ok(Block {
+            kind: BlockKind::Table(columns),
+            taken: take_rows(text, more, outer),
+        });
+    }
+    Ok(scan_lines(text, first, outer))
+}
+
+// The paragraph or heading whose first line this is, where it begins no table.
+fn scan_lines(text: &[u8], first: Taken, outer: Outer) -> Block
     ensures { (line : List ℕ) (rest : Rest) → IsTaken text.now first (line ∷ [])
-        → Begins Paragraph rest → IsBlockOf text.now outer.entry.containers.now line rest result }
+        → Begins Paragraph rest → BeginsNoTable outer.entry.containers.now rest (lines_of (drop first.bytes text.now))
+        → IsBlockOf text.now outer.entry.containers.now line rest result }
 {
     let taken = take_until(text, first, outer, Ending::Paragraph);
     if let Some((line, more)) = taken.next(text) {
@@ -200,6 +229,53 @@ fn scan_paragraph(text: &[u8], first: Taken, outer: Outer) -> Block
         kind: BlockKind::Paragraph,
         taken,
     }
+}
+
+// Takes the delimiter row behind the first line of a table, which has this text, if one is there.
+// Answers how many columns it has, and what is taken with it.
+fn scan_head(
+    alloc: Global,
+    text: &[u8],
+    first: Taken,
+    outer: Outer,
+    words: &[u8],
+) -> Result<Option<(usize, Taken)>, AllocError>
+    ensures head { IfOk result (λ found. IfSome found (λ r. (line : List ℕ)
+        × IsNext text.now first line r.1 × IsHead outer.entry.containers.now words.now r.0 line)) }
+    ensures none { IfOk result (λ found. IfNone found ((indent : ℕ)
+        → BeginsNoTable outer.entry.containers.now (record { indent = indent; text = words.now })
+        (lines_of (drop first.bytes text.now)))) }
+{
+    let Some((line, more)) = first.next(text) else {
+        return Ok(None);
+    };
+    let Some(columns) = head_columns(alloc, line, outer, words)? else {
+        return Ok(None);
+    };
+    Ok(Some((columns, more)))
+}
+
+// How many columns a table has, of which the line is the delimiter row, and the line before it has
+// this text.
+fn head_columns(
+    alloc: Global,
+    line: &[u8],
+    outer: Outer,
+    words: &[u8],
+) -> Result<Option<usize>, AllocError>
+    ensures { IfOk result (λ found. SomeExactly
+        (λ columns. IsHead outer.entry.containers.now words.now columns line.now) found) }
+{
+    let Some(columns) = delimiter_columns(alloc, line, outer)? else {
+        return Ok(None);
+    };
+    if columns as u128 != count_cells(words) {
+        return Ok(None);
+    }
+    if ends(line, outer, Ending::Paragraph) {
+        return Ok(None);
+    }
+    Ok(Some(columns))
 }
 
 // Whether the line ends a block with this ending.

@@ -15,8 +15,8 @@ pub(crate) fn info_of(fence: &[u8], byte: u8) -> &[u8]
     without_end(without_front(line_head(behind)))
 }
 
-// What stands before the line ending.
-fn line_head(line: &[u8]) -> &[u8]
+/// What stands before the line ending.
+pub(crate) fn line_head(line: &[u8]) -> &[u8]
     ensures { result.now ≡ line_head line.now }
 {
     &line[..head_length(line)]
@@ -51,8 +51,8 @@ fn front_length(bytes: &[u8]) -> usize
         .count()
 }
 
-// The bytes without the spaces and tabs at their end.
-fn without_end(bytes: &[u8]) -> &[u8]
+/// The bytes without the spaces and tabs at their end.
+pub(crate) fn without_end(bytes: &[u8]) -> &[u8]
     ensures { result.now ≡ without_end bytes.now }
 {
     let mut end = bytes.len();

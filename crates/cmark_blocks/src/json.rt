@@ -48,6 +48,7 @@ pub(crate) fn push_kind_json(
         BlockKind::Html(kind) => {
             push_number(text, "\"html\",\"condition\":", number_of_html(kind))
         }
+        BlockKind::Table(columns) => write!(text, "\"table\",\"columns\":{columns}"),
         BlockKind::Paragraph => text.push_str("\"paragraph\""),
     }
 }

@@ -11,6 +11,7 @@ mod page;
 mod printing;
 pub mod program;
 mod reading;
+mod tables;
 mod taken;
 #[cfg(test)]
 mod tests;

@@ -82,7 +82,7 @@ impl Telling {
     {
         let mut inner = Vec::new(alloc);
         let mut count = 0;
-        while let Some(more) = self.tell_block(&mut inner, &lines[count..], has_ended)? {
+        while let Some(more) = self.tell_block(alloc, &mut inner, &lines[count..], has_ended)? {
             count += more;
         }
         Ok(count)
@@ -92,6 +92,7 @@ impl Telling {
     // Answers how many bytes it has. What is in `inner` doesn't matter; its room is used.
     fn tell_block(
         &mut self,
+        alloc: Global,
         inner: &mut Vec<Container>,
         lines: &[u8],
         has_ended: bool,
@@ -116,7 +117,7 @@ impl Telling {
         inner.clear();
         inner.extend_from_slice(&self.outer)?;
         let (kept, indent, words) = open_containers(inner, line)?;
-        let block = scan_block(lines, first, Outer::new(inner), indent, words);
+        let block = scan_block(alloc, lines, first, Outer::new(inner), indent, words)?;
         if !is_over(lines, block, Outer::new(inner), has_ended) {
             return Ok(None);
         }

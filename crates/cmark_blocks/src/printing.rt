@@ -127,6 +127,7 @@ fn push_kind_text(text: &mut String, kind: BlockKind, words: &[u8]) -> Result<()
         BlockKind::Indented => text.push_str("indented"),
         BlockKind::Fenced(count, byte) => push_fenced(text, count, byte, info_of(words, byte)),
         BlockKind::Html(kind) => write!(text, "html {}", number_of_html(kind)),
+        BlockKind::Table(columns) => write!(text, "table {columns}"),
         BlockKind::Paragraph => text.push_str("paragraph"),
     }
 }

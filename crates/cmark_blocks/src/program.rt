@@ -34,16 +34,18 @@ that its first line begins, the outermost first, with the number of that line tw
                    mark, a backslash or no printable ASCII is told as \\u00 and two hexadecimal
                    digits
   html NUMBER      an HTML block, by the number of its start condition
+  table COLUMNS    a table of GitHub Flavored Markdown
   paragraph        a paragraph, with its lazy lines
   quote            a block quote
   item C START     a list item, by its bullet or delimiter, and the number that it starts at
 
 With --json each line is an object with the members first, last, depth and kind; level of a
-heading; count, fence and info of fenced code; condition of an HTML block; delimiter and start of
-an item.
+heading; count, fence and info of fenced code; condition of an HTML block; columns of a table;
+delimiter and start of an item.
 
-Together the blocks have all lines of the page. Link reference definitions and tables are told as
-paragraphs. Where a container ends, and which items make a list, tight or loose, is not told.
+Together the blocks have all lines of the page. Link reference definitions are told as paragraphs,
+and so are lines before the header row of a table, with that and its other rows. Where a container
+ends, and which items make a list, tight or loose, is not told.
 
 Lines are printed while the page is read. Where it can't be read to its end, or memory is refused,
 what is printed is the lines of its first blocks, and the status is 3. At most 1,048,576 reads are

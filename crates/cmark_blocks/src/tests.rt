@@ -1,5 +1,6 @@
 //! Runs of the program over arrays, and over a reader and a writer that fail.
 mod reading;
+mod tables;
 
 use crate::program::run_program;
 use std::alloc::Global;

@@ -8,7 +8,7 @@ use Rattle.markdown_scanners_tree.specs.scanners.TextLines.{lines_of}
 use Rattle.markdown_scanners_tree.specs.scanners.html_kinds.HtmlKinds.{ends_before_blank}
 use Rattle.cmark_blocks.specs.containers.Containers.{Rest, IsInside}
 use Rattle.cmark_blocks.specs.declared.blocks.BlockKind.{BlockKind}
-use Rattle.cmark_blocks.specs.declared.blocks.BlockKind.TheVariants.{Blank, Break, Heading, Setext, Indented, Fenced, Html, Paragraph}
+use Rattle.cmark_blocks.specs.declared.blocks.BlockKind.TheVariants.{Blank, Break, Heading, Setext, Indented, Fenced, Html, Table, Paragraph}
 use Rattle.cmark_blocks.specs.declared.blocks.Ending.TheVariants.{Text}
 use Rattle.cmark_blocks.specs.declared.containers.Container.{Container}
 use Rattle.cmark_blocks.specs.declared.taken.Taken.{Taken}
@@ -58,9 +58,12 @@ module _ (outer : List Container) (more : List (List ℕ)) where
       (leaf.0, record { inside = leaf.1.inside; last = leaf.1.last; stopped = indented-over rest some leaf.1.stopped })
   leaf-over (Fenced count byte) first later rest some leaf = (leaf.0, behind-over _ later rest some leaf.1)
   leaf-over (Html kind) first later rest some leaf = (leaf.0, html-over kind first later rest some leaf.1)
-  leaf-over Paragraph first later rest some leaf = (leaf.0, before-over _ later rest some leaf.1, first-over _ rest some leaf.2)
+  leaf-over (Table columns) first later rest some leaf =
+      (leaf.0, leaf.1, leaf.2, leaf.3, leaf.4, before-over _ leaf.2 rest some leaf.5)
+  leaf-over Paragraph first later rest some leaf =
+      (leaf.0, leaf.1, before-over _ later rest some leaf.2, first-over _ rest some leaf.3)
   leaf-over (Setext level) first later rest some leaf =
-      (leaf.0, leaf.1, leaf.2, leaf.3, record { none = leaf.4.none; stopped = leaf.4.stopped }, leaf.5)
+      (leaf.0, leaf.1, leaf.2, leaf.3, leaf.4, record { none = leaf.5.none; stopped = leaf.5.stopped }, leaf.6)
   leaf-over Break first later rest some leaf = leaf
   leaf-over (Heading level) first later rest some leaf = leaf
 
@@ -90,6 +93,7 @@ module _ (outer : List Container) (has_ended : Bool) (open_yet : has_ended ≡ f
   any_told (Setext level) rest seen other tells = tells
   any_told (Fenced count byte) rest seen other tells = tells
   any_told (Html html) rest seen other tells = tells
+  any_told (Table columns) rest seen other tells = tells
   any_told Paragraph rest seen other tells = tells
 
 module _ (outer : List Container) where

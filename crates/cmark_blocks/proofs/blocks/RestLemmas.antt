@@ -2,7 +2,6 @@
 use Rattle.std.specs.Prelude.{IfNone}
 use Rattle.std.proofs.Common.{ℕ, ◌⊎◌, ◌-◌, take, drop, not, is_some, Bool, true, false, List, ◌≡◌, ◌<◌}
 use Rattle.std.proofs.Common.{◌≤◌, length, inl, inr, refl, sym, ap, ◌∙◌, subst, Option, Some, None, IsTrue, arith}
-use Rattle.markdown_values.specs.declared.values.HeadingLevel.{HeadingLevel}
 use Rattle.markdown_scanners_tree.specs.Bytes.{is_blank}
 use Rattle.markdown_scanners_tree.specs.SomeExactly.{SomeExactly}
 use Rattle.markdown_scanners_tree.specs.scanners.Interrupts.{InterruptsParagraph}
@@ -12,7 +11,7 @@ use Rattle.cmark_blocks.specs.declared.containers.Container.{Container}
 use Rattle.cmark_blocks.specs.declared.blocks.Ending.{Ending}
 use Rattle.cmark_blocks.specs.declared.blocks.Ending.TheVariants as ending
 use Rattle.cmark_blocks.specs.blocks.Endings.{IsEnd}
-use Rattle.cmark_blocks.specs.blocks.Leaves.{IsBlank, HasIndent, IsLazy, IsUnderline, EndsParagraph, LeavesParagraph, In, OutOr}
+use Rattle.cmark_blocks.specs.blocks.Leaves.{IsBlank, HasIndent, IsLazy, EndsParagraph, LeavesParagraph, In, OutOr}
 use Rattle.cmark_blocks.proofs.taken.TakenLemmas.{slice_behind}
 
 abbrev rest_of : ℕ → List ℕ → Rest
@@ -31,10 +30,11 @@ pub not_kept : (outer : List Container) (line : List ℕ) (kept : ℕ) → kept 
 not_kept outer line kept is fewer inside = omega (arith, is, fewer, inside)
 
 module _ (outer : List Container) (line : List ℕ) (rest : Rest) (is : rest ≡ rest_in outer line) (inside : IsInside outer line) where
-  pub underline_inside : (level : Option HeadingLevel) → SomeExactly (λ level. IsUnderline level rest) level
-      → SomeExactly (λ level. In outer (IsUnderline level) line) level
-  underline_inside None none = λ level h. none level (subst (IsUnderline level) (sym is) h.1)
-  underline_inside (Some level) told = (inside, subst (IsUnderline level) is told)
+  -- what is found in it
+  pub some_inside : {A : Type 0} (P : A → Rest → Type 0) (found : Option A) → SomeExactly (λ a. P a rest) found
+      → SomeExactly (λ a. In outer (P a) line) found
+  some_inside P None none = λ a h. none a (subst (P a) (sym is) h.1)
+  some_inside P (Some a) told = (inside, subst (P a) is told)
 
   -- a test of what it has
   pub ends_inside : (P : Rest → Type 0) (Q : Type 0) → (Q → P rest) × (P rest → Q) → (Q → OutOr outer P line) × (OutOr outer P line → Q)

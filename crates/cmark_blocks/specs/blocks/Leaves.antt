@@ -12,8 +12,9 @@ use Rattle.markdown_scanners_tree.specs.scanners.Interrupts.{InterruptsParagraph
 use Rattle.markdown_scanners_tree.specs.scanners.html_kinds.HtmlKinds.{IsHtmlBlockStart, ends_before_blank, is_html_end}
 use Rattle.cmark_blocks.specs.containers.Containers.{Rest, rest_at, begun_at, behind, IsInside, rest_in}
 use Rattle.cmark_blocks.specs.declared.blocks.BlockKind.{BlockKind}
-use Rattle.cmark_blocks.specs.declared.blocks.BlockKind.TheVariants.{Blank, Break, Heading, Setext, Indented, Fenced, Html, Paragraph}
+use Rattle.cmark_blocks.specs.declared.blocks.BlockKind.TheVariants.{Blank, Break, Heading, Setext, Indented, Fenced, Html, Table, Paragraph}
 use Rattle.cmark_blocks.specs.declared.containers.Container.{Container}
+use Rattle.cmark_blocks.specs.blocks.Tables.{cells, IsDelimiter}
 
 -- the rest of a line is blank (4.9)
 abbrev pub IsBlank : Rest → Type 0
@@ -29,6 +30,7 @@ abbrev pub BeginsAt : BlockKind → List ℕ → Type 0
 BeginsAt Blank text = ⊥
 BeginsAt Indented text = ⊥
 BeginsAt (Setext level) text = ⊥
+BeginsAt (Table columns) text = ⊥
 BeginsAt Break text = IsThematicBreak text
 BeginsAt (Heading level) text = IsAtxHeading text level
 BeginsAt (Fenced count byte) text = IsCodeFence text count byte
@@ -79,10 +81,24 @@ abbrev pub LeavesParagraph : List Container → List ℕ → Type 0
 LeavesParagraph outer line =
     ((¬ IsInside outer line) × (¬ IsLazy (behind outer line).state)) ⊎ In outer EndsParagraph line
 
+-- In them the line is the delimiter row of a table of so many columns, behind a line with this text: that has as many cells, and
+-- it would go on with a paragraph of that. (GitHub Flavored Markdown 0.29, section 4.10)
+abbrev pub IsHead : List Container → List ℕ → ℕ → List ℕ → Type 0
+IsHead outer text columns line =
+    (¬ LeavesParagraph outer line) × In outer (IsDelimiter columns) line × (cells text ≡ columns)
+
+-- a row of a table: it stands in the containers, is not blank, and begins no container and no other block (the same section)
+abbrev pub IsRow : List Container → List ℕ → Type 0
+IsRow outer line = (begun_at (behind outer line).state ≡ None) × In outer (Begins Paragraph) line
+
 -- the first of the lines, if there is one
 abbrev pub OnFirst : (List ℕ → Type 0) → List (List ℕ) → Type 0
 OnFirst P [] = ⊤
 OnFirst P (line ∷ lines) = P line
+
+-- the first of the lines is the delimiter row of no table behind a line with this rest
+abbrev pub BeginsNoTable : List Container → Rest → List (List ℕ) → Type 0
+BeginsNoTable outer first = OnFirst (λ line. (columns : ℕ) → ¬ IsHead outer first.text columns line)
 
 -- the lines are all up to the first that has the property, or to the last line
 pub record StopsBefore (P : List ℕ → Type 0) (lines rest : List (List ℕ)) : Type 0 where
@@ -133,11 +149,15 @@ IsLeaf outer Indented first later rest = Begins Indented first × GoesOnIndented
 IsLeaf outer (Fenced count byte) first later rest =
     Begins (Fenced count byte) first × StopsBehind outer (OutOr outer (ClosesFence count byte)) later rest
 IsLeaf outer (Html kind) first later rest = Begins (Html kind) first × EndsAsHtml outer kind first later rest
+IsLeaf outer (Table columns) first later rest =
+    Begins Paragraph first
+    × (head : List ℕ) × (rows : List (List ℕ)) × (later ≡ head ∷ rows)
+    × IsHead outer first.text columns head × StopsBefore (λ line. ¬ IsRow outer line) rows rest
 IsLeaf outer Paragraph first later rest =
-    Begins Paragraph first × StopsBefore (LeavesParagraph outer) later rest
+    Begins Paragraph first × BeginsNoTable outer first later × StopsBefore (LeavesParagraph outer) later rest
     × OnFirst (λ line. (level : HeadingLevel) → ¬ In outer (IsUnderline level) line) rest
 IsLeaf outer (Setext level) first later rest =
     Begins Paragraph first
-    × (middle : List (List ℕ)) × (last : List ℕ) × (later ≡ middle ++ last ∷ [])
+    × (middle : List (List ℕ)) × (last : List ℕ) × (later ≡ middle ++ last ∷ []) × BeginsNoTable outer first middle
     × StopsBefore (LeavesParagraph outer) middle (last ∷ rest) × In outer (IsUnderline level) last
 IsLeaf outer kind first later rest = Begins kind first × (later ≡ [])

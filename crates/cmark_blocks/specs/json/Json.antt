@@ -4,7 +4,7 @@ use Rattle.std.specs.Fmt.{decimal}
 use Rattle.markdown_values.specs.values.Headings.{heading_number}
 use Rattle.markdown_scanners_tree.specs.scanners.html_kinds.HtmlKinds.{condition_number}
 use Rattle.cmark_blocks.specs.declared.blocks.BlockKind.{BlockKind}
-use Rattle.cmark_blocks.specs.declared.blocks.BlockKind.TheVariants.{Blank, Break, Heading, Setext, Indented, Fenced, Html, Paragraph}
+use Rattle.cmark_blocks.specs.declared.blocks.BlockKind.TheVariants.{Blank, Break, Heading, Setext, Indented, Fenced, Html, Table, Paragraph}
 use Rattle.cmark_blocks.specs.declared.containers.Container.{Container}
 use Rattle.cmark_blocks.specs.declared.containers.Container.TheVariants.{Quote, Item}
 use Rattle.cmark_blocks.specs.info.Info.{info_of, byte_text, bytes_text}
@@ -26,6 +26,7 @@ kind_json (Fenced count byte) first =
     codes "\"fenced\",\"count\":" ++ decimal count ++ codes ",\"fence\":\"" ++ byte_text byte ++ codes "\",\"info\":\""
     ++ bytes_text (info_of byte first) ++ codes "\""
 kind_json (Html kind) first = codes "\"html\",\"condition\":" ++ decimal (condition_number kind)
+kind_json (Table columns) first = codes "\"table\",\"columns\":" ++ decimal columns
 kind_json Paragraph first = codes "\"paragraph\""
 
 -- the kind of a container, with an item's bullet or delimiter and the number that it starts at

@@ -6,7 +6,7 @@ use Rattle.markdown_values.specs.values.Headings.{heading_number}
 use Rattle.markdown_scanners_tree.specs.Ascii.{line_feed}
 use Rattle.markdown_scanners_tree.specs.scanners.html_kinds.HtmlKinds.{condition_number}
 use Rattle.cmark_blocks.specs.declared.blocks.BlockKind.{BlockKind}
-use Rattle.cmark_blocks.specs.declared.blocks.BlockKind.TheVariants.{Blank, Break, Heading, Setext, Indented, Fenced, Html, Paragraph}
+use Rattle.cmark_blocks.specs.declared.blocks.BlockKind.TheVariants.{Blank, Break, Heading, Setext, Indented, Fenced, Html, Table, Paragraph}
 use Rattle.cmark_blocks.specs.declared.containers.Container.{Container}
 use Rattle.cmark_blocks.specs.declared.containers.Container.TheVariants.{Quote, Item}
 use Rattle.cmark_blocks.specs.declared.words.Form.{Form}
@@ -25,7 +25,7 @@ abbrev pub fence_text : ℕ → ℕ → List ℕ → List ℕ
 fence_text count byte info = codes "fenced " ++ decimal count ++ codes " " ++ encode_utf8 byte ++ info_text info
 
 -- the word for a kind, with what is known of a block whose first line has this text behind its containers: the level of a
--- heading, the fence of code, and the number of the conditions of an HTML block
+-- heading, the fence of code, the number of the conditions of an HTML block, and how many columns a table has
 abbrev pub kind_text : BlockKind → List ℕ → List ℕ
 kind_text Blank first = codes "blank"
 kind_text Break first = codes "break"
@@ -34,6 +34,7 @@ kind_text (Setext level) first = codes "setext " ++ decimal (heading_number leve
 kind_text Indented first = codes "indented"
 kind_text (Fenced count byte) first = fence_text count byte (info_of byte first)
 kind_text (Html kind) first = codes "html " ++ decimal (condition_number kind)
+kind_text (Table columns) first = codes "table " ++ decimal columns
 kind_text Paragraph first = codes "paragraph"
 
 -- the word for a container, with an item's bullet or delimiter and the number that it starts at

@@ -1,4 +1,5 @@
-use Rattle.cmark_blocks.proofs.blocks.BlockLemmas.{blank_block, indented_block, fenced_block, html_block}
+use Rattle.cmark_blocks.proofs.blocks.BlockLemmas.{blank_block, one_line, indented_block, fenced_block, html_block}
+use Rattle.cmark_blocks.proofs.tables.TableLemmas.{ok_map}
 use Rattle.cmark_blocks.proofs.blocks.scan_block.Goals as goal
 
 pub returns-in-Blank : goal.returns-in-Blank
@@ -22,3 +23,14 @@ returns-in-Html c = λ line h.
     html_block c.args.text.now c.args.outer.containers.now line
     (record { indent = c.args.indent; text = c.args.words.now }) c.args.first h c.in-Html.kind c.take_html-taken.result
     c.in-Html.ensures c.take_html-taken.ensures
+
+pub returns-in_default : goal.returns-in_default
+returns-in_default c = λ line h.
+    one_line c.args.text.now c.args.outer.containers.now line (record { indent = c.args.indent; text = c.args.words.now }) c.args.first h
+    c.kind_of-kind.result c.kind_of-kind.ensures c.in_default.not-Blank c.in_default.not-Indented c.in_default.not-Fenced c.in_default.not-Html
+    c.in_default.not-Paragraph
+
+pub returns-in-Paragraph : goal.returns-in-Paragraph
+returns-in-Paragraph c =
+    ok_map c.scan_paragraph.result
+    (λ block told line h. told line c.args.indent h c.in-Paragraph.ensures) c.scan_paragraph.ensures

@@ -1,18 +1,11 @@
-use Rattle.cmark_blocks.proofs.blocks.BlockLemmas.{paragraph_block, setext_block}
+use Rattle.cmark_blocks.proofs.blocks.BlockLemmas.{table_block}
 use Rattle.cmark_blocks.proofs.blocks.scan_paragraph.Goals as goal
 
-pub returns-in-Some-underline_in : goal.returns-in-Some-underline_in
-returns-in-Some-underline_in c = λ line rest h begins.
-    setext_block c.args.text.now c.args.outer.containers.now line rest c.args.first h c.in-Some.line.now c.in-Some-underline_in.level
-    c.take_until-taken.result c.in-Some.more
-    begins c.take_until-taken.ensures c.in-Some.ensures.line c.in-Some-underline_in.ensures
+pub returns-in-Some : goal.returns-in-Some
+returns-in-Some c = λ line indent h begins.
+    let head = rw c.in-Some.is at c.in_ok-columns.ensures.head in
+    table_block c.args.text.now c.args.outer.containers.now line (record { indent = indent; text = c.args.words.now }) c.args.first h
+    c.in-Some.columns head.0 c.in-Some.more c.take_rows.result begins head.1 head.2 c.take_rows.ensures
 
-pub returns-in_default-underline_in : goal.returns-in_default-underline_in
-returns-in_default-underline_in c = λ line rest h begins.
-    paragraph_block c.args.text.now c.args.outer.containers.now line rest c.args.first h c.take_until-taken.result begins c.take_until-taken.ensures
-    (rw c.in-Some.ensures.line.parts c.in_default-underline_in.ensures)
-
-pub returns-in_default : goal.returns-in_default
-returns-in_default c = λ line rest h begins.
-    paragraph_block c.args.text.now c.args.outer.containers.now line rest c.args.first h c.take_until-taken.result begins c.take_until-taken.ensures
-    (rw c.in_default.ensures.none tt)
+pub returns : goal.returns
+returns c = λ line indent h begins. c.scan_lines.ensures line (record { indent = indent; text = c.args.words.now }) h begins ((rw c.in_default.is at c.in_ok-columns.ensures.none) indent)
