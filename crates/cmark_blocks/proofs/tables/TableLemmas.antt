@@ -1,6 +1,7 @@
 -- Cells of a row, read from its front, and lines that are rows.
-use Rattle.std.proofs.Common.{ℕ, ◌+◌, ◌<◌, length, drop, get_or, arith, ◌≤◌, Bool, true, false, IsTrue, List, [], ◌∷◌, ◌≡◌, Option, Some, None, is_some, Result, Ok, Err, refl, sym, ap, subst, ◌∙◌}
-use Rattle.std.specs.Prelude.{IfSome, IfOk}
+use Rattle.std.proofs.Common.{ℕ, ◌+◌, ◌<◌, ◌≤◌, Bool, true, false, IsTrue, List, [], ◌∷◌, length, drop, get_or, Option, Some, None, is_some}
+use Rattle.std.proofs.Common.{◌≡◌, refl, sym, ap, subst, ◌∙◌, arith}
+use Rattle.std.specs.Prelude.{IfSome}
 use Rattle.std.proofs.lemmas.List.{at_drop_more}
 use mir.Val.{bool_byte}
 use Rattle.markdown_values.specs.declared.values.Alignment.{Alignment}
@@ -45,11 +46,6 @@ module _ (row : List ℕ) (i before : ℕ) (below : i < length row) (separated :
 pub few_more : (separated : Bool) (count i n : ℕ) → n ≡ bool_byte separated → count ≤ i → count + n ≤ i + 1
 few_more true count i n one few = omega (arith, one, few)
 few_more false count i n one few = omega (arith, one, few)
-
--- what is true of what is answered is true of all that follows from it
-pub ok_map : {A E : Type 0} {P Q : A → Type 0} (r : Result A E) → ((a : A) → P a → Q a) → IfOk r P → IfOk r Q
-ok_map (Ok a) to h = to a h
-ok_map (Err e) to h = h
 
 -- a container begins at the place of a line
 pub some_at : (at s t after : LineState) (indent : ℕ) (r : Option Container) → is_some r ≡ true

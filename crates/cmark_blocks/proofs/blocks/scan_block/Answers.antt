@@ -1,5 +1,5 @@
+use Rattle.std.proofs.lemmas.Result.{IfOk-weaker}
 use Rattle.cmark_blocks.proofs.blocks.BlockLemmas.{blank_block, one_line, indented_block, fenced_block, html_block}
-use Rattle.cmark_blocks.proofs.tables.TableLemmas.{ok_map}
 use Rattle.cmark_blocks.proofs.blocks.scan_block.Goals as goal
 
 pub returns-in-Blank : goal.returns-in-Blank
@@ -32,5 +32,5 @@ returns-in_default c = λ line h.
 
 pub returns-in-Paragraph : goal.returns-in-Paragraph
 returns-in-Paragraph c =
-    ok_map c.scan_paragraph.result
+    IfOk-weaker c.scan_paragraph.result _ _
     (λ block told line h. told line c.args.indent h c.in-Paragraph.ensures) c.scan_paragraph.ensures
