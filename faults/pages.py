@@ -31,7 +31,7 @@ class Page(Scan):
 
 def help_text():
     """The help, as the source has it."""
-    source = (TOP / "crates/cmark_blocks/src/program.rt").read_text()
+    source = (TOP / "crates/page_blocks/src/program.rt").read_text()
     return source.split('HELP: &str = "\\\n')[1].split('";\n')[0].replace("\\\\", "\\").encode()
 
 

@@ -34,11 +34,12 @@ def rt_program():
     return rt
 
 
-def build_libraries():
-    """Builds the libraries in the tree itself."""
-    for crate in ("markdown_values", "markdown_scanners_tree", "html_entities"):
-        if subprocess.run(["rt", "lib"], cwd=TOP / "crates" / crate, stdout=subprocess.DEVNULL).returncode:
-            raise SystemExit(f"planted: {crate} is not proved as it stands, so its edits say nothing")
+def build_libraries(crates):
+    """Builds the libraries among these crates, and those that they stand on."""
+    folders = [it.folder for crate in crates for it in [*crate.below(), crate] if not (it.is_program or it.is_static)]
+    for folder in dict.fromkeys(folders):
+        if subprocess.run(["rt", "lib"], cwd=folder, stdout=subprocess.DEVNULL).returncode:
+            raise SystemExit(f"planted: {Path(folder).name} is not proved as it stands, so its edits say nothing")
 
 
 class Room:
@@ -171,12 +172,12 @@ def prove_all(edits, lanes, built=None, said=None):
     """Tries the edits, those of all crates side by side, and prints what is not refused. An edit that is refused only since a
     proof names what it took away, or by a limit of the prover, is counted as refused, with a line. The libraries are built
     here first, or by rt ci, which works on a copy of the tree and writes to a file what it has proved."""
-    if not built:
-        build_libraries()
     rt = rt_program()
     crates, of_crate = {it.name: it for it in rt.rtlib.crates_below(str(built or TOP))}, {}
     for edit in edits:
         of_crate.setdefault(crate_of(edit), []).append(edit)
+    if not built:
+        build_libraries([crates[name] for name in of_crate])
     checks = Checks(rt, lanes)
 
     def answers(name):

@@ -1,25 +1,8 @@
 //! Tells the blocks of a page of Markdown.
 #![tactic(auto)]
 
-mod blocks;
-mod containers;
-mod faults;
-mod info;
-mod json;
-mod kinds;
-mod page;
-mod printing;
-pub mod program;
-mod reading;
-mod tables;
-mod taken;
-#[cfg(test)]
-mod tests;
-mod whole;
-mod words;
-
-use faults::{Fault, report_fault};
-use program::run_program;
+use program_faults::{Fault, report_fault};
+use page_blocks::program::run_program;
 use std::env;
 use std::process::ExitCode;
 

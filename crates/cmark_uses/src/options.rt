@@ -32,16 +32,3 @@ pub fn has_tables(options: Options) -> bool
 {
     options.contains(Options::ENABLE_TABLES)
 }
-
-#[cfg(test)]
-mod tests {
-    use super::*;
-
-    #[test]
-    fn names_make_options(rt: HostRuntime) {
-        let options = options_named(&["ENABLE_TABLES", "ENABLE_MATH", "ENABLE_NOTHING"]);
-        assert_eq!(rt; options.bits(), 1026);
-        assert!(rt; has_tables(options));
-        assert!(rt; !has_tables(options_named(&["ENABLE_MATH"])));
-    }
-}

@@ -1,5 +1,0 @@
-use Rattle.cmark_blocks.proofs.page.PageLemmas.{telling-first}
-use Rattle.cmark_blocks.proofs.page.Telling.new.Goals as goal
-
-pub returns-clause-told : goal.returns-clause-told
-returns-clause-told c = λ page. telling-first c.args.form page c.new.result.items _ c.new.ensures.items c.new-2.ensures.bytes

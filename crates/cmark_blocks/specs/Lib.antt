@@ -1,8 +1,0 @@
-pub mod blocks
-pub mod containers
-pub mod faults
-pub mod info
-pub mod json
-pub mod page
-pub mod taken
-pub mod words

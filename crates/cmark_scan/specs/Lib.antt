@@ -1,7 +1,0 @@
-pub mod faults
-pub mod html
-pub mod label
-pub mod printing
-pub mod report
-pub mod unescaping
-pub mod words

@@ -1,0 +1,9 @@
+//! Tests of the programs, and of the uses of the library, through their public calls.
+#![tactic(auto)]
+
+#[cfg(test)]
+mod blocks;
+#[cfg(test)]
+mod scan;
+#[cfg(test)]
+mod uses;

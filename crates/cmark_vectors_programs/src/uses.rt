@@ -1,0 +1,10 @@
+//! Tests of `cmark_uses`, under the names of its modules.
+mod blocks;
+mod headings;
+mod html;
+mod labels;
+mod lines;
+mod links;
+mod options;
+mod outline;
+mod pass;

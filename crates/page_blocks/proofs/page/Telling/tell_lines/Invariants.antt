@@ -1,0 +1,14 @@
+use Rattle.std.proofs.Common.{List, ℕ, [], ◌+◌, ◌-◌, ◌++◌, ◌≡◌, ◌≤◌, IsTrue, length, drop}
+use Rattle.markdown_scanners_tree.specs.scanners.TextLines.{lines_of}
+use Rattle.page_blocks.specs.page.Going.{Tells}
+use Rattle.page_blocks.proofs.page.Telling.tell_lines.Given as goal
+
+-- the lines are told as far as the place
+abbrev pub invariant-loop-inner : goal.invariant-loop-inner
+invariant-loop-inner l =
+    ((more : List (List ℕ)) → (IsTrue l.has_ended → more ≡ [])
+    → Tells l.fn.self (lines_of l.lines ++ more) l.self (lines_of (drop l.count l.lines) ++ more))
+    × (l.count ≤ length l.lines) × (l.self.before ≤ l.fn.self.before + l.count) × (l.self.form ≡ l.fn.self.form)
+
+abbrev pub decreases-loop-inner : goal.decreases-loop-inner
+decreases-loop-inner l = length l.lines - l.count

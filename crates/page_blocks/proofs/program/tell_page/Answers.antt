@@ -1,0 +1,80 @@
+use Rattle.std.proofs.Common.{◌-◌, ◌++◌, ◌≡◌, true, false, Result, Ok, Err, IfErr, length, drop, arith, refl, sym, ap, ◌∙◌}
+use Rattle.std.proofs.lemmas.List.{length-drop}
+use Rattle.page_blocks.proofs.program.ProgramLemmas.{begun-first, begun-read, begun-written, begun-stopped, begun-done}
+use Rattle.page_blocks.proofs.program.tell_page.Goals as goal
+
+if_err : {T E X : Type 0} (P : E → Type 0) (r : Result T E) → X → IfErr r (λ e. P e → X)
+if_err P (Ok t) x = tt
+if_err P (Err e) x = λ p. x
+
+pub loop-telling-init : goal.loop-telling-init
+loop-telling-init g c = record {
+  begun = begun-first c.args.form (g.R.Read.remaining c.args.input.now) (g.W.Write.contents c.args.output.now) c.new-telling.result
+      c.new-unread.result.text.items c.new-unread.ensures.text c.new-telling.ensures.told c.new-telling.ensures.form;
+  empty = c.new-telling.ensures.nothing;
+  room = omega (arith, c.new-telling.ensures.before, ap length c.new-unread.ensures.text, c.new-unread.ensures.reads);
+}
+
+pub returns-in_err-has_ended-clause-begun : goal.returns-in_err-has_ended-clause-begun
+returns-in_err-has_ended-clause-begun g c =
+    let read = c.in_err-has_ended.ensures.read in
+    if_err _ c.from_residual.result (begun-stopped c.args.form (g.R.Read.remaining c.args.input.now) (g.W.Write.contents c.args.output.now)
+    (g.R.Read.remaining c.read_more.new.input) (g.W.Write.contents c.loop-telling.output) c.loop-telling.telling (c.loop-telling.unread.text.items ++ read.0)
+    (begun-read c.args.form (g.R.Read.remaining c.args.input.now) (g.W.Write.contents c.args.output.now) (g.R.Read.remaining c.loop-telling.input)
+    (g.R.Read.remaining c.read_more.new.input) (g.W.Write.contents c.loop-telling.output) c.loop-telling.telling c.loop-telling.unread.text.items
+    (c.loop-telling.unread.text.items ++ read.0) read.0 c.loop-telling.invariant.begun read.1 refl)
+    c.loop-telling.invariant.empty)
+
+pub tell-requires : goal.tell-requires
+tell-requires g c = omega (arith, c.loop-telling.invariant.room, c.in_ok-has_ended.ensures.room, ap length c.deref.ensures.value)
+
+pub returns-in_err-count-clause-begun : goal.returns-in_err-count-clause-begun
+returns-in_err-count-clause-begun g c =
+    let read = c.in_ok-has_ended.ensures.read in
+    if_err _ c.from_residual-in_err-count.result (begun-stopped c.args.form (g.R.Read.remaining c.args.input.now) (g.W.Write.contents c.args.output.now)
+    (g.R.Read.remaining c.read_more.new.input) (g.W.Write.contents c.loop-telling.output) c.loop-telling.telling (c.loop-telling.unread.text.items ++ read.0)
+    (begun-read c.args.form (g.R.Read.remaining c.args.input.now) (g.W.Write.contents c.args.output.now) (g.R.Read.remaining c.loop-telling.input)
+    (g.R.Read.remaining c.read_more.new.input) (g.W.Write.contents c.loop-telling.output) c.loop-telling.telling c.loop-telling.unread.text.items
+    (c.loop-telling.unread.text.items ++ read.0) read.0 c.loop-telling.invariant.begun read.1 refl)
+    c.loop-telling.invariant.empty)
+
+pub returns-then-has_ended-clause-told : goal.returns-then-has_ended-clause-told
+returns-then-has_ended-clause-told g c =
+    let read = c.in_ok-has_ended.ensures.read in
+    begun-done c.args.form (g.R.Read.remaining c.args.input.now) (g.W.Write.contents c.args.output.now)
+    (g.R.Read.remaining c.read_more.new.input) (g.W.Write.contents c.loop-telling.output) (g.W.Write.contents c.write_text.new.output)
+    c.loop-telling.telling c.tell.new.self c.deref.result.now c.in_ok-count.count c.in_ok-has_ended.has_ended
+    (begun-read c.args.form (g.R.Read.remaining c.args.input.now) (g.W.Write.contents c.args.output.now) (g.R.Read.remaining c.loop-telling.input)
+    (g.R.Read.remaining c.read_more.new.input) (g.W.Write.contents c.loop-telling.output) c.loop-telling.telling c.loop-telling.unread.text.items
+    c.deref.result.now read.0 c.loop-telling.invariant.begun read.1 (c.deref.ensures.value ∙ read.2))
+    c.in_ok-count.ensures.told (c.in_ok-count.ensures.all c.if-has_ended.true) c.in_ok-count.ensures.form
+    (rw c.as_str.ensures.value at c.in_ok-write_text.ensures.written) (c.in_ok-has_ended.ensures.end c.if-has_ended.true)
+
+pub loop-telling-preserved : goal.loop-telling-preserved
+loop-telling-preserved g c =
+    let read = c.in_ok-has_ended.ensures.read in
+    let left : length c.drop_front.new.self.text.items ≡ length c.read_more.new.self.text.items - c.in_ok-count.count =
+    ap length c.drop_front.ensures.text ∙ length-drop c.in_ok-count.count c.read_more.new.self.text.items in
+    record {
+      begun = begun-written c.args.form (g.R.Read.remaining c.args.input.now) (g.W.Write.contents c.args.output.now)
+          (g.R.Read.remaining c.read_more.new.input) (g.W.Write.contents c.loop-telling.output) (g.W.Write.contents c.write_text.new.output)
+          c.loop-telling.telling c.tell.new.self _ c.deref.result.now c.drop_front.new.self.text.items c.in_ok-count.count
+          (begun-read c.args.form (g.R.Read.remaining c.args.input.now) (g.W.Write.contents c.args.output.now) (g.R.Read.remaining c.loop-telling.input)
+          (g.R.Read.remaining c.read_more.new.input) (g.W.Write.contents c.loop-telling.output) c.loop-telling.telling c.loop-telling.unread.text.items
+          c.deref.result.now read.0 c.loop-telling.invariant.begun read.1 (c.deref.ensures.value ∙ read.2))
+          c.loop-telling.invariant.empty
+          (λ more. c.in_ok-count.ensures.told more (λ ended. let both : true ≡ false = sym ended ∙ c.if-has_ended.false in cc))
+          c.in_ok-count.ensures.form (rw c.as_str.ensures.value at c.in_ok-write_text.ensures.written)
+          refl refl refl c.clear.ensures.bytes (c.drop_front.ensures.text ∙ ap (drop c.in_ok-count.count) (sym c.deref.ensures.value));
+      empty = c.clear.ensures.bytes;
+      room = omega (
+        arith,
+        c.loop-telling.invariant.room,
+        c.in_ok-has_ended.ensures.room,
+        ap length c.deref.ensures.value,
+        left,
+        c.in_ok-count.ensures.within,
+        c.in_ok-count.ensures.before,
+        c.drop_front.ensures.reads,
+      );
+    }

@@ -1,0 +1,15 @@
+use Rattle.std.proofs.Common.{[], ◌+◌, ◌*◌, ◌≤◌, ◌≡◌, length, string_bytes}
+use Rattle.page_blocks.proofs.program.ProgramLemmas.{Begun}
+use Rattle.page_blocks.proofs.program.tell_page.Given as goal
+
+-- what was read is told and written as far as the text that is left; there are no more lines than reads gave bytes
+abbrev pub invariant-loop-telling : goal.invariant-loop-telling
+invariant-loop-telling g l = record {
+  begun : Begun l.fn.form (g.R.Read.remaining l.fn.input) (g.R.Read.remaining l.input) (g.W.Write.contents l.fn.output) (g.W.Write.contents l.output)
+      l.telling l.unread.text.items;
+  empty : string_bytes l.telling.told ≡ [];
+  room : l.telling.before + (length l.unread.text.items + 65536 * l.unread.reads) ≤ 68719476736;
+}
+
+abbrev pub decreases-loop-telling : goal.decreases-loop-telling
+decreases-loop-telling g l = l.unread.reads

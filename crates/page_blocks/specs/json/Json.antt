@@ -1,0 +1,36 @@
+-- The blocks of a page as JSON Lines.
+use Rattle.std.specs.Prelude.{ℕ, List, ◌++◌, codes, encode_utf8}
+use Rattle.std.specs.Fmt.{decimal}
+use Rattle.markdown_values.specs.values.Headings.{heading_number}
+use Rattle.markdown_scanners_tree.specs.scanners.html_kinds.HtmlKinds.{condition_number}
+use Rattle.page_blocks.specs.declared.blocks.BlockKind.{BlockKind}
+use Rattle.page_blocks.specs.declared.blocks.BlockKind.TheVariants.{Blank, Break, Heading, Setext, Indented, Fenced, Html, Table, Paragraph}
+use Rattle.page_blocks.specs.declared.containers.Container.{Container}
+use Rattle.page_blocks.specs.declared.containers.Container.TheVariants.{Quote, Item}
+use Rattle.page_blocks.specs.info.Info.{info_of, byte_text, bytes_text}
+
+-- the first line, the last one and how many containers stand around, at the front of an object, and the name of its kind
+abbrev pub front_json : ℕ → ℕ → ℕ → List ℕ
+front_json first last depth =
+    codes "{\"first\":" ++ decimal first ++ codes ",\"last\":" ++ decimal last ++ codes ",\"depth\":" ++ decimal depth
+    ++ codes ",\"kind\":"
+
+-- the kind, and what is known of a block whose first line has this text behind its containers
+abbrev pub kind_json : BlockKind → List ℕ → List ℕ
+kind_json Blank first = codes "\"blank\""
+kind_json Break first = codes "\"break\""
+kind_json (Heading level) first = codes "\"heading\",\"level\":" ++ decimal (heading_number level)
+kind_json (Setext level) first = codes "\"setext\",\"level\":" ++ decimal (heading_number level)
+kind_json Indented first = codes "\"indented\""
+kind_json (Fenced count byte) first =
+    codes "\"fenced\",\"count\":" ++ decimal count ++ codes ",\"fence\":\"" ++ byte_text byte ++ codes "\",\"info\":\""
+    ++ bytes_text (info_of byte first) ++ codes "\""
+kind_json (Html kind) first = codes "\"html\",\"condition\":" ++ decimal (condition_number kind)
+kind_json (Table columns) first = codes "\"table\",\"columns\":" ++ decimal columns
+kind_json Paragraph first = codes "\"paragraph\""
+
+-- the kind of a container, with an item's bullet or delimiter and the number that it starts at
+abbrev pub container_json : Container → List ℕ
+container_json Quote = codes "\"quote\""
+container_json (Item item) =
+    codes "\"item\",\"delimiter\":\"" ++ encode_utf8 item.delimiter ++ codes "\",\"start\":" ++ decimal item.start

@@ -1,0 +1,32 @@
+-- How a page is told block by block.
+use Rattle.std.specs.Prelude.{ℕ, ◌≡◌, List, ◌++◌, length, string_bytes}
+use Rattle.page_blocks.specs.blocks.Pages.{Piece, AreOpened, AreBlocks, IsFront, lines_in}
+use Rattle.page_blocks.specs.containers.Containers.{Rest}
+use Rattle.page_blocks.specs.declared.containers.Container.{Container}
+use Rattle.page_blocks.specs.declared.page.Telling.{Telling}
+use Rattle.page_blocks.specs.declared.words.Form.{Form}
+use Rattle.page_blocks.specs.page.Told.{told_from}
+
+-- where these containers are open, the line opens new ones, so many of which were open before, and what is left of it is this
+pub record IsOpening (old : List Container) (line : List ℕ) (new : List Container) (count : ℕ) (words : Rest) : Type 0 where
+  pub kept : List Container
+  pub begun : List Container
+  pub open_now : new ≡ kept ++ begun
+  pub counted : count ≡ length kept
+  pub opened : AreOpened old line kept begun words
+
+-- The text tells a page as far as these lines, before which so many lines stand and these containers are open: whatever blocks the
+-- first of them are, with what is told of these it tells blocks at the front of the page.
+unfoldable pub GoesOnTelling : Form → List ℕ → List ℕ → ℕ → List Container → List (List ℕ) → Type 0
+GoesOnTelling form page text before outer lines =
+    (later : List Piece) (rest : List (List ℕ)) → lines ≡ lines_in later ++ rest → AreBlocks outer later rest
+    → (all : List Piece) × IsFront page all rest × (text ++ told_from form before later ≡ told_from form 0 all)
+
+-- what was written, and then what is told and not yet written, tells the page as far as these lines
+abbrev pub HasTold : List ℕ → List ℕ → Telling → List (List ℕ) → Type 0
+HasTold page written telling lines =
+    GoesOnTelling telling.form page (written ++ string_bytes telling.told) telling.before telling.outer.items lines
+
+-- of each page that is told as far as the ones, it goes on to tell it as far as the others
+abbrev pub Tells : Telling → List (List ℕ) → Telling → List (List ℕ) → Type 0
+Tells old lines new rest = (page written : List ℕ) → HasTold page written old lines → HasTold page written new rest

@@ -1,0 +1,92 @@
+//! Info strings of fenced code, and how they are printed.
+ghost use Rattle.std.specs.Prelude.{◌≡◌, ◌≤◌, ◌++◌, OnOk, length, not, string_bytes};
+ghost use Rattle.std.specs.List.{prefix_len};
+ghost use Rattle.markdown_scanners_tree.specs.Bytes.{is_line_ending, is_space_or_tab, line_head};
+ghost use Rattle.page_blocks.specs.info.Info.{info_of, without_end, without_front, is_plain, byte_text, bytes_text};
+
+use markdown_scanners_tree::scanners::scan_ch_repeat;
+use std::alloc::AllocError;
+
+/// The info string where a fence of this byte opens code, and this is the rest of its line.
+pub(crate) fn info_of(fence: &[u8], byte: u8) -> &[u8]
+    ensures { result.now ≡ info_of byte fence.now }
+{
+    let (_, behind) = fence.split_at(scan_ch_repeat(fence, byte));
+    without_end(without_front(line_head(behind)))
+}
+
+/// What stands before the line ending.
+pub(crate) fn line_head(line: &[u8]) -> &[u8]
+    ensures { result.now ≡ line_head line.now }
+{
+    &line[..head_length(line)]
+}
+
+// The length of what stands before the line ending.
+fn head_length(line: &[u8]) -> usize
+    ensures run { result ≡ prefix_len (λ b. not (is_line_ending b)) line.now }
+    ensures within { result ≤ length line.now }
+{
+    line.iter()
+        .take_while(|b| !(**b == b'\n' || **b == b'\r'))
+        .count()
+}
+
+// The bytes without the spaces and tabs at their front.
+fn without_front(bytes: &[u8]) -> &[u8]
+    ensures { result.now ≡ without_front bytes.now }
+{
+    let (_, behind) = bytes.split_at(front_length(bytes));
+    behind
+}
+
+// The length of the spaces and tabs at the front.
+fn front_length(bytes: &[u8]) -> usize
+    ensures run { result ≡ prefix_len is_space_or_tab bytes.now }
+    ensures within { result ≤ length bytes.now }
+{
+    bytes
+        .iter()
+        .take_while(|b| **b == b' ' || **b == b'\t')
+        .count()
+}
+
+/// The bytes without the spaces and tabs at their end.
+pub(crate) fn without_end(bytes: &[u8]) -> &[u8]
+    ensures { result.now ≡ without_end bytes.now }
+{
+    let mut end = bytes.len();
+    while end > 0 && (bytes[end - 1] == b' ' || bytes[end - 1] == b'\t') {
+        end -= 1;
+    }
+    &bytes[..end]
+}
+
+/// Adds bytes, as the text of a JSON string has the characters of their numbers.
+pub(crate) fn push_bytes(text: &mut String, bytes: &[u8]) -> Result<(), AllocError>
+    ensures { OnOk result (string_bytes text.new ≡ string_bytes text.old ++ bytes_text bytes.now) }
+{
+    for byte in bytes {
+        push_byte(text, *byte)?;
+    }
+    Ok(())
+}
+
+/// Adds a byte in that way.
+#[tactic(auto, using(std::proofs::lemmas::Fmt::hex_byte))]
+pub(crate) fn push_byte(text: &mut String, byte: u8) -> Result<(), AllocError>
+    ensures { OnOk result (string_bytes text.new ≡ string_bytes text.old ++ byte_text byte) }
+{
+    if is_plain(byte) {
+        text.push(char::from(byte))
+    } else {
+        write!(text, "\\u00{byte:02x}")
+    }
+}
+
+// Whether a byte stands for itself.
+fn is_plain(byte: u8) -> bool
+    ensures { result ≡ is_plain byte }
+{
+    (32..=126).contains(&byte) && byte != b'"' && byte != b'\\'
+}

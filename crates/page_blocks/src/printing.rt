@@ -1,0 +1,182 @@
+//! The printed lines of blocks and containers.
+ghost use Rattle.std.specs.Prelude.{◌≡◌, ◌+◌, ◌++◌, OnOk, string_bytes};
+ghost use Rattle.markdown_values.specs.values.Headings.{heading_number};
+ghost use Rattle.markdown_scanners_tree.specs.scanners.html_kinds.HtmlKinds.{condition_number};
+ghost use Rattle.page_blocks.specs.page.Told.{kind_told, container_told, front_told, end_told, told_line};
+ghost use Rattle.page_blocks.specs.page.Told.{kind_text, container_text, fence_text, info_text};
+
+use crate::blocks::{Block, BlockKind};
+use crate::containers::Container;
+use crate::info::{info_of, push_bytes};
+use crate::json::{push_container_json, push_front_json, push_kind_json};
+use crate::words::Form;
+use markdown_scanners_tree::scanners::HtmlBlockKind;
+use markdown_values::values::HeadingLevel;
+use std::alloc::AllocError;
+
+/// Adds the line, in this form, of a block in so many containers, which stands behind so many
+/// lines, and whose first line has this text behind its containers.
+pub(crate) fn push_block(
+    text: &mut String,
+    form: Form,
+    before: usize,
+    depth: usize,
+    block: Block,
+    words: &[u8],
+) -> Result<(), AllocError>
+    ensures { OnOk result (string_bytes text.new ≡ string_bytes text.old
+        ++ told_line form (before + 1) (before + block.taken.lines) depth
+        (kind_told form block.kind words.now)) }
+{
+    push_front(text, form, before, block.taken.lines, depth)?;
+    push_kind(text, form, block.kind, words)?;
+    push_end(text, form)
+}
+
+/// Adds the line, in this form, of a container in so many others, which begins behind so many
+/// lines.
+pub(crate) fn push_container(
+    text: &mut String,
+    form: Form,
+    before: usize,
+    depth: usize,
+    container: Container,
+) -> Result<(), AllocError>
+    ensures { OnOk result (string_bytes text.new ≡ string_bytes text.old
+        ++ told_line form (before + 1) (before + 1) depth (container_told form container)) }
+{
+    push_front(text, form, before, 1, depth)?;
+    push_marker(text, form, container)?;
+    push_end(text, form)
+}
+
+// Adds what a line has before the kind, where so many lines stand behind so many others.
+fn push_front(
+    text: &mut String,
+    form: Form,
+    before: usize,
+    count: usize,
+    depth: usize,
+) -> Result<(), AllocError>
+    ensures { OnOk result (string_bytes text.new ≡ string_bytes text.old
+        ++ front_told form (before + 1) (before + count) depth) }
+{
+    let first = before as u128 + 1;
+    let last = before as u128 + count as u128;
+    match form {
+        Form::Words => write!(text, "{first} {last} {depth} "),
+        Form::Json => push_front_json(text, first, last, depth),
+    }
+}
+
+// Adds what a line has behind it.
+fn push_end(text: &mut String, form: Form) -> Result<(), AllocError>
+    ensures { OnOk result (string_bytes text.new ≡ string_bytes text.old ++ end_told form) }
+{
+    match form {
+        Form::Words => text.push_str("\n"),
+        Form::Json => text.push_str("}\n"),
+    }
+}
+
+// Adds a kind, with what is known of a block whose first line has this text.
+fn push_kind(text: &mut String, form: Form, kind: BlockKind, words: &[u8]) -> Result<(), AllocError>
+    ensures { OnOk result (string_bytes text.new
+        ≡ string_bytes text.old ++ kind_told form kind words.now) }
+{
+    match form {
+        Form::Words => push_kind_text(text, kind, words),
+        Form::Json => push_kind_json(text, kind, words),
+    }
+}
+
+// Adds a container, with what is known of its marker.
+fn push_marker(text: &mut String, form: Form, container: Container) -> Result<(), AllocError>
+    ensures { OnOk result (string_bytes text.new
+        ≡ string_bytes text.old ++ container_told form container) }
+{
+    match form {
+        Form::Words => push_container_text(text, container),
+        Form::Json => push_container_json(text, container),
+    }
+}
+
+// Adds the word for a container, with what is known of its marker.
+fn push_container_text(text: &mut String, container: Container) -> Result<(), AllocError>
+    ensures { OnOk result (string_bytes text.new
+        ≡ string_bytes text.old ++ container_text container) }
+{
+    match container {
+        Container::Quote => text.push_str("quote"),
+        Container::Item(item) => {
+            write!(text, "item {} {}", char::from(item.delimiter), item.start)
+        }
+    }
+}
+
+// Adds the word for a kind, with what is known of the block.
+fn push_kind_text(text: &mut String, kind: BlockKind, words: &[u8]) -> Result<(), AllocError>
+    ensures { OnOk result (string_bytes text.new
+        ≡ string_bytes text.old ++ kind_text kind words.now) }
+{
+    match kind {
+        BlockKind::Blank => text.push_str("blank"),
+        BlockKind::Break => text.push_str("break"),
+        BlockKind::Heading(level) => write!(text, "heading {}", number_of_level(level)),
+        BlockKind::Setext(level) => write!(text, "setext {}", number_of_level(level)),
+        BlockKind::Indented => text.push_str("indented"),
+        BlockKind::Fenced(count, byte) => push_fenced(text, count, byte, info_of(words, byte)),
+        BlockKind::Html(kind) => write!(text, "html {}", number_of_html(kind)),
+        BlockKind::Table(columns) => write!(text, "table {columns}"),
+        BlockKind::Paragraph => text.push_str("paragraph"),
+    }
+}
+
+// Adds what is known of fenced code.
+fn push_fenced(text: &mut String, count: usize, byte: u8, info: &[u8]) -> Result<(), AllocError>
+    ensures { OnOk result (string_bytes text.new
+        ≡ string_bytes text.old ++ fence_text count byte info.now) }
+{
+    write!(text, "fenced {count} {}", char::from(byte))?;
+    push_info(text, info)
+}
+
+// Adds an info string behind a space, unless it is empty.
+fn push_info(text: &mut String, info: &[u8]) -> Result<(), AllocError>
+    ensures { OnOk result (string_bytes text.new ≡ string_bytes text.old ++ info_text info.now) }
+{
+    if info.is_empty() {
+        return Ok(());
+    }
+    text.push_str(" ")?;
+    push_bytes(text, info)
+}
+
+/// The number of a heading's level.
+pub(crate) fn number_of_level(level: HeadingLevel) -> u8
+    ensures { result ≡ heading_number level }
+{
+    match level {
+        HeadingLevel::H1 => 1,
+        HeadingLevel::H2 => 2,
+        HeadingLevel::H3 => 3,
+        HeadingLevel::H4 => 4,
+        HeadingLevel::H5 => 5,
+        HeadingLevel::H6 => 6,
+    }
+}
+
+/// The number of the conditions of an HTML block.
+pub(crate) fn number_of_html(kind: HtmlBlockKind) -> u8
+    ensures { result ≡ condition_number kind }
+{
+    match kind {
+        HtmlBlockKind::RawText => 1,
+        HtmlBlockKind::Comment => 2,
+        HtmlBlockKind::Processing => 3,
+        HtmlBlockKind::Declaration => 4,
+        HtmlBlockKind::Cdata => 5,
+        HtmlBlockKind::BlockName => 6,
+        HtmlBlockKind::TagAlone => 7,
+    }
+}

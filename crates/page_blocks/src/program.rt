@@ -1,0 +1,158 @@
+//! What the program does with its words, its input and its output.
+ghost use Rattle.std.specs.Prelude.{◌≡◌, ◌≢◌, IfOk, IfSome, IfErr, IsNone, Some};
+ghost use Rattle.std.specs.Io.KnownBytes.{IsAtEnd, Appends};
+ghost use Rattle.page_blocks.specs.words.Words.{request_of};
+ghost use Rattle.page_blocks.specs.declared.words.Form.{Form};
+ghost use Rattle.page_blocks.specs.declared.words.Request.TheVariants.{Page};
+ghost use Rattle.page_blocks.specs.page.Told.{IsToldTo, IsBegunTo};
+ghost use Rattle.program_faults.specs.Faults.{TellsFault};
+
+use program_faults::{Fault, complain, report_fault};
+use crate::page::Telling;
+use crate::reading::Unread;
+use crate::words::{Form, Request, parse_request};
+use std::alloc::Global;
+use std::io::{Read, Write};
+
+const USAGE: &str = "usage: cmark_blocks [--json | --help] < PAGE\n";
+
+const HELP: &str = "\
+usage: cmark_blocks [--json | --help] < PAGE
+
+Prints a line for each block of a page of Markdown: the number of its first line, that of its
+last, how many containers it stands in, and its kind. Before it stands a line for each container
+that its first line begins, the outermost first, with the number of that line twice.
+
+  blank            blank lines in a row
+  break            a thematic break
+  heading LEVEL    an ATX heading
+  setext LEVEL     a setext heading
+  indented         indented code
+  fenced COUNT C INFO
+                   fenced code, with the length of its fence, the byte that it is made of, and
+                   the info string, unless it is empty; each byte of that which is a quotation
+                   mark, a backslash or no printable ASCII is told as \\u00 and two hexadecimal
+                   digits
+  html NUMBER      an HTML block, by the number of its start condition
+  table COLUMNS    a table of GitHub Flavored Markdown
+  paragraph        a paragraph, with its lazy lines
+  quote            a block quote
+  item C START     a list item, by its bullet or delimiter, and the number that it starts at
+
+With --json each line is an object with the members first, last, depth and kind; level of a
+heading; count, fence and info of fenced code; condition of an HTML block; columns of a table;
+delimiter and start of an item.
+
+Together the blocks have all lines of the page. Link reference definitions are told as paragraphs,
+and so are lines before the header row of a table, with that and its other rows. Where a container
+ends, and which items make a list, tight or loose, is not told.
+
+Lines are printed while the page is read. Where it can't be read to its end, or memory is refused,
+what is printed is the lines of its first blocks, and the status is 3. At most 1,048,576 reads are
+made, of at most 65,536 bytes each.
+";
+
+/// Runs the program on its words, without its name, and answers its status.
+///
+/// 0: done. 2: other words, and the input is not read. 3: a fault of the reader, of memory or of
+/// the writer. Blocks are written while the page is read, so those at its front may be written
+/// before a fault.
+pub fn run_program<R: Read, W: Write, V: Write>(
+    alloc: Global,
+    words: &[&str],
+    input: &mut R,
+    output: &mut W,
+    faults: &mut V,
+) -> u8
+    ensures other { IsNone (request_of words.now) →
+        (result ≡ 2) × (input.new ≡ input.old) × (output.new ≡ output.old) }
+    ensures status { result ≡ 2 → IsNone (request_of words.now) }
+
+    ensures told { (form : Form) → result ≢ 3 → request_of words.now ≡ Some (Page form) →
+        IfSome (R.remaining input.old) (λ bytes.
+        IsToldTo form bytes (W.contents output.old) (W.contents output.new)) }
+    ensures read { (form : Form) → result ≢ 3 → request_of words.now ≡ Some (Page form) →
+        IsAtEnd (R.remaining input.new) }
+
+    // After a read fault, or out of memory, the lines of blocks at the front of what was read, and
+    // nothing else, were written.
+    ensures unread { (form : Form) → request_of words.now ≡ Some (Page form) →
+        TellsFault Fault.Read (V.contents faults.old) (V.contents faults.new) →
+        IsBegunTo form (R.remaining input.old) (R.remaining input.new)
+        (W.contents output.old) (W.contents output.new) }
+    ensures no_memory { (form : Form) → request_of words.now ≡ Some (Page form) →
+        TellsFault Fault.Memory (V.contents faults.old) (V.contents faults.new) →
+        IsBegunTo form (R.remaining input.old) (R.remaining input.new)
+        (W.contents output.old) (W.contents output.new) }
+{
+    let Some(request) = parse_request(words) else {
+        complain(faults, USAGE);
+        return 2;
+    };
+    match answer(alloc, request, input, output) {
+        Ok(()) => 0,
+        Err(fault) => report_fault(faults, fault),
+    }
+}
+
+// Writes what is asked for.
+fn answer<R: Read, W: Write>(
+    alloc: Global,
+    request: Request,
+    input: &mut R,
+    output: &mut W,
+) -> Result<(), Fault>
+    ensures told { IfOk result (λ _. (form : Form) → request ≡ Page form →
+        IfSome (R.remaining input.old) (λ bytes.
+        IsToldTo form bytes (W.contents output.old) (W.contents output.new))) }
+    ensures read { IfOk result (λ _. (form : Form) → request ≡ Page form →
+        IsAtEnd (R.remaining input.new)) }
+    ensures begun { IfErr result (λ fault. fault ≢ Fault.Write → (form : Form) →
+        request ≡ Page form → IsBegunTo form (R.remaining input.old) (R.remaining input.new)
+        (W.contents output.old) (W.contents output.new)) }
+{
+    match request {
+        Request::Page(form) => tell_page(alloc, form, input, output),
+        Request::Help => write_text(output, HELP),
+    }
+}
+
+// Writes a line for each block of the input, in this form.
+fn tell_page<R: Read, W: Write>(
+    alloc: Global,
+    form: Form,
+    input: &mut R,
+    output: &mut W,
+) -> Result<(), Fault>
+    ensures told { IfOk result (λ _. IfSome (R.remaining input.old) (λ bytes.
+        IsToldTo form bytes (W.contents output.old) (W.contents output.new))) }
+    ensures read { IfOk result (λ _. IsAtEnd (R.remaining input.new)) }
+    ensures begun { IfErr result (λ fault. fault ≢ Fault.Write →
+        IsBegunTo form (R.remaining input.old) (R.remaining input.new)
+        (W.contents output.old) (W.contents output.new)) }
+{
+    let mut unread = Unread::new(alloc);
+    let mut telling = Telling::new(alloc, form);
+    loop {
+        let has_ended = unread.read_more(input)?;
+        let count = telling.tell(alloc, &unread.text, has_ended)?;
+        write_text(output, telling.told.as_str())?;
+        if has_ended {
+            return Ok(());
+        }
+        telling.told.clear();
+        unread.drop_front(count);
+    }
+}
+
+// Writes a text.
+fn write_text<W: Write>(output: &mut W, text: &str) -> Result<(), Fault>
+    ensures written { IfOk result (λ _.
+        Appends (W.contents output.old) (W.contents output.new) text.now) }
+    ensures fault { IfErr result (λ fault. fault ≡ Fault.Write) }
+{
+    if output.write_all(text.as_bytes()).is_err() {
+        return Err(Fault::Write);
+    }
+    Ok(())
+}

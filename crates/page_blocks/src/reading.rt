@@ -1,0 +1,79 @@
+//! Reading the input while it is told.
+ghost use Rattle.std.specs.Prelude.{◌≡◌, ◌≢◌, ◌<◌, ◌≤◌, ◌+◌, ◌*◌, ◌++◌, [], List, ℕ, length, drop, IsTrue, IfOk, IfErr, OnOk};
+ghost use Rattle.std.specs.Io.KnownBytes.{Consumes, IsAtEnd};
+
+use program_faults::Fault;
+use std::alloc::Global;
+use std::io::Read;
+
+// How many reads are made at most; the last of them gives no byte.
+const READS: usize = 1_048_576;
+
+// How many bytes a read gives at most.
+const READ_SIZE: usize = 65_536;
+
+/// The bytes that are read and not yet told, and how many reads may still be made.
+#[derive(Drop)]
+pub(crate) struct Unread {
+    pub(crate) text: Vec<u8>,
+    pub(crate) reads: usize,
+}
+
+impl Unread {
+    /// Nothing is read.
+    pub(crate) fn new(alloc: Global) -> Unread
+        ensures text { result.text.items ≡ [] }
+        ensures reads { result.reads ≡ READS }
+    {
+        Unread {
+            text: Vec::new(alloc),
+            reads: READS,
+        }
+    }
+
+    /// Reads until there is at least a byte more and twice the text, or the input has ended.
+    /// Answers whether it has.
+    pub(crate) fn read_more<R: Read>(&mut self, input: &mut R) -> Result<bool, Fault>
+        ensures read { (bytes : List ℕ)
+            × Consumes (R.remaining input.old) (R.remaining input.new) bytes
+            × OnOk result (self.new.text.items ≡ self.old.text.items ++ bytes) }
+        ensures end { IfOk result (λ has_ended. IsTrue has_ended →
+            IsAtEnd (R.remaining input.new)) }
+        ensures more { IfOk result (λ has_ended. ¬ IsTrue has_ended →
+            (length self.old.text.items < length self.new.text.items)
+            × (2 * length self.old.text.items ≤ length self.new.text.items)) }
+        ensures fewer { OnOk result (self.new.reads < self.old.reads) }
+        ensures room { OnOk result (length self.new.text.items + READ_SIZE * self.new.reads
+            ≤ length self.old.text.items + READ_SIZE * self.old.reads) }
+        ensures fault { IfErr result (λ fault. fault ≢ Fault.Write) }
+    {
+        let mut buffer = [0u8; READ_SIZE];
+        let before = self.text.len();
+        while self.reads > 0 {
+            self.reads -= 1;
+            let count = match input.read(&mut buffer) {
+                Ok(count) => count,
+                Err(_) => return Err(Fault::Read),
+            };
+            if count == 0 {
+                return Ok(true);
+            }
+            self.text.extend_from_slice(&buffer[..count])?;
+            if self.text.len() - before >= before {
+                return Ok(false);
+            }
+        }
+        Err(Fault::Read)
+    }
+
+    /// Takes bytes off the front, which are told.
+    pub(crate) fn drop_front(&mut self, count: usize)
+        requires { count ≤ length self.old.text.items }
+        ensures text { self.new.text.items ≡ drop count self.old.text.items }
+        ensures reads { self.new.reads ≡ self.old.reads }
+    {
+        let left = self.text.len() - count;
+        self.text.copy_within(count.., 0);
+        self.text.truncate(left);
+    }
+}

@@ -1,0 +1,6 @@
+pub mod html
+pub mod label
+pub mod printing
+pub mod report
+pub mod unescaping
+pub mod words
