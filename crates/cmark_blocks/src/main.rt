@@ -1,8 +1,8 @@
 //! Tells the blocks of a page of Markdown.
 #![tactic(auto)]
 
-use program_faults::{Fault, report_fault};
 use page_blocks::program::run_program;
+use program_faults::{Fault, report_fault};
 use std::env;
 use std::process::ExitCode;
 

@@ -7,10 +7,10 @@ ghost use Rattle.page_blocks.specs.declared.words.Request.TheVariants.{Page};
 ghost use Rattle.page_blocks.specs.page.Told.{IsToldTo, IsBegunTo};
 ghost use Rattle.program_faults.specs.Faults.{TellsFault};
 
-use program_faults::{Fault, complain, report_fault};
 use crate::page::Telling;
 use crate::reading::Unread;
 use crate::words::{Form, Request, parse_request};
+use program_faults::{Fault, complain, report_fault};
 use std::alloc::Global;
 use std::io::{Read, Write};
 

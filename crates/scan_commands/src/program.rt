@@ -7,7 +7,6 @@ ghost use Rattle.scan_commands.specs.printing.Printed.{IsOutcome, IsPrinted};
 ghost use Rattle.scan_commands.specs.report.Report.{outcome_view, status_of};
 ghost use Rattle.program_faults.specs.Faults.{IsBeforeWriting, TellsFault};
 
-use program_faults::{Fault, complain, report_fault};
 use crate::html::html_report;
 use crate::label::label_report;
 use crate::line::line_report;
@@ -15,6 +14,7 @@ use crate::reading::read_all;
 use crate::report::{Ended, Report};
 use crate::unescaping::unescape_report;
 use crate::words::{Command, parse_command};
+use program_faults::{Fault, complain, report_fault};
 use std::alloc::{AllocError, Global};
 use std::io::{Read, Write};
 
