@@ -14,6 +14,9 @@ from edits import TOP
 sys.path.insert(0, str(TOP / "docs"))
 from reading import items_of
 
+# The modules of a crate's root.
+ROOTS = ("main", "lib")
+
 
 def texts_in(value):
     """The texts in a value read from JSON, keys too."""
@@ -56,7 +59,8 @@ def functions_of(crate):
 
 def key_of(item):
     """What the prover's name for a function has of it: the type or the module that it stands in, and its own name."""
-    return item.of_type or item.module.split("/")[-1], item.short
+    module = item.crate if item.module in ROOTS else item.module.split("/")[-1]
+    return item.of_type or module, item.short
 
 
 def key_named(name, crate):
@@ -70,7 +74,7 @@ def names_in_sources(crate):
     """The names that the prover has for a crate's functions outside impls of traits."""
     found = set()
     for item in functions_of(crate).values():
-        places = [] if item.module in ("main", "lib") else item.module.split("/")
+        places = [] if item.module in ROOTS else item.module.split("/")
         found.add("::".join([crate, *places, *([item.of_type] if item.of_type else []), item.short]))
     return found
 

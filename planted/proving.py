@@ -68,13 +68,16 @@ class Room:
 
 
 class Checks:
-    """The checks of all crates: as many side by side as there are lanes, and memory for. Of a crate as it stands the check goes
-    ahead of them, since the crate's other ones wait for it."""
+    """The checks of all crates: as many side by side as there are lanes, and memory for. They give way to what else goes on, but
+    for that of a crate as it stands, since the crate's other ones wait for it."""
 
     AHEAD = ["--jobs", "2"]
+    NICE = 10
 
     def __init__(self, rt, lanes):
-        self.rt, self.room, self.lanes = rt, Room(), ThreadPoolExecutor(lanes)
+        # a thread of Linux has a niceness of its own, which what it starts has too
+        self.rt, self.room = rt, Room()
+        self.lanes = ThreadPoolExecutor(lanes, initializer=os.nice, initargs=(self.NICE,))
 
     def begin(self, what, check):
         """Has a check run, which answers later, and says how long it took."""
@@ -109,8 +112,7 @@ def shown_in(checks, crate, groups, kept):
 
 def tried_alone(rt, crate, edit, kept):
     """Whether rt says that the edit is refused, and what it says."""
-    how, text = rt.must_fail(crate, str(edit), ONE_JOB, kept)
-    return how in (rt.REFUSED, rt.AT_LIMIT), text
+    return rt.must_fail(crate, str(edit), ONE_JOB, kept)
 
 
 def tried_over(checks, crate, edits, calls, kept):
@@ -170,8 +172,8 @@ def wait_for(names, said):
 
 def prove_all(edits, lanes, built=None, said=None):
     """Tries the edits, those of all crates side by side, and prints what is not refused. An edit that is refused only since a
-    proof names what it took away, or by a limit of the prover, is counted as refused, with a line. The libraries are built
-    here first, or by rt ci, which works on a copy of the tree and writes to a file what it has proved."""
+    proof names what it took away is counted as refused, with a line. The libraries are built here first, or by rt ci, which
+    works on a copy of the tree and writes to a file what it has proved."""
     rt = rt_program()
     crates, of_crate = {it.name: it for it in rt.rtlib.crates_below(str(built or TOP))}, {}
     for edit in edits:
