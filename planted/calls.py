@@ -71,11 +71,12 @@ def key_named(name, crate):
 
 
 def names_in_sources(crate):
-    """The names that the prover has for a crate's functions outside impls of traits."""
+    """Names of a crate's functions outside impls of traits, which the prover knows: of a method its type and its own name."""
     found = set()
     for item in functions_of(crate).values():
-        places = [] if item.module in ROOTS else item.module.split("/")
-        found.add("::".join([crate, *places, *([item.of_type] if item.of_type else []), item.short]))
+        if item.body and not item.trait:
+            places = [] if item.of_type or item.module in ROOTS else item.module.split("/")
+            found.add("::".join([crate, *places, *([item.of_type] if item.of_type else []), item.short]))
     return found
 
 

@@ -68,16 +68,16 @@ class Room:
 
 
 class Checks:
-    """The checks of all crates: as many side by side as there are lanes, and memory for. They give way to what else goes on, but
-    for that of a crate as it stands, since the crate's other ones wait for it."""
+    """The checks of all crates: as many side by side as there are lanes, and memory for. They give way to what else goes on, that
+    of a crate as it stands less than its other ones, which wait for it."""
 
-    AHEAD = ["--jobs", "2"]
-    NICE = 10
+    NICE, NICE_AHEAD = 10, 5
 
-    def __init__(self, rt, lanes):
+    def __init__(self, rt, lanes, crates):
         # a thread of Linux has a niceness of its own, which what it starts has too
         self.rt, self.room = rt, Room()
         self.lanes = ThreadPoolExecutor(lanes, initializer=os.nice, initargs=(self.NICE,))
+        self.ahead = ThreadPoolExecutor(crates, initializer=os.nice, initargs=(self.NICE_AHEAD,))
 
     def begin(self, what, check):
         """Has a check run, which answers later, and says how long it took."""
@@ -90,7 +90,8 @@ class Checks:
 
     def as_it_stands(self, crate, flags, kept):
         """What a check of the crate as it stands says, of all of it or of what the flags name."""
-        said = self.timed(crate.name, lambda: self.rt.checked(crate, {}, [*self.AHEAD, *flags], kept))
+        check = lambda: self.rt.checked(crate, {}, [*ONE_JOB, *flags], kept)
+        said = self.ahead.submit(self.timed, crate.name, check).result()
         if said.returncode:
             raise SystemExit(f"planted: {crate.name} is not proved as it stands, so its edits say nothing")
         return said.stdout
@@ -125,21 +126,25 @@ def tried_over(checks, crate, edits, calls, kept):
     return refused, {edit: it.result() for edit, it in said.items()}
 
 
+def below_edits(edits, calls):
+    """The flags of a check of what the functions that these edits change rest on."""
+    return asked_for(calls.below(set().union(*(changed_functions(it, changed_lines(it), calls) for it in edits))))
+
+
 def ahead_of(checks, crate, edits, said, kept):
     """The calls of a crate, once what its edits stand on is proved as it stands, and the flags of a check that shows this again.
-    Of a library, once it is built, that is what the edited functions call, and its code tells the calls; of any other crate all is
-    proved. Where nothing is kept it is proved with the edit."""
+    That is what the edited functions seem to call by the sources, before the library is built; then its code tells the calls. Of a
+    crate that is no library all is proved, and of one where nothing is kept what is wanted is proved with the edit."""
+    by_sources = Calls(crate.name, calls_in_sources(crate.name, names_in_sources(crate.name)))
     if not kept:
-        return Calls(crate.name, calls_in_sources(crate.name, names_in_sources(crate.name))), []
-    wait_for(set() if crate.is_static or crate.is_program else {crate.name}, said)
-    code = calls_in_code(crate.folder)
-    if code is None:
+        return by_sources, []
+    if crate.is_static or crate.is_program:
         proved = PROVED.findall(checks.as_it_stands(crate, [], kept))
         return Calls(crate.name, calls_in_sources(crate.name, proved)), []
-    calls = Calls(crate.name, code)
-    flags = asked_for(calls.below(set().union(*(changed_functions(it, changed_lines(it), calls) for it in edits))))
+    flags = below_edits(edits, by_sources)
     checks.as_it_stands(crate, flags, kept)
-    return calls, flags
+    wait_for({crate.name}, said)
+    return Calls(crate.name, calls_in_code(crate.folder)), flags
 
 
 def kept_of(crate, edits, said):
@@ -180,7 +185,7 @@ def prove_all(edits, lanes, built=None, said=None):
         of_crate.setdefault(crate_of(edit), []).append(edit)
     if not built:
         build_libraries([crates[name] for name in of_crate])
-    checks = Checks(rt, lanes)
+    checks = Checks(rt, lanes, len(of_crate))
 
     def answers(name):
         wait_for({it.name for it in crates[name].below()}, said)

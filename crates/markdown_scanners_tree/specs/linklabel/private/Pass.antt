@@ -1,5 +1,6 @@
 -- What the two passes over a label tell each other.
-use Rattle.std.specs.Prelude.{ℕ, Bool, true, false, ◌||◌, ◌&&◌, ◌==◌, not, List, [], ◌∷◌, ◌≡◌, ◌++◌, ◌+◌, ◌-◌, ◌≤◌, length, drop, take, get_or, slice_index, slice_range, IsCharBoundary, String, if◌then◌else◌}
+use Rattle.std.specs.Prelude.{ℕ, Bool, true, false, ◌||◌, ◌&&◌, ◌==◌, not, List, [], ◌∷◌, ◌≡◌, ◌++◌, ◌+◌, ◌-◌, ◌≤◌}
+use Rattle.std.specs.Prelude.{length, drop, take, get_or, slice_index, slice_range, IsCharBoundary, String, if◌then◌else◌}
 use Rattle.std.specs.String.{string_bytes, string_len}
 use Rattle.markdown_scanners_tree.specs.Bytes.{begins_with, is_between, is_punctuation}
 use Rattle.markdown_scanners_tree.specs.Ascii.{space, backslash, vertical_line}
