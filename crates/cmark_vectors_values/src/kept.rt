@@ -1,5 +1,5 @@
 //! The calls that copy a value, and that make one with nothing borrowed, of all types alike.
-use crate::asserts::assert_same;
+use crate::asserts::{assert_same, made};
 use markdown_values::strings::CowStr;
 use markdown_values::values::{CodeBlockKind, Event, Tag};
 use std::alloc::{AllocError, Global};
@@ -58,18 +58,17 @@ pub(crate) fn assert_kept<T: Debug + Drop + Kept + PartialEq>(
     rt: &impl Abort,
     alloc: Global,
     value: T,
-) -> Result<(), AllocError> {
-    let copy = value.copied(alloc)?;
+) {
+    let copy = made(rt, value.copied(alloc));
     assert_same(rt, &copy, &value);
-    assert_same(rt, value.made_static(alloc)?, copy);
-    Ok(())
+    assert_same(rt, made(rt, value.made_static(alloc)), copy);
 }
 
 /// The same of a value that is made first.
 pub(crate) fn assert_made_kept<T: Debug + Drop + Kept + PartialEq>(
     rt: &impl Abort,
     alloc: Global,
-    made: Result<T, AllocError>,
-) -> Result<(), AllocError> {
-    assert_kept(rt, alloc, made?)
+    value: Result<T, AllocError>,
+) {
+    assert_kept(rt, alloc, made(rt, value));
 }

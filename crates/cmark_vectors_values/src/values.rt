@@ -1,5 +1,5 @@
 //! Tags, events, headings and links: rows of their calls.
-use crate::asserts::{are_different, are_made_same, are_same, assert_same, assert_text};
+use crate::asserts::{are_different, are_made_same, are_same, assert_same, assert_text, made};
 use crate::bounds::printed;
 use crate::kept::{Kept, assert_kept, assert_made_kept};
 use markdown_values::strings::CowStr;
@@ -9,7 +9,6 @@ use markdown_values::values::{
 };
 use std::alloc::{AllocError, Global};
 use std::process::Abort;
-use std::test::Fail;
 
 mod options;
 
@@ -23,88 +22,84 @@ fn level_of<T: TryInto<HeadingLevel, Error = InvalidHeadingLevel>>(
     number.try_into()
 }
 
-fn assert_level(
-    rt: &impl Abort,
-    alloc: Global,
-    number: usize,
-    level: HeadingLevel,
-    name: &str,
-) -> Result<(), AllocError> {
+fn assert_level(rt: &impl Abort, alloc: Global, number: usize, level: HeadingLevel, name: &str) {
     assert_same(rt, HeadingLevel::try_from(number), Ok(level));
     assert_same(rt, level as usize, number);
-    assert_text(rt, printed(alloc, &level), name)
+    assert_text(rt, printed(alloc, &level), name);
 }
 
 fn printed_wide(alloc: Global, level: HeadingLevel) -> Result<String, AllocError> {
     format!(in alloc; "<{:>4}>", level)
 }
 
+const LEVELS: [(usize, HeadingLevel, &str); 6] = [
+    (1, HeadingLevel::H1, "h1"),
+    (2, HeadingLevel::H2, "h2"),
+    (3, HeadingLevel::H3, "h3"),
+    (4, HeadingLevel::H4, "h4"),
+    (5, HeadingLevel::H5, "h5"),
+    (6, HeadingLevel::H6, "h6"),
+];
+
+fn assert_no_level(rt: &impl Abort, number: usize) {
+    assert_same(
+        rt,
+        HeadingLevel::try_from(number),
+        Err(InvalidHeadingLevel(number)),
+    );
+}
+
 #[test]
-fn levels_are_one_to_six(rt: HostRuntime) -> Result<(), Fail> {
-    let levels = [
-        (1, HeadingLevel::H1, "h1"),
-        (2, HeadingLevel::H2, "h2"),
-        (3, HeadingLevel::H3, "h3"),
-        (4, HeadingLevel::H4, "h4"),
-        (5, HeadingLevel::H5, "h5"),
-        (6, HeadingLevel::H6, "h6"),
-    ];
-    for (number, level, name) in levels {
-        assert_level(&rt, rt.alloc(), number, level, name)?;
+fn levels_are_one_to_six(rt: HostRuntime) {
+    for (number, level, name) in LEVELS {
+        assert_level(&rt, rt.alloc(), number, level, name);
     }
     for number in [0, 7, usize::MAX] {
-        assert_same(
-            &rt,
-            HeadingLevel::try_from(number),
-            Err(InvalidHeadingLevel(number)),
-        );
+        assert_no_level(&rt, number);
     }
     assert_same(&rt, level_of(6_usize), Ok(HeadingLevel::H6));
-    assert_text(&rt, printed_wide(rt.alloc(), HeadingLevel::H3), "<h3>")?;
-    Ok(())
+    assert_text(&rt, printed_wide(rt.alloc(), HeadingLevel::H3), "<h3>");
 }
+
+const UNKNOWN: [(LinkType, LinkType); 3] = [
+    (LinkType::Reference, LinkType::ReferenceUnknown),
+    (LinkType::Collapsed, LinkType::CollapsedUnknown),
+    (LinkType::Shortcut, LinkType::ShortcutUnknown),
+];
 
 #[test]
 fn references_become_unknown(rt: HostRuntime) {
-    assert_same(
-        &rt,
-        LinkType::Reference.to_unknown(),
-        LinkType::ReferenceUnknown,
-    );
-    assert_same(
-        &rt,
-        LinkType::Collapsed.to_unknown(),
-        LinkType::CollapsedUnknown,
-    );
-    assert_same(
-        &rt,
-        LinkType::Shortcut.to_unknown(),
-        LinkType::ShortcutUnknown,
-    );
-}
-
-// Whether a code block is indented, and whether it is fenced.
-fn indented_and_fenced(kind: CodeBlockKind<'_>) -> (bool, bool) {
-    (kind.is_indented(), kind.is_fenced())
+    for (link_type, unknown) in UNKNOWN {
+        assert_same(&rt, link_type.to_unknown(), unknown);
+    }
 }
 
 fn fenced(info: &'static str) -> CodeBlockKind<'static> {
     CodeBlockKind::Fenced(CowStr::from(info))
 }
 
+fn assert_indented_or_fenced(rt: &impl Abort, kind: &CodeBlockKind<'_>, is_fenced: bool) {
+    assert!(rt; kind.is_indented() != is_fenced);
+    assert!(rt; kind.is_fenced() == is_fenced);
+}
+
+// Of what kind the code block is, and what it is once kept.
+fn assert_code_block(
+    rt: &impl Abort,
+    alloc: Global,
+    kind: CodeBlockKind<'static>,
+    is_fenced: bool,
+) {
+    assert_indented_or_fenced(rt, &kind, is_fenced);
+    assert_kept(rt, alloc, kind);
+}
+
 #[test]
-fn code_blocks_are_indented_or_fenced(rt: HostRuntime) -> Result<(), Fail> {
-    assert_same(
-        &rt,
-        indented_and_fenced(CodeBlockKind::Indented),
-        (true, false),
-    );
-    assert_same(&rt, indented_and_fenced(fenced("rust")), (false, true));
-    assert_kept(&rt, rt.alloc(), fenced("rust"))?;
-    assert_kept(&rt, rt.alloc(), CodeBlockKind::Indented)?;
+fn code_blocks_are_indented_or_fenced(rt: HostRuntime) {
+    assert_code_block(&rt, rt.alloc(), CodeBlockKind::Indented, false);
+    assert_code_block(&rt, rt.alloc(), fenced("rust"), true);
     assert!(rt; are_different(fenced("rust"), CodeBlockKind::Indented));
     assert!(rt; are_different(fenced("rust"), fenced("rus")));
-    Ok(())
 }
 
 fn list_of_one<T: Drop>(alloc: Global, item: T) -> Result<Vec<T>, AllocError> {
@@ -175,98 +170,123 @@ fn assert_end(rt: &impl Abort, tag: Tag<'_>, end: TagEnd) {
 }
 
 // The same of a tag that is made first.
-fn assert_made_end(
-    rt: &impl Abort,
-    made: Result<Tag<'_>, AllocError>,
-    end: TagEnd,
-) -> Result<(), AllocError> {
-    assert_end(rt, made?, end);
-    Ok(())
+fn assert_made_end(rt: &impl Abort, tag: Result<Tag<'_>, AllocError>, end: TagEnd) {
+    assert_end(rt, made(rt, tag), end);
 }
 
 #[test]
-fn headings_and_tables_end_as_the_table_says(rt: HostRuntime) -> Result<(), Fail> {
+fn headings_and_tables_end_as_the_table_says(rt: HostRuntime) {
     let alloc = rt.alloc();
-    let level = HeadingLevel::H2;
-    assert_made_end(
-        &rt,
-        heading(alloc, ("i", "c", "a", None)),
-        TagEnd::Heading(level),
-    )?;
-    assert_made_end(&rt, table(alloc, Alignment::Left), TagEnd::Table)?;
-    Ok(())
+    let heading = heading(alloc, ("i", "c", "a", None));
+    assert_made_end(&rt, heading, TagEnd::Heading(HeadingLevel::H2));
+    assert_made_end(&rt, table(alloc, Alignment::Left), TagEnd::Table);
+}
+
+const ENDS_WITH_CONTENTS: [TagEnd; 12] = [
+    TagEnd::BlockQuote(None),
+    TagEnd::BlockQuote(Some(BlockQuoteKind::Tip)),
+    TagEnd::BlockQuote(Some(BlockQuoteKind::Caution)),
+    TagEnd::CodeBlock,
+    TagEnd::List(true),
+    TagEnd::List(true),
+    TagEnd::List(false),
+    TagEnd::FootnoteDefinition,
+    TagEnd::Link,
+    TagEnd::Image,
+    TagEnd::MetadataBlock(MetadataBlockKind::YamlStyle),
+    TagEnd::MetadataBlock(MetadataBlockKind::PlusesStyle),
+];
+
+// The tag that the end of this row of the table closes.
+fn tag_with_contents(row: usize) -> Tag<'static> {
+    match row {
+        0 => Tag::BlockQuote(None),
+        1 => Tag::BlockQuote(Some(BlockQuoteKind::Tip)),
+        2 => Tag::BlockQuote(Some(BlockQuoteKind::Caution)),
+        3 => Tag::CodeBlock(CodeBlockKind::Indented),
+        4 => Tag::List(Some(3)),
+        5 => Tag::List(Some(0)),
+        6 => Tag::List(None),
+        7 => Tag::FootnoteDefinition(CowStr::from("1")),
+        8 => link("d", "t", "i"),
+        9 => image(LinkType::Email),
+        10 => Tag::MetadataBlock(MetadataBlockKind::YamlStyle),
+        _ => Tag::MetadataBlock(MetadataBlockKind::PlusesStyle),
+    }
 }
 
 #[test]
 fn tags_with_contents_end_as_the_table_says(rt: HostRuntime) {
-    for kind in [
-        None,
-        Some(BlockQuoteKind::Tip),
-        Some(BlockQuoteKind::Caution),
-    ] {
-        assert_end(&rt, Tag::BlockQuote(kind), TagEnd::BlockQuote(kind));
+    for (row, end) in ENDS_WITH_CONTENTS.iter().enumerate() {
+        assert_end(&rt, tag_with_contents(row), *end);
     }
-    assert_end(
-        &rt,
-        Tag::CodeBlock(CodeBlockKind::Indented),
-        TagEnd::CodeBlock,
-    );
-    assert_end(&rt, Tag::List(Some(3)), TagEnd::List(true));
-    assert_end(&rt, Tag::List(Some(0)), TagEnd::List(true));
-    assert_end(&rt, Tag::List(None), TagEnd::List(false));
-    let footnote = Tag::FootnoteDefinition(CowStr::from("1"));
-    assert_end(&rt, footnote, TagEnd::FootnoteDefinition);
-    assert_end(&rt, link("d", "t", "i"), TagEnd::Link);
-    assert_end(&rt, image(LinkType::Email), TagEnd::Image);
-    for kind in [MetadataBlockKind::YamlStyle, MetadataBlockKind::PlusesStyle] {
-        assert_end(&rt, Tag::MetadataBlock(kind), TagEnd::MetadataBlock(kind));
+}
+
+const PLAIN_ENDS: [TagEnd; 14] = [
+    TagEnd::Paragraph,
+    TagEnd::HtmlBlock,
+    TagEnd::Item,
+    TagEnd::DefinitionList,
+    TagEnd::DefinitionListTitle,
+    TagEnd::DefinitionListDefinition,
+    TagEnd::TableHead,
+    TagEnd::TableRow,
+    TagEnd::TableCell,
+    TagEnd::Emphasis,
+    TagEnd::Strong,
+    TagEnd::Strikethrough,
+    TagEnd::Superscript,
+    TagEnd::Subscript,
+];
+
+// The tag without contents that the end of this row of the table closes.
+fn plain_tag(row: usize) -> Tag<'static> {
+    match row {
+        0 => Tag::Paragraph,
+        1 => Tag::HtmlBlock,
+        2 => Tag::Item,
+        3 => Tag::DefinitionList,
+        4 => Tag::DefinitionListTitle,
+        5 => Tag::DefinitionListDefinition,
+        6 => Tag::TableHead,
+        7 => Tag::TableRow,
+        8 => Tag::TableCell,
+        9 => Tag::Emphasis,
+        10 => Tag::Strong,
+        11 => Tag::Strikethrough,
+        12 => Tag::Superscript,
+        _ => Tag::Subscript,
     }
 }
 
 #[test]
 fn plain_tags_end_as_the_table_says(rt: HostRuntime) {
-    assert_end(&rt, Tag::Paragraph, TagEnd::Paragraph);
-    assert_end(&rt, Tag::HtmlBlock, TagEnd::HtmlBlock);
-    assert_end(&rt, Tag::Item, TagEnd::Item);
-    assert_end(&rt, Tag::DefinitionList, TagEnd::DefinitionList);
-    assert_end(&rt, Tag::DefinitionListTitle, TagEnd::DefinitionListTitle);
-    let definition = TagEnd::DefinitionListDefinition;
-    assert_end(&rt, Tag::DefinitionListDefinition, definition);
-    assert_end(&rt, Tag::TableHead, TagEnd::TableHead);
-    assert_end(&rt, Tag::TableRow, TagEnd::TableRow);
-    assert_end(&rt, Tag::TableCell, TagEnd::TableCell);
-    assert_end(&rt, Tag::Emphasis, TagEnd::Emphasis);
-    assert_end(&rt, Tag::Strong, TagEnd::Strong);
-    assert_end(&rt, Tag::Strikethrough, TagEnd::Strikethrough);
-    assert_end(&rt, Tag::Superscript, TagEnd::Superscript);
-    assert_end(&rt, Tag::Subscript, TagEnd::Subscript);
-}
-
-// Whether headings made of these are equal.
-fn are_equal_headings(
-    alloc: Global,
-    one: HeadingParts,
-    other: HeadingParts,
-) -> Result<bool, AllocError> {
-    are_made_same(heading(alloc, one), heading(alloc, other))
+    for (row, end) in PLAIN_ENDS.iter().enumerate() {
+        assert_end(&rt, plain_tag(row), *end);
+    }
 }
 
 // Equality looks at each part of a tag.
+const HEADINGS: [HeadingParts; 5] = [
+    ("j", "c", "a", Some("v")),
+    ("i", "d", "a", Some("v")),
+    ("i", "c", "b", Some("v")),
+    ("i", "c", "a", Some("w")),
+    ("i", "c", "a", None),
+];
+
+// Whether a heading made of these parts equals that of the parts which the table changes.
+fn is_equal_heading(rt: &impl Abort, alloc: Global, parts: HeadingParts) -> bool {
+    let unchanged = heading(alloc, ("i", "c", "a", Some("v")));
+    are_made_same(rt, unchanged, heading(alloc, parts))
+}
+
 #[test]
-fn headings_differ_in_each_part(rt: HostRuntime) -> Result<(), Fail> {
-    let parts: HeadingParts = ("i", "c", "a", Some("v"));
-    let others: [HeadingParts; 5] = [
-        ("j", "c", "a", Some("v")),
-        ("i", "d", "a", Some("v")),
-        ("i", "c", "b", Some("v")),
-        ("i", "c", "a", Some("w")),
-        ("i", "c", "a", None),
-    ];
-    assert!(rt; are_equal_headings(rt.alloc(), parts, parts)?);
-    for other in others {
-        assert!(rt; !are_equal_headings(rt.alloc(), parts, other)?);
+fn headings_differ_in_each_part(rt: HostRuntime) {
+    assert!(rt; is_equal_heading(&rt, rt.alloc(), ("i", "c", "a", Some("v"))));
+    for parts in HEADINGS {
+        assert!(rt; !is_equal_heading(&rt, rt.alloc(), parts));
     }
-    Ok(())
 }
 
 // A destination, a title and an identifier.
@@ -284,12 +304,13 @@ fn are_equal_images(one: LinkType, other: LinkType) -> bool {
     are_same(image(one), image(other))
 }
 
+const LINKS: [LinkParts; 3] = [("e", "t", "i"), ("d", "u", "i"), ("d", "t", "j")];
+
 #[test]
 fn links_differ_in_each_part(rt: HostRuntime) {
     let parts: LinkParts = ("d", "t", "i");
-    let others: [LinkParts; 3] = [("e", "t", "i"), ("d", "u", "i"), ("d", "t", "j")];
     assert!(rt; are_equal_links(parts, parts));
-    for other in others {
+    for other in LINKS {
         assert!(rt; !are_equal_links(parts, other));
     }
     assert!(rt; !is_equal_image(parts, LinkType::Inline));
@@ -297,72 +318,76 @@ fn links_differ_in_each_part(rt: HostRuntime) {
     assert!(rt; !are_equal_images(LinkType::Inline, LinkType::Email));
 }
 
-fn are_equal_tables(alloc: Global, one: Alignment, other: Alignment) -> Result<bool, AllocError> {
-    are_made_same(table(alloc, one), table(alloc, other))
-}
-
-fn is_empty_table(alloc: Global, last: Alignment) -> Result<bool, AllocError> {
-    are_made_same(table(alloc, last), Ok(Tag::Table(Vec::new(alloc))))
-}
-
 #[test]
-fn tables_differ_in_their_alignments(rt: HostRuntime) -> Result<(), Fail> {
-    assert!(rt; are_equal_tables(rt.alloc(), Alignment::Left, Alignment::Left)?);
-    assert!(rt; !are_equal_tables(rt.alloc(), Alignment::Left, Alignment::Right)?);
-    assert!(rt; !is_empty_table(rt.alloc(), Alignment::Left)?);
-    Ok(())
-}
-
-#[test]
-fn copies_and_static_tags_equal_the_tag(rt: HostRuntime) -> Result<(), Fail> {
+fn tables_differ_in_their_alignments(rt: HostRuntime) {
     let alloc = rt.alloc();
-    assert_kept(&rt, alloc, Tag::Paragraph)?;
-    assert_made_kept(&rt, alloc, heading(alloc, ("i", OF_30, "a", Some(OF_30))))?;
-    assert_kept(&rt, alloc, Tag::BlockQuote(Some(BlockQuoteKind::Note)))?;
-    assert_kept(&rt, alloc, Tag::CodeBlock(fenced(OF_30)))?;
-    assert_kept(&rt, alloc, Tag::List(Some(3)))?;
-    assert_kept(&rt, alloc, Tag::Item)?;
-    assert_kept(&rt, alloc, Tag::FootnoteDefinition(CowStr::from(OF_15)))?;
-    assert_made_kept(&rt, alloc, table(alloc, Alignment::Center))?;
-    assert_kept(&rt, alloc, link(OF_30, OF_15, ""))?;
-    assert_kept(&rt, alloc, image(LinkType::WikiLink { has_pothole: true }))?;
-    assert_kept(
-        &rt,
-        alloc,
-        Tag::MetadataBlock(MetadataBlockKind::PlusesStyle),
-    )?;
-    Ok(())
+    let left = Alignment::Left;
+    assert!(rt; are_made_same(&rt, table(alloc, left), table(alloc, left)));
+    assert!(rt; !are_made_same(&rt, table(alloc, left), table(alloc, Alignment::Right)));
+    assert!(rt; !are_made_same(&rt, table(alloc, left), Ok(Tag::Table(Vec::new(alloc)))));
 }
 
-// A start of a table.
-fn start_of_table(alloc: Global) -> Result<Event<'static>, AllocError> {
-    Ok(Event::Start(table(alloc, Alignment::Right)?))
-}
-
-#[test]
-fn copies_and_static_events_of_texts_equal_the_event(rt: HostRuntime) -> Result<(), Fail> {
-    let alloc = rt.alloc();
-    let text = CowStr::from;
-    assert_kept(&rt, alloc, Event::Text(text(OF_30)))?;
-    assert_kept(&rt, alloc, Event::Code(text(OF_15)))?;
-    assert_kept(&rt, alloc, Event::InlineMath(text("x")))?;
-    assert_kept(&rt, alloc, Event::DisplayMath(text("x")))?;
-    assert_kept(&rt, alloc, Event::Html(text("<a>")))?;
-    assert_kept(&rt, alloc, Event::InlineHtml(text("<a>")))?;
-    assert_kept(&rt, alloc, Event::FootnoteReference(text("1")))?;
-    Ok(())
+// The tags that are copied and made static, by their rows.
+fn kept_tag(alloc: Global, row: usize) -> Result<Tag<'static>, AllocError> {
+    match row {
+        0 => Ok(Tag::Paragraph),
+        1 => heading(alloc, ("i", OF_30, "a", Some(OF_30))),
+        2 => Ok(Tag::BlockQuote(Some(BlockQuoteKind::Note))),
+        3 => Ok(Tag::CodeBlock(fenced(OF_30))),
+        4 => Ok(Tag::List(Some(3))),
+        5 => Ok(Tag::Item),
+        6 => Ok(Tag::FootnoteDefinition(CowStr::from(OF_15))),
+        7 => table(alloc, Alignment::Center),
+        8 => Ok(link(OF_30, OF_15, "")),
+        9 => Ok(image(LinkType::WikiLink { has_pothole: true })),
+        _ => Ok(Tag::MetadataBlock(MetadataBlockKind::PlusesStyle)),
+    }
 }
 
 #[test]
-fn copies_and_static_events_equal_the_event(rt: HostRuntime) -> Result<(), Fail> {
-    let alloc = rt.alloc();
-    assert_made_kept(&rt, alloc, start_of_table(alloc))?;
-    assert_kept(&rt, alloc, Event::End(TagEnd::List(true)))?;
-    assert_kept(&rt, alloc, Event::SoftBreak)?;
-    assert_kept(&rt, alloc, Event::HardBreak)?;
-    assert_kept(&rt, alloc, Event::Rule)?;
-    assert_kept(&rt, alloc, Event::TaskListMarker(true))?;
-    Ok(())
+fn copies_and_static_tags_equal_the_tag(rt: HostRuntime) {
+    for row in 0..11 {
+        assert_made_kept(&rt, rt.alloc(), kept_tag(rt.alloc(), row));
+    }
+}
+
+// The events of texts that are copied and made static, by their rows.
+fn event_of_text(row: usize) -> Event<'static> {
+    match row {
+        0 => Event::Text(CowStr::from(OF_30)),
+        1 => Event::Code(CowStr::from(OF_15)),
+        2 => Event::InlineMath(CowStr::from("x")),
+        3 => Event::DisplayMath(CowStr::from("x")),
+        4 => Event::Html(CowStr::from("<a>")),
+        5 => Event::InlineHtml(CowStr::from("<a>")),
+        _ => Event::FootnoteReference(CowStr::from("1")),
+    }
+}
+
+#[test]
+fn copies_and_static_events_of_texts_equal_the_event(rt: HostRuntime) {
+    for row in 0..7 {
+        assert_kept(&rt, rt.alloc(), event_of_text(row));
+    }
+}
+
+// The other events, by their rows.
+fn event_of_no_text(alloc: Global, row: usize) -> Result<Event<'static>, AllocError> {
+    match row {
+        0 => table(alloc, Alignment::Right).map(Event::Start),
+        1 => Ok(Event::End(TagEnd::List(true))),
+        2 => Ok(Event::SoftBreak),
+        3 => Ok(Event::HardBreak),
+        4 => Ok(Event::Rule),
+        _ => Ok(Event::TaskListMarker(true)),
+    }
+}
+
+#[test]
+fn copies_and_static_events_equal_the_event(rt: HostRuntime) {
+    for row in 0..6 {
+        assert_made_kept(&rt, rt.alloc(), event_of_no_text(rt.alloc(), row));
+    }
 }
 
 fn is_boxed(text: &CowStr<'_>) -> bool {
@@ -392,12 +417,13 @@ impl OwnsTexts for Event<'static> {
 
 // Whether the value, with nothing borrowed, equals this one and owns its texts.
 fn becomes_owned<T: Drop + Kept + OwnsTexts + PartialEq>(
+    rt: &impl Abort,
     alloc: Global,
     value: T,
     wanted: T,
-) -> Result<bool, AllocError> {
-    let value = value.made_static(alloc)?;
-    Ok(value.owns_its_texts() && value == wanted)
+) -> bool {
+    let value = made(rt, value.made_static(alloc));
+    value.owns_its_texts() && value == wanted
 }
 
 fn long_link() -> Event<'static> {
@@ -409,8 +435,7 @@ fn long_text() -> Event<'static> {
 }
 
 #[test]
-fn long_texts_of_static_events_are_owned(rt: HostRuntime) -> Result<(), Fail> {
-    assert!(rt; becomes_owned(rt.alloc(), long_link(), long_link())?);
-    assert!(rt; becomes_owned(rt.alloc(), long_text(), long_text())?);
-    Ok(())
+fn long_texts_of_static_events_are_owned(rt: HostRuntime) {
+    assert!(rt; becomes_owned(&rt, rt.alloc(), long_link(), long_link()));
+    assert!(rt; becomes_owned(&rt, rt.alloc(), long_text(), long_text()));
 }
