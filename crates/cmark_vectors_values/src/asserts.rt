@@ -39,12 +39,3 @@ pub(crate) fn are_same<T: Drop + PartialEq>(one: T, other: T) -> bool {
 pub(crate) fn are_different<T: Drop + PartialEq>(one: T, other: T) -> bool {
     one != other
 }
-
-/// Whether two values are equal, once they are made.
-pub(crate) fn are_made_same<T: Drop + PartialEq>(
-    rt: &impl Abort,
-    one: Result<T, AllocError>,
-    other: Result<T, AllocError>,
-) -> bool {
-    are_same(made(rt, one), made(rt, other))
-}

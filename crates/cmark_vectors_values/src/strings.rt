@@ -1,7 +1,7 @@
 //! Texts: what each call answers, in which variant, and that equality and hash see the text alone.
 use crate::asserts::{assert_same, assert_text, made};
 use crate::bounds::{are_equal, hash_of, printed};
-use crate::kept::Kept;
+use crate::kept::{Kept, Made};
 use markdown_values::strings::{BoxedStr, CowStr, InlineStr, MAX_INLINE_STR_LEN};
 use std::alloc::{AllocError, Global};
 use std::convert::AsStr;
@@ -44,17 +44,21 @@ fn boxed(alloc: Global, text: &str) -> Result<CowStr<'static>, AllocError> {
 
 // What a text is made from: a string of its own, a text that it borrows, or a character.
 #[derive(Clone, Copy)]
-enum Source {
+pub(crate) enum Source {
     Owned(&'static str),
     Lent(&'static str),
     Character(char),
 }
 
-fn text_of(alloc: Global, source: Source) -> Result<CowStr<'static>, AllocError> {
-    match source {
-        Source::Owned(text) => boxed(alloc, text),
-        Source::Lent(text) => Ok(CowStr::from(text)),
-        Source::Character(character) => Ok(CowStr::from(character)),
+impl Made for CowStr<'static> {
+    type Parts = Source;
+
+    fn made(alloc: Global, source: Source) -> Result<CowStr<'static>, AllocError> {
+        match source {
+            Source::Owned(text) => boxed(alloc, text),
+            Source::Lent(text) => Ok(CowStr::from(text)),
+            Source::Character(character) => Ok(CowStr::from(character)),
+        }
     }
 }
 
@@ -89,7 +93,7 @@ fn assert_fits(rt: &impl Abort, text: &str, fits: bool) {
     }
 }
 
-const FITS: [(&str, bool); 5] = [
+const FITS: &[(&str, bool)] = &[
     ("", true),
     (OF_15, true),
     (OF_22, true),
@@ -106,7 +110,7 @@ fn texts_of_at_most_22_bytes_are_inlined(rt: HostRuntime) {
     assert_same(&rt, InlineStr::from('🍔').as_str(), "🍔");
     assert_same(&rt, borrowed(&InlineStr::from('é')), "é");
     for (text, fits) in FITS {
-        assert_fits(&rt, text, fits);
+        assert_fits(&rt, text, *fits);
     }
     assert!(rt; !are_equal(&InlineStr::from('a'), &InlineStr::from('b')));
 }
@@ -118,17 +122,18 @@ fn assert_held<T: AsStr + Drop + Held>(rt: &impl Abort, text: T, variant: &str, 
     assert_same(rt, borrowed(&text), wanted);
 }
 
-// The same of a text that is made first.
-fn assert_made_held<T: AsStr + Drop + Held>(
+// The same of the text made from these parts.
+fn assert_made_held<T: AsStr + Drop + Held + Made>(
     rt: &impl Abort,
-    text: Result<T, AllocError>,
+    alloc: Global,
+    parts: T::Parts,
     variant: &str,
     wanted: &str,
 ) {
-    assert_held(rt, made(rt, text), variant, wanted);
+    assert_held(rt, made(rt, T::made(alloc, parts)), variant, wanted);
 }
 
-const HELD: [(Source, &str, &str); 6] = [
+const HELD: &[(Source, &str, &str)] = &[
     (Source::Character('c'), "inlined", "c"),
     (Source::Character('藏'), "inlined", "藏"),
     (Source::Lent(""), "borrowed", ""),
@@ -140,16 +145,17 @@ const HELD: [(Source, &str, &str); 6] = [
 #[test]
 fn a_character_is_inlined_and_a_text_is_borrowed(rt: HostRuntime) {
     for (source, variant, wanted) in HELD {
-        assert_made_held(&rt, text_of(rt.alloc(), source), variant, wanted);
+        assert_made_held::<CowStr<'static>>(&rt, rt.alloc(), *source, variant, wanted);
     }
 }
 
-// The string of a text is this.
-fn assert_string(rt: &impl Abort, alloc: Global, text: CowStr<'_>, wanted: &str) {
+// The string of the text made from this source is this.
+fn assert_string(rt: &impl Abort, alloc: Global, source: Source, wanted: &str) {
+    let text = made(rt, CowStr::made(alloc, source));
     assert_text(rt, text.into_string(alloc), wanted);
 }
 
-const STRINGS: [(Source, &str); 4] = [
+const STRINGS: &[(Source, &str)] = &[
     (Source::Lent("some text"), "some text"),
     (Source::Character('s'), "s"),
     (Source::Owned("s"), "s"),
@@ -158,9 +164,8 @@ const STRINGS: [(Source, &str); 4] = [
 
 #[test]
 fn each_variant_gives_its_string(rt: HostRuntime) {
-    let alloc = rt.alloc();
     for (source, wanted) in STRINGS {
-        assert_string(&rt, alloc, made(&rt, text_of(alloc, source)), wanted);
+        assert_string(&rt, rt.alloc(), *source, wanted);
     }
 }
 
@@ -180,19 +185,19 @@ fn a_string_is_owned(rt: HostRuntime) {
 }
 
 // A copy is held so, and equals the text.
-fn assert_copy<T: AsStr + Debug + Drop + Held + Kept + PartialEq>(
+fn assert_copy<T: AsStr + Debug + Drop + Held + Kept + Made + PartialEq>(
     rt: &impl Abort,
     alloc: Global,
-    text: Result<T, AllocError>,
+    parts: T::Parts,
     variant: &str,
 ) {
-    let text = made(rt, text);
+    let text = made(rt, T::made(alloc, parts));
     let copy = made(rt, text.copied(alloc));
     assert_same(rt, &copy, &text);
     assert_held(rt, copy, variant, borrowed(&text));
 }
 
-const COPIES: [(Source, &str); 6] = [
+const COPIES: &[(Source, &str)] = &[
     (Source::Owned(OF_15), "inlined"),
     (Source::Owned(OF_22), "inlined"),
     (Source::Owned(OF_23), "boxed"),
@@ -204,22 +209,23 @@ const COPIES: [(Source, &str); 6] = [
 #[test]
 fn copies_stay_lent_or_short(rt: HostRuntime) {
     for (source, variant) in COPIES {
-        assert_copy(&rt, rt.alloc(), text_of(rt.alloc(), source), variant);
+        assert_copy::<CowStr<'static>>(&rt, rt.alloc(), *source, variant);
     }
 }
 
 // What is borrowed nowhere is held so, and reads as this text.
-fn assert_static<T: AsStr + Drop + Held + Kept>(
+fn assert_static<T: AsStr + Drop + Held + Kept + Made>(
     rt: &impl Abort,
     alloc: Global,
-    text: Result<T, AllocError>,
+    parts: T::Parts,
     variant: &str,
     wanted: &str,
 ) {
-    assert_made_held(rt, made(rt, text).made_static(alloc), variant, wanted);
+    let text = made(rt, T::made(alloc, parts));
+    assert_held(rt, made(rt, text.made_static(alloc)), variant, wanted);
 }
 
-const STATIC: [(Source, &str, &str); 5] = [
+const STATIC: &[(Source, &str, &str)] = &[
     (Source::Lent(OF_22), "inlined", OF_22),
     (Source::Lent(OF_23), "boxed", OF_23),
     (Source::Owned("a"), "boxed", "a"),
@@ -229,9 +235,8 @@ const STATIC: [(Source, &str, &str); 5] = [
 
 #[test]
 fn static_texts_are_lent_nowhere(rt: HostRuntime) {
-    let alloc = rt.alloc();
     for (source, variant, wanted) in STATIC {
-        assert_static(&rt, alloc, text_of(alloc, source), variant, wanted);
+        assert_static::<CowStr<'static>>(&rt, rt.alloc(), *source, variant, wanted);
     }
 }
 
@@ -246,21 +251,26 @@ fn hash_of_owned<T: Drop + Hash>(value: T) -> u64 {
 }
 
 // Texts that are boxed, borrowed and inlined equal one another.
-const EQUAL: [(Source, Source); 3] = [
+const EQUAL: &[(Source, Source)] = &[
     (Source::Owned("a"), Source::Lent("a")),
     (Source::Lent("a"), Source::Character('a')),
     (Source::Character('a'), Source::Owned("a")),
 ];
 
-fn assert_equal_texts(rt: &impl Abort, alloc: Global, one: Source, other: Source) {
-    let one = made(rt, text_of(alloc, one));
-    assert_equal(rt, one, made(rt, text_of(alloc, other)));
+fn assert_made_equal<T: Drop + Eq + Hash + Made>(
+    rt: &impl Abort,
+    alloc: Global,
+    one: T::Parts,
+    other: T::Parts,
+) {
+    let one = made(rt, T::made(alloc, one));
+    assert_equal(rt, one, made(rt, T::made(alloc, other)));
 }
 
 #[test]
 fn texts_are_equal_whatever_holds_them(rt: HostRuntime) {
     for (one, other) in EQUAL {
-        assert_equal_texts(&rt, rt.alloc(), one, other);
+        assert_made_equal::<CowStr<'static>>(&rt, rt.alloc(), *one, *other);
     }
     assert_same(
         &rt,

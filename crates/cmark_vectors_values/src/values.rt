@@ -1,7 +1,7 @@
 //! Tags, events, headings and links: rows of their calls.
-use crate::asserts::{are_different, are_made_same, are_same, assert_same, assert_text, made};
+use crate::asserts::{are_different, assert_same, assert_text, made};
 use crate::bounds::printed;
-use crate::kept::{Kept, assert_kept, assert_made_kept};
+use crate::kept::{Kept, Made, are_equal_made, assert_kept, assert_made_kept};
 use markdown_values::strings::CowStr;
 use markdown_values::values::{
     Alignment, BlockQuoteKind, CodeBlockKind, Event, HeadingLevel, InvalidHeadingLevel, LinkType,
@@ -32,7 +32,7 @@ fn printed_wide(alloc: Global, level: HeadingLevel) -> Result<String, AllocError
     format!(in alloc; "<{:>4}>", level)
 }
 
-const LEVELS: [(usize, HeadingLevel, &str); 6] = [
+const LEVELS: &[(usize, HeadingLevel, &str)] = &[
     (1, HeadingLevel::H1, "h1"),
     (2, HeadingLevel::H2, "h2"),
     (3, HeadingLevel::H3, "h3"),
@@ -52,7 +52,7 @@ fn assert_no_level(rt: &impl Abort, number: usize) {
 #[test]
 fn levels_are_one_to_six(rt: HostRuntime) {
     for (number, level, name) in LEVELS {
-        assert_level(&rt, rt.alloc(), number, level, name);
+        assert_level(&rt, rt.alloc(), *number, *level, name);
     }
     for number in [0, 7, usize::MAX] {
         assert_no_level(&rt, number);
@@ -61,7 +61,7 @@ fn levels_are_one_to_six(rt: HostRuntime) {
     assert_text(&rt, printed_wide(rt.alloc(), HeadingLevel::H3), "<h3>");
 }
 
-const UNKNOWN: [(LinkType, LinkType); 3] = [
+const UNKNOWN: &[(LinkType, LinkType)] = &[
     (LinkType::Reference, LinkType::ReferenceUnknown),
     (LinkType::Collapsed, LinkType::CollapsedUnknown),
     (LinkType::Shortcut, LinkType::ShortcutUnknown),
@@ -70,7 +70,7 @@ const UNKNOWN: [(LinkType, LinkType); 3] = [
 #[test]
 fn references_become_unknown(rt: HostRuntime) {
     for (link_type, unknown) in UNKNOWN {
-        assert_same(&rt, link_type.to_unknown(), unknown);
+        assert_same(&rt, link_type.to_unknown(), *unknown);
     }
 }
 
@@ -109,7 +109,7 @@ fn list_of_one<T: Drop>(alloc: Global, item: T) -> Result<Vec<T>, AllocError> {
 }
 
 // An identifier, a class, and an attribute's name and value.
-type HeadingParts = (
+pub(crate) type HeadingParts = (
     &'static str,
     &'static str,
     &'static str,
@@ -163,26 +163,52 @@ fn table(alloc: Global, last: Alignment) -> Result<Tag<'static>, AllocError> {
     Ok(Tag::Table(alignments))
 }
 
+// A destination, a title and an identifier.
+pub(crate) type LinkParts = (&'static str, &'static str, &'static str);
+
+// The parts of a tag. Those of a table are its last alignment, and none of an empty one.
+#[derive(Clone, Copy)]
+pub(crate) enum TagParts {
+    Heading(HeadingParts),
+    Link(LinkParts),
+    Image(LinkType),
+    Table(Option<Alignment>),
+}
+
+impl Made for Tag<'static> {
+    type Parts = TagParts;
+
+    fn made(alloc: Global, parts: TagParts) -> Result<Tag<'static>, AllocError> {
+        match parts {
+            TagParts::Heading(parts) => heading(alloc, parts),
+            TagParts::Link(parts) => Ok(link(parts.0, parts.1, parts.2)),
+            TagParts::Image(link_type) => Ok(image(link_type)),
+            TagParts::Table(Some(last)) => table(alloc, last),
+            TagParts::Table(None) => Ok(Tag::Table(Vec::new(alloc))),
+        }
+    }
+}
+
 // A tag is ended by `end`, however it is asked.
 fn assert_end(rt: &impl Abort, tag: Tag<'_>, end: TagEnd) {
     assert_same(rt, tag.to_end(), end);
     assert_same(rt, TagEnd::from(tag), end);
 }
 
-// The same of a tag that is made first.
-fn assert_made_end(rt: &impl Abort, tag: Result<Tag<'_>, AllocError>, end: TagEnd) {
-    assert_end(rt, made(rt, tag), end);
+// The same of the tag made from these parts.
+fn assert_made_end(rt: &impl Abort, alloc: Global, parts: TagParts, end: TagEnd) {
+    assert_end(rt, made(rt, Tag::made(alloc, parts)), end);
 }
 
 #[test]
 fn headings_and_tables_end_as_the_table_says(rt: HostRuntime) {
-    let alloc = rt.alloc();
-    let heading = heading(alloc, ("i", "c", "a", None));
-    assert_made_end(&rt, heading, TagEnd::Heading(HeadingLevel::H2));
-    assert_made_end(&rt, table(alloc, Alignment::Left), TagEnd::Table);
+    let heading = TagParts::Heading(("i", "c", "a", None));
+    assert_made_end(&rt, rt.alloc(), heading, TagEnd::Heading(HeadingLevel::H2));
+    let table = TagParts::Table(Some(Alignment::Left));
+    assert_made_end(&rt, rt.alloc(), table, TagEnd::Table);
 }
 
-const ENDS_WITH_CONTENTS: [TagEnd; 12] = [
+const ENDS_WITH_CONTENTS: &[TagEnd] = &[
     TagEnd::BlockQuote(None),
     TagEnd::BlockQuote(Some(BlockQuoteKind::Tip)),
     TagEnd::BlockQuote(Some(BlockQuoteKind::Caution)),
@@ -222,7 +248,7 @@ fn tags_with_contents_end_as_the_table_says(rt: HostRuntime) {
     }
 }
 
-const PLAIN_ENDS: [TagEnd; 14] = [
+const PLAIN_ENDS: &[TagEnd] = &[
     TagEnd::Paragraph,
     TagEnd::HtmlBlock,
     TagEnd::Item,
@@ -266,88 +292,97 @@ fn plain_tags_end_as_the_table_says(rt: HostRuntime) {
     }
 }
 
-// Equality looks at each part of a tag.
-const HEADINGS: [HeadingParts; 5] = [
-    ("j", "c", "a", Some("v")),
-    ("i", "d", "a", Some("v")),
-    ("i", "c", "b", Some("v")),
-    ("i", "c", "a", Some("w")),
-    ("i", "c", "a", None),
-];
+const HEADING: TagParts = TagParts::Heading(("i", "c", "a", Some("v")));
 
-// Whether a heading made of these parts equals that of the parts which the table changes.
-fn is_equal_heading(rt: &impl Abort, alloc: Global, parts: HeadingParts) -> bool {
-    let unchanged = heading(alloc, ("i", "c", "a", Some("v")));
-    are_made_same(rt, unchanged, heading(alloc, parts))
+fn is_equal_heading(rt: &impl Abort, alloc: Global, other: TagParts) -> bool {
+    are_equal_made::<Tag<'static>>(rt, alloc, HEADING, other)
 }
+
+// Equality looks at each part of a tag: each of these differs in one.
+const OTHER_HEADINGS: &[TagParts] = &[
+    TagParts::Heading(("j", "c", "a", Some("v"))),
+    TagParts::Heading(("i", "d", "a", Some("v"))),
+    TagParts::Heading(("i", "c", "b", Some("v"))),
+    TagParts::Heading(("i", "c", "a", Some("w"))),
+    TagParts::Heading(("i", "c", "a", None)),
+];
 
 #[test]
 fn headings_differ_in_each_part(rt: HostRuntime) {
-    assert!(rt; is_equal_heading(&rt, rt.alloc(), ("i", "c", "a", Some("v"))));
-    for parts in HEADINGS {
-        assert!(rt; !is_equal_heading(&rt, rt.alloc(), parts));
+    assert!(rt; is_equal_heading(&rt, rt.alloc(), HEADING));
+    for other in OTHER_HEADINGS {
+        assert!(rt; !is_equal_heading(&rt, rt.alloc(), *other));
     }
 }
 
-// A destination, a title and an identifier.
-type LinkParts = (&'static str, &'static str, &'static str);
+const LINK: TagParts = TagParts::Link(("d", "t", "i"));
 
-fn are_equal_links(one: LinkParts, other: LinkParts) -> bool {
-    are_same(link(one.0, one.1, one.2), link(other.0, other.1, other.2))
+const IMAGE: TagParts = TagParts::Image(LinkType::Inline);
+
+fn is_equal_link(rt: &impl Abort, alloc: Global, other: TagParts) -> bool {
+    are_equal_made::<Tag<'static>>(rt, alloc, LINK, other)
 }
 
-fn is_equal_image(parts: LinkParts, link_type: LinkType) -> bool {
-    are_same(link(parts.0, parts.1, parts.2), image(link_type))
+fn is_equal_image(rt: &impl Abort, alloc: Global, other: TagParts) -> bool {
+    are_equal_made::<Tag<'static>>(rt, alloc, IMAGE, other)
 }
 
-fn are_equal_images(one: LinkType, other: LinkType) -> bool {
-    are_same(image(one), image(other))
-}
-
-const LINKS: [LinkParts; 3] = [("e", "t", "i"), ("d", "u", "i"), ("d", "t", "j")];
+const OTHERS_THAN_LINK: &[TagParts] = &[
+    TagParts::Link(("e", "t", "i")),
+    TagParts::Link(("d", "u", "i")),
+    TagParts::Link(("d", "t", "j")),
+    IMAGE,
+];
 
 #[test]
 fn links_differ_in_each_part(rt: HostRuntime) {
-    let parts: LinkParts = ("d", "t", "i");
-    assert!(rt; are_equal_links(parts, parts));
-    for other in LINKS {
-        assert!(rt; !are_equal_links(parts, other));
+    assert!(rt; is_equal_link(&rt, rt.alloc(), LINK));
+    for other in OTHERS_THAN_LINK {
+        assert!(rt; !is_equal_link(&rt, rt.alloc(), *other));
     }
-    assert!(rt; !is_equal_image(parts, LinkType::Inline));
-    assert!(rt; are_equal_images(LinkType::Inline, LinkType::Inline));
-    assert!(rt; !are_equal_images(LinkType::Inline, LinkType::Email));
+    assert!(rt; is_equal_image(&rt, rt.alloc(), IMAGE));
+    assert!(rt; !is_equal_image(&rt, rt.alloc(), TagParts::Image(LinkType::Email)));
+}
+
+fn is_equal_table(rt: &impl Abort, alloc: Global, last: Option<Alignment>) -> bool {
+    let table = TagParts::Table(Some(Alignment::Left));
+    are_equal_made::<Tag<'static>>(rt, alloc, table, TagParts::Table(last))
 }
 
 #[test]
 fn tables_differ_in_their_alignments(rt: HostRuntime) {
-    let alloc = rt.alloc();
-    let left = Alignment::Left;
-    assert!(rt; are_made_same(&rt, table(alloc, left), table(alloc, left)));
-    assert!(rt; !are_made_same(&rt, table(alloc, left), table(alloc, Alignment::Right)));
-    assert!(rt; !are_made_same(&rt, table(alloc, left), Ok(Tag::Table(Vec::new(alloc)))));
+    assert!(rt; is_equal_table(&rt, rt.alloc(), Some(Alignment::Left)));
+    assert!(rt; !is_equal_table(&rt, rt.alloc(), Some(Alignment::Right)));
+    assert!(rt; !is_equal_table(&rt, rt.alloc(), None));
 }
 
-// The tags that are copied and made static, by their rows.
-fn kept_tag(alloc: Global, row: usize) -> Result<Tag<'static>, AllocError> {
+const KEPT: &[TagParts] = &[
+    TagParts::Heading(("i", OF_30, "a", Some(OF_30))),
+    TagParts::Table(Some(Alignment::Center)),
+    TagParts::Link((OF_30, OF_15, "")),
+    TagParts::Image(LinkType::WikiLink { has_pothole: true }),
+];
+
+// The other tags that are copied and made static, by their rows.
+fn kept_tag(row: usize) -> Tag<'static> {
     match row {
-        0 => Ok(Tag::Paragraph),
-        1 => heading(alloc, ("i", OF_30, "a", Some(OF_30))),
-        2 => Ok(Tag::BlockQuote(Some(BlockQuoteKind::Note))),
-        3 => Ok(Tag::CodeBlock(fenced(OF_30))),
-        4 => Ok(Tag::List(Some(3))),
-        5 => Ok(Tag::Item),
-        6 => Ok(Tag::FootnoteDefinition(CowStr::from(OF_15))),
-        7 => table(alloc, Alignment::Center),
-        8 => Ok(link(OF_30, OF_15, "")),
-        9 => Ok(image(LinkType::WikiLink { has_pothole: true })),
-        _ => Ok(Tag::MetadataBlock(MetadataBlockKind::PlusesStyle)),
+        0 => Tag::Paragraph,
+        1 => Tag::BlockQuote(Some(BlockQuoteKind::Note)),
+        2 => Tag::CodeBlock(fenced(OF_30)),
+        3 => Tag::List(Some(3)),
+        4 => Tag::Item,
+        5 => Tag::FootnoteDefinition(CowStr::from(OF_15)),
+        _ => Tag::MetadataBlock(MetadataBlockKind::PlusesStyle),
     }
 }
 
 #[test]
 fn copies_and_static_tags_equal_the_tag(rt: HostRuntime) {
-    for row in 0..11 {
-        assert_made_kept(&rt, rt.alloc(), kept_tag(rt.alloc(), row));
+    for row in 0..7 {
+        assert_kept(&rt, rt.alloc(), kept_tag(row));
+    }
+    for parts in KEPT {
+        assert_made_kept::<Tag<'static>>(&rt, rt.alloc(), *parts);
     }
 }
 
@@ -372,21 +407,31 @@ fn copies_and_static_events_of_texts_equal_the_event(rt: HostRuntime) {
 }
 
 // The other events, by their rows.
-fn event_of_no_text(alloc: Global, row: usize) -> Result<Event<'static>, AllocError> {
+fn event_of_no_text(row: usize) -> Event<'static> {
     match row {
-        0 => table(alloc, Alignment::Right).map(Event::Start),
-        1 => Ok(Event::End(TagEnd::List(true))),
-        2 => Ok(Event::SoftBreak),
-        3 => Ok(Event::HardBreak),
-        4 => Ok(Event::Rule),
-        _ => Ok(Event::TaskListMarker(true)),
+        0 => Event::End(TagEnd::List(true)),
+        1 => Event::SoftBreak,
+        2 => Event::HardBreak,
+        3 => Event::Rule,
+        _ => Event::TaskListMarker(true),
+    }
+}
+
+// A start of the tag of these parts.
+impl Made for Event<'static> {
+    type Parts = TagParts;
+
+    fn made(alloc: Global, parts: TagParts) -> Result<Event<'static>, AllocError> {
+        Tag::made(alloc, parts).map(Event::Start)
     }
 }
 
 #[test]
 fn copies_and_static_events_equal_the_event(rt: HostRuntime) {
-    for row in 0..6 {
-        assert_made_kept(&rt, rt.alloc(), event_of_no_text(rt.alloc(), row));
+    let table = TagParts::Table(Some(Alignment::Right));
+    assert_made_kept::<Event<'static>>(&rt, rt.alloc(), table);
+    for row in 0..5 {
+        assert_kept(&rt, rt.alloc(), event_of_no_text(row));
     }
 }
 

@@ -153,7 +153,7 @@ fn old_footnotes() -> u32
     Options::ENABLE_OLD_FOOTNOTES.bits()
 }
 
-const BITS: [(Options, u32); 15] = [
+const BITS: &[(Options, u32)] = &[
     (Options::ENABLE_TABLES, 2),
     (Options::ENABLE_FOOTNOTES, 4),
     (Options::ENABLE_STRIKETHROUGH, 8),
@@ -174,7 +174,7 @@ const BITS: [(Options, u32); 15] = [
 #[test]
 fn options_have_the_bits_of_the_table(rt: HostRuntime) {
     for (options, bits) in BITS {
-        assert_same(&rt, options.bits(), bits);
+        assert_same(&rt, options.bits(), *bits);
     }
 }
 
@@ -190,7 +190,7 @@ fn assert_flag(rt: &impl Abort, position: usize, name: &str, bits: u32) {
 }
 
 // By their positions.
-const FLAGS: [(&str, u32); 15] = [
+const FLAGS: &[(&str, u32)] = &[
     ("ENABLE_TABLES", 2),
     ("ENABLE_FOOTNOTES", 4),
     ("ENABLE_STRIKETHROUGH", 8),
