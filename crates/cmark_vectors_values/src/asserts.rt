@@ -8,26 +8,27 @@ pub(crate) fn assert_same<T: Debug + Drop + PartialEq>(rt: &impl Abort, found: T
     assert_eq!(rt; found, wanted);
 }
 
+/// What a call makes. The test stops where memory is refused.
+pub(crate) fn made<T>(rt: &impl Abort, value: Result<T, AllocError>) -> T {
+    value.expect(rt, "memory")
+}
+
 /// A text that a call makes is this; it is dropped here.
 pub(crate) fn assert_text<T: AsStr + Drop>(
     rt: &impl Abort,
-    made: Result<T, AllocError>,
+    text: Result<T, AllocError>,
     wanted: &str,
-) -> Result<(), AllocError> {
-    let text = made?;
-    assert_same(rt, text.as_str(), wanted);
-    Ok(())
+) {
+    assert_same(rt, made(rt, text).as_str(), wanted);
 }
 
 /// The elements of a list that a call makes are these.
 pub(crate) fn assert_elements<T: Debug + Drop + PartialEq>(
     rt: &impl Abort,
-    made: Result<Vec<T>, AllocError>,
+    elements: Result<Vec<T>, AllocError>,
     wanted: &[T],
-) -> Result<(), AllocError> {
-    let elements = made?;
-    assert_same(rt, elements.as_slice(), wanted);
-    Ok(())
+) {
+    assert_same(rt, made(rt, elements).as_slice(), wanted);
 }
 
 /// Whether the values are equal. What they own is dropped here, and not in each test.
@@ -37,12 +38,4 @@ pub(crate) fn are_same<T: Drop + PartialEq>(one: T, other: T) -> bool {
 
 pub(crate) fn are_different<T: Drop + PartialEq>(one: T, other: T) -> bool {
     one != other
-}
-
-/// Whether two values are equal, once they are made.
-pub(crate) fn are_made_same<T: Drop + PartialEq>(
-    one: Result<T, AllocError>,
-    other: Result<T, AllocError>,
-) -> Result<bool, AllocError> {
-    Ok(one? == other?)
 }

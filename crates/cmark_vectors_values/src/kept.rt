@@ -1,10 +1,30 @@
 //! The calls that copy a value, and that make one with nothing borrowed, of all types alike.
-use crate::asserts::assert_same;
+use crate::asserts::{are_same, assert_same, made};
 use markdown_values::strings::CowStr;
 use markdown_values::values::{CodeBlockKind, Event, Tag};
 use std::alloc::{AllocError, Global};
 use std::fmt::Debug;
 use std::process::Abort;
+
+/// A value that owns memory, made from parts that own none.
+pub(crate) trait Made {
+    type Parts;
+
+    fn made(alloc: Global, parts: Self::Parts) -> Result<Self, AllocError>;
+}
+
+/// Whether the values made from these parts are equal.
+pub(crate) fn are_equal_made<T: Drop + Made + PartialEq>(
+    rt: &impl Abort,
+    alloc: Global,
+    one: T::Parts,
+    other: T::Parts,
+) -> bool {
+    are_same(
+        made(rt, T::made(alloc, one)),
+        made(rt, T::made(alloc, other)),
+    )
+}
 
 /// A value, a copy of it, and it with nothing borrowed.
 pub(crate) trait Kept {
@@ -58,18 +78,17 @@ pub(crate) fn assert_kept<T: Debug + Drop + Kept + PartialEq>(
     rt: &impl Abort,
     alloc: Global,
     value: T,
-) -> Result<(), AllocError> {
-    let copy = value.copied(alloc)?;
+) {
+    let copy = made(rt, value.copied(alloc));
     assert_same(rt, &copy, &value);
-    assert_same(rt, value.made_static(alloc)?, copy);
-    Ok(())
+    assert_same(rt, made(rt, value.made_static(alloc)), copy);
 }
 
-/// The same of a value that is made first.
-pub(crate) fn assert_made_kept<T: Debug + Drop + Kept + PartialEq>(
+/// The same of the value made from these parts.
+pub(crate) fn assert_made_kept<T: Debug + Drop + Kept + Made + PartialEq>(
     rt: &impl Abort,
     alloc: Global,
-    made: Result<T, AllocError>,
-) -> Result<(), AllocError> {
-    assert_kept(rt, alloc, made?)
+    parts: T::Parts,
+) {
+    assert_kept(rt, alloc, made(rt, T::made(alloc, parts)));
 }

@@ -3,13 +3,12 @@ ghost use Rattle.std.specs.Prelude.{◌≡◌, ◌∷◌, [], IfOk, IfSome};
 ghost use Rattle.markdown_values.specs.tree.Truncate.{first_other, CanCut};
 ghost use Rattle.cmark_vectors_values.specs.Pieces.{spans_of, IsParent};
 
-use crate::asserts::{assert_elements, assert_same};
+use crate::asserts::{assert_elements, assert_same, made};
 use crate::pieces::Piece;
 use crate::tree::named;
 use markdown_values::tree::Tree;
 use std::alloc::{AllocError, Global};
 use std::process::Abort;
-use std::test::Fail;
 
 fn covering(name: char, start: usize, end: usize, escaped: bool) -> Piece
     ensures { result ≡ record { name = name; start = start; end = end; escaped = escaped } }
@@ -113,58 +112,54 @@ fn assert_children(
     cut: Result<Tree<Piece>, AllocError>,
     wanted_focus: Option<usize>,
     wanted: &[(usize, usize)],
-) -> Result<(), AllocError> {
-    let mut tree = cut?;
+) {
+    let mut tree = made(rt, cut);
     assert_same(rt, focus(&tree), wanted_focus);
-    assert_elements(rt, ranges(alloc, &mut tree), wanted)
+    assert_elements(rt, ranges(alloc, &mut tree), wanted);
 }
 
 #[test]
-fn a_child_is_cut_at_the_end(rt: HostRuntime) -> Result<(), Fail> {
+fn a_child_is_cut_at_the_end(rt: HostRuntime) {
     let alloc = rt.alloc();
     let first = covering('A', 0, 3, false);
     let second = covering('B', 3, 5, false);
     let third = covering('C', 5, 9, false);
     let cut = cut_three(alloc, first, second, third, 4);
-    assert_children(&rt, alloc, cut, Some(3), &[(0, 3), (3, 4)])?;
-    Ok(())
+    assert_children(&rt, alloc, cut, Some(3), &[(0, 3), (3, 4)]);
 }
 
 #[test]
-fn a_child_behind_the_end_is_dropped(rt: HostRuntime) -> Result<(), Fail> {
+fn a_child_behind_the_end_is_dropped(rt: HostRuntime) {
     let alloc = rt.alloc();
     let first = covering('A', 0, 2, false);
     let second = covering('B', 4, 6, false);
     let cut = cut_two(alloc, first, second, 4);
-    assert_children(&rt, alloc, cut, Some(2), &[(0, 2)])?;
+    assert_children(&rt, alloc, cut, Some(2), &[(0, 2)]);
     let cut = cut_one(alloc, covering('A', 4, 6, false), 4);
-    assert_children(&rt, alloc, cut, None, &[])?;
-    Ok(())
+    assert_children(&rt, alloc, cut, None, &[]);
 }
 
 #[test]
-fn a_child_behind_a_backslash_takes_it(rt: HostRuntime) -> Result<(), Fail> {
+fn a_child_behind_a_backslash_takes_it(rt: HostRuntime) {
     let alloc = rt.alloc();
     let first = covering('A', 0, 2, false);
     let second = covering('B', 4, 6, true);
     let cut = cut_two(alloc, first, second, 4);
-    assert_children(&rt, alloc, cut, Some(3), &[(0, 2), (3, 4)])?;
+    assert_children(&rt, alloc, cut, Some(3), &[(0, 2), (3, 4)]);
     let first = covering('A', 0, 2, false);
     let second = covering('B', 4, 6, true);
     let third = covering('C', 6, 8, false);
     let cut = cut_three(alloc, first, second, third, 4);
-    assert_children(&rt, alloc, cut, Some(3), &[(0, 2), (3, 4), (6, 8)])?;
-    Ok(())
+    assert_children(&rt, alloc, cut, Some(3), &[(0, 2), (3, 4), (6, 8)]);
 }
 
 #[test]
-fn children_before_the_end_stay(rt: HostRuntime) -> Result<(), Fail> {
+fn children_before_the_end_stay(rt: HostRuntime) {
     let alloc = rt.alloc();
     let cut = cut_one(alloc, covering('A', 0, 1, false), 5);
-    assert_children(&rt, alloc, cut, Some(2), &[(0, 1)])?;
+    assert_children(&rt, alloc, cut, Some(2), &[(0, 1)]);
     let first = covering('A', 0, 3, false);
     let second = covering('B', 3, 5, false);
     let cut = cut_two(alloc, first, second, 5);
-    assert_children(&rt, alloc, cut, Some(3), &[(0, 3), (3, 5)])?;
-    Ok(())
+    assert_children(&rt, alloc, cut, Some(3), &[(0, 3), (3, 5)]);
 }

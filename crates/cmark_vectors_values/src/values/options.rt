@@ -153,27 +153,29 @@ fn old_footnotes() -> u32
     Options::ENABLE_OLD_FOOTNOTES.bits()
 }
 
+const BITS: &[(Options, u32)] = &[
+    (Options::ENABLE_TABLES, 2),
+    (Options::ENABLE_FOOTNOTES, 4),
+    (Options::ENABLE_STRIKETHROUGH, 8),
+    (Options::ENABLE_TASKLISTS, 16),
+    (Options::ENABLE_SMART_PUNCTUATION, 32),
+    (Options::ENABLE_HEADING_ATTRIBUTES, 64),
+    (Options::ENABLE_YAML_STYLE_METADATA_BLOCKS, 128),
+    (Options::ENABLE_PLUSES_DELIMITED_METADATA_BLOCKS, 256),
+    (Options::ENABLE_OLD_FOOTNOTES, 516),
+    (Options::ENABLE_MATH, 1024),
+    (Options::ENABLE_GFM, 2048),
+    (Options::ENABLE_DEFINITION_LIST, 4096),
+    (Options::ENABLE_SUPERSCRIPT, 8192),
+    (Options::ENABLE_SUBSCRIPT, 16384),
+    (Options::ENABLE_WIKILINKS, 32768),
+];
+
 #[test]
 fn options_have_the_bits_of_the_table(rt: HostRuntime) {
-    assert_same(&rt, Options::ENABLE_TABLES.bits(), 2);
-    assert_same(&rt, Options::ENABLE_FOOTNOTES.bits(), 4);
-    assert_same(&rt, Options::ENABLE_STRIKETHROUGH.bits(), 8);
-    assert_same(&rt, Options::ENABLE_TASKLISTS.bits(), 16);
-    assert_same(&rt, Options::ENABLE_SMART_PUNCTUATION.bits(), 32);
-    assert_same(&rt, Options::ENABLE_HEADING_ATTRIBUTES.bits(), 64);
-    assert_same(&rt, Options::ENABLE_YAML_STYLE_METADATA_BLOCKS.bits(), 128);
-    assert_same(
-        &rt,
-        Options::ENABLE_PLUSES_DELIMITED_METADATA_BLOCKS.bits(),
-        256,
-    );
-    assert_same(&rt, Options::ENABLE_OLD_FOOTNOTES.bits(), 516);
-    assert_same(&rt, Options::ENABLE_MATH.bits(), 1024);
-    assert_same(&rt, Options::ENABLE_GFM.bits(), 2048);
-    assert_same(&rt, Options::ENABLE_DEFINITION_LIST.bits(), 4096);
-    assert_same(&rt, Options::ENABLE_SUPERSCRIPT.bits(), 8192);
-    assert_same(&rt, Options::ENABLE_SUBSCRIPT.bits(), 16384);
-    assert_same(&rt, Options::ENABLE_WIKILINKS.bits(), 32768);
+    for (options, bits) in BITS {
+        assert_same(&rt, options.bits(), *bits);
+    }
 }
 
 // The flag of this position has this name and these bits.
@@ -187,24 +189,31 @@ fn assert_flag(rt: &impl Abort, position: usize, name: &str, bits: u32) {
     }
 }
 
+// By their positions.
+const FLAGS: &[(&str, u32)] = &[
+    ("ENABLE_TABLES", 2),
+    ("ENABLE_FOOTNOTES", 4),
+    ("ENABLE_STRIKETHROUGH", 8),
+    ("ENABLE_TASKLISTS", 16),
+    ("ENABLE_SMART_PUNCTUATION", 32),
+    ("ENABLE_HEADING_ATTRIBUTES", 64),
+    ("ENABLE_YAML_STYLE_METADATA_BLOCKS", 128),
+    ("ENABLE_PLUSES_DELIMITED_METADATA_BLOCKS", 256),
+    ("ENABLE_OLD_FOOTNOTES", 516),
+    ("ENABLE_MATH", 1024),
+    ("ENABLE_GFM", 2048),
+    ("ENABLE_DEFINITION_LIST", 4096),
+    ("ENABLE_SUPERSCRIPT", 8192),
+    ("ENABLE_SUBSCRIPT", 16384),
+    ("ENABLE_WIKILINKS", 32768),
+];
+
 #[test]
 fn flags_have_the_names_and_bits_of_the_table(rt: HostRuntime) {
     assert_same(&rt, Options::flags().len(), 15);
-    assert_flag(&rt, 0, "ENABLE_TABLES", 2);
-    assert_flag(&rt, 1, "ENABLE_FOOTNOTES", 4);
-    assert_flag(&rt, 2, "ENABLE_STRIKETHROUGH", 8);
-    assert_flag(&rt, 3, "ENABLE_TASKLISTS", 16);
-    assert_flag(&rt, 4, "ENABLE_SMART_PUNCTUATION", 32);
-    assert_flag(&rt, 5, "ENABLE_HEADING_ATTRIBUTES", 64);
-    assert_flag(&rt, 6, "ENABLE_YAML_STYLE_METADATA_BLOCKS", 128);
-    assert_flag(&rt, 7, "ENABLE_PLUSES_DELIMITED_METADATA_BLOCKS", 256);
-    assert_flag(&rt, 8, "ENABLE_OLD_FOOTNOTES", 516);
-    assert_flag(&rt, 9, "ENABLE_MATH", 1024);
-    assert_flag(&rt, 10, "ENABLE_GFM", 2048);
-    assert_flag(&rt, 11, "ENABLE_DEFINITION_LIST", 4096);
-    assert_flag(&rt, 12, "ENABLE_SUPERSCRIPT", 8192);
-    assert_flag(&rt, 13, "ENABLE_SUBSCRIPT", 16384);
-    assert_flag(&rt, 14, "ENABLE_WIKILINKS", 32768);
+    for (position, (name, bits)) in FLAGS.iter().enumerate() {
+        assert_flag(&rt, position, name, *bits);
+    }
 }
 
 #[test]
