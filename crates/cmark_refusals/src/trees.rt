@@ -1,5 +1,5 @@
 //! Trees, whose nodes, spine and focus are told before each call and where it is refused.
-ghost use Rattle.std.specs.Prelude.{◌≡◌, ◌≤◌, ◌<◌, ◌+◌, length, IfOk, IsSome};
+ghost use Rattle.std.specs.Prelude.{◌≡◌, ◌≤◌, ◌<◌, ◌+◌, length, IfOk, OnErr, IsSome};
 
 use crate::stop::Stop;
 use crate::telling::{tell, tell_call, tell_ready};
@@ -168,68 +168,64 @@ fn tell_after<W: Write>(
 
 /// A node is appended after the focus, and as the only child of a parent.
 pub(crate) fn append<W: Write>(alloc: Global, output: &mut W) -> Result<(), Stop> {
-    append_sibling(alloc, output)?;
+    add_to_full(alloc, output, Adding::Linked)?;
     append_child(alloc, output)
-}
-
-fn append_sibling<W: Write>(alloc: Global, output: &mut W) -> Result<(), Stop> {
-    let (mut tree, first) = full(alloc)?;
-    append_fifth(alloc, output, &mut tree, first)
 }
 
 fn append_child<W: Write>(alloc: Global, output: &mut W) -> Result<(), Stop> {
     let (mut tree, first) = full(alloc)?;
     tree.push()?;
-    append_fifth(alloc, output, &mut tree, first)
-}
-
-// The item is made before the call, and again before the second.
-fn append_fifth<W: Write>(
-    alloc: Global,
-    output: &mut W,
-    tree: &mut Tree<Named>,
-    first: TreeIndex,
-) -> Result<(), Stop>
-    requires first { first ≡ 1 }
-    requires count { length tree.old.nodes ≡ 5 }
-{
-    let item = item_named(alloc, "E")?;
-    tell_before(output, tree, first, 4)?;
-    let ix = match tree.append(item) {
-        Ok(ix) => ix,
-        Err(_) => {
-            tell_tree(output, "refused", tree, first, 4)?;
-            append_named(alloc, tree, "E")?
-        }
-    };
-    tell_after(output, ix, tree, first, 5)
+    add_fifth(alloc, output, &mut tree, first, Adding::Linked)
 }
 
 /// A node is made that no link leads to.
 pub(crate) fn create_node<W: Write>(alloc: Global, output: &mut W) -> Result<(), Stop> {
-    let (mut tree, first) = full(alloc)?;
-    create_fifth(alloc, output, &mut tree, first)
+    add_to_full(alloc, output, Adding::Unlinked)
 }
 
-fn create_fifth<W: Write>(
+// Whether links lead to a new node, and it is in focus.
+#[derive(Clone, Copy)]
+enum Adding {
+    Linked,
+    Unlinked,
+}
+
+fn add_to_full<W: Write>(alloc: Global, output: &mut W, adding: Adding) -> Result<(), Stop> {
+    let (mut tree, first) = full(alloc)?;
+    add_fifth(alloc, output, &mut tree, first, adding)
+}
+
+// The item is made before the call, and again before the second.
+fn add_fifth<W: Write>(
     alloc: Global,
     output: &mut W,
     tree: &mut Tree<Named>,
     first: TreeIndex,
+    adding: Adding,
 ) -> Result<(), Stop>
     requires first { first ≡ 1 }
     requires count { length tree.old.nodes ≡ 5 }
 {
     let item = item_named(alloc, "E")?;
     tell_before(output, tree, first, 4)?;
-    let ix = match tree.create_node(item) {
+    let ix = match add(tree, item, adding) {
         Ok(ix) => ix,
         Err(_) => {
             tell_tree(output, "refused", tree, first, 4)?;
-            tree.create_node(item_named(alloc, "E")?)?
+            add(tree, item_named(alloc, "E")?, adding)?
         }
     };
     tell_after(output, ix, tree, first, 5)
+}
+
+fn add(tree: &mut Tree<Named>, item: Named, adding: Adding) -> Result<TreeIndex, AllocError>
+    ensures ok { IfOk result (λ _. length tree.new.nodes ≡ length tree.old.nodes + 1) }
+    ensures err { OnErr result (length tree.new.nodes ≡ length tree.old.nodes) }
+{
+    match adding {
+        Adding::Linked => tree.append(item),
+        Adding::Unlinked => tree.create_node(item),
+    }
 }
 
 /// The first node goes on the spine, and then as many as make it grow.
@@ -300,15 +296,21 @@ fn tell_clone<W: Write>(output: &mut W, tree: &Tree<Named>, first: TreeIndex) ->
     requires count { length tree.now.nodes ≡ 5 }
 {
     tell_before(output, tree, first, 4)?;
-    let copy = match tree.clone() {
+    let copy = match copied(tree) {
         Ok(copy) => copy,
         Err(_) => {
             tell_tree(output, "refused", tree, first, 4)?;
-            tree.clone()?
+            copied(tree)?
         }
     };
     tell_tree(output, "copy", &copy, first, 4)?;
     tell_tree(output, "after", tree, first, 4)
+}
+
+fn copied(tree: &Tree<Named>) -> Result<Tree<Named>, AllocError>
+    ensures { IfOk result (λ copy. length copy.nodes ≡ length tree.now.nodes) }
+{
+    tree.clone()
 }
 
 /// The nodes are told in order.
