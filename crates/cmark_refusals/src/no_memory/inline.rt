@@ -4,7 +4,7 @@ ghost use Rattle.std.specs.Prelude.{◌<◌, length};
 use crate::inline_html::{Found, scan_tag};
 use crate::labels::label;
 use crate::stop::Stop;
-use crate::telling::{tell, tell_made, tell_made_two, tell_ready, tell_three, tell_two};
+use crate::telling::{tell, tell_made_two, tell_ready, tell_three, tell_two};
 use crate::texts::Text;
 use crate::unescaping::AMPERSAND;
 use markdown_scanners_tree::scanners::{
