@@ -90,8 +90,16 @@ struct Steps {
 
 // Makes a step at every place, and looks at the bound after each.
 fn steps_over(alloc: Global, bytes: &[u8], totals: &mut Totals) -> Result<Steps, AllocError> {
-    let mut places = Vec::new(alloc);
-    let mut answers = Vec::new(alloc);
+    let mut steps = Steps {
+        places: Vec::new(alloc),
+        answers: Vec::new(alloc),
+        passed: 0,
+    };
+    push_steps(bytes, &mut steps, totals)?;
+    Ok(steps)
+}
+
+fn push_steps(bytes: &[u8], steps: &mut Steps, totals: &mut Totals) -> Result<(), AllocError> {
     let mut run = InlineHtmlRun::new(bytes);
     for place in 0..=bytes.len() {
         let Ok(found) = run.step(place) else {
@@ -101,16 +109,12 @@ fn steps_over(alloc: Global, bytes: &[u8], totals: &mut Totals) -> Result<Steps,
             totals.breaches = totals.breaches.saturating_add(1);
         }
         totals.add_find(found);
-        places.push(place)?;
-        answers.push(found)?;
+        steps.places.push(place)?;
+        steps.answers.push(found)?;
     }
     totals.add_run(bytes.len(), &run);
-    let passed = run.passed();
-    Ok(Steps {
-        places,
-        answers,
-        passed,
-    })
+    steps.passed = run.passed();
+    Ok(())
 }
 
 // Whether a run over all places at once answers as the steps did.
@@ -167,8 +171,18 @@ fn push_text(
     count: usize,
 ) -> Result<(), AllocError> {
     let text = part.repeat(alloc, count)?;
+    push_sides(alloc, output, part, count, text.as_bytes())
+}
+
+fn push_sides(
+    alloc: Global,
+    output: &mut String,
+    part: &str,
+    count: usize,
+    text: &[u8],
+) -> Result<(), AllocError> {
     for side in SIDES {
-        let totals = totals_of(alloc, text.as_bytes(), side)?;
+        let totals = totals_of(alloc, text, side)?;
         write!(output, "{count} times {part}, {side} 1 to {MOST} bytes: ")?;
         writeln!(output, "{totals}")?;
     }

@@ -92,11 +92,26 @@ fn list_calls(alloc: Global, count: usize) -> Result<Vec<LineCall>, AllocError> 
 }
 
 fn push_bullets(alloc: Global, output: &mut String) -> Result<(), AllocError> {
-    let mut line = "- ".repeat(alloc, BULLETS)?;
-    line.push('x')?;
+    let line = repeated(alloc, "- ", BULLETS)?;
     let calls = list_calls(alloc, BULLETS)?;
+    push_bullet_sides(alloc, output, line.as_bytes(), &calls)
+}
+
+// A text so many times, and an `x` behind it.
+fn repeated(alloc: Global, text: &str, count: usize) -> Result<String, AllocError> {
+    let mut line = text.repeat(alloc, count)?;
+    line.push('x')?;
+    Ok(line)
+}
+
+fn push_bullet_sides(
+    alloc: Global,
+    output: &mut String,
+    line: &[u8],
+    calls: &[LineCall],
+) -> Result<(), AllocError> {
     for side in SIDES {
-        let totals = totals_of(alloc, line.as_bytes(), side, &calls)?;
+        let totals = totals_of(alloc, line, side, calls)?;
         write!(output, "{BULLETS} bullets, {side} 1 to {MOST} bytes, ")?;
         writeln!(output, "{BULLETS} calls: {totals}")?;
     }
@@ -104,10 +119,13 @@ fn push_bullets(alloc: Global, output: &mut String) -> Result<(), AllocError> {
 }
 
 fn push_tabs(alloc: Global, output: &mut String) -> Result<(), AllocError> {
-    let mut line = "\t".repeat(alloc, TABS)?;
-    line.push('x')?;
+    let line = repeated(alloc, "\t", TABS)?;
+    push_tab_sides(alloc, output, line.as_bytes())
+}
+
+fn push_tab_sides(alloc: Global, output: &mut String, line: &[u8]) -> Result<(), AllocError> {
     for side in SIDES {
-        let totals = totals_of(alloc, line.as_bytes(), side, &[LineCall::Upto(usize::MAX)])?;
+        let totals = totals_of(alloc, line, side, &[LineCall::Upto(usize::MAX)])?;
         writeln!(output, "{TABS} tabs, {side} 1 to {MOST} bytes: {totals}")?;
     }
     Ok(())

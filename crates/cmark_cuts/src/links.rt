@@ -50,9 +50,13 @@ fn push_total(
 pub(crate) fn push_totals(alloc: Global, output: &mut String) -> Result<(), AllocError> {
     let mut text = "(".repeat(alloc, DEPTH)?;
     text.push_str(")".repeat(alloc, DEPTH)?.as_str())?;
+    push_sides(output, text.as_bytes())
+}
+
+fn push_sides(output: &mut String, text: &[u8]) -> Result<(), AllocError> {
     for side in SIDES {
-        push_total(output, text.as_bytes(), side, DEPTH - 1)?;
-        push_total(output, text.as_bytes(), side, DEPTH - 2)?;
+        push_total(output, text, side, DEPTH - 1)?;
+        push_total(output, text, side, DEPTH - 2)?;
     }
     Ok(())
 }

@@ -79,16 +79,22 @@ fn tag_skipped(alloc: Global, bytes: &[u8]) -> Result<Option<usize>, AllocError>
 
 fn push_label(output: &mut String, found: Option<(usize, CowStr<'_>)>) -> Result<(), AllocError> {
     match found {
-        Some((taken, label)) => {
-            let lent = if matches!(&label, CowStr::Borrowed(_)) {
-                "lent"
-            } else {
-                "built"
-            };
-            writeln!(output, "{taken} {lent} {}", label.as_str())
-        }
+        Some((taken, label)) => push_found_label(output, taken, &label),
         None => writeln!(output, "none"),
     }
+}
+
+fn push_found_label(
+    output: &mut String,
+    taken: usize,
+    label: &CowStr<'_>,
+) -> Result<(), AllocError> {
+    let lent = if matches!(label, CowStr::Borrowed(_)) {
+        "lent"
+    } else {
+        "built"
+    };
+    writeln!(output, "{taken} {lent} {}", label.as_str())
 }
 
 fn push_length(output: &mut String, found: Option<usize>) -> Result<(), AllocError> {

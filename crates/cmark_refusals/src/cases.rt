@@ -4,7 +4,7 @@ ghost use Rattle.std.specs.Prelude.{◌≤◌};
 use crate::events::{self, EventCase};
 use crate::no_memory::{self, NoMemoryCase};
 use crate::stop::Stop;
-use crate::tags::{self, TagCase};
+use crate::tags::{self, TagCase, TagKind};
 use crate::texts::{self, TextCase};
 use crate::trees::{self, TreeCase};
 use crate::{inline_html, labels, lines, unescaping};
@@ -36,7 +36,7 @@ enum Case {
     NoMemory(NoMemoryCase),
 }
 
-const CASES: [(&str, Case); 53] = [
+const CASES: &[(&str, Case)] = &[
     ("text_from_string", Case::Text(TextCase::FromString)),
     ("text_clone", Case::Text(TextCase::Clone)),
     ("text_into_string", Case::Text(TextCase::IntoString)),
@@ -46,23 +46,38 @@ const CASES: [(&str, Case); 53] = [
         "code_block_kind_into_static",
         Case::Tag(TagCase::KindIntoStatic),
     ),
-    ("heading_clone", Case::Tag(TagCase::HeadingClone)),
-    ("heading_into_static", Case::Tag(TagCase::HeadingIntoStatic)),
-    ("code_block_clone", Case::Tag(TagCase::CodeBlockClone)),
+    ("heading_clone", Case::Tag(TagCase::Clone(TagKind::Heading))),
+    (
+        "heading_into_static",
+        Case::Tag(TagCase::IntoStatic(TagKind::Heading)),
+    ),
+    (
+        "code_block_clone",
+        Case::Tag(TagCase::Clone(TagKind::CodeBlock)),
+    ),
     (
         "code_block_into_static",
-        Case::Tag(TagCase::CodeBlockIntoStatic),
+        Case::Tag(TagCase::IntoStatic(TagKind::CodeBlock)),
     ),
-    ("footnote_clone", Case::Tag(TagCase::FootnoteClone)),
+    (
+        "footnote_clone",
+        Case::Tag(TagCase::Clone(TagKind::Footnote)),
+    ),
     (
         "footnote_into_static",
-        Case::Tag(TagCase::FootnoteIntoStatic),
+        Case::Tag(TagCase::IntoStatic(TagKind::Footnote)),
     ),
-    ("table_clone", Case::Tag(TagCase::TableClone)),
-    ("link_clone", Case::Tag(TagCase::LinkClone)),
-    ("link_into_static", Case::Tag(TagCase::LinkIntoStatic)),
-    ("image_clone", Case::Tag(TagCase::ImageClone)),
-    ("image_into_static", Case::Tag(TagCase::ImageIntoStatic)),
+    ("table_clone", Case::Tag(TagCase::Clone(TagKind::Table))),
+    ("link_clone", Case::Tag(TagCase::Clone(TagKind::Link))),
+    (
+        "link_into_static",
+        Case::Tag(TagCase::IntoStatic(TagKind::Link)),
+    ),
+    ("image_clone", Case::Tag(TagCase::Clone(TagKind::Image))),
+    (
+        "image_into_static",
+        Case::Tag(TagCase::IntoStatic(TagKind::Image)),
+    ),
     ("event_clone", Case::Event(EventCase::Clone)),
     ("event_into_static", Case::Event(EventCase::IntoStatic)),
     ("start_clone", Case::Event(EventCase::StartClone)),
@@ -153,7 +168,7 @@ pub(crate) fn run_cases<W: Write>(alloc: Global, names: &[String], output: &mut 
 }
 
 fn run_all<W: Write>(alloc: Global, output: &mut W) -> Result<(), Stop> {
-    for (name, case) in &CASES {
+    for (name, case) in CASES {
         run_case(alloc, output, name, *case)?;
     }
     Ok(())
@@ -170,7 +185,7 @@ fn run_named<W: Write>(alloc: Global, names: &[String], output: &mut W) -> Resul
 }
 
 fn case_named(name: &str) -> Option<Case> {
-    for (known, case) in &CASES {
+    for (known, case) in CASES {
         if *known == name {
             return Some(*case);
         }

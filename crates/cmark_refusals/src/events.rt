@@ -1,8 +1,8 @@
 //! Events, each of which owns or lends a text or holds a tag.
 use crate::stop::Stop;
-use crate::tags::{heading, lent_heading};
+use crate::tags::{TagKind, tag};
 use crate::telling::{Copied, MadeOf, tell_consuming, tell_copy};
-use crate::texts::{OF_30, lent, owned};
+use crate::texts::{Held, Holding, OF_30};
 use markdown_values::strings::CowStr;
 use markdown_values::values::Event;
 use std::alloc::{AllocError, Global};
@@ -20,9 +20,14 @@ pub(crate) fn run<W: Write>(alloc: Global, output: &mut W, case: EventCase) -> R
     match case {
         EventCase::Clone => clone_all(alloc, output),
         EventCase::IntoStatic => all_into_static(alloc, output),
-        EventCase::StartClone => tell_copy(alloc, output, start(alloc)),
+        EventCase::StartClone => tell_copy(alloc, output, start(alloc, Holding::Owned)),
         EventCase::StartIntoStatic => {
-            into_static(alloc, output, lent_start(alloc), lent_start(alloc))
+            into_static(
+                alloc,
+                output,
+                start(alloc, Holding::Lent),
+                start(alloc, Holding::Lent),
+            )
         }
     }
 }
@@ -82,18 +87,17 @@ fn event_of(kind: Kind, text: CowStr<'static>) -> Event<'static> {
     }
 }
 
-fn owned_event(alloc: Global, kind: Kind) -> Result<Event<'static>, AllocError> {
-    Ok(event_of(kind, owned(alloc)?))
-}
-
-fn lent_event(kind: Kind) -> Result<Event<'static>, AllocError> {
-    Ok(event_of(kind, lent()))
+fn event(alloc: Global, kind: Kind, holding: Holding) -> Result<Event<'static>, AllocError> {
+    match CowStr::held(alloc, holding) {
+        Ok(text) => Ok(event_of(kind, text)),
+        Err(error) => Err(error),
+    }
 }
 
 // Each event of one owned text is copied.
 fn clone_all<W: Write>(alloc: Global, output: &mut W) -> Result<(), Stop> {
     for kind in KINDS {
-        tell_copy(alloc, output, owned_event(alloc, kind))?;
+        tell_copy(alloc, output, event(alloc, kind, Holding::Owned))?;
     }
     Ok(())
 }
@@ -101,15 +105,16 @@ fn clone_all<W: Write>(alloc: Global, output: &mut W) -> Result<(), Stop> {
 // Each event of one borrowed text comes to own it.
 fn all_into_static<W: Write>(alloc: Global, output: &mut W) -> Result<(), Stop> {
     for kind in KINDS {
-        into_static(alloc, output, lent_event(kind), lent_event(kind))?;
+        into_static(
+            alloc,
+            output,
+            event(alloc, kind, Holding::Lent),
+            event(alloc, kind, Holding::Lent),
+        )?;
     }
     Ok(())
 }
 
-fn start(alloc: Global) -> Result<Event<'static>, AllocError> {
-    heading(alloc).map(Event::Start)
-}
-
-fn lent_start(alloc: Global) -> Result<Event<'static>, AllocError> {
-    lent_heading(alloc).map(Event::Start)
+fn start(alloc: Global, holding: Holding) -> Result<Event<'static>, AllocError> {
+    tag(alloc, TagKind::Heading, holding).map(Event::Start)
 }

@@ -32,18 +32,22 @@ pub(crate) fn scan_tag(alloc: Global, data: &[u8]) -> Result<Found, AllocError> 
 
 /// A tag over two lines.
 pub(crate) fn tag<W: Write>(alloc: Global, output: &mut W) -> Result<(), Stop> {
-    tell_call(output, &"<foo bar>", &|| scan_tag(alloc, b"<foo\n> bar>"))
+    tell_tag(alloc, output, "<foo bar>", b"<foo\n> bar>")
+}
+
+fn tell_tag<W: Write>(alloc: Global, output: &mut W, state: &str, data: &[u8]) -> Result<(), Stop> {
+    tell_call(output, &state, &|| scan_tag(alloc, data))
 }
 
 /// A tag whose text has 900 bytes.
 pub(crate) fn tag_of_900_bytes<W: Write>(alloc: Global, output: &mut W) -> Result<(), Stop> {
+    let data = attributes(alloc)?;
+    tell_tag(alloc, output, "448 attributes", data.as_bytes())
+}
+
+fn attributes(alloc: Global) -> Result<String, AllocError> {
     let lines = "\n> a".repeat(alloc, 448)?;
-    let data = format!(in alloc; "<ab{lines}>")?;
-    tell_call(
-        output,
-        &"448 attributes",
-        &|| scan_tag(alloc, data.as_bytes()),
-    )
+    format!(in alloc; "<ab{lines}>")
 }
 
 const TEXT: &str = "<!-- <!x> <!-- <![CDATA[ ]]>";

@@ -1,7 +1,7 @@
 //! Link labels.
 use crate::no_memory::texts::hash_of;
 use crate::stop::Stop;
-use crate::telling::{MadeOf, tell_call, tell_consuming, tell_ready_on};
+use crate::telling::{MadeOf, tell, tell_call, tell_consuming, tell_ready};
 use crate::texts::boxed;
 use markdown_scanners_tree::linklabel::{LinkLabel, scan_link_label_rest};
 use markdown_values::strings::CowStr;
@@ -17,18 +17,28 @@ pub(crate) fn label(alloc: Global, text: &str) -> Result<Option<(usize, CowStr<'
 
 /// A label that doesn't stand in its text as it is.
 pub(crate) fn short<W: Write>(alloc: Global, output: &mut W) -> Result<(), Stop> {
-    tell_call(
-        output,
-        &"hello world",
-        &|| label(alloc, "hello\r\nworld\r\n]"),
-    )
+    tell_label(alloc, output, "hello world", "hello\r\nworld\r\n]")
+}
+
+fn tell_label<W: Write>(
+    alloc: Global,
+    output: &mut W,
+    state: &str,
+    text: &str,
+) -> Result<(), Stop> {
+    tell_call(output, &state, &|| label(alloc, text))
 }
 
 /// A label of 900 bytes.
 pub(crate) fn of_900_bytes<W: Write>(alloc: Global, output: &mut W) -> Result<(), Stop> {
+    let text = two_words(alloc)?;
+    tell_label(alloc, output, "two words", text.as_str())
+}
+
+// Words of 450 and 449 bytes, with two spaces between them.
+fn two_words(alloc: Global) -> Result<String, AllocError> {
     let word = "a".repeat(alloc, 450)?;
-    let text = format!(in alloc; "{word}  {}]", &word[1..])?;
-    tell_call(output, &"two words", &|| label(alloc, text.as_str()))
+    format!(in alloc; "{word}  {}]", &word[1..])
 }
 
 const STREET: &str = "Straße 0123456789abcdefghijklmnopqrst";
@@ -59,11 +69,17 @@ pub(crate) fn new<W: Write>(alloc: Global, output: &mut W) -> Result<(), Stop> {
 
 /// Labels are read and compared without memory.
 pub(crate) fn compared<W: Write>(alloc: Global, output: &mut W) -> Result<(), Stop> {
-    tell_ready_on(
-        output,
-        two_labels(alloc),
-        &|labels: &(LinkLabel, LinkLabel)| Ok(compared_labels(&labels.0, &labels.1)),
-    )
+    let (one, other) = two_labels(alloc)?;
+    tell_compared(output, &one, &other)
+}
+
+fn tell_compared<W: Write>(
+    output: &mut W,
+    one: &LinkLabel<'_>,
+    other: &LinkLabel<'_>,
+) -> Result<(), Stop> {
+    tell_ready(output)?;
+    tell(output, compared_labels(one, other))
 }
 
 fn two_labels(alloc: Global) -> Result<(LinkLabel<'static>, LinkLabel<'static>), AllocError> {

@@ -1,55 +1,37 @@
 //! Kinds of code blocks, and tags, with all that owns memory in them.
 use crate::stop::Stop;
 use crate::telling::{Copied, MadeOf, tell_consuming, tell_copy};
-use crate::texts::{OF_30, lent, owned};
+use crate::texts::{Held, Holding, OF_30};
 use markdown_values::strings::CowStr;
 use markdown_values::values::{Alignment, CodeBlockKind, HeadingLevel, LinkType, Tag};
 use std::alloc::{AllocError, Global};
 use std::io::Write;
 
+/// The tags that own memory.
+#[derive(Clone, Copy)]
+pub(crate) enum TagKind {
+    Heading,
+    CodeBlock,
+    Footnote,
+    Table,
+    Link,
+    Image,
+}
+
 #[derive(Clone, Copy)]
 pub(crate) enum TagCase {
     KindClone,
     KindIntoStatic,
-    HeadingClone,
-    HeadingIntoStatic,
-    CodeBlockClone,
-    CodeBlockIntoStatic,
-    FootnoteClone,
-    FootnoteIntoStatic,
-    TableClone,
-    LinkClone,
-    LinkIntoStatic,
-    ImageClone,
-    ImageIntoStatic,
+    Clone(TagKind),
+    IntoStatic(TagKind),
 }
 
 pub(crate) fn run<W: Write>(alloc: Global, output: &mut W, case: TagCase) -> Result<(), Stop> {
     match case {
-        TagCase::KindClone => tell_copy(alloc, output, fenced(alloc)),
+        TagCase::KindClone => tell_copy(alloc, output, fenced(alloc, Holding::Owned)),
         TagCase::KindIntoStatic => kind_into_static(alloc, output),
-        TagCase::HeadingClone => tell_copy(alloc, output, heading(alloc)),
-        TagCase::HeadingIntoStatic => {
-            into_static(alloc, output, lent_heading(alloc), lent_heading(alloc))
-        }
-        TagCase::CodeBlockClone => tell_copy(alloc, output, code_block(alloc)),
-        TagCase::CodeBlockIntoStatic => {
-            into_static(alloc, output, lent_code_block(), lent_code_block())
-        }
-        TagCase::FootnoteClone => tell_copy(alloc, output, footnote(alloc)),
-        TagCase::FootnoteIntoStatic => {
-            into_static(alloc, output, lent_footnote(), lent_footnote())
-        }
-        TagCase::TableClone => tell_copy(alloc, output, table(alloc)),
-        TagCase::LinkClone => tell_copy(alloc, output, link(alloc)),
-        TagCase::LinkIntoStatic => into_static(alloc, output, lent_link(alloc), lent_link(alloc)),
-        TagCase::ImageClone => tell_copy(alloc, output, image(alloc)),
-        TagCase::ImageIntoStatic => into_static(
-            alloc,
-            output,
-            lent_image(alloc),
-            lent_image(alloc),
-        ),
+        TagCase::Clone(kind) => tell_copy(alloc, output, tag(alloc, kind, Holding::Owned)),
+        TagCase::IntoStatic(kind) => into_static(alloc, output, kind),
     }
 }
 
@@ -58,18 +40,19 @@ fn kind_into_static<W: Write>(alloc: Global, output: &mut W) -> Result<(), Stop>
         alloc,
         output,
         OF_30,
-        Ok(lent_fenced()),
-        Ok(lent_fenced()),
+        fenced(alloc, Holding::Lent),
+        fenced(alloc, Holding::Lent),
     )
 }
 
-fn into_static<W: Write>(
-    alloc: Global,
-    output: &mut W,
-    first: Result<Tag<'static>, AllocError>,
-    second: Result<Tag<'static>, AllocError>,
-) -> Result<(), Stop> {
-    tell_consuming::<W, Tag<'static>, Tag<'static>>(alloc, output, OF_30, first, second)
+fn into_static<W: Write>(alloc: Global, output: &mut W, kind: TagKind) -> Result<(), Stop> {
+    tell_consuming::<W, Tag<'static>, Tag<'static>>(
+        alloc,
+        output,
+        OF_30,
+        tag(alloc, kind, Holding::Lent),
+        tag(alloc, kind, Holding::Lent),
+    )
 }
 
 impl Copied for CodeBlockKind<'static> {
@@ -99,28 +82,32 @@ impl MadeOf<Tag<'static>> for Tag<'static> {
     }
 }
 
-fn fenced(alloc: Global) -> Result<CodeBlockKind<'static>, AllocError> {
-    owned(alloc).map(CodeBlockKind::Fenced)
+/// A tag of this kind, whose texts are held in this way.
+pub(crate) fn tag(
+    alloc: Global,
+    kind: TagKind,
+    holding: Holding,
+) -> Result<Tag<'static>, AllocError> {
+    match kind {
+        TagKind::Heading => heading_texts(alloc, holding).map(heading_of),
+        TagKind::CodeBlock => fenced(alloc, holding).map(Tag::CodeBlock),
+        TagKind::Footnote => CowStr::held(alloc, holding).map(Tag::FootnoteDefinition),
+        TagKind::Table => table(alloc),
+        TagKind::Link => link_texts(alloc, holding).map(link_of),
+        TagKind::Image => link_texts(alloc, holding).map(image_of),
+    }
 }
 
-pub(crate) fn lent_fenced() -> CodeBlockKind<'static> {
-    CodeBlockKind::Fenced(lent())
+fn table(alloc: Global) -> Result<Tag<'static>, AllocError> {
+    Ok(Tag::Table(two(alloc, Alignment::None, Alignment::Center)?))
 }
 
-fn code_block(alloc: Global) -> Result<Tag<'static>, AllocError> {
-    fenced(alloc).map(Tag::CodeBlock)
-}
-
-fn lent_code_block() -> Result<Tag<'static>, AllocError> {
-    Ok(Tag::CodeBlock(lent_fenced()))
-}
-
-fn footnote(alloc: Global) -> Result<Tag<'static>, AllocError> {
-    owned(alloc).map(Tag::FootnoteDefinition)
-}
-
-fn lent_footnote() -> Result<Tag<'static>, AllocError> {
-    Ok(Tag::FootnoteDefinition(lent()))
+/// The kind of a fenced code block.
+pub(crate) fn fenced(
+    alloc: Global,
+    holding: Holding,
+) -> Result<CodeBlockKind<'static>, AllocError> {
+    CowStr::held(alloc, holding).map(CodeBlockKind::Fenced)
 }
 
 fn two<T: Drop>(alloc: Global, first: T, second: T) -> Result<Vec<T>, AllocError> {
@@ -128,14 +115,6 @@ fn two<T: Drop>(alloc: Global, first: T, second: T) -> Result<Vec<T>, AllocError
     values.push(first)?;
     values.push(second)?;
     Ok(values)
-}
-
-pub(crate) fn table(alloc: Global) -> Result<Tag<'static>, AllocError> {
-    Ok(Tag::Table(two(alloc, Alignment::None, Alignment::Center)?))
-}
-
-fn lent_text(_alloc: Global) -> Result<CowStr<'static>, AllocError> {
-    Ok(lent())
 }
 
 // What owns memory in a heading: an identifier, two classes and two attributes.
@@ -146,17 +125,38 @@ struct HeadingTexts<T> {
     attrs: Vec<(T, Option<T>)>,
 }
 
-fn heading_texts<T: Drop, F: Fn(Global) -> Result<T, AllocError>>(
+fn heading_texts<T: Held + Drop>(
     alloc: Global,
-    text: &F,
-) -> Result<HeadingTexts<T>, AllocError>
-    requires { F.IsAlwaysCallable text.now }
-{
-    let id = text(alloc)?;
-    let classes = two(alloc, text(alloc)?, text(alloc)?)?;
-    let first = (text(alloc)?, Some(text(alloc)?));
-    let attrs = two(alloc, first, (text(alloc)?, None))?;
+    holding: Holding,
+) -> Result<HeadingTexts<T>, AllocError> {
+    let id = T::held(alloc, holding)?;
+    let classes = classes(alloc, holding)?;
+    let attrs = attributes(alloc, holding)?;
     Ok(HeadingTexts { id, classes, attrs })
+}
+
+fn classes<T: Held + Drop>(alloc: Global, holding: Holding) -> Result<Vec<T>, AllocError> {
+    let first = T::held(alloc, holding)?;
+    let second = T::held(alloc, holding)?;
+    two(alloc, first, second)
+}
+
+fn attributes<T: Held + Drop>(
+    alloc: Global,
+    holding: Holding,
+) -> Result<Vec<(T, Option<T>)>, AllocError> {
+    let first = named_and_valued(alloc, holding)?;
+    let second = T::held(alloc, holding)?;
+    two(alloc, first, (second, None))
+}
+
+fn named_and_valued<T: Held + Drop>(
+    alloc: Global,
+    holding: Holding,
+) -> Result<(T, Option<T>), AllocError> {
+    let name = T::held(alloc, holding)?;
+    let value = T::held(alloc, holding)?;
+    Ok((name, Some(value)))
 }
 
 fn heading_of(texts: HeadingTexts<CowStr<'static>>) -> Tag<'static> {
@@ -168,14 +168,6 @@ fn heading_of(texts: HeadingTexts<CowStr<'static>>) -> Tag<'static> {
     }
 }
 
-pub(crate) fn heading(alloc: Global) -> Result<Tag<'static>, AllocError> {
-    heading_texts(alloc, &owned).map(heading_of)
-}
-
-pub(crate) fn lent_heading(alloc: Global) -> Result<Tag<'static>, AllocError> {
-    heading_texts(alloc, &lent_text).map(heading_of)
-}
-
 // What owns memory in a link or an image.
 #[derive(Drop)]
 struct LinkTexts<T> {
@@ -184,16 +176,14 @@ struct LinkTexts<T> {
     id: T,
 }
 
-fn link_texts<T: Drop, F: Fn(Global) -> Result<T, AllocError>>(
-    alloc: Global,
-    text: &F,
-) -> Result<LinkTexts<T>, AllocError>
-    requires { F.IsAlwaysCallable text.now }
-{
+fn link_texts<T: Held + Drop>(alloc: Global, holding: Holding) -> Result<LinkTexts<T>, AllocError> {
+    let dest_url = T::held(alloc, holding)?;
+    let title = T::held(alloc, holding)?;
+    let id = T::held(alloc, holding)?;
     Ok(LinkTexts {
-        dest_url: text(alloc)?,
-        title: text(alloc)?,
-        id: text(alloc)?,
+        dest_url,
+        title,
+        id,
     })
 }
 
@@ -213,20 +203,4 @@ fn image_of(texts: LinkTexts<CowStr<'static>>) -> Tag<'static> {
         title: texts.title,
         id: texts.id,
     }
-}
-
-fn link(alloc: Global) -> Result<Tag<'static>, AllocError> {
-    link_texts(alloc, &owned).map(link_of)
-}
-
-pub(crate) fn lent_link(alloc: Global) -> Result<Tag<'static>, AllocError> {
-    link_texts(alloc, &lent_text).map(link_of)
-}
-
-fn image(alloc: Global) -> Result<Tag<'static>, AllocError> {
-    link_texts(alloc, &owned).map(image_of)
-}
-
-fn lent_image(alloc: Global) -> Result<Tag<'static>, AllocError> {
-    link_texts(alloc, &lent_text).map(image_of)
 }

@@ -15,6 +15,11 @@ pub(crate) trait MadeOf<T> {
     fn made_of(alloc: Global, value: T) -> Result<Self, AllocError>;
 }
 
+/// What is seen of a value.
+pub(crate) trait Seen<T> {
+    fn seen(&self) -> T;
+}
+
 /// The end of what a case is made of: what comes next is the call.
 pub(crate) fn tell_ready<W: Write>(output: &mut W) -> Result<(), Stop> {
     output.write_all(b"ready\n")?;
@@ -39,6 +44,27 @@ pub(crate) fn tell<W: Write, T: Debug + Drop>(output: &mut W, answer: T) -> Resu
     Ok(())
 }
 
+/// Two answers, each on its line.
+pub(crate) fn tell_two<W: Write, T: Debug + Drop, U: Debug + Drop>(
+    output: &mut W,
+    first: T,
+    second: U,
+) -> Result<(), Stop> {
+    tell(output, first)?;
+    tell(output, second)
+}
+
+/// Three answers, each on its line.
+pub(crate) fn tell_three<W: Write, T: Debug + Drop, U: Debug + Drop, V: Debug + Drop>(
+    output: &mut W,
+    first: T,
+    second: U,
+    third: V,
+) -> Result<(), Stop> {
+    tell(output, first)?;
+    tell_two(output, second, third)
+}
+
 /// An answer that may be refused.
 pub(crate) fn tell_made<W: Write, T: Debug + Drop>(
     output: &mut W,
@@ -47,16 +73,23 @@ pub(crate) fn tell_made<W: Write, T: Debug + Drop>(
     tell(output, made?)
 }
 
-/// What is seen of a value.
-pub(crate) fn tell_seen<W: Write, T: Drop, D: Debug + Drop, F: Fn(&T) -> D>(
+/// Two such answers, each on its line.
+pub(crate) fn tell_made_two<W: Write, T: Debug + Drop, U: Debug + Drop>(
+    output: &mut W,
+    first: Result<T, AllocError>,
+    second: Result<U, AllocError>,
+) -> Result<(), Stop> {
+    tell_made(output, first)?;
+    tell_made(output, second)
+}
+
+/// What is seen of a value; the value itself is dropped.
+pub(crate) fn tell_seen<W: Write, T: Seen<U> + Drop, U: Debug + Drop>(
     output: &mut W,
     made: Result<T, AllocError>,
-    look: &F,
-) -> Result<(), Stop>
-    requires { F.IsAlwaysCallable look.now }
-{
+) -> Result<(), Stop> {
     let value = made?;
-    tell(output, look(&value))
+    tell(output, value.seen())
 }
 
 /// A copy of a value; the value itself is dropped.
@@ -68,20 +101,7 @@ pub(crate) fn copy_of<T: Copied + Drop>(
     value.copied(alloc)
 }
 
-/// Tells that the value is ready, and then what a call on it answers.
-pub(crate) fn tell_ready_on<W: Write, T: Drop, U: Debug + Drop, F: Fn(&T) -> Result<U, AllocError>>(
-    output: &mut W,
-    made: Result<T, AllocError>,
-    call: &F,
-) -> Result<(), Stop>
-    requires { F.IsAlwaysCallable call.now }
-{
-    let value = made?;
-    tell_ready(output)?;
-    tell(output, call(&value)?)
-}
-
-/// The same of a call that consumes the value.
+/// Tells that the value is ready, and then what a call that consumes it answers.
 pub(crate) fn tell_ready_consuming<W: Write, T: Drop, U: MadeOf<T> + Debug + Drop>(
     alloc: Global,
     output: &mut W,
@@ -89,7 +109,7 @@ pub(crate) fn tell_ready_consuming<W: Write, T: Drop, U: MadeOf<T> + Debug + Dro
 ) -> Result<(), Stop> {
     let value = made?;
     tell_ready(output)?;
-    tell(output, U::made_of(alloc, value)?)
+    tell_made(output, U::made_of(alloc, value))
 }
 
 /// Makes the call, and where it is refused makes it again.
@@ -105,7 +125,7 @@ pub(crate) fn tell_call<W: Write, S: Debug, T: Debug + Drop, F: Fn() -> Result<T
         Ok(answer) => tell(output, answer),
         Err(_) => {
             tell_refused(output, state)?;
-            tell(output, call()?)
+            tell_made(output, call())
         }
     }
 }
@@ -117,12 +137,20 @@ pub(crate) fn tell_copy<W: Write, T: Copied + Debug + Drop>(
     made: Result<T, AllocError>,
 ) -> Result<(), Stop> {
     let value = made?;
-    tell_before(output, &value)?;
+    tell_copy_of(alloc, output, &value)
+}
+
+fn tell_copy_of<W: Write, T: Copied + Debug + Drop>(
+    alloc: Global,
+    output: &mut W,
+    value: &T,
+) -> Result<(), Stop> {
+    tell_before(output, value)?;
     match value.copied(alloc) {
         Ok(copy) => tell(output, copy),
         Err(_) => {
-            tell_refused(output, &value)?;
-            tell(output, value.copied(alloc)?)
+            tell_refused(output, value)?;
+            tell_made(output, value.copied(alloc))
         }
     }
 }
@@ -138,11 +166,21 @@ pub(crate) fn tell_consuming<W: Write, T: Drop, U: MadeOf<T> + Debug + Drop>(
     let value = first?;
     let another = second?;
     tell_before(output, &state)?;
-    match U::made_of(alloc, value) {
+    tell_or_make_again(alloc, output, state, U::made_of(alloc, value), another)
+}
+
+fn tell_or_make_again<W: Write, T: Drop, U: MadeOf<T> + Debug + Drop>(
+    alloc: Global,
+    output: &mut W,
+    state: &str,
+    made: Result<U, AllocError>,
+    another: T,
+) -> Result<(), Stop> {
+    match made {
         Ok(answer) => tell(output, answer),
         Err(_) => {
             tell_refused(output, &state)?;
-            tell(output, U::made_of(alloc, another)?)
+            tell_made(output, U::made_of(alloc, another))
         }
     }
 }

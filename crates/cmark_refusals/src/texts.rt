@@ -47,6 +47,27 @@ pub(crate) fn lent() -> CowStr<'static> {
     CowStr::from(OF_30)
 }
 
+/// How a value holds its texts.
+#[derive(Clone, Copy)]
+pub(crate) enum Holding {
+    Owned,
+    Lent,
+}
+
+/// A text that is held in one of these ways.
+pub(crate) trait Held {
+    fn held(alloc: Global, holding: Holding) -> Result<Self, AllocError>;
+}
+
+impl Held for CowStr<'static> {
+    fn held(alloc: Global, holding: Holding) -> Result<CowStr<'static>, AllocError> {
+        match holding {
+            Holding::Owned => owned(alloc),
+            Holding::Lent => Ok(lent()),
+        }
+    }
+}
+
 fn inlined() -> CowStr<'static> {
     CowStr::Inlined(InlineStr::from('藏'))
 }

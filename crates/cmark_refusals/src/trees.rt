@@ -1,5 +1,5 @@
 //! Trees, whose nodes, spine and focus are told before each call and where it is refused.
-ghost use Rattle.std.specs.Prelude.{◌≡◌, ◌≤◌, ◌<◌, ◌+◌, length, IfOk, IsSome};
+ghost use Rattle.std.specs.Prelude.{◌≡◌, ◌≤◌, ◌<◌, ◌+◌, length, IfOk, OnErr, IsSome};
 
 use crate::stop::Stop;
 use crate::telling::{tell, tell_call, tell_ready};
@@ -49,6 +49,37 @@ fn is_new_empty<T: Default + Drop>(alloc: Global) -> Result<bool, AllocError> {
     Ok(Tree::<T>::with_capacity(alloc, 5)?.is_empty())
 }
 
+fn append_named(alloc: Global, tree: &mut Tree<Named>, name: &str) -> Result<TreeIndex, AllocError>
+    ensures index { IfOk result (λ ix. ix ≡ length tree.old.nodes) }
+    ensures count { IfOk result (λ _. length tree.new.nodes ≡ length tree.old.nodes + 1) }
+    ensures focus { IfOk result (λ _. IsSome tree.new.focus) }
+{
+    tree.append(item_named(alloc, name)?)
+}
+
+// Appends a node in the one in focus.
+fn append_in_focus(alloc: Global, tree: &mut Tree<Named>, name: &str) -> Result<(), AllocError>
+    requires { IsSome tree.old.focus }
+    ensures count { IfOk result (λ _. length tree.new.nodes ≡ length tree.old.nodes + 1) }
+    ensures focus { IfOk result (λ _. IsSome tree.new.focus) }
+{
+    tree.push()?;
+    append_named(alloc, tree, name)?;
+    Ok(())
+}
+
+fn append_four(alloc: Global, tree: &mut Tree<Named>) -> Result<TreeIndex, AllocError>
+    ensures index { IfOk result (λ ix. ix ≡ length tree.old.nodes) }
+    ensures count { IfOk result (λ _. length tree.new.nodes ≡ length tree.old.nodes + 4) }
+    ensures focus { IfOk result (λ _. IsSome tree.new.focus) }
+{
+    let first = append_named(alloc, tree, "A")?;
+    append_in_focus(alloc, tree, "B")?;
+    append_in_focus(alloc, tree, "C")?;
+    append_in_focus(alloc, tree, "D")?;
+    Ok(first)
+}
+
 // A, in it B, in that C, and in that D, which is in focus. There is room for no further node.
 fn full(alloc: Global) -> Result<(Tree<Named>, TreeIndex), AllocError>
     ensures count { IfOk result (λ made. length made.0.nodes ≡ 5) }
@@ -56,13 +87,7 @@ fn full(alloc: Global) -> Result<(Tree<Named>, TreeIndex), AllocError>
     ensures focus { IfOk result (λ made. IsSome made.0.focus) }
 {
     let mut tree = Tree::with_capacity(alloc, 5)?;
-    let first = tree.append(item_named(alloc, "A")?)?;
-    tree.push()?;
-    tree.append(item_named(alloc, "B")?)?;
-    tree.push()?;
-    tree.append(item_named(alloc, "C")?)?;
-    tree.push()?;
-    tree.append(item_named(alloc, "D")?)?;
+    let first = append_four(alloc, &mut tree)?;
     Ok((tree, first))
 }
 
@@ -112,17 +137,115 @@ fn tell_node<W: Write>(output: &mut W, tree: &Tree<Named>, ix: TreeIndex) -> Res
     tell_link(output, node.next)
 }
 
+// What a call may use or change, before the call.
+fn tell_before<W: Write>(
+    output: &mut W,
+    tree: &Tree<Named>,
+    first: TreeIndex,
+    count: usize,
+) -> Result<(), Stop>
+    requires nodes { first + count ≤ length tree.now.nodes }
+    requires few { first + count < 100 }
+{
+    tell_tree(output, "before", tree, first, count)?;
+    tell_ready(output)
+}
+
+// The index that a call answers, and the tree after it.
+fn tell_after<W: Write>(
+    output: &mut W,
+    ix: TreeIndex,
+    tree: &Tree<Named>,
+    first: TreeIndex,
+    count: usize,
+) -> Result<(), Stop>
+    requires nodes { first + count ≤ length tree.now.nodes }
+    requires few { first + count < 100 }
+{
+    tell(output, ix)?;
+    tell_tree(output, "after", tree, first, count)
+}
+
 /// A node is appended after the focus, and as the only child of a parent.
 pub(crate) fn append<W: Write>(alloc: Global, output: &mut W) -> Result<(), Stop> {
-    let (mut tree, first) = full(alloc)?;
-    append_fifth(alloc, output, &mut tree, first)?;
+    add_to_full(alloc, output, Adding::Linked)?;
+    append_child(alloc, output)
+}
+
+fn append_child<W: Write>(alloc: Global, output: &mut W) -> Result<(), Stop> {
     let (mut tree, first) = full(alloc)?;
     tree.push()?;
-    append_fifth(alloc, output, &mut tree, first)
+    add_fifth(alloc, output, &mut tree, first, Adding::Linked)
+}
+
+/// A node is made that no link leads to.
+pub(crate) fn create_node<W: Write>(alloc: Global, output: &mut W) -> Result<(), Stop> {
+    add_to_full(alloc, output, Adding::Unlinked)
+}
+
+// Whether links lead to a new node, and it is in focus.
+#[derive(Clone, Copy)]
+enum Adding {
+    Linked,
+    Unlinked,
+}
+
+fn add_to_full<W: Write>(alloc: Global, output: &mut W, adding: Adding) -> Result<(), Stop> {
+    let (mut tree, first) = full(alloc)?;
+    add_fifth(alloc, output, &mut tree, first, adding)
 }
 
 // The item is made before the call, and again before the second.
-fn append_fifth<W: Write>(
+fn add_fifth<W: Write>(
+    alloc: Global,
+    output: &mut W,
+    tree: &mut Tree<Named>,
+    first: TreeIndex,
+    adding: Adding,
+) -> Result<(), Stop>
+    requires first { first ≡ 1 }
+    requires count { length tree.old.nodes ≡ 5 }
+{
+    let item = item_named(alloc, "E")?;
+    tell_before(output, tree, first, 4)?;
+    let ix = match add(tree, item, adding) {
+        Ok(ix) => ix,
+        Err(_) => {
+            tell_tree(output, "refused", tree, first, 4)?;
+            add(tree, item_named(alloc, "E")?, adding)?
+        }
+    };
+    tell_after(output, ix, tree, first, 5)
+}
+
+fn add(tree: &mut Tree<Named>, item: Named, adding: Adding) -> Result<TreeIndex, AllocError>
+    ensures ok { IfOk result (λ _. length tree.new.nodes ≡ length tree.old.nodes + 1) }
+    ensures err { OnErr result (length tree.new.nodes ≡ length tree.old.nodes) }
+{
+    match adding {
+        Adding::Linked => tree.append(item),
+        Adding::Unlinked => tree.create_node(item),
+    }
+}
+
+/// The first node goes on the spine, and then as many as make it grow.
+pub(crate) fn push<W: Write>(alloc: Global, output: &mut W) -> Result<(), Stop> {
+    push_first(alloc, output)?;
+    push_until_grown(alloc, output)
+}
+
+fn push_first<W: Write>(alloc: Global, output: &mut W) -> Result<(), Stop> {
+    let mut tree = Tree::with_capacity(alloc, 8)?;
+    let first = append_named(alloc, &mut tree, "A")?;
+    push_focus(output, &mut tree, first, 1)
+}
+
+fn push_until_grown<W: Write>(alloc: Global, output: &mut W) -> Result<(), Stop> {
+    let (mut tree, first) = full(alloc)?;
+    push_three(alloc, output, &mut tree, first)
+}
+
+fn push_three<W: Write>(
     alloc: Global,
     output: &mut W,
     tree: &mut Tree<Named>,
@@ -130,49 +253,13 @@ fn append_fifth<W: Write>(
 ) -> Result<(), Stop>
     requires first { first ≡ 1 }
     requires count { length tree.old.nodes ≡ 5 }
+    requires focus { IsSome tree.old.focus }
 {
-    let item = item_named(alloc, "E")?;
-    tell_tree(output, "before", tree, first, 4)?;
-    tell_ready(output)?;
-    let ix = match tree.append(item) {
-        Ok(ix) => ix,
-        Err(_) => {
-            tell_tree(output, "refused", tree, first, 4)?;
-            tree.append(item_named(alloc, "E")?)?
-        }
-    };
-    tell(output, ix)?;
-    tell_tree(output, "after", tree, first, 5)
-}
-
-/// A node is made that no link leads to.
-pub(crate) fn create_node<W: Write>(alloc: Global, output: &mut W) -> Result<(), Stop> {
-    let (mut tree, first) = full(alloc)?;
-    let item = item_named(alloc, "E")?;
-    tell_tree(output, "before", &tree, first, 4)?;
-    tell_ready(output)?;
-    let ix = match tree.create_node(item) {
-        Ok(ix) => ix,
-        Err(_) => {
-            tell_tree(output, "refused", &tree, first, 4)?;
-            tree.create_node(item_named(alloc, "E")?)?
-        }
-    };
-    tell(output, ix)?;
-    tell_tree(output, "after", &tree, first, 5)
-}
-
-/// The first node goes on the spine, and then as many as make it grow.
-pub(crate) fn push<W: Write>(alloc: Global, output: &mut W) -> Result<(), Stop> {
-    let mut tree = Tree::with_capacity(alloc, 8)?;
-    let first = tree.append(item_named(alloc, "A")?)?;
-    push_focus(output, &mut tree, first, 1)?;
-    let (mut tree, first) = full(alloc)?;
-    push_focus(output, &mut tree, first, 4)?;
-    tree.append(item_named(alloc, "E")?)?;
-    push_focus(output, &mut tree, first, 5)?;
-    tree.append(item_named(alloc, "F")?)?;
-    push_focus(output, &mut tree, first, 6)
+    push_focus(output, tree, first, 4)?;
+    append_named(alloc, tree, "E")?;
+    push_focus(output, tree, first, 5)?;
+    append_named(alloc, tree, "F")?;
+    push_focus(output, tree, first, 6)
 }
 
 fn push_focus<W: Write>(
@@ -187,8 +274,7 @@ fn push_focus<W: Write>(
     requires focus { IsSome tree.old.focus }
     ensures { length tree.new.nodes ≡ length tree.old.nodes }
 {
-    tell_tree(output, "before", tree, first, count)?;
-    tell_ready(output)?;
+    tell_before(output, tree, first, count)?;
     let ix = match tree.push() {
         Ok(ix) => ix,
         Err(_) => {
@@ -196,38 +282,54 @@ fn push_focus<W: Write>(
             tree.push()?
         }
     };
-    tell(output, ix)?;
-    tell_tree(output, "after", tree, first, count)
+    tell_after(output, ix, tree, first, count)
 }
 
 /// A tree is copied, with its items. The answer is the copy, and the tree that was copied.
 pub(crate) fn clone<W: Write>(alloc: Global, output: &mut W) -> Result<(), Stop> {
     let (tree, first) = full(alloc)?;
-    tell_tree(output, "before", &tree, first, 4)?;
-    tell_ready(output)?;
-    let copy = match tree.clone() {
+    tell_clone(output, &tree, first)
+}
+
+fn tell_clone<W: Write>(output: &mut W, tree: &Tree<Named>, first: TreeIndex) -> Result<(), Stop>
+    requires first { first ≡ 1 }
+    requires count { length tree.now.nodes ≡ 5 }
+{
+    tell_before(output, tree, first, 4)?;
+    let copy = match copied(tree) {
         Ok(copy) => copy,
         Err(_) => {
-            tell_tree(output, "refused", &tree, first, 4)?;
-            tree.clone()?
+            tell_tree(output, "refused", tree, first, 4)?;
+            copied(tree)?
         }
     };
     tell_tree(output, "copy", &copy, first, 4)?;
-    tell_tree(output, "after", &tree, first, 4)
+    tell_tree(output, "after", tree, first, 4)
+}
+
+fn copied(tree: &Tree<Named>) -> Result<Tree<Named>, AllocError>
+    ensures { IfOk result (λ copy. length copy.nodes ≡ length tree.now.nodes) }
+{
+    tree.clone()
 }
 
 /// The nodes are told in order.
 pub(crate) fn in_order<W: Write>(alloc: Global, output: &mut W) -> Result<(), Stop> {
     let (tree, first) = full(alloc)?;
-    tell_tree(output, "before", &tree, first, 4)?;
-    tell_ready(output)?;
-    let order = match tree.in_order() {
-        Ok(order) => order,
+    tell_in_order(output, &tree, first)
+}
+
+fn tell_in_order<W: Write>(output: &mut W, tree: &Tree<Named>, first: TreeIndex) -> Result<(), Stop>
+    requires first { first ≡ 1 }
+    requires count { length tree.now.nodes ≡ 5 }
+{
+    tell_before(output, tree, first, 4)?;
+    match tree.in_order() {
+        Ok(order) => tell(output, order)?,
         Err(_) => {
-            tell_tree(output, "refused", &tree, first, 4)?;
-            tree.in_order()?
+            tell_tree(output, "refused", tree, first, 4)?;
+            tell(output, tree.in_order()?)?;
         }
-    };
-    tell(output, order)?;
-    tell_tree(output, "after", &tree, first, 4)
+    }
+    tell_tree(output, "after", tree, first, 4)
 }

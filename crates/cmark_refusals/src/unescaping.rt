@@ -19,15 +19,20 @@ fn unescaped(alloc: Global, text: &str) -> Result<Text<'_>, AllocError> {
 /// An escape, a reference and a line ending of two bytes.
 pub(crate) fn short<W: Write>(alloc: Global, output: &mut W) -> Result<(), Stop> {
     let text = "a\\*b &amp;lt; &#x1F354; &no; c\r";
-    tell_call(output, &"a\\*b &amp;lt; ..", &|| unescaped(alloc, text))
+    tell_unescaped(alloc, output, "a\\*b &amp;lt; ..", text)
+}
+
+fn tell_unescaped<W: Write>(
+    alloc: Global,
+    output: &mut W,
+    state: &str,
+    text: &str,
+) -> Result<(), Stop> {
+    tell_call(output, &state, &|| unescaped(alloc, text))
 }
 
 /// A text whose meaning has 900 bytes.
 pub(crate) fn of_900_bytes<W: Write>(alloc: Global, output: &mut W) -> Result<(), Stop> {
     let source = "&amp;".repeat(alloc, 900)?;
-    tell_call(
-        output,
-        &"900 references",
-        &|| unescaped(alloc, source.as_str()),
-    )
+    tell_unescaped(alloc, output, "900 references", source.as_str())
 }

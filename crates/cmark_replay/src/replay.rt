@@ -53,26 +53,51 @@ fn compare_all<R: Read, W: Write>(
 ) -> Result<Tally, Stop> {
     let mut reader = BufReader::new(alloc, input).map_err(|_| Stop::Memory)?;
     let mut line = Vec::new(alloc);
+    compare_lines(alloc, &mut reader, &mut line, output)
+}
+
+// The same of a reader, whose lines are read in one place.
+fn compare_lines<B: BufRead, W: Write>(
+    alloc: Global,
+    reader: &mut B,
+    line: &mut Vec<u8>,
+    output: &mut W,
+) -> Result<Tally, Stop> {
     let mut tally = Tally {
         agree: 0,
         differ: 0,
     };
     for number in 1..u64::MAX {
-        if !read_line(&mut reader, &mut line)? {
+        if !read_line(reader, line)? {
             writeln!(output, "{} agree, {} differ", tally.agree, tally.differ).map_err(
                 |_| Stop::Write,
             )?;
             return Ok(tally);
         }
-        match difference(alloc, number, &line).map_err(|error| Stop::at_line(number, error))? {
-            None => tally.agree += 1,
-            Some(text) => {
-                tally.differ += 1;
-                output.write_all(text.as_bytes()).map_err(|_| Stop::Write)?;
-            }
+        if write_difference(alloc, output, number, line)? {
+            tally.differ += 1;
+        } else {
+            tally.agree += 1;
         }
     }
     Err(Stop::Read)
+}
+
+// Writes the line that tells of a case whose answer differs, and answers whether it does.
+fn write_difference<W: Write>(
+    alloc: Global,
+    output: &mut W,
+    number: u64,
+    line: &[u8],
+) -> Result<bool, Stop> {
+    match difference(alloc, number, line) {
+        Ok(None) => Ok(false),
+        Ok(Some(text)) => match output.write_all(text.as_bytes()) {
+            Ok(()) => Ok(true),
+            Err(_) => Err(Stop::Write),
+        },
+        Err(error) => Err(Stop::at_line(number, error)),
+    }
 }
 
 // Reads the next line in the place of the last, and answers whether there was one.
@@ -89,7 +114,17 @@ fn difference(alloc: Global, number: u64, line: &[u8]) -> Result<Option<String>,
     )?;
     let (case, wanted) = line.split_once("\t=>\t").ok_or(Unreadable::NoAnswer)?;
     let given = answer_case(alloc, case)?;
-    if given.as_str() == wanted {
+    text_of_difference(alloc, number, case, wanted, given.as_str())
+}
+
+fn text_of_difference(
+    alloc: Global,
+    number: u64,
+    case: &str,
+    wanted: &str,
+    given: &str,
+) -> Result<Option<String>, CaseError> {
+    if given == wanted {
         return Ok(None);
     }
     Ok(Some(format!(in alloc; "{number}\t{case}\twanted {wanted}\tgiven {given}\n")?))

@@ -4,7 +4,7 @@ ghost use Rattle.std.specs.Prelude.{◌<◌, length};
 use crate::inline_html::{Found, scan_tag};
 use crate::labels::label;
 use crate::stop::Stop;
-use crate::telling::{tell, tell_made, tell_ready};
+use crate::telling::{tell, tell_made_two, tell_ready, tell_three, tell_two};
 use crate::texts::Text;
 use crate::unescaping::AMPERSAND;
 use markdown_scanners_tree::scanners::{
@@ -14,7 +14,7 @@ use markdown_scanners_tree::scanners::{
     scan_wikilink_pipe_bytes, starts_html_block_type_6, unescape,
 };
 use markdown_values::strings::CowStr;
-use std::alloc::Global;
+use std::alloc::{AllocError, Global};
 use std::io::Write;
 
 pub(crate) fn run<W: Write>(alloc: Global, output: &mut W) -> Result<(), Stop> {
@@ -22,6 +22,7 @@ pub(crate) fn run<W: Write>(alloc: Global, output: &mut W) -> Result<(), Stop> {
     references(output)?;
     links(output)?;
     links_of_bytes(output)?;
+    html_blocks(output)?;
     tags(alloc, output)?;
     unchanged(alloc, output)?;
     labels(alloc, output)
@@ -41,38 +42,60 @@ fn tell_reference<W: Write>(output: &mut W, bytes: &[u8]) -> Result<(), Stop>
 }
 
 fn links<W: Write>(output: &mut W) -> Result<(), Stop> {
-    tell(output, scan_wikilink_pipe("a|b]]", 0, 3))?;
-    tell(output, scan_link_dest("((a))", 0, 1))?;
-    tell(output, scan_link_dest("(((a)))", 0, 1))?;
-    tell(output, scan_autolink("https://a.b>", 0))
+    tell_two(
+        output,
+        scan_wikilink_pipe("a|b]]", 0, 3),
+        scan_link_dest("((a))", 0, 1),
+    )?;
+    tell_two(
+        output,
+        scan_link_dest("(((a)))", 0, 1),
+        scan_autolink("https://a.b>", 0),
+    )
 }
 
 fn links_of_bytes<W: Write>(output: &mut W) -> Result<(), Stop> {
-    tell(output, scan_wikilink_pipe_bytes(b"a|b]]", 3))?;
-    tell(output, scan_link_dest_bytes(b"((a)) b", 1))?;
-    tell(output, scan_autolink_bytes(b"https://a.b>"))?;
-    tell(output, scan_link_title(b"'a\n\\'b' c"))?;
-    tell(output, scan_link_title(b"(a\n\nb)"))
+    tell_three(
+        output,
+        scan_wikilink_pipe_bytes(b"a|b]]", 3),
+        scan_link_dest_bytes(b"((a)) b", 1),
+        scan_autolink_bytes(b"https://a.b>"),
+    )?;
+    tell_two(
+        output,
+        scan_link_title(b"'a\n\\'b' c"),
+        scan_link_title(b"(a\n\nb)"),
+    )
 }
 
-fn tags<W: Write>(alloc: Global, output: &mut W) -> Result<(), Stop> {
-    tell(output, starts_html_block_type_6(b"DIV>"))?;
-    tell(output, scan_html_type_7(b"<a b=\t'c'>  \n"))?;
+fn html_blocks<W: Write>(output: &mut W) -> Result<(), Stop> {
+    tell_two(
+        output,
+        starts_html_block_type_6(b"DIV>"),
+        scan_html_type_7(b"<a b=\t'c'>  \n"),
+    )?;
     tell_html(output, b"<PRE>")?;
     tell_html(output, b"a --> b")?;
     tell_html(output, b"</td/>")?;
-    tell_html(output, b"<b c> \n")?;
-    let none = None::<&fn(&[u8]) -> usize>;
-    tell_made(
+    tell_html(output, b"<b c> \n")
+}
+
+fn tags<W: Write>(alloc: Global, output: &mut W) -> Result<(), Stop> {
+    tell_made_two(
         output,
-        scan_html_block_inner(alloc, b"<foo bar>", none).map(Found),
+        tag_of_one_line(alloc, b"<foo bar>"),
+        tag_of_one_line(alloc, b"</a\n>"),
     )?;
-    tell_made(
+    tell_made_two(
         output,
-        scan_html_block_inner(alloc, b"</a\n>", none).map(Found),
-    )?;
-    tell_made(output, scan_tag(alloc, b"<a\nb\nc>"))?;
-    tell_made(output, scan_tag(alloc, b"</a\n\n> >"))
+        scan_tag(alloc, b"<a\nb\nc>"),
+        scan_tag(alloc, b"</a\n\n> >"),
+    )
+}
+
+// A tag, which ends in its line.
+fn tag_of_one_line(alloc: Global, data: &[u8]) -> Result<Found, AllocError> {
+    scan_html_block_inner(alloc, data, None::<&fn(&[u8]) -> usize>).map(Found)
 }
 
 // The kind of the HTML block that begins there, and whether the line ends a comment, and a block
@@ -85,13 +108,14 @@ fn tell_html<W: Write>(output: &mut W, bytes: &[u8]) -> Result<(), Stop> {
 
 fn unchanged<W: Write>(alloc: Global, output: &mut W) -> Result<(), Stop> {
     let text = CowStr::from("plain & simple");
-    tell_made(output, unescape(alloc, text, true, &AMPERSAND).map(Text))?;
-    tell_made(output, scan_table_head(alloc, b"| a |"))
+    tell_made_two(
+        output,
+        unescape(alloc, text, true, &AMPERSAND).map(Text),
+        scan_table_head(alloc, b"| a |"),
+    )
 }
 
 fn labels<W: Write>(alloc: Global, output: &mut W) -> Result<(), Stop> {
-    tell_made(output, label(alloc, "a\\ ]"))?;
-    tell_made(output, label(alloc, " a b ]"))?;
-    tell_made(output, label(alloc, "a  b"))?;
-    tell_made(output, label(alloc, "a\n\nb]"))
+    tell_made_two(output, label(alloc, "a\\ ]"), label(alloc, " a b ]"))?;
+    tell_made_two(output, label(alloc, "a  b"), label(alloc, "a\n\nb]"))
 }

@@ -1,6 +1,6 @@
 //! Inline HTML under a guard, counted or not, and runs of scans step by step.
 use crate::stop::Stop;
-use crate::telling::{tell, tell_ready};
+use crate::telling::{tell, tell_ready, tell_three, tell_two};
 use markdown_scanners_tree::inline_html::{
     CountedText, HtmlScanGuard, InlineHtmlRun, scan_inline_html_comment,
     scan_inline_html_comment_counted, scan_inline_html_processing,
@@ -19,30 +19,32 @@ pub(crate) fn run<W: Write>(output: &mut W) -> Result<(), Stop> {
 fn guarded<W: Write>(output: &mut W) -> Result<(), Stop> {
     let mut guard = HtmlScanGuard::new();
     let comment = scan_inline_html_comment(b"<!--->", 2, &mut guard);
-    tell(output, (comment, guard.comment))?;
+    let comment = (comment, guard.comment);
     let cdata = scan_inline_html_comment(b"<![CDATA[a]>b]]>", 2, &mut guard);
-    tell(output, (cdata, guard.cdata))?;
+    let cdata = (cdata, guard.cdata);
     let processing = scan_inline_html_processing(b"<?>", 2, &mut guard);
-    tell(output, (processing, guard.processing, guard.declaration))
+    let processing = (processing, guard.processing, guard.declaration);
+    tell_three(output, comment, cdata, processing)
 }
 
 fn counted<W: Write>(output: &mut W) -> Result<(), Stop> {
     let mut text = CountedText::new(b"<!a-->b");
-    tell(output, (text.len(), text.opener_before(2)))?;
-    tell(output, text.look(2))?;
-    tell(output, text.starts(3, b"-->"))?;
-    tell(output, text.find(b"-->", 0))?;
-    tell(output, text.passed())
+    let opener = (text.len(), text.opener_before(2));
+    tell_two(output, opener, text.look(2))?;
+    let starts = text.starts(3, b"-->");
+    let end = text.find(b"-->", 0);
+    tell_three(output, starts, end, text.passed())
 }
 
 fn counted_scans<W: Write>(output: &mut W) -> Result<(), Stop> {
     let mut guard = HtmlScanGuard::new();
     let mut text = CountedText::new(b"<!--<?a?>");
     let comment = scan_inline_html_comment_counted(&mut text, 2, &mut guard);
-    tell(output, (comment, guard.comment, text.passed()))?;
+    let comment = (comment, guard.comment, text.passed());
     let mut text = CountedText::new(b"<?a?>");
     let processing = scan_inline_html_processing_counted(&mut text, 2, &mut guard);
-    tell(output, (processing, guard.processing, text.passed()))
+    let processing = (processing, guard.processing, text.passed());
+    tell_two(output, comment, processing)
 }
 
 fn steps<W: Write>(output: &mut W) -> Result<(), Stop> {

@@ -1,6 +1,6 @@
 //! The start of a line.
 use crate::stop::Stop;
-use crate::telling::{tell, tell_ready};
+use crate::telling::{tell, tell_ready, tell_three, tell_two};
 use markdown_scanners_tree::line::{KnownBreaks, LineCall, LineStart};
 use std::io::Write;
 
@@ -20,9 +20,8 @@ fn place(start: &LineStart<'_>) -> (usize, usize) {
 
 fn spaces<W: Write>(output: &mut W) -> Result<(), Stop> {
     let mut start = LineStart::new(b"\t \tx");
-    tell(output, (start.scan_space(3), start.is_at_eol()))?;
-    tell(output, place(&start))?;
-    tell(output, start.scan_space_upto(2))?;
+    let spaces = (start.scan_space(3), start.is_at_eol());
+    tell_three(output, spaces, place(&start), start.scan_space_upto(2))?;
     if let Ok(copy) = start.clone() {
         tell(output, place(&copy))?;
     }
@@ -32,26 +31,25 @@ fn spaces<W: Write>(output: &mut W) -> Result<(), Stop> {
 
 fn markers<W: Write>(output: &mut W) -> Result<(), Stop> {
     let mut start = LineStart::new(b">\t\t- x");
-    tell(output, start.scan_blockquote_marker())?;
-    tell(output, start.scan_space_upto(9))?;
-    tell(output, start.scan_list_marker_with_indent(1))?;
-    tell(output, place(&start))
+    let quote = start.scan_blockquote_marker();
+    tell_two(output, quote, start.scan_space_upto(9))?;
+    let item = start.scan_list_marker_with_indent(1);
+    tell_two(output, item, place(&start))
 }
 
 fn definitions<W: Write>(output: &mut W) -> Result<(), Stop> {
     let mut start = LineStart::new(b":\tx");
     let indent = start.scan_definition_list_definition_marker_with_indent(0);
-    tell(output, indent)?;
-    tell(output, place(&start))
+    tell_two(output, indent, place(&start))
 }
 
 fn tags<W: Write>(output: &mut W) -> Result<(), Stop> {
     let mut start = LineStart::new(b"\t[x] a");
-    tell(output, start.scan_task_list_marker())?;
-    tell(output, place(&start))?;
+    let task = start.scan_task_list_marker();
+    tell_two(output, task, place(&start))?;
     let mut start = LineStart::new(b"[!Note]  \nx");
-    tell(output, start.scan_blockquote_tag())?;
-    tell(output, place(&start))
+    let tag = start.scan_blockquote_tag();
+    tell_two(output, tag, place(&start))
 }
 
 // Behind the quote's marker in `>\t- x`.
@@ -61,9 +59,9 @@ fn resumed<W: Write>(output: &mut W) -> Result<(), Stop> {
     let Some(mut start) = LineStart::resumed(b">\t- x", 2, 2, 0) else {
         return Ok(());
     };
-    tell(output, (start.phase(), start.scan_space_upto(9)))?;
-    tell(output, start.scan_list_marker_with_breaks(1, &mut breaks))?;
-    tell(output, place(&start))
+    let space = (start.phase(), start.scan_space_upto(9));
+    let item = start.scan_list_marker_with_breaks(1, &mut breaks);
+    tell_three(output, space, item, place(&start))
 }
 
 // Calls of a run, of which the second is refused.

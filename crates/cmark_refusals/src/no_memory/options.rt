@@ -1,6 +1,6 @@
 //! Options.
 use crate::stop::Stop;
-use crate::telling::{tell, tell_ready};
+use crate::telling::{tell_ready, tell_three, tell_two};
 use bitflags::Flags;
 use markdown_values::values::Options;
 use std::io::Write;
@@ -14,39 +14,52 @@ pub(crate) fn run<W: Write>(output: &mut W) -> Result<(), Stop> {
 }
 
 fn made<W: Write>(output: &mut W) -> Result<(), Stop> {
-    tell(output, (Options::empty().bits(), Options::all().bits()))?;
-    let known = Options::from_bits(1).is_some();
-    tell(output, (known, Options::from_bits(512).is_some()))?;
-    let truncated = Options::from_bits_truncate(7).bits();
-    tell(output, (truncated, Options::from_bits_retain(7).bits()))
+    tell_three(
+        output,
+        (Options::empty().bits(), Options::all().bits()),
+        (
+            Options::from_bits(1).is_some(),
+            Options::from_bits(512).is_some(),
+        ),
+        (
+            Options::from_bits_truncate(7).bits(),
+            Options::from_bits_retain(7).bits(),
+        ),
+    )
 }
 
 fn asked<W: Write>(output: &mut W) -> Result<(), Stop> {
     let old = Options::ENABLE_OLD_FOOTNOTES;
     let new = Options::ENABLE_FOOTNOTES;
-    tell(
+    tell_three(
         output,
         (Options::empty().is_empty(), Options::all().is_all()),
-    )?;
-    tell(output, (new.contains(old), new.intersects(old)))?;
-    tell(output, (new.has_gfm_footnotes(), old.has_gfm_footnotes()))
+        (new.contains(old), new.intersects(old)),
+        (new.has_gfm_footnotes(), old.has_gfm_footnotes()),
+    )
 }
 
 fn combined<W: Write>(output: &mut W) -> Result<(), Stop> {
     let six = Options::ENABLE_TABLES.union(Options::ENABLE_FOOTNOTES);
     let old = Options::ENABLE_OLD_FOOTNOTES;
-    tell(output, (six.bits(), six.intersection(old).bits()))?;
-    tell(output, old.difference(Options::ENABLE_FOOTNOTES).bits())?;
-    tell(output, six.symmetric_difference(old).bits())?;
-    tell(output, six.complement().bits())
+    tell_two(
+        output,
+        (six.bits(), six.intersection(old).bits()),
+        old.difference(Options::ENABLE_FOOTNOTES).bits(),
+    )?;
+    tell_two(
+        output,
+        six.symmetric_difference(old).bits(),
+        six.complement().bits(),
+    )
 }
 
 fn changed<W: Write>(output: &mut W) -> Result<(), Stop> {
     let mut options = Options::ENABLE_TABLES;
     options.insert(Options::ENABLE_MATH);
     options.set(Options::ENABLE_GFM, true);
-    tell(output, options.bits())?;
+    let three = options.bits();
     options.remove(Options::ENABLE_TABLES);
     options.toggle(Options::ENABLE_MATH);
-    tell(output, options.bits())
+    tell_two(output, three, options.bits())
 }

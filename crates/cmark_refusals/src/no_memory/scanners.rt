@@ -1,6 +1,6 @@
 //! Scanners of lines.
 use crate::stop::Stop;
-use crate::telling::{tell, tell_ready};
+use crate::telling::{tell, tell_ready, tell_three, tell_two};
 use markdown_scanners_tree::scanners::{
     calc_indent, interrupts_paragraph, is_ascii_punctuation, is_ascii_whitespace,
     is_ascii_whitespace_no_nl, scan_atx_heading, scan_blank_line, scan_blockquote_start, scan_ch,
@@ -30,43 +30,66 @@ fn classes<W: Write>(output: &mut W) -> Result<(), Stop> {
 }
 
 fn runs<W: Write>(output: &mut W) -> Result<(), Stop> {
-    tell(output, scan_ch(b"ab", b'a'))?;
-    tell(output, scan_ch_repeat(b"aab", b'a'))?;
-    tell(output, scan_while(b"aab", |b| b == b'a'))?;
-    tell(output, scan_rev_while(b"baa", |b| b == b'a'))?;
-    tell(output, scan_whitespace_no_nl(b" \tx"))
+    tell_two(output, scan_ch(b"ab", b'a'), scan_ch_repeat(b"aab", b'a'))?;
+    tell_three(
+        output,
+        scan_while(b"aab", |b| b == b'a'),
+        scan_rev_while(b"baa", |b| b == b'a'),
+        scan_whitespace_no_nl(b" \tx"),
+    )
 }
 
 fn endings<W: Write>(output: &mut W) -> Result<(), Stop> {
-    tell(output, scan_eol(b"\rx"))?;
-    tell(output, scan_blank_line(b"\r\r\n"))?;
-    tell(output, scan_line(b"a\r\nb"))?;
-    tell(output, scan_lines(b"a\r\n\nb").count())?;
-    tell(output, scan_nextline(b"a\rb\nc"))?;
-    tell(output, scan_blockquote_start(b"> "))?;
-    tell(output, scan_hrule(b"* * *\n"))?;
-    tell(output, scan_hrule(b"- -x-"))?;
-    tell(output, calc_indent(b"\t x", 4))
+    tell_three(
+        output,
+        scan_eol(b"\rx"),
+        scan_blank_line(b"\r\r\n"),
+        scan_line(b"a\r\nb"),
+    )?;
+    tell_three(
+        output,
+        scan_lines(b"a\r\n\nb").count(),
+        scan_nextline(b"a\rb\nc"),
+        scan_blockquote_start(b"> "),
+    )?;
+    tell_three(
+        output,
+        scan_hrule(b"* * *\n"),
+        scan_hrule(b"- -x-"),
+        calc_indent(b"\t x", 4),
+    )
 }
 
 fn headings<W: Write>(output: &mut W) -> Result<(), Stop> {
-    tell(output, scan_atx_heading(b"###"))?;
-    tell(output, scan_setext_heading(b"==  \nx"))
+    tell_two(
+        output,
+        scan_atx_heading(b"###"),
+        scan_setext_heading(b"==  \nx"),
+    )
 }
 
 fn fences<W: Write>(output: &mut W) -> Result<(), Stop> {
-    tell(output, scan_code_fence(b"~~~a`"))?;
-    tell(output, scan_closing_code_fence(b"````  \n", b'`', 3))?;
-    tell(
+    tell_two(
+        output,
+        scan_code_fence(b"~~~a`"),
+        scan_closing_code_fence(b"````  \n", b'`', 3),
+    )?;
+    tell_two(
         output,
         scan_metadata_block(b"---\na: b\n---\n", true, false),
-    )?;
-    tell(output, scan_closing_metadata_block(b"--- \n", b'-'))
+        scan_closing_metadata_block(b"--- \n", b'-'),
+    )
 }
 
 fn items<W: Write>(output: &mut W) -> Result<(), Stop> {
-    tell(output, interrupts_paragraph(b"  1. a"))?;
-    tell(output, interrupts_paragraph(b"-\n"))?;
-    tell(output, scan_listitem(b"-   x"))?;
-    tell(output, scan_listitem(b"1844674407370955161615!"))
+    tell_two(
+        output,
+        interrupts_paragraph(b"  1. a"),
+        interrupts_paragraph(b"-\n"),
+    )?;
+    tell_two(
+        output,
+        scan_listitem(b"-   x"),
+        scan_listitem(b"1844674407370955161615!"),
+    )
 }

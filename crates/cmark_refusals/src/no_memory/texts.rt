@@ -1,6 +1,6 @@
 //! Texts.
 use crate::stop::Stop;
-use crate::telling::{MadeOf, tell, tell_made, tell_ready, tell_ready_consuming, tell_ready_on};
+use crate::telling::{MadeOf, tell, tell_made, tell_made_two, tell_ready, tell_ready_consuming};
 use crate::texts::{OF_30, Text, boxed, owned};
 use markdown_values::strings::{CowStr, InlineStr};
 use std::alloc::{AllocError, Global};
@@ -19,19 +19,24 @@ pub(crate) fn run<W: Write>(alloc: Global, output: &mut W) -> Result<(), Stop> {
     tell_inlined(output, OF_22)?;
     tell_inlined(output, OF_23)?;
     tell_letter(output)?;
-    tell_made(output, copied(alloc, &CowStr::from(OF_30)))?;
-    tell_made(output, copied(alloc, &CowStr::from('藏')))?;
-    tell_made(output, Text::made_of(alloc, CowStr::from('a')))?;
-    tell_made(output, Text::made_of(alloc, CowStr::from(OF_22)))
+    tell_copied(alloc, output, CowStr::from(OF_30))?;
+    tell_copied(alloc, output, CowStr::from('藏'))?;
+    tell_made_two(
+        output,
+        Text::made_of(alloc, CowStr::from('a')),
+        Text::made_of(alloc, CowStr::from(OF_22)),
+    )
+}
+
+fn tell_copied<W: Write>(alloc: Global, output: &mut W, text: CowStr<'static>) -> Result<(), Stop> {
+    tell_made(output, copied(alloc, &text))
 }
 
 /// A copy of an owned text that fits in the value itself.
 pub(crate) fn copied_short<W: Write>(alloc: Global, output: &mut W) -> Result<(), Stop> {
-    tell_ready_on(
-        output,
-        boxed(alloc, OF_22),
-        &|text: &CowStr| copied(alloc, text),
-    )
+    let text = boxed(alloc, OF_22)?;
+    tell_ready(output)?;
+    tell_copied(alloc, output, text)
 }
 
 /// An owned text, which borrows nothing.

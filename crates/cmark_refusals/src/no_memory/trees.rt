@@ -1,10 +1,11 @@
 //! Trees, in calls that make nothing.
-ghost use Rattle.std.specs.Prelude.{◌≡◌, ◌∷◌, [], length, IfOk, IfSome};
+ghost use Rattle.markdown_values.specs.tree.Tree.{last, IsLastLinkedFromAlone};
+ghost use Rattle.std.specs.Prelude.{◌≡◌, ◌<◌, ◌+◌, ◌∷◌, [], length, IfOk, IfSome};
 ghost use Rattle.markdown_values.specs.tree.Truncate.{first_other, CanCut};
 ghost use Rattle.cmark_refusals.specs.Spans.{spans_of, IsParent};
 
 use crate::stop::Stop;
-use crate::telling::{tell, tell_ready};
+use crate::telling::{tell, tell_ready, tell_three};
 use markdown_values::tree::{SpanItem, Tree, TreeIndex};
 use std::alloc::{AllocError, Global};
 use std::io::Write;
@@ -49,37 +50,101 @@ fn covering(start: usize, end: usize) -> Span
     Span { start, end }
 }
 
+// Appends a node and goes into it.
+fn append_parent(tree: &mut Tree<Span>, item: Span) -> Result<TreeIndex, AllocError>
+    ensures index { IfOk result (λ ix. ix ≡ length tree.old.nodes) }
+    ensures count { IfOk result (λ _. length tree.new.nodes ≡ length tree.old.nodes + 1) }
+{
+    let ix = tree.append(item)?;
+    tree.push()?;
+    Ok(ix)
+}
+
+fn append_nested(tree: &mut Tree<Span>) -> Result<[TreeIndex; 4], AllocError>
+    requires { length tree.old.nodes ≡ 1 }
+    ensures count { IfOk result (λ _. length tree.new.nodes ≡ 5) }
+    ensures indices { IfOk result (λ made. made ≡ 1 ∷ 2 ∷ 3 ∷ 4 ∷ []) }
+{
+    let a = append_parent(tree, covering(0, 9))?;
+    let b = append_parent(tree, covering(0, 8))?;
+    let c = tree.append(covering(0, 3))?;
+    let d = tree.append(covering(3, 8))?;
+    Ok([a, b, c, d])
+}
+
 // A node, in it another, and in that two, of which the last is in focus.
 fn nested(alloc: Global) -> Result<(Tree<Span>, [TreeIndex; 4]), AllocError>
     ensures count { IfOk result (λ made. length made.0.nodes ≡ 5) }
     ensures indices { IfOk result (λ made. made.1 ≡ 1 ∷ 2 ∷ 3 ∷ 4 ∷ []) }
 {
     let mut tree = Tree::with_capacity(alloc, 5)?;
-    let a = tree.append(covering(0, 9))?;
-    tree.push()?;
-    let b = tree.append(covering(0, 8))?;
-    tree.push()?;
-    let c = tree.append(covering(0, 3))?;
-    let d = tree.append(covering(3, 8))?;
-    Ok((tree, [a, b, c, d]))
+    let indices = append_nested(&mut tree)?;
+    Ok((tree, indices))
 }
 
 /// The calls that look, and those that change links.
 pub(crate) fn run<W: Write>(alloc: Global, output: &mut W) -> Result<(), Stop> {
-    let (mut tree, [a, b, c, d]) = nested(alloc)?;
+    let (mut tree, indices) = nested(alloc)?;
+    tell_nested(output, &mut tree, indices)
+}
+
+fn tell_nested<W: Write>(
+    output: &mut W,
+    tree: &mut Tree<Span>,
+    indices: [TreeIndex; 4],
+) -> Result<(), Stop>
+    requires count { length tree.old.nodes ≡ 5 }
+    requires indices { indices ≡ 1 ∷ 2 ∷ 3 ∷ 4 ∷ [] }
+{
+    let [a, b, c, d] = indices;
     tell_ready(output)?;
-    tell_spine(output, &tree)?;
+    tell_spine(output, tree)?;
+    cut_below(output, tree, b, c)?;
+    link(output, tree, b, c, d)?;
+    leave(output, tree, a)
+}
+
+// An item changes, and the nodes after it are cut off.
+fn cut_below<W: Write>(
+    output: &mut W,
+    tree: &mut Tree<Span>,
+    b: TreeIndex,
+    c: TreeIndex,
+) -> Result<(), Stop>
+    requires parent { b < length tree.old.nodes }
+    requires child { c < length tree.old.nodes }
+    ensures { length tree.new.nodes ≡ length tree.old.nodes }
+{
     tree.item_mut(c).end = 4;
-    tell(output, (tree[c].item.end, tree[c].next))?;
-    tell(output, tree.pop())?;
+    let changed = (tree[c].item.end, tree[c].next);
+    let parent = tree.pop();
     tree.truncate_to_parent(c);
-    tell(output, (tree.cur(), tree[b].next))?;
+    tell_three(output, changed, parent, (tree.cur(), tree[b].next))
+}
+
+fn link<W: Write>(
+    output: &mut W,
+    tree: &mut Tree<Span>,
+    b: TreeIndex,
+    c: TreeIndex,
+    d: TreeIndex,
+) -> Result<(), Stop>
+    requires parent { b < length tree.old.nodes }
+    requires child { c < length tree.old.nodes }
+    requires other { d < length tree.old.nodes }
+    ensures { length tree.new.nodes ≡ length tree.old.nodes }
+{
     tree.set_child(d, Some(c));
     tree.set_next(b, None);
-    tell(output, (tree[d].child, tree[b].next))?;
+    tell(output, (tree[d].child, tree[b].next))
+}
+
+fn leave<W: Write>(output: &mut W, tree: &mut Tree<Span>, a: TreeIndex) -> Result<(), Stop>
+    requires { a < length tree.old.nodes }
+{
     tell(output, tree.next_sibling(a))?;
     tree.reset();
-    tell_spine(output, &tree)
+    tell_spine(output, tree)
 }
 
 fn tell_spine<W: Write>(output: &mut W, tree: &Tree<Span>) -> Result<(), Stop> {
@@ -87,9 +152,8 @@ fn tell_spine<W: Write>(output: &mut W, tree: &Tree<Span>) -> Result<(), Stop> {
     for ix in tree.walk_spine() {
         tell(output, ix.get())?;
     }
-    tell(output, tree.spine_len())?;
-    tell(output, (tree.peek_up(), tree.peek_grandparent()))?;
-    tell(output, tree.is_empty())
+    let above = (tree.peek_up(), tree.peek_grandparent());
+    tell_three(output, tree.spine_len(), above, tree.is_empty())
 }
 
 fn index_after(ix: TreeIndex) -> Option<TreeIndex> {
@@ -114,9 +178,15 @@ pub(crate) fn remove_node<W: Write>(alloc: Global, output: &mut W) -> Result<(),
     tree.append(covering(0, 9))?;
     tree.push()?;
     tree.append(covering(0, 8))?;
+    tell_removed(output, &mut tree)
+}
+
+fn tell_removed<W: Write>(output: &mut W, tree: &mut Tree<Span>) -> Result<(), Stop>
+    requires { IfSome (last tree.old.spine) (IsLastLinkedFromAlone tree.old) }
+{
     tell_ready(output)?;
     tell(output, tree.remove_node())?;
-    tell_spine(output, &tree)
+    tell_spine(output, tree)
 }
 
 // A node that is the parent of none.

@@ -1,8 +1,8 @@
 //! Kinds, levels, links, tags and events.
 use crate::stop::Stop;
-use crate::tags::{lent_fenced, lent_link, table};
-use crate::telling::{copy_of, tell, tell_made, tell_ready, tell_ready_consuming, tell_seen};
-use crate::texts::lent;
+use crate::tags::{TagKind, fenced, tag};
+use crate::telling::{Seen, copy_of, tell, tell_made, tell_ready, tell_ready_consuming, tell_seen};
+use crate::texts::{Holding, lent};
 use markdown_values::strings::CowStr;
 use markdown_values::values::{CodeBlockKind, Event, HeadingLevel, LinkType, Tag, TagEnd};
 use std::alloc::{AllocError, Global};
@@ -20,24 +20,33 @@ pub(crate) fn run<W: Write>(alloc: Global, output: &mut W) -> Result<(), Stop> {
 
 /// The tag of a table, which borrows nothing.
 pub(crate) fn static_table<W: Write>(alloc: Global, output: &mut W) -> Result<(), Stop> {
-    tell_ready_consuming::<W, Tag<'static>, Tag<'static>>(alloc, output, table(alloc))
+    let table = tag(alloc, TagKind::Table, Holding::Owned);
+    tell_ready_consuming::<W, Tag<'static>, Tag<'static>>(alloc, output, table)
+}
+
+impl Seen<(bool, bool)> for CodeBlockKind<'static> {
+    fn seen(&self) -> (bool, bool) {
+        (self.is_indented(), self.is_fenced())
+    }
+}
+
+impl Seen<TagEnd> for Tag<'static> {
+    fn seen(&self) -> TagEnd {
+        self.to_end()
+    }
 }
 
 fn tell_kind<W: Write>(
     output: &mut W,
     made: Result<CodeBlockKind<'static>, AllocError>,
 ) -> Result<(), Stop> {
-    tell_seen(
-        output,
-        made,
-        &|kind: &CodeBlockKind| (kind.is_indented(), kind.is_fenced()),
-    )
+    tell_seen::<W, CodeBlockKind<'static>, (bool, bool)>(output, made)
 }
 
 fn kinds<W: Write>(alloc: Global, output: &mut W) -> Result<(), Stop> {
     let indented = Ok(CodeBlockKind::Indented);
     tell_kind(output, copy_of(alloc, indented))?;
-    tell_kind(output, copy_of(alloc, Ok(lent_fenced())))?;
+    tell_kind(output, copy_of(alloc, fenced(alloc, Holding::Lent)))?;
     let letter = CodeBlockKind::Fenced(CowStr::from('r'));
     tell_kind(output, letter.into_static(alloc))
 }
@@ -57,15 +66,25 @@ fn end_of(tag: Tag<'static>) -> TagEnd {
 }
 
 fn tags<W: Write>(alloc: Global, output: &mut W) -> Result<(), Stop> {
-    tell_seen(output, lent_link(alloc), &|tag: &Tag| tag.to_end())?;
+    tell_seen::<W, Tag<'static>, TagEnd>(output, lent_link(alloc))?;
     let list = Tag::List(Some(3)).into_static(alloc);
     tell_made(output, list.map(end_of))?;
     tell_made(output, copy_of(alloc, lent_link(alloc)))
 }
 
+fn lent_link(alloc: Global) -> Result<Tag<'static>, AllocError> {
+    tag(alloc, TagKind::Link, Holding::Lent)
+}
+
+fn tell_event<W: Write>(
+    output: &mut W,
+    made: Result<Event<'static>, AllocError>,
+) -> Result<(), Stop> {
+    tell_made(output, made)
+}
+
 fn events<W: Write>(alloc: Global, output: &mut W) -> Result<(), Stop> {
-    tell_made(output, copy_of(alloc, Ok(Event::Text(lent()))))?;
-    tell_made(output, Event::TaskListMarker(true).into_static(alloc))?;
-    let end = Ok(Event::End(TagEnd::Table));
-    tell_made(output, copy_of(alloc, end))
+    tell_event(output, copy_of(alloc, Ok(Event::Text(lent()))))?;
+    tell_event(output, Event::TaskListMarker(true).into_static(alloc))?;
+    tell_event(output, copy_of(alloc, Ok(Event::End(TagEnd::Table))))
 }

@@ -1,13 +1,14 @@
 //! Thematic breaks, headings, code fences, metadata blocks, list items and delimiter rows, and what
 //! interrupts a paragraph.
 use crate::arguments::Arguments;
-use crate::printing::{NONE, OrNone};
+use crate::printing::{OrNone, name_or_none, none, shown, two_or_none};
 use crate::stop::CaseError;
 use markdown_scanners_tree::scanners::{
     interrupts_paragraph, scan_atx_heading, scan_closing_code_fence, scan_closing_metadata_block,
     scan_code_fence, scan_hrule, scan_listitem, scan_metadata_block, scan_setext_heading,
     scan_table_head,
 };
+use markdown_values::values::HeadingLevel;
 use std::alloc::Global;
 
 pub(crate) fn thematic_break(
@@ -15,10 +16,15 @@ pub(crate) fn thematic_break(
     arguments: &mut Arguments<'_>,
 ) -> Result<String, CaseError> {
     let bytes = arguments.bytes(alloc)?;
-    Ok(match scan_hrule(&bytes) {
-        Ok(length) => format!(in alloc; "ok {length}")?,
-        Err(place) => format!(in alloc; "err {place}")?,
-    })
+    thematic_break_text(alloc, scan_hrule(&bytes))
+}
+
+fn thematic_break_text(alloc: Global, found: Result<usize, usize>) -> Result<String, CaseError> {
+    let (word, number) = match found {
+        Ok(length) => ("ok", length),
+        Err(place) => ("err", place),
+    };
+    Ok(format!(in alloc; "{word} {number}")?)
 }
 
 pub(crate) fn atx_heading(
@@ -26,10 +32,7 @@ pub(crate) fn atx_heading(
     arguments: &mut Arguments<'_>,
 ) -> Result<String, CaseError> {
     let bytes = arguments.bytes(alloc)?;
-    Ok(match scan_atx_heading(&bytes) {
-        Some(level) => format!(in alloc; "{level:?}")?,
-        None => String::from_str(alloc, NONE)?,
-    })
+    name_or_none(alloc, &scan_atx_heading(&bytes))
 }
 
 pub(crate) fn setext_heading(
@@ -37,10 +40,17 @@ pub(crate) fn setext_heading(
     arguments: &mut Arguments<'_>,
 ) -> Result<String, CaseError> {
     let bytes = arguments.bytes(alloc)?;
-    Ok(match scan_setext_heading(&bytes) {
-        Some((length, level)) => format!(in alloc; "{length} {level:?}")?,
-        None => String::from_str(alloc, NONE)?,
-    })
+    setext_heading_text(alloc, scan_setext_heading(&bytes))
+}
+
+fn setext_heading_text(
+    alloc: Global,
+    found: Option<(usize, HeadingLevel)>,
+) -> Result<String, CaseError> {
+    match found {
+        Some((length, level)) => Ok(format!(in alloc; "{length} {level:?}")?),
+        None => none(alloc),
+    }
 }
 
 pub(crate) fn code_fence(
@@ -48,10 +58,7 @@ pub(crate) fn code_fence(
     arguments: &mut Arguments<'_>,
 ) -> Result<String, CaseError> {
     let bytes = arguments.bytes(alloc)?;
-    Ok(match scan_code_fence(&bytes) {
-        Some((length, byte)) => format!(in alloc; "{length} {byte}")?,
-        None => String::from_str(alloc, NONE)?,
-    })
+    two_or_none(alloc, &scan_code_fence(&bytes))
 }
 
 pub(crate) fn closing_fence(
@@ -62,7 +69,7 @@ pub(crate) fn closing_fence(
     let byte = arguments.byte()?;
     let least = arguments.number()?;
     let length = scan_closing_code_fence(&bytes, byte, least);
-    Ok(format!(in alloc; "{}", OrNone(length))?)
+    shown(alloc, &OrNone(length))
 }
 
 pub(crate) fn metadata_block(
@@ -72,10 +79,7 @@ pub(crate) fn metadata_block(
     let bytes = arguments.bytes(alloc)?;
     let yaml = arguments.flag()?;
     let pluses = arguments.flag()?;
-    Ok(match scan_metadata_block(&bytes, yaml, pluses) {
-        Some((length, byte)) => format!(in alloc; "{length} {byte}")?,
-        None => String::from_str(alloc, NONE)?,
-    })
+    two_or_none(alloc, &scan_metadata_block(&bytes, yaml, pluses))
 }
 
 pub(crate) fn closing_metadata(
@@ -85,17 +89,24 @@ pub(crate) fn closing_metadata(
     let bytes = arguments.bytes(alloc)?;
     let byte = arguments.byte()?;
     let length = scan_closing_metadata_block(&bytes, byte);
-    Ok(format!(in alloc; "{}", OrNone(length))?)
+    shown(alloc, &OrNone(length))
 }
 
 pub(crate) fn list_item(alloc: Global, arguments: &mut Arguments<'_>) -> Result<String, CaseError> {
     let bytes = arguments.bytes(alloc)?;
-    Ok(match scan_listitem(&bytes) {
+    list_item_text(alloc, scan_listitem(&bytes))
+}
+
+fn list_item_text(
+    alloc: Global,
+    found: Option<(usize, u8, usize, usize)>,
+) -> Result<String, CaseError> {
+    match found {
         Some((length, delimiter, start, indent)) => {
-            format!(in alloc; "{length} {delimiter} {start} {indent}")?
+            Ok(format!(in alloc; "{length} {delimiter} {start} {indent}")?)
         }
-        None => String::from_str(alloc, NONE)?,
-    })
+        None => none(alloc),
+    }
 }
 
 pub(crate) fn delimiter_row(
@@ -103,7 +114,11 @@ pub(crate) fn delimiter_row(
     arguments: &mut Arguments<'_>,
 ) -> Result<String, CaseError> {
     let bytes = arguments.bytes(alloc)?;
-    let (length, alignments) = scan_table_head(alloc, &bytes)?;
+    delimiter_row_text(alloc, &bytes)
+}
+
+fn delimiter_row_text(alloc: Global, bytes: &[u8]) -> Result<String, CaseError> {
+    let (length, alignments) = scan_table_head(alloc, bytes)?;
     Ok(format!(in alloc; "{length} {alignments:?}")?)
 }
 
@@ -112,5 +127,5 @@ pub(crate) fn interruption(
     arguments: &mut Arguments<'_>,
 ) -> Result<String, CaseError> {
     let bytes = arguments.bytes(alloc)?;
-    Ok(format!(in alloc; "{}", interrupts_paragraph(&bytes))?)
+    shown(alloc, &interrupts_paragraph(&bytes))
 }

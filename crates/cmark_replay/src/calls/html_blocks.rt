@@ -1,6 +1,6 @@
 //! Where HTML blocks begin and end.
 use crate::arguments::Arguments;
-use crate::printing::NONE;
+use crate::printing::{name_or_none, shown};
 use crate::stop::{CaseError, Unreadable};
 use markdown_scanners_tree::scanners::{HtmlBlockKind, ends_html_block, scan_html_block_start};
 use std::alloc::Global;
@@ -19,16 +19,17 @@ fn kind_numbered(number: usize) -> Option<HtmlBlockKind> {
     }
 }
 
+fn kind(arguments: &mut Arguments<'_>) -> Result<HtmlBlockKind, Unreadable> {
+    kind_numbered(arguments.number()?).ok_or(Unreadable::UnknownKind)
+}
+
 pub(crate) fn start(alloc: Global, arguments: &mut Arguments<'_>) -> Result<String, CaseError> {
     let bytes = arguments.bytes(alloc)?;
-    Ok(match scan_html_block_start(&bytes) {
-        Some(kind) => format!(in alloc; "{kind:?}")?,
-        None => String::from_str(alloc, NONE)?,
-    })
+    name_or_none(alloc, &scan_html_block_start(&bytes))
 }
 
 pub(crate) fn end(alloc: Global, arguments: &mut Arguments<'_>) -> Result<String, CaseError> {
     let line = arguments.bytes(alloc)?;
-    let kind = kind_numbered(arguments.number()?).ok_or(Unreadable::UnknownKind)?;
-    Ok(format!(in alloc; "{}", ends_html_block(&line, kind))?)
+    let kind = kind(arguments)?;
+    shown(alloc, &ends_html_block(&line, kind))
 }

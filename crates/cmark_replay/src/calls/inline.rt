@@ -4,12 +4,13 @@ ghost use Rattle.std.specs.Str.{IsCharBoundary};
 
 use crate::arguments::Arguments;
 use crate::entities::ENTITIES;
-use crate::printing::{NONE, OrNone, hex_text};
+use crate::printing::{NONE, OrNone, hex_text, none, shown, with_bytes};
 use crate::stop::{CaseError, Unreadable};
 use markdown_scanners_tree::scanners::{
     scan_autolink, scan_entity, scan_link_dest, scan_link_title, scan_wikilink_pipe, unescape,
 };
 use markdown_values::strings::CowStr;
+use markdown_values::values::LinkType;
 use std::alloc::Global;
 
 pub(crate) fn character_reference(
@@ -20,20 +21,22 @@ pub(crate) fn character_reference(
     if bytes.is_empty() {
         return Err(CaseError::Unreadable(Unreadable::NoBytes));
     }
-    Ok(match scan_entity(&bytes, &ENTITIES) {
-        (length, Some(text)) => {
-            format!(in alloc; "{length} {}", hex_text(alloc, text.as_str().as_bytes())?)?
-        }
-        (length, None) => format!(in alloc; "{length} {NONE}")?,
-    })
+    match scan_entity(&bytes, &ENTITIES) {
+        (length, Some(text)) => with_bytes(alloc, &length, text.as_str().as_bytes()),
+        (length, None) => Ok(format!(in alloc; "{length} {NONE}")?),
+    }
 }
 
 pub(crate) fn unescaped(alloc: Global, arguments: &mut Arguments<'_>) -> Result<String, CaseError> {
     let input = arguments.text(alloc)?;
     let is_in_table = arguments.flag()?;
-    let text = unescape(alloc, CowStr::from(input.as_str()), is_in_table, &ENTITIES)?;
+    unescaped_text(alloc, input.as_str(), is_in_table)
+}
+
+fn unescaped_text(alloc: Global, input: &str, is_in_table: bool) -> Result<String, CaseError> {
+    let text = unescape(alloc, CowStr::from(input), is_in_table, &ENTITIES)?;
     let is_input = matches!(&text, CowStr::Borrowed(_));
-    Ok(format!(in alloc; "{is_input} {}", hex_text(alloc, text.as_str().as_bytes())?)?)
+    with_bytes(alloc, &is_input, text.as_str().as_bytes())
 }
 
 // The place that comes next, which is between two characters of the text.
@@ -47,17 +50,30 @@ fn place(text: &str, arguments: &mut Arguments<'_>) -> Result<usize, CaseError>
     Ok(place)
 }
 
+// A number and a text.
+fn text_or_none(alloc: Global, found: Option<(usize, &str)>) -> Result<String, CaseError> {
+    match found {
+        Some((number, text)) => with_bytes(alloc, &number, text.as_bytes()),
+        None => none(alloc),
+    }
+}
+
 pub(crate) fn wikilink_pipe(
     alloc: Global,
     arguments: &mut Arguments<'_>,
 ) -> Result<String, CaseError> {
     let text = arguments.text(alloc)?;
-    let start = place(text.as_str(), arguments)?;
+    wikilink_pipe_in(alloc, text.as_str(), arguments)
+}
+
+fn wikilink_pipe_in(
+    alloc: Global,
+    text: &str,
+    arguments: &mut Arguments<'_>,
+) -> Result<String, CaseError> {
+    let start = place(text, arguments)?;
     let length = arguments.number()?;
-    Ok(match scan_wikilink_pipe(text.as_str(), start, length) {
-        Some((end, before)) => format!(in alloc; "{end} {}", hex_text(alloc, before.as_bytes())?)?,
-        None => String::from_str(alloc, NONE)?,
-    })
+    text_or_none(alloc, scan_wikilink_pipe(text, start, length))
 }
 
 pub(crate) fn link_destination(
@@ -65,12 +81,17 @@ pub(crate) fn link_destination(
     arguments: &mut Arguments<'_>,
 ) -> Result<String, CaseError> {
     let text = arguments.text(alloc)?;
-    let start = place(text.as_str(), arguments)?;
+    link_destination_in(alloc, text.as_str(), arguments)
+}
+
+fn link_destination_in(
+    alloc: Global,
+    text: &str,
+    arguments: &mut Arguments<'_>,
+) -> Result<String, CaseError> {
+    let start = place(text, arguments)?;
     let max_next = arguments.number()?;
-    Ok(match scan_link_dest(text.as_str(), start, max_next) {
-        Some((taken, raw)) => format!(in alloc; "{taken} {}", hex_text(alloc, raw.as_bytes())?)?,
-        None => String::from_str(alloc, NONE)?,
-    })
+    text_or_none(alloc, scan_link_dest(text, start, max_next))
 }
 
 pub(crate) fn link_title(
@@ -78,19 +99,32 @@ pub(crate) fn link_title(
     arguments: &mut Arguments<'_>,
 ) -> Result<String, CaseError> {
     let bytes = arguments.bytes(alloc)?;
-    Ok(format!(in alloc; "{}", OrNone(scan_link_title(&bytes)))?)
+    shown(alloc, &OrNone(scan_link_title(&bytes)))
 }
 
 pub(crate) fn autolink(alloc: Global, arguments: &mut Arguments<'_>) -> Result<String, CaseError> {
     let text = arguments.text(alloc)?;
-    let start = place(text.as_str(), arguments)?;
-    Ok(match scan_autolink(text.as_str(), start) {
-        Some((end, uri, kind)) => {
-            format!(in alloc;
-                "{end} {} {kind:?}",
-                hex_text(alloc, uri.as_str().as_bytes())?
-            )?
-        }
-        None => String::from_str(alloc, NONE)?,
-    })
+    autolink_in(alloc, text.as_str(), arguments)
+}
+
+fn autolink_in(
+    alloc: Global,
+    text: &str,
+    arguments: &mut Arguments<'_>,
+) -> Result<String, CaseError> {
+    let start = place(text, arguments)?;
+    match scan_autolink(text, start) {
+        Some((end, uri, kind)) => autolink_text(alloc, end, uri.as_str(), kind),
+        None => none(alloc),
+    }
+}
+
+fn autolink_text(
+    alloc: Global,
+    end: usize,
+    uri: &str,
+    kind: LinkType,
+) -> Result<String, CaseError> {
+    let digits = hex_text(alloc, uri.as_bytes())?;
+    Ok(format!(in alloc; "{end} {digits} {kind:?}")?)
 }

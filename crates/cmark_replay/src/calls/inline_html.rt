@@ -12,6 +12,11 @@ use std::alloc::Global;
 pub(crate) fn finds(alloc: Global, arguments: &mut Arguments<'_>) -> Result<String, CaseError> {
     let bytes = arguments.bytes(alloc)?;
     let mut text = String::new(alloc);
+    push_finds(&mut text, &bytes)?;
+    Ok(text)
+}
+
+fn push_finds(text: &mut String, bytes: &[u8]) -> Result<(), CaseError> {
     let mut guard = HtmlScanGuard::new();
     let mut last_end = 0;
     for (index, opener) in bytes.windows(2).enumerate() {
@@ -20,14 +25,14 @@ pub(crate) fn finds(alloc: Global, arguments: &mut Arguments<'_>) -> Result<Stri
             continue;
         }
         let found = match opener {
-            b"<!" => scan_inline_html_comment(&bytes, place, &mut guard),
-            b"<?" => scan_inline_html_processing(&bytes, place, &mut guard),
+            b"<!" => scan_inline_html_comment(bytes, place, &mut guard),
+            b"<?" => scan_inline_html_processing(bytes, place, &mut guard),
             _ => continue,
         };
         last_end = found.unwrap_or(last_end);
-        push_find(&mut text, place, found)?;
+        push_find(text, place, found)?;
     }
-    Ok(text)
+    Ok(())
 }
 
 // The find as `PLACE:END` or `PLACE:none`, a space before all but the first.

@@ -3,7 +3,9 @@ use crate::arguments::{Arguments, parse_number};
 use crate::printing::{NONE, OrNone};
 use crate::stop::{CaseError, Unreadable};
 use markdown_scanners_tree::line::LineStart;
+use markdown_values::values::BlockQuoteKind;
 use std::alloc::Global;
+use std::fmt;
 
 const LARGEST_INDENT: usize = usize::MAX - 16;
 
@@ -11,15 +13,20 @@ const LARGEST_INDENT: usize = usize::MAX - 16;
 pub(crate) fn run(alloc: Global, arguments: &mut Arguments<'_>) -> Result<String, CaseError> {
     let bytes = arguments.bytes(alloc)?;
     let calls = arguments.word()?;
-    let mut start = LineStart::new(&bytes);
     let mut text = String::new(alloc);
+    push_steps(&mut text, &bytes, calls)?;
+    Ok(text)
+}
+
+fn push_steps(text: &mut String, bytes: &[u8], calls: &str) -> Result<(), CaseError> {
+    let mut start = LineStart::new(bytes);
     for call in calls.split(',') {
         if !text.is_empty() {
             text.push(' ')?;
         }
-        push_step(&mut text, &mut start, call)?;
+        push_step(text, &mut start, call)?;
     }
-    Ok(text)
+    Ok(())
 }
 
 // Makes a call, and writes its answer and the place after it.
@@ -34,6 +41,11 @@ fn push_step(text: &mut String, start: &mut LineStart<'_>, call: &str) -> Result
     Ok(())
 }
 
+fn push_shown<T: fmt::Display>(text: &mut String, answer: &T) -> Result<(), CaseError> {
+    write!(text, "{answer}")?;
+    Ok(())
+}
+
 // The calls that take a number.
 fn push_counted(
     text: &mut String,
@@ -41,40 +53,75 @@ fn push_counted(
     name: &str,
     n: usize,
 ) -> Result<(), CaseError> {
-    match name.as_bytes() {
-        b"space" => write!(text, "{}", start.scan_space(n))?,
-        b"upto" => write!(text, "{}", start.scan_space_upto(n))?,
-        b"list" | b"def" if n > LARGEST_INDENT => {
-            return Err(CaseError::Unreadable(Unreadable::TooLarge));
-        }
-        b"list" => match start.scan_list_marker_with_indent(n) {
-            Some((delimiter, first, indent)) => write!(text, "{delimiter}/{first}/{indent}")?,
-            None => text.push_str(NONE)?,
-        },
-        b"def" => {
-            let indent = start.scan_definition_list_definition_marker_with_indent(n);
-            write!(text, "{}", OrNone(indent))?;
-        }
-        _ => return Err(CaseError::Unreadable(Unreadable::UnknownLineCall)),
+    if name == "space" {
+        return push_shown(text, &start.scan_space(n));
+    }
+    if name == "upto" {
+        return push_shown(text, &start.scan_space_upto(n));
+    }
+    push_marker(text, start, name, n)
+}
+
+// The marker of a list item or of a definition, which is indented by so many columns.
+fn push_marker(
+    text: &mut String,
+    start: &mut LineStart<'_>,
+    name: &str,
+    n: usize,
+) -> Result<(), CaseError> {
+    let is_list = name == "list";
+    if !is_list && name != "def" {
+        return Err(CaseError::Unreadable(Unreadable::UnknownLineCall));
+    }
+    if n > LARGEST_INDENT {
+        return Err(CaseError::Unreadable(Unreadable::TooLarge));
+    }
+    if is_list {
+        push_list_item(text, start.scan_list_marker_with_indent(n))
+    } else {
+        let indent = start.scan_definition_list_definition_marker_with_indent(n);
+        push_shown(text, &OrNone(indent))
+    }
+}
+
+fn push_list_item(text: &mut String, found: Option<(u8, u64, usize)>) -> Result<(), CaseError> {
+    match found {
+        Some((delimiter, first, indent)) => write!(text, "{delimiter}/{first}/{indent}")?,
+        None => text.push_str(NONE)?,
     }
     Ok(())
 }
 
 // The calls that take none.
 fn push_plain(text: &mut String, start: &mut LineStart<'_>, name: &str) -> Result<(), CaseError> {
-    match name.as_bytes() {
-        b"all" => {
-            start.scan_all_space();
-            text.push('-')?;
-        }
-        b"eol" => write!(text, "{}", start.is_at_eol())?,
-        b"quote" => write!(text, "{}", start.scan_blockquote_marker())?,
-        b"task" => write!(text, "{}", OrNone(start.scan_task_list_marker()))?,
-        b"tag" => match start.scan_blockquote_tag() {
-            Some(kind) => write!(text, "{kind:?}")?,
-            None => text.push_str(NONE)?,
-        },
-        _ => return Err(CaseError::Unreadable(Unreadable::UnknownLineCall)),
+    if name == "all" {
+        start.scan_all_space();
+        return push_shown(text, &'-');
+    }
+    if name == "eol" {
+        return push_shown(text, &start.is_at_eol());
+    }
+    if name == "quote" {
+        return push_shown(text, &start.scan_blockquote_marker());
+    }
+    push_tag(text, start, name)
+}
+
+// The tags of a task and of a block quote.
+fn push_tag(text: &mut String, start: &mut LineStart<'_>, name: &str) -> Result<(), CaseError> {
+    if name == "task" {
+        return push_shown(text, &OrNone(start.scan_task_list_marker()));
+    }
+    if name == "tag" {
+        return push_kind(text, start.scan_blockquote_tag());
+    }
+    Err(CaseError::Unreadable(Unreadable::UnknownLineCall))
+}
+
+fn push_kind(text: &mut String, found: Option<BlockQuoteKind>) -> Result<(), CaseError> {
+    match found {
+        Some(kind) => write!(text, "{kind:?}")?,
+        None => text.push_str(NONE)?,
     }
     Ok(())
 }

@@ -1,6 +1,6 @@
 //! Line endings, runs of bytes and indents.
 use crate::arguments::Arguments;
-use crate::printing::OrNone;
+use crate::printing::{OrNone, shown};
 use crate::stop::{CaseError, Unreadable};
 use markdown_scanners_tree::scanners::{
     calc_indent, scan_blank_line, scan_blockquote_start, scan_ch_repeat, scan_eol, scan_line,
@@ -10,7 +10,7 @@ use std::alloc::Global;
 
 pub(crate) fn eol(alloc: Global, arguments: &mut Arguments<'_>) -> Result<String, CaseError> {
     let bytes = arguments.bytes(alloc)?;
-    Ok(format!(in alloc; "{}", OrNone(scan_eol(&bytes)))?)
+    shown(alloc, &OrNone(scan_eol(&bytes)))
 }
 
 pub(crate) fn blank_line(
@@ -18,7 +18,7 @@ pub(crate) fn blank_line(
     arguments: &mut Arguments<'_>,
 ) -> Result<String, CaseError> {
     let bytes = arguments.bytes(alloc)?;
-    Ok(format!(in alloc; "{}", OrNone(scan_blank_line(&bytes)))?)
+    shown(alloc, &OrNone(scan_blank_line(&bytes)))
 }
 
 pub(crate) fn line_length(
@@ -26,12 +26,12 @@ pub(crate) fn line_length(
     arguments: &mut Arguments<'_>,
 ) -> Result<String, CaseError> {
     let bytes = arguments.bytes(alloc)?;
-    Ok(format!(in alloc; "{}", scan_line(&bytes))?)
+    shown(alloc, &scan_line(&bytes))
 }
 
 pub(crate) fn next_line(alloc: Global, arguments: &mut Arguments<'_>) -> Result<String, CaseError> {
     let bytes = arguments.bytes(alloc)?;
-    Ok(format!(in alloc; "{}", scan_nextline(&bytes))?)
+    shown(alloc, &scan_nextline(&bytes))
 }
 
 pub(crate) fn white_space(
@@ -39,13 +39,13 @@ pub(crate) fn white_space(
     arguments: &mut Arguments<'_>,
 ) -> Result<String, CaseError> {
     let bytes = arguments.bytes(alloc)?;
-    Ok(format!(in alloc; "{}", scan_whitespace_no_nl(&bytes))?)
+    shown(alloc, &scan_whitespace_no_nl(&bytes))
 }
 
 pub(crate) fn repeated(alloc: Global, arguments: &mut Arguments<'_>) -> Result<String, CaseError> {
     let bytes = arguments.bytes(alloc)?;
     let byte = arguments.byte()?;
-    Ok(format!(in alloc; "{}", scan_ch_repeat(&bytes, byte))?)
+    shown(alloc, &scan_ch_repeat(&bytes, byte))
 }
 
 pub(crate) fn indent(alloc: Global, arguments: &mut Arguments<'_>) -> Result<String, CaseError> {
@@ -63,5 +63,5 @@ pub(crate) fn quote_start(
     arguments: &mut Arguments<'_>,
 ) -> Result<String, CaseError> {
     let bytes = arguments.bytes(alloc)?;
-    Ok(format!(in alloc; "{}", OrNone(scan_blockquote_start(&bytes)))?)
+    shown(alloc, &OrNone(scan_blockquote_start(&bytes)))
 }

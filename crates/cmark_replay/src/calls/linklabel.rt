@@ -4,7 +4,7 @@ ghost use Rattle.std.specs.Str.{IsUtf8, IsCharBoundary};
 ghost use Rattle.cmark_replay.specs.Skipped.{skipped_or_none};
 
 use crate::arguments::Arguments;
-use crate::printing::{NONE, hex_text};
+use crate::printing::{hex_text, none};
 use crate::skips::Skips;
 use crate::stop::CaseError;
 use markdown_scanners_tree::linklabel::scan_link_label_rest;
@@ -33,16 +33,23 @@ pub(crate) fn label(alloc: Global, arguments: &mut Arguments<'_>) -> Result<Stri
     let text = arguments.text(alloc)?;
     let skips = arguments.skips()?;
     let is_in_table = arguments.flag()?;
-    Ok(
-        match scan_label(alloc, text.as_str(), skips, is_in_table)? {
-            Some((taken, label)) => {
-                let is_lent = matches!(&label, CowStr::Borrowed(_));
-                format!(in alloc;
-                    "{taken} {is_lent} {}",
-                    hex_text(alloc, label.as_str().as_bytes())?
-                )?
-            }
-            None => String::from_str(alloc, NONE)?,
-        },
-    )
+    label_text(alloc, text.as_str(), skips, is_in_table)
+}
+
+fn label_text(
+    alloc: Global,
+    text: &str,
+    skips: Skips,
+    is_in_table: bool,
+) -> Result<String, CaseError> {
+    match scan_label(alloc, text, skips, is_in_table)? {
+        Some((taken, label)) => held_label_text(alloc, taken, &label),
+        None => none(alloc),
+    }
+}
+
+fn held_label_text(alloc: Global, taken: usize, label: &CowStr<'_>) -> Result<String, CaseError> {
+    let is_lent = matches!(label, CowStr::Borrowed(_));
+    let digits = hex_text(alloc, label.as_str().as_bytes())?;
+    Ok(format!(in alloc; "{taken} {is_lent} {digits}")?)
 }

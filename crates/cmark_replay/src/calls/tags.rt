@@ -3,7 +3,7 @@ ghost use Rattle.std.specs.Prelude.{◌≡◌, ◌≤◌, length};
 ghost use Rattle.cmark_replay.specs.Skipped.{skipped};
 
 use crate::arguments::Arguments;
-use crate::printing::{NONE, OrNone, hex_text};
+use crate::printing::{OrNone, hex_text, none, shown};
 use crate::skips::Skips;
 use crate::stop::CaseError;
 use markdown_scanners_tree::scanners::{
@@ -16,12 +16,12 @@ pub(crate) fn block_name(
     arguments: &mut Arguments<'_>,
 ) -> Result<String, CaseError> {
     let bytes = arguments.bytes(alloc)?;
-    Ok(format!(in alloc; "{}", starts_html_block_type_6(&bytes))?)
+    shown(alloc, &starts_html_block_type_6(&bytes))
 }
 
 pub(crate) fn tag_alone(alloc: Global, arguments: &mut Arguments<'_>) -> Result<String, CaseError> {
     let bytes = arguments.bytes(alloc)?;
-    Ok(format!(in alloc; "{}", OrNone(scan_html_type_7(&bytes)))?)
+    shown(alloc, &OrNone(scan_html_type_7(&bytes)))
 }
 
 fn scan_tag(
@@ -42,8 +42,16 @@ fn scan_tag(
 pub(crate) fn tag(alloc: Global, arguments: &mut Arguments<'_>) -> Result<String, CaseError> {
     let bytes = arguments.bytes(alloc)?;
     let skips = arguments.skips()?;
-    Ok(match scan_tag(alloc, &bytes, skips)? {
-        Some((buffer, length)) => format!(in alloc; "{} {length}", hex_text(alloc, &buffer)?)?,
-        None => String::from_str(alloc, NONE)?,
-    })
+    tag_text(alloc, &bytes, skips)
+}
+
+fn tag_text(alloc: Global, bytes: &[u8], skips: Skips) -> Result<String, CaseError> {
+    match scan_tag(alloc, bytes, skips)? {
+        Some((buffer, length)) => before_number(alloc, &hex_text(alloc, &buffer)?, length),
+        None => none(alloc),
+    }
+}
+
+fn before_number(alloc: Global, digits: &String, number: usize) -> Result<String, CaseError> {
+    Ok(format!(in alloc; "{digits} {number}")?)
 }
