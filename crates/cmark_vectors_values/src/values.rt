@@ -455,6 +455,7 @@ impl OwnsTexts for Event<'static> {
                 },
             ) => is_boxed(dest_url) && is_boxed(title) && is_boxed(id),
             Event::Text(text) => is_boxed(text),
+            Event::FootnoteReference(label) => is_boxed(label),
             _ => false,
         }
     }
@@ -483,4 +484,20 @@ fn long_text() -> Event<'static> {
 fn long_texts_of_static_events_are_owned(rt: HostRuntime) {
     assert!(rt; becomes_owned(&rt, rt.alloc(), long_link(), long_link()));
     assert!(rt; becomes_owned(&rt, rt.alloc(), long_text(), long_text()));
+}
+
+fn copy_owns_its_texts<T: Drop + Kept + OwnsTexts>(
+    rt: &impl Abort,
+    alloc: Global,
+    value: T,
+) -> bool {
+    made(rt, value.copied(alloc)).owns_its_texts()
+}
+
+#[test]
+fn lent_texts_of_copied_events_stay_lent(rt: HostRuntime) {
+    let footnote = Event::FootnoteReference(CowStr::from("1"));
+    assert!(rt; !copy_owns_its_texts(&rt, rt.alloc(), footnote));
+    assert!(rt; !copy_owns_its_texts(&rt, rt.alloc(), long_link()));
+    assert!(rt; !copy_owns_its_texts(&rt, rt.alloc(), long_text()));
 }
