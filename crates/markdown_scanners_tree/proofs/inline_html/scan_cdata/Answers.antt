@@ -1,6 +1,7 @@
 use Rattle.std.proofs.Common.{◌+◌, ◌≤◌, arith, length, Some, None, sym, ap, ◌∙◌, refl}
 use Rattle.std.specs.Prelude.{codes}
 use Rattle.std.proofs.lemmas.Bool.{lt-ltb, le-ltb}
+use Rattle.std.proofs.lemmas.Grind.{elements}
 use Rattle.markdown_scanners_tree.specs.inline_html.InlineHtml.{Cdata}
 use Rattle.markdown_scanners_tree.specs.inline_html.Guard.{with_number}
 use Rattle.markdown_scanners_tree.proofs.inline_html.Openings.{declared_at-cdata, declared_at-bracket, stands-length}
@@ -68,3 +69,6 @@ returns c =
       guards = ap (with_number guard Cdata) found.number ∙ scan.0.guards;
       counts = scan.1 1 refl;
     })
+
+pub overflow_add-place : goal.overflow_add-place
+overflow_add-place c = grind (arith, elements)

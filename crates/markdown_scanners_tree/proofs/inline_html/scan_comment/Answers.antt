@@ -3,6 +3,7 @@ use Rattle.std.specs.Prelude.{◌==◌, ◌≢◌, not, slice_get}
 use Rattle.std.specs.Option.{option_eq}
 use Rattle.std.proofs.lemmas.Bool.{lt-ltb, le-ltb, eqb-true, eq-eqb, false≢true, cases_Bool}
 use Rattle.std.proofs.lemmas.Option.{same_Some, none-some, slice_get_within}
+use Rattle.std.proofs.lemmas.Grind.{elements}
 use Rattle.markdown_scanners_tree.specs.Ascii.{hyphen}
 use Rattle.markdown_scanners_tree.specs.inline_html.InlineHtml.{Comment}
 use Rattle.markdown_scanners_tree.specs.inline_html.Guard.{with_number}
@@ -87,3 +88,6 @@ returns c =
       guards = scan.0.guards;
       counts = scan.1 1 refl;
     })
+
+pub overflow_add-place : goal.overflow_add-place
+overflow_add-place c = grind (arith, elements)

@@ -2,6 +2,7 @@
 use Rattle.std.proofs.Common.{ℕ, List, ◌≡◌, ◌<◌, ◌+◌, ◌-◌, Some, None, true, false, [], refl, sym, ◌∙◌, ap, subst, drop, take, get_or, length, arith, nat_le, ◌&&◌, IfSome, IfNone, Option}
 use Rattle.std.proofs.lemmas.Bool.Decides.{nat_tests}
 use Rattle.std.proofs.lemmas.List.{drop-drop, drop_all}
+use Rattle.std.proofs.lemmas.Grind.{common_steps}
 use Rattle.markdown_scanners_tree.specs.Bytes.{is_line_ending, is_white_space}
 use Rattle.markdown_scanners_tree.specs.Handler.{Skips}
 use Rattle.markdown_scanners_tree.specs.Kept.{line_len}
@@ -244,3 +245,9 @@ returns-after-loop-ix-clause-none g c =
     none_at_end _ _ _ _ _ _ c.loop-ix.invariant.at
     (drop_all c.loop-ix.ix c.args.text.now
     (omega (arith, c.loop-ix-test.false, ap length c.as_bytes-bytes.ensures.value))) _
+
+pub ending_len-len-requires : goal.ending_len-len-requires
+ending_len-len-requires g c = grind (arith, common_steps)
+
+pub overflow_add-characters : goal.overflow_add-characters
+overflow_add-characters g c = grind (arith, common_steps)

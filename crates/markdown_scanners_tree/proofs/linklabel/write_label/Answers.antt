@@ -5,6 +5,7 @@ use Rattle.std.proofs.lemmas.Bool.{false≢true}
 use Rattle.std.specs.Prelude.{slice_range}
 use Rattle.std.proofs.lemmas.List.{drop-drop, length-drop}
 use Rattle.std.proofs.lemmas.Str.{IsCharBoundary-start}
+use Rattle.std.proofs.lemmas.Grind.{common_steps, not_there}
 use Rattle.std.specs.Str.{IsCharBoundary}
 use Rattle.std.specs.String.{string_bytes, string_len, string_capacity}
 use Rattle.markdown_scanners_tree.specs.Handler.{Skips}
@@ -278,3 +279,12 @@ returns-in_err-mark-in-Word-clause-fits g c = λ label l enough.
       size,
       ap due_len due,
     ))))
+
+pub range-requires-clause-end_boundary : goal.range-requires-clause-end_boundary
+range-requires-clause-end_boundary g c = grind (arith, common_steps, not_there)
+
+pub range-requires-in-Ending-clause-end_boundary : goal.range-requires-in-Ending-clause-end_boundary
+range-requires-in-Ending-clause-end_boundary g c = grind (arith, common_steps, not_there)
+
+pub range-requires-in-Space-clause-end_boundary : goal.range-requires-in-Space-clause-end_boundary
+range-requires-in-Space-clause-end_boundary g c = grind (arith, common_steps, not_there)

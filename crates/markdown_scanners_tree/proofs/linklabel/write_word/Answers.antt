@@ -1,6 +1,7 @@
 -- A byte of a word: the space before it, and what a dropped backslash leaves to be appended.
 use Rattle.std.proofs.Common.{◌≤◌, ◌<◌, ◌≡◌, ◌+◌, ◌-◌, ◌∷◌, ◌++◌, [], ℕ, Bool, true, false, List, String, refl, sym, ◌∙◌, ap, cond, drop, take, length, get_or, arith, append_assoc, append-nil}
 use Rattle.std.proofs.lemmas.List.{drop_more}
+use Rattle.std.proofs.lemmas.Grind.{common_steps, not_there}
 use Rattle.std.specs.Prelude.{slice_range}
 use Rattle.std.specs.Str.{IsUtf8, IsCharBoundary}
 use Rattle.std.specs.String.{string_bytes, string_len}
@@ -107,3 +108,6 @@ returns-clause-written c =
     (drops_as _ c.as_bytes.result.now _ _ _ _ c.as_bytes.ensures.value c.is_dropped.ensures c.if-not-is_dropped.false)
     (c.in_ok-push_str-2.ensures.bytes ∙ ap (λ z. string_bytes c.if-is_space_due.out ++ z) c.range.ensures.value)
     (omega (arith, c.in_ok-push_str-2.ensures.len, c.range.ensures.len))
+
+pub range-requires-clause-end_boundary : goal.range-requires-clause-end_boundary
+range-requires-clause-end_boundary c = grind (arith, common_steps, not_there)

@@ -1,6 +1,7 @@
 use Rattle.std.proofs.Common.{ℕ, List, ◌≡◌, ◌==◌, ◌-◌, ◌≤◌, false, true, refl, sym, ap, subst, ◌∙◌, take, drop, length, arith}
 use Rattle.std.proofs.lemmas.Bool.Decides.{nat_tests}
 use Rattle.std.proofs.lemmas.List.{length-drop, length-take-le}
+use Rattle.std.proofs.lemmas.Grind.{elements}
 use Rattle.markdown_scanners_tree.specs.Bytes.{begins_with}
 use Rattle.markdown_scanners_tree.specs.line.KnownBreaks.{AreTrueBreaks, learnt_at, learnt_by_marker}
 use Rattle.markdown_scanners_tree.specs.scanners.Breaks.{is_thematic_break}
@@ -130,3 +131,6 @@ returns-clause-learnt c =
 pub returns-clause-filled : goal.returns-clause-filled
 returns-clause-filled c =
     width_filled _ c.in_ok-width.width c.in_ok-width.delimiter c.in_ok-width.start c.in_ok-width.ensures.found
+
+pub returns-clause-marker : goal.returns-clause-marker
+returns-clause-marker c = grind (arith, elements)

@@ -1,4 +1,5 @@
 use Rattle.std.proofs.Common.{rules, of_calls, ◌∙◌, ◌≤◌, ◌<◌, ◌+◌, ◌-◌, length, take, drop, refl, sym, Some, length-append, arith}
+use Rattle.std.proofs.lemmas.Grind.{common_steps}
 use Rattle.markdown_scanners_tree.specs.Handler.{Answers}
 use Rattle.markdown_scanners_tree.proofs.scanners.html_tag.KeptCopy.{copy_starts, copy_inside, copy_goes_on}
 use Rattle.markdown_scanners_tree.proofs.scanners.html_tag.TagScan.{turn_with_skip, turn_without, skip_inside}
@@ -75,3 +76,6 @@ loop-is_last-preserved g c =
       rw
           (c.push_reserved.ensures.items, c.push_reserved.ensures.len) (simp length-append (omega arith)),
     )
+
+pub returns : goal.returns
+returns g c = grind (arith, common_steps)

@@ -1,4 +1,5 @@
 use Rattle.std.proofs.Common.{rules, of_calls, ◌≡◌, ◌≤◌, ◌+◌, ◌-◌, ◌⊎◌, inl, inr, length, take, drop, refl, sym, ap, true, arith}
+use Rattle.std.proofs.lemmas.Grind.{common_steps}
 use Rattle.markdown_scanners_tree.specs.Handler.{Answers}
 use Rattle.markdown_scanners_tree.specs.scanners.html_tag.KeptTag.{AnswersIfAny}
 use Rattle.markdown_scanners_tree.specs.scanners.tag_state.private.TagMachine.{is_final}
@@ -120,3 +121,6 @@ returns-else-is_tag_end-clause-none g c =
       )
     ] in
     scan_ends _ _ _ _ _ _ read.0 (sym (c.if-is_tag_end.ensures {u = tt})) read.1
+
+pub after_line_ending-state-requires : goal.after_line_ending-state-requires
+after_line_ending-state-requires g c = grind (arith, common_steps)

@@ -1,4 +1,5 @@
 use Rattle.std.proofs.Common.{ap, ◌∙◌, ◌+◌, sym, subst, take, drop, arith}
+use Rattle.std.proofs.lemmas.Grind.{elements, common_steps}
 use Rattle.std.specs.Option.{option_map}
 use Rattle.std.specs.Str.{IsCharBoundary}
 use Rattle.markdown_values.specs.strings.Text.{cow_text}
@@ -27,3 +28,9 @@ returns-clause-only c = λ uri is.
     one_uri _ uri _ is here
     ∙ sym (c.from.ensures.0
     ∙ (c.range.ensures.value ∙ ap (λ k. take k (drop c.args.start c.args.text.now)) (omega arith)))
+
+pub range-requires-clause-end_boundary : goal.range-requires-clause-end_boundary
+range-requires-clause-end_boundary c = grind (arith, elements)
+
+pub returns-clause-found : goal.returns-clause-found
+returns-clause-found c = grind (arith, common_steps)

@@ -1,4 +1,5 @@
 use Rattle.std.proofs.Common.{◌==◌, ◌+◌, ap, ◌∙◌, Some, take, arith, subst}
+use Rattle.std.proofs.lemmas.Grind.{elements}
 use Rattle.std.specs.Prelude.{position}
 use Rattle.std.specs.Option.{option_map}
 use Rattle.std.specs.Str.{IsCharBoundary}
@@ -24,3 +25,6 @@ returns-clause-boundary c =
     subst (IsCharBoundary c.args.text.now) (omega arith)
     (place_of_rest _ c.args.text.now c.args.start (c.in_ok-n.n + 1) read c.utf8.text c.requires
     c.in_ok-n.ensures.behind)
+
+pub range-requires-clause-end_boundary : goal.range-requires-clause-end_boundary
+range-requires-clause-end_boundary c = grind (arith, elements)

@@ -1,6 +1,7 @@
 use Rattle.std.proofs.Common.{◌≡◌, ◌+◌, ◌-◌, ◌++◌, ◌<◌, ap, ◌∙◌, sym, subst, ℕ, List, take, drop, length, get_or, refl, arith}
 use Rattle.std.proofs.lemmas.Bool.{false≢true}
 use Rattle.std.proofs.lemmas.List.{take_rest, get_or-drop}
+use Rattle.std.proofs.lemmas.Grind.{common_steps, not_there}
 use Rattle.std.specs.Option.{option_copied}
 use Rattle.std.specs.String.{string_bytes}
 use Rattle.markdown_values.specs.declared.strings.CowStr.TheVariants.{Boxed}
@@ -116,3 +117,6 @@ returns-clause-pushed g c in_table =
     c.range-2.result.now c.args.out.now c.push_both-2.new.out is refl c.range-2.ensures.value
     (omega (arith, c.range-2.ensures.len)) c.in_ok-push_both-2.ensures.bytes
     (omega (arith, c.in_ok-push_both-2.ensures.len))
+
+pub number_reference-requires-clause-begins : goal.number_reference-requires-clause-begins
+number_reference-requires-clause-begins g c = grind (arith, common_steps, not_there)

@@ -1,6 +1,7 @@
 use Rattle.std.proofs.Common.{◌∷◌, ◌≡◌, ◌+◌, ◌-◌, ◌<◌, ap, ◌∙◌, subst, Bool, [], ℕ, List, take, drop, length, get_or, refl, arith}
 use Rattle.std.proofs.lemmas.Bool.{false≢true}
 use Rattle.std.proofs.lemmas.List.{take_rest}
+use Rattle.std.proofs.lemmas.Grind.{common_steps, not_there}
 use Rattle.markdown_scanners_tree.specs.Ascii.{carriage_return}
 use Rattle.markdown_scanners_tree.specs.scanners.entities.CharacterReference.{Lookup}
 use Rattle.markdown_scanners_tree.specs.scanners.unescaping.private.FirstPiece.{IsFirstPiece, IsChanged, ArePlain}
@@ -102,3 +103,12 @@ returns-in_default-clause-pushed g c =
     c.plain_len.ensures.within c.plain_len.ensures.plain in
     pushed_nothing c.args.is_in_table known c.args.text.now c.args.run c.args.place n c.args.out.now
     (subst (λ bs. ArePlain c.args.is_in_table known bs n) same are)
+
+pub range-requires-clause-end_boundary : goal.range-requires-clause-end_boundary
+range-requires-clause-end_boundary g c = grind (arith, common_steps, not_there)
+
+pub range-requires-in-92-clause-end_boundary : goal.range-requires-in-92-clause-end_boundary
+range-requires-in-92-clause-end_boundary g c = grind (arith, common_steps)
+
+pub push_ampersand-requires-clause-begins : goal.push_ampersand-requires-clause-begins
+push_ampersand-requires-clause-begins g c = grind (arith, common_steps)

@@ -1,4 +1,5 @@
-use Rattle.std.proofs.Common.{◌≡◌, ◌≤◌, ◌+◌, length, take, sym, false}
+use Rattle.std.proofs.Common.{◌≡◌, ◌≤◌, ◌+◌, length, take, sym, false, arith}
+use Rattle.std.proofs.lemmas.Grind.{common_steps}
 use Rattle.markdown_scanners_tree.specs.scanners.tag_state.private.TagMachine.{LeadsTo, is_final}
 use Rattle.markdown_scanners_tree.proofs.scanners.tag_state.TagRuns.{leads_step, leads_over_run}
 use Rattle.markdown_scanners_tree.proofs.scanners.tag_state.TagState.read_in_line.Goals as goal
@@ -23,3 +24,6 @@ loop-place-preserved c =
       inside,
       unfinished,
     )
+
+pub returns-else-not-is_line_ending-clause-stops : goal.returns-else-not-is_line_ending-clause-stops
+returns-else-not-is_line_ending-clause-stops c = grind (arith, common_steps)
