@@ -288,3 +288,15 @@ range-requires-in-Ending-clause-end_boundary g c = grind (arith, common_steps, n
 
 pub range-requires-in-Space-clause-end_boundary : goal.range-requires-in-Space-clause-end_boundary
 range-requires-in-Space-clause-end_boundary g c = grind (arith, common_steps, not_there)
+
+pub write_word-requires-clause-none_before : goal.write_word-requires-clause-none_before
+write_word-requires-clause-none_before g c = grind (arith, common_steps)
+
+pub slice_bounds-word_run-count : goal.slice_bounds-word_run-count
+slice_bounds-word_run-count g c = grind (arith, common_steps)
+
+pub slice_bounds-word_run-start : goal.slice_bounds-word_run-start
+slice_bounds-word_run-start g c = grind (arith, common_steps)
+
+pub loop-out-smaller : goal.loop-out-smaller
+loop-out-smaller g c = grind (arith, common_steps)

@@ -111,3 +111,6 @@ returns-clause-written c =
 
 pub range-requires-clause-end_boundary : goal.range-requires-clause-end_boundary
 range-requires-clause-end_boundary c = grind (arith, common_steps, not_there)
+
+pub returns-in_err-push_str-clause-written : goal.returns-in_err-push_str-clause-written
+returns-in_err-push_str-clause-written c = grind (arith, common_steps)

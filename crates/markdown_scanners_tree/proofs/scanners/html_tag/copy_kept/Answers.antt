@@ -79,3 +79,6 @@ loop-is_last-preserved g c =
 
 pub returns : goal.returns
 returns g c = grind (arith, common_steps)
+
+pub returns-in_err-buffer : goal.returns-in_err-buffer
+returns-in_err-buffer g c = grind (arith, common_steps)

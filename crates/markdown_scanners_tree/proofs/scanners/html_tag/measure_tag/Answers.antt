@@ -124,3 +124,9 @@ returns-else-is_tag_end-clause-none g c =
 
 pub after_line_ending-state-requires : goal.after_line_ending-state-requires
 after_line_ending-state-requires g c = grind (arith, common_steps)
+
+pub returns-in_err-skips-clause-found : goal.returns-in_err-skips-clause-found
+returns-in_err-skips-clause-found g c = grind (arith, common_steps)
+
+pub returns-in_err-skips-clause-only : goal.returns-in_err-skips-clause-only
+returns-in_err-skips-clause-only g c = grind (arith, common_steps)

@@ -2,6 +2,7 @@ use Rattle.std.proofs.Common.{ℕ, length, ap, ◌∙◌, ◌+◌, sym, subst, t
 use Rattle.std.proofs.lemmas.Bool.{eqb-true}
 use Rattle.std.proofs.lemmas.List.{take_rest}
 use Rattle.std.proofs.lemmas.Str.{IsCharBoundary-start}
+use Rattle.std.proofs.lemmas.Grind.{elements, common_steps}
 use Rattle.std.specs.Option.{option_map}
 use Rattle.std.specs.Prelude.{slice_range}
 use Rattle.std.specs.declared.ops.Range.{Range}
@@ -98,3 +99,12 @@ returns-clause-ends c = λ utf8. cut_at_end c.args.bytes.now c.in_ok-n-2.n c.in_
 pub returns-clause-behind : goal.returns-clause-behind
 returns-clause-behind c = λ utf8.
     cut_at_end c.args.bytes.now c.in_ok-n-2.n c.in_ok-n-2.ensures.within c.in_ok-n-2.ensures.cut
+
+pub returns-in_err-n-clause-begins : goal.returns-in_err-n-clause-begins
+returns-in_err-n-clause-begins c = grind (arith, common_steps)
+
+pub returns-in_err-n-clause-ends : goal.returns-in_err-n-clause-ends
+returns-in_err-n-clause-ends c = grind (arith, common_steps)
+
+pub returns-in_err-n-clause-behind : goal.returns-in_err-n-clause-behind
+returns-in_err-n-clause-behind c = grind (arith, common_steps)

@@ -1,6 +1,7 @@
 use Rattle.std.proofs.Common.{◌≡◌, ℕ, ◌+◌, ◌-◌, ◌<◌, ◌==◌, Bool, false, List, [], ◌∷◌, length, get_or, Some, None, sym, ap, ◌∙◌, subst, arith}
 use Rattle.std.proofs.lemmas.Bool.{eqb-true, false≢true}
 use Rattle.std.proofs.lemmas.List.{take_rest}
+use Rattle.std.proofs.lemmas.Grind.{elements, common_steps}
 use Rattle.markdown_scanners_tree.specs.scanners.titles.LinkTitle.{closing_of}
 use Rattle.markdown_scanners_tree.specs.scanners.titles.private.TitleFrom.{IsTitleFrom}
 use Rattle.markdown_scanners_tree.proofs.SomeExactlyLemmas.{SomeExactly-from_none}
@@ -75,3 +76,12 @@ returns-clause-behind c = λ utf8.
     let close = byte_behind bytes n _ c.in_ok-n.ensures.within c.in_ok-n.ensures.cut in
     let around = ascii_around (get_or bytes 0 0) c.in_ok-closing.closing (sym c.in_ok-closing.ensures) in
     cut_behind bytes (1 + n) (n + 2) (omega arith) utf8 close.0 (omega (arith, close.1, around.1))
+
+pub returns-in_err-n-clause-begins : goal.returns-in_err-n-clause-begins
+returns-in_err-n-clause-begins c = grind (arith, elements)
+
+pub returns-in_err-n-clause-ends : goal.returns-in_err-n-clause-ends
+returns-in_err-n-clause-ends c = grind (arith, common_steps)
+
+pub returns-in_err-n-clause-behind : goal.returns-in_err-n-clause-behind
+returns-in_err-n-clause-behind c = grind (arith, common_steps)
