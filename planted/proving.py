@@ -133,18 +133,19 @@ def below_edits(edits, calls):
 
 def ahead_of(checks, crate, edits, said, kept):
     """The calls of a crate, once what its edits stand on is proved as it stands, and the flags of a check that shows this again.
-    That is what the edited functions seem to call by the sources, before the library is built; then its code tells the calls. Of a
+    Before a library is built, that is what the edited functions seem to call by the sources; then its code tells the calls. Of a
     crate that is no library all is proved, and of one where nothing is kept what is wanted is proved with the edit."""
-    by_sources = Calls(crate.name, calls_in_sources(crate.name, names_in_sources(crate.name)))
+    built = lambda: calls_in_code(crate.folder)
+    calls = Calls(crate.name, built() or calls_in_sources(crate.name, names_in_sources(crate.name)))
     if not kept:
-        return by_sources, []
+        return calls, []
     if crate.is_static or crate.is_program:
         proved = PROVED.findall(checks.as_it_stands(crate, [], kept))
         return Calls(crate.name, calls_in_sources(crate.name, proved)), []
-    flags = below_edits(edits, by_sources)
+    flags = below_edits(edits, calls)
     checks.as_it_stands(crate, flags, kept)
     wait_for({crate.name}, said)
-    return Calls(crate.name, calls_in_code(crate.folder)), flags
+    return Calls(crate.name, built()), flags
 
 
 def kept_of(crate, edits, said):
