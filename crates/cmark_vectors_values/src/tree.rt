@@ -191,6 +191,7 @@ fn look_at_two_roots(rt: &impl Abort, tree: &mut Tree<Piece>) {
     assert_link(rt, tree.cur(), Some(b));
     tree.reset();
     assert_link(rt, tree.cur(), Some(a));
+    assert_link(rt, tree.peek_up(), None);
     assert_link(rt, tree[a].next, None);
     assert_link(rt, tree.next_sibling(b), None);
     assert_link(rt, tree.cur(), None);
