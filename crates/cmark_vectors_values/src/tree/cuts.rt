@@ -163,3 +163,13 @@ fn children_before_the_end_stay(rt: HostRuntime) {
     let cut = cut_two(alloc, first, second, 5);
     assert_children(&rt, alloc, cut, Some(3), &[(0, 3), (3, 5)]);
 }
+
+#[test]
+fn a_child_that_ends_there_is_the_last(rt: HostRuntime) {
+    let alloc = rt.alloc();
+    let first = covering('A', 0, 3, false);
+    let second = covering('B', 3, 5, false);
+    let third = covering('C', 5, 9, true);
+    let cut = cut_three(alloc, first, second, third, 5);
+    assert_children(&rt, alloc, cut, Some(3), &[(0, 3), (3, 5)]);
+}
