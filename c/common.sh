@@ -32,11 +32,11 @@ is_old() {
     [ ! -f "$1" ] || [ -n "$(find "${of[@]}" -name out -prune -o \( -name '*.rt' -o -name '*.antt' -o -name '*.txt' \) -newer "$1" -print -quit)" ]
 }
 
-# prove: the crate, which makes its archive and says how.
+# prove: the crate, which makes its archive and says how; on as many processors as JOBS says, or as rt chooses.
 prove() {
     need rt
     echo "proving and building markdown_scanners_c"
-    (cd "$crate" && rt lib >"$room/said" 2>&1) || { cat "$room/said" >&2; stop "the crate was not built"; }
+    (cd "$crate" && rt lib ${JOBS:+--jobs "$JOBS"} >"$room/said" 2>&1) || { cat "$room/said" >&2; stop "the crate was not built"; }
     { sha256sum <"$made" && rt version && tail -n 30 "$room/said"; } >"$proof"
 }
 

@@ -70,16 +70,6 @@ def key_named(name, crate):
     return max(found, key=lambda key: len(key[0]), default=None)
 
 
-def names_in_sources(crate):
-    """Names of a crate's functions outside impls of traits, which the prover knows: of a method its type and its own name."""
-    found = set()
-    for item in functions_of(crate).values():
-        if item.body and not item.trait:
-            places = [] if item.of_type or item.module in ROOTS else item.module.split("/")
-            found.add("::".join([crate, *places, *([item.of_type] if item.of_type else []), item.short]))
-    return found
-
-
 def calls_in_sources(crate, names):
     """What each of these functions seems to call, by the sources."""
     short = {}

@@ -15,9 +15,9 @@ from importlib.machinery import SourceFileLoader
 from importlib.util import module_from_spec, spec_from_loader
 from pathlib import Path
 
-from calls import Calls, asked_for, calls_in_code, calls_in_sources, names_in_sources
+from calls import Calls, asked_for, calls_in_code, calls_in_sources
 from edits import TOP, crate_of, free_memory
-from grouping import PROVED, changed_functions, changed_lines, edits_in, groups_of, refused_in, texts_of
+from grouping import PROVED, edits_in, groups_of, refused_in, texts_of
 
 ONE_JOB = ["--jobs", "1"]
 CRATE_PROVED = re.compile(r"^rt: (\w+) (?:proved$|is kept:)", re.M)
@@ -68,16 +68,13 @@ class Room:
 
 
 class Checks:
-    """The checks of all crates: as many side by side as there are lanes, and memory for. They give way to what else goes on, that
-    of a crate as it stands less than its other ones, which wait for it."""
+    """The checks of all crates: as many side by side as there are lanes, and memory for. They give way to what else goes on."""
 
-    NICE, NICE_AHEAD = 10, 5
+    NICE = 10
 
-    def __init__(self, rt, lanes, crates):
+    def __init__(self, rt, lanes):
         # a thread of Linux has a niceness of its own, which what it starts has too
-        self.rt, self.room = rt, Room()
-        self.lanes = ThreadPoolExecutor(lanes, initializer=os.nice, initargs=(self.NICE,))
-        self.ahead = ThreadPoolExecutor(crates, initializer=os.nice, initargs=(self.NICE_AHEAD,))
+        self.rt, self.room, self.lanes = rt, Room(), ThreadPoolExecutor(lanes, initializer=os.nice, initargs=(self.NICE,))
 
     def begin(self, what, check):
         """Has a check run, which answers later, and says how long it took."""
@@ -88,10 +85,9 @@ class Checks:
         print(f"{time.monotonic() - since:4.0f} s  {what}", flush=True)
         return answer
 
-    def as_it_stands(self, crate, flags, kept):
-        """What a check of the crate as it stands says, of all of it or of what the flags name."""
-        check = lambda: self.rt.checked(crate, {}, [*ONE_JOB, *flags], kept)
-        said = self.ahead.submit(self.timed, crate.name, check).result()
+    def as_it_stands(self, crate, kept):
+        """What a check of the crate as it stands says, which proves it."""
+        said = self.begin(crate.name, lambda: self.rt.checked(crate, {}, ONE_JOB, kept)).result()
         if said.returncode:
             raise SystemExit(f"planted: {crate.name} is not proved as it stands, so its edits say nothing")
         return said.stdout
@@ -126,46 +122,45 @@ def tried_over(checks, crate, edits, calls, kept):
     return refused, {edit: it.result() for edit, it in said.items()}
 
 
-def below_edits(edits, calls):
-    """The flags of a check of what the functions that these edits change rest on."""
-    return asked_for(calls.below(set().union(*(changed_functions(it, changed_lines(it), calls) for it in edits))))
+def take_modules(crate, kept):
+    """Begins what is kept of a library with the modules that its own proof checked, if its built folder has them whole, and not
+    what crates above it read of them alone."""
+    built = Path(crate.folder) / f"out/rlib/{crate.name}.rlib"
+    rows = (built / "format").read_text().split("\n")
+    rattle = next((it.split(" ")[1] for it in rows if it.startswith("rattle-build ")), None)
+    if not rattle or f"carries {crate.name}" in rows:
+        return
+    checked, of_rattle = built / "toolchain/checked.a", kept / rattle.replace("/", "_")
+    files = subprocess.run(["ar", "t", checked], stdout=subprocess.PIPE, text=True, check=True).stdout.split("\n")
+    for folder in {(of_rattle / it).parent for it in files}:
+        folder.mkdir(parents=True, exist_ok=True)
+    subprocess.run(["ar", "x", checked], cwd=of_rattle, check=True)
 
 
-def ahead_of(checks, crate, edits, said, kept):
-    """The calls of a crate, once what its edits stand on is proved as it stands, and the flags of a check that shows this again.
-    Before a library is built, that is what the edited functions seem to call by the sources; then its code tells the calls. Of a
-    crate that is no library all is proved, and of one where nothing is kept what is wanted is proved with the edit."""
-    built = lambda: calls_in_code(crate.folder)
-    calls = Calls(crate.name, built() or calls_in_sources(crate.name, names_in_sources(crate.name)))
-    if not kept:
-        return calls, []
-    if crate.is_static or crate.is_program:
-        proved = PROVED.findall(checks.as_it_stands(crate, [], kept))
-        return Calls(crate.name, calls_in_sources(crate.name, proved)), []
-    flags = below_edits(edits, calls)
-    checks.as_it_stands(crate, flags, kept)
-    wait_for({crate.name}, said)
-    return Calls(crate.name, built()), flags
-
-
-def kept_of(crate, edits, said):
+def kept_of(crate, said):
     """Where what is checked is kept: where `rt check` and `rt lib` keep theirs, for these too; beside a run of rt ci, which begins
-    with an empty folder of each crate, in a folder of its own. Of a crate with one edit nothing is, since nothing else needs it."""
-    if said and len(edits) == 1:
-        return None
-    kept = said.parent / "kept" / crate.name if said and not crate.is_static else Path(crate.folder) / "out/incremental"
-    kept.mkdir(parents=True, exist_ok=True)
+    with an empty folder of each crate, in a folder of its own, that begins with what rt ci proved of a library."""
+    if not said or crate.is_static:
+        kept = Path(crate.folder) / "out/incremental"
+        kept.mkdir(parents=True, exist_ok=True)
+        return kept
+    kept = said.parent / "kept" / crate.name
+    kept.mkdir(parents=True)
+    if not crate.is_program:
+        wait_for({crate.name}, said)
+        take_modules(crate, kept)
     return kept
 
 
 def tried(checks, crate, edits, said):
-    """Whether each edit is refused, and what rt says of it where it was tried alone. That what they stand on is proved is seen
-    before, and after where rt ci does not prove all of it from nothing."""
-    kept = kept_of(crate, edits, said)
-    calls, flags = ahead_of(checks, crate, edits, said, kept)
+    """Whether each edit is refused, and what rt says of it where it was tried alone. That all is proved as it stands is seen
+    before, and after where rt ci does not prove it from nothing. A library's code tells what calls what, else the sources do."""
+    kept = kept_of(crate, said)
+    proved = PROVED.findall(checks.as_it_stands(crate, kept))
+    calls = Calls(crate.name, calls_in_code(crate.folder) or calls_in_sources(crate.name, proved))
     refused, alone = tried_over(checks, crate, edits, calls, kept)
     if not said:
-        checks.as_it_stands(crate, flags, kept)
+        checks.as_it_stands(crate, kept)
     print(f"{crate.name}: {len(refused)} tried in groups, {len(alone)} alone", flush=True)
     return [(True, "") if it in refused else alone[it] for it in edits]
 
@@ -186,7 +181,7 @@ def prove_all(edits, lanes, built=None, said=None):
         of_crate.setdefault(crate_of(edit), []).append(edit)
     if not built:
         build_libraries([crates[name] for name in of_crate])
-    checks = Checks(rt, lanes, len(of_crate))
+    checks = Checks(rt, lanes)
 
     def answers(name):
         wait_for({it.name for it in crates[name].below()}, said)
