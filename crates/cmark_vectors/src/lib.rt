@@ -1,5 +1,6 @@
 //! Worked rows and hostile texts, run through the calls on line starts, inline HTML and link labels
-//! of `markdown_scanners_tree`; and its derives, by their bounds.
+//! of `markdown_scanners_tree`; its derives, by their bounds; and what the cases of `cmark_replay`
+//! don't say of its scanners.
 #![tactic(auto)]
 
 #[cfg(test)]
@@ -12,3 +13,5 @@ mod inline_html;
 mod line;
 #[cfg(test)]
 mod linklabel;
+#[cfg(test)]
+mod scanners;
