@@ -4,6 +4,8 @@
 #![tactic(auto)]
 
 #[cfg(test)]
+mod asserts;
+#[cfg(test)]
 mod bounds;
 #[cfg(test)]
 mod derives;
@@ -15,3 +17,5 @@ mod line;
 mod linklabel;
 #[cfg(test)]
 mod scanners;
+#[cfg(test)]
+mod texts;

@@ -1,10 +1,11 @@
 //! HTML tags over lines: hostile handlers and long tags.
 ghost use Rattle.std.specs.Prelude.{◌≡◌};
 
+use crate::asserts::{assert_answer, made};
+use crate::texts::long_text;
 use markdown_scanners_tree::scanners::scan_html_block_inner;
 use std::alloc::{AllocError, Global};
 use std::process::Abort;
-use std::test::Fail;
 
 // What a handler skips at the front of the bytes after a line ending.
 #[derive(Clone, Copy)]
@@ -12,6 +13,15 @@ enum Skips {
     // A leading `> `.
     Quote,
     All,
+    AtMost(usize),
+    Nothing,
+}
+
+// A function by its name as a handler: its contract says that it has one answer for one rest.
+fn skip_none(_: &[u8]) -> usize
+    ensures { result ≡ 0 }
+{
+    0
 }
 
 fn scan_tag(
@@ -24,95 +34,83 @@ fn scan_tag(
     match skips {
         Skips::Quote => scan_html_block_inner(alloc, data, Some(&quote)),
         Skips::All => scan_html_block_inner(alloc, data, Some(&all)),
+        Skips::AtMost(most) => {
+            let at_most = |rest: &[u8]| -> usize {
+                if rest.len() < most { rest.len() } else { most }
+            };
+            scan_html_block_inner(alloc, data, Some(&at_most))
+        }
+        Skips::Nothing => scan_html_block_inner(alloc, data, Some(&skip_none)),
     }
 }
 
-fn expect_tag(rt: &impl Abort, tag: &Option<(Vec<u8>, usize)>, wanted: &[u8], size: usize) {
+// The text of a tag, and how many bytes it takes.
+type Tag<'a> = Option<(&'a [u8], usize)>;
+
+fn lent(tag: &Option<(Vec<u8>, usize)>) -> Tag<'_> {
     match tag {
-        Some((text, length)) => assert!(rt; text.as_slice() == wanted && *length == size),
-        None => assert!(rt; false, "no tag"),
+        Some((text, length)) => Some((text.as_slice(), *length)),
+        None => None,
     }
 }
 
-fn assert_no_tag(rt: &impl Abort, alloc: Global, data: &[u8]) -> Result<(), Fail> {
-    assert!(rt; scan_tag(alloc, data, Skips::All)?.is_none());
-    Ok(())
+fn assert_tag(rt: &impl Abort, alloc: Global, data: &[u8], skips: Skips, wanted: Tag<'_>) {
+    let tag = made(rt, scan_tag(alloc, data, skips));
+    assert_answer(rt, &data, lent(&tag), wanted);
 }
+
+const ALL_SKIPPED: [(&[u8], Tag<'static>); 5] = [
+    (b"<a\n>", None),
+    (b"</a\n>", None),
+    (b"<a\r\n>", None),
+    (b"<a\n", None),
+    (b"<a>\n>", Some((b"", 3))),
+];
 
 #[test]
-fn ends_where_a_handler_skips_all_that_follows(rt: HostRuntime) -> Result<(), Fail> {
-    assert_no_tag(&rt, rt.alloc(), b"<a\n>")?;
-    assert_no_tag(&rt, rt.alloc(), b"</a\n>")?;
-    assert_no_tag(&rt, rt.alloc(), b"<a\r\n>")?;
-    assert_no_tag(&rt, rt.alloc(), b"<a\n")?;
-    expect_tag(&rt, &scan_tag(rt.alloc(), b"<a>\n>", Skips::All)?, b"", 3);
-    Ok(())
-}
-
-// A function by its name as a handler: its contract says that it has one answer for one rest.
-fn skip_none(_: &[u8]) -> usize
-    ensures { result ≡ 0 }
-{
-    0
-}
-
-#[test]
-fn takes_handlers_of_other_forms(rt: HostRuntime) -> Result<(), Fail> {
-    let most = 2;
-    let at_most = |rest: &[u8]| -> usize { if rest.len() < most { rest.len() } else { most } };
-    let two = scan_html_block_inner(rt.alloc(), b"<a\n> b>", Some(&at_most))?;
-    expect_tag(&rt, &two, b"<a\nb>", 7);
-    let none = scan_html_block_inner(rt.alloc(), b"<a\n b>", Some(&skip_none))?;
-    expect_tag(&rt, &none, b"", 6);
-    Ok(())
-}
-
-// `<a`, then lines that are each a marker and a part, then `>`.
-fn tag_over_lines(
-    alloc: Global,
-    lines: usize,
-    marker: &[u8],
-    part: &[u8],
-) -> Result<Vec<u8>, Fail> {
-    let mut data = Vec::new(alloc);
-    data.extend_from_slice(b"<a")?;
-    for _ in 0..lines {
-        data.push(b'\n')?;
-        data.extend_from_slice(marker)?;
-        data.extend_from_slice(part)?;
+fn ends_where_a_handler_skips_all_that_follows(rt: HostRuntime) {
+    for (data, tag) in ALL_SKIPPED {
+        assert_tag(&rt, rt.alloc(), data, Skips::All, tag);
     }
-    data.push(b'>')?;
-    Ok(data)
 }
 
-fn assert_tag_over_lines(
-    rt: &impl Abort,
-    alloc: Global,
-    lines: usize,
-    part: &[u8],
-) -> Result<(), Fail> {
-    let data = tag_over_lines(alloc, lines, b"> ", part)?;
-    let kept = tag_over_lines(alloc, lines, b"", part)?;
-    expect_tag(
-        rt,
-        &scan_tag(alloc, &data, Skips::Quote)?,
-        &kept,
-        data.len(),
-    );
-    Ok(())
+const OF_OTHER_FORMS: [(&[u8], Skips, Tag<'static>); 2] = [
+    (b"<a\n> b>", Skips::AtMost(2), Some((b"<a\nb>", 7))),
+    (b"<a\n b>", Skips::Nothing, Some((b"", 6))),
+];
+
+#[test]
+fn takes_handlers_of_other_forms(rt: HostRuntime) {
+    for (data, skips, tag) in OF_OTHER_FORMS {
+        assert_tag(&rt, rt.alloc(), data, skips, tag);
+    }
+}
+
+// `<a`, then so many lines, each with its ending before it, then `>`.
+fn tag_over_lines(rt: &impl Abort, alloc: Global, lines: usize, line: &[u8]) -> Vec<u8> {
+    made(rt, long_text(alloc, b"<a", line, lines, b">"))
+}
+
+fn assert_kept(rt: &impl Abort, alloc: Global, data: &[u8], kept: &[u8]) {
+    assert_tag(rt, alloc, data, Skips::Quote, Some((kept, data.len())));
+}
+
+// How many lines a tag has, each of them, and what is kept of it. The first is a text of 900 bytes.
+const OVER_LINES: [(usize, &[u8], &[u8]); 2] = [(299, b"\n> ab", b"\nab"), (5000, b"\n> ", b"\n")];
+
+#[test]
+fn reads_tags_over_many_lines(rt: HostRuntime) {
+    let alloc = rt.alloc();
+    for (lines, line, kept) in OVER_LINES {
+        let kept = tag_over_lines(&rt, alloc, lines, kept);
+        assert_kept(&rt, alloc, &tag_over_lines(&rt, alloc, lines, line), &kept);
+    }
 }
 
 #[test]
-fn reads_tags_over_many_lines(rt: HostRuntime) -> Result<(), Fail> {
-    // a text of 900 bytes
-    assert_tag_over_lines(&rt, rt.alloc(), 299, b"ab")?;
-    assert_tag_over_lines(&rt, rt.alloc(), 5000, b"")
-}
-
-#[test]
-fn ends_at_the_end_of_unclosed_tags(rt: HostRuntime) -> Result<(), Fail> {
-    let mut data = tag_over_lines(rt.alloc(), 5000, b"> ", b"b")?;
-    let _ = data.pop();
-    assert!(rt; scan_tag(rt.alloc(), &data, Skips::Quote)?.is_none());
-    assert_no_tag(&rt, rt.alloc(), &data)
+fn ends_at_the_end_of_unclosed_tags(rt: HostRuntime) {
+    let data = made(&rt, long_text(rt.alloc(), b"<a", b"\n> b", 5000, b""));
+    for skips in [Skips::Quote, Skips::All] {
+        assert_tag(&rt, rt.alloc(), &data, skips, None);
+    }
 }

@@ -1,33 +1,42 @@
 //! Runs of bytes, by closures.
+use crate::asserts::assert_answer;
 use markdown_scanners_tree::scanners::{scan_ch, scan_rev_while, scan_while};
 use std::process::Abort;
 
-fn expect_byte(rt: &impl Abort, bytes: &[u8], count: usize) {
-    assert!(rt; scan_ch(bytes, b'a') == count, "of {bytes:?}");
-}
+const FIRST_BYTES: [(&[u8], usize); 3] = [(b"ab", 1), (b"ba", 0), (b"", 0)];
 
 #[test]
 fn counts_a_byte_once(rt: HostRuntime) {
-    expect_byte(&rt, b"ab", 1);
-    expect_byte(&rt, b"ba", 0);
-    expect_byte(&rt, b"", 0);
+    for (bytes, count) in FIRST_BYTES {
+        assert_answer(&rt, &bytes, scan_ch(bytes, b'a'), count);
+    }
 }
 
-#[test]
-fn counts_bytes_that_a_closure_accepts(rt: HostRuntime) {
-    assert_eq!(rt; scan_while(b"aab", |b| b == b'a'), 2);
-    assert_eq!(rt; scan_rev_while(b"baa", |b| b == b'a'), 2);
-    assert_eq!(rt; scan_while(b"aaa", |b| b == b'a'), 3);
-    assert_eq!(rt; scan_rev_while(b"", |b| b == b'a'), 0);
-    // a closure that accepts the first byte that it is asked about, and no other
+const FROM_THE_FRONT: [(&[u8], usize); 2] = [(b"aab", 2), (b"aaa", 3)];
+
+const FROM_THE_BACK: [(&[u8], usize); 2] = [(b"baa", 2), (b"", 0)];
+
+// A closure that accepts the first byte that it is asked about, and no other.
+fn assert_one_accepted(rt: &impl Abort) {
     let mut asked = false;
     let accepts_one = |_: u8| {
         let first = !asked;
         asked = true;
         first
     };
-    assert_eq!(rt; scan_while(b"aaa", accepts_one), 1);
-    assert_eq!(rt; asked, true);
+    assert_answer(rt, &"one", scan_while(b"aaa", accepts_one), 1);
+    assert_answer(rt, &"asked", asked, true);
+}
+
+#[test]
+fn counts_bytes_that_a_closure_accepts(rt: HostRuntime) {
+    for (bytes, count) in FROM_THE_FRONT {
+        assert_answer(&rt, &bytes, scan_while(bytes, |b| b == b'a'), count);
+    }
+    for (bytes, count) in FROM_THE_BACK {
+        assert_answer(&rt, &bytes, scan_rev_while(bytes, |b| b == b'a'), count);
+    }
+    assert_one_accepted(&rt);
 }
 
 // Counts by a closure of which no more is known than that it may always be called.
@@ -39,46 +48,60 @@ fn count_accepted<F: FnMut(u8) -> bool>(bytes: &[u8], accepts: F) -> usize
 
 #[test]
 fn passes_a_closure_on(rt: HostRuntime) {
-    assert_eq!(rt; count_accepted(b"aab", |b| b == b'a'), 2);
+    assert_answer(&rt, &"aab", count_accepted(b"aab", |b| b == b'a'), 2);
 }
 
-// How many bytes from the front a closure accepts that accepts each `a`, and about which bytes it is
-// asked: the digits of a number behind a first 1.
-fn expect_asked(rt: &impl Abort, bytes: &[u8], count: usize, asked: u64) {
+// Bytes, how many of them from one end a closure accepts that accepts each `a`, and about which
+// bytes it is asked: the digits of a number behind a first 1.
+type Asked = (&'static [u8], usize, u64);
+
+fn asked(bytes: &[u8]) -> (usize, u64) {
     let mut digits = 1_u64;
     let accepts = |b: u8| {
         digits = digits.wrapping_mul(256).wrapping_add(u64::from(b));
         b == b'a'
     };
-    assert!(rt; scan_while(bytes, accepts) == count, "on {bytes:?}");
-    assert!(rt; digits == asked, "on {bytes:?}");
+    let count = scan_while(bytes, accepts);
+    (count, digits)
 }
 
 // The same from the last byte on.
-fn expect_asked_back(rt: &impl Abort, bytes: &[u8], count: usize, asked: u64) {
+fn asked_back(bytes: &[u8]) -> (usize, u64) {
     let mut digits = 1_u64;
     let accepts = |b: u8| {
         digits = digits.wrapping_mul(256).wrapping_add(u64::from(b));
         b == b'a'
     };
-    assert!(rt; scan_rev_while(bytes, accepts) == count, "on {bytes:?}");
-    assert!(rt; digits == asked, "on {bytes:?}");
+    let count = scan_rev_while(bytes, accepts);
+    (count, digits)
 }
+
+const ASKED: [Asked; 5] = [
+    (b"aab", 2, 0x01_61_61_62),
+    (b"aabaa", 2, 0x01_61_61_62),
+    (b"aaa", 3, 0x01_61_61_61),
+    (b"ba", 0, 0x01_62),
+    (b"", 0, 0x01),
+];
 
 #[test]
 fn asks_a_closure_once_for_each_byte(rt: HostRuntime) {
-    expect_asked(&rt, b"aab", 2, 0x01_61_61_62);
-    expect_asked(&rt, b"aabaa", 2, 0x01_61_61_62);
-    expect_asked(&rt, b"aaa", 3, 0x01_61_61_61);
-    expect_asked(&rt, b"ba", 0, 0x01_62);
-    expect_asked(&rt, b"", 0, 0x01);
+    for (bytes, count, digits) in ASKED {
+        assert_answer(&rt, &bytes, asked(bytes), (count, digits));
+    }
 }
+
+const ASKED_BACK: [Asked; 5] = [
+    (b"baa", 2, 0x01_61_61_62),
+    (b"aabaa", 2, 0x01_61_61_62),
+    (b"aaa", 3, 0x01_61_61_61),
+    (b"ab", 0, 0x01_62),
+    (b"", 0, 0x01),
+];
 
 #[test]
 fn asks_a_closure_from_the_last_byte_on(rt: HostRuntime) {
-    expect_asked_back(&rt, b"baa", 2, 0x01_61_61_62);
-    expect_asked_back(&rt, b"aabaa", 2, 0x01_61_61_62);
-    expect_asked_back(&rt, b"aaa", 3, 0x01_61_61_61);
-    expect_asked_back(&rt, b"ab", 0, 0x01_62);
-    expect_asked_back(&rt, b"", 0, 0x01);
+    for (bytes, count, digits) in ASKED_BACK {
+        assert_answer(&rt, &bytes, asked_back(bytes), (count, digits));
+    }
 }
