@@ -36,18 +36,8 @@ fn scans_find_where_a_construct_ends(rt: HostRuntime) {
     assert_answer(&rt, &"?>", found, None);
 }
 
-// Up to where the kinds are shut: comments, processing instructions, CDATA sections and
-// declarations.
-fn shut_places(guard: &HtmlScanGuard) -> (usize, usize, usize, usize) {
-    (
-        guard.comment,
-        guard.processing,
-        guard.cdata,
-        guard.declaration,
-    )
-}
-
-// Texts in which scans by one guard find nothing, and where its kinds are shut then.
+// Texts in which scans by one guard find nothing, and up to where its kinds are shut then:
+// comments, processing instructions, CDATA sections and declarations.
 const SHUT: [(&[u8], (usize, usize, usize, usize)); 4] = [
     (b"<!--a", (5, 0, 0, 0)),
     (b"<!-->", (5, 0, 0, 0)),
@@ -60,7 +50,13 @@ fn a_scan_that_finds_no_end_shuts_its_kind(rt: HostRuntime) {
     let mut guard = HtmlScanGuard::new();
     for (text, shut) in SHUT {
         assert_answer(&rt, &text, find_at(text, 2, &mut guard), None);
-        assert_answer(&rt, &text, shut_places(&guard), shut);
+        let places = (
+            guard.comment,
+            guard.processing,
+            guard.cdata,
+            guard.declaration,
+        );
+        assert_answer(&rt, &text, places, shut);
     }
 }
 

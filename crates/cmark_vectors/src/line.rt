@@ -5,7 +5,6 @@ mod run;
 use crate::asserts::{assert_answer, made};
 use crate::texts::long_text;
 use markdown_scanners_tree::line::LineStart;
-use std::alloc::Global;
 use std::process::Abort;
 
 #[test]
@@ -33,16 +32,11 @@ fn pass_markers_by_clones(rt: &impl Abort, line: &[u8], calls: usize) -> (usize,
     (found, start.bytes_scanned())
 }
 
-// So many bullets, and what ends their line.
-fn line_of_bullets(rt: &impl Abort, alloc: Global, count: usize, last: &[u8]) -> Vec<u8> {
-    made(rt, long_text(alloc, b"", b"- ", count, last))
-}
-
 // Were a clone to forget that no thematic break begins up to the end of the line, this run would
 // read some 10^11 bytes and not end within a test's time.
 #[test]
 fn clones_know_where_no_thematic_break_begins(rt: HostRuntime) {
-    let line = line_of_bullets(&rt, rt.alloc(), 400_000, b"x");
+    let line = made(&rt, long_text(rt.alloc(), b"", b"- ", 400_000, b"x"));
     let passed = pass_markers_by_clones(&rt, &line, 400_000);
     assert_answer(&rt, &"bullets", passed, (400_000, 800_000));
 }
@@ -50,16 +44,9 @@ fn clones_know_where_no_thematic_break_begins(rt: HostRuntime) {
 // The line is a thematic break. Were a clone to forget that, each call would read the whole line.
 #[test]
 fn clones_know_where_a_thematic_break_begins(rt: HostRuntime) {
-    let line = line_of_bullets(&rt, rt.alloc(), 400_000, b"\n");
+    let line = made(&rt, long_text(rt.alloc(), b"", b"- ", 400_000, b"\n"));
     let passed = pass_markers_by_clones(&rt, &line, 400_000);
     assert_answer(&rt, &"bullets", passed, (0, 0));
-}
-
-// Passes so many markers, or fewer where no more stand there.
-fn pass_markers(start: &mut LineStart<'_>, calls: usize) {
-    for _ in 0..calls {
-        takes_marker(start);
-    }
 }
 
 // The marker that a clone of the line start takes.
@@ -69,7 +56,9 @@ fn marker_of_clone(rt: &impl Abort, start: &LineStart<'_>) -> Option<(u8, u64, u
 
 fn assert_markers_of_clones(rt: &impl Abort, line: &[u8]) {
     let mut start = LineStart::new(line);
-    pass_markers(&mut start, 200_000);
+    for _ in 0..200_000 {
+        takes_marker(&mut start);
+    }
     assert_answer(rt, &"scanned", start.bytes_scanned(), 400_000);
     for call in 0..200_000 {
         assert_answer(rt, &call, marker_of_clone(rt, &start), Some((b'-', 0, 2)));
@@ -79,5 +68,6 @@ fn assert_markers_of_clones(rt: &impl Abort, line: &[u8]) {
 // Clones of one line start in the middle of a line, none of which looks at the rest of it again.
 #[test]
 fn clones_in_the_middle_of_a_line_read_no_more(rt: HostRuntime) {
-    assert_markers_of_clones(&rt, &line_of_bullets(&rt, rt.alloc(), 400_000, b"x"));
+    let line = made(&rt, long_text(rt.alloc(), b"", b"- ", 400_000, b"x"));
+    assert_markers_of_clones(&rt, &line);
 }

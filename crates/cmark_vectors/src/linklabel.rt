@@ -21,61 +21,54 @@ fn link_label(rt: &impl Abort, alloc: Global, text: &'static str) -> LinkLabel<'
     made(rt, LinkLabel::new(alloc, CowStr::from(text)))
 }
 
-fn have_one_hash(one: &LinkLabel<'_>, other: &LinkLabel<'_>) -> bool {
-    hash_of(one) == hash_of(other)
-}
-
-fn match_each_other(one: &LinkLabel<'_>, other: &LinkLabel<'_>) -> bool {
-    are_equal(one, other) && have_equal_keys(one, other)
-}
-
 // Two labels match, whatever is asked, and the first lends its text.
 fn assert_match(rt: &impl Abort, alloc: Global, one: &'static str, other: &'static str) {
     let a = link_label(rt, alloc, one);
     let b = link_label(rt, alloc, other);
-    assert_answer(rt, &(one, other), match_each_other(&a, &b), true);
-    assert_answer(rt, &(one, other), have_one_hash(&a, &b), true);
-    assert_answer(rt, &(one, other), a.as_str(), one);
+    let are_matched = are_equal(&a, &b) && have_equal_keys(&a, &b) && hash_of(&a) == hash_of(&b);
+    assert_answer(rt, &one, are_matched && a.as_str() == one, true);
+}
+
+fn are_different(rt: &impl Abort, alloc: Global, one: &'static str, other: &'static str) -> bool {
+    !are_equal(&link_label(rt, alloc, one), &link_label(rt, alloc, other))
 }
 
 #[test]
 fn labels_match_without_regard_to_case(rt: HostRuntime) {
-    let alloc = rt.alloc();
-    for (one, other) in [("Straße", "STRASSE"), ("a", "A")] {
-        assert_match(&rt, alloc, one, other);
-    }
-    let a = link_label(&rt, alloc, "a");
-    assert!(rt; !are_equal(&a, &link_label(&rt, alloc, "b")));
+    assert_match(&rt, rt.alloc(), "Straße", "STRASSE");
+    assert_match(&rt, rt.alloc(), "a", "A");
+    assert!(rt; are_different(&rt, rt.alloc(), "a", "b"));
 }
 
-// Labels of sixteen bytes, of one more, of two blocks, and of more than two.
-const LONG: [(&str, &str); 4] = [
-    ("ſixteen letters!", "SIXTEEN LETTERS!"),
-    ("ſeventeen letters", "Seventeen Letters"),
-    (
-        "thirty-two bytes make two blockſ",
-        "Thirty-Two Bytes Make Two Blocks",
-    ),
-    (
-        "ſtraight into the third block of it",
-        "STRAIGHT into the third BLOCK of it",
-    ),
-];
-
+// Of sixteen bytes, of one more, of two blocks, and of more than two.
 #[test]
 fn long_labels_have_one_hash(rt: HostRuntime) {
     let alloc = rt.alloc();
-    for (one, other) in LONG {
-        let label = link_label(&rt, alloc, one);
-        let holds = have_one_hash(&label, &link_label(&rt, alloc, other));
-        assert_answer(&rt, &(one, other), holds, true);
-    }
+    assert_match(&rt, alloc, "ſixteen letters!", "SIXTEEN LETTERS!");
+    assert_match(&rt, alloc, "ſeventeen letters", "Seventeen Letters");
+    assert_match(
+        &rt,
+        alloc,
+        "thirty-two bytes make two blockſ",
+        "Thirty-Two Bytes Make Two Blocks",
+    );
+    assert_match(
+        &rt,
+        alloc,
+        "ſtraight into the third block of it",
+        "STRAIGHT into the third BLOCK of it",
+    );
+}
+
+fn matches_link(note: &FootnoteLabel<'_>, label: &LinkLabel<'_>) -> bool {
+    *note == *label
 }
 
 #[test]
 fn footnotes_match_as_links_do(rt: HostRuntime) {
-    let note: FootnoteLabel = link_label(&rt, rt.alloc(), "Note");
-    assert!(rt; note == link_label(&rt, rt.alloc(), "nOTE"));
+    let note = link_label(&rt, rt.alloc(), "Note");
+    let label = link_label(&rt, rt.alloc(), "nOTE");
+    assert!(rt; matches_link(&note, &label));
 }
 
 // A label that a scan answers: the bytes taken, and the text.
@@ -145,7 +138,7 @@ fn skipped_backslashes_escape_nothing(rt: HostRuntime) {
 
 fn escaped_brackets(alloc: Global) -> Result<String, AllocError> {
     let mut text = "\\[\n".repeat(alloc, 1_000_000)?;
-    text.push(']')?;
+    text.push_str("]")?;
     Ok(text)
 }
 
@@ -161,17 +154,18 @@ fn assert_no_label(rt: &impl Abort, alloc: Global, rest: Option<&str>, line: usi
 // times.
 #[test]
 fn reads_labels_up_to_their_thousandth_character(rt: HostRuntime) {
-    let text = made(&rt, escaped_brackets(rt.alloc()));
+    let alloc = rt.alloc();
+    let text = made(&rt, escaped_brackets(alloc));
     for line in 0..5_000 {
         let rest = text.as_str().get(3 * line + 2..);
-        assert_no_label(&rt, rt.alloc(), rest, line);
+        assert_no_label(&rt, alloc, rest, line);
     }
 }
 
 // The text with a bracket behind it.
 fn with_bracket(alloc: Global, label: &str) -> Result<String, AllocError> {
     let mut text = String::from_str(alloc, label)?;
-    text.push(']')?;
+    text.push_str("]")?;
     Ok(text)
 }
 
@@ -195,7 +189,8 @@ const READ_BACK: [(&str, &[u8]); 4] = [
 
 #[test]
 fn labels_read_back(rt: HostRuntime) {
+    let alloc = rt.alloc();
     for (text, marker) in READ_BACK {
-        assert_read_back(&rt, rt.alloc(), text, marker);
+        assert_read_back(&rt, alloc, text, marker);
     }
 }

@@ -1,13 +1,6 @@
 //! Long texts.
 use std::alloc::{AllocError, Global};
 
-fn write_parts(text: &mut Vec<u8>, part: &[u8], count: usize) -> Result<(), AllocError> {
-    for _ in 0..count {
-        text.extend_from_slice(part)?;
-    }
-    Ok(())
-}
-
 fn write_text(
     text: &mut Vec<u8>,
     first: &[u8],
@@ -16,7 +9,9 @@ fn write_text(
     last: &[u8],
 ) -> Result<(), AllocError> {
     text.extend_from_slice(first)?;
-    write_parts(text, part, count)?;
+    for _ in 0..count {
+        text.extend_from_slice(part)?;
+    }
     text.extend_from_slice(last)
 }
 

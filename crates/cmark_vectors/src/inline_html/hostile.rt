@@ -48,16 +48,14 @@ const HOSTILE_TEXTS: [Hostile; 6] = [
     (b"<!-->", 5000, Some(3), 25000, 140000),
 ];
 
-// How far after its place an answer is.
-fn length_of(answer: Option<usize>, place: usize) -> Option<usize> {
-    let end = answer?;
-    Some(end.wrapping_sub(place))
-}
-
 // Each answer is this far after its place.
 fn are_so_long(answers: &[Option<usize>], places: &[usize], length: Option<usize>) -> bool {
     for (answer, place) in answers.iter().zip(places.iter()) {
-        if length_of(*answer, *place) != length {
+        let found = match answer {
+            Some(end) => Some(end.wrapping_sub(*place)),
+            None => None,
+        };
+        if found != length {
             return false;
         }
     }

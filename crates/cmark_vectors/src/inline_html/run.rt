@@ -21,78 +21,58 @@ pub(super) fn budget(size: usize, steps: usize) -> u128 {
     4 * size as u128 + 8 * steps as u128
 }
 
-// A text and places of it; what a run there finds, the bytes passed over, and the refused place.
-#[derive(Drop)]
-struct Row {
-    text: &'static [u8],
-    places: &'static [usize],
-    finds: &'static [Option<usize>],
-    passed: u128,
-    stop: Option<(usize, HtmlStop)>,
-}
-
-fn is_run(run: &HtmlRun, row: &Row) -> bool {
-    run.answers.as_slice() == row.finds && run.passed == row.passed && run.stop == row.stop
-}
-
-fn assert_run(rt: &impl Abort, alloc: Global, row: &Row) {
-    let run = made(rt, run_inline_html(alloc, row.text, row.places));
-    assert!(rt; is_run(&run, row), "on {:?}", row.text);
-}
-
-// A text and places of it, what a run there finds, the bytes passed over, and the most that the
-// budget allows.
-type Found = (
+// A text and places of it, what a run there finds, and the bytes passed over.
+type Row = (
     &'static [u8],
     &'static [usize],
     &'static [Option<usize>],
     u128,
-    u128,
 );
 
-const FOUND: [Found; 9] = [
+fn is_run(run: &HtmlRun, row: &Row, stop: &Option<(usize, HtmlStop)>) -> bool {
+    run.answers.as_slice() == row.2 && run.passed == row.3 && run.stop == *stop
+}
+
+fn assert_run(rt: &impl Abort, alloc: Global, row: &Row, stop: &Option<(usize, HtmlStop)>) {
+    let run = made(rt, run_inline_html(alloc, row.0, row.1));
+    assert_answer(rt, &row.0, is_run(&run, row, stop), true);
+}
+
+// Runs that no place stops, and the most that the budget of each allows.
+const FOUND: [(Row, u128); 9] = [
     (
-        b"<!-- <!x> <!-- <![CDATA[ ]]>",
-        &[2, 7, 12, 17],
-        &[None, Some(9), None, Some(28)],
-        42,
+        (
+            b"<!-- <!x> <!-- <![CDATA[ ]]>",
+            &[2, 7, 12, 17],
+            &[None, Some(9), None, Some(28)],
+            42,
+        ),
         144,
     ),
-    (b"<!DOCTYPE html>", &[2], &[Some(15)], 13, 68),
-    (b"<!-->", &[2], &[Some(5)], 5, 28),
-    (b"<!->", &[2], &[None], 2, 24),
-    (b"<!", &[2], &[None], 1, 16),
-    (b"<![CDATA[", &[2], &[None], 7, 44),
-    (b"<?a?>", &[2], &[Some(5)], 3, 28),
-    (b"<!a><!b>", &[2, 6], &[Some(4), Some(8)], 4, 48),
-    (b"<!-x<!-->", &[2, 6], &[None, Some(9)], 7, 52),
+    ((b"<!DOCTYPE html>", &[2], &[Some(15)], 13), 68),
+    ((b"<!-->", &[2], &[Some(5)], 5), 28),
+    ((b"<!->", &[2], &[None], 2), 24),
+    ((b"<!", &[2], &[None], 1), 16),
+    ((b"<![CDATA[", &[2], &[None], 7), 44),
+    ((b"<?a?>", &[2], &[Some(5)], 3), 28),
+    ((b"<!a><!b>", &[2, 6], &[Some(4), Some(8)], 4), 48),
+    ((b"<!-x<!-->", &[2, 6], &[None, Some(9)], 7), 52),
 ];
 
 #[test]
 fn runs_answer_and_count(rt: HostRuntime) {
-    for (text, places, finds, passed, most) in FOUND {
-        let row = Row {
-            text,
-            places,
-            finds,
-            passed,
-            stop: None,
-        };
-        assert_run(&rt, rt.alloc(), &row);
-        assert_answer(&rt, &text, budget(text.len(), places.len()), most);
+    let alloc = rt.alloc();
+    for (row, most) in &FOUND {
+        assert_run(&rt, alloc, row, &None);
+        assert_answer(&rt, &row.0, budget(row.0.len(), row.1.len()), *most);
     }
 }
 
 #[test]
 fn a_run_ends_before_a_refused_place(rt: HostRuntime) {
-    let row = Row {
-        text: b"<!-- a <!-- b --> <!-- c",
-        places: &[2, 9, 20],
-        finds: &[Some(17)],
-        passed: 17,
-        stop: Some((1, HtmlStop::InsideFind)),
-    };
-    assert_run(&rt, rt.alloc(), &row);
+    let row: Row = (b"<!-- a <!-- b --> <!-- c", &[2, 9, 20], &[Some(17)], 17);
+    let stop = Some((1, HtmlStop::InsideFind));
+    assert_run(&rt, rt.alloc(), &row, &stop);
 }
 
 // A place, what a step there answers, the bytes passed over by then, and the steps.

@@ -8,14 +8,11 @@ use std::process::Abort;
 // A place, the columns pending there, and its column modulo four.
 type Place = (usize, usize, usize);
 
-fn begins(line: &[u8], at: Place) -> bool {
-    LineStart::resumed(line, at.0, at.1, at.2).is_some()
-}
-
 #[test]
 fn no_line_start_has_other_numbers(rt: HostRuntime) {
     for at in [(2, 0, 0), (1, 4, 0), (1, 0, 4)] {
-        assert_answer(&rt, &at, begins(b"x", at), false);
+        let start = LineStart::resumed(b"x", at.0, at.1, at.2);
+        assert!(rt; start.is_none(), "at {at:?}");
     }
 }
 
@@ -186,17 +183,14 @@ const OF_BREAKS: [(Row, (usize, usize)); 2] = [
     ((LineCall::List(0), Ok(LineAnswer::List(None))), (0, 1)),
 ];
 
-fn is_answered(start: &mut LineStart<'_>, row: &Row, breaks: &mut KnownBreaks) -> bool {
-    start.call_with_breaks(&row.0, breaks) == row.1
-}
-
 // A thematic break is no item, whatever begins it (4.1), and a refused call learns nothing.
 #[test]
 fn calls_learn_of_breaks(rt: HostRuntime) {
     let mut breaks = KnownBreaks::new();
     let mut start = LineStart::new(b"* * *");
     for (row, learnt) in &OF_BREAKS {
-        assert_answer(&rt, &row.0, is_answered(&mut start, row, &mut breaks), true);
+        let answer = start.call_with_breaks(&row.0, &mut breaks);
+        assert_answer(&rt, &row.0, answer == row.1, true);
         assert_answer(&rt, &row.0, known(&breaks), *learnt);
         assert_answer(&rt, &row.0, start.bytes_scanned(), 0);
     }

@@ -26,8 +26,9 @@ fn assert_no_reference(rt: &impl Abort, text: &[u8]) {
 
 #[test]
 fn looks_at_eight_digits(rt: HostRuntime) {
+    let alloc = rt.alloc();
     for mark in [b"&#".as_slice(), b"&#x"] {
-        let text = long_text(rt.alloc(), mark, b"1", 1_000_000, b";");
+        let text = long_text(alloc, mark, b"1", 1_000_000, b";");
         assert_no_reference(&rt, &made(&rt, text));
     }
 }

@@ -21,16 +21,18 @@ const NAMES: [(&[u8], Option<HtmlBlockKind>, bool); 2] = [
 
 #[test]
 fn reads_long_names(rt: HostRuntime) {
+    let alloc = rt.alloc();
     for (last, kind, ends) in NAMES {
-        let name = long_text(rt.alloc(), b"<", b"a", 99_999, last);
+        let name = long_text(alloc, b"<", b"a", 99_999, last);
         assert_name(&rt, &made(&rt, name), kind, ends);
     }
 }
 
 #[test]
 fn reads_long_runs_of_hyphens(rt: HostRuntime) {
+    let alloc = rt.alloc();
     for (last, ends) in [(b"".as_slice(), false), (b">", true)] {
-        let line = long_text(rt.alloc(), b"", b"-", 100_000, last);
+        let line = long_text(alloc, b"", b"-", 100_000, last);
         assert_end(&rt, &made(&rt, line), HtmlBlockKind::Comment, ends);
     }
 }

@@ -69,8 +69,9 @@ const ALL_SKIPPED: [(&[u8], Tag<'static>); 5] = [
 
 #[test]
 fn ends_where_a_handler_skips_all_that_follows(rt: HostRuntime) {
+    let alloc = rt.alloc();
     for (data, tag) in ALL_SKIPPED {
-        assert_tag(&rt, rt.alloc(), data, Skips::All, tag);
+        assert_tag(&rt, alloc, data, Skips::All, tag);
     }
 }
 
@@ -81,36 +82,32 @@ const OF_OTHER_FORMS: [(&[u8], Skips, Tag<'static>); 2] = [
 
 #[test]
 fn takes_handlers_of_other_forms(rt: HostRuntime) {
+    let alloc = rt.alloc();
     for (data, skips, tag) in OF_OTHER_FORMS {
-        assert_tag(&rt, rt.alloc(), data, skips, tag);
+        assert_tag(&rt, alloc, data, skips, tag);
     }
 }
 
-// `<a`, then so many lines, each with its ending before it, then `>`.
-fn tag_over_lines(rt: &impl Abort, alloc: Global, lines: usize, line: &[u8]) -> Vec<u8> {
-    made(rt, long_text(alloc, b"<a", line, lines, b">"))
-}
-
-fn assert_kept(rt: &impl Abort, alloc: Global, data: &[u8], kept: &[u8]) {
-    assert_tag(rt, alloc, data, Skips::Quote, Some((kept, data.len())));
-}
-
-// How many lines a tag has, each of them, and what is kept of it. The first is a text of 900 bytes.
+// How many lines stand between `<a` and `>`, each of them with the ending before it, and what is
+// kept of each. The first is a text of 900 bytes.
 const OVER_LINES: [(usize, &[u8], &[u8]); 2] = [(299, b"\n> ab", b"\nab"), (5000, b"\n> ", b"\n")];
 
 #[test]
 fn reads_tags_over_many_lines(rt: HostRuntime) {
     let alloc = rt.alloc();
     for (lines, line, kept) in OVER_LINES {
-        let kept = tag_over_lines(&rt, alloc, lines, kept);
-        assert_kept(&rt, alloc, &tag_over_lines(&rt, alloc, lines, line), &kept);
+        let data = made(&rt, long_text(alloc, b"<a", line, lines, b">"));
+        let kept = made(&rt, long_text(alloc, b"<a", kept, lines, b">"));
+        let tag = Some((kept.as_slice(), data.len()));
+        assert_tag(&rt, alloc, &data, Skips::Quote, tag);
     }
 }
 
 #[test]
 fn ends_at_the_end_of_unclosed_tags(rt: HostRuntime) {
-    let data = made(&rt, long_text(rt.alloc(), b"<a", b"\n> b", 5000, b""));
+    let alloc = rt.alloc();
+    let data = made(&rt, long_text(alloc, b"<a", b"\n> b", 5000, b""));
     for skips in [Skips::Quote, Skips::All] {
-        assert_tag(&rt, rt.alloc(), &data, skips, None);
+        assert_tag(&rt, alloc, &data, skips, None);
     }
 }

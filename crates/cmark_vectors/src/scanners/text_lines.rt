@@ -1,20 +1,16 @@
 //! The lines of a text, one after the other.
 use crate::asserts::assert_answer;
-use markdown_scanners_tree::scanners::{TextLines, scan_line, scan_lines};
+use markdown_scanners_tree::scanners::{scan_line, scan_lines};
 use std::process::Abort;
-
-fn assert_next(rt: &impl Abort, lines: &mut TextLines<'_>, line: Option<&[u8]>) {
-    assert_answer(rt, &"the next line", lines.next(), line);
-}
 
 // The lines of the text are these, and none follows, whenever it is asked.
 fn assert_lines(rt: &impl Abort, text: &[u8], wanted: &[&[u8]]) {
     let mut lines = scan_lines(text);
     for line in wanted {
-        assert_next(rt, &mut lines, Some(*line));
+        assert_answer(rt, line, lines.next(), Some(*line));
     }
     for _ in 0..2 {
-        assert_next(rt, &mut lines, None);
+        assert_answer(rt, &text, lines.next(), None);
     }
 }
 
