@@ -1,7 +1,10 @@
 //! Worked rows and hostile texts, run through the calls on line starts, inline HTML and link labels
-//! of `markdown_scanners_tree`; and its derives, by their bounds.
+//! of `markdown_scanners_tree`; its derives, by their bounds; and what the cases of `cmark_replay`
+//! don't say of its scanners.
 #![tactic(auto)]
 
+#[cfg(test)]
+mod asserts;
 #[cfg(test)]
 mod bounds;
 #[cfg(test)]
@@ -12,3 +15,7 @@ mod inline_html;
 mod line;
 #[cfg(test)]
 mod linklabel;
+#[cfg(test)]
+mod scanners;
+#[cfg(test)]
+mod texts;

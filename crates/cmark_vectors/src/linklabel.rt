@@ -3,12 +3,12 @@ ghost use Rattle.std.specs.Prelude.{◌≡◌, ◌↔◌, ◌≤◌, ◌<◌, �
 ghost use Rattle.markdown_scanners_tree.specs.linklabel.Key.{label_key};
 ghost use Rattle.cmark_vectors.specs.Markers.{skipped};
 
+use crate::asserts::{assert_answer, made};
 use crate::bounds::{are_equal, hash_of};
 use markdown_scanners_tree::linklabel::{FootnoteLabel, LinkLabel, scan_link_label_rest};
 use markdown_values::strings::CowStr;
 use std::alloc::{AllocError, Global};
 use std::process::Abort;
-use std::test::Fail;
 
 // Labels are equal exactly where their keys are.
 fn have_equal_keys(a: &LinkLabel, b: &LinkLabel) -> bool
@@ -17,88 +17,62 @@ fn have_equal_keys(a: &LinkLabel, b: &LinkLabel) -> bool
     *a == *b
 }
 
-fn link_label(alloc: Global, text: &'static str) -> Result<LinkLabel<'static>, AllocError> {
-    LinkLabel::new(alloc, CowStr::from(text))
+fn link_label(rt: &impl Abort, alloc: Global, text: &'static str) -> LinkLabel<'static> {
+    made(rt, LinkLabel::new(alloc, CowStr::from(text)))
 }
 
 // Two labels match, whatever is asked, and the first lends its text.
-fn expect_match(
-    rt: &impl Abort,
-    alloc: Global,
-    one: &'static str,
-    other: &'static str,
-) -> Result<(), Fail> {
-    let a = link_label(alloc, one)?;
-    let b = link_label(alloc, other)?;
-    assert!(rt;
-        are_equal(&a, &b) && have_equal_keys(&a, &b),
-        "of {one} and {other}"
-    );
-    assert!(rt;
-        hash_of(&a) == hash_of(&b) && a.as_str() == one,
-        "of {one} and {other}"
-    );
-    Ok(())
+fn assert_match(rt: &impl Abort, alloc: Global, one: &'static str, other: &'static str) {
+    let a = link_label(rt, alloc, one);
+    let b = link_label(rt, alloc, other);
+    let are_matched = are_equal(&a, &b) && have_equal_keys(&a, &b) && hash_of(&a) == hash_of(&b);
+    assert_answer(rt, &one, are_matched && a.as_str() == one, true);
+}
+
+fn are_different(rt: &impl Abort, alloc: Global, one: &'static str, other: &'static str) -> bool {
+    !are_equal(&link_label(rt, alloc, one), &link_label(rt, alloc, other))
 }
 
 #[test]
-fn labels_match_without_regard_to_case(rt: HostRuntime) -> Result<(), Fail> {
-    expect_match(&rt, rt.alloc(), "Straße", "STRASSE")?;
-    expect_match(&rt, rt.alloc(), "a", "A")?;
-    let a = link_label(rt.alloc(), "a")?;
-    let b = link_label(rt.alloc(), "b")?;
-    assert!(rt; !are_equal(&a, &b));
-    Ok(())
-}
-
-fn assert_one_hash(
-    rt: &impl Abort,
-    alloc: Global,
-    one: &'static str,
-    other: &'static str,
-) -> Result<(), Fail> {
-    let a = link_label(alloc, one)?;
-    let b = link_label(alloc, other)?;
-    assert!(rt; hash_of(&a) == hash_of(&b), "of {one} and {other}");
-    Ok(())
+fn labels_match_without_regard_to_case(rt: HostRuntime) {
+    assert_match(&rt, rt.alloc(), "Straße", "STRASSE");
+    assert_match(&rt, rt.alloc(), "a", "A");
+    assert!(rt; are_different(&rt, rt.alloc(), "a", "b"));
 }
 
 // Of sixteen bytes, of one more, of two blocks, and of more than two.
 #[test]
-fn long_labels_have_one_hash(rt: HostRuntime) -> Result<(), Fail> {
+fn long_labels_have_one_hash(rt: HostRuntime) {
     let alloc = rt.alloc();
-    assert_one_hash(&rt, alloc, "ſixteen letters!", "SIXTEEN LETTERS!")?;
-    assert_one_hash(&rt, alloc, "ſeventeen letters", "Seventeen Letters")?;
-    assert_one_hash(
+    assert_match(&rt, alloc, "ſixteen letters!", "SIXTEEN LETTERS!");
+    assert_match(&rt, alloc, "ſeventeen letters", "Seventeen Letters");
+    assert_match(
         &rt,
         alloc,
         "thirty-two bytes make two blockſ",
         "Thirty-Two Bytes Make Two Blocks",
-    )?;
-    assert_one_hash(
+    );
+    assert_match(
         &rt,
         alloc,
         "ſtraight into the third block of it",
         "STRAIGHT into the third BLOCK of it",
-    )
+    );
+}
+
+fn matches_link(note: &FootnoteLabel<'_>, label: &LinkLabel<'_>) -> bool {
+    *note == *label
 }
 
 #[test]
-fn footnotes_match_as_links_do(rt: HostRuntime) -> Result<(), Fail> {
-    let note: FootnoteLabel = LinkLabel::new(rt.alloc(), CowStr::from("Note"))?;
-    let same = link_label(rt.alloc(), "nOTE")?;
-    assert!(rt; note == same);
-    Ok(())
+fn footnotes_match_as_links_do(rt: HostRuntime) {
+    let note = link_label(&rt, rt.alloc(), "Note");
+    let label = link_label(&rt, rt.alloc(), "nOTE");
+    assert!(rt; matches_link(&note, &label));
 }
 
-// The bytes taken, whether the text is borrowed, and the text.
-type Answer<'t> = Option<(usize, bool, CowStr<'t>)>;
-
-fn with_variant(found: Option<(usize, CowStr<'_>)>) -> Answer<'_> {
-    let (taken, label) = found?;
-    let borrowed = matches!(label, CowStr::Borrowed(_));
-    Some((taken, borrowed, label))
-}
+// A label that a scan answers: the bytes taken, and the text.
+type Answer<'t> = Option<(usize, CowStr<'t>)>;
 
 // How many bytes of a marker stand at the front.
 fn skipped_of(marker: &[u8], rest: &[u8]) -> usize
@@ -123,80 +97,100 @@ fn scan_after_markers<'t>(
     is_in_table: bool,
 ) -> Result<Answer<'t>, AllocError> {
     let handler = |rest: &[u8]| -> Option<usize> { Some(skipped_of(marker, rest)) };
-    let found = scan_link_label_rest(alloc, text, &handler, is_in_table)?;
-    Ok(with_variant(found))
+    scan_link_label_rest(alloc, text, &handler, is_in_table)
 }
 
 // Reads a label in a container that ends with its first line.
-fn scan_in_one_line<'t>(
-    alloc: Global,
-    text: &'t str,
-    is_in_table: bool,
-) -> Result<Answer<'t>, AllocError> {
+fn scan_in_one_line(alloc: Global, text: &str) -> Result<Answer<'_>, AllocError> {
     let handler = |_rest: &[u8]| -> Option<usize> { None };
-    let found = scan_link_label_rest(alloc, text, &handler, is_in_table)?;
-    Ok(with_variant(found))
+    scan_link_label_rest(alloc, text, &handler, false)
 }
 
 // Reads a label whose handler skips all that follows a line ending.
 fn scan_skipping_all(alloc: Global, text: &str) -> Result<Answer<'_>, AllocError> {
     let handler = |rest: &[u8]| -> Option<usize> { Some(rest.len()) };
-    let found = scan_link_label_rest(alloc, text, &handler, false)?;
-    Ok(with_variant(found))
+    scan_link_label_rest(alloc, text, &handler, false)
 }
 
 #[test]
-fn no_label_ends_where_all_that_follows_is_skipped(rt: HostRuntime) -> Result<(), Fail> {
-    assert!(rt; scan_skipping_all(rt.alloc(), "a\n]")?.is_none());
-    Ok(())
+fn no_label_ends_where_all_that_follows_is_skipped(rt: HostRuntime) {
+    let found = made(&rt, scan_skipping_all(rt.alloc(), "a\n]"));
+    assert!(rt; found.is_none());
+}
+
+fn is_label(found: &Answer<'_>, taken: usize, text: &str) -> bool {
+    match found {
+        Some((length, label)) => *length == taken && label.as_str() == text,
+        None => false,
+    }
+}
+
+fn is_borrowed(found: &Answer<'_>) -> bool {
+    matches!(found, Some((_, CowStr::Borrowed(_))))
 }
 
 // A backslash that a handler skips escapes nothing.
 #[test]
-fn skipped_backslashes_escape_nothing(rt: HostRuntime) -> Result<(), Fail> {
-    let Some((taken, _, label)) = scan_after_markers(rt.alloc(), "a\n\\|b]", b"\\", true)? else {
-        return Err(Fail::from("no label"));
-    };
-    assert!(rt; taken == 6 && label.as_str() == "a |b");
-    Ok(())
+fn skipped_backslashes_escape_nothing(rt: HostRuntime) {
+    let found = made(&rt, scan_after_markers(rt.alloc(), "a\n\\|b]", b"\\", true));
+    assert!(rt; is_label(&found, 6, "a |b"));
+}
+
+fn escaped_brackets(alloc: Global) -> Result<String, AllocError> {
+    let mut text = "\\[\n".repeat(alloc, 1_000_000)?;
+    text.push_str("]")?;
+    Ok(text)
+}
+
+// No label stands behind the bracket of this line.
+fn assert_no_label(rt: &impl Abort, alloc: Global, rest: Option<&str>, line: usize) {
+    let rest = rest.expect(rt, "a line");
+    let label = made(rt, scan_after_markers(alloc, rest, b"", false));
+    assert!(rt; label.is_none(), "of line {line}");
 }
 
 // A label is looked for behind brackets of a long text, which a backslash escapes. Were the text
 // read to its end from each, this test would read some 10^10 bytes, and ask its handler 5 * 10^9
 // times.
 #[test]
-fn reads_labels_up_to_their_thousandth_character(rt: HostRuntime) -> Result<(), Fail> {
-    let mut text = "\\[\n".repeat(rt.alloc(), 1_000_000)?;
-    text.push(']')?;
+fn reads_labels_up_to_their_thousandth_character(rt: HostRuntime) {
+    let alloc = rt.alloc();
+    let text = made(&rt, escaped_brackets(alloc));
     for line in 0..5_000 {
-        let Some(rest) = text.as_str().get(3 * line + 2..) else {
-            return Err(Fail::from("no line"));
-        };
-        let label = scan_after_markers(rt.alloc(), rest, b"", false)?;
-        assert!(rt; label.is_none(), "of line {line}");
+        let rest = text.as_str().get(3 * line + 2..);
+        assert_no_label(&rt, alloc, rest, line);
     }
-    Ok(())
+}
+
+// The text with a bracket behind it.
+fn with_bracket(alloc: Global, label: &str) -> Result<String, AllocError> {
+    let mut text = String::from_str(alloc, label)?;
+    text.push_str("]")?;
+    Ok(text)
 }
 
 // What is answered, with a bracket behind it, is the label of itself.
-fn assert_read_back(rt: &impl Abort, alloc: Global, text: &str, marker: &[u8]) -> Result<(), Fail> {
-    let Some((_, _, label)) = scan_after_markers(alloc, text, marker, false)? else {
-        return Err(Fail::from("no label"));
-    };
-    let mut closed = String::from_str(alloc, label.as_str())?;
-    closed.push(']')?;
-    let Some((taken, borrowed, same)) = scan_in_one_line(alloc, closed.as_str(), false)? else {
-        return Err(Fail::from("no label again"));
-    };
-    assert!(rt; taken == closed.len() && borrowed, "on {text:?}");
-    assert!(rt; same.as_str() == label.as_str(), "on {text:?}");
-    Ok(())
+fn assert_read_back(rt: &impl Abort, alloc: Global, text: &str, marker: &[u8]) {
+    let found = made(rt, scan_after_markers(alloc, text, marker, false));
+    let (_, label) = found.expect(rt, "a label");
+    let closed = made(rt, with_bracket(alloc, label.as_str()));
+    let again = made(rt, scan_in_one_line(alloc, closed.as_str()));
+    assert_answer(rt, &text, is_borrowed(&again), true);
+    let is_same = is_label(&again, closed.len(), label.as_str());
+    assert_answer(rt, &text, is_same, true);
 }
 
+const READ_BACK: [(&str, &[u8]); 4] = [
+    ("«\t\tBlurry Eyes\t\t»]", b""),
+    ("hello\r\nworld\r\n]", b""),
+    ("a\n> b]", b"> "),
+    ("a\\[b]", b""),
+];
+
 #[test]
-fn labels_read_back(rt: HostRuntime) -> Result<(), Fail> {
-    assert_read_back(&rt, rt.alloc(), "«\t\tBlurry Eyes\t\t»]", b"")?;
-    assert_read_back(&rt, rt.alloc(), "hello\r\nworld\r\n]", b"")?;
-    assert_read_back(&rt, rt.alloc(), "a\n> b]", b"> ")?;
-    assert_read_back(&rt, rt.alloc(), "a\\[b]", b"")
+fn labels_read_back(rt: HostRuntime) {
+    let alloc = rt.alloc();
+    for (text, marker) in READ_BACK {
+        assert_read_back(&rt, alloc, text, marker);
+    }
 }

@@ -1,0 +1,38 @@
+//! Where HTML blocks begin and end, in long lines.
+use crate::asserts::{assert_answer, made};
+use crate::texts::long_text;
+use markdown_scanners_tree::scanners::{HtmlBlockKind, ends_html_block, scan_html_block_start};
+use std::process::Abort;
+
+// The kind of a block that begins with this name, and whether the name ends a declaration.
+fn assert_name(rt: &impl Abort, name: &[u8], kind: Option<HtmlBlockKind>, ends: bool) {
+    assert_answer(rt, &name.len(), scan_html_block_start(name), kind);
+    assert_end(rt, name, HtmlBlockKind::Declaration, ends);
+}
+
+fn assert_end(rt: &impl Abort, line: &[u8], kind: HtmlBlockKind, ends: bool) {
+    assert_answer(rt, &line.len(), ends_html_block(line, kind), ends);
+}
+
+const NAMES: [(&[u8], Option<HtmlBlockKind>, bool); 2] = [
+    (b"", None, false),
+    (b">", Some(HtmlBlockKind::TagAlone), true),
+];
+
+#[test]
+fn reads_long_names(rt: HostRuntime) {
+    let alloc = rt.alloc();
+    for (last, kind, ends) in NAMES {
+        let name = long_text(alloc, b"<", b"a", 99_999, last);
+        assert_name(&rt, &made(&rt, name), kind, ends);
+    }
+}
+
+#[test]
+fn reads_long_runs_of_hyphens(rt: HostRuntime) {
+    let alloc = rt.alloc();
+    for (last, ends) in [(b"".as_slice(), false), (b">", true)] {
+        let line = long_text(alloc, b"", b"-", 100_000, last);
+        assert_end(&rt, &made(&rt, line), HtmlBlockKind::Comment, ends);
+    }
+}
