@@ -9,7 +9,7 @@ use crate::texts::{self, TextCase};
 use crate::trees::{self, TreeCase};
 use crate::{inline_html, labels, lines, unescaping};
 use std::alloc::Global;
-use std::io::Write;
+use std::io::{Stdout, Write};
 
 #[derive(Clone, Copy)]
 enum ScanCase {
@@ -152,7 +152,7 @@ const CASES: &[(&str, Case)] = &[
 /// Makes the cases of these names in turn, or with no name all of them, and answers the status: 0,
 /// or 2 at a name that no case has, or 3 where memory is refused to what a case is made of or a
 /// write fails.
-pub(crate) fn run_cases<W: Write>(alloc: Global, names: &[String], output: &mut W) -> u8
+pub(crate) fn run_cases(alloc: Global, names: &[String], output: Stdout) -> u8
     ensures { result ≤ 3 }
 {
     let outcome = if names.is_empty() {
@@ -167,14 +167,14 @@ pub(crate) fn run_cases<W: Write>(alloc: Global, names: &[String], output: &mut 
     }
 }
 
-fn run_all<W: Write>(alloc: Global, output: &mut W) -> Result<(), Stop> {
+fn run_all(alloc: Global, output: Stdout) -> Result<(), Stop> {
     for (name, case) in CASES {
         run_case(alloc, output, name, *case)?;
     }
     Ok(())
 }
 
-fn run_named<W: Write>(alloc: Global, names: &[String], output: &mut W) -> Result<(), Stop> {
+fn run_named(alloc: Global, names: &[String], output: Stdout) -> Result<(), Stop> {
     for name in names {
         match case_named(name.as_str()) {
             Some(case) => run_case(alloc, output, name.as_str(), case)?,
@@ -193,7 +193,7 @@ fn case_named(name: &str) -> Option<Case> {
     None
 }
 
-fn run_case<W: Write>(alloc: Global, output: &mut W, name: &str, case: Case) -> Result<(), Stop> {
+fn run_case(alloc: Global, mut output: Stdout, name: &str, case: Case) -> Result<(), Stop> {
     writeln!(output, "case {name}")?;
     match case {
         Case::Text(case) => texts::run(alloc, output, case),
@@ -205,7 +205,7 @@ fn run_case<W: Write>(alloc: Global, output: &mut W, name: &str, case: Case) -> 
     }
 }
 
-fn run_scan<W: Write>(alloc: Global, output: &mut W, case: ScanCase) -> Result<(), Stop> {
+fn run_scan(alloc: Global, output: Stdout, case: ScanCase) -> Result<(), Stop> {
     match case {
         ScanCase::RunLine => lines::run(alloc, output),
         ScanCase::TableHead => lines::table_head(alloc, output),

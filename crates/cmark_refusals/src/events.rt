@@ -6,7 +6,7 @@ use crate::texts::{Held, Holding, OF_30};
 use markdown_values::strings::CowStr;
 use markdown_values::values::Event;
 use std::alloc::{AllocError, Global};
-use std::io::Write;
+use std::io::Stdout;
 
 #[derive(Clone, Copy)]
 pub(crate) enum EventCase {
@@ -16,7 +16,7 @@ pub(crate) enum EventCase {
     StartIntoStatic,
 }
 
-pub(crate) fn run<W: Write>(alloc: Global, output: &mut W, case: EventCase) -> Result<(), Stop> {
+pub(crate) fn run(alloc: Global, output: Stdout, case: EventCase) -> Result<(), Stop> {
     match case {
         EventCase::Clone => clone_all(alloc, output),
         EventCase::IntoStatic => all_into_static(alloc, output),
@@ -32,13 +32,13 @@ pub(crate) fn run<W: Write>(alloc: Global, output: &mut W, case: EventCase) -> R
     }
 }
 
-fn into_static<W: Write>(
+fn into_static(
     alloc: Global,
-    output: &mut W,
+    output: Stdout,
     first: Result<Event<'static>, AllocError>,
     second: Result<Event<'static>, AllocError>,
 ) -> Result<(), Stop> {
-    tell_consuming::<W, Event<'static>, Event<'static>>(alloc, output, OF_30, first, second)
+    tell_consuming::<Event<'static>, Event<'static>>(alloc, output, OF_30, first, second)
 }
 
 impl Copied for Event<'static> {
@@ -88,14 +88,11 @@ fn event_of(kind: Kind, text: CowStr<'static>) -> Event<'static> {
 }
 
 fn event(alloc: Global, kind: Kind, holding: Holding) -> Result<Event<'static>, AllocError> {
-    match CowStr::held(alloc, holding) {
-        Ok(text) => Ok(event_of(kind, text)),
-        Err(error) => Err(error),
-    }
+    Ok(event_of(kind, CowStr::held(alloc, holding)?))
 }
 
 // Each event of one owned text is copied.
-fn clone_all<W: Write>(alloc: Global, output: &mut W) -> Result<(), Stop> {
+fn clone_all(alloc: Global, output: Stdout) -> Result<(), Stop> {
     for kind in KINDS {
         tell_copy(alloc, output, event(alloc, kind, Holding::Owned))?;
     }
@@ -103,7 +100,7 @@ fn clone_all<W: Write>(alloc: Global, output: &mut W) -> Result<(), Stop> {
 }
 
 // Each event of one borrowed text comes to own it.
-fn all_into_static<W: Write>(alloc: Global, output: &mut W) -> Result<(), Stop> {
+fn all_into_static(alloc: Global, output: Stdout) -> Result<(), Stop> {
     for kind in KINDS {
         into_static(
             alloc,
@@ -116,5 +113,5 @@ fn all_into_static<W: Write>(alloc: Global, output: &mut W) -> Result<(), Stop> 
 }
 
 fn start(alloc: Global, holding: Holding) -> Result<Event<'static>, AllocError> {
-    tag(alloc, TagKind::Heading, holding).map(Event::Start)
+    Ok(Event::Start(tag(alloc, TagKind::Heading, holding)?))
 }

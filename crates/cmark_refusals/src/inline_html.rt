@@ -1,11 +1,11 @@
 //! Tags over lines, and runs of scans of inline HTML.
 use crate::stop::Stop;
-use crate::telling::tell_call;
-use markdown_scanners_tree::inline_html::run_inline_html;
+use crate::telling::{MadeOf, tell_reading};
+use markdown_scanners_tree::inline_html::{HtmlRun, run_inline_html};
 use markdown_scanners_tree::scanners::scan_html_block_inner;
 use std::alloc::{AllocError, Global};
 use std::fmt;
-use std::io::Write;
+use std::io::Stdout;
 use std::str::from_utf8;
 
 /// The text of a tag and its length.
@@ -24,25 +24,38 @@ impl fmt::Debug for Found {
     }
 }
 
-/// The tag over the lines of a block quote.
-pub(crate) fn scan_tag(alloc: Global, data: &[u8]) -> Result<Found, AllocError> {
+/// What a tag stands in. In nothing, it ends in its line.
+#[derive(Clone, Copy)]
+pub(crate) enum Around {
+    Quote,
+    Nothing,
+}
+
+/// The tag, over the lines of what it stands in.
+pub(crate) fn scan_tag(alloc: Global, around: Around, data: &[u8]) -> Result<Found, AllocError> {
     let handler = |rest: &[u8]| -> usize { if rest.starts_with(b"> ") { 2 } else { 0 } };
-    scan_html_block_inner(alloc, data, Some(&handler)).map(Found)
+    let handler = match around {
+        Around::Quote => Some(&handler),
+        Around::Nothing => None,
+    };
+    Ok(Found(scan_html_block_inner(alloc, data, handler)?))
+}
+
+impl MadeOf<&[u8]> for Found {
+    fn made_of(alloc: Global, value: &[u8]) -> Result<Found, AllocError> {
+        scan_tag(alloc, Around::Quote, value)
+    }
 }
 
 /// A tag over two lines.
-pub(crate) fn tag<W: Write>(alloc: Global, output: &mut W) -> Result<(), Stop> {
-    tell_tag(alloc, output, "<foo bar>", b"<foo\n> bar>")
-}
-
-fn tell_tag<W: Write>(alloc: Global, output: &mut W, state: &str, data: &[u8]) -> Result<(), Stop> {
-    tell_call(output, &state, &|| scan_tag(alloc, data))
+pub(crate) fn tag(alloc: Global, output: Stdout) -> Result<(), Stop> {
+    tell_reading::<&[u8], Found>(alloc, output, "<foo bar>", b"<foo\n> bar>")
 }
 
 /// A tag whose text has 900 bytes.
-pub(crate) fn tag_of_900_bytes<W: Write>(alloc: Global, output: &mut W) -> Result<(), Stop> {
+pub(crate) fn tag_of_900_bytes(alloc: Global, output: Stdout) -> Result<(), Stop> {
     let data = attributes(alloc)?;
-    tell_tag(alloc, output, "448 attributes", data.as_bytes())
+    tell_reading::<&[u8], Found>(alloc, output, "448 attributes", data.as_bytes())
 }
 
 fn attributes(alloc: Global) -> Result<String, AllocError> {
@@ -52,12 +65,15 @@ fn attributes(alloc: Global) -> Result<String, AllocError> {
 
 const TEXT: &str = "<!-- <!x> <!-- <![CDATA[ ]]>";
 
+const PLACES: [usize; 5] = [2, 7, 12, 17, 18];
+
+impl MadeOf<&[usize]> for HtmlRun {
+    fn made_of(alloc: Global, value: &[usize]) -> Result<HtmlRun, AllocError> {
+        run_inline_html(alloc, TEXT.as_bytes(), value)
+    }
+}
+
 /// Places up to one that is refused.
-pub(crate) fn run<W: Write>(alloc: Global, output: &mut W) -> Result<(), Stop> {
-    let places = [2, 7, 12, 17, 18];
-    tell_call(
-        output,
-        &TEXT,
-        &|| run_inline_html(alloc, TEXT.as_bytes(), &places),
-    )
+pub(crate) fn run(alloc: Global, output: Stdout) -> Result<(), Stop> {
+    tell_reading::<&[usize], HtmlRun>(alloc, output, TEXT, &PLACES)
 }

@@ -1,38 +1,39 @@
 //! Link labels.
 use crate::no_memory::texts::hash_of;
 use crate::stop::Stop;
-use crate::telling::{MadeOf, tell, tell_call, tell_consuming, tell_ready};
+use crate::telling::{MadeOf, tell, tell_consuming, tell_reading, tell_ready};
 use crate::texts::boxed;
 use markdown_scanners_tree::linklabel::{LinkLabel, scan_link_label_rest};
 use markdown_values::strings::CowStr;
 use std::alloc::{AllocError, Global};
 use std::fmt;
-use std::io::Write;
+use std::io::Stdout;
+
+/// The length of a label and its text.
+pub(crate) type Label<'a> = Option<(usize, CowStr<'a>)>;
 
 /// A label after its opening bracket, in which nothing is skipped.
-pub(crate) fn label(alloc: Global, text: &str) -> Result<Option<(usize, CowStr<'_>)>, AllocError> {
+pub(crate) fn label(alloc: Global, text: &str) -> Result<Label<'_>, AllocError> {
     let handler = |_: &[u8]| -> Option<usize> { Some(0) };
     scan_link_label_rest(alloc, text, &handler, false)
 }
 
-/// A label that doesn't stand in its text as it is.
-pub(crate) fn short<W: Write>(alloc: Global, output: &mut W) -> Result<(), Stop> {
-    tell_label(alloc, output, "hello world", "hello\r\nworld\r\n]")
+impl<'a> MadeOf<&'a str> for Option<(usize, CowStr<'a>)> {
+    fn made_of(alloc: Global, value: &'a str) -> Result<Label<'a>, AllocError> {
+        label(alloc, value)
+    }
 }
 
-fn tell_label<W: Write>(
-    alloc: Global,
-    output: &mut W,
-    state: &str,
-    text: &str,
-) -> Result<(), Stop> {
-    tell_call(output, &state, &|| label(alloc, text))
+/// A label that doesn't stand in its text as it is.
+pub(crate) fn short(alloc: Global, output: Stdout) -> Result<(), Stop> {
+    let text = "hello\r\nworld\r\n]";
+    tell_reading::<&str, Label<'_>>(alloc, output, "hello world", text)
 }
 
 /// A label of 900 bytes.
-pub(crate) fn of_900_bytes<W: Write>(alloc: Global, output: &mut W) -> Result<(), Stop> {
+pub(crate) fn of_900_bytes(alloc: Global, output: Stdout) -> Result<(), Stop> {
     let text = two_words(alloc)?;
-    tell_label(alloc, output, "two words", text.as_str())
+    tell_reading::<&str, Label<'_>>(alloc, output, "two words", text.as_str())
 }
 
 // Words of 450 and 449 bytes, with two spaces between them.
@@ -57,27 +58,23 @@ impl fmt::Debug for NewLabel<'_> {
 
 impl MadeOf<CowStr<'static>> for NewLabel<'static> {
     fn made_of(alloc: Global, value: CowStr<'static>) -> Result<NewLabel<'static>, AllocError> {
-        LinkLabel::new(alloc, value).map(NewLabel)
+        Ok(NewLabel(LinkLabel::new(alloc, value)?))
     }
 }
 
 /// The label of an owned text, which takes no memory of its own.
-pub(crate) fn new<W: Write>(alloc: Global, output: &mut W) -> Result<(), Stop> {
+pub(crate) fn new(alloc: Global, output: Stdout) -> Result<(), Stop> {
     let (first, second) = (boxed(alloc, STREET), boxed(alloc, STREET));
-    tell_consuming::<W, CowStr<'static>, NewLabel<'static>>(alloc, output, STREET, first, second)
+    tell_consuming::<CowStr<'static>, NewLabel<'static>>(alloc, output, STREET, first, second)
 }
 
 /// Labels are read and compared without memory.
-pub(crate) fn compared<W: Write>(alloc: Global, output: &mut W) -> Result<(), Stop> {
+pub(crate) fn compared(alloc: Global, output: Stdout) -> Result<(), Stop> {
     let (one, other) = two_labels(alloc)?;
     tell_compared(output, &one, &other)
 }
 
-fn tell_compared<W: Write>(
-    output: &mut W,
-    one: &LinkLabel<'_>,
-    other: &LinkLabel<'_>,
-) -> Result<(), Stop> {
+fn tell_compared(output: Stdout, one: &LinkLabel<'_>, other: &LinkLabel<'_>) -> Result<(), Stop> {
     tell_ready(output)?;
     tell(output, compared_labels(one, other))
 }

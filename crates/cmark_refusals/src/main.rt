@@ -26,5 +26,5 @@ fn main(rt: HostRuntime) -> ExitCode {
     let Ok(names) = arguments.skip(1).collect::<Vec<String>>(rt.alloc()) else {
         return ExitCode::from(3);
     };
-    ExitCode::from(run_cases(rt.alloc(), &names, &mut rt.stdout()))
+    ExitCode::from(run_cases(rt.alloc(), &names, rt.stdout()))
 }

@@ -12,7 +12,7 @@ pub(crate) mod values;
 use crate::labels;
 use crate::stop::Stop;
 use std::alloc::Global;
-use std::io::Write;
+use std::io::Stdout;
 
 #[derive(Clone, Copy)]
 pub(crate) enum NoMemoryCase {
@@ -34,7 +34,7 @@ pub(crate) enum NoMemoryCase {
     TruncateSiblings,
 }
 
-pub(crate) fn run<W: Write>(alloc: Global, output: &mut W, case: NoMemoryCase) -> Result<(), Stop> {
+pub(crate) fn run(alloc: Global, output: Stdout, case: NoMemoryCase) -> Result<(), Stop> {
     match case {
         NoMemoryCase::Texts => texts::run(alloc, output),
         NoMemoryCase::CopiedShortText => texts::copied_short(alloc, output),

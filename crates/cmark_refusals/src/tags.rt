@@ -5,7 +5,7 @@ use crate::texts::{Held, Holding, OF_30};
 use markdown_values::strings::CowStr;
 use markdown_values::values::{Alignment, CodeBlockKind, HeadingLevel, LinkType, Tag};
 use std::alloc::{AllocError, Global};
-use std::io::Write;
+use std::io::Stdout;
 
 /// The tags that own memory.
 #[derive(Clone, Copy)]
@@ -26,7 +26,7 @@ pub(crate) enum TagCase {
     IntoStatic(TagKind),
 }
 
-pub(crate) fn run<W: Write>(alloc: Global, output: &mut W, case: TagCase) -> Result<(), Stop> {
+pub(crate) fn run(alloc: Global, output: Stdout, case: TagCase) -> Result<(), Stop> {
     match case {
         TagCase::KindClone => tell_copy(alloc, output, fenced(alloc, Holding::Owned)),
         TagCase::KindIntoStatic => kind_into_static(alloc, output),
@@ -35,8 +35,8 @@ pub(crate) fn run<W: Write>(alloc: Global, output: &mut W, case: TagCase) -> Res
     }
 }
 
-fn kind_into_static<W: Write>(alloc: Global, output: &mut W) -> Result<(), Stop> {
-    tell_consuming::<W, CodeBlockKind<'static>, CodeBlockKind<'static>>(
+fn kind_into_static(alloc: Global, output: Stdout) -> Result<(), Stop> {
+    tell_consuming::<CodeBlockKind<'static>, CodeBlockKind<'static>>(
         alloc,
         output,
         OF_30,
@@ -45,8 +45,8 @@ fn kind_into_static<W: Write>(alloc: Global, output: &mut W) -> Result<(), Stop>
     )
 }
 
-fn into_static<W: Write>(alloc: Global, output: &mut W, kind: TagKind) -> Result<(), Stop> {
-    tell_consuming::<W, Tag<'static>, Tag<'static>>(
+fn into_static(alloc: Global, output: Stdout, kind: TagKind) -> Result<(), Stop> {
+    tell_consuming::<Tag<'static>, Tag<'static>>(
         alloc,
         output,
         OF_30,
@@ -89,12 +89,12 @@ pub(crate) fn tag(
     holding: Holding,
 ) -> Result<Tag<'static>, AllocError> {
     match kind {
-        TagKind::Heading => heading_texts(alloc, holding).map(heading_of),
-        TagKind::CodeBlock => fenced(alloc, holding).map(Tag::CodeBlock),
-        TagKind::Footnote => CowStr::held(alloc, holding).map(Tag::FootnoteDefinition),
+        TagKind::Heading => Ok(heading_of(heading_texts(alloc, holding)?)),
+        TagKind::CodeBlock => Ok(Tag::CodeBlock(fenced(alloc, holding)?)),
+        TagKind::Footnote => Ok(Tag::FootnoteDefinition(CowStr::held(alloc, holding)?)),
         TagKind::Table => table(alloc),
-        TagKind::Link => link_texts(alloc, holding).map(link_of),
-        TagKind::Image => link_texts(alloc, holding).map(image_of),
+        TagKind::Link => Ok(link_of(link_texts(alloc, holding)?)),
+        TagKind::Image => Ok(image_of(link_texts(alloc, holding)?)),
     }
 }
 
@@ -107,7 +107,7 @@ pub(crate) fn fenced(
     alloc: Global,
     holding: Holding,
 ) -> Result<CodeBlockKind<'static>, AllocError> {
-    CowStr::held(alloc, holding).map(CodeBlockKind::Fenced)
+    Ok(CodeBlockKind::Fenced(CowStr::held(alloc, holding)?))
 }
 
 fn two<T: Drop>(alloc: Global, first: T, second: T) -> Result<Vec<T>, AllocError> {

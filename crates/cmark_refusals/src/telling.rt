@@ -3,14 +3,14 @@
 use crate::stop::Stop;
 use std::alloc::{AllocError, Global};
 use std::fmt::Debug;
-use std::io::Write;
+use std::io::{Stdout, Write};
 
 /// A value of which a call makes a copy.
 pub(crate) trait Copied {
     fn copied(&self, alloc: Global) -> Result<Self, AllocError>;
 }
 
-/// What a call makes of a value that it consumes.
+/// What a call makes of a value that it consumes, or of what it only reads.
 pub(crate) trait MadeOf<T> {
     fn made_of(alloc: Global, value: T) -> Result<Self, AllocError>;
 }
@@ -21,32 +21,32 @@ pub(crate) trait Seen<T> {
 }
 
 /// The end of what a case is made of: what comes next is the call.
-pub(crate) fn tell_ready<W: Write>(output: &mut W) -> Result<(), Stop> {
+pub(crate) fn tell_ready(mut output: Stdout) -> Result<(), Stop> {
     output.write_all(b"ready\n")?;
     Ok(())
 }
 
 // What the call may use or change, before the call.
-fn tell_before<W: Write, S: Debug>(output: &mut W, state: &S) -> Result<(), Stop> {
+fn tell_before<S: Debug>(mut output: Stdout, state: &S) -> Result<(), Stop> {
     writeln!(output, "before {state:?}")?;
     tell_ready(output)
 }
 
 // The same after it was refused.
-fn tell_refused<W: Write, S: Debug>(output: &mut W, state: &S) -> Result<(), Stop> {
+fn tell_refused<S: Debug>(mut output: Stdout, state: &S) -> Result<(), Stop> {
     writeln!(output, "refused {state:?}")?;
     Ok(())
 }
 
 /// An answer, which is then dropped.
-pub(crate) fn tell<W: Write, T: Debug + Drop>(output: &mut W, answer: T) -> Result<(), Stop> {
+pub(crate) fn tell<T: Debug + Drop>(mut output: Stdout, answer: T) -> Result<(), Stop> {
     writeln!(output, "{answer:?}")?;
     Ok(())
 }
 
 /// Two answers, each on its line.
-pub(crate) fn tell_two<W: Write, T: Debug + Drop, U: Debug + Drop>(
-    output: &mut W,
+pub(crate) fn tell_two<T: Debug + Drop, U: Debug + Drop>(
+    output: Stdout,
     first: T,
     second: U,
 ) -> Result<(), Stop> {
@@ -55,8 +55,8 @@ pub(crate) fn tell_two<W: Write, T: Debug + Drop, U: Debug + Drop>(
 }
 
 /// Three answers, each on its line.
-pub(crate) fn tell_three<W: Write, T: Debug + Drop, U: Debug + Drop, V: Debug + Drop>(
-    output: &mut W,
+pub(crate) fn tell_three<T: Debug + Drop, U: Debug + Drop, V: Debug + Drop>(
+    output: Stdout,
     first: T,
     second: U,
     third: V,
@@ -66,16 +66,16 @@ pub(crate) fn tell_three<W: Write, T: Debug + Drop, U: Debug + Drop, V: Debug + 
 }
 
 /// An answer that may be refused.
-pub(crate) fn tell_made<W: Write, T: Debug + Drop>(
-    output: &mut W,
+pub(crate) fn tell_made<T: Debug + Drop>(
+    output: Stdout,
     made: Result<T, AllocError>,
 ) -> Result<(), Stop> {
     tell(output, made?)
 }
 
 /// Two such answers, each on its line.
-pub(crate) fn tell_made_two<W: Write, T: Debug + Drop, U: Debug + Drop>(
-    output: &mut W,
+pub(crate) fn tell_made_two<T: Debug + Drop, U: Debug + Drop>(
+    output: Stdout,
     first: Result<T, AllocError>,
     second: Result<U, AllocError>,
 ) -> Result<(), Stop> {
@@ -84,8 +84,8 @@ pub(crate) fn tell_made_two<W: Write, T: Debug + Drop, U: Debug + Drop>(
 }
 
 /// What is seen of a value; the value itself is dropped.
-pub(crate) fn tell_seen<W: Write, T: Seen<U> + Drop, U: Debug + Drop>(
-    output: &mut W,
+pub(crate) fn tell_seen<T: Seen<U> + Drop, U: Debug + Drop>(
+    output: Stdout,
     made: Result<T, AllocError>,
 ) -> Result<(), Stop> {
     let value = made?;
@@ -102,9 +102,9 @@ pub(crate) fn copy_of<T: Copied + Drop>(
 }
 
 /// Tells that the value is ready, and then what a call that consumes it answers.
-pub(crate) fn tell_ready_consuming<W: Write, T: Drop, U: MadeOf<T> + Debug + Drop>(
+pub(crate) fn tell_ready_consuming<T: Drop, U: MadeOf<T> + Debug + Drop>(
     alloc: Global,
-    output: &mut W,
+    output: Stdout,
     made: Result<T, AllocError>,
 ) -> Result<(), Stop> {
     let value = made?;
@@ -112,37 +112,19 @@ pub(crate) fn tell_ready_consuming<W: Write, T: Drop, U: MadeOf<T> + Debug + Dro
     tell_made(output, U::made_of(alloc, value))
 }
 
-/// Makes the call, and where it is refused makes it again.
-pub(crate) fn tell_call<W: Write, S: Debug, T: Debug + Drop, F: Fn() -> Result<T, AllocError>>(
-    output: &mut W,
-    state: &S,
-    call: &F,
-) -> Result<(), Stop>
-    requires { F.IsAlwaysCallable call.now }
-{
-    tell_before(output, state)?;
-    match call() {
-        Ok(answer) => tell(output, answer),
-        Err(_) => {
-            tell_refused(output, state)?;
-            tell_made(output, call())
-        }
-    }
-}
-
-/// The same of the call that copies a value.
-pub(crate) fn tell_copy<W: Write, T: Copied + Debug + Drop>(
+/// Makes the call that copies a value, and where it is refused makes it again.
+pub(crate) fn tell_copy<T: Copied + Debug + Drop>(
     alloc: Global,
-    output: &mut W,
+    output: Stdout,
     made: Result<T, AllocError>,
 ) -> Result<(), Stop> {
     let value = made?;
     tell_copy_of(alloc, output, &value)
 }
 
-fn tell_copy_of<W: Write, T: Copied + Debug + Drop>(
+fn tell_copy_of<T: Copied + Debug + Drop>(
     alloc: Global,
-    output: &mut W,
+    output: Stdout,
     value: &T,
 ) -> Result<(), Stop> {
     tell_before(output, value)?;
@@ -156,9 +138,9 @@ fn tell_copy_of<W: Write, T: Copied + Debug + Drop>(
 }
 
 /// The same of a call that consumes a value: the second is there for the second call.
-pub(crate) fn tell_consuming<W: Write, T: Drop, U: MadeOf<T> + Debug + Drop>(
+pub(crate) fn tell_consuming<T: Drop, U: MadeOf<T> + Debug + Drop>(
     alloc: Global,
-    output: &mut W,
+    output: Stdout,
     state: &str,
     first: Result<T, AllocError>,
     second: Result<T, AllocError>,
@@ -169,9 +151,20 @@ pub(crate) fn tell_consuming<W: Write, T: Drop, U: MadeOf<T> + Debug + Drop>(
     tell_or_make_again(alloc, output, state, U::made_of(alloc, value), another)
 }
 
-fn tell_or_make_again<W: Write, T: Drop, U: MadeOf<T> + Debug + Drop>(
+/// The same of a call on what it only reads.
+pub(crate) fn tell_reading<T: Copy, U: MadeOf<T> + Debug + Drop>(
     alloc: Global,
-    output: &mut W,
+    output: Stdout,
+    state: &str,
+    given: T,
+) -> Result<(), Stop> {
+    tell_before(output, &state)?;
+    tell_or_make_again(alloc, output, state, U::made_of(alloc, given), given)
+}
+
+fn tell_or_make_again<T: Drop, U: MadeOf<T> + Debug + Drop>(
+    alloc: Global,
+    output: Stdout,
     state: &str,
     made: Result<U, AllocError>,
     another: T,

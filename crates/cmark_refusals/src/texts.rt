@@ -4,7 +4,7 @@ use crate::telling::{Copied, MadeOf, tell_consuming, tell_copy};
 use markdown_values::strings::{CowStr, InlineStr};
 use std::alloc::{AllocError, Global};
 use std::fmt;
-use std::io::Write;
+use std::io::Stdout;
 
 #[derive(Clone, Copy)]
 pub(crate) enum TextCase {
@@ -96,11 +96,11 @@ impl MadeOf<CowStr<'static>> for String {
 
 impl MadeOf<CowStr<'static>> for Text<'static> {
     fn made_of(alloc: Global, value: CowStr<'static>) -> Result<Text<'static>, AllocError> {
-        value.into_static(alloc).map(Text)
+        Ok(Text(value.into_static(alloc)?))
     }
 }
 
-pub(crate) fn run<W: Write>(alloc: Global, output: &mut W, case: TextCase) -> Result<(), Stop> {
+pub(crate) fn run(alloc: Global, output: Stdout, case: TextCase) -> Result<(), Stop> {
     match case {
         TextCase::FromString => from_string(alloc, output),
         TextCase::Clone => tell_copy(alloc, output, owned(alloc)),
@@ -110,34 +110,28 @@ pub(crate) fn run<W: Write>(alloc: Global, output: &mut W, case: TextCase) -> Re
 }
 
 // An owned text keeps the memory of its `String`.
-fn from_string<W: Write>(alloc: Global, output: &mut W) -> Result<(), Stop> {
+fn from_string(alloc: Global, output: Stdout) -> Result<(), Stop> {
     let (first, second) = (string(alloc), string(alloc));
-    tell_consuming::<W, String, CowStr<'static>>(alloc, output, OF_30, first, second)
+    tell_consuming::<String, CowStr<'static>>(alloc, output, OF_30, first, second)
 }
 
 // A borrowed text and an inlined one become a `String`.
-fn into_string<W: Write>(alloc: Global, output: &mut W) -> Result<(), Stop> {
+fn into_string(alloc: Global, output: Stdout) -> Result<(), Stop> {
     tell_string(alloc, output, OF_30, Ok(lent()), Ok(lent()))?;
     tell_string(alloc, output, "藏", Ok(inlined()), Ok(inlined()))
 }
 
-fn tell_string<W: Write>(
+fn tell_string(
     alloc: Global,
-    output: &mut W,
+    output: Stdout,
     state: &str,
     first: Result<CowStr<'static>, AllocError>,
     second: Result<CowStr<'static>, AllocError>,
 ) -> Result<(), Stop> {
-    tell_consuming::<W, CowStr<'static>, String>(alloc, output, state, first, second)
+    tell_consuming::<CowStr<'static>, String>(alloc, output, state, first, second)
 }
 
 // A long borrowed text is owned.
-fn into_static<W: Write>(alloc: Global, output: &mut W) -> Result<(), Stop> {
-    tell_consuming::<W, CowStr<'static>, Text<'static>>(
-        alloc,
-        output,
-        OF_30,
-        Ok(lent()),
-        Ok(lent()),
-    )
+fn into_static(alloc: Global, output: Stdout) -> Result<(), Stop> {
+    tell_consuming::<CowStr<'static>, Text<'static>>(alloc, output, OF_30, Ok(lent()), Ok(lent()))
 }

@@ -1,38 +1,41 @@
 //! Escapes and references.
 use crate::stop::Stop;
-use crate::telling::tell_call;
+use crate::telling::{MadeOf, tell_reading};
 use crate::texts::Text;
 use markdown_scanners_tree::scanners::{EntityTable, unescape};
 use markdown_values::strings::CowStr;
 use std::alloc::{AllocError, Global};
-use std::io::Write;
+use std::io::Stdout;
 
 /// Knows `amp` alone.
 pub(crate) const AMPERSAND: EntityTable = EntityTable {
     rows: &[(b"amp", "&")],
 };
 
-fn unescaped(alloc: Global, text: &str) -> Result<Text<'_>, AllocError> {
-    unescape(alloc, CowStr::from(text), false, &AMPERSAND).map(Text)
+/// What a text means, in a table or outside of one.
+pub(crate) fn unescaped(
+    alloc: Global,
+    text: &str,
+    is_in_table: bool,
+) -> Result<Text<'_>, AllocError> {
+    let text = CowStr::from(text);
+    Ok(Text(unescape(alloc, text, is_in_table, &AMPERSAND)?))
+}
+
+impl<'a> MadeOf<&'a str> for Text<'a> {
+    fn made_of(alloc: Global, value: &'a str) -> Result<Text<'a>, AllocError> {
+        unescaped(alloc, value, false)
+    }
 }
 
 /// An escape, a reference and a line ending of two bytes.
-pub(crate) fn short<W: Write>(alloc: Global, output: &mut W) -> Result<(), Stop> {
+pub(crate) fn short(alloc: Global, output: Stdout) -> Result<(), Stop> {
     let text = "a\\*b &amp;lt; &#x1F354; &no; c\r";
-    tell_unescaped(alloc, output, "a\\*b &amp;lt; ..", text)
-}
-
-fn tell_unescaped<W: Write>(
-    alloc: Global,
-    output: &mut W,
-    state: &str,
-    text: &str,
-) -> Result<(), Stop> {
-    tell_call(output, &state, &|| unescaped(alloc, text))
+    tell_reading::<&str, Text<'_>>(alloc, output, "a\\*b &amp;lt; ..", text)
 }
 
 /// A text whose meaning has 900 bytes.
-pub(crate) fn of_900_bytes<W: Write>(alloc: Global, output: &mut W) -> Result<(), Stop> {
+pub(crate) fn of_900_bytes(alloc: Global, output: Stdout) -> Result<(), Stop> {
     let source = "&amp;".repeat(alloc, 900)?;
-    tell_unescaped(alloc, output, "900 references", source.as_str())
+    tell_reading::<&str, Text<'_>>(alloc, output, "900 references", source.as_str())
 }

@@ -6,9 +6,9 @@ use markdown_scanners_tree::inline_html::{
     scan_inline_html_comment_counted, scan_inline_html_processing,
     scan_inline_html_processing_counted,
 };
-use std::io::Write;
+use std::io::Stdout;
 
-pub(crate) fn run<W: Write>(output: &mut W) -> Result<(), Stop> {
+pub(crate) fn run(output: Stdout) -> Result<(), Stop> {
     tell_ready(output)?;
     guarded(output)?;
     counted(output)?;
@@ -16,7 +16,7 @@ pub(crate) fn run<W: Write>(output: &mut W) -> Result<(), Stop> {
     steps(output)
 }
 
-fn guarded<W: Write>(output: &mut W) -> Result<(), Stop> {
+fn guarded(output: Stdout) -> Result<(), Stop> {
     let mut guard = HtmlScanGuard::new();
     let comment = scan_inline_html_comment(b"<!--->", 2, &mut guard);
     let comment = (comment, guard.comment);
@@ -27,7 +27,7 @@ fn guarded<W: Write>(output: &mut W) -> Result<(), Stop> {
     tell_three(output, comment, cdata, processing)
 }
 
-fn counted<W: Write>(output: &mut W) -> Result<(), Stop> {
+fn counted(output: Stdout) -> Result<(), Stop> {
     let mut text = CountedText::new(b"<!a-->b");
     let opener = (text.len(), text.opener_before(2));
     tell_two(output, opener, text.look(2))?;
@@ -36,7 +36,7 @@ fn counted<W: Write>(output: &mut W) -> Result<(), Stop> {
     tell_three(output, starts, end, text.passed())
 }
 
-fn counted_scans<W: Write>(output: &mut W) -> Result<(), Stop> {
+fn counted_scans(output: Stdout) -> Result<(), Stop> {
     let mut guard = HtmlScanGuard::new();
     let mut text = CountedText::new(b"<!--<?a?>");
     let comment = scan_inline_html_comment_counted(&mut text, 2, &mut guard);
@@ -47,7 +47,7 @@ fn counted_scans<W: Write>(output: &mut W) -> Result<(), Stop> {
     tell_two(output, comment, processing)
 }
 
-fn steps<W: Write>(output: &mut W) -> Result<(), Stop> {
+fn steps(output: Stdout) -> Result<(), Stop> {
     let mut run = InlineHtmlRun::new(b"<!-- a <!-- b --> <!-- c");
     for place in [2, 9, 2, 20, 1] {
         tell(output, run.step(place))?;

@@ -2,9 +2,9 @@
 use crate::stop::Stop;
 use crate::telling::{tell, tell_ready, tell_three, tell_two};
 use markdown_scanners_tree::line::{KnownBreaks, LineCall, LineStart};
-use std::io::Write;
+use std::io::Stdout;
 
-pub(crate) fn run<W: Write>(output: &mut W) -> Result<(), Stop> {
+pub(crate) fn run(output: Stdout) -> Result<(), Stop> {
     tell_ready(output)?;
     spaces(output)?;
     markers(output)?;
@@ -18,7 +18,7 @@ fn place(start: &LineStart<'_>) -> (usize, usize) {
     (start.bytes_scanned(), start.remaining_space())
 }
 
-fn spaces<W: Write>(output: &mut W) -> Result<(), Stop> {
+fn spaces(output: Stdout) -> Result<(), Stop> {
     let mut start = LineStart::new(b"\t \tx");
     let spaces = (start.scan_space(3), start.is_at_eol());
     tell_three(output, spaces, place(&start), start.scan_space_upto(2))?;
@@ -29,7 +29,7 @@ fn spaces<W: Write>(output: &mut W) -> Result<(), Stop> {
     tell(output, place(&start))
 }
 
-fn markers<W: Write>(output: &mut W) -> Result<(), Stop> {
+fn markers(output: Stdout) -> Result<(), Stop> {
     let mut start = LineStart::new(b">\t\t- x");
     let quote = start.scan_blockquote_marker();
     tell_two(output, quote, start.scan_space_upto(9))?;
@@ -37,13 +37,13 @@ fn markers<W: Write>(output: &mut W) -> Result<(), Stop> {
     tell_two(output, item, place(&start))
 }
 
-fn definitions<W: Write>(output: &mut W) -> Result<(), Stop> {
+fn definitions(output: Stdout) -> Result<(), Stop> {
     let mut start = LineStart::new(b":\tx");
     let indent = start.scan_definition_list_definition_marker_with_indent(0);
     tell_two(output, indent, place(&start))
 }
 
-fn tags<W: Write>(output: &mut W) -> Result<(), Stop> {
+fn tags(output: Stdout) -> Result<(), Stop> {
     let mut start = LineStart::new(b"\t[x] a");
     let task = start.scan_task_list_marker();
     tell_two(output, task, place(&start))?;
@@ -53,7 +53,7 @@ fn tags<W: Write>(output: &mut W) -> Result<(), Stop> {
 }
 
 // Behind the quote's marker in `>\t- x`.
-fn resumed<W: Write>(output: &mut W) -> Result<(), Stop> {
+fn resumed(output: Stdout) -> Result<(), Stop> {
     let mut breaks = KnownBreaks::new();
     tell(output, breaks.begins_break(b">\t- x", 2))?;
     let Some(mut start) = LineStart::resumed(b">\t- x", 2, 2, 0) else {
@@ -65,7 +65,7 @@ fn resumed<W: Write>(output: &mut W) -> Result<(), Stop> {
 }
 
 // Calls of a run, of which the second is refused.
-fn called<W: Write>(output: &mut W) -> Result<(), Stop> {
+fn called(output: Stdout) -> Result<(), Stop> {
     let mut breaks = KnownBreaks::new();
     let mut start = LineStart::new(b">\t- x");
     let calls = [

@@ -3,9 +3,9 @@ use crate::stop::Stop;
 use crate::telling::{tell_ready, tell_three, tell_two};
 use bitflags::Flags;
 use markdown_values::values::Options;
-use std::io::Write;
+use std::io::Stdout;
 
-pub(crate) fn run<W: Write>(output: &mut W) -> Result<(), Stop> {
+pub(crate) fn run(output: Stdout) -> Result<(), Stop> {
     tell_ready(output)?;
     made(output)?;
     asked(output)?;
@@ -13,7 +13,7 @@ pub(crate) fn run<W: Write>(output: &mut W) -> Result<(), Stop> {
     changed(output)
 }
 
-fn made<W: Write>(output: &mut W) -> Result<(), Stop> {
+fn made(output: Stdout) -> Result<(), Stop> {
     tell_three(
         output,
         (Options::empty().bits(), Options::all().bits()),
@@ -28,7 +28,7 @@ fn made<W: Write>(output: &mut W) -> Result<(), Stop> {
     )
 }
 
-fn asked<W: Write>(output: &mut W) -> Result<(), Stop> {
+fn asked(output: Stdout) -> Result<(), Stop> {
     let old = Options::ENABLE_OLD_FOOTNOTES;
     let new = Options::ENABLE_FOOTNOTES;
     tell_three(
@@ -39,7 +39,7 @@ fn asked<W: Write>(output: &mut W) -> Result<(), Stop> {
     )
 }
 
-fn combined<W: Write>(output: &mut W) -> Result<(), Stop> {
+fn combined(output: Stdout) -> Result<(), Stop> {
     let six = Options::ENABLE_TABLES.union(Options::ENABLE_FOOTNOTES);
     let old = Options::ENABLE_OLD_FOOTNOTES;
     tell_two(
@@ -54,7 +54,7 @@ fn combined<W: Write>(output: &mut W) -> Result<(), Stop> {
     )
 }
 
-fn changed<W: Write>(output: &mut W) -> Result<(), Stop> {
+fn changed(output: Stdout) -> Result<(), Stop> {
     let mut options = Options::ENABLE_TABLES;
     options.insert(Options::ENABLE_MATH);
     options.set(Options::ENABLE_GFM, true);

@@ -8,9 +8,9 @@ use markdown_scanners_tree::scanners::{
     scan_eol, scan_hrule, scan_line, scan_lines, scan_listitem, scan_metadata_block, scan_nextline,
     scan_rev_while, scan_setext_heading, scan_while, scan_whitespace_no_nl,
 };
-use std::io::Write;
+use std::io::Stdout;
 
-pub(crate) fn run<W: Write>(output: &mut W) -> Result<(), Stop> {
+pub(crate) fn run(output: Stdout) -> Result<(), Stop> {
     tell_ready(output)?;
     classes(output)?;
     runs(output)?;
@@ -20,7 +20,7 @@ pub(crate) fn run<W: Write>(output: &mut W) -> Result<(), Stop> {
     items(output)
 }
 
-fn classes<W: Write>(output: &mut W) -> Result<(), Stop> {
+fn classes(output: Stdout) -> Result<(), Stop> {
     for byte in [b'\n', b' ', b'-', b'a'] {
         let space = is_ascii_whitespace(byte);
         let no_ending = is_ascii_whitespace_no_nl(byte);
@@ -29,17 +29,18 @@ fn classes<W: Write>(output: &mut W) -> Result<(), Stop> {
     Ok(())
 }
 
-fn runs<W: Write>(output: &mut W) -> Result<(), Stop> {
+fn runs(output: Stdout) -> Result<(), Stop> {
+    let is_a = |byte: u8| byte == b'a';
     tell_two(output, scan_ch(b"ab", b'a'), scan_ch_repeat(b"aab", b'a'))?;
     tell_three(
         output,
-        scan_while(b"aab", |b| b == b'a'),
-        scan_rev_while(b"baa", |b| b == b'a'),
+        scan_while(b"aab", is_a),
+        scan_rev_while(b"baa", is_a),
         scan_whitespace_no_nl(b" \tx"),
     )
 }
 
-fn endings<W: Write>(output: &mut W) -> Result<(), Stop> {
+fn endings(output: Stdout) -> Result<(), Stop> {
     tell_three(
         output,
         scan_eol(b"\rx"),
@@ -60,7 +61,7 @@ fn endings<W: Write>(output: &mut W) -> Result<(), Stop> {
     )
 }
 
-fn headings<W: Write>(output: &mut W) -> Result<(), Stop> {
+fn headings(output: Stdout) -> Result<(), Stop> {
     tell_two(
         output,
         scan_atx_heading(b"###"),
@@ -68,7 +69,7 @@ fn headings<W: Write>(output: &mut W) -> Result<(), Stop> {
     )
 }
 
-fn fences<W: Write>(output: &mut W) -> Result<(), Stop> {
+fn fences(output: Stdout) -> Result<(), Stop> {
     tell_two(
         output,
         scan_code_fence(b"~~~a`"),
@@ -81,7 +82,7 @@ fn fences<W: Write>(output: &mut W) -> Result<(), Stop> {
     )
 }
 
-fn items<W: Write>(output: &mut W) -> Result<(), Stop> {
+fn items(output: Stdout) -> Result<(), Stop> {
     tell_two(
         output,
         interrupts_paragraph(b"  1. a"),

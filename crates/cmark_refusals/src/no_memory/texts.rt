@@ -5,7 +5,7 @@ use crate::texts::{OF_30, Text, boxed, owned};
 use markdown_values::strings::{CowStr, InlineStr};
 use std::alloc::{AllocError, Global};
 use std::hash::{BuildHasher, BuildHasherDefault, FoldHasher, Hash};
-use std::io::Write;
+use std::io::{Stdout, Write};
 
 const OF_15: &str = "0123456789abcde";
 
@@ -14,7 +14,7 @@ const OF_22: &str = "0123456789abcdefghijkl";
 const OF_23: &str = "0123456789abcdefghijklm";
 
 /// Texts that lie in the value itself, and copies of these and of borrowed ones.
-pub(crate) fn run<W: Write>(alloc: Global, output: &mut W) -> Result<(), Stop> {
+pub(crate) fn run(alloc: Global, output: Stdout) -> Result<(), Stop> {
     tell_ready(output)?;
     tell_inlined(output, OF_22)?;
     tell_inlined(output, OF_23)?;
@@ -28,36 +28,36 @@ pub(crate) fn run<W: Write>(alloc: Global, output: &mut W) -> Result<(), Stop> {
     )
 }
 
-fn tell_copied<W: Write>(alloc: Global, output: &mut W, text: CowStr<'static>) -> Result<(), Stop> {
+fn tell_copied(alloc: Global, output: Stdout, text: CowStr<'static>) -> Result<(), Stop> {
     tell_made(output, copied(alloc, &text))
 }
 
 /// A copy of an owned text that fits in the value itself.
-pub(crate) fn copied_short<W: Write>(alloc: Global, output: &mut W) -> Result<(), Stop> {
+pub(crate) fn copied_short(alloc: Global, output: Stdout) -> Result<(), Stop> {
     let text = boxed(alloc, OF_22)?;
     tell_ready(output)?;
     tell_copied(alloc, output, text)
 }
 
 /// An owned text, which borrows nothing.
-pub(crate) fn static_owned<W: Write>(alloc: Global, output: &mut W) -> Result<(), Stop> {
-    tell_ready_consuming::<W, CowStr<'static>, Text<'static>>(alloc, output, owned(alloc))
+pub(crate) fn static_owned(alloc: Global, output: Stdout) -> Result<(), Stop> {
+    tell_ready_consuming::<CowStr<'static>, Text<'static>>(alloc, output, owned(alloc))
 }
 
 /// An owned text hands its memory on.
-pub(crate) fn owned_string<W: Write>(alloc: Global, output: &mut W) -> Result<(), Stop> {
+pub(crate) fn owned_string(alloc: Global, output: Stdout) -> Result<(), Stop> {
     let text = boxed(alloc, OF_15);
-    tell_ready_consuming::<W, CowStr<'static>, String>(alloc, output, text)
+    tell_ready_consuming::<CowStr<'static>, String>(alloc, output, text)
 }
 
-fn tell_inlined<W: Write>(output: &mut W, text: &str) -> Result<(), Stop> {
+fn tell_inlined(output: Stdout, text: &str) -> Result<(), Stop> {
     match InlineStr::try_from(text) {
         Ok(text) => tell(output, (text.as_str(), text.copy() == text)),
         Err(_) => tell(output, "too long"),
     }
 }
 
-fn tell_letter<W: Write>(output: &mut W) -> Result<(), Stop> {
+fn tell_letter(mut output: Stdout) -> Result<(), Stop> {
     let letter = InlineStr::from('🍔');
     let is_same_hash = hash_of(&letter) == hash_of(&letter.as_str());
     writeln!(output, "{letter} {is_same_hash}")?;

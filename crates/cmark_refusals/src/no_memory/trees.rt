@@ -8,10 +8,10 @@ use crate::stop::Stop;
 use crate::telling::{tell, tell_ready, tell_three};
 use markdown_values::tree::{SpanItem, Tree, TreeIndex};
 use std::alloc::{AllocError, Global};
-use std::io::Write;
+use std::io::Stdout;
 
 /// A range of bytes.
-#[derive(Clone, Default, Drop)]
+#[derive(Clone, Copy, Default)]
 pub struct Span {
     pub start: usize,
     pub end: usize,
@@ -83,16 +83,12 @@ fn nested(alloc: Global) -> Result<(Tree<Span>, [TreeIndex; 4]), AllocError>
 }
 
 /// The calls that look, and those that change links.
-pub(crate) fn run<W: Write>(alloc: Global, output: &mut W) -> Result<(), Stop> {
+pub(crate) fn run(alloc: Global, output: Stdout) -> Result<(), Stop> {
     let (mut tree, indices) = nested(alloc)?;
     tell_nested(output, &mut tree, indices)
 }
 
-fn tell_nested<W: Write>(
-    output: &mut W,
-    tree: &mut Tree<Span>,
-    indices: [TreeIndex; 4],
-) -> Result<(), Stop>
+fn tell_nested(output: Stdout, tree: &mut Tree<Span>, indices: [TreeIndex; 4]) -> Result<(), Stop>
     requires count { length tree.old.nodes ≡ 5 }
     requires indices { indices ≡ 1 ∷ 2 ∷ 3 ∷ 4 ∷ [] }
 {
@@ -105,12 +101,7 @@ fn tell_nested<W: Write>(
 }
 
 // An item changes, and the nodes after it are cut off.
-fn cut_below<W: Write>(
-    output: &mut W,
-    tree: &mut Tree<Span>,
-    b: TreeIndex,
-    c: TreeIndex,
-) -> Result<(), Stop>
+fn cut_below(output: Stdout, tree: &mut Tree<Span>, b: TreeIndex, c: TreeIndex) -> Result<(), Stop>
     requires parent { b < length tree.old.nodes }
     requires child { c < length tree.old.nodes }
     ensures { length tree.new.nodes ≡ length tree.old.nodes }
@@ -122,8 +113,8 @@ fn cut_below<W: Write>(
     tell_three(output, changed, parent, (tree.cur(), tree[b].next))
 }
 
-fn link<W: Write>(
-    output: &mut W,
+fn link(
+    output: Stdout,
     tree: &mut Tree<Span>,
     b: TreeIndex,
     c: TreeIndex,
@@ -139,7 +130,7 @@ fn link<W: Write>(
     tell(output, (tree[d].child, tree[b].next))
 }
 
-fn leave<W: Write>(output: &mut W, tree: &mut Tree<Span>, a: TreeIndex) -> Result<(), Stop>
+fn leave(output: Stdout, tree: &mut Tree<Span>, a: TreeIndex) -> Result<(), Stop>
     requires { a < length tree.old.nodes }
 {
     tell(output, tree.next_sibling(a))?;
@@ -147,7 +138,7 @@ fn leave<W: Write>(output: &mut W, tree: &mut Tree<Span>, a: TreeIndex) -> Resul
     tell_spine(output, tree)
 }
 
-fn tell_spine<W: Write>(output: &mut W, tree: &Tree<Span>) -> Result<(), Stop> {
+fn tell_spine(output: Stdout, tree: &Tree<Span>) -> Result<(), Stop> {
     tell(output, tree.cur())?;
     for ix in tree.walk_spine() {
         tell(output, ix.get())?;
@@ -165,7 +156,7 @@ fn index_before(ix: TreeIndex) -> Option<TreeIndex> {
 }
 
 /// The index of the first node, the next and the one before it.
-pub(crate) fn indices<W: Write>(alloc: Global, output: &mut W) -> Result<(), Stop> {
+pub(crate) fn indices(alloc: Global, output: Stdout) -> Result<(), Stop> {
     let mut tree = Tree::with_capacity(alloc, 2)?;
     let ix = tree.append(covering(0, 9))?;
     tell_ready(output)?;
@@ -173,7 +164,7 @@ pub(crate) fn indices<W: Write>(alloc: Global, output: &mut W) -> Result<(), Sto
 }
 
 /// The last node goes.
-pub(crate) fn remove_node<W: Write>(alloc: Global, output: &mut W) -> Result<(), Stop> {
+pub(crate) fn remove_node(alloc: Global, output: Stdout) -> Result<(), Stop> {
     let mut tree = Tree::with_capacity(alloc, 3)?;
     tree.append(covering(0, 9))?;
     tree.push()?;
@@ -181,7 +172,7 @@ pub(crate) fn remove_node<W: Write>(alloc: Global, output: &mut W) -> Result<(),
     tell_removed(output, &mut tree)
 }
 
-fn tell_removed<W: Write>(output: &mut W, tree: &mut Tree<Span>) -> Result<(), Stop>
+fn tell_removed(output: Stdout, tree: &mut Tree<Span>) -> Result<(), Stop>
     requires { IfSome (last tree.old.spine) (IsLastLinkedFromAlone tree.old) }
 {
     tell_ready(output)?;
@@ -199,7 +190,7 @@ fn parent(alloc: Global) -> Result<Tree<Span>, AllocError>
     Ok(tree)
 }
 
-fn cut<W: Write>(alloc: Global, output: &mut W, child: Span, end: usize) -> Result<Tree<Span>, Stop>
+fn cut(alloc: Global, output: Stdout, child: Span, end: usize) -> Result<Tree<Span>, Stop>
     requires { IfSome (first_other end (spans_of (child ∷ []))) (CanCut end) }
 {
     let mut tree = parent(alloc)?;
@@ -210,7 +201,7 @@ fn cut<W: Write>(alloc: Global, output: &mut W, child: Span, end: usize) -> Resu
 }
 
 /// A child is cut.
-pub(crate) fn truncate_siblings<W: Write>(alloc: Global, output: &mut W) -> Result<(), Stop> {
+pub(crate) fn truncate_siblings(alloc: Global, output: Stdout) -> Result<(), Stop> {
     let tree = cut(alloc, output, covering(3, 8), 4)?;
     if let Some(ix) = tree.cur() {
         tell(output, (ix, tree[ix].item.start, tree[ix].item.end))?;

@@ -6,10 +6,10 @@ use crate::texts::{Holding, lent};
 use markdown_values::strings::CowStr;
 use markdown_values::values::{CodeBlockKind, Event, HeadingLevel, LinkType, Tag, TagEnd};
 use std::alloc::{AllocError, Global};
-use std::io::Write;
+use std::io::{Stdout, Write};
 
 /// The calls that look, and copies of what owns nothing.
-pub(crate) fn run<W: Write>(alloc: Global, output: &mut W) -> Result<(), Stop> {
+pub(crate) fn run(alloc: Global, output: Stdout) -> Result<(), Stop> {
     tell_ready(output)?;
     kinds(alloc, output)?;
     levels(output)?;
@@ -19,9 +19,9 @@ pub(crate) fn run<W: Write>(alloc: Global, output: &mut W) -> Result<(), Stop> {
 }
 
 /// The tag of a table, which borrows nothing.
-pub(crate) fn static_table<W: Write>(alloc: Global, output: &mut W) -> Result<(), Stop> {
+pub(crate) fn static_table(alloc: Global, output: Stdout) -> Result<(), Stop> {
     let table = tag(alloc, TagKind::Table, Holding::Owned);
-    tell_ready_consuming::<W, Tag<'static>, Tag<'static>>(alloc, output, table)
+    tell_ready_consuming::<Tag<'static>, Tag<'static>>(alloc, output, table)
 }
 
 impl Seen<(bool, bool)> for CodeBlockKind<'static> {
@@ -36,14 +36,11 @@ impl Seen<TagEnd> for Tag<'static> {
     }
 }
 
-fn tell_kind<W: Write>(
-    output: &mut W,
-    made: Result<CodeBlockKind<'static>, AllocError>,
-) -> Result<(), Stop> {
-    tell_seen::<W, CodeBlockKind<'static>, (bool, bool)>(output, made)
+fn tell_kind(output: Stdout, made: Result<CodeBlockKind<'static>, AllocError>) -> Result<(), Stop> {
+    tell_seen::<CodeBlockKind<'static>, (bool, bool)>(output, made)
 }
 
-fn kinds<W: Write>(alloc: Global, output: &mut W) -> Result<(), Stop> {
+fn kinds(alloc: Global, output: Stdout) -> Result<(), Stop> {
     let indented = Ok(CodeBlockKind::Indented);
     tell_kind(output, copy_of(alloc, indented))?;
     tell_kind(output, copy_of(alloc, fenced(alloc, Holding::Lent)))?;
@@ -51,7 +48,7 @@ fn kinds<W: Write>(alloc: Global, output: &mut W) -> Result<(), Stop> {
     tell_kind(output, letter.into_static(alloc))
 }
 
-fn levels<W: Write>(output: &mut W) -> Result<(), Stop> {
+fn levels(mut output: Stdout) -> Result<(), Stop> {
     for number in [3, 7] {
         match HeadingLevel::try_from(number) {
             Ok(level) => writeln!(output, "{level}")?,
@@ -61,14 +58,13 @@ fn levels<W: Write>(output: &mut W) -> Result<(), Stop> {
     Ok(())
 }
 
-fn end_of(tag: Tag<'static>) -> TagEnd {
-    TagEnd::from(tag)
+fn list_end(alloc: Global) -> Result<TagEnd, AllocError> {
+    Ok(TagEnd::from(Tag::List(Some(3)).into_static(alloc)?))
 }
 
-fn tags<W: Write>(alloc: Global, output: &mut W) -> Result<(), Stop> {
-    tell_seen::<W, Tag<'static>, TagEnd>(output, lent_link(alloc))?;
-    let list = Tag::List(Some(3)).into_static(alloc);
-    tell_made(output, list.map(end_of))?;
+fn tags(alloc: Global, output: Stdout) -> Result<(), Stop> {
+    tell_seen::<Tag<'static>, TagEnd>(output, lent_link(alloc))?;
+    tell_made(output, list_end(alloc))?;
     tell_made(output, copy_of(alloc, lent_link(alloc)))
 }
 
@@ -76,14 +72,11 @@ fn lent_link(alloc: Global) -> Result<Tag<'static>, AllocError> {
     tag(alloc, TagKind::Link, Holding::Lent)
 }
 
-fn tell_event<W: Write>(
-    output: &mut W,
-    made: Result<Event<'static>, AllocError>,
-) -> Result<(), Stop> {
+fn tell_event(output: Stdout, made: Result<Event<'static>, AllocError>) -> Result<(), Stop> {
     tell_made(output, made)
 }
 
-fn events<W: Write>(alloc: Global, output: &mut W) -> Result<(), Stop> {
+fn events(alloc: Global, output: Stdout) -> Result<(), Stop> {
     tell_event(output, copy_of(alloc, Ok(Event::Text(lent()))))?;
     tell_event(output, Event::TaskListMarker(true).into_static(alloc))?;
     tell_event(output, copy_of(alloc, Ok(Event::End(TagEnd::Table))))

@@ -8,7 +8,7 @@ use Rattle.cmark_refusals.specs.Spans.{span_of, spans_of}
 use Rattle.cmark_refusals.proofs.no_memory.trees.cut.Goals as goal
 
 pub truncate_siblings-requires-clause-range : goal.truncate_siblings-requires-clause-range
-truncate_siblings-requires-clause-range g c =
+truncate_siblings-requires-clause-range c =
     subst (CanTruncate span_of c.args.end)
     (sym (c.in_ok-append.ensures.ok ∙ ap (λ (t : Linked Span). after_append t c.args.child) c.in_ok-tree.ensures.2))
     (spans_of (c.args.child ∷ []), ((2, record { child = None; next = None; item = c.args.child }) ∷ [], (refl, refl, refl), refl), c.requires)
