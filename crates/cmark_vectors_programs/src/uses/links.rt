@@ -1,42 +1,58 @@
 //! Tests of `cmark_uses::links`.
+use crate::asserts::{assert_same, assert_text, made};
 use cmark_uses::links::{
     FEW_ENTITIES, autolink, leading_destination, link_target, link_title, raw_destination,
     referenced,
 };
 use html_entities::HtmlEntities;
-use std::test::Fail;
+use markdown_values::strings::CowStr;
+use std::alloc::AllocError;
+use std::process::Abort;
 
-#[test]
-fn a_destination_is_resolved(rt: HostRuntime) -> Result<(), Fail> {
-    let target = link_target(rt.alloc(), "[a](/b?c&amp;d\\*&auml;)", 4, &HtmlEntities)?;
-    let Some(target) = target else {
-        return Err(Fail::from("no destination"));
-    };
-    assert_eq!(rt; target.as_str(), "/b?c&d*\u{e4}");
-    assert_eq!(rt; raw_destination("[a](<b c>)", 4), Some((5, "b c")));
-    assert_eq!(rt; raw_destination("[a](<b", 4), None);
-    assert_eq!(rt; leading_destination("/b (title)"), Some((2, "/b")));
-    let title = link_title(rt.alloc(), "Q&amp;A", &FEW_ENTITIES)?;
-    assert_eq!(rt; title.as_str(), "Q&A");
-    Ok(())
+// A text that a call finds is this.
+fn assert_found(rt: &impl Abort, found: Option<CowStr<'_>>, wanted: &str) {
+    assert_same(rt, found.expect(rt, "none").as_str(), wanted);
+}
+
+fn assert_made_found(rt: &impl Abort, found: Result<Option<CowStr<'_>>, AllocError>, wanted: &str) {
+    assert_found(rt, made(rt, found), wanted);
+}
+
+fn assert_destination(
+    rt: &impl Abort,
+    found: Option<(usize, &str)>,
+    wanted: Option<(usize, &str)>,
+) {
+    assert_same(rt, found, wanted);
 }
 
 #[test]
-fn an_autolink_ends_at_its_bracket(rt: HostRuntime) -> Result<(), Fail> {
-    let Some((uri, after)) = autolink("<https://commonmark.org> says", 1) else {
-        return Err(Fail::from("no autolink"));
-    };
-    assert_eq!(rt; uri.as_str(), "https://commonmark.org");
-    assert_eq!(rt; after, " says");
-    Ok(())
+fn a_destination_is_resolved(rt: HostRuntime) {
+    let target = link_target(rt.alloc(), "[a](/b?c&amp;d\\*&auml;)", 4, &HtmlEntities);
+    assert_made_found(&rt, target, "/b?c&d*\u{e4}");
+    assert_destination(&rt, raw_destination("[a](<b c>)", 4), Some((5, "b c")));
+    assert_destination(&rt, raw_destination("[a](<b", 4), None);
+    assert_destination(&rt, leading_destination("/b (title)"), Some((2, "/b")));
+    assert_text(&rt, link_title(rt.alloc(), "Q&amp;A", &FEW_ENTITIES), "Q&A");
+}
+
+fn assert_autolink(rt: &impl Abort, found: Option<(CowStr<'_>, &str)>, wanted: (&str, &str)) {
+    let (uri, after) = found.expect(rt, "no autolink");
+    assert_same(rt, (uri.as_str(), after), wanted);
 }
 
 #[test]
-fn a_reference_means_a_character(rt: HostRuntime) -> Result<(), Fail> {
-    let Some(meaning) = referenced(b"&#35; one", &FEW_ENTITIES) else {
-        return Err(Fail::from("no reference"));
-    };
-    assert_eq!(rt; meaning.as_str(), "#");
-    assert!(rt; referenced(b"&nosuch;", &FEW_ENTITIES).is_none());
-    Ok(())
+fn an_autolink_ends_at_its_bracket(rt: HostRuntime) {
+    let found = autolink("<https://commonmark.org> says", 1);
+    assert_autolink(&rt, found, ("https://commonmark.org", " says"));
+}
+
+fn is_none<T: Drop>(found: Option<T>) -> bool {
+    found.is_none()
+}
+
+#[test]
+fn a_reference_means_a_character(rt: HostRuntime) {
+    assert_found(&rt, referenced(b"&#35; one", &FEW_ENTITIES), "#");
+    assert!(rt; is_none(referenced(b"&nosuch;", &FEW_ENTITIES)));
 }
