@@ -36,6 +36,7 @@ const TOLD: &str = "1 1 0 heading 1\n2 2 0 blank\n3 4 0 paragraph\n5 5 0 blank\n
 // What a page is told as.
 type Row = (&'static [u8], &'static str);
 
+// The pages are told so.
 fn assert_rows(rt: &impl Abort, alloc: Global, rows: &[Row]) {
     assert_told(rt, alloc, &[], rows);
 }

@@ -84,7 +84,7 @@ pub(crate) fn assert_end<P: Program, R: Read, W: Write>(
 ) {
     let mut faults = Vec::new(alloc);
     let status = P::run(alloc, words, input, output, &mut faults);
-    assert_eq!(rt; (status, faults.as_slice()), end, "of {words:?}");
+    assert_same(rt, (words, (status, faults.as_slice())), (words, end));
 }
 
 /// A run over this reader prints this, and ends so.
@@ -99,6 +99,6 @@ pub(crate) fn assert_run<P: Program, R: Read>(
     let mut output = Vec::new(alloc);
     let mut faults = Vec::new(alloc);
     let status = P::run(alloc, words, input, &mut output, &mut faults);
-    let found = (output.as_slice(), (status, faults.as_slice()));
-    assert_eq!(rt; found, (printed.as_bytes(), end), "not {printed}");
+    let found = (words, output.as_slice(), (status, faults.as_slice()));
+    assert_same(rt, found, (words, printed.as_bytes(), end));
 }

@@ -77,6 +77,7 @@ impl Write for SlowWriter {
 // An input, and what a run that is done prints.
 type Told = (&'static [u8], &'static str);
 
+// Runs of these words print these.
 fn assert_told(rt: &impl Abort, alloc: Global, words: &[&str], rows: &[Told]) {
     for (input, printed) in rows {
         assert_run::<Scan, _>(rt, alloc, words, &mut &**input, printed, DONE);
@@ -91,6 +92,7 @@ fn assert_no_text(rt: &impl Abort, alloc: Global, words: &[&str], mut input: &[u
 // The words and the input of a run of the program; its status, and what it prints.
 type Row = ((&'static [&'static str], &'static [u8]), (u8, &'static str));
 
+// The runs end and print so.
 fn assert_rows(rt: &impl Abort, alloc: Global, rows: &[Row]) {
     for ((words, input), (status, printed)) in rows {
         assert_run::<Scan, _>(rt, alloc, words, &mut &**input, printed, (*status, b""));
@@ -310,10 +312,20 @@ fn assert_unwritten<R: Read>(
 
 #[test]
 fn reports_a_read_fault(rt: HostRuntime) {
-    for bytes in [b"".as_slice(), b"x"] {
-        let mut input = Parts::failing(bytes);
-        assert_unwritten(&rt, rt.alloc(), &mut input, 0, b"read fault\n");
-    }
+    assert_unwritten(
+        &rt,
+        rt.alloc(),
+        &mut Parts::failing(b""),
+        0,
+        b"read fault\n",
+    );
+    assert_unwritten(
+        &rt,
+        rt.alloc(),
+        &mut Parts::failing(b"x"),
+        0,
+        b"read fault\n",
+    );
 }
 
 #[test]
@@ -342,7 +354,7 @@ fn assert_untold<R: Read>(
 ) {
     let mut output = Vec::new(alloc);
     let mut faults = FailingWriter { writes: 0 };
-    let found = run_program(alloc, words, input, &mut output, &mut faults);
+    let found = Scan::run(alloc, words, input, &mut output, &mut faults);
     assert_same(rt, (found, faults.writes, output.len()), (status, 1, 0));
 }
 
@@ -356,7 +368,7 @@ fn keeps_its_status_where_a_fault_is_not_told(rt: HostRuntime) {
 fn assert_slow(rt: &impl Abort, alloc: Global, words: &[&str], printed: &[u8], end: End<'_>) {
     let mut output = SlowWriter::new(alloc);
     let mut faults = SlowWriter::new(alloc);
-    let status = run_program(alloc, words, &mut b"x".as_slice(), &mut output, &mut faults);
+    let status = Scan::run(alloc, words, &mut b"x".as_slice(), &mut output, &mut faults);
     let found = (output.taken.as_slice(), (status, faults.taken.as_slice()));
     assert_same(rt, found, (printed, end));
 }

@@ -5,14 +5,22 @@ use crate::runs::{DONE, Parts, assert_run};
 use std::alloc::{AllocError, Global};
 use std::process::Abort;
 
-// What is told of a page that is read so.
-fn assert_told(rt: &impl Abort, alloc: Global, mut input: Parts<'_>, told: &str) {
-    let end = if input.fails {
-        (3, b"read fault\n".as_slice())
-    } else {
-        DONE
+// What is told of a page that is read in parts: at most so many bytes at the first read, and at
+// each later one.
+fn assert_told(
+    rt: &impl Abort,
+    alloc: Global,
+    page: &[u8],
+    (size, later): (usize, usize),
+    told: &str,
+) {
+    let mut input = Parts {
+        rest: page,
+        size,
+        later,
+        fails: false,
     };
-    assert_run::<Blocks, _>(rt, alloc, &[], &mut input, told, end);
+    assert_run::<Blocks, _>(rt, alloc, &[], &mut input, told, DONE);
 }
 
 // The pages, and what is told of them: every kind of block; lines that end in CR LF and in CR;
@@ -41,26 +49,14 @@ const PAGES: &[Row] = &[
 #[test]
 fn a_byte_a_read_tells_the_same(rt: HostRuntime) {
     for (page, told) in PAGES {
-        let input = Parts {
-            rest: page,
-            size: 1,
-            later: 1,
-            fails: false,
-        };
-        assert_told(&rt, rt.alloc(), input, told);
+        assert_told(&rt, rt.alloc(), page, (1, 1), told);
     }
 }
 
 // The same of a page in two parts, at each place where it can be cut.
 fn assert_told_cut(rt: &impl Abort, alloc: Global, page: &[u8], told: &str) {
     for size in 1..page.len() {
-        let input = Parts {
-            rest: page,
-            size,
-            later: page.len(),
-            fails: false,
-        };
-        assert_told(rt, alloc, input, told);
+        assert_told(rt, alloc, page, (size, page.len()), told);
     }
 }
 
@@ -71,7 +67,7 @@ fn a_page_cut_at_any_place_tells_the_same(rt: HostRuntime) {
     }
 }
 
-// What is told of a page whose end can't be read: the blocks whose end is read.
+// Of what was read before a fault, the blocks are told whose end is read.
 const BEFORE_FAULTS: &[Row] = &[
     (b"", ""),
     (b"# a\n", ""),
@@ -84,16 +80,22 @@ const BEFORE_FAULTS: &[Row] = &[
     (b"a\n---", ""),
 ];
 
+// What is told of a page behind which a read fails.
+fn assert_told_before_a_fault(rt: &impl Abort, alloc: Global, page: &[u8], told: &str) {
+    let mut input = Parts {
+        rest: page,
+        size: page.len(),
+        later: 0,
+        fails: true,
+    };
+    let end = (3, b"read fault\n".as_slice());
+    assert_run::<Blocks, _>(rt, alloc, &[], &mut input, told, end);
+}
+
 #[test]
 fn a_read_fault_leaves_the_first_blocks(rt: HostRuntime) {
     for (page, told) in BEFORE_FAULTS {
-        let input = Parts {
-            rest: page,
-            size: page.len(),
-            later: 0,
-            fails: true,
-        };
-        assert_told(&rt, rt.alloc(), input, told);
+        assert_told_before_a_fault(&rt, rt.alloc(), page, told);
     }
 }
 
@@ -104,20 +106,9 @@ fn long_page(alloc: Global) -> Result<Vec<u8>, AllocError> {
     Ok(page)
 }
 
-// The same of a page in one byte, and parts of 999 bytes.
-fn assert_told_in_parts(rt: &impl Abort, alloc: Global, page: &[u8], told: &str) {
-    let input = Parts {
-        rest: page,
-        size: 1,
-        later: 999,
-        fails: false,
-    };
-    assert_told(rt, alloc, input, told);
-}
-
 #[test]
 fn a_block_is_longer_than_many_reads(rt: HostRuntime) {
     let page = made(&rt, long_page(rt.alloc()));
     let told = "1 100000 0 paragraph\n100001 100001 0 blank\n100002 100002 0 heading 1\n";
-    assert_told_in_parts(&rt, rt.alloc(), &page, told);
+    assert_told(&rt, rt.alloc(), &page, (1, 999), told);
 }

@@ -1,7 +1,7 @@
 //! Runs of the command for inline HTML over hostile texts cut near their ends.
 use super::Scan;
 use super::html::HTML;
-use crate::asserts::{assert_same, made};
+use crate::asserts::{assert_same, found, made};
 use crate::runs::{DONE, assert_end};
 use std::alloc::Global;
 use std::process::Abort;
@@ -55,7 +55,7 @@ fn last_numbers(output: &[u8]) -> Option<Sums> {
 fn run_html(rt: &impl Abort, alloc: Global, mut input: &[u8]) -> Sums {
     let mut output = Vec::new(alloc);
     assert_end::<Scan, _, _>(rt, alloc, HTML, &mut input, &mut output, DONE);
-    last_numbers(&output).expect(rt, "no last line")
+    found(rt, last_numbers(&output))
 }
 
 // The same added to sums, once they keep the bound.
@@ -79,9 +79,11 @@ fn sums_of(rt: &impl Abort, alloc: Global, text: &[u8]) -> (Sums, Sums) {
     (front, end)
 }
 
+// The sums of a text are these, where it is cut off the front, and off the end.
 fn assert_cut(rt: &impl Abort, alloc: Global, (part, count, front, end): Cut) {
     let text = made(rt, part.repeat(alloc, count));
-    assert_same(rt, sums_of(rt, alloc, &text), (front, end));
+    let sums = sums_of(rt, alloc, &text);
+    assert_same(rt, (part, sums), (part, (front, end)));
 }
 
 #[test]

@@ -1,6 +1,6 @@
 //! Runs of the command for inline HTML.
 use super::{Scan, Told, assert_told};
-use crate::asserts::made;
+use crate::asserts::{assert_same, made};
 use crate::runs::{DONE, assert_end};
 use std::alloc::Global;
 use std::process::Abort;
@@ -50,9 +50,11 @@ const HOSTILE_TEXTS: &[Hostile] = &[
 fn assert_last_line(rt: &impl Abort, alloc: Global, mut text: &[u8], last_line: &str) {
     let mut output = Vec::new(alloc);
     assert_end::<Scan, _, _>(rt, alloc, HTML, &mut text, &mut output, DONE);
-    assert!(rt; output.ends_with(last_line.as_bytes()), "not {last_line}");
+    let is_last = output.ends_with(last_line.as_bytes());
+    assert_same(rt, (last_line, is_last), (last_line, true));
 }
 
+// The same of a part that is repeated.
 fn assert_hostile(rt: &impl Abort, alloc: Global, (part, count, last_line): Hostile) {
     let text = made(rt, part.repeat(alloc, count));
     assert_last_line(rt, alloc, &text, last_line);

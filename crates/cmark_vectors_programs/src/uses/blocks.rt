@@ -1,5 +1,5 @@
 //! Tests of `cmark_uses::blocks`.
-use crate::asserts::{assert_answer, assert_same, made};
+use crate::asserts::{assert_made, assert_same};
 use cmark_uses::blocks::{
     begin_alike, break_free, column_count, column_width, fenced_code, is_blank, is_break,
     metadata_kind,
@@ -8,19 +8,16 @@ use markdown_values::values::MetadataBlockKind;
 
 #[test]
 fn breaks_are_told_from_items(rt: HostRuntime) {
-    for (line, is_one) in [("* * *\n", true), ("* * a\n", false)] {
-        assert_answer(&rt, line, is_break(line.as_bytes()), is_one);
-    }
-    for (text, place) in [("* * a * * *\n", Some(4)), ("* * *\n", None)] {
-        assert_answer(&rt, text, break_free(text.as_bytes()), place);
-    }
+    assert_same(&rt, is_break(b"* * *\n"), true);
+    assert_same(&rt, is_break(b"* * a\n"), false);
+    assert_same(&rt, break_free(b"* * a * * *\n"), Some(4));
+    assert_same(&rt, break_free(b"* * *\n"), None);
 }
 
 #[test]
 fn blank_lines_hold_white_space_alone(rt: HostRuntime) {
-    for (line, is_one) in [(" \t\n", true), (" a\n", false)] {
-        assert_answer(&rt, line, is_blank(line.as_bytes()), is_one);
-    }
+    assert_same(&rt, is_blank(b" \t\n"), true);
+    assert_same(&rt, is_blank(b" a\n"), false);
 }
 
 const ALIKE: &[(&str, &str, bool)] = &[
@@ -34,18 +31,16 @@ const ALIKE: &[(&str, &str, bool)] = &[
 fn items_begin_alike_or_not(rt: HostRuntime) {
     for (one, other, are_alike) in ALIKE {
         let found = begin_alike(one.as_bytes(), other.as_bytes());
-        assert_answer(&rt, other, found, *are_alike);
+        assert_same(&rt, (*one, *other, found), (*one, *other, *are_alike));
     }
 }
 
 #[test]
 fn columns_are_aligned(rt: HostRuntime) {
-    for (line, count) in [("| --- | :-: |\n", Some(2)), ("| --- | abc |\n", None)] {
-        let found = made(&rt, column_count(rt.alloc(), line.as_bytes()));
-        assert_answer(&rt, line, found, count);
-    }
-    let width = column_width(rt.alloc(), b"| --- | :-: |\n", 80);
-    assert_same(&rt, made(&rt, width), Some(40));
+    let alloc = rt.alloc();
+    assert_made(&rt, column_count(alloc, b"| --- | :-: |\n"), Some(2));
+    assert_made(&rt, column_count(alloc, b"| --- | abc |\n"), None);
+    assert_made(&rt, column_width(alloc, b"| --- | :-: |\n", 80), Some(40));
 }
 
 #[test]

@@ -1,5 +1,5 @@
 //! Tests of `cmark_uses::html`.
-use crate::asserts::{assert_elements, assert_same, made};
+use crate::asserts::{assert_elements, assert_same, found, made};
 use cmark_uses::html::{html_ends, inline_html, tag_in_quote};
 use markdown_scanners_tree::inline_html::HtmlRun;
 use std::alloc::AllocError;
@@ -27,15 +27,15 @@ fn chosen_openers_have_their_ends(rt: HostRuntime) {
 // The tag that a call finds, and its length.
 fn assert_tag(
     rt: &impl Abort,
-    found: Result<Option<(Vec<u8>, usize)>, AllocError>,
+    tag: Result<Option<(Vec<u8>, usize)>, AllocError>,
     wanted: (&[u8], usize),
 ) {
-    let (tag, length) = made(rt, found).expect(rt, "no tag");
+    let (tag, length) = found(rt, made(rt, tag));
     assert_same(rt, (tag.as_slice(), length), wanted);
 }
 
 #[test]
 fn a_tag_loses_the_markers_of_its_quote(rt: HostRuntime) {
-    let found = tag_in_quote(rt.alloc(), b"<img\n> alt='x'>\n");
-    assert_tag(&rt, found, (b"<img\nalt='x'>", 15));
+    let tag = tag_in_quote(rt.alloc(), b"<img\n> alt='x'>\n");
+    assert_tag(&rt, tag, (b"<img\nalt='x'>", 15));
 }

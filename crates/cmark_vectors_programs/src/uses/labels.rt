@@ -1,11 +1,12 @@
 //! Tests of `cmark_uses::labels`.
-use crate::asserts::{assert_same, made};
+use crate::asserts::{assert_same, found, is_none, made};
 use cmark_uses::labels::{Definition, definition_of, label_in_line, label_in_quote};
 use markdown_scanners_tree::linklabel::LinkLabel;
 use markdown_values::strings::CowStr;
 use std::alloc::{AllocError, Global};
 use std::process::Abort;
 
+// The definition of this label.
 fn definition(
     rt: &impl Abort,
     alloc: Global,
@@ -26,9 +27,9 @@ fn assert_defined<'d>(
     text: &str,
     destination: &str,
 ) {
-    let (_, label) = made(rt, label_in_line(alloc, text)).expect(rt, "no label");
-    let found = definition_of(definitions, &label).expect(rt, "no definition");
-    assert_same(rt, found.destination.as_str(), destination);
+    let (_, label) = found(rt, made(rt, label_in_line(alloc, text)));
+    let definition = found(rt, definition_of(definitions, &label));
+    assert_same(rt, definition.destination.as_str(), destination);
 }
 
 #[test]
@@ -41,22 +42,20 @@ fn the_first_definition_counts(rt: HostRuntime) {
     assert_defined(&rt, alloc, &definitions, "rattle] for more", "/one");
 }
 
-// The label in a quote, and what stands behind it.
-type Found<'t> = Result<Option<(LinkLabel<'t>, &'t str)>, AllocError>;
+// The label that a call finds in a quote, and what stands behind it.
+type InQuote<'t> = Result<Option<(LinkLabel<'t>, &'t str)>, AllocError>;
 
-fn assert_label(rt: &impl Abort, found: Found<'_>, text: &str, behind: &str) {
-    let (label, rest) = made(rt, found).expect(rt, "no label");
+// They are these.
+fn assert_label(rt: &impl Abort, label: InQuote<'_>, text: &str, behind: &str) {
+    let (label, rest) = found(rt, made(rt, label));
     assert_same(rt, (label.as_str(), rest), (text, behind));
-}
-
-fn assert_no_label(rt: &impl Abort, found: Found<'_>) {
-    assert!(rt; made(rt, found).is_none());
 }
 
 #[test]
 fn a_label_loses_the_markers_of_its_quote(rt: HostRuntime) {
     let alloc = rt.alloc();
-    let found = label_in_quote(alloc, "Link\n> label]: /url");
-    assert_label(&rt, found, "Link label", ": /url");
-    assert_no_label(&rt, label_in_quote(alloc, "Link\nlabel]: /url"));
+    let label = label_in_quote(alloc, "Link\n> label]: /url");
+    assert_label(&rt, label, "Link label", ": /url");
+    let label = label_in_quote(alloc, "Link\nlabel]: /url");
+    assert!(rt; is_none(made(&rt, label)));
 }

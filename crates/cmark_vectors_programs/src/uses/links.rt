@@ -1,54 +1,52 @@
 //! Tests of `cmark_uses::links`.
-use crate::asserts::{assert_same, assert_text, made};
+use crate::asserts::{assert_same, assert_text, found, is_none, made};
 use cmark_uses::links::{
     FEW_ENTITIES, autolink, leading_destination, link_target, link_title, raw_destination,
     referenced,
 };
 use html_entities::HtmlEntities;
-use markdown_values::strings::CowStr;
 use std::alloc::AllocError;
+use std::convert::AsStr;
 use std::process::Abort;
 
 // A text that a call finds is this.
-fn assert_found(rt: &impl Abort, found: Option<CowStr<'_>>, wanted: &str) {
-    assert_same(rt, found.expect(rt, "none").as_str(), wanted);
+fn assert_found<T: AsStr + Drop>(rt: &impl Abort, text: Option<T>, wanted: &str) {
+    assert_same(rt, found(rt, text).as_str(), wanted);
 }
 
-fn assert_made_found(rt: &impl Abort, found: Result<Option<CowStr<'_>>, AllocError>, wanted: &str) {
-    assert_found(rt, made(rt, found), wanted);
-}
-
-fn assert_destination(
+// The same of a text that is made first.
+fn assert_made_found<T: AsStr + Drop>(
     rt: &impl Abort,
-    found: Option<(usize, &str)>,
-    wanted: Option<(usize, &str)>,
+    text: Result<Option<T>, AllocError>,
+    wanted: &str,
 ) {
-    assert_same(rt, found, wanted);
+    assert_found(rt, made(rt, text), wanted);
 }
 
 #[test]
 fn a_destination_is_resolved(rt: HostRuntime) {
     let target = link_target(rt.alloc(), "[a](/b?c&amp;d\\*&auml;)", 4, &HtmlEntities);
     assert_made_found(&rt, target, "/b?c&d*\u{e4}");
-    assert_destination(&rt, raw_destination("[a](<b c>)", 4), Some((5, "b c")));
-    assert_destination(&rt, raw_destination("[a](<b", 4), None);
-    assert_destination(&rt, leading_destination("/b (title)"), Some((2, "/b")));
+    assert_same(&rt, raw_destination("[a](<b c>)", 4), Some((5, "b c")));
+    assert_same(&rt, raw_destination("[a](<b", 4), None);
+    assert_same(&rt, leading_destination("/b (title)"), Some((2, "/b")));
     assert_text(&rt, link_title(rt.alloc(), "Q&amp;A", &FEW_ENTITIES), "Q&A");
 }
 
-fn assert_autolink(rt: &impl Abort, found: Option<(CowStr<'_>, &str)>, wanted: (&str, &str)) {
-    let (uri, after) = found.expect(rt, "no autolink");
+// The address that a call finds, and the text behind it.
+fn assert_autolink<T: AsStr + Drop>(
+    rt: &impl Abort,
+    link: Option<(T, &str)>,
+    wanted: (&str, &str),
+) {
+    let (uri, after) = found(rt, link);
     assert_same(rt, (uri.as_str(), after), wanted);
 }
 
 #[test]
 fn an_autolink_ends_at_its_bracket(rt: HostRuntime) {
-    let found = autolink("<https://commonmark.org> says", 1);
-    assert_autolink(&rt, found, ("https://commonmark.org", " says"));
-}
-
-fn is_none<T: Drop>(found: Option<T>) -> bool {
-    found.is_none()
+    let link = autolink("<https://commonmark.org> says", 1);
+    assert_autolink(&rt, link, ("https://commonmark.org", " says"));
 }
 
 #[test]
