@@ -2,11 +2,25 @@
 mod reading;
 mod tables;
 
+use crate::runs::{DONE, FailingWriter, Parts, Program, assert_end, assert_run};
 use page_blocks::program::run_program;
 use std::alloc::Global;
-use std::io::{Error, Read, Result, Write};
+use std::io::{Read, Write};
 use std::process::Abort;
-use std::test::Fail;
+
+struct Blocks;
+
+impl Program for Blocks {
+    fn run<R: Read, W: Write, V: Write>(
+        alloc: Global,
+        words: &[&str],
+        input: &mut R,
+        output: &mut W,
+        faults: &mut V,
+    ) -> u8 {
+        run_program(alloc, words, input, output, faults)
+    }
+}
 
 // A page with every kind of block.
 const PAGE: &[u8] = b"# One\n\nA paragraph\nof two lines\n\nTwo\n===\n\
@@ -19,346 +33,326 @@ const TOLD: &str = "1 1 0 heading 1\n2 2 0 blank\n3 4 0 paragraph\n5 5 0 blank\n
     24 24 0 item - 0\n24 24 1 paragraph\n25 25 0 item ) 3\n25 25 1 paragraph\n\
     26 27 0 fenced 3 ~\n";
 
-// Fails at each read.
-#[derive(Drop)]
-struct FailingReader;
-
-impl Read for FailingReader {
-    fn read(&mut self, _buf: &mut [u8]) -> Result<usize> {
-        Err(Error::other("read"))
-    }
-}
-
-// Fails at each write.
-#[derive(Drop)]
-struct FailingWriter;
-
-impl Write for FailingWriter {
-    fn write(&mut self, _buf: &[u8]) -> Result<usize> {
-        Err(Error::other("write"))
-    }
-
-    fn flush(&mut self) -> Result<()> {
-        Ok(())
-    }
-}
-
 // What a page is told as.
 type Row = (&'static [u8], &'static str);
 
-fn assert_rows(rt: &impl Abort, alloc: Global, rows: &[Row]) -> std::result::Result<(), Fail> {
-    assert_told(rt, alloc, &[], rows)
+// The pages are told so.
+fn assert_rows(rt: &impl Abort, alloc: Global, rows: &[Row]) {
+    assert_told(rt, alloc, &[], rows);
 }
 
 // The same with words.
-fn assert_told(
-    rt: &impl Abort,
-    alloc: Global,
-    words: &[&str],
-    rows: &[Row],
-) -> std::result::Result<(), Fail> {
+fn assert_told(rt: &impl Abort, alloc: Global, words: &[&str], rows: &[Row]) {
     for (page, told) in rows {
-        let mut input = *page;
-        let mut output = Vec::new(alloc);
-        let mut faults = Vec::new(alloc);
-        let status = run_program(alloc, words, &mut input, &mut output, &mut faults);
-        assert_eq!(rt; status, 0);
-        assert_eq!(rt; output.as_slice(), told.as_bytes());
-        assert_eq!(rt; faults.len(), 0);
+        assert_run::<Blocks, _>(rt, alloc, words, &mut &**page, told, DONE);
     }
-    Ok(())
 }
 
 #[test]
-fn a_page_is_told_block_by_block(rt: HostRuntime) -> std::result::Result<(), Fail> {
+fn a_page_is_told_block_by_block(rt: HostRuntime) {
     assert_rows(
         &rt,
         rt.alloc(),
         &[(PAGE, TOLD), (b"", ""), (b"\n", "1 1 0 blank\n")],
-    )
+    );
 }
 
-#[test]
-fn lines_end_in_three_ways(rt: HostRuntime) -> std::result::Result<(), Fail> {
-    let rows: [Row; 3] = [
-        (
-            b"a\r\r\nb\r",
-            "1 1 0 paragraph\n2 2 0 blank\n3 3 0 paragraph\n",
-        ),
-        (b"a\rb\r\n---\rc", "1 3 0 setext 2\n4 4 0 paragraph\n"),
-        (b"```\ra\r```\r", "1 3 0 fenced 3 `\n"),
-    ];
-    assert_rows(&rt, rt.alloc(), &rows)
-}
+const LINE_ENDS: &[Row] = &[
+    (
+        b"a\r\r\nb\r",
+        "1 1 0 paragraph\n2 2 0 blank\n3 3 0 paragraph\n",
+    ),
+    (b"a\rb\r\n---\rc", "1 3 0 setext 2\n4 4 0 paragraph\n"),
+    (b"```\ra\r```\r", "1 3 0 fenced 3 `\n"),
+];
 
 #[test]
-fn paragraphs_go_on_or_are_interrupted(rt: HostRuntime) -> std::result::Result<(), Fail> {
-    let rows: [Row; 6] = [
-        (b"a\n    b\n", "1 2 0 paragraph\n"),
-        (
-            b"a\n2. b\n1. c\n",
-            "1 2 0 paragraph\n3 3 0 item . 1\n3 3 1 paragraph\n",
-        ),
-        (b"a\n<b>\n<p>\n", "1 2 0 paragraph\n3 3 0 html 6\n"),
-        (
-            b"a\n- - -\n-\n",
-            "1 1 0 paragraph\n2 2 0 break\n3 3 0 item - 0\n3 3 1 blank\n",
-        ),
-        (b"a\n    ===\n===\n", "1 3 0 setext 1\n"),
-        (b"===\na\n", "1 2 0 paragraph\n"),
-    ];
-    assert_rows(&rt, rt.alloc(), &rows)
+fn lines_end_in_three_ways(rt: HostRuntime) {
+    assert_rows(&rt, rt.alloc(), LINE_ENDS);
 }
 
-#[test]
-fn code_ends_at_its_last_line(rt: HostRuntime) -> std::result::Result<(), Fail> {
-    let rows: [Row; 5] = [
-        (
-            b"    a\n\n  \n    b\n\n\nc\n",
-            "1 4 0 indented\n5 6 0 blank\n7 7 0 paragraph\n",
-        ),
-        (b"    a\n", "1 1 0 indented\n"),
-        (b"  \t\n\ta\n", "1 1 0 blank\n2 2 0 indented\n"),
-        (
-            b"   ```\na\n    ```\n  ```` \t\nb",
-            "1 4 0 fenced 3 `\n5 5 0 paragraph\n",
-        ),
-        (b"``` `\n~~~ `\n", "1 1 0 paragraph\n2 2 0 fenced 3 ~ `\n"),
-    ];
-    assert_rows(&rt, rt.alloc(), &rows)
-}
+const PARAGRAPHS: &[Row] = &[
+    (b"a\n    b\n", "1 2 0 paragraph\n"),
+    (
+        b"a\n2. b\n1. c\n",
+        "1 2 0 paragraph\n3 3 0 item . 1\n3 3 1 paragraph\n",
+    ),
+    (b"a\n<b>\n<p>\n", "1 2 0 paragraph\n3 3 0 html 6\n"),
+    (
+        b"a\n- - -\n-\n",
+        "1 1 0 paragraph\n2 2 0 break\n3 3 0 item - 0\n3 3 1 blank\n",
+    ),
+    (b"a\n    ===\n===\n", "1 3 0 setext 1\n"),
+    (b"===\na\n", "1 2 0 paragraph\n"),
+];
 
 #[test]
-fn info_strings_stand_in_a_line(rt: HostRuntime) -> std::result::Result<(), Fail> {
-    let rows: [Row; 7] = [
-        (b"~~~  a b \t\r\n~~~\r\n", "1 2 0 fenced 3 ~ a b\n"),
-        (b"  ````rust\n", "1 1 0 fenced 4 ` rust\n"),
-        (b"~~~ ~~~ x~\rb", "1 2 0 fenced 3 ~ ~~~ x~\n"),
-        (
-            b"``` \xc3\xa9\xff",
-            "1 1 0 fenced 3 ` \\u00c3\\u00a9\\u00ff\n",
-        ),
-        (
-            b"``` \"\\\x00\x7f\x1b!}~",
-            "1 1 0 fenced 3 ` \\u0022\\u005c\\u0000\\u007f\\u001b!}~\n",
-        ),
-        (b"```\x0b\n", "1 1 0 fenced 3 ` \\u000b\n"),
-        (b"```  \t \n", "1 1 0 fenced 3 `\n"),
-    ];
-    assert_rows(&rt, rt.alloc(), &rows)
+fn paragraphs_go_on_or_are_interrupted(rt: HostRuntime) {
+    assert_rows(&rt, rt.alloc(), PARAGRAPHS);
 }
 
-#[test]
-fn info_strings_stand_behind_containers(rt: HostRuntime) -> std::result::Result<(), Fail> {
-    let rows: [Row; 6] = [
-        (b"> ``` a b\n> c\n", "1 1 0 quote\n1 2 1 fenced 3 ` a b\n"),
-        (
-            b"1) ~~~~ x ~\n   ~~~~\n",
-            "1 1 0 item ) 1\n1 2 1 fenced 4 ~ x ~\n",
-        ),
-        (
-            b"> -  ``` q\n>    ```\n",
-            "1 1 0 quote\n1 1 1 item - 0\n1 2 2 fenced 3 ` q\n",
-        ),
-        (b">\t```\ty\n", "1 1 0 quote\n1 1 1 fenced 3 ` y\n"),
-        (
-            b"- ``` a\n``` b\n",
-            "1 1 0 item - 0\n1 1 1 fenced 3 ` a\n2 2 0 fenced 3 ` b\n",
-        ),
-        (
-            b"- a\n\n  ~~~ i\n",
-            "1 1 0 item - 0\n1 1 1 paragraph\n2 2 1 blank\n3 3 1 fenced 3 ~ i\n",
-        ),
-    ];
-    assert_rows(&rt, rt.alloc(), &rows)
-}
+const CODE: &[Row] = &[
+    (
+        b"    a\n\n  \n    b\n\n\nc\n",
+        "1 4 0 indented\n5 6 0 blank\n7 7 0 paragraph\n",
+    ),
+    (b"    a\n", "1 1 0 indented\n"),
+    (b"  \t\n\ta\n", "1 1 0 blank\n2 2 0 indented\n"),
+    (
+        b"   ```\na\n    ```\n  ```` \t\nb",
+        "1 4 0 fenced 3 `\n5 5 0 paragraph\n",
+    ),
+    (b"``` `\n~~~ `\n", "1 1 0 paragraph\n2 2 0 fenced 3 ~ `\n"),
+];
 
 #[test]
-fn json_has_an_object_for_each_block(rt: HostRuntime) -> std::result::Result<(), Fail> {
-    let rows: [Row; 5] = [
-        (b"", ""),
-        (
-            b"\n# a\nb\n---\n***\n",
-            "{\"first\":1,\"last\":1,\"depth\":0,\"kind\":\"blank\"}\n\
-            {\"first\":2,\"last\":2,\"depth\":0,\"kind\":\"heading\",\"level\":1}\n\
-            {\"first\":3,\"last\":4,\"depth\":0,\"kind\":\"setext\",\"level\":2}\n\
-            {\"first\":5,\"last\":5,\"depth\":0,\"kind\":\"break\"}\n",
-        ),
-        (
-            b"    a\n<p>\n",
-            "{\"first\":1,\"last\":1,\"depth\":0,\"kind\":\"indented\"}\n\
-            {\"first\":2,\"last\":2,\"depth\":0,\"kind\":\"html\",\"condition\":6}\n",
-        ),
-        (
-            b"~~~~ \"a\xff\n",
-            "{\"first\":1,\"last\":1,\"depth\":0,\"kind\":\"fenced\",\"count\":4,\"fence\":\"~\",\
-            \"info\":\"\\u0022a\\u00ff\"}\n",
-        ),
-        (
-            b"```\n",
-            "{\"first\":1,\"last\":1,\"depth\":0,\"kind\":\"fenced\",\"count\":3,\"fence\":\"`\",\"info\":\"\"}\n",
-        ),
-    ];
-    assert_told(&rt, rt.alloc(), &["--json"], &rows)
+fn code_ends_at_its_last_line(rt: HostRuntime) {
+    assert_rows(&rt, rt.alloc(), CODE);
 }
 
-#[test]
-fn json_has_an_object_for_each_container(rt: HostRuntime) -> std::result::Result<(), Fail> {
-    let rows: [Row; 3] = [
-        (
-            b"> a\n- b\nc",
-            "{\"first\":1,\"last\":1,\"depth\":0,\"kind\":\"quote\"}\n\
-            {\"first\":1,\"last\":1,\"depth\":1,\"kind\":\"paragraph\"}\n\
-            {\"first\":2,\"last\":2,\"depth\":0,\"kind\":\"item\",\"delimiter\":\"-\",\"start\":0}\n\
-            {\"first\":2,\"last\":3,\"depth\":1,\"kind\":\"paragraph\"}\n",
-        ),
-        (
-            b"10. > ~~~ \"x\\\n",
-            "{\"first\":1,\"last\":1,\"depth\":0,\"kind\":\"item\",\"delimiter\":\".\",\"start\":10}\n\
-            {\"first\":1,\"last\":1,\"depth\":1,\"kind\":\"quote\"}\n\
-            {\"first\":1,\"last\":1,\"depth\":2,\"kind\":\"fenced\",\"count\":3,\"fence\":\"~\",\
-            \"info\":\"\\u0022x\\u005c\"}\n",
-        ),
-        (
-            b"+\n\n* # h\n",
-            "{\"first\":1,\"last\":1,\"depth\":0,\"kind\":\"item\",\"delimiter\":\"+\",\"start\":0}\n\
-            {\"first\":1,\"last\":1,\"depth\":1,\"kind\":\"blank\"}\n\
-            {\"first\":2,\"last\":2,\"depth\":0,\"kind\":\"blank\"}\n\
-            {\"first\":3,\"last\":3,\"depth\":0,\"kind\":\"item\",\"delimiter\":\"*\",\"start\":0}\n\
-            {\"first\":3,\"last\":3,\"depth\":1,\"kind\":\"heading\",\"level\":1}\n",
-        ),
-    ];
-    assert_told(&rt, rt.alloc(), &["--json"], &rows)
-}
+const INFO_STRINGS: &[Row] = &[
+    (b"~~~  a b \t\r\n~~~\r\n", "1 2 0 fenced 3 ~ a b\n"),
+    (b"  ````rust\n", "1 1 0 fenced 4 ` rust\n"),
+    (b"~~~ ~~~ x~\rb", "1 2 0 fenced 3 ~ ~~~ x~\n"),
+    (
+        b"``` \xc3\xa9\xff",
+        "1 1 0 fenced 3 ` \\u00c3\\u00a9\\u00ff\n",
+    ),
+    (
+        b"``` \"\\\x00\x7f\x1b!}~",
+        "1 1 0 fenced 3 ` \\u0022\\u005c\\u0000\\u007f\\u001b!}~\n",
+    ),
+    (b"```\x0b\n", "1 1 0 fenced 3 ` \\u000b\n"),
+    (b"```  \t \n", "1 1 0 fenced 3 `\n"),
+];
 
 #[test]
-fn html_ends_by_its_condition(rt: HostRuntime) -> std::result::Result<(), Fail> {
-    let rows: [Row; 5] = [
-        (
-            b"<pre>\n\n</Script>\na\n",
-            "1 3 0 html 1\n4 4 0 paragraph\n",
-        ),
-        (
-            b"<?a?>\n<!B>\n<![CDATA[\n]]>\n",
-            "1 1 0 html 3\n2 2 0 html 4\n3 4 0 html 5\n",
-        ),
-        (
-            b"<b c>\nd\n\ne\n",
-            "1 2 0 html 7\n3 3 0 blank\n4 4 0 paragraph\n",
-        ),
-        (b"</pre>\na\n", "1 2 0 html 7\n"),
-        (b"<!-- a\nb", "1 2 0 html 2\n"),
-    ];
-    assert_rows(&rt, rt.alloc(), &rows)
+fn info_strings_stand_in_a_line(rt: HostRuntime) {
+    assert_rows(&rt, rt.alloc(), INFO_STRINGS);
+}
+
+const INFO_STRINGS_BEHIND_CONTAINERS: &[Row] = &[
+    (b"> ``` a b\n> c\n", "1 1 0 quote\n1 2 1 fenced 3 ` a b\n"),
+    (
+        b"1) ~~~~ x ~\n   ~~~~\n",
+        "1 1 0 item ) 1\n1 2 1 fenced 4 ~ x ~\n",
+    ),
+    (
+        b"> -  ``` q\n>    ```\n",
+        "1 1 0 quote\n1 1 1 item - 0\n1 2 2 fenced 3 ` q\n",
+    ),
+    (b">\t```\ty\n", "1 1 0 quote\n1 1 1 fenced 3 ` y\n"),
+    (
+        b"- ``` a\n``` b\n",
+        "1 1 0 item - 0\n1 1 1 fenced 3 ` a\n2 2 0 fenced 3 ` b\n",
+    ),
+    (
+        b"- a\n\n  ~~~ i\n",
+        "1 1 0 item - 0\n1 1 1 paragraph\n2 2 1 blank\n3 3 1 fenced 3 ~ i\n",
+    ),
+];
+
+#[test]
+fn info_strings_stand_behind_containers(rt: HostRuntime) {
+    assert_rows(&rt, rt.alloc(), INFO_STRINGS_BEHIND_CONTAINERS);
+}
+
+const JSON_OF_BLOCKS: &[Row] = &[
+    (b"", ""),
+    (
+        b"\n# a\nb\n---\n***\n",
+        "{\"first\":1,\"last\":1,\"depth\":0,\"kind\":\"blank\"}\n\
+        {\"first\":2,\"last\":2,\"depth\":0,\"kind\":\"heading\",\"level\":1}\n\
+        {\"first\":3,\"last\":4,\"depth\":0,\"kind\":\"setext\",\"level\":2}\n\
+        {\"first\":5,\"last\":5,\"depth\":0,\"kind\":\"break\"}\n",
+    ),
+    (
+        b"    a\n<p>\n",
+        "{\"first\":1,\"last\":1,\"depth\":0,\"kind\":\"indented\"}\n\
+        {\"first\":2,\"last\":2,\"depth\":0,\"kind\":\"html\",\"condition\":6}\n",
+    ),
+    (
+        b"~~~~ \"a\xff\n",
+        "{\"first\":1,\"last\":1,\"depth\":0,\"kind\":\"fenced\",\"count\":4,\"fence\":\"~\",\
+        \"info\":\"\\u0022a\\u00ff\"}\n",
+    ),
+    (
+        b"```\n",
+        "{\"first\":1,\"last\":1,\"depth\":0,\"kind\":\"fenced\",\"count\":3,\"fence\":\"`\",\"info\":\"\"}\n",
+    ),
+];
+
+#[test]
+fn json_has_an_object_for_each_block(rt: HostRuntime) {
+    assert_told(&rt, rt.alloc(), &["--json"], JSON_OF_BLOCKS);
+}
+
+const JSON_OF_CONTAINERS: &[Row] = &[
+    (
+        b"> a\n- b\nc",
+        "{\"first\":1,\"last\":1,\"depth\":0,\"kind\":\"quote\"}\n\
+        {\"first\":1,\"last\":1,\"depth\":1,\"kind\":\"paragraph\"}\n\
+        {\"first\":2,\"last\":2,\"depth\":0,\"kind\":\"item\",\"delimiter\":\"-\",\"start\":0}\n\
+        {\"first\":2,\"last\":3,\"depth\":1,\"kind\":\"paragraph\"}\n",
+    ),
+    (
+        b"10. > ~~~ \"x\\\n",
+        "{\"first\":1,\"last\":1,\"depth\":0,\"kind\":\"item\",\"delimiter\":\".\",\"start\":10}\n\
+        {\"first\":1,\"last\":1,\"depth\":1,\"kind\":\"quote\"}\n\
+        {\"first\":1,\"last\":1,\"depth\":2,\"kind\":\"fenced\",\"count\":3,\"fence\":\"~\",\
+        \"info\":\"\\u0022x\\u005c\"}\n",
+    ),
+    (
+        b"+\n\n* # h\n",
+        "{\"first\":1,\"last\":1,\"depth\":0,\"kind\":\"item\",\"delimiter\":\"+\",\"start\":0}\n\
+        {\"first\":1,\"last\":1,\"depth\":1,\"kind\":\"blank\"}\n\
+        {\"first\":2,\"last\":2,\"depth\":0,\"kind\":\"blank\"}\n\
+        {\"first\":3,\"last\":3,\"depth\":0,\"kind\":\"item\",\"delimiter\":\"*\",\"start\":0}\n\
+        {\"first\":3,\"last\":3,\"depth\":1,\"kind\":\"heading\",\"level\":1}\n",
+    ),
+];
+
+#[test]
+fn json_has_an_object_for_each_container(rt: HostRuntime) {
+    assert_told(&rt, rt.alloc(), &["--json"], JSON_OF_CONTAINERS);
+}
+
+const HTML: &[Row] = &[
+    (
+        b"<pre>\n\n</Script>\na\n",
+        "1 3 0 html 1\n4 4 0 paragraph\n",
+    ),
+    (
+        b"<?a?>\n<!B>\n<![CDATA[\n]]>\n",
+        "1 1 0 html 3\n2 2 0 html 4\n3 4 0 html 5\n",
+    ),
+    (
+        b"<b c>\nd\n\ne\n",
+        "1 2 0 html 7\n3 3 0 blank\n4 4 0 paragraph\n",
+    ),
+    (b"</pre>\na\n", "1 2 0 html 7\n"),
+    (b"<!-- a\nb", "1 2 0 html 2\n"),
+];
+
+#[test]
+fn html_ends_by_its_condition(rt: HostRuntime) {
+    assert_rows(&rt, rt.alloc(), HTML);
 }
 
 // Examples of CommonMark 0.31.2, section 5.1.
+const QUOTES: &[Row] = &[
+    (
+        b"> # Foo\n> bar\n> baz\n",
+        "1 1 0 quote\n1 1 1 heading 1\n2 3 1 paragraph\n",
+    ),
+    (b"    > # Foo\n", "1 1 0 indented\n"),
+    (b"> bar\nbaz\n> foo\n", "1 1 0 quote\n1 3 1 paragraph\n"),
+    (
+        b"> foo\n---\n",
+        "1 1 0 quote\n1 1 1 paragraph\n2 2 0 break\n",
+    ),
+    (
+        b"> ```\nfoo\n```\n",
+        "1 1 0 quote\n1 1 1 fenced 3 `\n2 2 0 paragraph\n3 3 0 fenced 3 `\n",
+    ),
+    (b"> foo\n    - bar\n", "1 1 0 quote\n1 2 1 paragraph\n"),
+    (
+        b"> bar\n\nbaz\n",
+        "1 1 0 quote\n1 1 1 paragraph\n2 2 0 blank\n3 3 0 paragraph\n",
+    ),
+    (
+        b"> > > foo\nbar\n",
+        "1 1 0 quote\n1 1 1 quote\n1 1 2 quote\n1 2 3 paragraph\n",
+    ),
+    (b">\t\tfoo\n", "1 1 0 quote\n1 1 1 indented\n"),
+];
+
 #[test]
-fn quotes_hold_blocks(rt: HostRuntime) -> std::result::Result<(), Fail> {
-    let rows: [Row; 9] = [
-        (
-            b"> # Foo\n> bar\n> baz\n",
-            "1 1 0 quote\n1 1 1 heading 1\n2 3 1 paragraph\n",
-        ),
-        (b"    > # Foo\n", "1 1 0 indented\n"),
-        (b"> bar\nbaz\n> foo\n", "1 1 0 quote\n1 3 1 paragraph\n"),
-        (
-            b"> foo\n---\n",
-            "1 1 0 quote\n1 1 1 paragraph\n2 2 0 break\n",
-        ),
-        (
-            b"> ```\nfoo\n```\n",
-            "1 1 0 quote\n1 1 1 fenced 3 `\n2 2 0 paragraph\n3 3 0 fenced 3 `\n",
-        ),
-        (b"> foo\n    - bar\n", "1 1 0 quote\n1 2 1 paragraph\n"),
-        (
-            b"> bar\n\nbaz\n",
-            "1 1 0 quote\n1 1 1 paragraph\n2 2 0 blank\n3 3 0 paragraph\n",
-        ),
-        (
-            b"> > > foo\nbar\n",
-            "1 1 0 quote\n1 1 1 quote\n1 1 2 quote\n1 2 3 paragraph\n",
-        ),
-        (b">\t\tfoo\n", "1 1 0 quote\n1 1 1 indented\n"),
-    ];
-    assert_rows(&rt, rt.alloc(), &rows)
+fn quotes_hold_blocks(rt: HostRuntime) {
+    assert_rows(&rt, rt.alloc(), QUOTES);
 }
 
 // Examples of CommonMark 0.31.2, section 5.2.
-#[test]
-fn items_hold_blocks(rt: HostRuntime) -> std::result::Result<(), Fail> {
-    let rows: [Row; 9] = [
-        (
-            b"- one\n\n two\n",
-            "1 1 0 item - 0\n1 1 1 paragraph\n2 2 1 blank\n3 3 0 paragraph\n",
-        ),
-        (
-            b"- one\n\n  two\n",
-            "1 1 0 item - 0\n1 1 1 paragraph\n2 2 1 blank\n3 3 1 paragraph\n",
-        ),
-        (
-            b"- foo\n\n      bar\n",
-            "1 1 0 item - 0\n1 1 1 paragraph\n2 2 1 blank\n3 3 1 indented\n",
-        ),
-        (
-            b"1.     indented code\n\n   paragraph\n",
-            "1 1 0 item . 1\n1 1 1 indented\n2 2 1 blank\n3 3 1 paragraph\n",
-        ),
-        (
-            b"-\n\n  foo\n",
-            "1 1 0 item - 0\n1 1 1 blank\n2 2 0 blank\n3 3 0 paragraph\n",
-        ),
-        (
-            b"-\n  foo\n",
-            "1 1 0 item - 0\n1 1 1 blank\n2 2 1 paragraph\n",
-        ),
-        (
-            b"> 1. > Blockquote\ncontinued here.\n",
-            "1 1 0 quote\n1 1 1 item . 1\n1 1 2 quote\n1 2 3 paragraph\n",
-        ),
-        (
-            b"10) foo\n    - bar\n",
-            "1 1 0 item ) 10\n1 1 1 paragraph\n2 2 1 item - 0\n2 2 2 paragraph\n",
-        ),
-        (
-            b"- 2. foo\n",
-            "1 1 0 item - 0\n1 1 1 item . 2\n1 1 2 paragraph\n",
-        ),
-    ];
-    assert_rows(&rt, rt.alloc(), &rows)
-}
+const ITEMS: &[Row] = &[
+    (
+        b"- one\n\n two\n",
+        "1 1 0 item - 0\n1 1 1 paragraph\n2 2 1 blank\n3 3 0 paragraph\n",
+    ),
+    (
+        b"- one\n\n  two\n",
+        "1 1 0 item - 0\n1 1 1 paragraph\n2 2 1 blank\n3 3 1 paragraph\n",
+    ),
+    (
+        b"- foo\n\n      bar\n",
+        "1 1 0 item - 0\n1 1 1 paragraph\n2 2 1 blank\n3 3 1 indented\n",
+    ),
+    (
+        b"1.     indented code\n\n   paragraph\n",
+        "1 1 0 item . 1\n1 1 1 indented\n2 2 1 blank\n3 3 1 paragraph\n",
+    ),
+    (
+        b"-\n\n  foo\n",
+        "1 1 0 item - 0\n1 1 1 blank\n2 2 0 blank\n3 3 0 paragraph\n",
+    ),
+    (
+        b"-\n  foo\n",
+        "1 1 0 item - 0\n1 1 1 blank\n2 2 1 paragraph\n",
+    ),
+    (
+        b"> 1. > Blockquote\ncontinued here.\n",
+        "1 1 0 quote\n1 1 1 item . 1\n1 1 2 quote\n1 2 3 paragraph\n",
+    ),
+    (
+        b"10) foo\n    - bar\n",
+        "1 1 0 item ) 10\n1 1 1 paragraph\n2 2 1 item - 0\n2 2 2 paragraph\n",
+    ),
+    (
+        b"- 2. foo\n",
+        "1 1 0 item - 0\n1 1 1 item . 2\n1 1 2 paragraph\n",
+    ),
+];
 
 #[test]
-fn help_is_printed_and_other_words_are_refused(rt: HostRuntime) -> std::result::Result<(), Fail> {
-    let alloc = rt.alloc();
-    let mut input: &[u8] = b"a";
+fn items_hold_blocks(rt: HostRuntime) {
+    assert_rows(&rt, rt.alloc(), ITEMS);
+}
+
+// A run of `--help`, which is done, prints a text that begins so.
+fn assert_help(rt: &impl Abort, alloc: Global, front: &[u8]) {
     let mut output = Vec::new(alloc);
-    let mut faults = Vec::new(alloc);
-    let status = run_program(alloc, &["--help"], &mut input, &mut output, &mut faults);
-    assert_eq!(rt; status, 0);
-    assert!(rt; output.as_slice().starts_with(b"usage: cmark_blocks "));
-    let status = run_program(alloc, &["--hel"], &mut input, &mut output, &mut faults);
-    assert_eq!(rt; status, 2);
-    assert_eq!(rt;
-        faults.as_slice(),
-        b"usage: cmark_blocks [--json | --help] < PAGE\n".as_slice()
+    assert_end::<Blocks, _, _>(
+        rt,
+        alloc,
+        &["--help"],
+        &mut b"a".as_slice(),
+        &mut output,
+        DONE,
     );
-    Ok(())
+    assert!(rt; output.as_slice().starts_with(front));
 }
 
 #[test]
-fn faults_end_with_status_3(rt: HostRuntime) -> std::result::Result<(), Fail> {
-    let alloc = rt.alloc();
-    let mut output = Vec::new(alloc);
-    let mut faults = Vec::new(alloc);
-    let status = run_program(alloc, &[], &mut FailingReader, &mut output, &mut faults);
-    assert_eq!(rt; status, 3);
-    assert_eq!(rt; faults.as_slice(), b"read fault\n".as_slice());
-    assert_eq!(rt; output.len(), 0);
-    let mut input: &[u8] = b"a";
-    let mut faults = Vec::new(alloc);
-    let status = run_program(alloc, &[], &mut input, &mut FailingWriter, &mut faults);
-    assert_eq!(rt; status, 3);
-    assert_eq!(rt; faults.as_slice(), b"write fault\n".as_slice());
-    Ok(())
+fn help_is_printed_and_other_words_are_refused(rt: HostRuntime) {
+    assert_help(&rt, rt.alloc(), b"usage: cmark_blocks ");
+    let usage = b"usage: cmark_blocks [--json | --help] < PAGE\n".as_slice();
+    let mut input = b"a".as_slice();
+    assert_run::<Blocks, _>(&rt, rt.alloc(), &["--hel"], &mut input, "", (2, usage));
+}
+
+#[test]
+fn faults_end_with_status_3(rt: HostRuntime) {
+    let read_fault = b"read fault\n".as_slice();
+    let mut input = Parts::failing(b"");
+    assert_run::<Blocks, _>(&rt, rt.alloc(), &[], &mut input, "", (3, read_fault));
+    let write_fault = b"write fault\n".as_slice();
+    let mut input = b"a".as_slice();
+    let mut output = FailingWriter { writes: 0 };
+    assert_end::<Blocks, _, _>(
+        &rt,
+        rt.alloc(),
+        &[],
+        &mut input,
+        &mut output,
+        (3, write_fault),
+    );
 }

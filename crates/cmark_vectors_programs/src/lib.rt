@@ -2,7 +2,11 @@
 #![tactic(auto)]
 
 #[cfg(test)]
+mod asserts;
+#[cfg(test)]
 mod blocks;
+#[cfg(test)]
+mod runs;
 #[cfg(test)]
 mod scan;
 #[cfg(test)]

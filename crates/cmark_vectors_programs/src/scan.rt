@@ -4,36 +4,26 @@ mod html;
 mod label;
 mod unescaping;
 
+use crate::asserts::assert_same;
+use crate::runs::{DONE, End, FailingWriter, Parts, Program, assert_end, assert_run};
 use scan_commands::program::run_program;
 use std::alloc::Global;
-use std::io::{Error, Read, Result, Write};
+use std::io::{Read, Result, Write};
 use std::process::Abort;
-use std::test::Fail;
 
 const USAGE: &[u8] = b"usage: cmark_scan line CALL.. | html | label | unescape\n";
 
-// Gives its bytes, one a call, and fails at a read past those that it may answer.
-#[derive(Drop)]
-struct FailingReader<'a> {
-    bytes: &'a [u8],
-    reads_left: usize,
-}
+struct Scan;
 
-impl Read for FailingReader<'_> {
-    fn read(&mut self, buf: &mut [u8]) -> Result<usize> {
-        if self.reads_left == 0 {
-            return Err(Error::other("read"));
-        }
-        self.reads_left -= 1;
-        if buf.is_empty() {
-            return Ok(0);
-        }
-        let Some((first, others)) = self.bytes.split_first() else {
-            return Ok(0);
-        };
-        buf[0] = *first;
-        self.bytes = others;
-        Ok(1)
+impl Program for Scan {
+    fn run<R: Read, W: Write, V: Write>(
+        alloc: Global,
+        words: &[&str],
+        input: &mut R,
+        output: &mut W,
+        faults: &mut V,
+    ) -> u8 {
+        run_program(alloc, words, input, output, faults)
     }
 }
 
@@ -56,27 +46,18 @@ impl Read for EndlessReader {
     }
 }
 
-// Fails at each write, and counts them.
-#[derive(Drop)]
-struct FailingWriter {
-    writes: u64,
-}
-
-impl Write for FailingWriter {
-    fn write(&mut self, _buf: &[u8]) -> Result<usize> {
-        self.writes = self.writes.saturating_add(1);
-        Err(Error::other("write"))
-    }
-
-    fn flush(&mut self) -> Result<()> {
-        Ok(())
-    }
-}
-
 // Takes one byte a write.
 #[derive(Drop)]
 struct SlowWriter {
     taken: Vec<u8>,
+}
+
+impl SlowWriter {
+    fn new(alloc: Global) -> SlowWriter {
+        SlowWriter {
+            taken: Vec::new(alloc),
+        }
+    }
 }
 
 impl Write for SlowWriter {
@@ -93,300 +74,307 @@ impl Write for SlowWriter {
     }
 }
 
+// An input, and what a run that is done prints.
+type Told = (&'static [u8], &'static str);
+
+// Runs of these words print these.
+fn assert_told(rt: &impl Abort, alloc: Global, words: &[&str], rows: &[Told]) {
+    for (input, printed) in rows {
+        assert_run::<Scan, _>(rt, alloc, words, &mut &**input, printed, DONE);
+    }
+}
+
+// A run over bytes that are no text tells so.
+fn assert_no_text(rt: &impl Abort, alloc: Global, words: &[&str], mut input: &[u8]) {
+    assert_run::<Scan, _>(rt, alloc, words, &mut input, "", (1, b"not UTF-8\n"));
+}
+
 // The words and the input of a run of the program; its status, and what it prints.
 type Row = ((&'static [&'static str], &'static [u8]), (u8, &'static str));
 
-fn assert_rows(rt: &impl Abort, alloc: Global, rows: &[Row]) -> std::result::Result<(), Fail> {
+// The runs end and print so.
+fn assert_rows(rt: &impl Abort, alloc: Global, rows: &[Row]) {
     for ((words, input), (status, printed)) in rows {
-        let mut input = *input;
-        let mut output = Vec::new(alloc);
-        let mut faults = Vec::new(alloc);
-        let found = run_program(alloc, words, &mut input, &mut output, &mut faults);
-        assert_eq!(rt; found, *status, "before {printed}");
-        assert_eq!(rt; output.as_slice(), printed.as_bytes());
-        assert_eq!(rt; faults.len(), 0);
+        assert_run::<Scan, _>(rt, alloc, words, &mut &**input, printed, (*status, b""));
     }
-    Ok(())
+}
+
+const OVER_SPACES: &[Row] = &[
+    (
+        (&["line", "upto:2", "space:1", "eol"], b"   x"),
+        (0, "upto 2\nspace true\neol false\nscanned 3\nrest 78\n"),
+    ),
+    (
+        (&["line", "space:1"], b"x"),
+        (0, "space false\nscanned 0\nrest 78\n"),
+    ),
+    (
+        (&["line", "upto:9", "eol"], b"  \nx"),
+        (0, "upto 2\neol true\nscanned 2\nrest 0a78\n"),
+    ),
+    (
+        (&["line", "space:4", "eol"], b"   "),
+        (0, "space false\neol true\nscanned 3\nrest -\n"),
+    ),
+    ((&["line"], b"a"), (0, "scanned 0\nrest 61\n")),
+    ((&["line"], b""), (0, "scanned 0\nrest -\n")),
+    (
+        (&["line", "upto:18446744073709551615"], b" x"),
+        (0, "upto 1\nscanned 1\nrest 78\n"),
+    ),
+    (
+        (&["line", "upto:00000000000000000000000000000001"], b"  x"),
+        (0, "upto 1\nscanned 1\nrest 2078\n"),
+    ),
+];
+
+#[test]
+fn prints_runs_over_spaces(rt: HostRuntime) {
+    assert_rows(&rt, rt.alloc(), OVER_SPACES);
+}
+
+const OVER_TABS: &[Row] = &[
+    (
+        (&["line", "upto:3", "upto:5"], b"\tx"),
+        (0, "upto 3\nupto 1\nscanned 1\nrest 78\n"),
+    ),
+    (
+        (&["line", "upto:3", "eol"], b"\tx"),
+        (1, "upto 3\nscanned 1\nrest 2078\nstop 1 SpacePending\n"),
+    ),
+    (
+        (&["line", "quote", "upto:9"], b">\t\tx"),
+        (0, "quote true\nupto 6\nscanned 3\nrest 78\n"),
+    ),
+    (
+        (&["line", "quote", "quote"], b">\t>"),
+        (
+            1,
+            "quote true\nscanned 2\nrest 20203e\nstop 1 SpacePending\n",
+        ),
+    ),
+    (
+        (&["line", "quote"], b"x"),
+        (0, "quote false\nscanned 0\nrest 78\n"),
+    ),
+];
+
+#[test]
+fn prints_runs_over_tabs(rt: HostRuntime) {
+    assert_rows(&rt, rt.alloc(), OVER_TABS);
+}
+
+const MARKERS: &[Row] = &[
+    (
+        (&["line", "list:0"], b"-\tx"),
+        (0, "list - 0 4\nscanned 2\nrest 78\n"),
+    ),
+    (
+        (&["line", "list:0", "list:0"], b"- * * *"),
+        (0, "list - 0 2\nlist none\nscanned 2\nrest 2a202a202a\n"),
+    ),
+    (
+        (&["line", "list:0"], b"123456789. x"),
+        (0, "list . 123456789 11\nscanned 11\nrest 78\n"),
+    ),
+    (
+        (&["line", "list:0"], b"1234567890. x"),
+        (0, "list none\nscanned 0\nrest 313233343536373839302e2078\n"),
+    ),
+    (
+        (&["line", "list:0"], b"-"),
+        (0, "list - 0 2\nscanned 1\nrest -\n"),
+    ),
+    (
+        (&["line", "def:0"], b":    x"),
+        (0, "def 5\nscanned 5\nrest 78\n"),
+    ),
+    (
+        (&["line", "def:0"], b":     x"),
+        (0, "def 2\nscanned 2\nrest 2020202078\n"),
+    ),
+    (
+        (&["line", "def:0"], b"x"),
+        (0, "def none\nscanned 0\nrest 78\n"),
+    ),
+];
+
+#[test]
+fn prints_markers(rt: HostRuntime) {
+    assert_rows(&rt, rt.alloc(), MARKERS);
+}
+
+const AFTER_TABS: &[Row] = &[
+    (
+        (&["line", "quote", "list:0"], b">\t- x"),
+        (
+            1,
+            "quote true\nscanned 2\nrest 20202d2078\nstop 1 SpacePending\n",
+        ),
+    ),
+    (
+        (&["line", "quote", "upto:3", "list:2"], b">\t- x"),
+        (0, "quote true\nupto 2\nlist - 0 4\nscanned 4\nrest 78\n"),
+    ),
+    (
+        (&["line", "list:0"], b"-\t\tx"),
+        (0, "list - 0 2\nscanned 2\nrest 20202020202078\n"),
+    ),
+    (
+        (&["line", "list:0", "eol"], b"-\t"),
+        (1, "list - 0 2\nscanned 2\nrest 2020\nstop 1 SpacePending\n"),
+    ),
+    (
+        (&["line", "list:18446744073709551615"], b"- x"),
+        (1, "scanned 0\nrest 2d2078\nstop 0 IndentTooLarge\n"),
+    ),
+    (
+        (&["line", "list:18446744073709551599"], b"- x"),
+        (0, "list - 0 18446744073709551601\nscanned 2\nrest 78\n"),
+    ),
+    (
+        (&["line", "upto:1", "list:18446744073709551615"], b"\tx"),
+        (1, "upto 1\nscanned 1\nrest 20202078\nstop 1 SpacePending\n"),
+    ),
+];
+
+#[test]
+fn prints_markers_after_tabs(rt: HostRuntime) {
+    assert_rows(&rt, rt.alloc(), AFTER_TABS);
 }
 
 #[test]
-fn prints_runs_over_spaces(rt: HostRuntime) -> std::result::Result<(), Fail> {
-    let rows: [Row; 8] = [
-        (
-            (&["line", "upto:2", "space:1", "eol"], b"   x"),
-            (0, "upto 2\nspace true\neol false\nscanned 3\nrest 78\n"),
-        ),
-        (
-            (&["line", "space:1"], b"x"),
-            (0, "space false\nscanned 0\nrest 78\n"),
-        ),
-        (
-            (&["line", "upto:9", "eol"], b"  \nx"),
-            (0, "upto 2\neol true\nscanned 2\nrest 0a78\n"),
-        ),
-        (
-            (&["line", "space:4", "eol"], b"   "),
-            (0, "space false\neol true\nscanned 3\nrest -\n"),
-        ),
-        ((&["line"], b"a"), (0, "scanned 0\nrest 61\n")),
-        ((&["line"], b""), (0, "scanned 0\nrest -\n")),
-        (
-            (&["line", "upto:18446744073709551615"], b" x"),
-            (0, "upto 1\nscanned 1\nrest 78\n"),
-        ),
-        (
-            (&["line", "upto:00000000000000000000000000000001"], b"  x"),
-            (0, "upto 1\nscanned 1\nrest 2078\n"),
-        ),
-    ];
-    assert_rows(&rt, rt.alloc(), &rows)
-}
-
-#[test]
-fn prints_runs_over_tabs(rt: HostRuntime) -> std::result::Result<(), Fail> {
-    let rows: [Row; 5] = [
-        (
-            (&["line", "upto:3", "upto:5"], b"\tx"),
-            (0, "upto 3\nupto 1\nscanned 1\nrest 78\n"),
-        ),
-        (
-            (&["line", "upto:3", "eol"], b"\tx"),
-            (1, "upto 3\nscanned 1\nrest 2078\nstop 1 SpacePending\n"),
-        ),
-        (
-            (&["line", "quote", "upto:9"], b">\t\tx"),
-            (0, "quote true\nupto 6\nscanned 3\nrest 78\n"),
-        ),
-        (
-            (&["line", "quote", "quote"], b">\t>"),
-            (
-                1,
-                "quote true\nscanned 2\nrest 20203e\nstop 1 SpacePending\n",
-            ),
-        ),
-        (
-            (&["line", "quote"], b"x"),
-            (0, "quote false\nscanned 0\nrest 78\n"),
-        ),
-    ];
-    assert_rows(&rt, rt.alloc(), &rows)
-}
-
-#[test]
-fn prints_markers(rt: HostRuntime) -> std::result::Result<(), Fail> {
-    let rows: [Row; 8] = [
-        (
-            (&["line", "list:0"], b"-\tx"),
-            (0, "list - 0 4\nscanned 2\nrest 78\n"),
-        ),
-        (
-            (&["line", "list:0", "list:0"], b"- * * *"),
-            (0, "list - 0 2\nlist none\nscanned 2\nrest 2a202a202a\n"),
-        ),
-        (
-            (&["line", "list:0"], b"123456789. x"),
-            (0, "list . 123456789 11\nscanned 11\nrest 78\n"),
-        ),
-        (
-            (&["line", "list:0"], b"1234567890. x"),
-            (0, "list none\nscanned 0\nrest 313233343536373839302e2078\n"),
-        ),
-        (
-            (&["line", "list:0"], b"-"),
-            (0, "list - 0 2\nscanned 1\nrest -\n"),
-        ),
-        (
-            (&["line", "def:0"], b":    x"),
-            (0, "def 5\nscanned 5\nrest 78\n"),
-        ),
-        (
-            (&["line", "def:0"], b":     x"),
-            (0, "def 2\nscanned 2\nrest 2020202078\n"),
-        ),
-        (
-            (&["line", "def:0"], b"x"),
-            (0, "def none\nscanned 0\nrest 78\n"),
-        ),
-    ];
-    assert_rows(&rt, rt.alloc(), &rows)
-}
-
-#[test]
-fn prints_markers_after_tabs(rt: HostRuntime) -> std::result::Result<(), Fail> {
-    let rows: [Row; 7] = [
-        (
-            (&["line", "quote", "list:0"], b">\t- x"),
-            (
-                1,
-                "quote true\nscanned 2\nrest 20202d2078\nstop 1 SpacePending\n",
-            ),
-        ),
-        (
-            (&["line", "quote", "upto:3", "list:2"], b">\t- x"),
-            (0, "quote true\nupto 2\nlist - 0 4\nscanned 4\nrest 78\n"),
-        ),
-        (
-            (&["line", "list:0"], b"-\t\tx"),
-            (0, "list - 0 2\nscanned 2\nrest 20202020202078\n"),
-        ),
-        (
-            (&["line", "list:0", "eol"], b"-\t"),
-            (1, "list - 0 2\nscanned 2\nrest 2020\nstop 1 SpacePending\n"),
-        ),
-        (
-            (&["line", "list:18446744073709551615"], b"- x"),
-            (1, "scanned 0\nrest 2d2078\nstop 0 IndentTooLarge\n"),
-        ),
-        (
-            (&["line", "list:18446744073709551599"], b"- x"),
-            (0, "list - 0 18446744073709551601\nscanned 2\nrest 78\n"),
-        ),
-        (
-            (&["line", "upto:1", "list:18446744073709551615"], b"\tx"),
-            (1, "upto 1\nscanned 1\nrest 20202078\nstop 1 SpacePending\n"),
-        ),
-    ];
-    assert_rows(&rt, rt.alloc(), &rows)
-}
-
-#[test]
-fn reads_more_than_one_buffer(rt: HostRuntime) -> std::result::Result<(), Fail> {
-    let spaces = [b' '; 10_000];
-    let mut input: &[u8] = &spaces;
-    let mut output = Vec::new(rt.alloc());
-    let mut faults = Vec::new(rt.alloc());
+fn reads_more_than_one_buffer(rt: HostRuntime) {
     let words = ["line", "upto:20000", "eol"];
-    let status = run_program(rt.alloc(), &words, &mut input, &mut output, &mut faults);
-    assert_eq!(rt; status, 0);
-    assert_eq!(rt;
-        output.as_slice(),
-        b"upto 10000\neol true\nscanned 10000\nrest -\n".as_slice()
-    );
-    Ok(())
+    let printed = "upto 10000\neol true\nscanned 10000\nrest -\n";
+    let mut input = [b' '; 10_000].as_slice();
+    assert_run::<Scan, _>(&rt, rt.alloc(), &words, &mut input, printed, DONE);
 }
 
-#[test]
-fn refuses_other_words(rt: HostRuntime) -> std::result::Result<(), Fail> {
-    let refused: [&[&str]; 24] = [
-        &[],
-        &[""],
-        &["lines"],
-        &["LINE"],
-        &["htm"],
-        &["html", "html"],
-        &["html", ""],
-        &["line", "html"],
-        &["label", "label"],
-        &["unescape", ""],
-        &["line", "line"],
-        &["line", ""],
-        &["line", "space"],
-        &["line", "space:"],
-        &["line", "space:+3"],
-        &["line", "space:-3"],
-        &["line", "space: 3"],
-        &["line", "space:3:3"],
-        &["line", "upto:18446744073709551616"],
-        &["line", "eol:1"],
-        &["line", ":3"],
-        &["line", "list:"],
-        &["line", "definition:0"],
-        &["line", "eol", "eols"],
-    ];
-    for words in refused {
-        let mut input = EndlessReader {
-            reads: 0,
-            asked_for_less_or_more: false,
-        };
-        let mut output = FailingWriter { writes: 0 };
-        let mut faults = Vec::new(rt.alloc());
-        let status = run_program(rt.alloc(), words, &mut input, &mut output, &mut faults);
-        assert_eq!(rt; status, 2, "at {} words", words.len());
-        assert_eq!(rt; input.reads, 0);
-        assert_eq!(rt; output.writes, 0);
-        assert_eq!(rt; faults.as_slice(), USAGE);
-    }
-    Ok(())
-}
+const REFUSED: &[&[&str]] = &[
+    &[],
+    &[""],
+    &["lines"],
+    &["LINE"],
+    &["htm"],
+    &["html", "html"],
+    &["html", ""],
+    &["line", "html"],
+    &["label", "label"],
+    &["unescape", ""],
+    &["line", "line"],
+    &["line", ""],
+    &["line", "space"],
+    &["line", "space:"],
+    &["line", "space:+3"],
+    &["line", "space:-3"],
+    &["line", "space: 3"],
+    &["line", "space:3:3"],
+    &["line", "upto:18446744073709551616"],
+    &["line", "eol:1"],
+    &["line", ":3"],
+    &["line", "list:"],
+    &["line", "definition:0"],
+    &["line", "eol", "eols"],
+];
 
-#[test]
-fn reports_a_read_fault(rt: HostRuntime) -> std::result::Result<(), Fail> {
-    for reads_left in [0, 1] {
-        let mut input = FailingReader {
-            bytes: b"xyz",
-            reads_left,
-        };
-        let mut output = FailingWriter { writes: 0 };
-        let mut faults = Vec::new(rt.alloc());
-        let status = run_program(rt.alloc(), &["line"], &mut input, &mut output, &mut faults);
-        assert_eq!(rt; status, 3);
-        assert_eq!(rt; output.writes, 0);
-        assert_eq!(rt; faults.as_slice(), b"read fault\n".as_slice());
-    }
-    Ok(())
-}
-
-#[test]
-fn ends_over_an_endless_reader(rt: HostRuntime) -> std::result::Result<(), Fail> {
+// A run of these words, which are refused, reads nothing and writes nothing.
+fn assert_refused(rt: &impl Abort, alloc: Global, words: &[&str]) {
     let mut input = EndlessReader {
         reads: 0,
         asked_for_less_or_more: false,
     };
     let mut output = FailingWriter { writes: 0 };
-    let mut faults = Vec::new(rt.alloc());
-    let status = run_program(rt.alloc(), &["line"], &mut input, &mut output, &mut faults);
-    assert_eq!(rt; status, 3);
-    assert_eq!(rt; input.reads, 1_048_576);
-    assert!(rt; !input.asked_for_less_or_more);
-    assert_eq!(rt; output.writes, 0);
-    assert_eq!(rt; faults.as_slice(), b"read fault\n".as_slice());
-    Ok(())
+    assert_end::<Scan, _, _>(rt, alloc, words, &mut input, &mut output, (2, USAGE));
+    assert_same(rt, (input.reads, output.writes), (0, 0));
 }
 
 #[test]
-fn reports_a_write_fault(rt: HostRuntime) -> std::result::Result<(), Fail> {
-    let mut input: &[u8] = b"x";
+fn refuses_other_words(rt: HostRuntime) {
+    for words in REFUSED {
+        assert_refused(&rt, rt.alloc(), words);
+    }
+}
+
+// A run of `line` over this reader ends with this fault, behind so many writes, each of which
+// fails.
+fn assert_unwritten<R: Read>(
+    rt: &impl Abort,
+    alloc: Global,
+    input: &mut R,
+    writes: u64,
+    fault: &[u8],
+) {
     let mut output = FailingWriter { writes: 0 };
-    let mut faults = Vec::new(rt.alloc());
-    let status = run_program(rt.alloc(), &["line"], &mut input, &mut output, &mut faults);
-    assert_eq!(rt; status, 3);
-    assert_eq!(rt; output.writes, 1);
-    assert_eq!(rt; faults.as_slice(), b"write fault\n".as_slice());
-    Ok(())
+    assert_end::<Scan, _, _>(rt, alloc, &["line"], input, &mut output, (3, fault));
+    assert_same(rt, output.writes, writes);
 }
 
 #[test]
-fn keeps_its_status_where_a_fault_is_not_told(rt: HostRuntime) -> std::result::Result<(), Fail> {
-    let mut output = Vec::new(rt.alloc());
+fn reports_a_read_fault(rt: HostRuntime) {
+    assert_unwritten(
+        &rt,
+        rt.alloc(),
+        &mut Parts::failing(b""),
+        0,
+        b"read fault\n",
+    );
+    assert_unwritten(
+        &rt,
+        rt.alloc(),
+        &mut Parts::failing(b"x"),
+        0,
+        b"read fault\n",
+    );
+}
+
+#[test]
+fn ends_over_an_endless_reader(rt: HostRuntime) {
+    let mut input = EndlessReader {
+        reads: 0,
+        asked_for_less_or_more: false,
+    };
+    assert_unwritten(&rt, rt.alloc(), &mut input, 0, b"read fault\n");
+    assert_same(&rt, input.reads, 1_048_576);
+    assert!(rt; !input.asked_for_less_or_more);
+}
+
+#[test]
+fn reports_a_write_fault(rt: HostRuntime) {
+    assert_unwritten(&rt, rt.alloc(), &mut b"x".as_slice(), 1, b"write fault\n");
+}
+
+// A run that can't tell its fault, and prints nothing, has this status.
+fn assert_untold<R: Read>(
+    rt: &impl Abort,
+    alloc: Global,
+    words: &[&str],
+    input: &mut R,
+    status: u8,
+) {
+    let mut output = Vec::new(alloc);
     let mut faults = FailingWriter { writes: 0 };
-    let mut input: &[u8] = b"x";
-    let status = run_program(rt.alloc(), &["other"], &mut input, &mut output, &mut faults);
-    assert_eq!(rt; status, 2);
-    let mut input = FailingReader {
-        bytes: b"x",
-        reads_left: 0,
-    };
-    let status = run_program(rt.alloc(), &["line"], &mut input, &mut output, &mut faults);
-    assert_eq!(rt; status, 3);
-    assert_eq!(rt; faults.writes, 2);
-    assert_eq!(rt; output.len(), 0);
-    Ok(())
+    let found = Scan::run(alloc, words, input, &mut output, &mut faults);
+    assert_same(rt, (found, faults.writes, output.len()), (status, 1, 0));
 }
 
 #[test]
-fn tells_a_slow_writer_all(rt: HostRuntime) -> std::result::Result<(), Fail> {
-    let mut input: &[u8] = b"x";
-    let mut output = SlowWriter {
-        taken: Vec::new(rt.alloc()),
-    };
-    let mut faults = SlowWriter {
-        taken: Vec::new(rt.alloc()),
-    };
-    let status = run_program(rt.alloc(), &["line"], &mut input, &mut output, &mut faults);
-    assert_eq!(rt; status, 0);
-    assert_eq!(rt; output.taken.as_slice(), b"scanned 0\nrest 78\n".as_slice());
-    let status = run_program(rt.alloc(), &[], &mut input, &mut output, &mut faults);
-    assert_eq!(rt; status, 2);
-    assert_eq!(rt; faults.taken.as_slice(), USAGE);
-    Ok(())
+fn keeps_its_status_where_a_fault_is_not_told(rt: HostRuntime) {
+    assert_untold(&rt, rt.alloc(), &["other"], &mut b"x".as_slice(), 2);
+    assert_untold(&rt, rt.alloc(), &["line"], &mut Parts::failing(b""), 3);
+}
+
+// A run over `x` prints this, and ends so, byte by byte.
+fn assert_slow(rt: &impl Abort, alloc: Global, words: &[&str], printed: &[u8], end: End<'_>) {
+    let mut output = SlowWriter::new(alloc);
+    let mut faults = SlowWriter::new(alloc);
+    let status = Scan::run(alloc, words, &mut b"x".as_slice(), &mut output, &mut faults);
+    let found = (output.taken.as_slice(), (status, faults.taken.as_slice()));
+    assert_same(rt, found, (printed, end));
+}
+
+#[test]
+fn tells_a_slow_writer_all(rt: HostRuntime) {
+    assert_slow(&rt, rt.alloc(), &["line"], b"scanned 0\nrest 78\n", DONE);
+    assert_slow(&rt, rt.alloc(), &[], b"", (2, USAGE));
 }

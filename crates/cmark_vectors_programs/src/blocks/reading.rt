@@ -1,61 +1,31 @@
 //! Runs of the program over readers that give a page in parts, or fail behind a part of it.
-use super::{PAGE, TOLD};
-use page_blocks::program::run_program;
-use std::alloc::Global;
-use std::io::{Error, Read, Result};
+use super::{Blocks, PAGE, Row, TOLD};
+use crate::asserts::made;
+use crate::runs::{DONE, Parts, assert_run};
+use std::alloc::{AllocError, Global};
 use std::process::Abort;
-use std::test::Fail;
 
-// Gives so many bytes at the first read, and at most so many at each later one; at the end it
-// fails where that is asked for.
-#[derive(Drop)]
-struct Parts<'a> {
-    rest: &'a [u8],
-    size: usize,
-    later: usize,
-    fails: bool,
-}
-
-impl Read for Parts<'_> {
-    fn read(&mut self, buf: &mut [u8]) -> Result<usize> {
-        if self.fails && self.rest.is_empty() {
-            return Err(Error::other("read"));
-        }
-        let count = self.rest.len().min(self.size).min(buf.len());
-        let (front, rest) = self.rest.split_at(count);
-        buf[..count].copy_from_slice(front);
-        self.rest = rest;
-        self.size = self.later;
-        Ok(count)
-    }
-}
-
-// What is told of a page that is read so.
+// What is told of a page that is read in parts: at most so many bytes at the first read, and at
+// each later one.
 fn assert_told(
     rt: &impl Abort,
     alloc: Global,
-    mut input: Parts<'_>,
+    page: &[u8],
+    (size, later): (usize, usize),
     told: &str,
-) -> std::result::Result<(), Fail> {
-    let (status, fault): (u8, &[u8]) = if input.fails {
-        (3, b"read fault\n")
-    } else {
-        (0, b"")
+) {
+    let mut input = Parts {
+        rest: page,
+        size,
+        later,
+        fails: false,
     };
-    let mut output = Vec::new(alloc);
-    let mut faults = Vec::new(alloc);
-    assert_eq!(rt;
-        run_program(alloc, &[], &mut input, &mut output, &mut faults),
-        status
-    );
-    assert_eq!(rt; output.as_slice(), told.as_bytes());
-    assert_eq!(rt; faults.as_slice(), fault);
-    Ok(())
+    assert_run::<Blocks, _>(rt, alloc, &[], &mut input, told, DONE);
 }
 
 // The pages, and what is told of them: every kind of block; lines that end in CR LF and in CR;
 // blank lines behind indented code, and behind the line that ends it.
-const PAGES: [(&[u8], &str); 5] = [
+const PAGES: &[Row] = &[
     (PAGE, TOLD),
     (
         b"a\r\n\r\nb\r\n---\r\n",
@@ -77,74 +47,68 @@ const PAGES: [(&[u8], &str); 5] = [
 ];
 
 #[test]
-fn a_byte_a_read_tells_the_same(rt: HostRuntime) -> std::result::Result<(), Fail> {
+fn a_byte_a_read_tells_the_same(rt: HostRuntime) {
     for (page, told) in PAGES {
-        let input = Parts {
-            rest: page,
-            size: 1,
-            later: 1,
-            fails: false,
-        };
-        assert_told(&rt, rt.alloc(), input, told)?;
+        assert_told(&rt, rt.alloc(), page, (1, 1), told);
     }
-    Ok(())
+}
+
+// The same of a page in two parts, at each place where it can be cut.
+fn assert_told_cut(rt: &impl Abort, alloc: Global, page: &[u8], told: &str) {
+    for size in 1..page.len() {
+        assert_told(rt, alloc, page, (size, page.len()), told);
+    }
 }
 
 #[test]
-fn a_page_cut_at_any_place_tells_the_same(rt: HostRuntime) -> std::result::Result<(), Fail> {
+fn a_page_cut_at_any_place_tells_the_same(rt: HostRuntime) {
     for (page, told) in PAGES {
-        for size in 1..page.len() {
-            let input = Parts {
-                rest: page,
-                size,
-                later: page.len(),
-                fails: false,
-            };
-            assert_told(&rt, rt.alloc(), input, told)?;
-        }
+        assert_told_cut(&rt, rt.alloc(), page, told);
     }
-    Ok(())
 }
 
 // Of what was read before a fault, the blocks are told whose end is read.
-#[test]
-fn a_read_fault_leaves_the_first_blocks(rt: HostRuntime) -> std::result::Result<(), Fail> {
-    let rows: [(&[u8], &str); 9] = [
-        (b"", ""),
-        (b"# a\n", ""),
-        (b"# a\n\nb\n", "1 1 0 heading 1\n2 2 0 blank\n"),
-        (b"# a\r", ""),
-        (b"# a\r\n\r", ""),
-        (b"    a\n\n\n", ""),
-        (b"    a\n\n\nb\n", "1 1 0 indented\n2 3 0 blank\n"),
-        (b"> a\n\nb", "1 1 0 quote\n1 1 1 paragraph\n"),
-        (b"a\n---", ""),
-    ];
-    for (page, told) in rows {
-        let input = Parts {
-            rest: page,
-            size: page.len(),
-            later: 0,
-            fails: true,
-        };
-        assert_told(&rt, rt.alloc(), input, told)?;
-    }
-    Ok(())
+const BEFORE_FAULTS: &[Row] = &[
+    (b"", ""),
+    (b"# a\n", ""),
+    (b"# a\n\nb\n", "1 1 0 heading 1\n2 2 0 blank\n"),
+    (b"# a\r", ""),
+    (b"# a\r\n\r", ""),
+    (b"    a\n\n\n", ""),
+    (b"    a\n\n\nb\n", "1 1 0 indented\n2 3 0 blank\n"),
+    (b"> a\n\nb", "1 1 0 quote\n1 1 1 paragraph\n"),
+    (b"a\n---", ""),
+];
+
+// What is told of a page behind which a read fails.
+fn assert_told_before_a_fault(rt: &impl Abort, alloc: Global, page: &[u8], told: &str) {
+    let mut input = Parts {
+        rest: page,
+        size: page.len(),
+        later: 0,
+        fails: true,
+    };
+    let end = (3, b"read fault\n".as_slice());
+    assert_run::<Blocks, _>(rt, alloc, &[], &mut input, told, end);
 }
 
 #[test]
-fn a_block_is_longer_than_many_reads(rt: HostRuntime) -> std::result::Result<(), Fail> {
-    let mut page = Vec::new(rt.alloc());
-    for _ in 0..100_000 {
-        page.extend_from_slice(b"a\n")?;
+fn a_read_fault_leaves_the_first_blocks(rt: HostRuntime) {
+    for (page, told) in BEFORE_FAULTS {
+        assert_told_before_a_fault(&rt, rt.alloc(), page, told);
     }
+}
+
+// A paragraph of 100,000 lines, and a heading.
+fn long_page(alloc: Global) -> Result<Vec<u8>, AllocError> {
+    let mut page = b"a\n".repeat(alloc, 100_000)?;
     page.extend_from_slice(b"\n# b\n")?;
-    let input = Parts {
-        rest: &page,
-        size: 1,
-        later: 999,
-        fails: false,
-    };
+    Ok(page)
+}
+
+#[test]
+fn a_block_is_longer_than_many_reads(rt: HostRuntime) {
+    let page = made(&rt, long_page(rt.alloc()));
     let told = "1 100000 0 paragraph\n100001 100001 0 blank\n100002 100002 0 heading 1\n";
-    assert_told(&rt, rt.alloc(), input, told)
+    assert_told(&rt, rt.alloc(), &page, (1, 999), told);
 }

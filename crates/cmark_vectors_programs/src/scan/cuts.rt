@@ -1,8 +1,10 @@
 //! Runs of the command for inline HTML over hostile texts cut near their ends.
+use super::Scan;
 use super::html::HTML;
-use scan_commands::program::run_program;
+use crate::asserts::{assert_same, found, made};
+use crate::runs::{DONE, assert_end};
 use std::alloc::Global;
-use std::test::Fail;
+use std::process::Abort;
 
 // Up to this many bytes are cut off.
 const MOST: usize = 200;
@@ -15,7 +17,7 @@ type Sums = (u128, u128);
 type Cut = (&'static [u8], usize, Sums, Sums);
 
 // The sums are those of the stored run of `cmark_cuts`.
-const CUTS: [Cut; 6] = [
+const CUTS: &[Cut] = &[
     (b"<!--", 5000, (4974300, 23878800), (4974700, 23879600)),
     (
         b"<![CDATA[",
@@ -50,43 +52,43 @@ fn last_numbers(output: &[u8]) -> Option<Sums> {
 }
 
 // The numbers of the last line that a run prints.
-fn run_html(alloc: Global, mut input: &[u8]) -> Result<Sums, Fail> {
+fn run_html(rt: &impl Abort, alloc: Global, mut input: &[u8]) -> Sums {
     let mut output = Vec::new(alloc);
-    let mut faults = Vec::new(alloc);
-    let status = run_program(alloc, HTML, &mut input, &mut output, &mut faults);
-    if status != 0 {
-        return Err(Fail::from("a run that is not done"));
-    }
-    let Some((passed, bound)) = last_numbers(&output) else {
-        return Err(Fail::from("no last line"));
-    };
-    if passed > bound {
-        return Err(Fail::from("more bytes passed over than the bound allows"));
-    }
-    Ok((passed, bound))
+    assert_end::<Scan, _, _>(rt, alloc, HTML, &mut input, &mut output, DONE);
+    found(rt, last_numbers(&output))
 }
 
-fn sum(one: Sums, other: Sums) -> Sums {
-    (one.0.saturating_add(other.0), one.1.saturating_add(other.1))
+// The same added to sums, once they keep the bound.
+fn add_run(rt: &impl Abort, alloc: Global, sums: Sums, input: &[u8]) -> Sums {
+    let (passed, bound) = run_html(rt, alloc, input);
+    assert!(rt;
+        passed <= bound,
+        "more bytes passed over than the bound allows"
+    );
+    (sums.0.saturating_add(passed), sums.1.saturating_add(bound))
 }
 
 // The sums over all cuts, off the front and off the end.
-fn sums_of(alloc: Global, text: &[u8]) -> Result<(Sums, Sums), Fail> {
+fn sums_of(rt: &impl Abort, alloc: Global, text: &[u8]) -> (Sums, Sums) {
     let mut front = (0, 0);
     let mut end = (0, 0);
     for count in 1..=MOST {
-        front = sum(front, run_html(alloc, without_first(text, count))?);
-        end = sum(end, run_html(alloc, without_last(text, count))?);
+        front = add_run(rt, alloc, front, without_first(text, count));
+        end = add_run(rt, alloc, end, without_last(text, count));
     }
-    Ok((front, end))
+    (front, end)
+}
+
+// The sums of a text are these, where it is cut off the front, and off the end.
+fn assert_cut(rt: &impl Abort, alloc: Global, (part, count, front, end): Cut) {
+    let text = made(rt, part.repeat(alloc, count));
+    let sums = sums_of(rt, alloc, &text);
+    assert_same(rt, (part, sums), (part, (front, end)));
 }
 
 #[test]
-fn passes_over_cut_texts_once(rt: HostRuntime) -> Result<(), Fail> {
-    for (part, count, front, end) in CUTS.iter() {
-        let text = part.repeat(rt.alloc(), *count)?;
-        let sums = sums_of(rt.alloc(), &text)?;
-        assert_eq!(rt; sums, (*front, *end), "of {part:?}");
+fn passes_over_cut_texts_once(rt: HostRuntime) {
+    for cut in CUTS {
+        assert_cut(&rt, rt.alloc(), *cut);
     }
-    Ok(())
 }

@@ -1,45 +1,61 @@
 //! Tests of `cmark_uses::labels`.
+use crate::asserts::{assert_same, found, is_none, made};
 use cmark_uses::labels::{Definition, definition_of, label_in_line, label_in_quote};
 use markdown_scanners_tree::linklabel::LinkLabel;
 use markdown_values::strings::CowStr;
 use std::alloc::{AllocError, Global};
-use std::test::Fail;
+use std::process::Abort;
 
+// The definition of this label.
 fn definition(
+    rt: &impl Abort,
     alloc: Global,
     text: &'static str,
     destination: &'static str,
-) -> Result<Definition<'static>, AllocError> {
-    Ok(Definition {
-        label: LinkLabel::new(alloc, CowStr::from(text))?,
+) -> Definition<'static> {
+    Definition {
+        label: made(rt, LinkLabel::new(alloc, CowStr::from(text))),
         destination: CowStr::from(destination),
-    })
+    }
+}
+
+// The label that a text begins with is defined by this destination.
+fn assert_defined<'d>(
+    rt: &impl Abort,
+    alloc: Global,
+    definitions: &'d [Definition<'d>],
+    text: &str,
+    destination: &str,
+) {
+    let (_, label) = found(rt, made(rt, label_in_line(alloc, text)));
+    let definition = found(rt, definition_of(definitions, &label));
+    assert_same(rt, definition.destination.as_str(), destination);
 }
 
 #[test]
-fn the_first_definition_counts(rt: HostRuntime) -> Result<(), Fail> {
+fn the_first_definition_counts(rt: HostRuntime) {
     let alloc = rt.alloc();
     let definitions = [
-        definition(alloc, "Rattle", "/one")?,
-        definition(alloc, "RATTLE", "/two")?,
+        definition(&rt, alloc, "Rattle", "/one"),
+        definition(&rt, alloc, "RATTLE", "/two"),
     ];
-    let Some((_, label)) = label_in_line(alloc, "rattle] for more")? else {
-        return Err(Fail::from("no label"));
-    };
-    let Some(found) = definition_of(&definitions, &label) else {
-        return Err(Fail::from("no definition"));
-    };
-    assert_eq!(rt; found.destination.as_str(), "/one");
-    Ok(())
+    assert_defined(&rt, alloc, &definitions, "rattle] for more", "/one");
+}
+
+// The label that a call finds in a quote, and what stands behind it.
+type InQuote<'t> = Result<Option<(LinkLabel<'t>, &'t str)>, AllocError>;
+
+// They are these.
+fn assert_label(rt: &impl Abort, label: InQuote<'_>, text: &str, behind: &str) {
+    let (label, rest) = found(rt, made(rt, label));
+    assert_same(rt, (label.as_str(), rest), (text, behind));
 }
 
 #[test]
-fn a_label_loses_the_markers_of_its_quote(rt: HostRuntime) -> Result<(), Fail> {
-    let Some((label, behind)) = label_in_quote(rt.alloc(), "Link\n> label]: /url")? else {
-        return Err(Fail::from("no label"));
-    };
-    assert_eq!(rt; label.as_str(), "Link label");
-    assert_eq!(rt; behind, ": /url");
-    assert!(rt; label_in_quote(rt.alloc(), "Link\nlabel]: /url")?.is_none());
-    Ok(())
+fn a_label_loses_the_markers_of_its_quote(rt: HostRuntime) {
+    let alloc = rt.alloc();
+    let label = label_in_quote(alloc, "Link\n> label]: /url");
+    assert_label(&rt, label, "Link label", ": /url");
+    let label = label_in_quote(alloc, "Link\nlabel]: /url");
+    assert!(rt; is_none(made(&rt, label)));
 }

@@ -1,42 +1,56 @@
 //! Tests of `cmark_uses::links`.
+use crate::asserts::{assert_same, assert_text, found, is_none, made};
 use cmark_uses::links::{
     FEW_ENTITIES, autolink, leading_destination, link_target, link_title, raw_destination,
     referenced,
 };
 use html_entities::HtmlEntities;
-use std::test::Fail;
+use std::alloc::AllocError;
+use std::convert::AsStr;
+use std::process::Abort;
 
-#[test]
-fn a_destination_is_resolved(rt: HostRuntime) -> Result<(), Fail> {
-    let target = link_target(rt.alloc(), "[a](/b?c&amp;d\\*&auml;)", 4, &HtmlEntities)?;
-    let Some(target) = target else {
-        return Err(Fail::from("no destination"));
-    };
-    assert_eq!(rt; target.as_str(), "/b?c&d*\u{e4}");
-    assert_eq!(rt; raw_destination("[a](<b c>)", 4), Some((5, "b c")));
-    assert_eq!(rt; raw_destination("[a](<b", 4), None);
-    assert_eq!(rt; leading_destination("/b (title)"), Some((2, "/b")));
-    let title = link_title(rt.alloc(), "Q&amp;A", &FEW_ENTITIES)?;
-    assert_eq!(rt; title.as_str(), "Q&A");
-    Ok(())
+// A text that a call finds is this.
+fn assert_found<T: AsStr + Drop>(rt: &impl Abort, text: Option<T>, wanted: &str) {
+    assert_same(rt, found(rt, text).as_str(), wanted);
+}
+
+// The same of a text that is made first.
+fn assert_made_found<T: AsStr + Drop>(
+    rt: &impl Abort,
+    text: Result<Option<T>, AllocError>,
+    wanted: &str,
+) {
+    assert_found(rt, made(rt, text), wanted);
 }
 
 #[test]
-fn an_autolink_ends_at_its_bracket(rt: HostRuntime) -> Result<(), Fail> {
-    let Some((uri, after)) = autolink("<https://commonmark.org> says", 1) else {
-        return Err(Fail::from("no autolink"));
-    };
-    assert_eq!(rt; uri.as_str(), "https://commonmark.org");
-    assert_eq!(rt; after, " says");
-    Ok(())
+fn a_destination_is_resolved(rt: HostRuntime) {
+    let target = link_target(rt.alloc(), "[a](/b?c&amp;d\\*&auml;)", 4, &HtmlEntities);
+    assert_made_found(&rt, target, "/b?c&d*\u{e4}");
+    assert_same(&rt, raw_destination("[a](<b c>)", 4), Some((5, "b c")));
+    assert_same(&rt, raw_destination("[a](<b", 4), None);
+    assert_same(&rt, leading_destination("/b (title)"), Some((2, "/b")));
+    assert_text(&rt, link_title(rt.alloc(), "Q&amp;A", &FEW_ENTITIES), "Q&A");
+}
+
+// The address that a call finds, and the text behind it.
+fn assert_autolink<T: AsStr + Drop>(
+    rt: &impl Abort,
+    link: Option<(T, &str)>,
+    wanted: (&str, &str),
+) {
+    let (uri, after) = found(rt, link);
+    assert_same(rt, (uri.as_str(), after), wanted);
 }
 
 #[test]
-fn a_reference_means_a_character(rt: HostRuntime) -> Result<(), Fail> {
-    let Some(meaning) = referenced(b"&#35; one", &FEW_ENTITIES) else {
-        return Err(Fail::from("no reference"));
-    };
-    assert_eq!(rt; meaning.as_str(), "#");
-    assert!(rt; referenced(b"&nosuch;", &FEW_ENTITIES).is_none());
-    Ok(())
+fn an_autolink_ends_at_its_bracket(rt: HostRuntime) {
+    let link = autolink("<https://commonmark.org> says", 1);
+    assert_autolink(&rt, link, ("https://commonmark.org", " says"));
+}
+
+#[test]
+fn a_reference_means_a_character(rt: HostRuntime) {
+    assert_found(&rt, referenced(b"&#35; one", &FEW_ENTITIES), "#");
+    assert!(rt; is_none(referenced(b"&nosuch;", &FEW_ENTITIES)));
 }

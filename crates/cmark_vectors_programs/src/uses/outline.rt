@@ -1,30 +1,33 @@
 //! Tests of `cmark_uses::outline`.
+use crate::asserts::{assert_elements, assert_same, assert_text, made};
 use cmark_uses::outline::{Item, add_inner, add_item, empty_outline, end_inner, levels, written};
-use std::test::Fail;
+use markdown_values::tree::{Tree, TreeIndex};
+use std::process::Abort;
 
-fn item(first: char) -> Item {
-    Item { first }
+// Adds an item on the level of the last one.
+fn add(rt: &impl Abort, outline: &mut Tree<Item>, first: char) -> TreeIndex {
+    made(rt, add_item(outline, Item { first }))
 }
 
 // - a
 //   - b
 //   - c
 // - d
-#[test]
-fn a_nested_list_is_a_tree(rt: HostRuntime) -> Result<(), Fail> {
-    let mut outline = empty_outline(rt.alloc())?;
-    let a = add_item(&mut outline, item('a'))?;
+fn fill(rt: &impl Abort, outline: &mut Tree<Item>) {
+    let a = add(rt, outline, 'a');
     if outline.cur().is_some() {
-        add_inner(&mut outline, item('b'))?;
+        made(rt, add_inner(outline, Item { first: 'b' }));
     }
-    add_item(&mut outline, item('c'))?;
-    end_inner(&mut outline);
-    assert_eq!(rt; outline.cur(), Some(a));
-    add_item(&mut outline, item('d'))?;
-    assert_eq!(rt;
-        levels(rt.alloc(), &outline)?.as_slice(),
-        [0, 1, 1, 0].as_slice()
-    );
-    assert_eq!(rt; written(rt.alloc(), &outline)?.as_str(), "a\n  b\n  c\nd\n");
-    Ok(())
+    add(rt, outline, 'c');
+    end_inner(outline);
+    assert_same(rt, outline.cur(), Some(a));
+    add(rt, outline, 'd');
+}
+
+#[test]
+fn a_nested_list_is_a_tree(rt: HostRuntime) {
+    let mut outline = made(&rt, empty_outline(rt.alloc()));
+    fill(&rt, &mut outline);
+    assert_elements(&rt, levels(rt.alloc(), &outline), &[0, 1, 1, 0]);
+    assert_text(&rt, written(rt.alloc(), &outline), "a\n  b\n  c\nd\n");
 }
