@@ -1,4 +1,5 @@
 use Rattle.std.proofs.Common.{rules, ◌∙◌, arith, ap, ◌≡◌, Some}
+use Rattle.std.proofs.lemmas.Grind.{common_steps}
 use Rattle.markdown_values.specs.tree.Linked.{Linked}
 use Rattle.markdown_values.proofs.tree.TreeLemmas.{child_of-read}
 use Rattle.markdown_values.proofs.tree.ForestLemmas.{StandsFor-pushed}
@@ -16,3 +17,9 @@ returns-clause-ok g c =
 
 pub returns-clause-forest : goal.returns-clause-forest
 returns-clause-forest g c = λ f h. rw (returns-clause-ok g c) (StandsFor-pushed c.args.self.now c.unwrap-ix.result f (returns-clause-index g c) h)
+
+pub invariant_of-self-2 : goal.invariant_of-self-2
+invariant_of-self-2 g c = grind (arith, common_steps)
+
+pub returns-clause-within : goal.returns-clause-within
+returns-clause-within g c = grind (arith, common_steps)
