@@ -109,7 +109,8 @@ def shown_in(checks, crate, groups, kept):
 
 def tried_alone(rt, crate, edit, kept):
     """Whether rt says that the edit is refused, and what it says."""
-    return rt.must_fail(crate, str(edit), ONE_JOB, kept)
+    kind, text = rt.must_fail(crate, str(edit), ONE_JOB, kept)
+    return kind in (rt.REFUSED, rt.AT_LIMIT), text
 
 
 def tried_over(checks, crate, edits, calls, kept):
