@@ -87,7 +87,7 @@ class Calls:
     """The calls of a crate."""
 
     def __init__(self, crate, calls):
-        self.crate, self.calls = crate, calls
+        self.crate = crate
         self.callers = {name: set() for name in calls}
         for name, called in calls.items():
             for it in called:
@@ -95,28 +95,19 @@ class Calls:
 
     def named(self, item):
         """The prover's names of a function in the sources: several, where a type has a trait at several types."""
-        return {name for name in self.calls if "+" not in name and key_named(name, self.crate) == key_of(item)}
+        return {name for name in self.callers if "+" not in name and key_named(name, self.crate) == key_of(item)}
 
     def callers_of(self, names):
         """The functions that call one of these, by themselves or in a closure."""
         return {holder_of(it) for name in names for it in self.callers[name]}
 
-    def below(self, names):
-        """What these functions rest on, near or far."""
-        return reached(self.calls, names)
-
     def above(self, names):
         """What rests on these functions, near or far."""
-        return reached(self.callers, names)
-
-
-def reached(ways, names):
-    """What is reached from these names by one step or more."""
-    found, new = set(), set(names)
-    while new:
-        new = set().union(*(ways[it] for it in new)) - found
-        found |= new
-    return found
+        found, new = set(), set(names)
+        while new:
+            new = set().union(*(self.callers[it] for it in new)) - found
+            found |= new
+        return found
 
 
 def asked_for(names):

@@ -141,13 +141,10 @@ def take_modules(crate, kept):
 def kept_of(crate, said):
     """Where what is checked is kept: where `rt check` and `rt lib` keep theirs, for these too; beside a run of rt ci, which begins
     with an empty folder of each crate, in a folder of its own, that begins with what rt ci proved of a library."""
-    if not said or crate.is_static:
-        kept = Path(crate.folder) / "out/incremental"
-        kept.mkdir(parents=True, exist_ok=True)
-        return kept
-    kept = said.parent / "kept" / crate.name
-    kept.mkdir(parents=True)
-    if not crate.is_program:
+    is_beside = said and not crate.is_static
+    kept = said.parent / "kept" / crate.name if is_beside else Path(crate.folder) / "out/incremental"
+    kept.mkdir(parents=True, exist_ok=True)
+    if is_beside and not crate.is_program:
         wait_for({crate.name}, said)
         take_modules(crate, kept)
     return kept
