@@ -1,4 +1,4 @@
-//! What the cases of `cmark_replay` don't say: hostile texts, closures, calls of bytes, and types.
+//! What the worked rows don't say: hostile texts, closures, calls of bytes, and types.
 mod classes;
 mod entities;
 mod html_kinds;
