@@ -67,7 +67,7 @@ fn references_escapes_and_links(rt: HostRuntime) {
 
 #[test]
 fn tags_and_html_blocks(rt: HostRuntime) {
-    assert_agree(&rt, rt.alloc(), tags::ROWS, "133 agree, 0 differ\n");
+    assert_agree(&rt, rt.alloc(), tags::ROWS, "195 agree, 0 differ\n");
 }
 
 #[test]
