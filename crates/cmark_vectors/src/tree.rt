@@ -188,6 +188,7 @@ fn look_at_two_roots(rt: &impl Abort, tree: &mut Tree<Piece>) {
     assert!(rt; !tree.is_empty());
     assert_link(rt, tree.cur(), None);
     let b = append(rt, tree, 'B');
+    assert_link(rt, tree.pop(), None);
     assert_link(rt, tree.cur(), Some(b));
     tree.reset();
     assert_link(rt, tree.cur(), Some(a));
