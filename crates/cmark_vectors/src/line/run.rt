@@ -292,7 +292,8 @@ fn write_calls(calls: &mut Vec<LineCall>, count: usize) -> Result<(), AllocError
     Ok(())
 }
 
-fn list_calls(alloc: Global, count: usize) -> Result<Vec<LineCall>, AllocError> {
+/// So many calls for a list item's marker.
+pub(super) fn list_calls(alloc: Global, count: usize) -> Result<Vec<LineCall>, AllocError> {
     let mut calls = Vec::new(alloc);
     write_calls(&mut calls, count)?;
     Ok(calls)
