@@ -2,7 +2,7 @@ use Rattle.std.proofs.Common.{ℕ, length, ap, ◌∙◌, ◌+◌, sym, subst, t
 use Rattle.std.proofs.lemmas.Bool.{eqb-true}
 use Rattle.std.proofs.lemmas.List.{take_rest}
 use Rattle.std.proofs.lemmas.Str.{IsCharBoundary-start}
-use Rattle.std.proofs.lemmas.Grind.{elements, common_steps}
+use Rattle.std.proofs.lemmas.Grind.{common_steps}
 use Rattle.std.specs.Option.{option_map}
 use Rattle.std.specs.Prelude.{slice_range}
 use Rattle.std.specs.declared.ops.Range.{Range}
