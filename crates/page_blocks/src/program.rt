@@ -22,9 +22,9 @@ pub const USAGE: &str = "usage: cmark_blocks [--json | --help] < PAGE\n";
 pub const HELP: &str = "\
 usage: cmark_blocks [--json | --help] < PAGE
 
-Prints a line for each block of a page of Markdown: the number of its first line, that of its
-last, how many containers it stands in, and its kind. Before it stands a line for each container
-that its first line begins, the outermost first, with the number of that line twice.
+Prints a line for each block of a page of Markdown: the number of its first line, the number of
+its last line, how many containers it is in, and its kind. Before it comes a line for each
+container that begins in its first line, outermost first, with the number of that line twice.
 
   blank            blank lines in a row
   break            a thematic break
@@ -32,27 +32,34 @@ that its first line begins, the outermost first, with the number of that line tw
   setext LEVEL     a setext heading
   indented         indented code
   fenced COUNT C INFO
-                   fenced code, with the length of its fence, the byte that it is made of, and
-                   the info string, unless it is empty; each byte of that which is a quotation
-                   mark, a backslash or no printable ASCII is told as \\u00 and two hexadecimal
-                   digits
+                   fenced code: the length of its fence, the byte that the fence is made of, and
+                   the info string, unless it is empty; each byte of the info string that is a
+                   quotation mark, a backslash or not printable ASCII is printed as \\u00 and two
+                   hexadecimal digits
   html NUMBER      an HTML block, by the number of its start condition
   table COLUMNS    a table of GitHub Flavored Markdown
-  paragraph        a paragraph, with its lazy lines
+  paragraph        a paragraph, with its lazy continuation lines
   quote            a block quote
-  item C START     a list item, by its bullet or delimiter, and the number that it starts at
+  item C START     a list item: its bullet or delimiter, and the number that it starts at
 
 With --json each line is an object with the members first, last, depth and kind; level of a
 heading; count, fence and info of fenced code; condition of an HTML block; columns of a table;
 delimiter and start of an item.
 
-Together the blocks have all lines of the page. Link reference definitions are told as paragraphs,
-and so are lines before the header row of a table, with that and its other rows. Where a container
-ends, and which items make a list, tight or loose, is not told.
+Together the blocks contain every line of the page. Nothing is printed about where a container
+ends, or about which items make up a list, tight or loose.
 
-Lines are printed while the page is read. Where it can't be read to its end, or memory is refused,
-what is printed is the lines of its first blocks, and the status is 3. At most 1,048,576 reads are
-made, of at most 65,536 bytes each.
+Some pages are not read as CommonMark and GitHub Flavored Markdown read them:
+
+  - Link reference definitions are read as whatever their lines look like, so the blocks that
+    follow them may begin and end elsewhere.
+  - A header row that follows other lines of its paragraph doesn't begin a table.
+  - A table's delimiter row needs a pipe: \"a\" and then \":-\" is not a table.
+  - Vertical tabs and form feeds count as white space.
+
+Lines are printed while the page is read. If the page can't be read to its end, or memory is
+refused, the lines of its first blocks are printed, and the status is 3. At most 1,048,576 reads
+are made, of at most 65,536 bytes each.
 ";
 
 /// Runs the program on its words, without its name, and answers its status.
