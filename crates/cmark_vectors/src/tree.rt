@@ -372,6 +372,34 @@ fn nodes_that_no_link_leads_to_are_not_told(rt: HostRuntime) {
     tell_what_is_linked(&rt, rt.alloc(), &mut new_tree(&rt, rt.alloc(), 5));
 }
 
+fn tell_past_the_last_root(rt: &impl Abort, alloc: Global, tree: &mut Tree<Piece>) {
+    made(rt, grow(tree, "A(B)C"));
+    if let Some(c) = tree.cur() {
+        assert_link(rt, tree.next_sibling(c), None);
+    }
+    assert_link(rt, tree.cur(), None);
+    assert_same(rt, tree.spine_len(), 0);
+    assert_order(rt, alloc, tree, &[(1, 0), (2, 1), (3, 0)]);
+}
+
+#[test]
+fn nodes_are_told_without_a_focus(rt: HostRuntime) {
+    tell_past_the_last_root(&rt, rt.alloc(), &mut new_tree(&rt, rt.alloc(), 4));
+}
+
+fn tell_made_nodes(rt: &impl Abort, alloc: Global, tree: &mut Tree<Piece>) {
+    made(rt, tree.create_node(named('A')));
+    assert_link(rt, tree.cur(), None);
+    assert_order(rt, alloc, tree, &[(1, 0)]);
+    made(rt, tree.create_node(named('B')));
+    assert_order(rt, alloc, tree, &[(1, 0)]);
+}
+
+#[test]
+fn the_first_node_is_told_though_nothing_was_appended(rt: HostRuntime) {
+    tell_made_nodes(&rt, rt.alloc(), &mut new_tree(&rt, rt.alloc(), 2));
+}
+
 fn count(alloc: Global, tree: &Tree<Piece>) -> Result<usize, AllocError> {
     Ok(order(alloc, tree)?.len())
 }

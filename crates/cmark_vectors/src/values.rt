@@ -25,6 +25,7 @@ fn level_of<T: TryInto<HeadingLevel, Error = InvalidHeadingLevel>>(
 fn assert_level(rt: &impl Abort, alloc: Global, number: usize, level: HeadingLevel, name: &str) {
     assert_same(rt, HeadingLevel::try_from(number), Ok(level));
     assert_same(rt, level as usize, number);
+    assert_same(rt, level.number(), number);
     assert_text(rt, printed(alloc, &level), name);
 }
 

@@ -16,12 +16,12 @@ returns-in-Ok-Stopped-clause-no_memory g c = λ told. absurd (nothing_told (g.V.
 
 pub returns-in-Ok-NotText-clause-unread : goal.returns-in-Ok-NotText-clause-unread
 returns-in-Ok-NotText-clause-unread g c = λ told.
-    let first = told_first (g.V.Write.contents c.args.faults.now) _ 110 114 _ _ c.complain-in-Ok-NotText.ensures told in
+    let first = told_first (g.V.Write.contents c.args.faults.now) _ 110 114 _ _ c.complain-in-Ok-NotText.ensures.prefix told in
     absurd (omega (arith, first))
 
 pub returns-in-Ok-NotText-clause-no_memory : goal.returns-in-Ok-NotText-clause-no_memory
 returns-in-Ok-NotText-clause-no_memory g c = λ told.
-    let first = told_first (g.V.Write.contents c.args.faults.now) _ 110 111 _ _ c.complain-in-Ok-NotText.ensures told in
+    let first = told_first (g.V.Write.contents c.args.faults.now) _ 110 111 _ _ c.complain-in-Ok-NotText.ensures.prefix told in
     absurd (omega (arith, first))
 
 pub returns-clause-unread : goal.returns-clause-unread
