@@ -1,8 +1,9 @@
 """Holds the rows of docs/CONTRACTS.md against the clauses in the sources."""
 import re
 
+from crate_list import crates
 from finding import definitions
-from reading import crates, items_of, public_items, text_of, words_of
+from reading import items_of, public_items, text_of, words_of
 
 # Words of our specs that a row need not name: how an answer is said.
 GENERAL = {"SomeExactly", "IsOnly"}

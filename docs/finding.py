@@ -3,7 +3,8 @@ import re
 from functools import cache
 from pathlib import Path
 
-from reading import TOP, crates, files_below, imports_of, items_of, text_of, words_of
+from crate_list import crates
+from reading import TOP, files_below, imports_of, items_of, text_of, words_of
 
 HEADED = re.compile(r"(?:(?:abbrev|unfoldable) (?:pub )?|(?:pub )?(?:record|data|ruleset) )([^\s:({]+)")
 STATED = re.compile(r"(?:pub )?([^\s:({]+) :")

@@ -40,12 +40,6 @@ class Item:
         return self.path.split("/src/")[1].removesuffix(".rt")
 
 
-def crates():
-    """The names of all crates, as crates.txt has them."""
-    lines = (TOP / "crates.txt").read_text().splitlines()
-    return [line.split(":")[0].split()[0] for line in lines if line.strip()]
-
-
 @cache
 def text_of(path):
     return (TOP / path).read_text()

@@ -2,10 +2,14 @@
 import os
 import resource
 import subprocess
+import sys
 import tempfile
 from pathlib import Path
 
 TOP = Path(__file__).resolve().parent.parent
+sys.path.append(str(TOP / "docs"))
+from crate_list import crates, made_of
+
 SECONDS = 60
 # How the file of a build is called: as LLVM makes it, and as Rattle's own compiler does.
 ENDS = ("", ".by-rattle")
@@ -112,23 +116,29 @@ class Tally:
         self.passed, self.failed = self.passed + other.passed, self.failed + other.failed
 
 
-def newest_source(crates):
-    files = [it for name in crates for it in (TOP / "crates" / name / "src").rglob("*.rt")]
-    return max(it.stat().st_mtime for it in files)
+def sources_of(program):
+    """The sources of the program's crate and of each crate below it, as crates.txt has them."""
+    if program not in crates():
+        raise SystemExit(f"faults: crates.txt has no line of {program}")
+    for crate in made_of(program):
+        files = list((TOP / "crates" / crate / "src").rglob("*.rt"))
+        if not files:
+            raise SystemExit(f"faults: {crate} has no sources, and {program} is made of it")
+        yield from files
 
 
 def files_of(crate):
     return [TOP / "crates" / crate / "out" / f"{crate}{end}" for end in ENDS]
 
 
-def lacking(crate, below):
+def lacking(crate):
     """Why a build of the crate's program can't be run, or None: it isn't there, or is older than what it is made of."""
-    since = newest_source([crate, *below])
+    newest = max(sources_of(crate), key=lambda it: it.stat().st_mtime)
     for it in files_of(crate):
         if not it.is_file():
             return f"{it} is not there"
-        if it.stat().st_mtime < since:
-            return f"{it} is older than its sources"
+        if it.stat().st_mtime < newest.stat().st_mtime:
+            return f"{it} is older than its source {newest.relative_to(TOP)}"
     return None
 
 

@@ -166,7 +166,8 @@ export class Reading {
         if (underline && this.#endParagraph(underline.level, line)) {
             return this.#block(line, `underline of ${lines}`, "scanSetextHeading", [], underline);
         }
-        const table = isOn ? this.#tableHead(line) : null;
+        // An underline of definitions alone is none: they are at their end, and the line begins what it begins by itself. (4.3, 4.7)
+        const table = isOn && this.#paragraph ? this.#tableHead(line) : null;
         if (table) return table;
         if (this.page.interruptsParagraph(...given)) return this.#interrupts(line, depth, number, given);
         return this.#paragraph ? null : this.#htmlBlock(line, depth, given); // a tag alone in its line interrupts none

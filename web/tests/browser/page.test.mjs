@@ -11,6 +11,7 @@ import { join } from "node:path";
 import { after, before, test } from "node:test";
 import { fileURLToPath } from "node:url";
 import { VERSION } from "../../lib/c.mjs";
+import { examples, filesOfDisk, madePages } from "../pages.mjs";
 import { hold } from "../totals.mjs";
 import { Browser, serve } from "./chromium.mjs";
 import { MADE, TYPED } from "./typed.mjs";
@@ -357,4 +358,49 @@ test("a picture", async () => {
     const picture = await browser.screenshot();
     assert.ok(picture.length > 20_000 && picture.length < 200_000, `${picture.length} bytes`);
     if (process.env.SCREENSHOT) writeFileSync(process.env.SCREENSHOT, picture);
+});
+
+test("a file with an underline of definitions alone is drawn", async () => {
+    await open();
+    await settled("drawn");
+    await type("[foo]: /url\n===\n[foo]\n");
+    const rows = await browser.ask(drawnRows);
+    assert.deepEqual(rows.map((it) => [it.text, it.block.name]), [["[foo]: /url", "paragraph"], ["===", "paragraph"], ["[foo]", "goes on"]]);
+    assert.deepEqual(faults, []);
+});
+
+/** In the page: reads texts as its worker does, and says how many. */
+async function readAll(texts) {
+    const { load } = await import("/markdown_scanners.mjs");
+    const { Reading } = await import("/page/reading.mjs");
+    const { readWhole } = await import("/tests/whole.mjs");
+    const scanners = await load();
+    return texts.map((it) => readWhole(Reading, scanners, it)).length;
+}
+
+/** These texts in parts of about a megabyte. */
+function* inParts(texts) {
+    let part = [];
+    let length = 0;
+    for (const text of texts) {
+        part.push(text);
+        length += text.length;
+        if (length < 1_000_000) continue;
+        yield part;
+        part = [];
+        length = 0;
+    }
+    if (part.length > 0) yield part;
+}
+
+test("pages of each kind, the specification's examples and the files of this disk are read", async () => {
+    const count = async (texts) => {
+        let tried = 0;
+        for (const part of inParts(texts)) tried += await browser.ask(readAll, part);
+        return tried;
+    };
+    hold("made_pages", await count(madePages()));
+    const written = examples();
+    if (written) hold("examples_of_spec", await count(written));
+    assert.ok((await count(filesOfDisk().filter((it) => it !== null))) > 0);
 });

@@ -1,0 +1,26 @@
+"""What crates.txt says: the crates of the tree, and which of them one is made of."""
+from functools import cache
+from pathlib import Path
+
+CRATES = Path(__file__).resolve().parent.parent / "crates.txt"
+
+
+@cache
+def libraries():
+    """The libraries that each crate uses, by its name, as crates.txt lists them; `#` begins a comment there."""
+    lines = [line.partition("#")[0] for line in CRATES.read_text().splitlines()]
+    rows = [line.partition(":") for line in lines if line.strip()]
+    return {head.split()[0]: names.split() for head, _, names in rows}
+
+
+def crates():
+    """The names of all crates."""
+    return list(libraries())
+
+
+def made_of(crate):
+    """The crate and, in the order in which they are met, all crates below it. Those of the kit have no line and are left out."""
+    found = [crate]
+    for name in found:
+        found += [it for it in libraries()[name] if it in libraries() and it not in found]
+    return found
