@@ -91,12 +91,14 @@ fn tags(alloc: Global, output: Stdout) -> Result<(), Stop> {
     )
 }
 
-// The kind of the HTML block that begins there, and whether the line ends a comment, and a block
-// with a name.
+// The kind of the HTML block that begins there, by its number, and whether the line ends a comment,
+// and a block with a name.
 fn tell_html(output: Stdout, bytes: &[u8]) -> Result<(), Stop> {
+    let kind = scan_html_block_start(bytes);
+    let kind = kind.and_then(|kind| HtmlBlockKind::from_number(kind.number()));
     let comment = ends_html_block(bytes, HtmlBlockKind::Comment);
     let named = ends_html_block(bytes, HtmlBlockKind::BlockName);
-    tell(output, (scan_html_block_start(bytes), comment, named))
+    tell(output, (kind, comment, named))
 }
 
 fn unchanged(alloc: Global, output: Stdout) -> Result<(), Stop> {
