@@ -21,7 +21,7 @@ const LINES = [
 ];
 /** Those after which a paragraph, or what follows one, may end in different ways. */
 const TURNS = ["", "a", "[a]: /b", "[a]:", "'c'", "===", "---", "-", "# a", "```", "    a", "<b>", "</p>", "> a", "- a", "1. a", "|a|", "|-|", ":-"];
-/** What stands before a page's first line and before its others: the containers of them, or of the first alone. */
+/** What a page's first line begins with, and its others: the containers of all, or of the first alone. */
 const CONTAINERS = [["", ""], ["> ", "> "], ["> ", ""], ["- ", "  "], ["- ", ""], ["1. > ", "   > "], ["- ", "- "]];
 
 /** Pages of two lines in containers, and of three. */
