@@ -12,6 +12,11 @@ from block_trees import EMPTY, agree, alike, has_later_header, lines_in, tables_
 CONTAINERS = rb"(?:[ \t>]|[-+*](?=[ \t])|[0-9]{1,9}[.)](?=[ \t]))*"
 DEFINITION = re.compile(rb"(?:[ \t>]|[-+*]|[0-9]{1,9}[.)])*\[(?:[^][\\]|\\.)+\]:", re.S)
 
+# An opening fence and white space that is not trimmed from its info string; a delimiter row with a colon elsewhere than at the ends
+# of a cell.
+INFO = rb"(?:~{3,}|`{3,})(?:[ \t]*[\v\f]|[^\r\n]*[\v\f][ \t\v\f]*(?:[\r\n]|$))"
+OTHER_CELL = rb"^[-:| \t>]*(?:-[ \t]*:[ \t]*[-:]|::)[-:| \t]*\r?$"
+
 # A way to differ: what a page of it has, the section, and whether a page is one.
 Kind = namedtuple("Kind", "words section fits")
 
@@ -50,10 +55,10 @@ def begins(pattern):
 
 
 def begins_an_item(page):
-    """That cmark sees an item whose marker has a form feed or a vertical tab after it."""
-    _, their = page.parting()
+    """That a line at which they part has a list marker and a form feed or vertical tab after it, and cmark sees an item there."""
     is_marker = re.compile(CONTAINERS + rb"(?:[-+*]|[0-9]{1,9}[.)])[\v\f]").match
-    return bool(their) and their.kind == "item" and is_marker(page.lines[their.first - 1]) is not None
+    items = [page.lines[it.first - 1] for it in page.theirs if it.kind == "item"]
+    return any(is_marker(it) and it in items for it in page.other_lines())
 
 
 def in_a_table_page(pattern):
@@ -114,11 +119,13 @@ KINDS = {
     "raw": Kind("have <pre/> or the like alone in its line", "4.6, condition 7", begins(rb"<(?i:pre|script|style|textarea)/>")),
     "name": Kind("have <search> or <source>", "4.6, condition 6", begins(rb"</?(?i:search|source)(?=[\s/>]|$)")),
     "heading": Kind("have # before a form feed or vertical tab", "4.2", begins(rb"#{1,6}[\v\f]")),
+    "info": Kind("have a form feed or vertical tab at an end of an info string", "4.5", begins(INFO)),
+    "escape": Kind("have an escaped & in an info string", "2.4", begins(rb"(?:~{3,}|`{3,})[^\r\n]*\\&")),
     "marker": Kind("have a list marker before a form feed or vertical tab", "5.2", begins_an_item),
     "underline": Kind("have an underline before a form feed or vertical tab", "4.3", begins(rb"(?:=+|-+)[ \t]*[\v\f]")),
     "blank": Kind("have a line of form feeds or vertical tabs", "2.1", begins(rb"[ \t]*[\v\f][ \t\v\f]*(?:[\r\n]|$)")),
     "begin": Kind("begin an item with blank lines", "5.2", begins_blank),
-    "cell": Kind("have a colon between a delimiter cell's hyphens", "GFM 4.10", in_a_table_page(rb"^[-:| \t>]*(?:-[ \t]*:[ \t]*[-:]|::)[-:| \t]*\r?$")),
+    "cell": Kind("have a colon between a delimiter cell's hyphens", "GFM 4.10", in_a_table_page(OTHER_CELL)),
     "pipe": Kind("have a row of one pipe", "GFM 4.10", in_a_table_page(rb"^(?:[ \t>]|[-+*]|[0-9]{1,9}[.)])*\|[ \t]*\r?$")),
     "column": Kind("have a table of one column without a pipe", "GFM 4.10", has_a_column),
     "space": Kind("have a form feed or vertical tab in a table's first rows", "GFM 4.10", has_other_white_space),

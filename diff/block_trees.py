@@ -52,10 +52,10 @@ def without_control(text):
 
 
 def in_attribute(text):
-    """The text as an attribute of cmark's XML has it: tabs and line endings are spaces there, and what is not UTF-8 is U+FFFD, of
-    which a run counts as one."""
+    """The text as an attribute of cmark's XML has it: tabs and line endings are spaces there, and what is not UTF-8 or no character
+    is U+FFFD, of which a run counts as one."""
     text = re.sub(rb"\r\n|[\t\n\r]", b" ", without_control(text))
-    return re.sub("\ufffd+", "\ufffd", text.decode(errors="replace")).encode()
+    return re.sub("[\ufffd-\uffff]+", "\ufffd", text.decode(errors="replace")).encode()
 
 
 def meaning(found):

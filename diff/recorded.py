@@ -226,6 +226,46 @@ f
   </paragraph>
 </document>
 """, None),
+    Recorded("info", b"~~~ a\x0c\nb\n", b"""\
+1 2 0 fenced 3 ~ a\\u000c
+""", b"""\
+<document sourcepos="1:1-2:1" xmlns="http://commonmark.org/xml/1.0">
+  <code_block sourcepos="1:1-2:1" info="a" xml:space="preserve">b
+</code_block>
+</document>
+""", None),
+    Recorded("info", b"~~~\x0b a\nb\n", b"""\
+1 2 0 fenced 3 ~ \\u000b a
+""", b"""\
+<document sourcepos="1:1-2:1" xmlns="http://commonmark.org/xml/1.0">
+  <code_block sourcepos="1:1-2:1" info="a" xml:space="preserve">b
+</code_block>
+</document>
+""", None),
+    Recorded("escape", b"~~~ \\&amp;\nb\n", b"""\
+1 2 0 fenced 3 ~ \\u005c&amp;
+""", b"""\
+<document sourcepos="1:1-2:1" xmlns="http://commonmark.org/xml/1.0">
+  <code_block sourcepos="1:1-2:1" info="&amp;" xml:space="preserve">b
+</code_block>
+</document>
+""", None),
+    Recorded("marker", b"a\n1.\x0bb\n", b"""\
+1 2 0 paragraph
+""", b"""\
+<document sourcepos="1:1-2:4" xmlns="http://commonmark.org/xml/1.0">
+  <paragraph sourcepos="1:1-1:1">
+    <text sourcepos="1:1-1:1" xml:space="preserve">a</text>
+  </paragraph>
+  <list sourcepos="2:1-2:4" type="ordered" start="1" delim="period" tight="true">
+    <item sourcepos="2:1-2:4">
+      <paragraph sourcepos="2:3-2:4">
+        <text sourcepos="2:3-2:4" xml:space="preserve">\xef\xbf\xbdb</text>
+      </paragraph>
+    </item>
+  </list>
+</document>
+""", None),
     Recorded("begin", b"-\n  \n  a\n", b"""\
 1 1 0 item - 0
 1 1 1 blank
