@@ -27,7 +27,7 @@ def texts():
 
 def values():
     is_indented = lambda kind: (kind == "indented", kind == "fenced")
-    level = lambda number: Plain(f"h{number}" if 1 <= number <= 6 else f"not {number}")
+    level = lambda number: Plain(f"h{number} {number}" if 1 <= number <= 6 else f"not {number}")
     return [
         *map(is_indented, ("indented", "fenced", "fenced")), level(3), level(7), Value("CollapsedUnknown"), Value("Link"),
         Value("List", True), link(borrowed(OF_30)), Value("Text", borrowed(OF_30)), Value("TaskListMarker", True),

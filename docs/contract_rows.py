@@ -85,7 +85,7 @@ def say_of_lemmas(text, rows):
 
 def say_of_answers(text):
     """What is wrong in the table of what makes an answer the only one."""
-    rows = re.findall(r"(?m)^\| `(\w+)` \| `(\w+)`, `(\w+)` \|$", text)
+    rows = re.findall(r"(?m)^\| `([\w:]+)` \| `(\w+)`, `(\w+)` \|$", text)
     calls = {it.name: it for it in public_items("markdown_scanners_tree") if it.kind == "fn"}
     named = {call for call, _, _ in rows}
     for call, clause, lemma in rows:

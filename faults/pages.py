@@ -11,6 +11,7 @@ SMALL_MEMORY = 1 << 23
 DEEP = 40
 
 USAGE = b"usage: cmark_blocks [--json | --help] < PAGE\n"
+HELP = (TOP / "crates/cmark_blocks/help.txt").read_bytes()
 # Words that are answered, and as many that are not.
 KNOWN, OTHER = ["--json"], ["--jsom"]
 # What is told on standard error: by which words, under what, and with which status.
@@ -29,12 +30,6 @@ class Page(Scan):
         return self.out.startswith(out) and len(out) <= writes * size
 
 
-def help_text():
-    """The help, as the source has it."""
-    source = (TOP / "crates/page_blocks/src/program.rt").read_text()
-    return source.split('HELP: &str = "\\\n')[1].split('";\n')[0].replace("\\\\", "\\").encode()
-
-
 A_PAGE = Page("a page", "", b"# a\n\nb\n===\n", b"1 1 0 heading 1\n2 2 0 blank\n3 4 0 setext 1\n")
 OBJECTS = Page(
     "objects",
@@ -48,7 +43,7 @@ OBJECTS = Page(
 PLAIN = [A_PAGE, OBJECTS]
 
 # Words whose answer wants no input.
-UNREAD = [Scan("help", "--help", b"", help_text())]
+UNREAD = [Scan("help", "--help", b"", HELP)]
 
 SMALL = [
     *PLAIN,

@@ -3,13 +3,12 @@
 Of a library that is built, the code that its library folder has of each function tells it. Of any other crate the names in
 the sources do, where two functions of one name are not told apart.
 """
-import json
 import re
 import sys
 from functools import cache
-from pathlib import Path
 
 from edits import TOP
+from inside import code_of
 
 sys.path.insert(0, str(TOP / "docs"))
 from reading import items_of
@@ -40,10 +39,9 @@ def holder_of(name):
 
 def calls_in_code(folder):
     """What each function of a library calls, by the code in its built folder; None where there is none."""
-    code = Path(folder) / f"out/rlib/{Path(folder).name}.rlib/toolchain/mir.json"
-    if not code.is_file():
+    rows = code_of(folder)
+    if rows is None:
         return None
-    rows = dict(json.loads(code.read_text()))
     calls = {name: (set(texts_in(row)) & rows.keys()) - {name} for name, row in rows.items()}
     for name in rows:
         if holder_of(name) in calls:

@@ -17,10 +17,10 @@ SLOW = {"passes_over_hostile_texts_once", "passes_over_cut_texts_once"}
 
 # What may tell a wrong body of a crate, the quickest first: the stored run of a program, or the tests of a crate.
 TELLERS = {
-    "markdown_values": ["tests cmark_vectors_values", "run cmark_replay", "tests cmark_vectors_programs"],
-    "markdown_scanners_tree": ["run cmark_replay", "tests cmark_vectors"],
-    "program_faults": ["tests cmark_vectors_programs"],
-    "scan_commands": ["run cmark_scan", "tests cmark_vectors_programs"],
+    "markdown_values": ["tests cmark_vectors", "run cmark_replay", "tests cmark_vectors_programs"],
+    "markdown_scanners_tree": ["run cmark_replay", "tests markdown_scanners_tree", "tests cmark_vectors"],
+    "program_faults": ["tests cmark_scan", "tests cmark_vectors_programs"],
+    "cmark_scan": ["run cmark_scan", "tests cmark_scan"],
     "page_blocks": ["run cmark_blocks", "tests cmark_vectors_programs"],
 }
 

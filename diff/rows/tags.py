@@ -2,6 +2,15 @@
 
 NO_HANDLER, NOTHING, QUOTE = "none", "zero", "bq"
 
+# The names that begin a block by condition 6 of 4.6.
+BLOCK_NAMES = [
+    "address", "article", "aside", "base", "basefont", "blockquote", "body", "caption", "center", "col", "colgroup",
+    "dd", "details", "dialog", "dir", "div", "dl", "dt", "fieldset", "figcaption", "figure", "footer", "form", "frame",
+    "frameset", "h1", "h2", "h3", "h4", "h5", "h6", "head", "header", "hr", "html", "iframe", "legend", "li", "link",
+    "main", "menu", "menuitem", "nav", "noframes", "ol", "optgroup", "option", "p", "param", "search", "section",
+    "summary", "table", "tbody", "td", "tfoot", "th", "thead", "title", "tr", "track", "ul",
+]
+
 # The lowest condition of 4.6 that begins a block.
 STARTS = {
     "RawText": [b"<pre>", b"<PRE", b"<script type=a", b"<Style\t", b"<textarea\r", b"<pre\n>", b"<pre a b/>"],
@@ -36,6 +45,7 @@ ENDS = {
 
 ROWS = [
     # names of blocks (4.6)
+    *(("type6", f"{name}>".encode(), True) for name in BLOCK_NAMES),
     *(("type6", name, True) for name in (b"DIV>", b"/p/>", b"h1 ", b"UL", b"address", b"MenuItem\tx")),
     *(("type6", name, False) for name in (b"divx", b"p/", b"h7>", b"", b"/", b"//p>", b"p=", b"p\x0c")),
     # lengths of tags alone in a line (4.6)

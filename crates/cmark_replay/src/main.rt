@@ -1,16 +1,8 @@
-//! Makes the calls that cases on standard input name, and tells where an answer isn't the one that
-//! the case wants.
+//! Makes the calls that cases on standard input name, and prints where an answer isn't the one that
+//! the case names.
 #![tactic(auto)]
 
-mod arguments;
-mod calls;
-mod entities;
-mod printing;
-pub mod replay;
-mod skips;
-mod stop;
-
-use replay::replay_cases;
+use cmark_cases::replay::replay_cases;
 use std::process::ExitCode;
 
 fn main(rt: HostRuntime) -> ExitCode {

@@ -1,8 +1,20 @@
 //! Runs a scanner of Markdown over standard input and prints what it answers.
 #![tactic(auto)]
 
+mod html;
+mod label;
+mod line;
+mod printing;
+pub mod program;
+mod reading;
+mod report;
+#[cfg(test)]
+mod tests;
+mod unescaping;
+mod words;
+
+use program::run_program;
 use program_faults::{Fault, report_fault};
-use scan_commands::program::run_program;
 use std::env;
 use std::process::ExitCode;
 

@@ -49,6 +49,17 @@ pub fn begin_alike(one: &[u8], other: &[u8]) -> bool
     scan_listitem(one) == scan_listitem(other)
 }
 
+/// How many bytes the marker of the list item takes that a line begins with, with the space that belongs to it.
+pub fn marker_length(line: &[u8]) -> Option<usize>
+    ensures found { IfSome result (λ n. (delimiter start indent : ℕ)
+        × IsListItem line.now n delimiter start indent) }
+    ensures none { IfNone result ((n delimiter start indent : ℕ)
+        → ¬ IsListItem line.now n delimiter start indent) }
+{
+    let (length, _, _, _) = scan_listitem(line)?;
+    Some(length)
+}
+
 /// The alignments of a table's columns, in order, where the line is the delimiter row of a table.
 pub fn table_columns(alloc: Global, line: &[u8]) -> Result<Option<Vec<Alignment>>, AllocError>
     ensures found { IfOk result (λ found. IfSome found (λ columns.
@@ -110,7 +121,7 @@ pub fn fenced_code(text: &[u8]) -> Option<(&[u8], &[u8], &[u8])>
     ensures parts { IfSome result (λ r. text.now ≡ r.0.now ++ (r.1.now ++ r.2.now)) }
     ensures fences { IfSome result (λ r. (count fence n : ℕ)
         × IsCodeFence text.now count fence × IsClosingCodeFence r.2.now fence count n) }
-    ensures none { IfNone result ((fence : ℕ × ℕ) → ¬ IsCodeFence text.now fence.0 fence.1) }
+    ensures none { IfNone result ((count fence : ℕ) → ¬ IsCodeFence text.now count fence) }
 {
     let (count, fence) = scan_code_fence(text)?;
     let (opening, after) = text.split_at(scan_nextline(text));
@@ -121,7 +132,7 @@ pub fn fenced_code(text: &[u8]) -> Option<(&[u8], &[u8], &[u8])>
 /// The kind of the metadata block that a document begins with.
 pub fn metadata_kind(document: &[u8]) -> Option<MetadataBlockKind>
     ensures found { IfSome result (λ _. (byte : ℕ) × IsMetadataBlock document.now true true byte) }
-    ensures none { IfNone result ((r : ℕ × ℕ) → ¬ IsMetadataBlock document.now true true r.1) }
+    ensures none { IfNone result ((byte : ℕ) → ¬ IsMetadataBlock document.now true true byte) }
 {
     let (_, byte) = scan_metadata_block(document, true, true)?;
     if byte == b'-' {

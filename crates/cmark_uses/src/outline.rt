@@ -1,6 +1,6 @@
 //! Nested lists as a tree, built item by item and walked.
 ghost use Rattle.std.specs.Prelude.{◌≡◌, ℕ, Some, IfOk, IfSome, IsSome, map};
-ghost use Rattle.markdown_values.specs.tree.Forest.{Focused, StandsFor, appended, pushed, popped, empty_forest};
+ghost use Rattle.markdown_values.specs.tree.Forest.{Forest, Focused, HasForest, StandsFor, appended, pushed, popped, empty_forest};
 ghost use Rattle.markdown_values.specs.tree.Order.{in_order};
 
 use markdown_values::tree::{Tree, TreeIndex};
@@ -46,8 +46,8 @@ pub fn end_inner(outline: &mut Tree<Item>)
 
 /// How deep each item stands, in order.
 pub fn levels(alloc: Global, outline: &Tree<Item>) -> Result<Vec<usize>, AllocError>
-    ensures { IfOk result (λ levels. (f : Focused) → StandsFor outline.now f
-        → levels.items ≡ map (λ node. node.1) (in_order 0 f.forest)) }
+    ensures { IfOk result (λ levels. (forest : Forest) → HasForest outline.now forest
+        → levels.items ≡ map (λ node. node.1) (in_order 0 forest)) }
 {
     let order = outline.in_order()?;
     order.iter().map(|(_, depth)| *depth).collect(alloc)

@@ -1,16 +1,15 @@
-//! The derives of the runs and of the references, called through their bounds.
+//! The derives of the runs, of the references and of the values, called through their bounds.
+mod values;
+
 use crate::asserts::made;
+use crate::bounds::debug_printed;
 use markdown_scanners_tree::inline_html::{HtmlStop, run_inline_html};
 use markdown_scanners_tree::line::{LineAnswer, LineCall, LineStop, run_line};
 use markdown_scanners_tree::linklabel::ReferenceLabel;
 use markdown_values::strings::CowStr;
-use std::alloc::{AllocError, Global};
+use std::alloc::Global;
 use std::fmt::Debug;
 use std::process::Abort;
-
-fn debug_printed<T: Debug>(alloc: Global, value: &T) -> Result<String, AllocError> {
-    format!(in alloc; "{value:?}")
-}
 
 // Two values of one type are printed, and differ.
 fn assert_different<T: Debug + Drop + PartialEq>(rt: &impl Abort, alloc: Global, one: T, other: T) {

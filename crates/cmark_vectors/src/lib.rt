@@ -1,6 +1,5 @@
-//! Worked rows and hostile texts, run through the calls on line starts, inline HTML and link labels
-//! of `markdown_scanners_tree`; its derives, by their bounds; and what the cases of `cmark_replay`
-//! don't say of its scanners.
+//! Worked rows of both libraries, hostile texts, and derives by their bounds, all run through public
+//! calls. The rows of the scanners are `worked`, which the calls of `cmark_cases` read.
 #![tactic(auto)]
 
 #[cfg(test)]
@@ -12,10 +11,21 @@ mod derives;
 #[cfg(test)]
 mod inline_html;
 #[cfg(test)]
+mod kept;
+#[cfg(test)]
 mod line;
 #[cfg(test)]
 mod linklabel;
+pub mod pieces;
 #[cfg(test)]
 mod scanners;
 #[cfg(test)]
+mod strings;
+#[cfg(test)]
 mod texts;
+#[cfg(test)]
+mod tree;
+#[cfg(test)]
+mod values;
+#[cfg(test)]
+mod worked;

@@ -1,4 +1,5 @@
 //! Calls on the start of a line: clones, and hostile lines.
+mod cuts;
 mod resumed;
 mod run;
 

@@ -1,4 +1,4 @@
-//! Link labels: hostile texts and handlers, and which labels match.
+//! Link labels: hostile texts and handlers, which labels are boxed, and which match.
 ghost use Rattle.std.specs.Prelude.{◌≡◌, ◌↔◌, ◌≤◌, ◌<◌, ◌-◌, length, slice_index, IsTrue};
 ghost use Rattle.markdown_scanners_tree.specs.linklabel.Key.{label_key};
 ghost use Rattle.cmark_vectors.specs.Markers.{skipped};
@@ -134,6 +134,43 @@ fn is_borrowed(found: &Answer<'_>) -> bool {
 fn skipped_backslashes_escape_nothing(rt: HostRuntime) {
     let found = made(&rt, scan_after_markers(rt.alloc(), "a\n\\|b]", b"\\", true));
     assert!(rt; is_label(&found, 6, "a |b"));
+}
+
+// The bytes that a handler skips end no run of white space.
+#[test]
+fn line_endings_around_skipped_bytes_are_in_one_run(rt: HostRuntime) {
+    let found = made(&rt, scan_after_markers(rt.alloc(), "a\rX\nb]", b"X", false));
+    assert!(rt; found.is_none());
+}
+
+fn is_boxed(found: &Answer<'_>) -> bool {
+    matches!(found, Some((_, CowStr::Boxed(_))))
+}
+
+// The label of a text has memory of its own.
+fn assert_boxed(rt: &impl Abort, alloc: Global, text: &str, marker: &[u8], is_in_table: bool) {
+    let found = made(rt, scan_after_markers(alloc, text, marker, is_in_table));
+    assert_answer(rt, &text, is_boxed(&found), true);
+}
+
+// A text, what a handler skips at the front of each line, and whether it is in a table.
+const BOXED: [(&str, &[u8], bool); 7] = [
+    ("«\t\tBlurry Eyes\t\t»]", b"", false),
+    ("hello\r\nworld\r\n]", b"", false),
+    ("a\nb]", b"", false),
+    ("a\n> b]", b"> ", false),
+    ("Foo  Bar]", b"", false),
+    ("a\\|b]", b"", true),
+    ("a\\\\|b]", b"", true),
+];
+
+// Where a run of white space is not one space, or a pipe loses its backslash, however short the
+// label is.
+#[test]
+fn labels_of_other_bytes_are_boxed(rt: HostRuntime) {
+    for (text, marker, is_in_table) in BOXED {
+        assert_boxed(&rt, rt.alloc(), text, marker, is_in_table);
+    }
 }
 
 fn escaped_brackets(alloc: Global) -> Result<String, AllocError> {

@@ -1,4 +1,4 @@
-//! What the cases of `cmark_replay` don't say: hostile texts, closures, calls of bytes, and types.
+//! What the worked rows don't say: hostile texts, closures, calls of bytes, types, and what is boxed.
 mod classes;
 mod entities;
 mod html_kinds;
@@ -7,3 +7,4 @@ mod links;
 mod list_items;
 mod runs;
 mod text_lines;
+mod unescaping;

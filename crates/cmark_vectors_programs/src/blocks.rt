@@ -1,4 +1,5 @@
 //! Runs of the program over arrays, and over a reader and a writer that fail.
+mod help;
 mod reading;
 mod tables;
 
@@ -315,28 +316,6 @@ const ITEMS: &[Row] = &[
 #[test]
 fn items_hold_blocks(rt: HostRuntime) {
     assert_rows(&rt, rt.alloc(), ITEMS);
-}
-
-// A run of `--help`, which is done, prints a text that begins so.
-fn assert_help(rt: &impl Abort, alloc: Global, front: &[u8]) {
-    let mut output = Vec::new(alloc);
-    assert_end::<Blocks, _, _>(
-        rt,
-        alloc,
-        &["--help"],
-        &mut b"a".as_slice(),
-        &mut output,
-        DONE,
-    );
-    assert!(rt; output.as_slice().starts_with(front));
-}
-
-#[test]
-fn help_is_printed_and_other_words_are_refused(rt: HostRuntime) {
-    assert_help(&rt, rt.alloc(), b"usage: cmark_blocks ");
-    let usage = b"usage: cmark_blocks [--json | --help] < PAGE\n".as_slice();
-    let mut input = b"a".as_slice();
-    assert_run::<Blocks, _>(&rt, rt.alloc(), &["--hel"], &mut input, "", (2, usage));
 }
 
 #[test]

@@ -1,4 +1,4 @@
-//! Tests of the programs, and of the uses of the library, through their public calls.
+//! Tests of `page_blocks`, and of the uses of the library, through their public calls.
 #![tactic(auto)]
 
 #[cfg(test)]
@@ -7,7 +7,5 @@ mod asserts;
 mod blocks;
 #[cfg(test)]
 mod runs;
-#[cfg(test)]
-mod scan;
 #[cfg(test)]
 mod uses;

@@ -1,6 +1,6 @@
 -- Runs of calls on a line start, and what C is told of them. (CommonMark 0.31.2, section 2.2, tabs)
-use Rattle.std.specs.Prelude.{ℕ, Bool, true, false, List, ◌≡◌, ◌≤◌, ◌==◌, ◌++◌, Option, None, Some, nat_lt, drop, length, map, if◌then◌else◌}
-use Rattle.std.specs.List.{list_all}
+use Rattle.std.specs.Prelude.{ℕ, Bool, true, false, List, ◌≡◌, ◌≤◌, ◌<◌, ◌==◌, ◌++◌, Option, None, Some, not, nat_lt, drop, length, map, take, if◌then◌else◌}
+use Rattle.std.specs.List.{list_all, prefix_len}
 use Rattle.markdown_scanners_tree.specs.declared.line.run.LineAnswer.{LineAnswer}
 use Rattle.markdown_scanners_tree.specs.declared.line.run.LineAnswer.TheVariants.{Flag, Count, List as ItemAnswer, Definition as DefinitionAnswer}
 use Rattle.markdown_scanners_tree.specs.declared.line.run.LineCall.{LineCall}
@@ -76,6 +76,19 @@ pub record IsRun (bytes : List ℕ) (run : StateRun) (new : Start) (old_answers 
   pub answers : AreAnswers run.answers run.stop old_answers new_answers ends
   pub state : state_on bytes new ≡ run.state
   pub known : known_breaks new ≡ run.known
+
+-- how many calls come before the first of MDS_LIST, the one kind whose answer rests on what is known of thematic breaks
+abbrev pub calls_before_list : List Call → ℕ
+calls_before_list = prefix_len (λ call. not (call.kind == 4))
+
+-- The run does not stop before the first call of MDS_LIST, and makes it.
+abbrev pub MakesList : List Call → StateRun → Type 0
+MakesList calls run = calls_before_list calls < length run.answers
+
+-- So many answers of a run stand at the front of the buffer, and the call after them is made too.
+pub record IsRunTo (count : ℕ) (run : StateRun) (answers : List Answer) (ends : LineEnds) : Type 0 where
+  pub front : take count answers ≡ map answer_of (take count run.answers)
+  pub made : count < ends.count
 
 -- the front of a line
 abbrev pub IsFront : Start → Type 0

@@ -2,3 +2,4 @@ pub mod LabelText
 pub mod NoSpace
 pub mod PlainLabel
 pub mod Searched
+pub mod SureRun

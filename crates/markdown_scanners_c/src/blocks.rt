@@ -25,12 +25,13 @@ pub struct Break {
 #[unsafe(no_mangle)]
 pub extern "C" fn mds_scan_hrule(bytes: &[u8]) -> Break
     ensures found { FoundExactly (IsThematicBreakLine bytes.now) result.length result.length }
+    ensures within { IsWithin bytes.now result.length }
     ensures zero { result.length ≢ none → result.none_before ≡ 0 }
 
     // Of no break: where the scan stopped. No break begins before that place.
     ensures stopped { result.length ≡ none → result.none_before ≡ break_length bytes.now }
     ensures none_before { NoBreakBefore bytes.now result.none_before }
-    ensures within { result.none_before ≤ length bytes.now }
+    ensures place_within { result.none_before ≤ length bytes.now }
 {
     let (length, none_before) = match scan_hrule(bytes) {
         Ok(length) => (length, 0),

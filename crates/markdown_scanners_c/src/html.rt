@@ -9,7 +9,7 @@ ghost use Rattle.markdown_scanners_tree.specs.scanners.html_block.HtmlBlock.{IsB
 ghost use Rattle.markdown_scanners_tree.specs.scanners.html_kinds.HtmlKinds.{IsHtmlBlockStart, condition_number, is_html_end};
 ghost use Rattle.markdown_scanners_tree.specs.scanners.html_tag.HtmlTag.{IsTagAloneInLine};
 ghost use Rattle.markdown_scanners_tree.specs.scanners.html_tag.KeptTag.{IsKeptTag, place_after};
-ghost use Rattle.markdown_scanners_c.specs.Answers.{FoundExactly, FoundKind};
+ghost use Rattle.markdown_scanners_c.specs.Answers.{FoundExactly, FoundKind, IsWithin};
 ghost use Rattle.markdown_scanners_c.specs.Buffer.{IsChangedFront};
 ghost use Rattle.markdown_scanners_c.specs.Finds.{IsFindEnd};
 ghost use Rattle.markdown_scanners_c.specs.LineStarts.{found_status};
@@ -45,7 +45,8 @@ pub extern "C" fn mds_starts_html_block_type_6(bytes: &[u8]) -> bool
 /// start condition 7)
 #[unsafe(no_mangle)]
 pub extern "C" fn mds_scan_html_type_7(bytes: &[u8]) -> usize
-    ensures { FoundExactly (IsTagAloneInLine bytes.now) result result }
+    ensures found { FoundExactly (IsTagAloneInLine bytes.now) result result }
+    ensures within { IsWithin bytes.now result }
 {
     scan_html_type_7(bytes).unwrap_or(NONE)
 }
@@ -97,8 +98,9 @@ fn kind_of(number: u32) -> Option<HtmlBlockKind>
 /// The length of the tag at the front, in one line, or `NONE`. (CommonMark 0.31.2, section 6.6)
 #[unsafe(no_mangle)]
 pub extern "C" fn mds_scan_html_tag(alloc: Global, bytes: &[u8]) -> usize
-    ensures { FoundExactly (λ n. (tag : List KeptByte)
+    ensures found { FoundExactly (λ n. (tag : List KeptByte)
         × IsKeptTag (λ rest skip. ⊥) bytes.now tag × (n ≡ place_after 0 tag)) result result }
+    ensures within { IsWithin bytes.now result }
 {
     match scan_html_block_inner(alloc, bytes, None::<&fn(&[u8]) -> usize>) {
         Ok(Some((_, length))) => length,

@@ -1,13 +1,14 @@
 //! Runs of calls on a line start.
-ghost use Rattle.std.specs.Prelude.{◌≡◌, ◌≤◌, ◌<◌, true, false, drop, length, map};
+ghost use Rattle.std.specs.Prelude.{◌≡◌, ◌↔◌, ◌⊎◌, ◌≤◌, ◌<◌, true, false, drop, length, map, take};
 ghost use Rattle.std.specs.List.{list_all};
 ghost use Rattle.markdown_scanners_tree.specs.line.KnownBreaks.{AreTrueBreaks};
 ghost use Rattle.markdown_scanners_tree.specs.line.State.{IsLineState};
 ghost use Rattle.markdown_scanners_tree.specs.line.run.PlainRun.{plain_run};
 ghost use Rattle.markdown_scanners_tree.specs.line.run.StateRun.{state_run};
-ghost use Rattle.markdown_scanners_c.specs.LineRuns.{CanRun, IsFront, IsLineRun, IsRun, AreAnswers, answer_of, is_known, line_call, no_run, run_at, stop_status};
+ghost use Rattle.markdown_scanners_c.specs.LineRuns.{CanRun, IsFront, IsLineRun, IsRun, IsRunTo, AreAnswers, MakesList, answer_of, calls_before_list, is_known, line_call, no_run, run_at, stop_status};
 ghost use Rattle.markdown_scanners_c.specs.LineStarts.{IsNext, IsTrueStart, state_on};
-ghost use Rattle.markdown_scanners_c.specs.Status.{bad_kind, bad_state, too_short};
+ghost use Rattle.markdown_scanners_c.specs.Status.{ok, bad_kind, bad_state, too_short};
+ghost use Rattle.markdown_scanners_c.specs.private.SureRun.{IsMadeTo, IsSure};
 
 use crate::line_starts::Start;
 use crate::status::{BAD_KIND, BAD_STATE, OK, SPACE_PENDING, TOO_LARGE, TOO_SHORT};
@@ -69,12 +70,24 @@ pub extern "C" fn mds_run_line(
         → IsRun bytes.now (run_at bytes.now start.old calls.now)
         start.new answers.old answers.new result }
 
+    // Whatever is known: all of a run that makes no MDS_LIST, and a run up to its first.
+    ensures without_list { CanRun bytes.now start.old calls.now answers.old
+        → ¬ MakesList calls.now (run_at bytes.now start.old calls.now)
+        → IsRun bytes.now (run_at bytes.now start.old calls.now)
+        start.new answers.old answers.new result }
+    ensures up_to_list { CanRun bytes.now start.old calls.now answers.old
+        → MakesList calls.now (run_at bytes.now start.old calls.now)
+        → IsRunTo (calls_before_list calls.now) (run_at bytes.now start.old calls.now)
+        answers.new result }
+    ensures ended { CanRun bytes.now start.old calls.now answers.old
+        → ((result.status ≡ ok) ↔ (result.count ≡ length calls.now)) }
+
     // From the front of a line the tab law holds.
     ensures front { CanRun bytes.now start.old calls.now answers.old → IsFront start.old
         → IsLineRun bytes.now (plain_run bytes.now (map line_call calls.now))
         start.new answers.old answers.new result }
 
-    // Whatever is known.
+    // In every state.
     ensures next { IsLineState (state_on bytes.now start.old)
         → IsNext bytes.now start.old start.new }
     ensures room { result.count ≤ length calls.now }
@@ -112,19 +125,23 @@ fn made_run(
 ) -> LineEnds
     requires { length calls.now ≤ length answers.old }
 
-    // Where what is known is true of the line from the place on.
-    ensures told { AreTrueBreaks line.old.bytes breaks.old line.old.place
+    // Where what is known is true of the line from the place on, and up to the first MDS_LIST.
+    ensures told { IsSure line.old breaks.old calls.now result.count
         → AreAnswers (state_run line.old breaks.old (map line_call calls.now)).answers
         (state_run line.old breaks.old (map line_call calls.now)).stop
         answers.old answers.new result }
-    ensures state { AreTrueBreaks line.old.bytes breaks.old line.old.place
+    ensures state { IsSure line.old breaks.old calls.now result.count
         → line.new ≡ (state_run line.old breaks.old (map line_call calls.now)).state }
-    ensures known { AreTrueBreaks line.old.bytes breaks.old line.old.place
+    ensures known { IsSure line.old breaks.old calls.now result.count
         → breaks.new ≡ (state_run line.old breaks.old (map line_call calls.now)).known }
     ensures truth { AreTrueBreaks line.old.bytes breaks.old line.old.place
         → AreTrueBreaks line.new.bytes breaks.new line.new.place }
 
     // Whatever is known.
+    ensures up_to_list { calls_before_list calls.now < result.count
+        → IsMadeTo (calls_before_list calls.now)
+        (state_run line.old breaks.old (map line_call calls.now)) answers.new }
+    ensures ended { (result.status ≡ ok) ↔ (result.count ≡ length calls.now) }
     ensures bytes { line.new.bytes ≡ line.old.bytes }
     ensures forward { line.old.place ≤ line.new.place }
     ensures room { result.count ≤ length calls.now }

@@ -1,5 +1,6 @@
 -- Lemmas that other crates cite.
 pub use Rattle.markdown_scanners_tree.proofs.HandlerLemmas.{cut_behind_ascii, cut_behind_front, front_found, steady_at_ascii, ascii_fronts}
+pub use Rattle.markdown_scanners_tree.proofs.HandlerLemmas.{callable_after_line_endings}
 pub use Rattle.markdown_scanners_tree.proofs.LabelHandlers.{label_of_more}
 pub use Rattle.markdown_scanners_tree.proofs.inline_html.TrueGuards.{opener-bounds}
 pub use Rattle.markdown_scanners_tree.proofs.inline_html.run.GuardsStay.{accepted}
@@ -12,7 +13,7 @@ pub use Rattle.markdown_scanners_tree.proofs.line.run.StateRunLemmas.{run_at_fro
 pub use Rattle.markdown_scanners_tree.proofs.linklabel.OneLabel.{one_label}
 pub use Rattle.markdown_scanners_tree.proofs.scanners.Scanned.{same_pieces, thematic_breaks, blank_lines, place_of_rest}
 pub use Rattle.markdown_scanners_tree.proofs.scanners.Scanned.{one_atx_heading, one_blank_line, one_closing_fence, one_closing_metadata, one_code_fence, one_destination}
-pub use Rattle.markdown_scanners_tree.proofs.scanners.Scanned.{one_html_block_start, one_indent, one_item, one_metadata_block, one_quote_start, one_reference, one_row}
+pub use Rattle.markdown_scanners_tree.proofs.scanners.Scanned.{one_html_block_start, one_html_kind, one_indent, one_item, one_metadata_block, one_quote_start, one_reference, one_row}
 pub use Rattle.markdown_scanners_tree.proofs.scanners.Scanned.{one_tag, one_tag_alone, one_title, one_underline, one_uri}
 pub use Rattle.markdown_scanners_tree.proofs.scanners.runs.CallableLemmas.{callable_in_turn}
 pub use Rattle.markdown_scanners_tree.proofs.scanners.text_lines.LineSteps.{first_line-taken}
@@ -26,6 +27,7 @@ pub ruleset only_answers = (
   one_code_fence,
   one_destination,
   one_html_block_start,
+  one_html_kind,
   one_indent,
   one_item,
   one_label,

@@ -1,12 +1,18 @@
--- What a label's handler skips is good where it is ASCII, as the markers of containers are.
-use Rattle.std.proofs.Common.{ℕ, zero, suc, ◌≡◌, ◌-◌, ◌<◌, ◌≤◌, true, List, [], ◌∷◌, length, take, get_or, nat_lt, nat_eq, refl, subst, arith, Option, Some}
+-- What a label's handler skips is good where it is ASCII, as the markers of containers are; and what is asked of a
+-- handler.
+use Rattle.std.proofs.Common.{ℕ, zero, suc, ◌≡◌, ◌+◌, ◌-◌, ◌<◌, ◌≤◌, ◌==◌, ◌∙◌, Bool, true, false, ◌||◌, cond, List, [], ◌∷◌, length, take, drop, get_or, nat_lt, nat_eq, refl, sym, ap, subst, arith, Option, Some, None}
 use Rattle.std.specs.List.{list_all, starts_with}
 use Rattle.std.specs.Fn.{FnReturnsAt, Shared}
 use Rattle.std.specs.Str.{IsUtf8, IsCharBoundary}
 use Rattle.std.proofs.lemmas.Bool.{eqb-true, ltb-true}
 use Rattle.std.proofs.lemmas.Str.{IsCharBoundary-start, IsCharBoundary-after_ascii}
-use Rattle.markdown_scanners_tree.specs.Handler.{IsSteadyAtChars, IsAsciiFront}
+use Rattle.markdown_scanners_tree.specs.Ascii.{carriage_return, line_feed}
+use Rattle.markdown_scanners_tree.specs.Bytes.{begins_with, line_ending}
+use Rattle.markdown_scanners_tree.specs.Handler.{IsAfterLineEnding, IsCallableAfterLineEndings, IsSteadyAtChars, IsAsciiFront}
+use Rattle.markdown_scanners_tree.specs.Kept.{line_len}
+use Rattle.markdown_scanners_tree.specs.linklabel.private.NextPart.{IsEnding}
 use Rattle.markdown_scanners_tree.proofs.PrefixLemmas.{both_true}
+use denote.Param.Always.{always_fn}
 use denote.Ref.{Bor}
 
 -- behind an ASCII byte a text may be cut
@@ -53,3 +59,33 @@ steady_at_ascii g f one ascii = record {
 
 -- an ASCII front, and that a text may be cut behind it
 pub ruleset ascii_fronts = (cut_behind_ascii, cut_behind_front, front_found)
+
+-- a handler that may always be called may be called after the line endings of a text
+pub callable_after_line_endings : {F R : Type 0} (g : Shared F (Bor (List ℕ) × Unit {0}) R) (f : F) (text : List ℕ)
+    → always_fn g f → IsCallableAfterLineEndings g f text
+callable_after_line_endings g f text always = record { at = λ rest after. always.at (rest, tt) }
+
+-- by the byte, and whether LF follows
+ending_len : (lf cr next : Bool) (n : ℕ) → (lf || cr) ≡ true
+    → (cond lf (Some 1) (cond cr (cond next (Some 2) (Some 1)) None) ≡ Some (cond lf 1 (cond cr (cond next 2 1) n)))
+    × (0 < cond lf 1 (cond cr (cond next 2 1) n))
+ending_len true cr next n h = (refl, omega arith)
+ending_len false true true n h = (refl, omega arith)
+ending_len false true false n h = (refl, omega arith)
+ending_len false false next n h = absurd (let none : false ≡ true = h in cc)
+
+-- after a line ending that stands next in a label
+pub after_label_line : (source : List ℕ) (place len : ℕ) → IsEnding (drop place source) len
+    → IsAfterLineEnding source (drop (place + len) source)
+after_label_line source place len h =
+    let b = h.byte in
+    let some = ending_len (b == line_feed) (b == carriage_return) (begins_with (λ c. c == line_feed) h.others)
+    (suc (line_len h.others)) h.ends in
+    let size : len ≡ line_len (b ∷ h.others) = h.takes ∙ ap line_len h.parts in
+    record {
+      place = place;
+      taken = len;
+      some = rw size some.1;
+      ending = ap line_ending h.parts ∙ some.0 ∙ ap Some (sym size);
+      follows = refl;
+    }

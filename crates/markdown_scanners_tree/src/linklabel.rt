@@ -9,7 +9,7 @@ ghost use Rattle.std.specs.String.{string_len, string_capacity};
 ghost use Rattle.std.proofs.Common.{rules};
 ghost use Rattle.markdown_values.specs.strings.Text.{cow_text, IsBorrowed, IsBoxed};
 ghost use Rattle.markdown_scanners_tree.specs.SomeExactly.{SomeExactly, IsOnly};
-ghost use Rattle.markdown_scanners_tree.specs.Handler.{Skips, IsSteadyAtChars};
+ghost use Rattle.markdown_scanners_tree.specs.Handler.{Skips, IsAfterLineEnding, IsCallableAfterLineEndings, IsSteadyAtChars};
 ghost use Rattle.markdown_scanners_tree.specs.linklabel.Label.{Label, IsLabel, HasNoLabel, ends_in_backslash, ReadsBack};
 ghost use Rattle.markdown_scanners_tree.specs.linklabel.Answer.{answered_label, slice_before, without_first_space, without_last_space};
 ghost use Rattle.markdown_scanners_tree.specs.linklabel.private.NextPart.{IsNextPart};
@@ -138,7 +138,8 @@ pub type FootnoteLabel<'a> = LinkLabel<'a>;
 /// Markdown 0.29, section 4.10).
 ///
 /// `handler` has one answer for one rest, and what it skips ends in the rest, between two of its
-/// characters. It may be asked twice for one rest.
+/// characters. It is given no other bytes than what follows a line ending of the text, and may be
+/// asked twice for one rest.
 ///
 /// # Errors
 ///
@@ -149,7 +150,7 @@ pub fn scan_link_label_rest<'t, F: Fn(&[u8]) -> Option<usize>>(
     handler: &F,
     is_in_table: bool,
 ) -> Result<Option<(usize, CowStr<'t>)>, AllocError>
-    requires callable { F.IsAlwaysCallable handler.now }
+    requires callable { IsCallableAfterLineEndings F.Fn handler.now text.now }
     requires steady { IsSteadyAtChars F.Fn handler.now }
 
     // The one label of the text is answered, or none where it has none.
@@ -235,9 +236,10 @@ fn is_dropped(rest: &[u8], is_in_table: bool) -> bool
 
 // How many bytes the handler skips at the start of a line, if the text goes on there.
 fn skip_at<F: Fn(&[u8]) -> Option<usize>>(text: &str, place: usize, handler: &F) -> Option<usize>
-    requires callable { F.IsAlwaysCallable handler.now }
+    requires callable { IsCallableAfterLineEndings F.Fn handler.now text.now }
     requires steady { IsSteadyAtChars F.Fn handler.now }
     requires cut { IsCharBoundary text.now place }
+    requires after { IsAfterLineEnding text.now (drop place text.now) }
     ensures found { SomeExactly (Skips F.Fn handler.now (drop place text.now)) result }
     ensures only { IsOnly (Skips F.Fn handler.now (drop place text.now)) result }
     ensures cut { IfSome result (λ skip. IsCharBoundary text.now (place + skip)) }
@@ -263,7 +265,7 @@ fn measure_label<F: Fn(&[u8]) -> Option<usize>>(
     handler: &F,
     is_in_table: bool,
 ) -> Option<Measure>
-    requires callable { F.IsAlwaysCallable handler.now }
+    requires callable { IsCallableAfterLineEndings F.Fn handler.now text.now }
     requires steady { IsSteadyAtChars F.Fn handler.now }
     ensures found { IfSome result (IsMeasure (Skips F.Fn handler.now) text.now is_in_table) }
     ensures none { IfNone result (HasNoLabel (Skips F.Fn handler.now) text.now is_in_table) }
@@ -385,7 +387,7 @@ fn write_label<F: Fn(&[u8]) -> Option<usize>>(
     handler: &F,
     is_in_table: bool,
 ) -> Result<(), AllocError>
-    requires callable { F.IsAlwaysCallable handler.now }
+    requires callable { IsCallableAfterLineEndings F.Fn handler.now text.now }
     requires steady { IsSteadyAtChars F.Fn handler.now }
     ensures written { (label : Label)
         → IsLabel (Skips F.Fn handler.now) text.now is_in_table label

@@ -1,5 +1,5 @@
 //! Events, tags and options, and what they are made of.
-ghost use Rattle.std.specs.Prelude.{◌≡◌, ◌⊎◌, ◌<◌, IsTrue, IfOk, IsSome, Some, MatchResult, is_some, is_none};
+ghost use Rattle.std.specs.Prelude.{◌≡◌, ◌⊎◌, ◌<◌, ◌≤◌, IsTrue, IfOk, IsSome, Some, MatchResult, is_some, is_none};
 ghost use Rattle.markdown_values.specs.values.Headings.{heading_number, heading_name};
 ghost use Rattle.markdown_values.specs.values.Links.{unknown_kind};
 ghost use Rattle.markdown_values.specs.values.Tags.{info_view};
@@ -121,6 +121,17 @@ pub enum HeadingLevel {
     H6,
 }
 
+impl HeadingLevel {
+    /// The number of the level, from 1 to 6.
+    pub fn number(self) -> usize
+        ensures number { result ≡ heading_number self }
+        ensures positive { 0 < result }
+        ensures within { result ≤ 6 }
+    {
+        self as usize
+    }
+}
+
 impl TryFrom<usize> for HeadingLevel {
     type Error = InvalidHeadingLevel;
 
@@ -129,12 +140,12 @@ impl TryFrom<usize> for HeadingLevel {
 
     fn try_from(number: usize) -> Result<HeadingLevel, InvalidHeadingLevel> {
         match number {
-            n if n == HeadingLevel::H1 as usize => Ok(HeadingLevel::H1),
-            n if n == HeadingLevel::H2 as usize => Ok(HeadingLevel::H2),
-            n if n == HeadingLevel::H3 as usize => Ok(HeadingLevel::H3),
-            n if n == HeadingLevel::H4 as usize => Ok(HeadingLevel::H4),
-            n if n == HeadingLevel::H5 as usize => Ok(HeadingLevel::H5),
-            n if n == HeadingLevel::H6 as usize => Ok(HeadingLevel::H6),
+            1 => Ok(HeadingLevel::H1),
+            2 => Ok(HeadingLevel::H2),
+            3 => Ok(HeadingLevel::H3),
+            4 => Ok(HeadingLevel::H4),
+            5 => Ok(HeadingLevel::H5),
+            6 => Ok(HeadingLevel::H6),
             _ => Err(InvalidHeadingLevel(number)),
         }
     }

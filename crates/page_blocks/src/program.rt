@@ -1,27 +1,30 @@
 //! What the program does with its words, its input and its output.
-ghost use Rattle.std.specs.Prelude.{◌≡◌, ◌≢◌, IfOk, IfSome, IfErr, IsNone, Some};
+ghost use Rattle.std.specs.Prelude.{◌≡◌, ◌≢◌, ◌⊎◌, ◌≤◌, ℕ, IfOk, IfSome, IfErr, IsNone, Some};
 ghost use Rattle.std.specs.Io.KnownBytes.{IsAtEnd, Appends};
 ghost use Rattle.page_blocks.specs.words.Words.{request_of};
 ghost use Rattle.page_blocks.specs.declared.words.Form.{Form};
-ghost use Rattle.page_blocks.specs.declared.words.Request.TheVariants.{Page};
+ghost use Rattle.page_blocks.specs.declared.words.Request.TheVariants.{Page, Help};
 ghost use Rattle.page_blocks.specs.page.Told.{IsToldTo, IsBegunTo};
-ghost use Rattle.program_faults.specs.Faults.{TellsFault};
+ghost use Rattle.program_faults.specs.Faults.{TellsFault, AppendsPrefix, fault_line};
+ghost use Rattle.program_faults.specs.Steps.{AreReads, HasEnded, HasFailed, IsGiven};
 
 use crate::page::Telling;
 use crate::reading::Unread;
 use crate::words::{Form, Request, parse_request};
-use program_faults::{Fault, complain, report_fault};
+use program_faults::{Fault, StepReader, StepWriter, complain, report_fault};
 use std::alloc::Global;
-use std::io::{Read, Write};
+use std::io::Write;
 
-const USAGE: &str = "usage: cmark_blocks [--json | --help] < PAGE\n";
+/// What is written on standard error where the words are other ones.
+pub const USAGE: &str = "usage: cmark_blocks [--json | --help] < PAGE\n";
 
-const HELP: &str = "\
+/// What `--help` prints.
+pub const HELP: &str = "\
 usage: cmark_blocks [--json | --help] < PAGE
 
-Prints a line for each block of a page of Markdown: the number of its first line, that of its
-last, how many containers it stands in, and its kind. Before it stands a line for each container
-that its first line begins, the outermost first, with the number of that line twice.
+Prints a line for each block of a page of Markdown: the number of its first line, the number of
+its last line, how many containers it is in, and its kind. Before it comes a line for each
+container that begins in its first line, outermost first, with the number of that line twice.
 
   blank            blank lines in a row
   break            a thematic break
@@ -29,27 +32,34 @@ that its first line begins, the outermost first, with the number of that line tw
   setext LEVEL     a setext heading
   indented         indented code
   fenced COUNT C INFO
-                   fenced code, with the length of its fence, the byte that it is made of, and
-                   the info string, unless it is empty; each byte of that which is a quotation
-                   mark, a backslash or no printable ASCII is told as \\u00 and two hexadecimal
-                   digits
+                   fenced code: the length of its fence, the byte that the fence is made of, and
+                   the info string, unless it is empty; each byte of the info string that is a
+                   quotation mark, a backslash or not printable ASCII is printed as \\u00 and two
+                   hexadecimal digits
   html NUMBER      an HTML block, by the number of its start condition
   table COLUMNS    a table of GitHub Flavored Markdown
-  paragraph        a paragraph, with its lazy lines
+  paragraph        a paragraph, with its lazy continuation lines
   quote            a block quote
-  item C START     a list item, by its bullet or delimiter, and the number that it starts at
+  item C START     a list item: its bullet or delimiter, and the number that it starts at
 
 With --json each line is an object with the members first, last, depth and kind; level of a
 heading; count, fence and info of fenced code; condition of an HTML block; columns of a table;
 delimiter and start of an item.
 
-Together the blocks have all lines of the page. Link reference definitions are told as paragraphs,
-and so are lines before the header row of a table, with that and its other rows. Where a container
-ends, and which items make a list, tight or loose, is not told.
+Together the blocks contain every line of the page. Nothing is printed about where a container
+ends, or about which items make up a list, tight or loose.
 
-Lines are printed while the page is read. Where it can't be read to its end, or memory is refused,
-what is printed is the lines of its first blocks, and the status is 3. At most 1,048,576 reads are
-made, of at most 65,536 bytes each.
+Some pages are not read as CommonMark and GitHub Flavored Markdown read them:
+
+  - Link reference definitions are read as whatever their lines look like, so the blocks that
+    follow them may begin and end elsewhere.
+  - A header row that follows other lines of its paragraph doesn't begin a table.
+  - A table's delimiter row needs a pipe: \"a\" and then \":-\" is not a table.
+  - Vertical tabs and form feeds count as white space.
+
+Lines are printed while the page is read. If the page can't be read to its end, or memory is
+refused, the lines of its first blocks are printed, and the status is 3. At most 1,048,576 reads
+are made, of at most 65,536 bytes each.
 ";
 
 /// Runs the program on its words, without its name, and answers its status.
@@ -57,22 +67,42 @@ made, of at most 65,536 bytes each.
 /// 0: done. 2: other words, and the input is not read. 3: a fault of the reader, of memory or of
 /// the writer. Blocks are written while the page is read, so those at its front may be written
 /// before a fault.
-pub fn run_program<R: Read, W: Write, V: Write>(
+pub fn run_program<R: StepReader, W: Write, V: StepWriter>(
     alloc: Global,
     words: &[&str],
     input: &mut R,
     output: &mut W,
     faults: &mut V,
 ) -> u8
+    ensures status { (result ≡ 0) ⊎ ((result ≡ 2) ⊎ (result ≡ 3)) }
+    ensures only_other { result ≡ 2 → IsNone (request_of words.now) }
+
+    // Other words.
     ensures other { IsNone (request_of words.now) →
         (result ≡ 2) × (input.new ≡ input.old) × (output.new ≡ output.old) }
-    ensures status { result ≡ 2 → IsNone (request_of words.now) }
+    ensures usage { IsNone (request_of words.now) →
+        IsGiven V.writes faults.old USAGE.now faults.new
+        × AppendsPrefix (V.contents faults.old) (V.contents faults.new) USAGE.now }
 
-    ensures told { (form : Form) → result ≢ 3 → request_of words.now ≡ Some (Page form) →
+    // The help.
+    ensures help { result ≡ 0 → request_of words.now ≡ Some Help →
+        Appends (W.contents output.old) (W.contents output.new) HELP.now }
+    ensures unread_help { request_of words.now ≡ Some Help → input.new ≡ input.old }
+
+    // A page.
+    ensures told { (form : Form) → result ≡ 0 → request_of words.now ≡ Some (Page form) →
         IfSome (R.remaining input.old) (λ bytes.
         IsToldTo form bytes (W.contents output.old) (W.contents output.new)) }
-    ensures read { (form : Form) → result ≢ 3 → request_of words.now ≡ Some (Page form) →
+    ensures read { (form : Form) → result ≡ 0 → request_of words.now ≡ Some (Page form) →
         IsAtEnd (R.remaining input.new) }
+    ensures ended { (form : Form) → result ≡ 0 → request_of words.now ≡ Some (Page form) →
+        HasEnded R.reads input.new }
+
+    // Where it is done, no fault is told; else one is, as far as the writer of faults takes it.
+    ensures done { result ≡ 0 → faults.new ≡ faults.old }
+    ensures fault { result ≡ 3 → (fault : Fault)
+        × IsGiven V.writes faults.old (fault_line fault) faults.new
+        × AppendsPrefix (V.contents faults.old) (V.contents faults.new) (fault_line fault) }
 
     // After a read fault, or out of memory, the lines of blocks at the front of what was read, and
     // nothing else, were written.
@@ -84,6 +114,11 @@ pub fn run_program<R: Read, W: Write, V: Write>(
         TellsFault Fault.Memory (V.contents faults.old) (V.contents faults.new) →
         IsBegunTo form (R.remaining input.old) (R.remaining input.new)
         (W.contents output.old) (W.contents output.new) }
+
+    // At most 1,048,576 reads are made, and no fewer before a read fault, unless one failed.
+    ensures reads { (count : ℕ) × (count ≤ 1048576) × AreReads R.reads count input.old input.new }
+    ensures failed { TellsFault Fault.Read (V.contents faults.old) (V.contents faults.new) →
+        HasFailed R.reads input.new ⊎ AreReads R.reads 1048576 input.old input.new }
 {
     let Some(request) = parse_request(words) else {
         complain(faults, USAGE);
@@ -96,20 +131,28 @@ pub fn run_program<R: Read, W: Write, V: Write>(
 }
 
 // Writes what is asked for.
-fn answer<R: Read, W: Write>(
+fn answer<R: StepReader, W: Write>(
     alloc: Global,
     request: Request,
     input: &mut R,
     output: &mut W,
 ) -> Result<(), Fault>
+    ensures help { IfOk result (λ _. request ≡ Help →
+        Appends (W.contents output.old) (W.contents output.new) HELP.now) }
+    ensures unread_help { request ≡ Help → input.new ≡ input.old }
     ensures told { IfOk result (λ _. (form : Form) → request ≡ Page form →
         IfSome (R.remaining input.old) (λ bytes.
         IsToldTo form bytes (W.contents output.old) (W.contents output.new))) }
     ensures read { IfOk result (λ _. (form : Form) → request ≡ Page form →
         IsAtEnd (R.remaining input.new)) }
+    ensures ended { IfOk result (λ _. (form : Form) → request ≡ Page form →
+        HasEnded R.reads input.new) }
     ensures begun { IfErr result (λ fault. fault ≢ Fault.Write → (form : Form) →
         request ≡ Page form → IsBegunTo form (R.remaining input.old) (R.remaining input.new)
         (W.contents output.old) (W.contents output.new)) }
+    ensures reads { (count : ℕ) × (count ≤ 1048576) × AreReads R.reads count input.old input.new }
+    ensures failed { IfErr result (λ fault. fault ≡ Fault.Read →
+        HasFailed R.reads input.new ⊎ AreReads R.reads 1048576 input.old input.new) }
 {
     match request {
         Request::Page(form) => tell_page(alloc, form, input, output),
@@ -118,7 +161,7 @@ fn answer<R: Read, W: Write>(
 }
 
 // Writes a line for each block of the input, in this form.
-fn tell_page<R: Read, W: Write>(
+fn tell_page<R: StepReader, W: Write>(
     alloc: Global,
     form: Form,
     input: &mut R,
@@ -127,9 +170,13 @@ fn tell_page<R: Read, W: Write>(
     ensures told { IfOk result (λ _. IfSome (R.remaining input.old) (λ bytes.
         IsToldTo form bytes (W.contents output.old) (W.contents output.new))) }
     ensures read { IfOk result (λ _. IsAtEnd (R.remaining input.new)) }
+    ensures ended { IfOk result (λ _. HasEnded R.reads input.new) }
     ensures begun { IfErr result (λ fault. fault ≢ Fault.Write →
         IsBegunTo form (R.remaining input.old) (R.remaining input.new)
         (W.contents output.old) (W.contents output.new)) }
+    ensures reads { (count : ℕ) × (count ≤ 1048576) × AreReads R.reads count input.old input.new }
+    ensures failed { IfErr result (λ fault. fault ≡ Fault.Read →
+        HasFailed R.reads input.new ⊎ AreReads R.reads 1048576 input.old input.new) }
 {
     let mut unread = Unread::new(alloc);
     let mut telling = Telling::new(alloc, form);

@@ -1,13 +1,13 @@
 //! Reading the input while it is told.
-ghost use Rattle.std.specs.Prelude.{◌≡◌, ◌≢◌, ◌<◌, ◌≤◌, ◌+◌, ◌*◌, ◌++◌, [], List, ℕ, length, drop, IsTrue, IfOk, IfErr, OnOk};
+ghost use Rattle.std.specs.Prelude.{◌≡◌, ◌≢◌, ◌⊎◌, ◌<◌, ◌≤◌, ◌+◌, ◌*◌, ◌++◌, [], List, ℕ, length, drop, IsTrue, IfOk, IfErr, OnOk};
 ghost use Rattle.std.specs.Io.KnownBytes.{Consumes, IsAtEnd};
+ghost use Rattle.program_faults.specs.Steps.{AreReads, HasEnded, HasFailed};
 
-use program_faults::Fault;
+use program_faults::{Fault, StepReader};
 use std::alloc::Global;
-use std::io::Read;
 
-// How many reads are made at most; the last of them gives no byte.
-const READS: usize = 1_048_576;
+/// How many reads are made at most; the last of them gives no byte.
+pub(crate) const READS: usize = 1_048_576;
 
 // How many bytes a read gives at most.
 const READ_SIZE: usize = 65_536;
@@ -33,7 +33,7 @@ impl Unread {
 
     /// Reads until there is at least a byte more and twice the text, or the input has ended.
     /// Answers whether it has.
-    pub(crate) fn read_more<R: Read>(&mut self, input: &mut R) -> Result<bool, Fault>
+    pub(crate) fn read_more<R: StepReader>(&mut self, input: &mut R) -> Result<bool, Fault>
         ensures read { (bytes : List ℕ)
             × Consumes (R.remaining input.old) (R.remaining input.new) bytes
             × OnOk result (self.new.text.items ≡ self.old.text.items ++ bytes) }
@@ -46,14 +46,19 @@ impl Unread {
         ensures room { OnOk result (length self.new.text.items + READ_SIZE * self.new.reads
             ≤ length self.old.text.items + READ_SIZE * self.old.reads) }
         ensures fault { IfErr result (λ fault. fault ≢ Fault.Write) }
+        ensures reads { (count : ℕ) × (self.new.reads + count ≡ self.old.reads)
+            × AreReads R.reads count input.old input.new }
+        ensures ended { IfOk result (λ has_ended. IsTrue has_ended →
+            HasEnded R.reads input.new) }
+        ensures failed { IfErr result (λ fault. fault ≡ Fault.Read →
+            HasFailed R.reads input.new ⊎ (self.new.reads ≡ 0)) }
     {
         let mut buffer = [0u8; READ_SIZE];
         let before = self.text.len();
         while self.reads > 0 {
             self.reads -= 1;
-            let count = match input.read(&mut buffer) {
-                Ok(count) => count,
-                Err(_) => return Err(Fault::Read),
+            let Some(count) = input.read_once(&mut buffer) else {
+                return Err(Fault::Read);
             };
             if count == 0 {
                 return Ok(true);

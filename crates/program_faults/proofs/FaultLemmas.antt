@@ -1,7 +1,7 @@
 -- What was told of a fault says which fault it was.
-use Rattle.std.proofs.Common.{◌≡◌, ℕ, List, ◌∷◌, ◌++◌, ◌+◌, length, Option, Some, None, sym, ap, ◌∙◌, arith, length-append}
+use Rattle.std.proofs.Common.{◌≡◌, ℕ, List, ◌∷◌, ◌++◌, ◌+◌, length, Option, Some, None, refl, sym, ap, ◌∙◌, arith, length-append}
 use Rattle.std.proofs.lemmas.List.{append_cancel_left}
-use Rattle.program_faults.specs.Faults.{AppendsPrefix, Tells, IsBeforeWriting, fault_line}
+use Rattle.program_faults.specs.Faults.{AppendsPrefix, Tells, TellsFault, IsBeforeWriting, fault_line}
 use Rattle.program_faults.specs.declared.Fault.{Fault}
 use Rattle.program_faults.specs.declared.Fault.TheVariants as fault
 
@@ -23,6 +23,18 @@ pub told_first : (old new : Option (List ℕ)) (a b : ℕ) (tail bs : List ℕ) 
 told_first None new a b tail bs prefix told = absurd told
 told_first (Some xs) None a b tail bs prefix told = absurd told
 told_first (Some xs) (Some ys) a b tail bs (rest, (prefix, all, grown)) told = same_first xs prefix rest tail bs a b all (sym grown ∙ told)
+
+-- the line that was told is that of the fault
+pub told_fault : (old new : Option (List ℕ)) (f g : Fault) → AppendsPrefix old new (fault_line f) → TellsFault g old new → f ≡ g
+told_fault old new fault.Read fault.Read line told = refl
+told_fault old new fault.Write fault.Write line told = refl
+told_fault old new fault.Memory fault.Memory line told = refl
+told_fault old new fault.Read fault.Write line told = absurd (omega (arith, told_first old new 114 119 _ _ line told))
+told_fault old new fault.Read fault.Memory line told = absurd (omega (arith, told_first old new 114 111 _ _ line told))
+told_fault old new fault.Write fault.Read line told = absurd (omega (arith, told_first old new 119 114 _ _ line told))
+told_fault old new fault.Write fault.Memory line told = absurd (omega (arith, told_first old new 119 111 _ _ line told))
+told_fault old new fault.Memory fault.Read line told = absurd (omega (arith, told_first old new 111 114 _ _ line told))
+told_fault old new fault.Memory fault.Write line told = absurd (omega (arith, told_first old new 111 119 _ _ line told))
 
 -- where another fault's line was told, the fault came before anything was written
 pub before_writing : (old new : Option (List ℕ)) (f : Fault) (b : ℕ) (bs : List ℕ) → (119 ≡ b → ⊥)

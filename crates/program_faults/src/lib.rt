@@ -3,9 +3,12 @@
 
 ghost use Rattle.std.specs.Prelude.{◌≡◌, codes};
 ghost use Rattle.program_faults.specs.Faults.{fault_line, AppendsPrefix};
+ghost use Rattle.program_faults.specs.Steps.{IsGiven};
+
+mod steps;
 
 use std::alloc::AllocError;
-use std::io::Write;
+pub use steps::{StepReader, StepWriter};
 
 /// Why the program printed nothing, or not all of it.
 #[derive(Clone, Copy, Debug, PartialEq, Eq)]
@@ -42,8 +45,9 @@ impl Fault {
 }
 
 /// Tells of a fault, and answers the status that it ends the program with.
-pub fn report_fault<V: Write>(faults: &mut V, fault: Fault) -> u8
+pub fn report_fault<V: StepWriter>(faults: &mut V, fault: Fault) -> u8
     ensures status { result ≡ 3 }
+    ensures given { IsGiven V.writes faults.old (fault_line fault) faults.new }
     ensures line { AppendsPrefix (V.contents faults.old) (V.contents faults.new) (fault_line fault) }
 {
     complain(faults, fault.line());
@@ -51,14 +55,16 @@ pub fn report_fault<V: Write>(faults: &mut V, fault: Fault) -> u8
 }
 
 /// Writes a line to the faults, as far as they take it. What becomes of it changes no status.
-pub fn complain<V: Write>(faults: &mut V, line: &str)
-    ensures { AppendsPrefix (V.contents faults.old) (V.contents faults.new) line.now }
+pub fn complain<V: StepWriter>(faults: &mut V, line: &str)
+    ensures given { IsGiven V.writes faults.old line.now faults.new }
+    ensures prefix { AppendsPrefix (V.contents faults.old) (V.contents faults.new) line.now }
 {
     let mut rest = line.as_bytes();
     while !rest.is_empty() {
-        match faults.write(rest) {
-            Ok(count) if count > 0 => rest = &rest[count..],
-            _ => return,
+        let count = faults.write_once(rest);
+        if count == 0 {
+            return;
         }
+        rest = &rest[count..];
     }
 }

@@ -51,7 +51,7 @@ fn kinds(alloc: Global, output: Stdout) -> Result<(), Stop> {
 fn levels(mut output: Stdout) -> Result<(), Stop> {
     for number in [3, 7] {
         match HeadingLevel::try_from(number) {
-            Ok(level) => writeln!(output, "{level}")?,
+            Ok(level) => writeln!(output, "{level} {}", level.number())?,
             Err(error) => writeln!(output, "not {}", error.0)?,
         }
     }

@@ -1,20 +1,8 @@
 //! Runs of steps at places of a text: what they find, and the bytes passed over.
 use crate::asserts::{assert_answer, made};
-use markdown_scanners_tree::inline_html::{
-    CountedText, HtmlRun, HtmlStop, InlineHtmlRun, run_inline_html,
-};
+use markdown_scanners_tree::inline_html::{HtmlRun, HtmlStop, InlineHtmlRun, run_inline_html};
 use std::alloc::Global;
-use std::mem::size_of;
 use std::process::Abort;
-
-// A counted text of a slice and a `u128`, a guard of four numbers, and three numbers more: a second
-// slice, whose bytes could be searched uncounted, has no room.
-#[test]
-fn a_run_has_room_for_its_fields_alone(rt: HostRuntime) {
-    assert_answer(&rt, &"text", size_of::<CountedText>(), 32);
-    let size = size_of::<InlineHtmlRun>();
-    assert_answer(&rt, &"run", size, 32 + 4 * 8 + 3 * 8 + 8);
-}
 
 /// Four bytes for each byte of the text, and eight for each step.
 pub(super) fn budget(size: usize, steps: usize) -> u128 {

@@ -37,12 +37,52 @@ fn assert_runs(rt: &impl Abort, alloc: Global, rows: &[Row<'_>]) {
     }
 }
 
-const TO_THE_END: [Row<'static>; 5] = [
+const OVER_SPACES: [Row<'static>; 7] = [
     Row {
         line: b"   x",
         calls: &[Upto(2), Space(1), Eol],
         answers: &[Count(2), Flag(true), Flag(false)],
         scanned: 3,
+        rest: b"x",
+        stop: None,
+    },
+    Row {
+        line: b"x",
+        calls: &[Space(1)],
+        answers: &[Flag(false)],
+        scanned: 0,
+        rest: b"x",
+        stop: None,
+    },
+    Row {
+        line: b"  \nx",
+        calls: &[Upto(9), Eol],
+        answers: &[Count(2), Flag(true)],
+        scanned: 2,
+        rest: b"\nx",
+        stop: None,
+    },
+    Row {
+        line: b"   ",
+        calls: &[Space(4), Eol],
+        answers: &[Flag(false), Flag(true)],
+        scanned: 3,
+        rest: b"",
+        stop: None,
+    },
+    Row {
+        line: b"a",
+        calls: &[],
+        answers: &[],
+        scanned: 0,
+        rest: b"a",
+        stop: None,
+    },
+    Row {
+        line: b" x",
+        calls: &[Upto(usize::MAX)],
+        answers: &[Count(1)],
+        scanned: 1,
         rest: b"x",
         stop: None,
     },
@@ -54,6 +94,9 @@ const TO_THE_END: [Row<'static>; 5] = [
         rest: b"",
         stop: None,
     },
+];
+
+const OVER_TABS: [Row<'static>; 4] = [
     Row {
         line: b"a\tb",
         calls: &[],
@@ -63,11 +106,70 @@ const TO_THE_END: [Row<'static>; 5] = [
         stop: None,
     },
     Row {
-        line: b":     x",
-        calls: &[LineCall::Definition(0)],
-        answers: &[LineAnswer::Definition(Some(2))],
+        line: b"\tx",
+        calls: &[Upto(3), Upto(5)],
+        answers: &[Count(3), Count(1)],
+        scanned: 1,
+        rest: b"x",
+        stop: None,
+    },
+    Row {
+        line: b">\t\tx",
+        calls: &[Quote, Upto(9)],
+        answers: &[Flag(true), Count(6)],
+        scanned: 3,
+        rest: b"x",
+        stop: None,
+    },
+    Row {
+        line: b">\t- x",
+        calls: &[Quote, Upto(3), LineCall::List(2)],
+        answers: &[Flag(true), Count(2), LineAnswer::List(Some((b'-', 0, 4)))],
+        scanned: 4,
+        rest: b"x",
+        stop: None,
+    },
+];
+
+const MARKERS: [Row<'static>; 9] = [
+    Row {
+        line: b"-\tx",
+        calls: &[LineCall::List(0)],
+        answers: &[LineAnswer::List(Some((b'-', 0, 4)))],
         scanned: 2,
-        rest: b"    x",
+        rest: b"x",
+        stop: None,
+    },
+    Row {
+        line: b"- * * *",
+        calls: &[LineCall::List(0), LineCall::List(0)],
+        answers: &[LineAnswer::List(Some((b'-', 0, 2))), LineAnswer::List(None)],
+        scanned: 2,
+        rest: b"* * *",
+        stop: None,
+    },
+    Row {
+        line: b"123456789. x",
+        calls: &[LineCall::List(0)],
+        answers: &[LineAnswer::List(Some((b'.', 123_456_789, 11)))],
+        scanned: 11,
+        rest: b"x",
+        stop: None,
+    },
+    Row {
+        line: b"1234567890. x",
+        calls: &[LineCall::List(0)],
+        answers: &[LineAnswer::List(None)],
+        scanned: 0,
+        rest: b"1234567890. x",
+        stop: None,
+    },
+    Row {
+        line: b"-",
+        calls: &[LineCall::List(0)],
+        answers: &[LineAnswer::List(Some((b'-', 0, 2)))],
+        scanned: 1,
+        rest: b"",
         stop: None,
     },
     Row {
@@ -78,14 +180,56 @@ const TO_THE_END: [Row<'static>; 5] = [
         rest: b"      x",
         stop: None,
     },
+    Row {
+        line: b"- x",
+        calls: &[LineCall::List(18_446_744_073_709_551_599)],
+        answers: &[LineAnswer::List(Some((b'-', 0, 18_446_744_073_709_551_601)))],
+        scanned: 2,
+        rest: b"x",
+        stop: None,
+    },
+    Row {
+        line: b":    x",
+        calls: &[LineCall::Definition(0)],
+        answers: &[LineAnswer::Definition(Some(5))],
+        scanned: 5,
+        rest: b"x",
+        stop: None,
+    },
+    Row {
+        line: b":     x",
+        calls: &[LineCall::Definition(0)],
+        answers: &[LineAnswer::Definition(Some(2))],
+        scanned: 2,
+        rest: b"    x",
+        stop: None,
+    },
 ];
 
 #[test]
 fn runs_end_with_the_rest_of_the_line(rt: HostRuntime) {
-    assert_runs(&rt, rt.alloc(), &TO_THE_END);
+    assert_runs(&rt, rt.alloc(), &OVER_SPACES);
+    assert_runs(&rt, rt.alloc(), &OVER_TABS);
+    assert_runs(&rt, rt.alloc(), &MARKERS);
 }
 
-const INSIDE_A_TAB: [Row<'static>; 3] = [
+const INSIDE_A_TAB: [Row<'static>; 5] = [
+    Row {
+        line: b"\tx",
+        calls: &[Upto(3), Eol],
+        answers: &[Count(3)],
+        scanned: 1,
+        rest: b" x",
+        stop: Some((1, LineStop::SpacePending)),
+    },
+    Row {
+        line: b"-\t",
+        calls: &[LineCall::List(0), Eol],
+        answers: &[LineAnswer::List(Some((b'-', 0, 2)))],
+        scanned: 2,
+        rest: b"  ",
+        stop: Some((1, LineStop::SpacePending)),
+    },
     Row {
         line: b">\t- x",
         calls: &[Quote, Eol],
@@ -148,7 +292,8 @@ fn write_calls(calls: &mut Vec<LineCall>, count: usize) -> Result<(), AllocError
     Ok(())
 }
 
-fn list_calls(alloc: Global, count: usize) -> Result<Vec<LineCall>, AllocError> {
+/// So many calls for a list item's marker.
+pub(super) fn list_calls(alloc: Global, count: usize) -> Result<Vec<LineCall>, AllocError> {
     let mut calls = Vec::new(alloc);
     write_calls(&mut calls, count)?;
     Ok(calls)

@@ -1,8 +1,31 @@
-//! Where HTML blocks begin and end, in long lines.
+//! The numbers of the kinds of HTML blocks, and where blocks begin and end in long lines.
 use crate::asserts::{assert_answer, made};
 use crate::texts::long_text;
 use markdown_scanners_tree::scanners::{HtmlBlockKind, ends_html_block, scan_html_block_start};
 use std::process::Abort;
+
+// The start conditions in their order, each by what the specification has of it.
+const NUMBERS: [(u8, &[u8], HtmlBlockKind); 7] = [
+    (1, b"<pre", HtmlBlockKind::RawText),
+    (2, b"<!--", HtmlBlockKind::Comment),
+    (3, b"<?", HtmlBlockKind::Processing),
+    (4, b"<!X", HtmlBlockKind::Declaration),
+    (5, b"<![CDATA[", HtmlBlockKind::Cdata),
+    (6, b"<address", HtmlBlockKind::BlockName),
+    (7, b"<a>", HtmlBlockKind::TagAlone),
+];
+
+#[test]
+fn kinds_have_the_numbers_of_their_conditions(rt: HostRuntime) {
+    for (number, line, kind) in NUMBERS {
+        assert_answer(&rt, &number, (kind.number(), kind as u8), (number, number));
+        assert_answer(&rt, &number, HtmlBlockKind::from_number(number), Some(kind));
+        assert_answer(&rt, &number, scan_html_block_start(line), Some(kind));
+    }
+    for number in [0, 8, 255] {
+        assert_answer(&rt, &number, HtmlBlockKind::from_number(number), None);
+    }
+}
 
 // The kind of a block that begins with this name, and whether the name ends a declaration.
 fn assert_name(rt: &impl Abort, name: &[u8], kind: Option<HtmlBlockKind>, ends: bool) {

@@ -1,7 +1,8 @@
 //! Autolinks of many letters, and link destinations, autolinks and pipes of wikilinks in bytes.
 use crate::asserts::{assert_answer, made};
 use markdown_scanners_tree::scanners::{
-    scan_autolink, scan_autolink_bytes, scan_link_dest_bytes, scan_wikilink_pipe_bytes,
+    scan_autolink, scan_autolink_bytes, scan_link_dest, scan_link_dest_bytes,
+    scan_wikilink_pipe_bytes,
 };
 use std::alloc::{AllocError, Global};
 use std::ops::Range;
@@ -23,6 +24,32 @@ fn assert_no_link(rt: &impl Abort, text: &str) {
 #[test]
 fn looks_at_thirty_three_letters(rt: HostRuntime) {
     assert_no_link(&rt, made(&rt, letters_and_colon(rt.alloc())).as_str());
+}
+
+fn parentheses(alloc: Global) -> Result<String, AllocError> {
+    let mut text = "(".repeat(alloc, 1000)?;
+    for _ in 0..1000 {
+        text.push(')')?;
+    }
+    Ok(text)
+}
+
+fn assert_no_destination(rt: &impl Abort, cut: usize, part: Option<&str>) {
+    let part = part.expect(rt, "a part");
+    assert!(rt; scan_link_dest(part, 0, 999).is_none(), "cut by {cut}");
+}
+
+fn assert_unbalanced(rt: &impl Abort, text: &str) {
+    for cut in 1..=200 {
+        assert_no_destination(rt, cut, text.get(..cut));
+        assert_no_destination(rt, cut, text.get(..text.len().saturating_sub(cut)));
+    }
+}
+
+// Parentheses that are cut don't balance.
+#[test]
+fn finds_no_destination_in_cut_parentheses(rt: HostRuntime) {
+    assert_unbalanced(&rt, made(&rt, parentheses(rt.alloc())).as_str());
 }
 
 // Bytes, the most parentheses in one another, and the destination at the front.

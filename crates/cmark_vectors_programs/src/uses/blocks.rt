@@ -2,7 +2,7 @@
 use crate::asserts::{assert_made, assert_same};
 use cmark_uses::blocks::{
     begin_alike, break_free, column_count, column_width, fenced_code, is_blank, is_break,
-    metadata_kind,
+    marker_length, metadata_kind,
 };
 use markdown_values::values::MetadataBlockKind;
 
@@ -33,6 +33,13 @@ fn items_begin_alike_or_not(rt: HostRuntime) {
         let found = begin_alike(one.as_bytes(), other.as_bytes());
         assert_same(&rt, (*one, *other, found), (*one, *other, *are_alike));
     }
+}
+
+#[test]
+fn markers_have_the_space_that_belongs_to_them(rt: HostRuntime) {
+    assert_same(&rt, marker_length(b"-   milk\n"), Some(4));
+    assert_same(&rt, marker_length(b"10) milk\n"), Some(4));
+    assert_same(&rt, marker_length(b"-milk\n"), None);
 }
 
 #[test]

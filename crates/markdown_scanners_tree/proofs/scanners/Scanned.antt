@@ -3,7 +3,7 @@ pub use Rattle.markdown_scanners_tree.proofs.scanners.breaks.BreakLemmas.{themat
 pub use Rattle.markdown_scanners_tree.proofs.scanners.entities.ReferenceUnique.{one_reference}
 pub use Rattle.markdown_scanners_tree.proofs.scanners.fences.OneFence.{one_code_fence, one_closing_fence}
 pub use Rattle.markdown_scanners_tree.proofs.scanners.headings.OneHeading.{one_atx_heading, one_underline}
-pub use Rattle.markdown_scanners_tree.proofs.scanners.html_kinds.StartLemmas.{one_html_block_start}
+pub use Rattle.markdown_scanners_tree.proofs.scanners.html_kinds.StartLemmas.{one_html_block_start, one_html_kind}
 pub use Rattle.markdown_scanners_tree.proofs.scanners.html_tag.OneTag.{one_tag, one_tag_alone}
 pub use Rattle.markdown_scanners_tree.proofs.scanners.indent.IndentLemmas.{one_indent}
 pub use Rattle.markdown_scanners_tree.proofs.scanners.lines.BlankLemmas.{blank_lines, one_blank_line}

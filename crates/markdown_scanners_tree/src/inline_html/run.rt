@@ -171,3 +171,27 @@ pub fn run_inline_html(alloc: Global, bytes: &[u8], places: &[usize]) -> Result<
         stop: None,
     })
 }
+
+#[cfg(test)]
+mod tests {
+    use super::*;
+
+    // A run that had the bytes themselves beside the counted text, or in place of it, could search
+    // them uncounted.
+    #[test]
+    fn a_run_has_these_fields_and_no_other(rt: HostRuntime) {
+        let InlineHtmlRun {
+            text,
+            guard,
+            last,
+            find_end,
+            steps,
+        } = InlineHtmlRun::new(b"<!a>");
+        let counted: CountedText = text;
+        let stops: HtmlScanGuard = guard;
+        let numbers: [usize; 3] = [last, find_end, steps];
+        assert_eq!(rt; counted.passed(), 0);
+        assert_eq!(rt; stops.comment, 0);
+        assert_eq!(rt; numbers, [0, 0, 0]);
+    }
+}

@@ -1,10 +1,10 @@
 //! Runs of calls on the start of a line.
-ghost use Rattle.std.specs.Prelude.{◌≡◌, ◌==◌, ◌≤◌, Some, None, IfOk, IfErr, OnErr};
+ghost use Rattle.std.specs.Prelude.{◌≡◌, ◌==◌, ◌≤◌, false, Some, None, IfOk, IfErr, OnErr};
 ghost use Rattle.markdown_scanners_tree.specs.line.KnownBreaks.{AreTrueBreaks};
 ghost use Rattle.markdown_scanners_tree.specs.line.PlainStep.{IsPlainStep};
 ghost use Rattle.markdown_scanners_tree.specs.line.State.{rest_of};
 ghost use Rattle.markdown_scanners_tree.specs.line.run.PlainRun.{plain_run, indexed_stop, rest_after, scanned_after, line_refusal};
-ghost use Rattle.markdown_scanners_tree.specs.line.run.StateRun.{learnt_by_call};
+ghost use Rattle.markdown_scanners_tree.specs.line.run.StateRun.{asks_for_breaks, learnt_by_call};
 
 use crate::line::{KnownBreaks, LineStart};
 use std::alloc::{AllocError, Global};
@@ -120,7 +120,10 @@ impl LineStart<'_> {
         ensures truth { AreTrueBreaks self.old.bytes breaks.old self.old.place
             → AreTrueBreaks self.new.bytes breaks.new self.new.place }
 
-        // Whatever is known: what is read to tell it is learnt.
+        // Whatever is known: a call that doesn't ask for it is the same step, and what is read to
+        // tell it is learnt.
+        ensures step_without_breaks { asks_for_breaks call.now ≡ false
+            → IfOk result (λ answer. IsPlainStep call.now answer self.old self.new) }
         ensures learnt { IfOk result (λ _.
             breaks.new ≡ learnt_by_call call.now self.old breaks.old) }
         ensures bytes { self.new.bytes ≡ self.old.bytes }

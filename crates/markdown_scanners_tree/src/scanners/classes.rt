@@ -2,7 +2,8 @@
 ghost use Rattle.std.specs.Prelude.{◌≡◌};
 ghost use Rattle.markdown_scanners_tree.specs.Bytes.{is_line_ending, is_white_space, is_white_space_in_line, is_punctuation};
 ghost use Rattle.markdown_scanners_tree.specs.Bytes.{is_letter, is_digit, is_alphanumeric, is_unquoted};
-ghost use Rattle.markdown_scanners_tree.specs.scanners.classes.private.ClassBits.{class_bits, is_in_destination};
+ghost use Rattle.markdown_scanners_tree.specs.scanners.classes.private.ClassBits.{class_bits};
+ghost use Rattle.markdown_scanners_tree.specs.scanners.classes.private.InDestination.{is_in_destination};
 
 const WHITE_SPACE: u8 = 1;
 
@@ -16,22 +17,40 @@ const DIGIT: u8 = 16;
 
 const UNQUOTED: u8 = 32;
 
-const IN_DESTINATION: u8 = 64;
-
 // For each byte the sum of the bits of its classes.
 const CLASSES: [u8; 256] = [
     32, 32, 32, 32, 32, 32, 32, 32, 32, 35, 1, 35, 35, 1, 32, 32, 32, 32, 32, 32, 32, 32, 32, 32,
-    32, 32, 32, 32, 32, 32, 32, 32, 3, 100, 68, 100, 100, 100, 100, 68, 36, 36, 100, 100, 100, 100,
-    100, 100, 112, 112, 112, 112, 112, 112, 112, 112, 112, 112, 100, 100, 68, 68, 68, 100, 100,
-    104, 104, 104, 104, 104, 104, 104, 104, 104, 104, 104, 104, 104, 104, 104, 104, 104, 104, 104,
-    104, 104, 104, 104, 104, 104, 104, 100, 36, 100, 100, 100, 68, 104, 104, 104, 104, 104, 104,
-    104, 104, 104, 104, 104, 104, 104, 104, 104, 104, 104, 104, 104, 104, 104, 104, 104, 104, 104,
-    104, 100, 100, 100, 100, 96, 96, 96, 96, 96, 96, 96, 96, 96, 96, 96, 96, 96, 96, 96, 96, 96,
-    96, 96, 96, 96, 96, 96, 96, 96, 96, 96, 96, 96, 96, 96, 96, 96, 96, 96, 96, 96, 96, 96, 96, 96,
-    96, 96, 96, 96, 96, 96, 96, 96, 96, 96, 96, 96, 96, 96, 96, 96, 96, 96, 96, 96, 96, 96, 96, 96,
-    96, 96, 96, 96, 96, 96, 96, 96, 96, 96, 96, 96, 96, 96, 96, 96, 96, 96, 96, 96, 96, 96, 96, 96,
-    96, 96, 96, 96, 96, 96, 96, 96, 96, 96, 96, 96, 96, 96, 96, 96, 96, 96, 96, 96, 96, 96, 96, 96,
-    96, 96, 96, 96, 96, 96, 96, 96, 96, 96, 96, 96, 96, 96, 96, 96,
+    32, 32, 32, 32, 32, 32, 32, 32, 3, 36, 4, 36, 36, 36, 36, 4, 36, 36, 36, 36, 36, 36, 36, 36,
+    48, 48, 48, 48, 48, 48, 48, 48, 48, 48, 36, 36, 4, 4, 4, 36, 36, 40, 40, 40, 40, 40, 40, 40,
+    40, 40, 40, 40, 40, 40, 40, 40, 40, 40, 40, 40, 40, 40, 40, 40, 40, 40, 40, 36, 36, 36, 36, 36,
+    4, 40, 40, 40, 40, 40, 40, 40, 40, 40, 40, 40, 40, 40, 40, 40, 40, 40, 40, 40, 40, 40, 40, 40,
+    40, 40, 40, 36, 36, 36, 36, 32, 32, 32, 32, 32, 32, 32, 32, 32, 32, 32, 32, 32, 32, 32, 32, 32,
+    32, 32, 32, 32, 32, 32, 32, 32, 32, 32, 32, 32, 32, 32, 32, 32, 32, 32, 32, 32, 32, 32, 32, 32,
+    32, 32, 32, 32, 32, 32, 32, 32, 32, 32, 32, 32, 32, 32, 32, 32, 32, 32, 32, 32, 32, 32, 32, 32,
+    32, 32, 32, 32, 32, 32, 32, 32, 32, 32, 32, 32, 32, 32, 32, 32, 32, 32, 32, 32, 32, 32, 32, 32,
+    32, 32, 32, 32, 32, 32, 32, 32, 32, 32, 32, 32, 32, 32, 32, 32, 32, 32, 32, 32, 32, 32, 32, 32,
+    32, 32, 32, 32, 32, 32, 32, 32, 32, 32, 32, 32, 32, 32, 32, 32,
+];
+
+// For each byte whether it is one of a bare link destination, and neither a parenthesis nor `\`.
+const IN_DESTINATION: [bool; 256] = [
+    false, false, false, false, false, false, false, false, false, false, false, false, false,
+    false, false, false, false, false, false, false, false, false, false, false, false, false,
+    false, false, false, false, false, false, false, true, true, true, true, true, true, true,
+    false, false, true, true, true, true, true, true, true, true, true, true, true, true, true,
+    true, true, true, true, true, true, true, true, true, true, true, true, true, true, true, true,
+    true, true, true, true, true, true, true, true, true, true, true, true, true, true, true, true,
+    true, true, true, true, true, false, true, true, true, true, true, true, true, true, true,
+    true, true, true, true, true, true, true, true, true, true, true, true, true, true, true, true,
+    true, true, true, true, true, true, true, true, true, true, true, true, true, true, true, true,
+    true, true, true, true, true, true, true, true, true, true, true, true, true, true, true, true,
+    true, true, true, true, true, true, true, true, true, true, true, true, true, true, true, true,
+    true, true, true, true, true, true, true, true, true, true, true, true, true, true, true, true,
+    true, true, true, true, true, true, true, true, true, true, true, true, true, true, true, true,
+    true, true, true, true, true, true, true, true, true, true, true, true, true, true, true, true,
+    true, true, true, true, true, true, true, true, true, true, true, true, true, true, true, true,
+    true, true, true, true, true, true, true, true, true, true, true, true, true, true, true, true,
+    true, true, true, true, true, true, true, true, true, true,
 ];
 
 // The sum of the bits of the classes that the byte is in.
@@ -101,9 +120,54 @@ pub(in crate::scanners) fn is_unquoted_byte(c: u8) -> bool
     classes_of(c) & UNQUOTED != 0
 }
 
-// Whether the byte is one of a bare link destination, of which no escape or parenthesis begins.
+// Whether the byte is one of a bare link destination, at which no escape or parenthesis begins.
 pub(in crate::scanners) fn is_in_destination(c: u8) -> bool
     ensures { result ≡ is_in_destination c }
 {
-    classes_of(c) & IN_DESTINATION != 0
+    IN_DESTINATION[c as usize]
+}
+
+#[cfg(test)]
+mod tests {
+    use super::*;
+
+    // Some rows by their names: the byte, and the sum of the bits of its classes.
+    const ROWS: [(&str, u8, u8); 11] = [
+        ("NUL", 0x00, 32),
+        ("tab", b'\t', 35),
+        ("LF", b'\n', 1),
+        ("vertical tab", 0x0b, 35),
+        ("CR", b'\r', 1),
+        ("space", b' ', 3),
+        ("-", b'-', 36),
+        ("0", b'0', 48),
+        ("<", b'<', 4),
+        ("A", b'A', 40),
+        ("largest byte", 0xff, 32),
+    ];
+
+    #[test]
+    fn rows_are_sums_of_class_bits(rt: HostRuntime) {
+        for (name, byte, bits) in ROWS {
+            assert_eq!(rt; CLASSES[usize::from(byte)], bits, "row of {name}");
+        }
+    }
+
+    // How many bytes each class holds.
+    const COUNTS: [(&str, u8, usize); 6] = [
+        ("white space", 1, 6),
+        ("white space in line", 2, 4),
+        ("punctuation", 4, 32),
+        ("letters", 8, 52),
+        ("digits", 16, 10),
+        ("unquoted values", 32, 247),
+    ];
+
+    #[test]
+    fn classes_hold_so_many_bytes(rt: HostRuntime) {
+        for (name, bit, count) in COUNTS {
+            let held = CLASSES.iter().filter(|row| **row & bit != 0).count();
+            assert_eq!(rt; held, count, "bytes of {name}");
+        }
+    }
 }

@@ -1,5 +1,5 @@
 //! Fences of code blocks.
-ghost use Rattle.std.specs.Prelude.{◌≡◌, ◌≤◌, ◌==◌, length, IsTrue, IfSome};
+ghost use Rattle.std.specs.Prelude.{ℕ, ◌≡◌, ◌≤◌, ◌==◌, length, IsTrue, IfSome, IfNone};
 ghost use Rattle.markdown_scanners_tree.specs.SomeExactly.{SomeExactly, IsOnly};
 ghost use Rattle.markdown_scanners_tree.specs.Bytes.{begins_with};
 ghost use Rattle.markdown_scanners_tree.specs.scanners.Fences.{IsCodeFence, IsClosingCodeFence, is_fence_byte, has_backtick_in_line};
@@ -15,6 +15,7 @@ use memchr::memchr2;
 pub fn scan_code_fence(bytes: &[u8]) -> Option<(usize, u8)>
     ensures found { SomeExactly (λ r. IsCodeFence bytes.now r.0 r.1) result }
     ensures only { IsOnly (λ r. IsCodeFence bytes.now r.0 r.1) result }
+    ensures none { IfNone result ((count fence : ℕ) → ¬ IsCodeFence bytes.now count fence) }
     ensures within { IfSome result (λ r. r.0 ≤ length bytes.now) }
 {
     match bytes {
@@ -30,6 +31,7 @@ fn scan_fence_of(bytes: &[u8], byte: u8) -> Option<(usize, u8)>
     requires begins { IsTrue (begins_with (λ b. b == byte) bytes.now) }
     ensures found { SomeExactly (λ r. IsCodeFence bytes.now r.0 r.1) result }
     ensures only { IsOnly (λ r. IsCodeFence bytes.now r.0 r.1) result }
+    ensures none { IfNone result ((count fence : ℕ) → ¬ IsCodeFence bytes.now count fence) }
     ensures within { IfSome result (λ r. r.0 ≤ length bytes.now) }
 {
     let run = scan_ch_repeat(bytes, byte);

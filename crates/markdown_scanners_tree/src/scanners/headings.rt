@@ -1,5 +1,5 @@
 //! Headings.
-ghost use Rattle.std.specs.Prelude.{◌≡◌, ◌≤◌, ◌==◌, length, Some, IsTrue, IfSome};
+ghost use Rattle.std.specs.Prelude.{ℕ, ◌≡◌, ◌≤◌, ◌==◌, length, Some, IsTrue, IfSome, IfNone};
 ghost use Rattle.markdown_values.specs.values.Headings.{heading_number};
 ghost use Rattle.markdown_scanners_tree.specs.SomeExactly.{SomeExactly, IsOnly};
 ghost use Rattle.markdown_scanners_tree.specs.Bytes.{begins_with, ends_or_begins_with, is_white_space};
@@ -42,6 +42,8 @@ fn ends_or_begins_with_space(bytes: &[u8]) -> bool
 pub fn scan_setext_heading(bytes: &[u8]) -> Option<(usize, HeadingLevel)>
     ensures found { SomeExactly (λ r. IsSetextUnderline bytes.now r.0 r.1) result }
     ensures only { IsOnly (λ r. IsSetextUnderline bytes.now r.0 r.1) result }
+    ensures none { IfNone result ((n : ℕ) (level : HeadingLevel)
+        → ¬ IsSetextUnderline bytes.now n level) }
     ensures within { IfSome result (λ r. r.0 ≤ length bytes.now) }
 {
     match bytes {
@@ -57,6 +59,8 @@ fn scan_underline(bytes: &[u8], byte: u8, level: HeadingLevel) -> Option<(usize,
     requires begins { IsTrue (begins_with (λ b. b == byte) bytes.now) }
     ensures found { SomeExactly (λ r. IsSetextUnderline bytes.now r.0 r.1) result }
     ensures only { IsOnly (λ r. IsSetextUnderline bytes.now r.0 r.1) result }
+    ensures none { IfNone result ((n : ℕ) (level : HeadingLevel)
+        → ¬ IsSetextUnderline bytes.now n level) }
     ensures within { IfSome result (λ r. r.0 ≤ length bytes.now) }
 {
     let run = scan_ch_repeat(bytes, byte);

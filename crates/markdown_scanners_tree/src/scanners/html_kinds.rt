@@ -7,7 +7,7 @@ ghost use Rattle.markdown_scanners_tree.specs.Bytes.{begins_with, is_letter};
 ghost use Rattle.markdown_scanners_tree.specs.declared.scanners.html_kinds.HtmlBlockKind.TheVariants.{RawText};
 ghost use Rattle.markdown_scanners_tree.specs.scanners.Interrupts.{IsInterruptingHtml};
 ghost use Rattle.markdown_scanners_tree.specs.scanners.html_block.HtmlBlock.{IsBlockStart};
-ghost use Rattle.markdown_scanners_tree.specs.scanners.html_kinds.HtmlKinds.{IsHtmlBlockStart, raw_text_names, name_among, begins_with_raw_name, ends_raw_name};
+ghost use Rattle.markdown_scanners_tree.specs.scanners.html_kinds.HtmlKinds.{IsHtmlBlockStart, condition_number, raw_text_names, name_among, begins_with_raw_name, ends_raw_name};
 ghost use Rattle.markdown_scanners_tree.specs.scanners.html_kinds.HtmlKinds.{ends_tag_name, begins_html_end, ends_before_blank, is_somewhere, is_html_end};
 ghost use Rattle.markdown_scanners_tree.specs.scanners.html_kinds.private.Marks.{declared_kind, marked_kind, first_of_end};
 
@@ -37,6 +37,32 @@ pub enum HtmlBlockKind {
     BlockName,
     /// Another tag alone in its line, to the next blank line. It can't interrupt a paragraph.
     TagAlone,
+}
+
+impl HtmlBlockKind {
+    /// The number of the start and the end condition: 1 to 7.
+    pub fn number(self) -> u8
+        ensures { result ≡ condition_number self }
+    {
+        self as u8
+    }
+
+    /// The kind whose conditions have this number, and None where none have it.
+    pub fn from_number(number: u8) -> Option<HtmlBlockKind>
+        ensures found { SomeExactly (λ kind. condition_number kind ≡ number) result }
+        ensures only { IsOnly (λ kind. condition_number kind ≡ number) result }
+    {
+        match number {
+            1 => Some(HtmlBlockKind::RawText),
+            2 => Some(HtmlBlockKind::Comment),
+            3 => Some(HtmlBlockKind::Processing),
+            4 => Some(HtmlBlockKind::Declaration),
+            5 => Some(HtmlBlockKind::Cdata),
+            6 => Some(HtmlBlockKind::BlockName),
+            7 => Some(HtmlBlockKind::TagAlone),
+            _ => None,
+        }
+    }
 }
 
 // The names of start condition 1.

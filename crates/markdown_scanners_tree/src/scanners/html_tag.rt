@@ -1,7 +1,7 @@
 //! Open and closing tags, over the lines of containers or alone in a line.
 ghost use Rattle.std.specs.Prelude.{IsOk, ◌≡◌, ◌≢◌, ◌≤◌, [], IfOk, OnErr, List, IfSome, IfNone, length};
 ghost use Rattle.markdown_scanners_tree.specs.SomeExactly.{SomeExactly, IsOnly};
-ghost use Rattle.markdown_scanners_tree.specs.Handler.{Answers, IsSteady};
+ghost use Rattle.markdown_scanners_tree.specs.Handler.{Answers, IsCallableAfterLineEndings, IsSteady};
 ghost use Rattle.markdown_scanners_tree.specs.Kept.{KeptByte, bytes_of};
 ghost use Rattle.markdown_scanners_tree.specs.scanners.html_tag.HtmlTag.{IsTagAloneInLine};
 ghost use Rattle.markdown_scanners_tree.specs.scanners.html_tag.KeptTag.{IsKeptPrefix, HasTag, OnEachTag, HasNoTag, AreTextAndLength, AreLengths, tag_buffer};
@@ -32,7 +32,7 @@ fn ends_source_line(rest: &[u8]) -> bool
 
 // How long the tag is that the bytes begin with.
 fn measure_tag<F: Fn(&[u8]) -> usize>(bytes: &[u8], handler: Option<&F>) -> Option<TagLength>
-    requires callable { IfSome handler (λ f. F.IsAlwaysCallable f.now) }
+    requires callable { IfSome handler (λ f. IsCallableAfterLineEndings F.Fn f.now bytes.now) }
     requires steady { IfSome handler (λ f. IsSteady F.Fn f.now) }
 
     ensures found { IfSome result (λ tag.
@@ -79,7 +79,7 @@ fn copy_kept<F: Fn(&[u8]) -> usize>(
     handler: &F,
     kept: usize,
 ) -> Result<Vec<u8>, AllocError>
-    requires callable { F.IsAlwaysCallable handler.now }
+    requires callable { IsCallableAfterLineEndings F.Fn handler.now bytes.now }
     requires steady { IsSteady F.Fn handler.now }
     requires some { (prefix : List KeptByte)
         × IsKeptPrefix (Answers F.Fn handler.now) bytes.now prefix × (kept ≡ length prefix) }
@@ -109,7 +109,8 @@ fn copy_kept<F: Fn(&[u8]) -> usize>(
 /// holds no line ending. A closing tag holds at most one. (CommonMark 0.31.2, section 6.6, raw
 /// HTML.)
 ///
-/// The handler has one answer for one rest, and skips at most as many bytes as the rest has.
+/// The handler has one answer for one rest, and skips at most as many bytes as the rest has. It is
+/// given no other bytes than what follows a line ending of the source.
 ///
 /// # Errors
 ///
@@ -120,7 +121,7 @@ pub fn scan_html_block_inner<F: Fn(&[u8]) -> usize>(
     bytes: &[u8],
     handler: Option<&F>,
 ) -> Result<Option<(Vec<u8>, usize)>, AllocError>
-    requires callable { IfSome handler (λ f. F.IsAlwaysCallable f.now) }
+    requires callable { IfSome handler (λ f. IsCallableAfterLineEndings F.Fn f.now bytes.now) }
     requires steady { IfSome handler (λ f. IsSteady F.Fn f.now) }
 
     // A tag is there.

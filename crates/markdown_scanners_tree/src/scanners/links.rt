@@ -1,5 +1,5 @@
 //! Link destinations, autolinks and wikilinks.
-ghost use Rattle.std.specs.Prelude.{ℕ, List, ◌≡◌, ◌+◌, ◌-◌, ◌<◌, ◌≤◌, ◌==◌, ◌||◌, IfSome, length, drop, take, slice_range, slice_index, position};
+ghost use Rattle.std.specs.Prelude.{ℕ, List, ◌≡◌, ◌+◌, ◌-◌, ◌<◌, ◌≤◌, ◌==◌, ◌||◌, IfSome, IfNone, length, drop, take, slice_range, slice_index, position};
 ghost use Rattle.std.specs.List.{prefix_len};
 ghost use Rattle.std.specs.Option.{option_map};
 ghost use Rattle.std.specs.Str.{IsUtf8, IsCharBoundary};
@@ -65,6 +65,8 @@ pub fn scan_link_dest_bytes(bytes: &[u8], max_next: usize) -> Option<(usize, Ran
     ensures only { IsOnly
         (λ (r : ℕ × List ℕ). IsLinkDestination (max_next + 1) bytes.now r.0 r.1)
         (option_map (λ r. (r.0, slice_range bytes.now r.1.start r.1.end)) result) }
+    ensures none { IfNone result ((n : ℕ) (raw : List ℕ)
+        → ¬ IsLinkDestination (max_next + 1) bytes.now n raw) }
 
     // Its raw text is all that it takes, or stands between brackets.
     ensures place { IfSome result (λ r. StandsInside r.0 r.1.start r.1.end) }
@@ -97,6 +99,8 @@ pub fn scan_link_dest(text: &str, start: usize, max_next: usize) -> Option<(usiz
     ensures only { IfSome result (λ r. (other : ℕ × List ℕ)
         → IsLinkDestination (max_next + 1) (drop start text.now) other.0 other.1
         → other ≡ (r.0, r.1.now)) }
+    ensures none { IfNone result ((n : ℕ) (raw : List ℕ)
+        → ¬ IsLinkDestination (max_next + 1) (drop start text.now) n raw) }
     ensures boundary { IfSome result (λ r. IsCharBoundary text.now (start + r.0)) }
 {
     let (taken, raw) = scan_link_dest_bytes(&text.as_bytes()[start..], max_next)?;

@@ -1,5 +1,5 @@
 //! List items.
-ghost use Rattle.std.specs.Prelude.{◌≡◌, ◌≤◌, length, take, false, IfSome};
+ghost use Rattle.std.specs.Prelude.{ℕ, ◌≡◌, ◌≤◌, length, take, false, IfSome, IfNone};
 ghost use Rattle.std.specs.List.{prefix_len};
 ghost use Rattle.markdown_scanners_tree.specs.SomeExactly.{SomeExactly, IsOnly};
 ghost use Rattle.markdown_scanners_tree.specs.Bytes.{begins_with, is_digit};
@@ -29,6 +29,8 @@ const MOST_DIGITS: usize = 9;
 pub fn scan_listitem(bytes: &[u8]) -> Option<(usize, u8, usize, usize)>
     ensures found { SomeExactly (λ r. IsListItem bytes.now r.0 r.1 r.2 r.3) result }
     ensures only { IsOnly (λ r. IsListItem bytes.now r.0 r.1 r.2 r.3) result }
+    ensures none { IfNone result ((n delimiter start indent : ℕ)
+        → ¬ IsListItem bytes.now n delimiter start indent) }
     ensures within { IfSome result (λ r. r.0 ≤ length bytes.now) }
 {
     let (width, delimiter, start) = scan_marker(bytes)?;

@@ -23,6 +23,8 @@ pub fn scan_metadata_block(
         (λ r. IsMetadataBlock bytes.now yaml_style_enabled pluses_style_enabled r.1) result }
     ensures only { IsOnly (IsMetadataBlock bytes.now yaml_style_enabled pluses_style_enabled)
         (option_map (λ r. r.1) result) }
+    ensures none { IfNone result ((byte : ℕ)
+        → ¬ IsMetadataBlock bytes.now yaml_style_enabled pluses_style_enabled byte) }
     ensures opening { IfSome result (λ r. r.0 ≡ 3) }
     ensures within { IfSome result (λ r. r.0 ≤ length bytes.now) }
 {

@@ -10,7 +10,7 @@ use Rattle.std.proofs.lemmas.Map.Steps.{length-le_from_distinct_below}
 use Rattle.markdown_values.specs.declared.tree.Node.{Node}
 use Rattle.markdown_values.specs.tree.Linked.{Linked}
 use Rattle.markdown_values.specs.tree.Tree.{first_root, IsLinkWithin, IsNodeAt}
-use Rattle.markdown_values.specs.tree.Forest.{Forest, no_tree, tree, count_in, Focused, IsLinkedAs, StandsFor}
+use Rattle.markdown_values.specs.tree.Forest.{Forest, no_tree, tree, count_in, IsLinkedAs, HasForest}
 use Rattle.markdown_values.specs.tree.Order.{in_order}
 use Rattle.markdown_values.proofs.tree.ForestCounts.{count_in-here, count_in-there}
 use Rattle.markdown_values.proofs.tree.ForestLemmas.{count_in-within}
@@ -155,23 +155,23 @@ times-found k (x ∷ xs) found =
 
 module _ {T : Type 0} where
   -- a walk of what a tree stands for tells no node twice
-  pub in_order-once : (t : Linked T) (f : Focused) → StandsFor t f → IsDistinct nat_eq (nodes_of (in_order 0 f.forest))
-  in_order-once t f h = distinct_once (nodes_of (in_order 0 f.forest)) (λ k. let top = h.once k in omega (arith, times-in_order k 0 f.forest))
+  pub in_order-once : (t : Linked T) (forest : Forest) → HasForest t forest → IsDistinct nat_eq (nodes_of (in_order 0 forest))
+  in_order-once t forest h = distinct_once (nodes_of (in_order 0 forest)) (λ k. let top = h.once k in omega (arith, times-in_order k 0 forest))
 
   -- and no more nodes than there are
-  pub in_order-most : (t : Linked T) (f : Focused) → StandsFor t f → length (in_order 0 f.forest) ≤ length t.nodes
-  in_order-most t f h =
-      let most = length-le_from_distinct_below (nodes_of (in_order 0 f.forest)) (length t.nodes) (in_order-once t f h)
-      (λ k found. count_in-within t.nodes k (first_root t.nodes) f.forest h.links
-      (let stands = times-found k (nodes_of (in_order 0 f.forest)) found in omega (arith, times-in_order k 0 f.forest))) in
-      omega (arith, length-map (in_order 0 f.forest) (λ node. node.0))
+  pub in_order-most : (t : Linked T) (forest : Forest) → HasForest t forest → length (in_order 0 forest) ≤ length t.nodes
+  in_order-most t forest h =
+      let most = length-le_from_distinct_below (nodes_of (in_order 0 forest)) (length t.nodes) (in_order-once t forest h)
+      (λ k found. count_in-within t.nodes k (first_root t.nodes) forest h.links
+      (let stands = times-found k (nodes_of (in_order 0 forest)) found in omega (arith, times-in_order k 0 forest))) in
+      omega (arith, length-map (in_order 0 forest) (λ node. node.0))
 
   -- what a walk has told and has still to follow, where it has told this many nodes
   pub record IsWalked (t : Linked T) (told : ℕ) (order pending : List (ℕ × ℕ)) : Type 0 where
     pub count : length order ≡ told
     pub told_lead : All (λ node. node.0 < length t.nodes) order
     pub pending_lead : All (λ node. (node.0 < length t.nodes) × (node.1 ≤ told)) pending
-    pub whole : (f : Focused) → StandsFor t f → (rest : List (ℕ × ℕ)) × Tells t.nodes pending rest × (order ++ rest ≡ in_order 0 f.forest)
+    pub whole : (forest : Forest) → HasForest t forest → (rest : List (ℕ × ℕ)) × Tells t.nodes pending rest × (order ++ rest ≡ in_order 0 forest)
 
   -- a link that leads to a node, at a depth of which there have been enough nodes
   All-with_link : (t : Linked T) (told : ℕ) (pending : List (ℕ × ℕ)) (link : Option ℕ) (depth : ℕ) → IsLinkWithin (length t.nodes) link → depth ≤ told
@@ -185,7 +185,7 @@ module _ {T : Type 0} where
     count = refl;
     told_lead = All-nil (λ node. node.0 < length t.nodes);
     pending_lead = All-with_link t 0 [] link 0 within (omega arith) (All-nil (λ node. (node.0 < length t.nodes) × (node.1 ≤ 0)));
-    whole = λ f h. (in_order 0 f.forest, Tells-first t.nodes link f.forest (rw is h.links), refl);
+    whole = λ forest h. (in_order 0 forest, Tells-first t.nodes link forest (rw is h.links), refl);
   }
 
   -- the link that is followed leads to a node, at a depth of which there have been enough nodes
@@ -206,8 +206,8 @@ module _ {T : Type 0} where
         told_lead = All-push (λ node. node.0 < length t.nodes) order (ix, depth) h.told_lead parts.1.0;
         pending_lead = All-with_link t (told + 1) (with_link pending node.next depth) node.child (depth + 1) here.child (omega (arith, parts.1.1))
             (All-with_link t (told + 1) pending node.next depth here.next (omega (arith, parts.1.1)) (All-weaker leads leads' weaker pending parts.0));
-        whole = λ f stands.
-            let before = h.whole f stands in
+        whole = λ forest links.
+            let before = h.whole forest links in
             let step = Tells-step t.nodes pending ix depth node before.0 here.here before.1 in (
               step.0,
               step.1,
@@ -217,14 +217,14 @@ module _ {T : Type 0} where
 
   -- nothing is left to follow
   pub IsWalked-done : (t : Linked T) (told : ℕ) (order pending : List (ℕ × ℕ)) → length pending ≡ 0 → IsWalked t told order pending
-      → (f : Focused) → StandsFor t f → order ≡ in_order 0 f.forest
-  IsWalked-done t told order [] none h f stands = let all = h.whole f stands in sym (append-nil order) ∙ ap (λ l. order ++ l) (sym all.1) ∙ all.2
-  IsWalked-done t told order (node ∷ pending) none h f stands = absurd (omega (arith, none))
+      → (forest : Forest) → HasForest t forest → order ≡ in_order 0 forest
+  IsWalked-done t told order [] none h forest links = let all = h.whole forest links in sym (append-nil order) ∙ ap (λ l. order ++ l) (sym all.1) ∙ all.2
+  IsWalked-done t told order (node ∷ pending) none h forest links = absurd (omega (arith, none))
 
   -- as many nodes are told as there are
-  pub IsWalked-all : (t : Linked T) (order pending : List (ℕ × ℕ)) → IsWalked t (length t.nodes) order pending → (f : Focused) → StandsFor t f → order ≡ in_order 0 f.forest
-  IsWalked-all t order pending h f stands = let all = h.whole f stands in by_rest all.0 all.2
+  pub IsWalked-all : (t : Linked T) (order pending : List (ℕ × ℕ)) → IsWalked t (length t.nodes) order pending → (forest : Forest) → HasForest t forest → order ≡ in_order 0 forest
+  IsWalked-all t order pending h forest links = let all = h.whole forest links in by_rest all.0 all.2
     where
-      by_rest : (rest : List (ℕ × ℕ)) → order ++ rest ≡ in_order 0 f.forest → order ≡ in_order 0 f.forest
+      by_rest : (rest : List (ℕ × ℕ)) → order ++ rest ≡ in_order 0 forest → order ≡ in_order 0 forest
       by_rest [] e = sym (append-nil order) ∙ e
-      by_rest (node ∷ rest) e = absurd (omega (arith, ap length e, length-append order (node ∷ rest), h.count, in_order-most t f stands))
+      by_rest (node ∷ rest) e = absurd (omega (arith, ap length e, length-append order (node ∷ rest), h.count, in_order-most t forest links))

@@ -118,6 +118,12 @@ module _ {T : Type 0} where
   IsLinkedAs nodes link no_tree = link ≡ None
   IsLinkedAs nodes link (tree root children later) = (link ≡ Some root) × (node : Node T) × (slice_get nodes root ≡ Some node) × IsLinkedAs nodes node.child children × IsLinkedAs nodes node.next later
 
+  -- From the first node after the dummy on, the links are those of the forest, which reaches no node twice. Other nodes, the spine
+  -- and the focus are left open.
+  pub record HasForest (t : Linked T) (forest : Forest) : Type 0 where
+    pub links : IsLinkedAs t.nodes (first_root t.nodes) forest
+    pub once : (node : ℕ) → count_in node forest ≤ 1
+
   -- The tree stands for the forest with its focus. Nodes that are not reached are left open.
   pub record StandsFor (t : Linked T) (f : Focused) : Type 0 where
     pub links : IsLinkedAs t.nodes (first_root t.nodes) f.forest

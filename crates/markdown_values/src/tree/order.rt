@@ -7,23 +7,24 @@ use crate::tree::{Tree, TreeIndex};
 use std::alloc::AllocError;
 
 impl<T: Drop> Tree<T> {
-    ghost use Rattle.markdown_values.specs.tree.Forest.{Focused, StandsFor};
+    ghost use Rattle.markdown_values.specs.tree.Forest.{Forest, HasForest};
     ghost use Rattle.markdown_values.specs.tree.Order.{in_order};
 
     /// The nodes in the order of their text, each once, with its depth: a root at depth 0, the nodes
     /// below it, and so on with the next root.
     ///
-    /// Nodes that no link leads to are left out. A walk takes memory for its way back, and the `next`
-    /// of an iterator can't answer that it is refused, so all nodes are answered at once. The walk
-    /// ends in a circle of links too.
+    /// The walk begins at the first node after the dummy, whatever the spine and the focus are. Nodes
+    /// that no link leads to are left out. A walk takes memory for its way back, and the `next` of an
+    /// iterator can't answer that it is refused, so all nodes are answered at once. The walk ends in a
+    /// circle of links too.
     ///
     /// # Errors
     ///
     /// `AllocError` where memory for the nodes is refused.
     pub fn in_order(&self) -> Result<Vec<(TreeIndex, usize)>, AllocError>
-        ensures forest { IfOk result (λ order. (f : Focused) → StandsFor self.now f
-            → order.items ≡ in_order 0 f.forest) }
-        ensures once { IfOk result (λ order. (f : Focused) → StandsFor self.now f
+        ensures forest { IfOk result (λ order. (forest : Forest) → HasForest self.now forest
+            → order.items ≡ in_order 0 forest) }
+        ensures once { IfOk result (λ order. (forest : Forest) → HasForest self.now forest
             → IsDistinct nat_eq (map (λ node. node.0) order.items)) }
         ensures within { IfOk result (λ order.
             All (λ node. node.0 < length self.now.nodes) order.items) }

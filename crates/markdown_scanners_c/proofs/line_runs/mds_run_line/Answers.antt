@@ -1,4 +1,5 @@
-use Rattle.std.proofs.Common.{List, ◌≡◌, ◌≤◌, ap, sym, subst, ◌∙◌, map, arith, refl, Option}
+use Rattle.std.proofs.Common.{List, ◌≡◌, ◌≤◌, ◌<◌, inl, inr, ap, sym, subst, ◌∙◌, map, arith, refl, Option}
+use Rattle.std.proofs.lemmas.Bool.{cases_lt}
 use Rattle.markdown_scanners_tree.specs.line.ItemRules.{start_of}
 use Rattle.markdown_scanners_tree.specs.line.KnownBreaks.{AreTrueBreaks}
 use Rattle.markdown_scanners_tree.specs.line.State.{IsLineState, LineState, rest_of}
@@ -8,8 +9,9 @@ use Rattle.markdown_scanners_tree.specs.declared.line.known_breaks.KnownBreaks.{
 use Rattle.markdown_scanners_tree.specs.declared.line.run.LineAnswer.{LineAnswer}
 use Rattle.markdown_scanners_tree.specs.declared.line.run.LineStop.{LineStop}
 use Rattle.markdown_scanners_tree.proofs.ForCallers.{run_at_front}
-use Rattle.markdown_scanners_c.specs.LineRuns.{AreAnswers, IsRun, line_call, run_at}
+use Rattle.markdown_scanners_c.specs.LineRuns.{AreAnswers, IsRun, calls_before_list, line_call, run_at}
 use Rattle.markdown_scanners_c.specs.LineStarts.{IsNext, IsTrueStart, known_breaks, state_on}
+use Rattle.markdown_scanners_c.specs.private.SureRun.{IsMadeTo, IsSure}
 use Rattle.markdown_scanners_c.proofs.line_runs.mds_run_line.Goals as goal
 
 module _ (c : goal.After-learn) where
@@ -30,19 +32,41 @@ module _ (c : goal.After-learn) where
       c.learn.ensures.state c.args.bytes.now
       ∙ ap (λ bytes. state_on bytes c.keep.new.self) (sym whole) ∙ c.keep.ensures.state
 
-  made : IsTrueStart c.args.bytes.now c.args.start.now
+  made : IsSure c.in-Some.line c.breaks-breaks.result c.args.calls.now c.made_run-ends.result.count
       → IsRun c.args.bytes.now (run_at c.args.bytes.now c.args.start.now c.args.calls.now)
       c.learn.new.self c.args.answers.now c.made_run-ends.new.answers c.made_run-ends.result
-  made known = record {
+  made sure = record {
     answers = subst (λ (run : StateRun). AreAnswers run.answers run.stop c.args.answers.now
-        c.made_run-ends.new.answers c.made_run-ends.result) same (c.made_run-ends.ensures.told (held known));
-    state = left ∙ c.made_run-ends.ensures.state (held known) ∙ ap (λ (run : StateRun). run.state) same;
-    known = c.learn.ensures.breaks ∙ c.made_run-ends.ensures.known (held known)
+        c.made_run-ends.new.answers c.made_run-ends.result) same (c.made_run-ends.ensures.told sure);
+    state = left ∙ c.made_run-ends.ensures.state sure ∙ ap (λ (run : StateRun). run.state) same;
+    known = c.learn.ensures.breaks ∙ c.made_run-ends.ensures.known sure
         ∙ ap (λ (run : StateRun). run.known) same;
   }
 
+  -- up to the first MDS_LIST
+  made_to : calls_before_list c.args.calls.now < c.made_run-ends.result.count
+      → IsMadeTo (calls_before_list c.args.calls.now) (run_at c.args.bytes.now c.args.start.now c.args.calls.now)
+      c.made_run-ends.new.answers
+  made_to past =
+      subst (λ run. IsMadeTo (calls_before_list c.args.calls.now) run c.made_run-ends.new.answers) same
+      (c.made_run-ends.ensures.up_to_list past)
+
 pub returns-clause-run : goal.returns-clause-run
-returns-clause-run c can known = made c known
+returns-clause-run c can known = made c (inl (held c known))
+
+pub returns-clause-without_list : goal.returns-clause-without_list
+returns-clause-without_list c can none =
+    elim (cases_lt (calls_before_list c.args.calls.now) c.made_run-ends.result.count) [
+      | inl past ↦ absurd (none (made_to c past).made)
+      | inr before ↦ made c (inr before)
+    ]
+
+pub returns-clause-up_to_list : goal.returns-clause-up_to_list
+returns-clause-up_to_list c can list =
+    elim (cases_lt (calls_before_list c.args.calls.now) c.made_run-ends.result.count) [
+      | inl past ↦ record { front = (made_to c past).front; made = past }
+      | inr before ↦ absurd (omega (arith, list, before, (made c (inr before)).answers.1))
+    ]
 
 pub returns-clause-front : goal.returns-clause-front
 returns-clause-front c can front =
@@ -51,7 +75,7 @@ returns-clause-front c can front =
     let calls = map line_call c.args.calls.now in
     let known : IsTrueStart bytes start =
     (λ k from before. absurd (omega (arith, before, front.3)), λ k behind. absurd (omega (arith, behind, front.4))) in
-    let run = made c known in
+    let run = made c (inl (held c known)) in
     let at : state_on bytes start ≡ start_of bytes = rw (front.0, front.1, front.2) refl in
     let runs = ap (λ s. state_run s (known_breaks start) calls) at in
     let alike = run_at_front bytes (known_breaks start) calls in

@@ -9,6 +9,7 @@ use Rattle.markdown_scanners_tree.specs.Kept.{line_len}
 use Rattle.markdown_scanners_tree.specs.linklabel.private.NextPart.{IsBracket, IsEnding}
 use Rattle.markdown_scanners_tree.specs.linklabel.private.Pass.{IsMeasure, backslash_len, tally_past_backslash}
 use Rattle.markdown_scanners_tree.specs.linklabel.private.Run.{is_ordinary}
+use Rattle.markdown_scanners_tree.proofs.HandlerLemmas.{after_label_line}
 use Rattle.markdown_scanners_tree.proofs.linklabel.Facts.{no_facts, tells_none}
 use Rattle.markdown_scanners_tree.proofs.linklabel.MeasureLemmas.{IsTallied, measured_by, not_measured, starts, past_ordinary, past_slash, past_white, past_line, ending_here}
 use Rattle.markdown_scanners_tree.proofs.linklabel.SourceSteps.{IsOnlySkip, at_start, none_at_end, none_at_opening, none_at_ending}
@@ -164,6 +165,18 @@ returns-in_err-skip-in-10-clause-none g c =
     λ m k. c.in_err-skip-in-10.ensures.found m
     (subst (λ r. Skips g.F.Fn c.args.handler.now r m) (drop-drop n ix text) k) in
     if_none _ _ (none_at_ending _ _ _ _ _ _ inv.at _ o lacks _)
+
+pub skip_at-requires-clause-after : goal.skip_at-requires-clause-after
+skip_at-requires-clause-after g c =
+    let same = c.as_bytes-bytes.ensures.value in
+    let ix = c.loop-ix.ix in
+    let text = c.args.text.now in
+    let ends : is_line_ending (get_or c.as_bytes-bytes.result.now ix 0) ≡ true = grind (arith, nat_tests, c.in-10.is) in
+    let here = ending_here (Skips g.F.Fn c.args.handler.now) c.args.is_in_table text ix c.loop-ix.tally _ c.loop-ix.invariant
+    (inside_text _ _ _ same c.loop-ix-test.true) (byte_of _ _ ix same) ends in
+    let len : c.ending_len-len.result ≡ line_len (drop ix text) =
+    c.ending_len-len.ensures ∙ ap line_len (rest_of_text c.as_bytes-bytes.result.now text ix same) in
+    after_label_line text ix c.ending_len-len.result (here _ len)
 
 pub past_ending-tally-requires-clause-some : goal.past_ending-tally-requires-clause-some
 past_ending-tally-requires-clause-some g c =

@@ -2,7 +2,7 @@
 use Rattle.std.proofs.Common.{◌≡◌, ℕ, ◌<◌, ◌==◌, ◌≢◌, not, nat_lt, true, false, refl}
 use Rattle.std.proofs.lemmas.Bool.{and_parts, ltb-true}
 use Rattle.markdown_scanners_tree.specs.Ascii.{space, left_parenthesis, right_parenthesis, backslash}
-use Rattle.markdown_scanners_tree.specs.scanners.classes.private.ClassBits.{is_in_destination}
+use Rattle.markdown_scanners_tree.specs.scanners.classes.private.InDestination.{is_in_destination}
 
 -- a byte above space that neither nests nor escapes
 pub record IsPlain (b : ℕ) : Type 0 where

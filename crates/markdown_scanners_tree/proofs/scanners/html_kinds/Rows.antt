@@ -1,7 +1,7 @@
 -- Worked instances of where HTML blocks begin and end.
-use Rattle.std.proofs.Common.{ℕ, List, [], ◌∷◌, ◌++◌, ◌≡◌, true, false, refl, codes}
+use Rattle.std.proofs.Common.{[], ◌∷◌, ◌++◌, ◌≡◌, true, false, refl, codes}
 use Rattle.markdown_scanners_tree.specs.Ascii.{line_feed, carriage_return}
-use Rattle.markdown_scanners_tree.specs.scanners.html_kinds.HtmlKinds.{MeetsStart, begins_with_raw_name, ends_raw_name, ends_tag_name, is_html_end}
+use Rattle.markdown_scanners_tree.specs.scanners.html_kinds.HtmlKinds.{MeetsStart, begins_with_raw_name, ends_tag_name, is_html_end}
 use Rattle.markdown_scanners_tree.specs.declared.scanners.html_kinds.HtmlBlockKind.TheVariants.{RawText, Comment, Processing, Declaration, Cdata, BlockName, TagAlone}
 
 raw_text : MeetsStart RawText (codes "<Script>x")

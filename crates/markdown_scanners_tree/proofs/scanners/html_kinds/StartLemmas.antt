@@ -36,6 +36,11 @@ numbered Cdata = refl
 numbered BlockName = refl
 numbered TagAlone = refl
 
+-- a number is that of one kind at most
+pub one_html_kind : (number : ℕ) (k k' : HtmlBlockKind) → condition_number k ≡ number → condition_number k' ≡ number
+    → k ≡ k'
+one_html_kind number k k' is is' = sym (numbered k) ∙ ap kind_of (is ∙ sym is') ∙ numbered k'
+
 -- a text begins with an HTML block of one kind at most
 pub one_html_block_start : (bytes : List ℕ) (k k' : HtmlBlockKind) → IsHtmlBlockStart bytes k
     → IsHtmlBlockStart bytes k' → k ≡ k'
@@ -43,8 +48,7 @@ one_html_block_start bytes k k' is is' = elim (cases_lt (condition_number k) (co
   | inl below ↦ absurd (is'.lowest k below is.met)
   | inr low ↦ elim (cases_lt (condition_number k') (condition_number k)) [
     | inl above ↦ absurd (is.lowest k' above is'.met)
-    | inr high ↦ (let same : condition_number k ≡ condition_number k' = omega arith in
-        sym (numbered k) ∙ ap kind_of same ∙ numbered k')
+    | inr high ↦ one_html_kind (condition_number k') k k' (omega arith) refl
   ]
 ]
 

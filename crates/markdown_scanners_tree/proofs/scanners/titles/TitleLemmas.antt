@@ -8,7 +8,7 @@ use Rattle.std.proofs.lemmas.Bool.Decides.{nat_tests}
 use Rattle.markdown_scanners_tree.specs.Bytes.{is_punctuation, is_line_ending, is_blank}
 use Rattle.markdown_scanners_tree.specs.scanners.Escapes.{units, starts_escape}
 use Rattle.markdown_scanners_tree.specs.scanners.TextLines.{ends_line}
-use Rattle.markdown_scanners_tree.specs.scanners.classes.private.ClassBits.{is_in_destination}
+use Rattle.markdown_scanners_tree.specs.scanners.classes.private.InDestination.{is_in_destination}
 use Rattle.markdown_scanners_tree.specs.scanners.titles.LinkTitle.{closing_of, stands_in_title}
 use Rattle.markdown_scanners_tree.specs.scanners.titles.private.TitleFrom.{is_before_blank_line, later_lines_filled, IsTitleFrom}
 use Rattle.markdown_scanners_tree.proofs.PrefixLemmas.{both_true}

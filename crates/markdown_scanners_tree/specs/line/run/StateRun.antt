@@ -1,6 +1,6 @@
 -- A list of calls from a line start on, wherever it stands, one plain step after the other.
 -- (CommonMark 0.31.2, section 2.2, tabs)
-use Rattle.std.specs.Prelude.{◌==◌, ◌++◌, List, [], ◌∷◌, Option, Some, None}
+use Rattle.std.specs.Prelude.{◌==◌, ◌++◌, Bool, true, false, List, [], ◌∷◌, Option, Some, None}
 use Rattle.markdown_scanners_tree.specs.line.KnownBreaks.{learnt_by_marker}
 use Rattle.markdown_scanners_tree.specs.line.PlainStep.{plain_step}
 use Rattle.markdown_scanners_tree.specs.line.State.{LineState, columns_further, rest_of}
@@ -10,6 +10,11 @@ use Rattle.markdown_scanners_tree.specs.declared.line.run.LineAnswer.{LineAnswer
 use Rattle.markdown_scanners_tree.specs.declared.line.run.LineCall.{LineCall}
 use Rattle.markdown_scanners_tree.specs.declared.line.run.LineCall.TheVariants.{List as ItemCall}
 use Rattle.markdown_scanners_tree.specs.declared.line.run.LineStop.{LineStop}
+
+-- a call that asks for the thematic breaks in the line: that for a list marker alone
+abbrev pub asks_for_breaks : LineCall → Bool
+asks_for_breaks (ItemCall _) = true
+asks_for_breaks _ = false
 
 -- what is known of the thematic breaks after a call from a state: a list marker alone tells of them
 abbrev pub learnt_by_call : LineCall → LineState → KnownBreaks → KnownBreaks

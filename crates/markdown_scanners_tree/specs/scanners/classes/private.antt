@@ -1,1 +1,2 @@
 pub mod ClassBits
+pub mod InDestination

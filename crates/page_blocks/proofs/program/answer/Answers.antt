@@ -1,5 +1,6 @@
-use Rattle.std.proofs.Common.{◌≡◌, ◌≢◌, Result, Ok, Err, IfErr, sym, ◌∙◌, subst}
+use Rattle.std.proofs.Common.{◌≡◌, ◌≢◌, Result, Ok, Err, IfErr, sym, ◌∙◌, subst, arith}
 use Rattle.program_faults.specs.declared.Fault.TheVariants.{Write}
+use Rattle.program_faults.specs.Steps.{no_read}
 use Rattle.page_blocks.specs.declared.words.Form.{Form}
 use Rattle.page_blocks.specs.declared.words.Request.{Request}
 use Rattle.page_blocks.specs.declared.words.Request.TheVariants.{Page}
@@ -18,3 +19,6 @@ returns-in-Page-clause-begun g c =
     one_form (λ fault. fault ≢ Write) (λ form. IsBegunTo form (g.R.Read.remaining c.args.input.now) (g.R.Read.remaining c.tell_page.new.input)
     (g.W.Write.contents c.args.output.now) (g.W.Write.contents c.tell_page.new.output)) c.args.request c.in-Page.form c.in-Page.is
     c.tell_page.result c.tell_page.ensures.begun
+
+pub returns-in-Help-clause-reads : goal.returns-in-Help-clause-reads
+returns-in-Help-clause-reads g c = (0, omega arith, no_read c.args.input.now)

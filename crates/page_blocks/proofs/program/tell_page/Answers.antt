@@ -1,5 +1,9 @@
-use Rattle.std.proofs.Common.{◌-◌, ◌++◌, ◌≡◌, true, false, Result, Ok, Err, IfErr, length, drop, arith, refl, sym, ap, ◌∙◌}
+use Rattle.std.proofs.Common.{ℕ, ◌+◌, ◌-◌, ◌++◌, ◌≡◌, true, false, Result, Ok, Err, IfErr, length, drop, arith, refl, sym, ap, subst, ◌∙◌}
+use Rattle.std.specs.Result.{IsErrAnd}
 use Rattle.std.proofs.lemmas.List.{length-drop}
+use Rattle.program_faults.specs.Steps.{AreReads, no_read}
+use Rattle.page_blocks.specs.declared.reading.TheConstants.{READS}
+use Rattle.page_blocks.proofs.reading.ReadingLemmas.{reads_on, reads_most, reads_all}
 use Rattle.page_blocks.proofs.program.ProgramLemmas.{begun-first, begun-read, begun-written, begun-stopped, begun-done}
 use Rattle.page_blocks.proofs.program.tell_page.Goals as goal
 
@@ -7,11 +11,17 @@ if_err : {T E X : Type 0} (P : E → Type 0) (r : Result T E) → X → IfErr r 
 if_err P (Ok t) x = tt
 if_err P (Err e) x = λ p. x
 
+-- an error that is handed on is the one that it was
+by_err : {T E X : Type 0} {wanted : E} (r : Result T E) (error : E) → IsErrAnd r (λ e. e ≡ error) → (error ≡ wanted → X) → IfErr r (λ e. e ≡ wanted → X)
+by_err (Ok t) error is h = tt
+by_err (Err e) error is h = λ same. h (sym is ∙ same)
+
 pub loop-telling-init : goal.loop-telling-init
 loop-telling-init g c = record {
   begun = begun-first c.args.form (g.R.Read.remaining c.args.input.now) (g.W.Write.contents c.args.output.now) c.new-telling.result
       c.new-unread.result.text.items c.new-unread.ensures.text c.new-telling.ensures.told c.new-telling.ensures.form;
   empty = c.new-telling.ensures.nothing;
+  reads = (0, omega (arith, c.new-unread.ensures.reads), no_read c.args.input.now);
   room = omega (arith, c.new-telling.ensures.before, ap length c.new-unread.ensures.text, c.new-unread.ensures.reads);
 }
 
@@ -67,6 +77,9 @@ loop-telling-preserved g c =
           c.in_ok-count.ensures.form (rw c.as_str.ensures.value at c.in_ok-write_text.ensures.written)
           refl refl refl c.clear.ensures.bytes (c.drop_front.ensures.text ∙ ap (drop c.in_ok-count.count) (sym c.deref.ensures.value));
       empty = c.clear.ensures.bytes;
+      reads = subst (λ n. (count : ℕ) × (n + count ≡ READS) × AreReads g.R.StepReader.reads count c.args.input.now c.read_more.new.input)
+          (sym c.drop_front.ensures.reads) (reads_on g.R.StepReader.reads c.loop-telling.unread.reads c.read_more.new.self.reads READS c.args.input.now
+          c.loop-telling.input c.read_more.new.input c.loop-telling.invariant.reads c.read_more.ensures.reads);
       room = omega (
         arith,
         c.loop-telling.invariant.room,
@@ -78,3 +91,29 @@ loop-telling-preserved g c =
         c.drop_front.ensures.reads,
       );
     }
+
+pub returns-in_err-has_ended-clause-reads : goal.returns-in_err-has_ended-clause-reads
+returns-in_err-has_ended-clause-reads g c =
+    reads_most g.R.StepReader.reads c.loop-telling.unread.reads c.read_more.new.self.reads READS c.args.input.now c.loop-telling.input c.read_more.new.input
+    c.loop-telling.invariant.reads c.read_more.ensures.reads
+
+pub returns-in_err-count-clause-reads : goal.returns-in_err-count-clause-reads
+returns-in_err-count-clause-reads g c =
+    reads_most g.R.StepReader.reads c.loop-telling.unread.reads c.read_more.new.self.reads READS c.args.input.now c.loop-telling.input c.read_more.new.input
+    c.loop-telling.invariant.reads c.read_more.ensures.reads
+
+pub returns-in_err-write_text-clause-reads : goal.returns-in_err-write_text-clause-reads
+returns-in_err-write_text-clause-reads g c =
+    reads_most g.R.StepReader.reads c.loop-telling.unread.reads c.read_more.new.self.reads READS c.args.input.now c.loop-telling.input c.read_more.new.input
+    c.loop-telling.invariant.reads c.read_more.ensures.reads
+
+pub returns-then-has_ended-clause-reads : goal.returns-then-has_ended-clause-reads
+returns-then-has_ended-clause-reads g c =
+    reads_most g.R.StepReader.reads c.loop-telling.unread.reads c.read_more.new.self.reads READS c.args.input.now c.loop-telling.input c.read_more.new.input
+    c.loop-telling.invariant.reads c.read_more.ensures.reads
+
+pub returns-in_err-has_ended-clause-failed : goal.returns-in_err-has_ended-clause-failed
+returns-in_err-has_ended-clause-failed g c =
+    by_err c.from_residual.result c.in_err-has_ended.field-0.0 c.from_residual.ensures.1
+    (λ is. reads_all g.R.StepReader.reads c.loop-telling.unread.reads c.read_more.new.self.reads READS c.args.input.now c.loop-telling.input
+    c.read_more.new.input c.loop-telling.invariant.reads c.read_more.ensures.reads (c.in_err-has_ended.ensures.failed is))

@@ -1,13 +1,16 @@
-use Rattle.std.proofs.Common.{[], ◌+◌, ◌*◌, ◌≤◌, ◌≡◌, length, string_bytes}
+use Rattle.std.proofs.Common.{ℕ, [], ◌+◌, ◌*◌, ◌≤◌, ◌≡◌, length, string_bytes}
+use Rattle.program_faults.specs.Steps.{AreReads}
+use Rattle.page_blocks.specs.declared.reading.TheConstants.{READS}
 use Rattle.page_blocks.proofs.program.ProgramLemmas.{Begun}
 use Rattle.page_blocks.proofs.program.tell_page.Given as goal
 
--- what was read is told and written as far as the text that is left; there are no more lines than reads gave bytes
+-- what was read is told and written as far as the text that is left, by the reads that are no longer left; there are no more lines than reads gave bytes
 abbrev pub invariant-loop-telling : goal.invariant-loop-telling
 invariant-loop-telling g l = record {
   begun : Begun l.fn.form (g.R.Read.remaining l.fn.input) (g.R.Read.remaining l.input) (g.W.Write.contents l.fn.output) (g.W.Write.contents l.output)
       l.telling l.unread.text.items;
   empty : string_bytes l.telling.told ≡ [];
+  reads : (count : ℕ) × (l.unread.reads + count ≡ READS) × AreReads g.R.StepReader.reads count l.fn.input l.input;
   room : l.telling.before + (length l.unread.text.items + 65536 * l.unread.reads) ≤ 68719476736;
 }
 

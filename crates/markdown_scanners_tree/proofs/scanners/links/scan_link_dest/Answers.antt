@@ -6,11 +6,17 @@ use Rattle.markdown_scanners_tree.proofs.scanners.links.LinkLemmas.{slice_is_res
 use Rattle.markdown_scanners_tree.proofs.scanners.links.OneDestination.{one_destination}
 use Rattle.markdown_scanners_tree.proofs.scanners.links.scan_link_dest.Goals as goal
 
+pub returns-in_err-taken-clause-none : goal.returns-in_err-taken-clause-none
+returns-in_err-taken-clause-none c =
+    let read = slice_is_rest c.as_bytes.result.now c.args.text.now c.args.start c.as_bytes.ensures.value in
+    rw c.from_residual.ensures (λ n raw is.
+    c.in_err-taken.ensures.none n raw (subst (λ t. IsLinkDestination (c.args.max_next + 1) t n raw) (sym read) is))
+
 pub returns-in_err-taken-clause-found : goal.returns-in_err-taken-clause-found
 returns-in_err-taken-clause-found c =
-    let read = slice_is_rest c.as_bytes.result.now c.args.text.now c.args.start c.as_bytes.ensures.value in
-    SomeExactly-from_none _ (ap (option_map (λ (r : ℕ × Bor (List ℕ)). (r.0, r.1.now))) c.from_residual.ensures) (λ r is.
-    c.in_err-taken.ensures.found r (subst (λ t. IsLinkDestination (c.args.max_next + 1) t r.0 r.1) (sym read) is))
+    let none = rw c.from_residual.ensures at (returns-in_err-taken-clause-none c) in
+    SomeExactly-from_none _ (ap (option_map (λ (r : ℕ × Bor (List ℕ)). (r.0, r.1.now))) c.from_residual.ensures)
+    (λ r. none r.0 r.1)
 
 pub range-requires-clause-start_boundary : goal.range-requires-clause-start_boundary
 range-requires-clause-start_boundary c = λ _.

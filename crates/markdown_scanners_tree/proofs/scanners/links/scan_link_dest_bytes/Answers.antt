@@ -2,7 +2,7 @@ use Rattle.std.proofs.Common.{ℕ, length, ap, ◌∙◌, ◌+◌, sym, subst, t
 use Rattle.std.proofs.lemmas.Bool.{eqb-true}
 use Rattle.std.proofs.lemmas.List.{take_rest}
 use Rattle.std.proofs.lemmas.Str.{IsCharBoundary-start}
-use Rattle.std.proofs.lemmas.Grind.{elements, common_steps}
+use Rattle.std.proofs.lemmas.Grind.{common_steps}
 use Rattle.std.specs.Option.{option_map}
 use Rattle.std.specs.Prelude.{slice_range}
 use Rattle.std.specs.declared.ops.Range.{Range}
@@ -13,13 +13,19 @@ use Rattle.markdown_scanners_tree.proofs.scanners.links.OneDestination.{one_dest
 use Rattle.markdown_scanners_tree.proofs.scanners.links.scan_link_dest_bytes.Goals as goal
 use Rattle.markdown_scanners_tree.proofs.scanners.links.scan_link_dest_bytes.Goals.{else-not-is_empty-via-then-not-is_empty+else-bytes-eq60, else-not-is_empty-via-else-not-is_empty}
 
+pub returns-in_err-n-clause-none : goal.returns-in_err-n-clause-none
+returns-in_err-n-clause-none c =
+    let bytes = c.args.bytes.now in
+    rw c.from_residual.ensures (no_pointed (c.args.max_next + 1) bytes (opened_by bytes c.if-bytes-eq60.true)
+    (λ n is. c.in_err-n.ensures.found n (subst (λ t. IsPointedFrom t n) (sym (take_rest bytes 1)) is)))
+
 pub returns-in_err-n-clause-found : goal.returns-in_err-n-clause-found
 returns-in_err-n-clause-found c =
     let bytes = c.args.bytes.now in
+    let none = rw c.from_residual.ensures at (returns-in_err-n-clause-none c) in
     SomeExactly-from_none _
-    (ap (option_map (λ (r : ℕ × Range ℕ). (r.0, slice_range bytes r.1.start r.1.end))) c.from_residual.ensures) (λ r.
-    no_pointed (c.args.max_next + 1) bytes (opened_by bytes c.if-bytes-eq60.true)
-    (λ n is. c.in_err-n.ensures.found n (subst (λ t. IsPointedFrom t n) (sym (take_rest bytes 1)) is)) r.0 r.1)
+    (ap (option_map (λ (r : ℕ × Range ℕ). (r.0, slice_range bytes r.1.start r.1.end))) c.from_residual.ensures)
+    (λ r. none r.0 r.1)
 
 pub returns-in_err-n-clause-only : goal.returns-in_err-n-clause-only
 returns-in_err-n-clause-only c = rw c.from_residual.ensures tt
@@ -56,19 +62,24 @@ returns-then-bytes-eq60-clause-behind c = λ utf8.
     let close = byte_behind c.args.bytes.now c.in_ok-n.n _ c.in_ok-n.ensures.within c.in_ok-n.ensures.cut in
     cut_behind c.args.bytes.now (1 + c.in_ok-n.n) (c.in_ok-n.n + 2) (omega arith) utf8 close.0 (omega (arith, close.1))
 
-pub returns-in_err-n-2-clause-found : goal.returns-in_err-n-2-clause-found
-returns-in_err-n-2-clause-found c =
-    let bytes = c.args.bytes.now in
-    SomeExactly-from_none _
-    (ap (option_map (λ (r : ℕ × Range ℕ). (r.0, slice_range bytes r.1.start r.1.end)))
-    c.from_residual-in_err-n-2.ensures)
-    (λ r. no_bare (c.args.max_next + 1) bytes
+pub returns-in_err-n-2-clause-none : goal.returns-in_err-n-2-clause-none
+returns-in_err-n-2-clause-none c =
+    rw c.from_residual-in_err-n-2.ensures (no_bare (c.args.max_next + 1) c.args.bytes.now
     (λ after e. elim c.else-not-is_empty.branch [
       | else-not-is_empty-via-then-not-is_empty+else-bytes-eq60 w ↦ w.if-bytes-eq60.false (ap (λ t. get_or t 0 0) e)
       | else-not-is_empty-via-else-not-is_empty w ↦
           absurd (omega (arith, ap length e, eqb-true _ 0 (sym c.is_empty.ensures ∙ w.if-not-is_empty.false)))
     ])
-    (λ n is. c.in_err-n-2.ensures.found n is) r.0 r.1)
+    (λ n is. c.in_err-n-2.ensures.found n is))
+
+pub returns-in_err-n-2-clause-found : goal.returns-in_err-n-2-clause-found
+returns-in_err-n-2-clause-found c =
+    let bytes = c.args.bytes.now in
+    let none = rw c.from_residual-in_err-n-2.ensures at (returns-in_err-n-2-clause-none c) in
+    SomeExactly-from_none _
+    (ap (option_map (λ (r : ℕ × Range ℕ). (r.0, slice_range bytes r.1.start r.1.end)))
+    c.from_residual-in_err-n-2.ensures)
+    (λ r. none r.0 r.1)
 
 pub returns-in_err-n-2-clause-only : goal.returns-in_err-n-2-clause-only
 returns-in_err-n-2-clause-only c = rw c.from_residual-in_err-n-2.ensures tt

@@ -7,27 +7,37 @@ use Rattle.markdown_scanners_tree.proofs.scanners.list_items.ListItemLemmas.{ite
 use Rattle.markdown_scanners_tree.proofs.scanners.list_items.OneItem.{one_item}
 use Rattle.markdown_scanners_tree.proofs.scanners.list_items.scan_listitem.Goals as goal
 
-pub returns-in_err-width-clause-found : goal.returns-in_err-width-clause-found
-returns-in_err-width-clause-found c =
-    rw c.from_residual.ensures (λ r item.
+pub returns-in_err-width-clause-none : goal.returns-in_err-width-clause-none
+returns-in_err-width-clause-none c =
+    rw c.from_residual.ensures (λ n delimiter start indent item.
     let whole : take (length item.marker) c.args.bytes.now ≡ item.marker =
     ap (take (length item.marker)) item.parts ∙ take-append_seam item.marker item.rest in
-    c.in_err-width.ensures.found (length item.marker, r.1, r.2)
-    (subst (λ (marker : List ℕ). IsListMarker marker r.1 r.2) (sym whole) item.is_marker))
+    c.in_err-width.ensures.found (length item.marker, delimiter, start)
+    (subst (λ (marker : List ℕ). IsListMarker marker delimiter start) (sym whole) item.is_marker))
+
+pub returns-in_err-width-clause-found : goal.returns-in_err-width-clause-found
+returns-in_err-width-clause-found c =
+    let none = rw c.from_residual.ensures at (returns-in_err-width-clause-none c) in
+    rw c.from_residual.ensures (λ r. none r.0 r.1 r.2 r.3)
 
 pub returns-in_err-width-clause-only : goal.returns-in_err-width-clause-only
 returns-in_err-width-clause-only c = rw c.from_residual.ensures tt
 
-pub returns-in_err-place-clause-found : goal.returns-in_err-place-clause-found
-returns-in_err-place-clause-found c =
-    rw c.from_residual-in_err-place.ensures (λ r item.
+pub returns-in_err-place-clause-none : goal.returns-in_err-place-clause-none
+returns-in_err-place-clause-none c =
+    rw c.from_residual-in_err-place.ensures (λ n delimiter start indent item.
     let width = c.in_ok-width.width in
     let rest : item.rest ≡ drop width c.args.bytes.now =
     item-rest c.args.bytes.now width c.in_ok-width.delimiter c.in_ok-width.start c.in_ok-width.ensures.within
-    c.in_ok-width.ensures.found item.marker item.rest r.1 r.2 item.parts item.is_marker in
+    c.in_ok-width.ensures.found item.marker item.rest delimiter start item.parts item.is_marker in
     c.in_err-place.ensures.found (item.place, item.space)
     (subst (λ (rest : List ℕ). IsItemSpace rest item.place item.space) (rest
     ∙ sym (from_place c.args.bytes.now width)) item.is_space))
+
+pub returns-in_err-place-clause-found : goal.returns-in_err-place-clause-found
+returns-in_err-place-clause-found c =
+    let none = rw c.from_residual-in_err-place.ensures at (returns-in_err-place-clause-none c) in
+    rw c.from_residual-in_err-place.ensures (λ r. none r.0 r.1 r.2 r.3)
 
 pub returns-in_err-place-clause-only : goal.returns-in_err-place-clause-only
 returns-in_err-place-clause-only c = rw c.from_residual-in_err-place.ensures tt

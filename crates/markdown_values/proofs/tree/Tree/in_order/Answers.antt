@@ -29,12 +29,12 @@ loop-preserved g c = (
 pub returns-in_default-clause-once : goal.returns-in_default-clause-once
 returns-in_default-clause-once g c =
     let none : length c.loop.pending.items ≡ 0 = search rules in
-    λ f h. rw (IsWalked-done c.args.self.now c.loop.counter c.loop.order.items c.loop.pending.items none c.loop.invariant.1 f h) (in_order-once c.args.self.now f h)
+    λ forest h. rw (IsWalked-done c.args.self.now c.loop.counter c.loop.order.items c.loop.pending.items none c.loop.invariant.1 forest h) (in_order-once c.args.self.now forest h)
 
 pub returns-clause-forest : goal.returns-clause-forest
 returns-clause-forest g c =
     let all : c.loop.counter ≡ length c.args.self.now.nodes = omega (arith, c.loop-test.false, c.loop.auto.counter-end, c.loop.invariant.0) in
-    λ f h. IsWalked-all c.args.self.now c.loop.order.items c.loop.pending.items (rw all at c.loop.invariant.1) f h
+    λ forest h. IsWalked-all c.args.self.now c.loop.order.items c.loop.pending.items (rw all at c.loop.invariant.1) forest h
 
 pub returns-clause-once : goal.returns-clause-once
-returns-clause-once g c = λ f h. rw (returns-clause-forest g c f h) (in_order-once c.args.self.now f h)
+returns-clause-once g c = λ forest h. rw (returns-clause-forest g c forest h) (in_order-once c.args.self.now forest h)

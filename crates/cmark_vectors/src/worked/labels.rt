@@ -1,0 +1,34 @@
+//! Labels of links and footnotes, up to their bracket. As `diff/worked` writes them.
+pub(crate) const ROWS: &str = "\
+label\tc2ab0909426c7572727920457965730909c2bb5d\tzero\t0\t=>\t20 false c2ab20426c75727279204579657320c2bb
+label\t615c205d\tzero\t0\t=>\t4 true 615c
+label\t68656c6c6f0d0a776f726c640d0a5d\tzero\t0\t=>\t15 false 68656c6c6f20776f726c64
+label\t205d\tzero\t0\t=>\tnone
+label\t615c7c625d\tzero\t1\t=>\t5 false 617c62
+label\t615c7c625d\tzero\t0\t=>\t5 true 615c7c62
+label\t615c5c7c625d\tzero\t1\t=>\t6 false 615c7c62
+label\t615b625d\tzero\t0\t=>\tnone
+label\t-\tzero\t0\t=>\tnone
+label\t61\tzero\t0\t=>\tnone
+label\t615c5b625d\tzero\t0\t=>\t5 true 615c5b62
+label\t2061205d\tzero\t0\t=>\t4 true 61
+label\t610a625d\tzero\t0\t=>\t4 false 612062
+label\t610a0a625d\tzero\t0\t=>\tnone
+label\t610a3e20625d\tbq\t0\t=>\t6 false 612062
+label\t610d0a625d\tzero\t0\t=>\t5 false 612062
+label\t610a0d625d\tzero\t0\t=>\tnone
+label\t610d780a625d\tx\t0\t=>\tnone
+label\t466f6f20204261725d\tzero\t0\t=>\t9 false 466f6f20426172
+label\t610a625d\trefuse\t0\t=>\tnone
+label\tc2ab0909426c7572727920457965730909c2bb5d5b626c757272795f657965735d\trefuse\t0\t=>\t20 false c2ab20426c75727279204579657320c2bb
+label\t615c5d\trefuse\t0\t=>\tnone
+label\t{61*999}5d\tzero\t0\t=>\t1000 true {61*999}
+label\t{61*998}c3a95d\tzero\t0\t=>\t1001 true {61*998}c3a9
+label\t{61*499}0a3e20{61*499}5d\tbq\t0\t=>\t1002 false {61*499}20{61*499}
+label\t{61*449}2020{61*450}5d\tzero\t0\t=>\t902 false {61*449}20{61*450}
+label\t{61*997}0a615d\tzero\t0\t=>\t1000 false {61*997}2061
+label\t{61*998}0a5d\tzero\t0\t=>\t1000 false {61*998}
+label\t{61*1000}5d\tzero\t0\t=>\tnone
+label\t{61*999}205d\tzero\t0\t=>\tnone
+label\t{61*998}0d0a5d\tzero\t0\t=>\tnone
+";

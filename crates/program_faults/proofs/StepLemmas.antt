@@ -1,0 +1,56 @@
+-- What is left of a line after a write, and reads one after another.
+use Rattle.std.proofs.Common.{◌≡◌, ℕ, suc, ◌+◌, ◌-◌, ◌<◌, ◌==◌, true, false, List, [], ◌∷◌, ◌++◌, length, take, drop, Option, Some, None}
+use Rattle.std.proofs.Common.{sym, ap, subst, ◌∙◌, arith, append_assoc}
+use Rattle.std.specs.Io.KnownBytes.{Appends}
+use Rattle.std.proofs.lemmas.Bool.{eqb-true}
+use Rattle.std.proofs.lemmas.List.{length-drop, take_all, take-append-drop}
+use Rattle.program_faults.specs.Faults.{AppendsBefore}
+use Rattle.program_faults.specs.Steps.{AreReads, no_read, read, IsGiven, nothing_left, refused, taken}
+
+-- what a slice takes from a place on is all that is behind it
+whole_rest : (bytes : List ℕ) (i : ℕ) → take (length bytes - i) (drop i bytes) ≡ drop i bytes
+whole_rest bytes i = take_all (length bytes - i) (drop i bytes) (omega (arith, length-drop i bytes))
+
+-- a write took some of the rest of a line
+pub told-more : (old middle new : Option (List ℕ)) (line rest : List ℕ) (count : ℕ) → AppendsBefore old middle line rest
+    → Appends middle new (take count rest) → AppendsBefore old new line (take (length rest - count) (drop count rest))
+told-more None middle new line rest count before more = tt
+told-more (Some xs) None new line rest count before more = absurd before
+told-more (Some xs) (Some ys) None line rest count before more = absurd more
+told-more (Some xs) (Some ys) (Some zs) line rest count (prefix, all, grown) more = (
+  prefix ++ take count rest,
+  all ∙ ap (λ r. prefix ++ r) (sym (take-append-drop count rest)) ∙ sym (append_assoc prefix (take count rest) (drop count rest))
+      ∙ ap (λ r. (prefix ++ take count rest) ++ r) (sym (whole_rest rest count)),
+  more ∙ ap (λ l. l ++ take count rest) grown ∙ append_assoc xs prefix (take count rest),
+)
+
+module _ {W : Type 0} (writes : W → List ℕ → ℕ → W → Type 0) where
+  pub given-nothing : (at : W) (rest : List ℕ) → (length rest == 0) ≡ true → IsGiven writes at rest at
+  given-nothing at [] empty = nothing_left at
+  given-nothing at (b ∷ rest) empty = absurd (omega (arith, eqb-true (length (b ∷ rest)) 0 empty))
+
+  not_empty : (rest : List ℕ) → (length rest == 0) ≡ false → 0 < length rest
+  not_empty [] some = cc
+  not_empty (b ∷ rest) some = omega arith
+
+  pub given-refused : (old new : W) (rest : List ℕ) (count : ℕ) → (length rest == 0) ≡ false → count ≡ 0 → writes old rest count new → IsGiven writes old rest new
+  given-refused old new rest count some none step = refused old new rest (not_empty rest some) (subst (λ n. writes old rest n new) none step)
+
+  pub given-taken : (old middle new : W) (rest : List ℕ) (count : ℕ) → (count ≡ 0 → ⊥) → writes old rest count middle
+      → IsGiven writes middle (take (length rest - count) (drop count rest)) new → IsGiven writes old rest new
+  given-taken old middle new rest count some step more =
+      taken old middle new rest count (omega (arith, some)) step (subst (λ r. IsGiven writes middle r new) (whole_rest rest count) more)
+
+module _ {R : Type 0} (reads : R → Option (List ℕ) → R → Type 0) where
+  -- a read more
+  pub reads-read : (count : ℕ) (old middle new : R) (given : Option (List ℕ)) → AreReads reads count old middle → reads middle given new → AreReads reads (suc count) old new
+  reads-read count old middle new given (no_read at) step = read 0 old new new given step (no_read new)
+  reads-read count old middle new given (read n first second last g step more) later =
+      read count first second new g step (reads-read n second middle new given more later)
+
+  -- these reads, and then those
+  pub reads-append : (count more : ℕ) (old middle new : R) → AreReads reads count old middle → AreReads reads more middle new → AreReads reads (count + more) old new
+  reads-append count more old middle new (no_read at) later = let all : more ≡ 0 + more = omega arith in subst (λ n. AreReads reads n at new) all later
+  reads-append count more old middle new (read n first second last g step rest) later =
+      let all : suc (n + more) ≡ suc n + more = omega arith in
+      subst (λ k. AreReads reads k first new) all (read (n + more) first second new g step (reads-append n more second middle new rest later))

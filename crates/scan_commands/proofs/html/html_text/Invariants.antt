@@ -1,7 +1,0 @@
--- The lines written and those of the scans that are left make up all of them.
-use Rattle.std.proofs.Common.{string_bytes}
-use Rattle.scan_commands.proofs.html.ScanLemmas.{IsUnderWay}
-use Rattle.scan_commands.proofs.html.html_text.Given as goal
-
-abbrev pub invariant-loop-place : goal.invariant-loop-place
-invariant-loop-place l = IsUnderWay l.bytes l.run l.place (string_bytes l.text)

@@ -1,8 +1,0 @@
--- What is written and the digits of the bytes that are left make the digits of all.
-use Rattle.std.proofs.Common.{◌≡◌, ◌++◌, drop, string_bytes}
-use Rattle.std.specs.List.{flat_map}
-use Rattle.scan_commands.specs.printing.Printed.{hex_byte}
-use Rattle.scan_commands.proofs.printing.push_hex.Given as goal
-
-abbrev pub invariant-loop-byte : goal.invariant-loop-byte
-invariant-loop-byte l = string_bytes l.text ++ flat_map hex_byte (drop l.byte-index l.bytes) ≡ string_bytes l.initial.text ++ flat_map hex_byte l.bytes
