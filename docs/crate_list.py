@@ -2,7 +2,8 @@
 from functools import cache
 from pathlib import Path
 
-CRATES = Path(__file__).resolve().parent.parent / "crates.txt"
+TOP = Path(__file__).resolve().parent.parent
+CRATES = TOP / "crates.txt"
 
 
 @cache
@@ -24,3 +25,8 @@ def made_of(crate):
     for name in found:
         found += [it for it in libraries()[name] if it in libraries() and it not in found]
     return found
+
+
+def sources(crate):
+    """The sources of this crate alone."""
+    return sorted((TOP / "crates" / crate / "src").rglob("*.rt"))

@@ -8,7 +8,7 @@ from pathlib import Path
 
 TOP = Path(__file__).resolve().parent.parent
 sys.path.append(str(TOP / "docs"))
-from crate_list import crates, made_of
+from crate_list import crates, made_of, sources
 
 SECONDS = 60
 # How the file of a build is called: as LLVM makes it, and as Rattle's own compiler does.
@@ -121,10 +121,9 @@ def sources_of(program):
     if program not in crates():
         raise SystemExit(f"faults: crates.txt has no line of {program}")
     for crate in made_of(program):
-        files = list((TOP / "crates" / crate / "src").rglob("*.rt"))
-        if not files:
+        if not sources(crate):
             raise SystemExit(f"faults: {crate} has no sources, and {program} is made of it")
-        yield from files
+        yield from sources(crate)
 
 
 def files_of(crate):

@@ -21,7 +21,7 @@ const LINES = [
 ];
 /** Those after which a paragraph, or what follows one, may end in different ways. */
 const TURNS = ["", "a", "[a]: /b", "[a]:", "'c'", "===", "---", "-", "# a", "```", "    a", "<b>", "</p>", "> a", "- a", "1. a", "|a|", "|-|", ":-"];
-/** What stands before a page's first line and before its others: the containers of them, or of the first alone. */
+/** What a page's first line begins with, and its others: the containers of all, or of the first alone. */
 const CONTAINERS = [["", ""], ["> ", "> "], ["> ", ""], ["- ", "  "], ["- ", ""], ["1. > ", "   > "], ["- ", "- "]];
 
 /** Pages of two lines in containers, and of three. */
@@ -50,7 +50,16 @@ export function filesOfDisk() {
     const skipped = ["/proc", "/sys", "/dev"].flatMap((it) => ["-path", it, "-prune", "-o"]);
     const words = ["/", ...skipped, "-type", "f", "-iname", "*.md", "-size", `-${MOST_BYTES}c`, "-print0"];
     const found = said("find", words).split("\0").filter(Boolean).sort().slice(0, MOST_FILES);
-    return found.filter((it) => existsSync(it)).map((it) => decoded(readFileSync(it)));
+    return found.map(bytesOf).filter((it) => it !== null).map(decoded);
+}
+
+/** The bytes of a file, or null where it may not be read, or has gone by now. */
+function bytesOf(file) {
+    try {
+        return readFileSync(file);
+    } catch {
+        return null;
+    }
 }
 
 /** What a program prints; its status is 1 where it may not read a folder. */

@@ -1,0 +1,140 @@
+"""The ways in which cmark_blocks is known to differ from cmark 0.30.2 and cmark-gfm 0.29, each with the section that decides.
+
+Sections are of CommonMark 0.31.2 where none other is named.
+"""
+import re
+from collections import namedtuple
+from itertools import zip_longest
+
+from block_trees import EMPTY, agree, alike, has_later_header, lines_in, tables_of
+
+# What of a line containers may take.
+CONTAINERS = rb"(?:[ \t>]|[-+*](?=[ \t])|[0-9]{1,9}[.)](?=[ \t]))*"
+DEFINITION = re.compile(rb"(?:[ \t>]|[-+*]|[0-9]{1,9}[.)])*\[(?:[^][\\]|\\.)+\]:", re.S)
+
+# An opening fence and white space that is not trimmed from its info string; a delimiter row with a colon elsewhere than at the ends
+# of a cell.
+INFO = rb"(?:~{3,}|`{3,})(?:[ \t]*[\v\f]|[^\r\n]*[\v\f][ \t\v\f]*(?:[\r\n]|$))"
+OTHER_CELL = rb"^[-:| \t>]*(?:-[ \t]*:[ \t]*[-:]|::)[-:| \t]*\r?$"
+
+# A way to differ: what a page of it has, the section, and whether a page is one.
+Kind = namedtuple("Kind", "words section fits")
+
+
+class Page:
+    """A page of which the two say something else."""
+
+    def __init__(self, lines, ours, theirs):
+        self.lines, self.ours, self.theirs = lines, ours, theirs
+        self.text = b"".join(lines)
+
+    def parting(self):
+        """The first block of ours and of theirs that are not the same; None where there is no more."""
+        return next(it for it in zip_longest(self.ours, self.theirs) if not all(it) or not alike(*it))
+
+    def other_lines(self):
+        """The lines at which they may part: the first of that block, and where one is shorter its last and the one after it."""
+        our, their = self.parting()
+        first = min(it.first for it in (our, their) if it)
+        if not (our and their and our.first == their.first and our.last):
+            return self.lines[first - 1 : first]
+        last = min(our.last, *their.last)
+        later = last
+        while later < len(self.lines) and EMPTY.fullmatch(self.lines[later]):
+            later += 1
+        return [self.lines[first - 1], self.lines[last - 1], *self.lines[later : later + 1]]
+
+    def has_our_table(self):
+        return any(it.kind == "table" for it in self.ours)
+
+
+def begins(pattern):
+    """That a line at which they part begins so, after its containers."""
+    found = re.compile(CONTAINERS + pattern)
+    return lambda page: any(map(found.match, page.other_lines()))
+
+
+def begins_an_item(page):
+    """That a line at which they part has a list marker and a form feed or vertical tab after it, and cmark sees an item there."""
+    is_marker = re.compile(CONTAINERS + rb"(?:[-+*]|[0-9]{1,9}[.)])[\v\f]").match
+    items = [page.lines[it.first - 1] for it in page.theirs if it.kind == "item"]
+    return any(is_marker(it) and it in items for it in page.other_lines())
+
+
+def in_a_table_page(pattern):
+    """That cmark_blocks finds a table in a page with this."""
+    found = re.compile(pattern, re.M)
+    return lambda page: page.has_our_table() and found.search(page.text) is not None
+
+
+def defined(page):
+    """The lines of paragraphs of ours that begin with a link reference definition, and of headings that do, whose underline may
+    begin a paragraph for cmark."""
+    lines = set()
+    for block, later in zip(page.ours, [*page.ours[1:], None]):
+        if block.kind in ("paragraph", "heading") and DEFINITION.match(b"".join(page.lines[block.first - 1 : block.last])):
+            goes_on = block.kind == "heading" and later and later.kind == "paragraph" and later.first == block.last + 1
+            lines.update(range(block.first, (later.last if goes_on else block.last) + 1))
+    return lines
+
+
+def has_a_definition(page):
+    """That a page has definitions, and all blocks of other lines agree."""
+    passed = defined(page)
+    others = [[it for it in blocks if it.first not in passed] for blocks in (page.ours, page.theirs)]
+    return bool(passed) and agree(*others)
+
+
+def is_column(first, lines):
+    """Whether the table that begins at this line has no pipe in its delimiter row, and so one column."""
+    return not any(b"|" in it for it in lines[first : first + 1])
+
+
+def has_only_columns(ours, document, lines):
+    """Whether cmark-gfm alone finds tables, and all of them are of one column without a pipe."""
+    tables = [] if has_later_header(document) else tables_of(document)
+    return bool(tables) and all(is_column(lines_in(it)[0], lines) for it in tables) and all(it.kind != "table" for it in ours)
+
+
+def has_a_column(page):
+    """That cmark-gfm finds such a table, beside others."""
+    return any(it.kind == "table" and is_column(it.first, page.lines) for it in page.theirs)
+
+
+def has_other_white_space(page):
+    """That cmark-gfm finds a table whose header or delimiter row has a form feed or a vertical tab."""
+    rows = [b"".join(page.lines[it.first - 1 : it.first + 1]) for it in page.theirs if it.kind == "table"]
+    return any(re.search(rb"[\v\f]", it) for it in rows)
+
+
+def begins_blank(page):
+    """That an item begins with two blank lines, of which the second has its indent."""
+    return re.search(rb"(?:[-+*]|[0-9][.)])[ \t]*\r?\n[> \t]*[ \t]\r?\n", page.text) is not None
+
+
+KINDS = {
+    "definition": Kind("have a link reference definition", "4.7", has_a_definition),
+    "declaration": Kind("begin a declaration with a small letter", "4.6, condition 4", begins(rb"<![a-z]")),
+    "cdata": Kind("have <![CDATA[ in small letters", "4.6, condition 5", begins(rb"<!\[(?!CDATA)(?i:cdata)\[")),
+    "raw": Kind("have <pre/> or the like alone in its line", "4.6, condition 7", begins(rb"<(?i:pre|script|style|textarea)/>")),
+    "name": Kind("have <search> or <source>", "4.6, condition 6", begins(rb"</?(?i:search|source)(?=[\s/>]|$)")),
+    "heading": Kind("have # before a form feed or vertical tab", "4.2", begins(rb"#{1,6}[\v\f]")),
+    "info": Kind("have a form feed or vertical tab at an end of an info string", "4.5", begins(INFO)),
+    "escape": Kind("have an escaped & in an info string", "2.4", begins(rb"(?:~{3,}|`{3,})[^\r\n]*\\&")),
+    "marker": Kind("have a list marker before a form feed or vertical tab", "5.2", begins_an_item),
+    "underline": Kind("have an underline before a form feed or vertical tab", "4.3", begins(rb"(?:=+|-+)[ \t]*[\v\f]")),
+    "blank": Kind("have a line of form feeds or vertical tabs", "2.1", begins(rb"[ \t]*[\v\f][ \t\v\f]*(?:[\r\n]|$)")),
+    "begin": Kind("begin an item with blank lines", "5.2", begins_blank),
+    "cell": Kind("have a colon between a delimiter cell's hyphens", "GFM 4.10", in_a_table_page(OTHER_CELL)),
+    "pipe": Kind("have a row of one pipe", "GFM 4.10", in_a_table_page(rb"^(?:[ \t>]|[-+*]|[0-9]{1,9}[.)])*\|[ \t]*\r?$")),
+    "column": Kind("have a table of one column without a pipe", "GFM 4.10", has_a_column),
+    "space": Kind("have a form feed or vertical tab in a table's first rows", "GFM 4.10", has_other_white_space),
+    "older": Kind("have a table, and a block of <textarea>", "4.6, condition 1", in_a_table_page(rb"<textarea")),
+    # Known before the blocks are compared: cmark-gfm writes no places of these lines.
+    "header": Kind("have lines of a paragraph before a table", "GFM 4.10", lambda page: False),
+}
+
+
+def kind_of(page):
+    """The way in which a page is known to differ, or None."""
+    return next((name for name, kind in KINDS.items() if kind.fits(page)), None)
