@@ -166,7 +166,7 @@ export class Reading {
         if (underline && this.#endParagraph(underline.level, line)) {
             return this.#block(line, `underline of ${lines}`, "scanSetextHeading", [], underline);
         }
-        // An underline of definitions alone is none: they are at their end, and the line begins what it begins by itself. (4.3, 4.7)
+        // After definitions alone there is nothing to underline: their paragraph is over, and the line begins a block of its own. (4.3, 4.7)
         const table = isOn && this.#paragraph ? this.#tableHead(line) : null;
         if (table) return table;
         if (this.page.interruptsParagraph(...given)) return this.#interrupts(line, depth, number, given);
