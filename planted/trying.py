@@ -15,12 +15,13 @@ from edits import copied, crate_of, edited
 # Tests of hostile texts that don't end in the minute that rt gives a build with checks: they say nothing here.
 SLOW = {"passes_over_hostile_texts_once", "passes_over_cut_texts_once"}
 
-# What may tell a wrong body of a crate, the quickest first: the stored run of a program, or the tests of a crate.
+# What may tell a wrong body of a crate, the quickest first: the stored run of a program, the tests of a crate, or its tests of
+# memory, of which each is refused its first request.
 TELLERS = {
     "markdown_values": ["tests cmark_vectors", "run cmark_replay", "tests cmark_vectors_programs"],
     "markdown_scanners_tree": ["run cmark_replay", "tests markdown_scanners_tree", "tests cmark_vectors"],
     "program_faults": ["tests cmark_scan", "tests cmark_vectors_programs"],
-    "cmark_scan": ["run cmark_scan", "tests cmark_scan"],
+    "cmark_scan": ["run cmark_scan", "tests cmark_scan", "refused cmark_scan"],
     "page_blocks": ["run cmark_blocks", "tests cmark_vectors_programs"],
 }
 
@@ -36,6 +37,14 @@ def stored_run(crate, room):
     return ["rt", "try", "--steps", "1", "--cases", str(cases)]
 
 
+def words_of(kind, crate, room):
+    """The words of a teller's command."""
+    if kind == "run":
+        return stored_run(crate, room)
+    tests = ["rt", "try", "--test", "--steps", "1"]
+    return [*tests, "--fail-alloc", "1", "--", "memory"] if kind == "refused" else tests
+
+
 def fails(said):
     """Whether a test that is not too slow did not pass, or None where none was run."""
     tests = re.findall(r"^test (\S+) \.\.\. (\w+)", said, flags=re.M)
@@ -47,9 +56,8 @@ def tells(teller, room):
     """Whether the tests or the stored run fail in the tree of the folder, or None where they were not built or none was run."""
     kind, name = teller.split()
     crate = room / "crates" / name
-    words = stored_run(crate, room) if kind == "run" else ["rt", "try", "--test", "--steps", "1"]
     how = {"stdin": subprocess.DEVNULL, "stdout": subprocess.PIPE, "stderr": subprocess.STDOUT, "errors": "replace"}
-    ran = subprocess.run(words, cwd=crate, **how)
+    ran = subprocess.run(words_of(kind, crate, room), cwd=crate, **how)
     if "run=none" in ran.stdout or "proved=no" not in ran.stdout:
         return None
     return ran.returncode != 0 if kind == "run" else fails(ran.stdout)

@@ -1,11 +1,12 @@
 //! What the program does with its words, its input and its output.
-ghost use Rattle.std.specs.Prelude.{◌≡◌, ◌≢◌, IfOk, IfSome, IfErr, IsSome, IsNone};
+ghost use Rattle.std.specs.Prelude.{◌≡◌, ◌≢◌, ◌⊎◌, IfOk, IfSome, IfErr, IsSome, IsNone};
 ghost use Rattle.std.specs.Io.KnownBytes.{IsAtEnd};
 ghost use Rattle.cmark_scan.specs.words.Words.{request_of};
 ghost use Rattle.cmark_scan.specs.words.Command.{texts, request_view};
 ghost use Rattle.cmark_scan.specs.printing.Printed.{IsOutcome, IsPrinted};
+ghost use Rattle.cmark_scan.specs.program.Complaints.{usage_line, not_text_line};
 ghost use Rattle.cmark_scan.specs.report.Report.{outcome_view, status_of};
-ghost use Rattle.program_faults.specs.Faults.{IsBeforeWriting, TellsFault};
+ghost use Rattle.program_faults.specs.Faults.{AppendsPrefix, IsBeforeWriting, TellsFault, fault_line};
 
 use crate::html::html_report;
 use crate::label::label_report;
@@ -49,6 +50,18 @@ pub fn run_program<R: Read, W: Write, V: Write>(
         output.new ≡ output.old }
     ensures no_memory { TellsFault Fault.Memory (V.contents faults.old) (V.contents faults.new) →
         output.new ≡ output.old }
+    // Before a write fault all of the input was read.
+    ensures unwritten { TellsFault Fault.Write (V.contents faults.old) (V.contents faults.new) →
+        IsAtEnd (R.remaining input.new) }
+
+    // What is written to the faults, as far as they take it.
+    ensures silent { result ≡ 0 → faults.new ≡ faults.old }
+    ensures not_text { result ≡ 1 → (faults.new ≡ faults.old)
+        ⊎ AppendsPrefix (V.contents faults.old) (V.contents faults.new) not_text_line }
+    ensures usage { result ≡ 2 →
+        AppendsPrefix (V.contents faults.old) (V.contents faults.new) usage_line }
+    ensures fault { result ≡ 3 → (fault : Fault)
+        × AppendsPrefix (V.contents faults.old) (V.contents faults.new) (fault_line fault) }
 {
     let Some(command) = parse_command(words) else {
         complain(faults, USAGE);

@@ -20,6 +20,11 @@ const LABELS: &[Row] = &[
         (LABEL, b"hello\r\nworld\r\n]"),
         (0, "bytes 15\nborrowed false\nlabel hello world\n"),
     ),
+    (
+        (LABEL, b"\xc2\xab\t\tBlurry Eyes\t\t\xc2\xbb]"),
+        (0, "bytes 20\nborrowed false\nlabel « Blurry Eyes »\n"),
+    ),
+    ((LABEL, b" ]"), (1, "none\n")),
     ((LABEL, b"a\n\nb]"), (1, "none\n")),
     ((LABEL, b""), (1, "none\n")),
 ];
@@ -30,6 +35,6 @@ fn prints_labels(rt: HostRuntime) {
 }
 
 #[test]
-fn tells_of_bytes_that_are_no_text(rt: HostRuntime) {
+fn reports_bytes_that_are_not_utf_8(rt: HostRuntime) {
     assert_not_text(&rt, rt.alloc(), LABEL, b"a]\xff");
 }

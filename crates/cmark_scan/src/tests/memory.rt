@@ -1,4 +1,5 @@
-//! Runs over arrays, which are refused memory in turn by `rt try --test --fail-alloc 1..`.
+//! Runs over arrays. `rt try --test --fail-alloc N -- memory` refuses each test its N-th request for
+//! memory.
 use super::{ArrayWriter, DONE, End, assert_same};
 use crate::program::run_program;
 use std::alloc::Global;
@@ -7,8 +8,8 @@ use std::process::Abort;
 // The words, the input, and what is printed.
 type Run = (&'static [&'static str], &'static [u8], &'static str);
 
-// Whether a run over arrays is done and prints what is printed, or is refused memory and prints
-// nothing: a third thing is neither.
+// Whether a run over arrays is done, and prints this. Else it is refused memory: it reports that,
+// and prints nothing.
 fn is_done(rt: &impl Abort, alloc: Global, (words, mut input, printed): Run) -> bool {
     let mut output = ArrayWriter::new();
     let mut faults = ArrayWriter::new();

@@ -10,6 +10,8 @@ const UNESCAPED: &[Done] = &[
     (b"&amp;lt;", "&lt;"),
     (b"&quot;&copy;&#65;\r\n", "\"&copy;A\n"),
     (b"\\\\|", "\\|"),
+    (b"a\r\nb", "a\nb"),
+    (b"&#0;&#x1F354;&#12345678;", "\u{fffd}🍔&#12345678;"),
 ];
 
 #[test]
@@ -18,6 +20,6 @@ fn prints_unescaped_texts(rt: HostRuntime) {
 }
 
 #[test]
-fn tells_of_input_that_is_no_text(rt: HostRuntime) {
+fn reports_a_byte_that_is_not_utf_8(rt: HostRuntime) {
     assert_not_text(&rt, rt.alloc(), UNESCAPE, b"\xff");
 }

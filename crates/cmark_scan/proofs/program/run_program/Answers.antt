@@ -1,6 +1,17 @@
 use Rattle.std.proofs.Common.{arith}
 use Rattle.program_faults.proofs.FaultLemmas.{nothing_told, told_first, before_writing}
+use Rattle.cmark_scan.proofs.program.WriteFaults.{no_write_fault}
 use Rattle.cmark_scan.proofs.program.run_program.Goals as goal
+
+pub returns-in_default-clause-unwritten : goal.returns-in_default-clause-unwritten
+returns-in_default-clause-unwritten g c = λ told.
+    let first = told_first (g.V.Write.contents c.args.faults.now) _ 117 119 _ _ c.complain.ensures told in
+    absurd (omega (arith, first))
+
+pub returns-in-Err-clause-unwritten : goal.returns-in-Err-clause-unwritten
+returns-in-Err-clause-unwritten g c = λ told.
+    absurd (no_write_fault (g.V.Write.contents c.args.faults.now) (g.V.Write.contents c.report_fault.new.faults)
+    c.in-Err.fault c.in-Err.ensures.fault c.report_fault.ensures.line told)
 
 pub returns-in-Ok-Done-clause-unread : goal.returns-in-Ok-Done-clause-unread
 returns-in-Ok-Done-clause-unread g c = λ told. absurd (nothing_told (g.V.Write.contents c.args.faults.now) 114 _ told)
