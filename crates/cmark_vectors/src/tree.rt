@@ -372,7 +372,7 @@ fn nodes_that_no_link_leads_to_are_not_told(rt: HostRuntime) {
     tell_what_is_linked(&rt, rt.alloc(), &mut new_tree(&rt, rt.alloc(), 5));
 }
 
-fn tell_past_the_last_root(rt: &impl Abort, alloc: Global, tree: &mut Tree<Piece>) {
+fn list_past_the_last_root(rt: &impl Abort, alloc: Global, tree: &mut Tree<Piece>) {
     made(rt, grow(tree, "A(B)C"));
     if let Some(c) = tree.cur() {
         assert_link(rt, tree.next_sibling(c), None);
@@ -383,11 +383,11 @@ fn tell_past_the_last_root(rt: &impl Abort, alloc: Global, tree: &mut Tree<Piece
 }
 
 #[test]
-fn nodes_are_told_without_a_focus(rt: HostRuntime) {
-    tell_past_the_last_root(&rt, rt.alloc(), &mut new_tree(&rt, rt.alloc(), 4));
+fn nodes_are_listed_without_a_focus(rt: HostRuntime) {
+    list_past_the_last_root(&rt, rt.alloc(), &mut new_tree(&rt, rt.alloc(), 4));
 }
 
-fn tell_made_nodes(rt: &impl Abort, alloc: Global, tree: &mut Tree<Piece>) {
+fn list_created_nodes(rt: &impl Abort, alloc: Global, tree: &mut Tree<Piece>) {
     made(rt, tree.create_node(named('A')));
     assert_link(rt, tree.cur(), None);
     assert_order(rt, alloc, tree, &[(1, 0)]);
@@ -396,8 +396,8 @@ fn tell_made_nodes(rt: &impl Abort, alloc: Global, tree: &mut Tree<Piece>) {
 }
 
 #[test]
-fn the_first_node_is_told_though_nothing_was_appended(rt: HostRuntime) {
-    tell_made_nodes(&rt, rt.alloc(), &mut new_tree(&rt, rt.alloc(), 2));
+fn the_first_node_is_listed_though_nothing_was_appended(rt: HostRuntime) {
+    list_created_nodes(&rt, rt.alloc(), &mut new_tree(&rt, rt.alloc(), 2));
 }
 
 fn count(alloc: Global, tree: &Tree<Piece>) -> Result<usize, AllocError> {

@@ -98,7 +98,7 @@ pub fn run_program<R: StepReader, W: Write, V: StepWriter>(
     ensures ended { (form : Form) → result ≡ 0 → request_of words.now ≡ Some (Page form) →
         HasEnded R.reads input.new }
 
-    // Where it is done, no fault is told; else one is, as far as the writer of faults takes it.
+    // At status 0 nothing is written to the faults; at 3 a fault's line is, as far as they take it.
     ensures done { result ≡ 0 → faults.new ≡ faults.old }
     ensures fault { result ≡ 3 → (fault : Fault)
         × IsGiven V.writes faults.old (fault_line fault) faults.new
