@@ -1,5 +1,6 @@
 -- A run on a line start call by call: the answers so far, and the run of the calls to come.
-use Rattle.std.proofs.Common.{ℕ, Bool, List, [], ◌∷◌, ◌++◌, ◌≡◌, ◌<◌, ◌≤◌, ◌+◌, ◌==◌, ◌∙◌, Option, Some, None, true, false, not, cond, refl, sym, ap, subst, append_assoc, length, drop, get_or, map, slice_set, take, arith}
+use Rattle.std.proofs.Common.{ℕ, Bool, List, [], ◌∷◌, ◌++◌, ◌≡◌, ◌<◌, ◌≤◌, ◌+◌, ◌==◌, ◌∙◌, Option, Some, None}
+use Rattle.std.proofs.Common.{true, false, not, cond, refl, sym, ap, subst, append_assoc, length, drop, get_or, map, slice_set, take, arith}
 use Rattle.std.proofs.Math.Seq.{take-append_seam}
 use Rattle.std.proofs.lemmas.List.{append-nil, drop_more, length-append, length-map, map-append, set_at, take-set-le}
 use Rattle.std.proofs.lemmas.List.Sums.{prefix_len_passes}

@@ -1,6 +1,7 @@
 -- What a label's handler skips is good where it is ASCII, as the markers of containers are; and what is asked of a
 -- handler.
-use Rattle.std.proofs.Common.{ℕ, zero, suc, ◌≡◌, ◌+◌, ◌-◌, ◌<◌, ◌≤◌, ◌==◌, ◌∙◌, Bool, true, false, ◌||◌, cond, List, [], ◌∷◌, length, take, drop, get_or, nat_lt, nat_eq, refl, sym, ap, subst, arith, Option, Some, None}
+use Rattle.std.proofs.Common.{ℕ, zero, suc, ◌≡◌, ◌+◌, ◌-◌, ◌<◌, ◌≤◌, ◌==◌, ◌∙◌, Bool, true, false, ◌||◌, cond, List}
+use Rattle.std.proofs.Common.{[], ◌∷◌, length, take, drop, get_or, nat_lt, nat_eq, refl, sym, ap, subst, arith, Option, Some, None}
 use Rattle.std.specs.List.{list_all, starts_with}
 use Rattle.std.specs.Fn.{FnReturnsAt, Shared}
 use Rattle.std.specs.Str.{IsUtf8, IsCharBoundary}

@@ -7,8 +7,8 @@ use Rattle.program_faults.proofs.FaultLemmas.{told_first}
 
 pub no_write_fault : (old new : Option (List ℕ)) (f : Fault) → IsBeforeWriting f
     → AppendsPrefix old new (fault_line f) → TellsFault fault.Write old new → ⊥
-no_write_fault old new fault.Read before line told =
-    let first : 114 ≡ 119 = told_first old new 114 119 _ _ line told in omega (arith, first)
-no_write_fault old new fault.Memory before line told =
-    let first : 111 ≡ 119 = told_first old new 111 119 _ _ line told in omega (arith, first)
-no_write_fault old new fault.Write before line told = before refl
+no_write_fault old new fault.Read before line reported =
+    let first : 114 ≡ 119 = told_first old new 114 119 _ _ line reported in omega (arith, first)
+no_write_fault old new fault.Memory before line reported =
+    let first : 111 ≡ 119 = told_first old new 111 119 _ _ line reported in omega (arith, first)
+no_write_fault old new fault.Write before line reported = before refl
