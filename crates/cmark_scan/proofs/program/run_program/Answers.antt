@@ -5,7 +5,7 @@ use Rattle.cmark_scan.proofs.program.run_program.Goals as goal
 
 pub returns-in_default-clause-unwritten : goal.returns-in_default-clause-unwritten
 returns-in_default-clause-unwritten g c = λ told.
-    let first = told_first (g.V.Write.contents c.args.faults.now) _ 117 119 _ _ c.complain.ensures told in
+    let first = told_first (g.V.Write.contents c.args.faults.now) _ 117 119 _ _ c.complain.ensures.prefix told in
     absurd (omega (arith, first))
 
 pub returns-in-Err-clause-unwritten : goal.returns-in-Err-clause-unwritten
