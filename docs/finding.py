@@ -54,8 +54,8 @@ def all_items():
 def edits():
     """Each wrong body: its file, and what it edits as pairs of a source file and the text there."""
     found = []
-    for path in [*sorted(TOP.glob("crates/*/must-fail/*.edit")), *sorted(TOP.glob("planted/*/*.edit"))]:
-        crate = path.parent.name if path.parent.parent.name == "planted" else path.parent.parent.name
+    for path in [*sorted(TOP.glob("crates/*/must-fail/*.edit")), *sorted(TOP.glob("tests/mutations/*/*.edit"))]:
+        crate = path.parent.name if path.parent.parent.name == "mutations" else path.parent.parent.name
         source, pairs = "", []
         for line in path.read_text().splitlines():
             if line.startswith("file:"):

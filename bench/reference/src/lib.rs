@@ -55,7 +55,7 @@ pub mod tree;
 pub use strings::{CowStr, InlineStr};
 mod loops;
 mod values;
-// what the scanners answer; `build` copies it from `diff/original`
+// what the scanners answer; `build` copies it from `tests/differential/original`
 mod answers;
 pub use answers::{Alignment, BlockQuoteKind, HeadingLevel, LinkType};
 

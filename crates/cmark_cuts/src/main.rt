@@ -1,5 +1,5 @@
 //! Cuts hostile texts near their ends, scans the parts, and prints what the answers add up to.
-//! `diff/cuts.py` counts the same without the library.
+//! `tests/differential/cuts.py` counts the same without the library.
 #![tactic(auto)]
 
 mod html;

@@ -1,4 +1,4 @@
-//! Starts of blocks, by one scanner each. As `diff/worked` writes them.
+//! Starts of blocks, by one scanner each. As `tests/differential/worked` writes them.
 pub(crate) const ROWS: &str = "\
 bqstart\t3e09\t=>\t1
 bqstart\t3e20\t=>\t2

@@ -1,4 +1,5 @@
-//! References, escapes, destinations, titles and autolinks. As `diff/worked` writes them.
+//! References, escapes, destinations, titles and autolinks. As `tests/differential/worked` writes
+//! them.
 pub(crate) const ROWS: &str = "\
 entity\t2623303b\t=>\t4 efbfbd
 entity\t26237831463335343b\t=>\t9 f09f8d94

@@ -1,4 +1,4 @@
-//! Labels of links and footnotes, up to their bracket. As `diff/worked` writes them.
+//! Labels of links and footnotes, up to their bracket. As `tests/differential/worked` writes them.
 pub(crate) const ROWS: &str = "\
 label\tc2ab0909426c7572727920457965730909c2bb5d\tzero\t0\t=>\t20 false c2ab20426c75727279204579657320c2bb
 label\t615c205d\tzero\t0\t=>\t4 true 615c

@@ -1,5 +1,5 @@
 //! Calls on the start of a line, one after the other: each call's answer, and the bytes scanned and
-//! the columns of a tab that are left after it. As `diff/worked` writes them.
+//! the columns of a tab that are left after it. As `tests/differential/worked` writes them.
 pub(crate) const ROWS: &str = "\
 line\t20202078\tupto:2,space:1,eol\t=>\t2 @2+0 true @3+0 false @3+0
 line\t78\tspace:1\t=>\tfalse @0+0

@@ -1,4 +1,4 @@
-//! Lines, runs of bytes and indents. As `diff/worked` writes them.
+//! Lines, runs of bytes and indents. As `tests/differential/worked` writes them.
 pub(crate) const ROWS: &str = "\
 eol\t-\t=>\t0
 eol\t0a\t=>\t1

@@ -1,4 +1,5 @@
-//! HTML tags, over lines too, and where HTML blocks begin and end. As `diff/worked` writes them.
+//! HTML tags, over lines too, and where HTML blocks begin and end. As `tests/differential/worked`
+//! writes them.
 pub(crate) const ROWS: &str = "\
 type6\t616464726573733e\t=>\ttrue
 type6\t61727469636c653e\t=>\ttrue

@@ -1,0 +1,46 @@
+# What the scripts of this folder share: where things stand, and how they end. Each works at the top of the tree.
+cd "$(dirname "${BASH_SOURCE[0]}")/../.."
+top=$PWD
+version=$(cat VERSION)
+header=packages/c/include/markdown_scanners.h
+crate=crates/markdown_scanners_c
+made=$crate/out/libmarkdown_scanners_c.a # as rt makes it, of the crate alone
+proof=$crate/out/proof.txt               # what rt said when it made that, behind its checksum
+archive=out/libmarkdown_scanners.a
+shared_name=libmarkdown_scanners.so.${version%%.*}
+shared=out/$shared_name
+script=$(basename "$0")
+room=$(mktemp -d)
+trap 'rm -rf "$room"' EXIT
+
+stop() {
+    echo "packages/c/$script: $*" >&2
+    exit 1
+}
+
+# need TOOL..: each of them is there.
+need() {
+    local tool
+    for tool in "$@"; do
+        command -v "$tool" >/dev/null || stop "there is no $tool (Debian: apt-get install gcc g++ binutils pkg-config python3)"
+    done
+}
+
+# is_old FILE: something that it is made of is newer, or it is not there.
+is_old() {
+    local of=(crates.txt crates/markdown_values crates/markdown_scanners_tree crates/html_entities "$crate")
+    [ ! -f "$1" ] || [ -n "$(find "${of[@]}" -name out -prune -o \( -name '*.rt' -o -name '*.antt' -o -name '*.txt' \) -newer "$1" -print -quit)" ]
+}
+
+# prove: the crate, which makes its archive and says how; on as many processors as JOBS says, or as rt chooses.
+prove() {
+    need rt
+    echo "proving and building markdown_scanners_c"
+    (cd "$crate" && rt lib ${JOBS:+--jobs "$JOBS"} >"$room/said" 2>&1) || { cat "$room/said" >&2; stop "the crate was not built"; }
+    { sha256sum <"$made" && rt version && tail -n 30 "$room/said"; } >"$proof"
+}
+
+# is_recorded: what rt said is of the archive that is there.
+is_recorded() {
+    [ -f "$proof" ] && [ "$(head -n 1 "$proof")" = "$(sha256sum <"$made")" ]
+}

@@ -1,0 +1,132 @@
+#!/usr/bin/env python3
+"""packages/javascript/module.py TREE MODULE: compiles the crate markdown_scanners_c of the tree, which is proved, as a
+WebAssembly module.
+
+The kit compiles for WebAssembly what calls no C. The three functions of the heap, by which the crate asks for memory, are C's,
+and here the host's. So the kit makes its LLVM code for the plainest x86-64, which has the sizes and the layouts of wasm64, and
+hands it to a clang that keeps it; and the kit's own clang and linker make the module of it. The functions of the header are its
+exports, and a section tells the version."""
+import os
+import re
+import shutil
+import subprocess
+import sys
+import tempfile
+from importlib.machinery import SourceFileLoader
+from importlib.util import module_from_spec, spec_from_loader
+from pathlib import Path
+
+sys.dont_write_bytecode = True
+TOP = Path(__file__).resolve().parents[2]
+CRATE = "markdown_scanners_c"
+LAYOUT = "e-m:e-p:64:64-p10:8:8-p20:8:8-i64:64-i128:128-n32:64-S128-ni:1:10:20"
+TARGET = "wasm64-unknown-unknown"
+# What engines have that have 64-bit memories.
+FEATURES = ["-msimd128", "-mbulk-memory", "-msign-ext"]
+KEEPS = """#!/bin/sh
+for it in "$@"; do case "$it" in *.bc) cp "$it" "{kept}" ;; esac; done
+exec "{clang}" "$@"
+"""
+
+
+def stop(why):
+    sys.exit(f"packages/javascript/module.py: {why}")
+
+
+def loaded(name, path):
+    """A program of Python as a module."""
+    loader = SourceFileLoader(name, str(path))
+    made = module_from_spec(spec_from_loader(name, loader))
+    sys.modules[name] = made
+    loader.exec_module(made)
+    return made
+
+
+def run(*words):
+    done = subprocess.run([str(it) for it in words], stdout=subprocess.PIPE, stderr=subprocess.STDOUT, text=True)
+    if done.returncode:
+        stop(f"{words[0]} fails:\n{done.stdout}")
+    return done.stdout
+
+
+def keeping(toolchain, room):
+    """A toolchain whose clang keeps the code that it is given, and where it keeps it."""
+    other, kept = room / "toolchain", room / "module.bc"
+    (other / "bin").mkdir(parents=True)
+    for it in [it for it in toolchain.iterdir() if it.name != "bin"] + list((toolchain / "bin").iterdir()):
+        (other / it.relative_to(toolchain)).symlink_to(it)
+    (other / "bin/clang").unlink()
+    (other / "bin/clang").write_text(KEEPS.format(kept=kept, clang=toolchain / "bin/clang"))
+    (other / "bin/clang").chmod(0o755)
+    return other, kept
+
+
+def lowered(tree, room):
+    """The crate as LLVM code."""
+    rt = loaded("rtlib", Path(shutil.which("rt")).resolve().with_name("rtlib.py"))
+    toolchain = Path(rt.KIT) / "toolchain"
+    other, kept = keeping(toolchain, room)
+    os.chdir(tree)
+    crate = next(it for it in rt.crates_below(os.getcwd()) if it.name == CRATE)
+    os.chdir(crate.folder)
+    run(rt.RATTLE, "build", *crate.words(["--cpu=x86-64"]), "--toolchain", other, "--backend", "llvm", *rt.KEPT, "-o", room / "archive.a")
+    if not kept.is_file():
+        stop("the kit has given its clang no LLVM code")
+    return kept, toolchain
+
+
+def retargeted(code):
+    """The text of LLVM code, for wasm64. Of x86-64 it may have nothing but the names of the processor and its stack probes."""
+    code, layouts = re.subn(r"^target datalayout = .*$", f'target datalayout = "{LAYOUT}"', code, flags=re.M)
+    code, triples = re.subn(r"^target triple = .*$", f'target triple = "{TARGET}"', code, flags=re.M)
+    code = re.sub(r' "(?:probe-stack|stack-probe-size|target-cpu)"="[^"]*"', "", code)
+    if (layouts, triples) != (1, 1) or re.search(r"@llvm\.x86\.|\basm\b|x86_fp80", code):
+        stop("the LLVM code is for x86-64 alone")
+    return code
+
+
+def functions():
+    header = loaded("bindings", TOP / "packages/c/bindings").Header((TOP / "packages/c/include/markdown_scanners.h").read_text())
+    return header.functions
+
+
+def leb(number):
+    """A number as WebAssembly writes it."""
+    made = bytearray()
+    while number > 127:
+        made.append(number & 127 | 128)
+        number >>= 7
+    return bytes([*made, number])
+
+
+def version_section():
+    name, version = b"markdown_scanners", (TOP / "VERSION").read_text().strip().encode()
+    body = leb(len(name)) + name + version
+    return b"\0" + leb(len(body)) + body
+
+
+def linked(code, toolchain, room):
+    """The module's bytes."""
+    text, made, module = room / "module.ll", room / "module.o", room / "module.wasm"
+    clang = toolchain / "bin/clang"
+    run(clang, "-S", "-emit-llvm", "-Xclang", "-disable-llvm-passes", "-x", "ir", code, "-o", text)
+    text.write_text(retargeted(text.read_text()))
+    run(clang, f"--target={TARGET}", "-Werror", *FEATURES, "-O3", "-ffunction-sections", "-fdata-sections", "-x", "ir", text, "-c", "-o", made)
+    (room / "imports").write_text("rattle_alloc\nrattle_realloc\nrattle_dealloc\n")
+    words = ["-flavor", "wasm", "-mwasm64", "--no-entry", "--stack-first", "--gc-sections", "--strip-all", "--fatal-warnings"]
+    words += [f"--allow-undefined-file={room / 'imports'}", *[f"--export={it}" for it in ("__heap_base", *functions())]]
+    run(toolchain / "bin/ld.lld", *words, made, "-o", module)
+    return module.read_bytes()
+
+
+def main(words):
+    if len(words) != 2:
+        sys.exit(__doc__)
+    with tempfile.TemporaryDirectory() as room:
+        code, toolchain = lowered(words[0], Path(room))
+        made = linked(code, toolchain, Path(room)) + version_section()
+    Path(words[1]).write_bytes(made)
+
+
+if __name__ == "__main__":
+    main([str(Path(it).resolve()) for it in sys.argv[1:]])

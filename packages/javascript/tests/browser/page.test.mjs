@@ -1,0 +1,407 @@
+/**
+ * The page in a headless Chromium: what is drawn of a text that is typed, and what the C functions answer of it; the keys, both
+ * colour schemes, 400 pixels, 1 MB, and bad input. packages/javascript/totals has how many answers are compared. With
+ * SCREENSHOT set it is written there.
+ */
+import assert from "node:assert/strict";
+import { execFileSync } from "node:child_process";
+import { mkdtempSync, readFileSync, rmSync, writeFileSync } from "node:fs";
+import { tmpdir } from "node:os";
+import { join } from "node:path";
+import { after, before, test } from "node:test";
+import { fileURLToPath } from "node:url";
+import { VERSION } from "../../lib/c.mjs";
+import { examples, filesOfDisk, madePages } from "../pages.mjs";
+import { hold } from "../totals.mjs";
+import { TOP } from "../tree.mjs";
+import { Browser, serve } from "./chromium.mjs";
+import { MADE, TYPED } from "./typed.mjs";
+
+const WEB = fileURLToPath(new URL("../..", import.meta.url));
+const NATIVE = fileURLToPath(new URL("native.py", import.meta.url));
+const OUTLINE = fileURLToPath(new URL("packages/c/examples/outline.py", TOP));
+const LIBRARY = fileURLToPath(new URL("out/libmarkdown_scanners.so.0", TOP));
+const DESK = { width: 1280, height: 820 };
+
+const room = mkdtempSync(join(tmpdir(), "page-"));
+let served, browser, faults;
+
+before(async () => {
+    served = await serve(WEB);
+    browser = new Browser();
+    browser.on("Runtime.exceptionThrown", (it) => faults.push(it.exceptionDetails.exception?.description));
+});
+
+after(async () => {
+    await browser.close();
+    served.close();
+    rmSync(room, { recursive: true });
+});
+
+/** Waits until the page says of itself that it is so. */
+async function settled(name) {
+    for (let tries = 0; tries < 4000; tries++) {
+        if ((await browser.ask(() => document.body.dataset.state)) === name) return;
+        await new Promise((resolve) => setTimeout(resolve, 50));
+    }
+    throw new Error(`the page is not ${name}: ${await told()}`);
+}
+
+const told = () => browser.ask(() => document.getElementById("told").textContent);
+
+async function open(size = DESK, url = served.url) {
+    faults = [];
+    await browser.open(url, size);
+}
+
+/** Types a text in place of what stands there. */
+async function type(text) {
+    await browser.ask(() => {
+        const it = document.getElementById("text");
+        it.focus();
+        it.select();
+    });
+    await browser.send("Input.insertText", { text });
+    await settled("drawn");
+}
+
+/** Puts a text there that is too long to be typed, or that can't be. */
+async function fill(text) {
+    await browser.ask((it) => {
+        const area = document.getElementById("text");
+        area.value = it;
+        area.dispatchEvent(new Event("input"));
+    }, text);
+}
+
+async function choose(name) {
+    await browser.ask((it) => document.getElementById(`tab-${it}`).click(), name);
+    await settled("drawn");
+}
+
+/** In the page: what is drawn of the lines that are in sight, each answer as it is told when it is clicked. */
+function drawnRows() {
+    const words = (it) => document.getElementById(it).textContent;
+    const answer = (it) => {
+        it.click();
+        const [, call, given] = /^(\w+)\((.*)\)$/.exec(words("call"));
+        const [from, to] = words("bytes").match(/\d+/g).map(Number);
+        return { name: it.textContent, call, given: JSON.parse(`[${given}]`), answer: JSON.parse(words("found")), from, to };
+    };
+    return [...document.querySelectorAll(".row")].map((row) => ({
+        number: Number(row.dataset.line),
+        block: answer(row.querySelector(".block")),
+        taken: [...row.querySelectorAll("button.strip")].map(answer),
+        text: row.querySelector(".strips").textContent,
+    }));
+}
+
+/** In the page: what is drawn of a list, each answer as it is told. */
+function drawnEntries() {
+    const words = (it) => document.getElementById(it)?.textContent ?? null;
+    return [...document.querySelectorAll("#view button")].map((it) => {
+        it.click();
+        const [, call, given] = /^(\w+)\((.*)\)$/.exec(words("call"));
+        const [from, to] = words("bytes").match(/\d+/g).map(Number);
+        const parts = [".number", ".what"].map((part) => it.querySelector(part)?.textContent ?? it.textContent);
+        const marked = [...document.querySelectorAll("#marks mark")].map((mark) => mark.textContent).join("\n");
+        return { parts, call, given: JSON.parse(`[${given}]`), answer: JSON.parse(words("found")), of: words("of"), from, to, marked };
+    });
+}
+
+/** In the page: scrolls the list to a line, and waits until that is drawn. */
+async function scrollTo(line) {
+    const view = document.getElementById("view");
+    view.scrollTop = (line - 1) * document.querySelector(".row").offsetHeight;
+    while (!view.querySelector(`[data-line="${line}"]`)) await new Promise((resolve) => setTimeout(resolve, 10));
+}
+
+/** All lines, as the list is scrolled through. */
+async function allRows(count) {
+    const rows = new Map();
+    for (let line = 1; line <= count; line++) {
+        if (rows.has(line)) continue;
+        await browser.ask(scrollTo, line);
+        for (const row of await browser.ask(drawnRows)) rows.set(row.number, row);
+    }
+    return [...rows.values()].sort((one, other) => one.number - other.number);
+}
+
+/** What the C functions answer of these calls. */
+function native(text, calls) {
+    const input = [text, ...calls].map((it) => JSON.stringify(it)).join("\n");
+    const said = execFileSync("python3", [NATIVE], { input, encoding: "utf8", env: { ...process.env, MARKDOWN_SCANNERS_LIBRARY: LIBRARY } });
+    return said.trim().split("\n").map((it) => JSON.parse(it));
+}
+
+/** Compares what is drawn of a text with what C answers, and says how many answers these are. */
+function compare(text, drawn, calls) {
+    const found = native(text, calls);
+    assert.equal(found.length, drawn.length);
+    drawn.forEach((it, index) => assert.deepEqual(it, found[index], JSON.stringify(calls[index])));
+    return drawn.length;
+}
+
+/** The places of the lines, in bytes, each with its ending. */
+function linesOf(text) {
+    const bytes = Buffer.from(text);
+    const lines = [];
+    for (let at = 0; at < bytes.length; at = lines.at(-1).end) lines.push({ at, end: (bytes.indexOf("\n", at) + 1 || bytes.length) });
+    return lines;
+}
+
+/** Types a text, compares what is drawn of its lines, and says how many answers these are. */
+async function typeAndCompare(text) {
+    await type(text);
+    const lines = linesOf(text);
+    assert.match(await told(), new RegExp(`^${lines.length} lines, ${Buffer.byteLength(text)} bytes`));
+    const rows = await allRows(lines.length);
+    const taken = rows.map((it) => it.taken.map(({ answer, from, to }) => ({ answer, from, to })));
+    compare(text, taken, rows.map((it, index) => ({ ...lines[index], taken: it.taken.map(({ call, given }) => ({ call, given })) })));
+    const blocks = rows.map((it) => it.block).filter((it) => it.call !== "upto" && it.call !== "unescape");
+    compare(text, blocks.map((it) => it.answer), blocks.map((it) => ({ call: it.call, given: it.given, at: it.from, end: it.to })));
+    return taken.flat().length + blocks.length;
+}
+
+test("each line that is drawn is what the C functions answer", async () => {
+    await open();
+    await settled("drawn");
+    hold("drawn_made", await typeAndCompare(MADE));
+    hold("drawn_lines", await typeAndCompare(TYPED));
+    assert.deepEqual(faults, []);
+});
+
+test("columns are drawn to their tab stops", async () => {
+    const rows = await allRows(linesOf(TYPED).length);
+    const at = TYPED.slice(0, TYPED.indexOf(">\t\tfoo")).split("\n").length - 1;
+    const drawn = (index) => rows[at + index].taken.map((it) => it.name);
+    assert.deepEqual([drawn(0), rows[at].text], [[">→", "··→·"], ">→··→···foo"]);
+    assert.deepEqual([drawn(1), rows[at + 1].text], [[">→", "··", "-·"], ">→··-·a tab behind a quote"]);
+});
+
+test("headings, definitions and references are those of the outline in C", async () => {
+    writeFileSync(join(room, "typed.md"), TYPED);
+    const said = outline(join(room, "typed.md"));
+    await choose("outline");
+    const headings = (await browser.ask(drawnEntries)).map((it) => `${it.parts[0]}: ${"#".repeat(it.answer)} ${it.parts[1]}`);
+    assert.deepEqual(headings, said.filter((it) => /^\d+: #/.test(it)));
+    await choose("labels");
+    const labels = await browser.ask(drawnEntries);
+    const definitions = labels.filter((it) => it.parts[0] === "definition").map((it) => it.parts[1].replace(" → ", ": "));
+    assert.deepEqual(definitions, said.filter((it) => /^\d+: \[.*\]: /.test(it)).map((it) => it.replace(/^\d+: /, "")));
+    const missing = labels.filter((it) => it.parts[0] === "reference" && it.parts[1].endsWith("leads nowhere"));
+    const wanted = said.filter((it) => it.endsWith("has no definition")).map((it) => /\[.*\]/.exec(it)[0]);
+    assert.deepEqual(missing.map((it) => /\[.*\]/.exec(it.parts[1])[0]), wanted);
+    hold("drawn_outline", headings.length + definitions.length + missing.length);
+});
+
+/** The lines of the outline, whose status is 1 where a label has no definition. */
+function outline(file) {
+    try {
+        return execFileSync("python3", [OUTLINE, file], { encoding: "utf8" }).trim().split("\n");
+    } catch (why) {
+        if (why.status !== 1) throw why;
+        return why.stdout.trim().split("\n");
+    }
+}
+
+test("labels, links, HTML and cells are what the C functions answer", async () => {
+    let tried = 0;
+    for (const name of ["labels", "html", "tables"]) {
+        await choose(name);
+        const entries = await browser.ask(drawnEntries);
+        const calls = entries.map(({ call, given, of, from, to }) => (of === null ? { call, given, at: from, end: to } : { call, given, of }));
+        tried += compare(TYPED, entries.map((it) => it.answer), calls);
+        const bytes = Buffer.from(TYPED);
+        assert.deepEqual(entries.map((it) => it.marked), entries.map((it) => bytes.subarray(it.from, it.to).toString().replace(/\n$/, "")));
+    }
+    hold("drawn_inline", tried);
+    await choose("html");
+    const [scans, passed, , , bound] = (await browser.ask(() => document.querySelector(".note").textContent)).match(/\d+/g).map(Number);
+    assert.ok(scans > 100 && passed > 0 && passed <= bound, `${passed} of ${bound}`);
+});
+
+test("a click marks the bytes, and names a section and a contract", async () => {
+    await choose("labels");
+    await browser.ask(() => document.querySelector("#view button").click());
+    const marked = await browser.ask(() => [...document.querySelectorAll("#marks mark")].map((it) => it.textContent).join("\n"));
+    assert.equal(marked, "[Two  words]");
+    const words = await browser.ask(() => document.getElementById("answer").textContent);
+    assert.match(words, /6\.3 Links.*mds_scan_link_label.*IsScannedLabel/);
+});
+
+test("keys go through tabs and answers", async () => {
+    await choose("lines");
+    await browser.ask(() => document.getElementById("tab-lines").focus());
+    await browser.key("Tab");
+    const focused = () => browser.ask(() => [document.activeElement.closest(".row")?.dataset.line, document.getElementById("call")?.textContent]);
+    const [first] = await focused();
+    await browser.key("ArrowDown");
+    const [second, call] = await focused();
+    assert.equal(Number(second), Number(first) + 1);
+    assert.ok(call.length > 0);
+    await browser.ask(() => document.getElementById("tab-lines").focus());
+    await browser.key("ArrowRight");
+    await settled("drawn");
+    assert.equal(await browser.ask(() => document.activeElement.id), "tab-outline");
+});
+
+test("nothing is wider than 400 pixels, in light and in dark", async () => {
+    for (const dark of [false, true]) {
+        await open({ width: 400, height: 800, dark });
+        await settled("drawn");
+        assert.ok((await browser.ask(() => document.documentElement.scrollWidth)) <= 400);
+        const style = await browser.ask(() => ["backgroundColor", "color"].map((it) => getComputedStyle(document.body)[it]));
+        const [paper, ink] = style.map((it) => Number(/\d+/.exec(it)[0]));
+        assert.ok(dark ? paper < 60 && ink > 180 : paper > 200 && ink < 80);
+    }
+});
+
+test("1 MB is read without a stall", async () => {
+    await open();
+    await settled("drawn");
+    const text = TYPED.slice(0, TYPED.indexOf("<!-- <!--")).repeat(600).slice(0, 1_000_000);
+    await browser.ask((it) => {
+        const area = document.getElementById("text");
+        area.value = it;
+        area.getBoundingClientRect();
+    }, text);
+    const most = await browser.ask(async () => {
+        await new Promise((resolve) => setTimeout(resolve, 500));
+        document.getElementById("text").dispatchEvent(new Event("input"));
+        let last = performance.now();
+        let most = 0;
+        while (document.body.dataset.state !== "drawn") {
+            await new Promise((resolve) => setTimeout(resolve));
+            most = Math.max(most, performance.now() - last);
+            last = performance.now();
+        }
+        return most;
+    });
+    console.log(`# 1 MB: ${await told()}; the page never waited longer than ${Math.round(most)} ms`);
+    assert.match(await told(), / 1\d{6} bytes/);
+    const [, , milliseconds] = (await told()).match(/\d+/g).map(Number);
+    assert.ok(most < milliseconds / 2, `the page waited ${most} ms`);
+    await overtaken(text, milliseconds);
+});
+
+/** A text that comes while a longer one is read is what is drawn, also when that one would have been read. */
+async function overtaken(text, milliseconds) {
+    await fill(text);
+    await new Promise((resolve) => setTimeout(resolve, 400));
+    await type("# new");
+    await new Promise((resolve) => setTimeout(resolve, milliseconds));
+    await browser.ask(() => document.getElementById("view").dispatchEvent(new Event("scroll")));
+    await new Promise((resolve) => setTimeout(resolve, 300));
+    assert.deepEqual((await browser.ask(drawnRows)).map((it) => it.text), ["# new"]);
+}
+
+test("bad input has a message, and the page goes on", async () => {
+    await open();
+    await settled("drawn");
+    await fill("a\ud800b");
+    await settled("refused");
+    assert.match(await told(), /^LoneSurrogate: .* at index 1/);
+    await type("# again");
+    assert.match(await told(), /^1 lines, 7 bytes/);
+    await choosing([0x61, 0xff]);
+    await settled("refused");
+    assert.match(await told(), /^NotUtf8: the file is not UTF-8/);
+    await choosing([...Buffer.from("## é")]);
+    await settled("drawn");
+    assert.match(await told(), /^1 lines, 5 bytes/);
+    await fill("\n".repeat(300_000));
+    await settled("refused");
+    assert.match(await told(), /^TooManyLines: /);
+    await type("# and again");
+    assert.match(await told(), /^1 lines, 11 bytes/);
+});
+
+/** Chooses a file of these bytes. */
+async function choosing(bytes) {
+    await browser.ask((it) => {
+        const files = new DataTransfer();
+        files.items.add(new File([new Uint8Array(it)], "chosen.md"));
+        const file = document.getElementById("file");
+        file.files = files.files;
+        document.body.dataset.state = "reading";
+        file.dispatchEvent(new Event("change"));
+    }, bytes);
+}
+
+test("10 MB are read, and another text behind them", async () => {
+    await open();
+    await settled("drawn");
+    await fill(`${"A line of [some] words, as <b>they</b> are. ".repeat(4)}\n\n`.repeat(57_000));
+    await settled("drawn");
+    assert.match(await told(), /^114000 lines, 10\d{6} bytes/);
+    await type("# again");
+    assert.match(await told(), /^1 lines, 7 bytes/);
+});
+
+test("a module that is missing or of another version has a message", async () => {
+    const module = readFileSync(join(WEB, "markdown_scanners.wasm"));
+    const other = Buffer.from(module);
+    other.write("9", other.length - VERSION.length);
+    for (const [bytes, message] of [[undefined, /^ModuleMissing: .*404/], [other, /^WrongVersion: .* 9\./], [Buffer.from("none"), /^BadModule: /]]) {
+        const changed = await serve(WEB, (path) => (path.endsWith(".wasm") ? bytes : null));
+        await open(DESK, changed.url);
+        await settled("refused");
+        assert.match(await told(), message);
+        changed.close();
+    }
+});
+
+test("a picture", async () => {
+    await open({ width: 1100, height: 720 });
+    await settled("drawn");
+    await browser.ask(() => document.querySelector(".strip.quote").click());
+    const picture = await browser.screenshot();
+    assert.ok(picture.length > 20_000 && picture.length < 200_000, `${picture.length} bytes`);
+    if (process.env.SCREENSHOT) writeFileSync(process.env.SCREENSHOT, picture);
+});
+
+test("a file with an underline of definitions alone is drawn", async () => {
+    await open();
+    await settled("drawn");
+    await type("[foo]: /url\n===\n[foo]\n");
+    const rows = await browser.ask(drawnRows);
+    assert.deepEqual(rows.map((it) => [it.text, it.block.name]), [["[foo]: /url", "paragraph"], ["===", "paragraph"], ["[foo]", "goes on"]]);
+    assert.deepEqual(faults, []);
+});
+
+/** In the page: reads texts as its worker does, and says how many. */
+async function readAll(texts) {
+    const { load } = await import("/markdown_scanners.mjs");
+    const { Reading } = await import("/page/reading.mjs");
+    const { readWhole } = await import("/tests/whole.mjs");
+    const scanners = await load();
+    return texts.map((it) => readWhole(Reading, scanners, it)).length;
+}
+
+/** These texts in parts of about a megabyte. */
+function* inParts(texts) {
+    let part = [];
+    let length = 0;
+    for (const text of texts) {
+        part.push(text);
+        length += text.length;
+        if (length < 1_000_000) continue;
+        yield part;
+        part = [];
+        length = 0;
+    }
+    if (part.length > 0) yield part;
+}
+
+test("pages of each kind, the specification's examples and the files of this disk are read", async () => {
+    const count = async (texts) => {
+        let tried = 0;
+        for (const part of inParts(texts)) tried += await browser.ask(readAll, part);
+        return tried;
+    };
+    hold("made_pages", await count(madePages()));
+    const written = examples();
+    if (written) hold("examples_of_spec", await count(written));
+    assert.ok((await count(filesOfDisk().filter((it) => it !== null))) > 0);
+});

@@ -1,0 +1,99 @@
+"""Builds the wheel and the source package, by Python's own library alone (3.11 or later). The wheel holds the shared library:
+the one that MARKDOWN_SCANNERS_LIBRARY names, else that of the tree, which packages/c/build makes, else the one that
+pkg-config knows."""
+import base64
+import hashlib
+import io
+import os
+import re
+import subprocess
+import tarfile
+import tomllib
+import zipfile
+from pathlib import Path
+
+HERE = Path(__file__).resolve().parent.parent
+TOP = HERE.parent.parent
+PACKAGE = "markdown_scanners"
+LIBRARY = "libmarkdown_scanners.so.0"
+LATEST = (1980, 1, 1, 0, 0, 0)  # of all files, so that the same files make the same wheel
+
+
+def project():
+    return tomllib.loads((HERE / "pyproject.toml").read_text())["project"]
+
+
+def named():
+    return f"{PACKAGE}-{project()['version']}"
+
+
+def licence():
+    return next(it for it in (HERE / "LICENSE", TOP / "LICENSE") if it.is_file()).read_text()
+
+
+def metadata():
+    about = project()
+    lines = ["Metadata-Version: 2.4", f"Name: {about['name']}", f"Version: {about['version']}", f"Summary: {about['description']}"]
+    lines += [f"Requires-Python: {about['requires-python']}", f"License-Expression: {about['license']}", "License-File: LICENSE"]
+    lines += [*[f"Classifier: {it}" for it in about["classifiers"]], "Description-Content-Type: text/markdown", ""]
+    return "\n".join([*lines, (HERE / about["readme"]).read_text()])
+
+
+def library():
+    """The bytes of the shared library."""
+    known = [os.environ.get("MARKDOWN_SCANNERS_LIBRARY", ""), TOP / "out" / LIBRARY]
+    try:
+        words = ["pkg-config", "--variable=libdir", PACKAGE]
+        known += [Path(subprocess.run(words, capture_output=True, text=True, check=True).stdout.strip()) / LIBRARY]
+    except (OSError, subprocess.CalledProcessError):
+        pass
+    found = [it for it in known[known[0] == "" :] if Path(it).is_file()]
+    if not found or (known[0] and found[0] != known[0]):
+        raise SystemExit(f"there is no {LIBRARY}: run packages/c/build, or name one in MARKDOWN_SCANNERS_LIBRARY")
+    return Path(found[0]).read_bytes()
+
+
+def tag(made):
+    """Of the system that the library asks for: the highest version of the C library that it names."""
+    versions = [int(it) for it in re.findall(rb"GLIBC_2\.(\d+)", made)]
+    return f"py3-none-manylinux_2_{max([17, *versions])}_x86_64"
+
+
+def sources():
+    return {f"{PACKAGE}/{it.name}": it.read_bytes() for it in sorted((HERE / PACKAGE).iterdir()) if it.suffix == ".py" or it.name == "py.typed"}
+
+
+def record(files, name):
+    """The rows of RECORD."""
+    sums = {path: base64.urlsafe_b64encode(hashlib.sha256(it).digest()).rstrip(b"=").decode() for path, it in files.items()}
+    return "".join(f"{path},sha256={sums[path]},{len(it)}\n" for path, it in files.items()) + f"{name},,\n"
+
+
+def build_wheel(wheel_directory, config_settings=None, metadata_directory=None):
+    made = library()
+    about = f"{named()}.dist-info"
+    wheel = f"Wheel-Version: 1.0\nGenerator: {__name__}\nRoot-Is-Purelib: false\nTag: {tag(made)}\n"
+    files = {**sources(), f"{PACKAGE}/{LIBRARY}": made, f"{about}/licenses/LICENSE": licence().encode()}
+    files |= {f"{about}/METADATA": metadata().encode(), f"{about}/WHEEL": wheel.encode()}
+    files[f"{about}/RECORD"] = record(files, f"{about}/RECORD").encode()
+    name = f"{named()}-{tag(made)}.whl"
+    with zipfile.ZipFile(Path(wheel_directory) / name, "w", zipfile.ZIP_DEFLATED) as out:
+        for path, it in files.items():
+            entry = zipfile.ZipInfo(path, LATEST)
+            entry.external_attr, entry.compress_type = 0o100644 << 16, zipfile.ZIP_DEFLATED
+            out.writestr(entry, it)
+    return name
+
+
+def build_sdist(sdist_directory, config_settings=None):
+    """Without the library, which whoever builds a wheel of it has to have."""
+    files = {**sources(), "PKG-INFO": metadata().encode(), "LICENSE": licence().encode()}
+    for path in ("pyproject.toml", "README.md", "backend/markdown_scanners_build.py"):
+        files[path] = (HERE / path).read_bytes()
+    name = f"{named()}.tar.gz"
+    with tarfile.open(Path(sdist_directory) / name, "w:gz", format=tarfile.PAX_FORMAT) as out:
+        for path, it in files.items():
+            entry = tarfile.TarInfo(f"{named()}/{path}")
+            entry.size = len(it)
+            out.addfile(entry, io.BytesIO(it))
+    return name

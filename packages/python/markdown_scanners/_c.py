@@ -1,0 +1,332 @@
+"""The structs, functions and numbers of markdown_scanners.h, as packages/c/bindings has written them."""
+from ctypes import POINTER, Structure, c_void_p, c_bool, c_size_t, c_uint32, c_uint64, c_uint8
+
+NONE = c_size_t(-1).value
+
+OK = 0
+NOTHING = 1
+NOT_UTF8 = 2
+PAST_END = 3
+BAD_SKIPS = 4
+TOO_LARGE = 5
+EMPTY = 6
+TOO_SHORT = 7
+NO_MEMORY = 8
+NO_OPENER = 9
+NOT_RISING = 10
+INSIDE_FIND = 11
+SPACE_PENDING = 12
+BAD_KIND = 13
+BAD_STATE = 14
+
+ALERT_NOTE = 1
+ALERT_TIP = 2
+ALERT_IMPORTANT = 3
+ALERT_WARNING = 4
+ALERT_CAUTION = 5
+
+SPACE = 0
+UPTO = 1
+EOL = 2
+QUOTE = 3
+LIST = 4
+DEFINITION = 5
+
+ALIGN_NONE = 0
+ALIGN_LEFT = 1
+ALIGN_CENTER = 2
+ALIGN_RIGHT = 3
+
+HTML_RAW_TEXT = 1
+HTML_COMMENT = 2
+HTML_PROCESSING = 3
+HTML_DECLARATION = 4
+HTML_CDATA = 5
+HTML_BLOCK_NAME = 6
+HTML_TAG_ALONE = 7
+
+
+class Text(Structure):
+    status: int
+    taken: int
+    length: int
+    _fields_ = [
+        ("status", c_uint32),
+        ("taken", c_size_t),
+        ("length", c_size_t),
+    ]
+
+
+class ListItem(Structure):
+    length: int
+    start: int
+    indent: int
+    delimiter: int
+    _fields_ = [
+        ("length", c_size_t),
+        ("start", c_size_t),
+        ("indent", c_size_t),
+        ("delimiter", c_uint8),
+    ]
+
+
+class Indent(Structure):
+    status: int
+    place: int
+    columns: int
+    _fields_ = [
+        ("status", c_uint32),
+        ("place", c_size_t),
+        ("columns", c_size_t),
+    ]
+
+
+class LineStart(Structure):
+    place: int
+    pending: int
+    phase: int
+    none_before: int
+    behind_break: int
+    _fields_ = [
+        ("place", c_size_t),
+        ("pending", c_size_t),
+        ("phase", c_size_t),
+        ("none_before", c_size_t),
+        ("behind_break", c_size_t),
+    ]
+
+
+class Columns(Structure):
+    status: int
+    columns: int
+    _fields_ = [
+        ("status", c_uint32),
+        ("columns", c_size_t),
+    ]
+
+
+class LineItem(Structure):
+    status: int
+    delimiter: int
+    start: int
+    indent: int
+    _fields_ = [
+        ("status", c_uint32),
+        ("delimiter", c_uint8),
+        ("start", c_uint64),
+        ("indent", c_size_t),
+    ]
+
+
+class Task(Structure):
+    status: int
+    checked: bool
+    _fields_ = [
+        ("status", c_uint32),
+        ("checked", c_bool),
+    ]
+
+
+class Alert(Structure):
+    status: int
+    kind: int
+    _fields_ = [
+        ("status", c_uint32),
+        ("kind", c_uint32),
+    ]
+
+
+class LineCall(Structure):
+    kind: int
+    number: int
+    _fields_ = [
+        ("kind", c_uint32),
+        ("number", c_size_t),
+    ]
+
+
+class LineAnswer(Structure):
+    found: bool
+    delimiter: int
+    start: int
+    number: int
+    _fields_ = [
+        ("found", c_bool),
+        ("delimiter", c_uint8),
+        ("start", c_uint64),
+        ("number", c_size_t),
+    ]
+
+
+class LineRun(Structure):
+    status: int
+    count: int
+    _fields_ = [
+        ("status", c_uint32),
+        ("count", c_size_t),
+    ]
+
+
+class Break(Structure):
+    length: int
+    none_before: int
+    _fields_ = [
+        ("length", c_size_t),
+        ("none_before", c_size_t),
+    ]
+
+
+class Underline(Structure):
+    length: int
+    level: int
+    _fields_ = [
+        ("length", c_size_t),
+        ("level", c_uint32),
+    ]
+
+
+class Fence(Structure):
+    length: int
+    byte: int
+    _fields_ = [
+        ("length", c_size_t),
+        ("byte", c_uint8),
+    ]
+
+
+class Part(Structure):
+    status: int
+    end: int
+    start: int
+    length: int
+    _fields_ = [
+        ("status", c_uint32),
+        ("end", c_size_t),
+        ("start", c_size_t),
+        ("length", c_size_t),
+    ]
+
+
+class Skip(Structure):
+    place: int
+    length: int
+    _fields_ = [
+        ("place", c_size_t),
+        ("length", c_size_t),
+    ]
+
+
+class Tag(Structure):
+    status: int
+    end: int
+    length: int
+    _fields_ = [
+        ("status", c_uint32),
+        ("end", c_size_t),
+        ("length", c_size_t),
+    ]
+
+
+class HtmlGuard(Structure):
+    comment: int
+    cdata: int
+    declaration: int
+    processing: int
+    _fields_ = [
+        ("comment", c_size_t),
+        ("cdata", c_size_t),
+        ("declaration", c_size_t),
+        ("processing", c_size_t),
+    ]
+
+
+class End(Structure):
+    status: int
+    end: int
+    passed: int
+    _fields_ = [
+        ("status", c_uint32),
+        ("end", c_size_t),
+        ("passed", c_size_t),
+    ]
+
+
+class HtmlRun(Structure):
+    status: int
+    count: int
+    _fields_ = [
+        ("status", c_uint32),
+        ("count", c_size_t),
+    ]
+
+
+class Label(Structure):
+    status: int
+    end: int
+    length: int
+    start: int
+    _fields_ = [
+        ("status", c_uint32),
+        ("end", c_size_t),
+        ("length", c_size_t),
+        ("start", c_size_t),
+    ]
+
+
+# What each function answers, and what it takes.
+FUNCTIONS = {
+    "is_whitespace": (c_bool, (c_uint8,)),
+    "is_whitespace_in_line": (c_bool, (c_uint8,)),
+    "is_punctuation": (c_bool, (c_uint8,)),
+    "is_utf8": (c_bool, (c_void_p, c_size_t)),
+    "scan_ch": (c_size_t, (c_void_p, c_size_t, c_uint8)),
+    "scan_ch_repeat": (c_size_t, (c_void_p, c_size_t, c_uint8)),
+    "scan_while": (c_size_t, (c_void_p, c_size_t, c_void_p, c_size_t)),
+    "scan_rev_while": (c_size_t, (c_void_p, c_size_t, c_void_p, c_size_t)),
+    "scan_whitespace_in_line": (c_size_t, (c_void_p, c_size_t)),
+    "scan_eol": (c_size_t, (c_void_p, c_size_t)),
+    "scan_line": (c_size_t, (c_void_p, c_size_t)),
+    "scan_nextline": (c_size_t, (c_void_p, c_size_t)),
+    "scan_blank_line": (c_size_t, (c_void_p, c_size_t)),
+    "scan_blockquote_start": (c_size_t, (c_void_p, c_size_t)),
+    "scan_listitem": (ListItem, (c_void_p, c_size_t)),
+    "calc_indent": (Indent, (c_void_p, c_size_t, c_size_t)),
+    "line_space": (c_uint32, (c_void_p, c_size_t, POINTER(LineStart), c_size_t)),
+    "line_upto": (Columns, (c_void_p, c_size_t, POINTER(LineStart), c_size_t)),
+    "line_all_space": (c_uint32, (c_void_p, c_size_t, POINTER(LineStart))),
+    "line_eol": (c_uint32, (c_void_p, c_size_t, POINTER(LineStart))),
+    "line_quote": (c_uint32, (c_void_p, c_size_t, POINTER(LineStart))),
+    "line_list": (LineItem, (c_void_p, c_size_t, POINTER(LineStart), c_size_t)),
+    "line_definition": (Columns, (c_void_p, c_size_t, POINTER(LineStart), c_size_t)),
+    "line_task": (Task, (c_void_p, c_size_t, POINTER(LineStart))),
+    "line_alert": (Alert, (c_void_p, c_size_t, POINTER(LineStart))),
+    "run_line": (LineRun, (c_void_p, c_size_t, POINTER(LineStart), POINTER(LineCall), c_size_t, POINTER(LineAnswer), c_size_t)),
+    "line_rest": (Text, (c_void_p, c_size_t, POINTER(LineStart), c_void_p, c_size_t)),
+    "scan_hrule": (Break, (c_void_p, c_size_t)),
+    "scan_atx_heading": (c_uint32, (c_void_p, c_size_t)),
+    "scan_setext_heading": (Underline, (c_void_p, c_size_t)),
+    "scan_code_fence": (Fence, (c_void_p, c_size_t)),
+    "scan_closing_code_fence": (c_size_t, (c_void_p, c_size_t, c_uint8, c_size_t)),
+    "scan_metadata_block": (Fence, (c_void_p, c_size_t, c_bool, c_bool)),
+    "scan_closing_metadata_block": (c_size_t, (c_void_p, c_size_t, c_uint8)),
+    "interrupts_paragraph": (c_bool, (c_void_p, c_size_t)),
+    "scan_table_head": (Text, (c_void_p, c_size_t, c_void_p, c_size_t)),
+    "scan_link_dest": (Part, (c_void_p, c_size_t, c_size_t, c_size_t)),
+    "scan_link_title": (Part, (c_void_p, c_size_t, c_size_t)),
+    "scan_autolink": (Part, (c_void_p, c_size_t, c_size_t)),
+    "scan_wikilink_pipe": (Part, (c_void_p, c_size_t, c_size_t, c_size_t)),
+    "check_skips": (c_uint32, (c_void_p, c_size_t, POINTER(Skip), c_size_t)),
+    "starts_html_block_type_6": (c_bool, (c_void_p, c_size_t)),
+    "scan_html_type_7": (c_size_t, (c_void_p, c_size_t)),
+    "scan_html_block_start": (c_uint32, (c_void_p, c_size_t)),
+    "ends_html_block": (c_uint32, (c_void_p, c_size_t, c_uint32)),
+    "scan_html_tag": (c_size_t, (c_void_p, c_size_t)),
+    "scan_html_tag_over_lines": (Tag, (c_void_p, c_size_t, c_size_t, POINTER(Skip), c_size_t, c_void_p, c_size_t)),
+    "scan_inline_html": (End, (c_void_p, c_size_t, c_size_t, POINTER(HtmlGuard))),
+    "run_inline_html": (HtmlRun, (c_void_p, c_size_t, POINTER(c_size_t), c_size_t, POINTER(c_size_t), c_size_t)),
+    "scan_entity": (Text, (c_void_p, c_size_t, c_void_p, c_size_t)),
+    "unescape": (Text, (c_void_p, c_size_t, c_bool, c_void_p, c_size_t)),
+    "scan_link_label": (Label, (c_void_p, c_size_t, c_size_t, c_bool, POINTER(Skip), c_size_t, c_void_p, c_size_t)),
+    "labels_match": (c_uint32, (c_void_p, c_size_t, c_void_p, c_size_t)),
+    "label_key": (Text, (c_void_p, c_size_t, c_void_p, c_size_t)),
+}

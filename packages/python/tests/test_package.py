@@ -1,0 +1,135 @@
+"""What no row of packages/c/tests says: bytes of each number, guards, what is refused before C is called, and that
+nothing lacks."""
+import doctest
+import html.entities
+import importlib
+import pkgutil
+import re
+import unittest
+from pathlib import Path
+
+import markdown_scanners as mds
+from markdown_scanners import _c, _library, errors
+from test_rows import totals
+
+FOLDER = Path(mds.__file__).parent
+PUNCTUATION = b"!\"#$%&'()*+,-./:;<=>?@[\\]^_`{|}~"
+
+
+class Bytes(unittest.TestCase):
+    def test_classes(self):
+        for it in range(256):
+            self.assertEqual(mds.is_whitespace(it), it in b" \t\n\v\f\r")
+            self.assertEqual(mds.is_whitespace_in_line(it), it in b" \t\v\f")
+            self.assertEqual(mds.is_punctuation(it), it in PUNCTUATION)
+
+    def test_no_bytes(self):
+        for it in (-1, 256, 2**64 + 32):
+            self.assertRaises(ValueError, mds.is_whitespace, it)
+            self.assertRaises(ValueError, mds.scan_ch, b" ", it)
+
+    def test_numbers(self):
+        for it in (-1, 2**64):
+            self.assertRaises(ValueError, mds.calc_indent, b" ", it)
+            self.assertRaises(ValueError, mds.LineStart(b" ").space, it)
+            self.assertRaises(ValueError, mds.HtmlScanGuard(b"<!").scan, it)
+            self.assertRaises(ValueError, mds.run_inline_html, b"<!", [it])
+            self.assertRaises(ValueError, mds.scan_link_dest, b"", 0, it)
+        self.assertRaises(TypeError, mds.calc_indent, b" ", 1.5)
+
+    def test_places(self):
+        for at, end in ((2, None), (-1, None), (0, 2), (1, 0), (0, -1)):
+            self.assertRaises(IndexError, mds.scan_line, b"a", at, end)
+            self.assertRaises(IndexError, mds.scan_link_dest, b"a", at, end=end)
+            self.assertRaises(IndexError, mds.LineStart, b"a", at, end)
+            self.assertRaises(IndexError, mds.unescape, b"a", at=at, end=end)
+        self.assertEqual(mds.scan_line(b"a", 1), 1)
+
+    def test_only_bytes(self):
+        for it in ("a", bytearray(b"a"), memoryview(b"a"), None):
+            self.assertRaises(TypeError, mds.scan_line, it)
+
+
+class Refusals(unittest.TestCase):
+    def test_statuses(self):
+        for status, kind in ((_c.NOT_UTF8, mds.NotUtf8), (_c.BAD_SKIPS, mds.BadSkips), (_c.NO_MEMORY, MemoryError)):
+            self.assertIs(type(errors.refusal(status)), kind)
+        self.assertIs(type(errors.refusal(999)), mds.Refusal)
+        self.assertRaises(mds.Refusal, _library.stated, 999)
+
+    def test_texts(self):
+        for call in (mds.unescape, mds.label_key, lambda it: mds.labels_match(it, b"")):
+            self.assertRaises(mds.NotUtf8, call, b"a]\xff")
+        self.assertRaises(mds.Empty, mds.scan_entity, b"")
+        self.assertRaises(mds.TooLarge, mds.calc_indent, b"", 2**64 - 1)
+
+    def test_skips(self):
+        page = b"> <a\n> b> c\n\xff> d"
+        for rows in ([(12, 1)], [(18, 0)], [(0, 2), (1, 1)], [(5, 2), (0, 2)], [(0, 2**64 - 1)]):
+            self.assertRaises(mds.BadSkips, mds.Skips, page, rows)
+        self.assertRaises(ValueError, mds.Skips, page, [(-1, 1)])
+        skips = mds.Skips(page, [(0, 2), (5, 2), (13, 0)])
+        self.assertEqual(mds.scan_html_tag_over_lines(page, skips, 2), mds.Tag(9, b"<a\nb>"))
+        self.assertEqual(mds.scan_html_tag_over_lines(page, skips, 2, 9), mds.Tag(9, b"<a\nb>"))
+        self.assertIsNone(mds.scan_html_tag_over_lines(page, skips, 2, 6))
+        self.assertRaises(ValueError, mds.scan_html_tag_over_lines, b"<a>", skips)
+
+    def test_runs(self):
+        with self.assertRaises(mds.NotRising) as why:
+            mds.run_inline_html(b"<!a>", [2, 2])
+        self.assertEqual(why.exception.run, (4,))
+        with self.assertRaises(mds.SpacePending) as why:
+            mds.run_line(start := mds.LineStart(b"\tx"), [(mds.CallKind.UPTO, 3), (mds.CallKind.EOL, 0)])
+        self.assertEqual((why.exception.run, start.place, mds.line_rest(start)), ((3,), 1, b" x"))
+        self.assertEqual(mds.run_line(start, [(mds.CallKind.UPTO, 3), (mds.CallKind.EOL, 0)]), (1, False))
+
+
+class Texts(unittest.TestCase):
+    def test_entities(self):
+        rows = [(name, text) for name, text in html.entities.html5.items() if name.endswith(";")]
+        self.assertEqual(len(rows), 2125)
+        for name, text in rows:
+            found = mds.scan_entity(f"a&{name}b".encode(), 1)
+            self.assertEqual(found, mds.Entity(len(name) + 2, text.encode()))
+            self.assertEqual(mds.unescape(f"&{name}".encode()), text.encode())
+
+    def test_guards(self):
+        data = b"<!-- a --> <!b> <![CDATA[c]]> <?d?> <!-- e"
+        guard = mds.HtmlScanGuard(data)
+        self.assertEqual([guard.scan(at) for at in (2, 13, 18, 32, 38)], [10, 15, 29, 35, None])
+        self.assertLessEqual(guard.passed, 4 * len(data) + 8 * 5)
+        many = mds.HtmlScanGuard(b"<!-- a\n" * 10000)
+        self.assertEqual([many.scan(at) for at in range(2, 70000, 7)], [None] * 10000)
+        self.assertLessEqual(many.passed, 4 * 70000 + 8 * 10000)
+
+    def test_long_label(self):
+        self.assertEqual(mds.scan_link_label(b"a" * 999 + b"]").end, 1000)
+        self.assertEqual(mds.scan_link_label("\U0001f354".encode() * 999 + b"]").text, "\U0001f354".encode() * 999)
+        self.assertIsNone(mds.scan_link_label(b"a" * 1000 + b"]"))
+
+
+class Package(unittest.TestCase):
+    def test_each_function_is_called(self):
+        text = "".join(it.read_text() for it in FOLDER.glob("*.py") if it.name != "_c.py")
+        self.assertEqual([it for it in _c.FUNCTIONS if not re.search(rf'"{it}"', text)], [])
+
+    def test_public_names(self):
+        modules = {it.name for it in pkgutil.iter_modules([str(FOLDER)])}
+        self.assertEqual(set(mds.__all__), {it for it in dir(mds) if not it.startswith("_")} - modules)
+        self.assertTrue((FOLDER / "py.typed").is_file())
+
+    def test_examples(self):
+        """Each call has an example, and they are so many."""
+        tried = 0
+        for name in [it.name for it in pkgutil.iter_modules([str(FOLDER)])]:
+            found = doctest.testmod(importlib.import_module(f"markdown_scanners.{name}"))
+            self.assertEqual(found.failed, 0)
+            tried += found.attempted
+        calls = [getattr(mds, it) for it in mds.__all__ if it[0].islower()]
+        calls += [it for kind in (mds.LineStart, mds.HtmlScanGuard) for name, it in vars(kind).items() if not name.startswith("_")]
+        self.assertEqual([it for it in calls if ">>>" not in (it.__doc__ or "") and callable(it)], [])
+        self.assertEqual(tried, totals()["examples"])
+
+
+if __name__ == "__main__":
+    unittest.main()

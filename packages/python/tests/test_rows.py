@@ -1,0 +1,256 @@
+"""The rows of packages/c/tests, which C checks of the functions, checked of the package's calls: the same answers, or more of
+None and exceptions. The file totals of this folder has how many there are of each file; fewer and more fail."""
+import itertools
+import unittest
+from collections import Counter
+from pathlib import Path
+
+import c_rows
+import markdown_scanners as mds
+from c_calls import BEFORE, BEHIND, CALLS, Data, check_skips, label, tag, told
+from c_rows import SIZE_MAX as NONE
+from c_rows import Call, Name
+from markdown_scanners import _c
+
+FILES = ["bytes.c", "line_starts.c", "rows.c", "runs.c", "skips.c"]
+# Of a macro that checks one call, which fields of the answer it names.
+FIELDS = {
+    "PART": ("end", "start", "length"), "NO_PART": ("status",), "FENCE": ("length", "byte"), "BREAK": ("length",),
+    "NO_BREAK": ("none_before",), "END": ("status", "end"), "NO_FENCE": (), "NO_ITEM": (),
+}
+# The calls that are methods of a line start.
+LINE_CALLS = {f"mds_line_{it}" for it in (
+    "space", "upto", "all_space", "eol", "quote", "list", "definition", "task", "alert")}
+NOTHING = {"NO_FENCE": {"length": NONE, "byte": 0}, "NO_ITEM": {"length": NONE, "start": 0, "indent": 0, "delimiter": 0}}
+
+
+def totals():
+    lines = (Path(__file__).parent / "totals").read_text().splitlines()
+    return {name: int(number) for name, number in (it.split() for it in lines if not it.startswith("#"))}
+
+
+class Lines:
+    """The line starts of C, made by the package; what their calls answer, in C's words."""
+
+    def __init__(self, data=b"", inside=False):
+        d = Data(data, inside)
+        self.start = mds.LineStart(d.data, d.at, d.end)
+
+    def on(self, data, inside):
+        """The same numbers on other bytes."""
+        other = Lines(data, inside)
+        other.start._numbers = self.start.copy()._numbers
+        return other
+
+    def call(self, name, given):
+        names = {"list": "list_item", "all_space": "all_space"}
+        name = name.removeprefix("mds_line_")
+        status, found = told(getattr(self.start, names.get(name, name)), *given)
+        ok = status == _c.OK
+        if name == "list":
+            return {"status": status, "delimiter": found.delimiter if ok else 0, "start": found.start if ok else 0,
+                    "indent": found.indent if ok else 0}
+        if name in ("upto", "definition"):
+            return {"status": status, "columns": found if ok else 0}
+        if name in ("task", "alert"):
+            return {"status": status, "checked": found if ok else False, "kind": found if ok else 0}
+        return _c.OK if name == "all_space" or found is True else _c.NOTHING if found is False else status
+
+
+class Rows(unittest.TestCase):
+    maxDiff = None
+
+    def setUp(self):
+        self.tried, self.variables = Counter(), {}
+
+    def found(self, call):
+        """What a call comes to, by itself and inside of other bytes."""
+        if call.name == "mds_labels_match":
+            return {True: _c.OK, False: _c.NOTHING}.get((it := told(mds.labels_match, *call.given))[1], it[0])
+        if call.name.startswith("mds_line_"):
+            return self.line_call(call)
+        one, other = (CALLS[call.name](Data(call.given[0], inside), *call.given[1:]) for inside in (False, True))
+        self.assertEqual(one, other, call.name)
+        return one
+
+    def line_call(self, call):
+        data, start = call.given[:2]
+        if not isinstance(data, Name):
+            self.variables["start"] = [it.on(data, inside) for inside, it in enumerate(self.variables["start"])]
+        one, other = (it.call(call.name, call.given[2:]) for it in self.variables["start"])
+        self.assertEqual(one, other, call.name)
+        return one
+
+    def same(self, row, found, wanted):
+        self.assertEqual(found, wanted, str(row))
+        self.tried[row.file] += 1
+
+    def value(self, it):
+        """What a call, a field of one or of a variable stands for, or None of what only C has."""
+        if isinstance(it, Call) and it.name == "check_skips":
+            return check_skips(*it.given)
+        if isinstance(it, Call) and self.is_known(it):
+            found = self.found(it)
+            return found[it.field] if it.field else found
+        if isinstance(it, Name) and it.field and isinstance(self.variables.get(it.name), dict):
+            return self.variables[it.name].get(it.field)
+        return None
+
+    def is_known(self, call):
+        """Whether the package has the call, and the bytes are not C's to compute."""
+        of_line = call.name in LINE_CALLS and isinstance(self.variables.get("start"), list)
+        return of_line or isinstance(call.given[0], bytes) and (call.name in CALLS or call.name == "mds_labels_match")
+
+    def let(self, row, name, value):
+        if isinstance(value, list):
+            self.variables[name] = value
+        elif value == 0:
+            self.variables[name] = [Lines(), Lines(b"", True)]
+        elif isinstance(value, Name) and isinstance(self.variables.get(value.name), list):
+            self.variables[name] = [it.on(it.start.data[it.start.begin : it.start.end], inside)
+                                    for inside, it in enumerate(self.variables[value.name])]
+        elif isinstance(value, Call) and value.name in CALLS and isinstance(value.given[0], bytes):
+            self.variables[name] = self.found(value)
+
+    def check_call(self, row, call, *wanted):
+        found, fields = self.found(call), FIELDS[row.macro]
+        for field, it in zip(fields, wanted):
+            self.assertEqual(found[field], it, f"{row}, {field}")
+        self.same(row, {it: found[it] for it in NOTHING.get(row.macro, {})}, NOTHING.get(row.macro, {}))
+
+    def check_text(self, row, found, status, taken, text):
+        self.same(row, (found["status"], found["taken"], found["text"]), (status, taken, text))
+
+    def check_over(self, row, data, *wanted):
+        """A tag or a label over lines; of those in a page the place stands before the table."""
+        start, wanted = (wanted[0], wanted[1:]) if row.macro.endswith("_AT") else (0, wanted)
+        table = self.variables.get(wanted[0].name, []) if isinstance(wanted[0], Name) else wanted[0]
+        call = tag if "TAG" in row.macro else lambda d, skips, at: label(d, skips, row.macro == "CELL", at)
+        one, other = (call(Data(data, inside), table, start) for inside in (False, True))
+        self.assertEqual(one, other, str(row))
+        if row.macro.startswith("NO_"):
+            return self.check_text(row, one, wanted[1] if len(wanted) > 1 else _c.NOTHING, 0, b"")
+        self.assertEqual(one.get("start"), wanted[3] if len(wanted) == 4 else None, str(row))
+        self.check_text(row, one, _c.OK, *wanted[1:3])
+
+    def check_wrong(self, row, *skips):
+        for data in (b"<foo\n> bar>", b"a b\nc d\ne]f", b"\n" * 10 + b"]", b"\xff" * 11):
+            self.assertEqual(check_skips(data, skips), _c.BAD_SKIPS, str(row))
+        self.same(row, True, True)
+
+    def check_front(self, row, data, *wanted):
+        """One call at the front of a line."""
+        kind = row.macro.removeprefix("FRONT_").removeprefix("NO_").lower()
+        self.variables["start"] = [Lines(data), Lines(data, True)]
+        calls = {"item": ("mds_line_list", [0]), "definition": ("mds_line_definition", [0]), "task": ("mds_line_task", []),
+                 "alert": ("mds_line_alert", [])}
+        found = self.line_call(Call(calls[kind][0], [Name("bytes"), Name("start"), *calls[kind][1]]))
+        fields = {"item": ("delimiter", "start", "indent"), "definition": ("status", "columns"), "task": ("status", "checked"),
+                  "alert": ("status", "kind")}[kind]
+        if row.macro == "FRONT_NO_ITEM":
+            return self.same(row, (found["status"], self.place()), (_c.NOTHING, 0))
+        place = wanted[len(fields)] if len(wanted) > len(fields) else None
+        self.same(row, ([found[it] for it in fields], self.place()), (list(wanted[: len(fields)]), place))
+
+    def place(self):
+        one, other = self.variables["start"]
+        self.assertEqual((one.start.place + len(BEFORE), one.start.pending), (other.start.place, other.start.pending))
+        return one.start.place
+
+    def check_line_run(self, row, data, calls, status, place, rest, answers):
+        if status == _c.BAD_KIND:
+            with self.assertRaises(ValueError):
+                mds.run_line(mds.LineStart(data), calls)
+            return self.same(row, True, True)
+        for inside, first in itertools.product((False, True), range(len(calls) + 1)):
+            d = Data(data, inside)
+            start = mds.LineStart(d.data, d.at, d.end)
+            found, run = told(mds.run_line, start, calls[:first])
+            if found == _c.OK:
+                found, more = told(mds.run_line, start, calls[first:])
+                run += getattr(more, "run", more)
+            run = getattr(run, "run", run)
+            self.assertEqual((found, start.place - d.at, mds.line_rest(start)), (status, place, rest), str(row))
+            self.assertEqual([self.answer(kind, it) for (kind, _), it in zip(calls, run)], answers, str(row))
+        self.same(row, len(run), len(answers))
+
+    def check_line_rest(self, row, data, place, pending, phase, rest):
+        for inside in (False, True):
+            lines = Lines(data, inside)
+            for name, it in (("place", place), ("pending", pending), ("phase", phase)):
+                setattr(lines.start._numbers, name, it)
+            self.assertEqual(mds.line_rest(lines.start), rest, str(row))
+        self.same(row, True, True)
+
+    @staticmethod
+    def answer(kind, it):
+        """An answer of a run as C has it."""
+        if kind == _c.LIST:
+            return (True, it.delimiter, it.start, it.indent) if it else (False, 0, 0, 0)
+        if kind in (_c.UPTO, _c.DEFINITION):
+            return (it is not None, 0, 0, it or 0)
+        return (it, 0, 0, 0)
+
+    def check_html_run(self, row, data, places, status, ends):
+        for bytes_given, end in ((data, None), (data + BEHIND, len(data))):
+            found, run = told(mds.run_inline_html, bytes_given, places, end=end)
+            run = getattr(run, "run", run)
+            self.assertEqual((found, [NONE if it is None else it for it in run]), (status, ends), str(row))
+        self.same(row, True, True)
+
+    def check_start(self, row, *given):
+        """What stands behind calls of a line start."""
+        if row.macro == "AT":
+            start = self.variables["start"][0].start
+            return self.same(row, (self.place(), start.pending), given[:2])
+        found = self.found(given[0])
+        fields = {"ITEM": ("delimiter", "start", "indent"), "COLUMNS": ("status", "columns"), "NO_ITEM": ("status",)}[row.macro]
+        self.same(row, [found[it] for it in fields], list(given[1:]))
+
+    def check(self, row):
+        macro, given = row.macro, row.given
+        if macro == "let":
+            self.let(row, *given)
+        elif macro == "FRONT_OF":
+            self.variables["start"] = [Lines(given[0]), Lines(given[0], True)]
+        elif macro == "SAME":
+            found = self.value(given[0])
+            if found is not None and not isinstance(given[1], (Call, Name)) and not isinstance(found, dict):
+                self.same(row, found, given[1])
+        elif macro in ("AT", "ITEM", "COLUMNS") or macro == "NO_ITEM" and len(given) == 2:
+            self.check_start(row, *given)
+        elif macro in FIELDS:
+            self.check_call(row, *given)
+        elif macro in ("URI", "NO_URI", "TITLE", "NO_TITLE"):
+            name, at = ("mds_scan_autolink", 1) if macro.endswith("URI") else ("mds_scan_link_title", 0)
+            found = self.found(Call(name, [given[0], at]))
+            wanted = (_c.NOTHING, 0, 0) if macro.startswith("NO_") else (_c.OK, len(given[0]), 1)
+            self.same(row, (found["status"], found["end"], found["start"]), wanted)
+        elif macro in ("MAKES", "REFUSES") and given[0].name in CALLS:
+            wanted = (_c.OK, *given[2:]) if macro == "MAKES" else (given[2], 0, b"")
+            self.check_text(row, self.found(Call(given[0].name, [given[1]])), *wanted)
+        elif macro in ("CELL", *[no + it + at for no in ("", "NO_") for it in ("TAG", "LABEL") for at in ("", "_AT")]):
+            self.check_over(row, *given)
+        elif macro == "WRONG":
+            self.check_wrong(row, *given)
+        elif macro == "KEY":
+            self.same(row, mds.label_key(given[0]), given[1])
+        elif macro.startswith("FRONT_"):
+            self.check_front(row, *given)
+        elif macro == "LINE_RUN":
+            self.check_line_run(row, *given)
+        elif macro == "LINE_REST":
+            self.check_line_rest(row, *given)
+        elif macro == "HTML_RUN":
+            self.check_html_run(row, *given)
+
+    def test_rows(self):
+        for name in FILES:
+            for row in c_rows.rows_of(name):
+                self.check(row)
+        wanted = totals()
+        self.assertEqual(dict(self.tried), {it: wanted[it] for it in FILES})
+
+
+if __name__ == "__main__":
+    unittest.main()

@@ -1,0 +1,308 @@
+//! The structs, functions and numbers of `markdown_scanners.h`, as `packages/c/bindings` has written them.
+
+use core::ffi::c_void;
+
+pub const NONE: usize = usize::MAX;
+
+pub const OK: u32 = 0;
+pub const NOTHING: u32 = 1;
+pub const NOT_UTF8: u32 = 2;
+pub const PAST_END: u32 = 3;
+pub const BAD_SKIPS: u32 = 4;
+pub const TOO_LARGE: u32 = 5;
+pub const EMPTY: u32 = 6;
+pub const TOO_SHORT: u32 = 7;
+pub const NO_MEMORY: u32 = 8;
+pub const NO_OPENER: u32 = 9;
+pub const NOT_RISING: u32 = 10;
+pub const INSIDE_FIND: u32 = 11;
+pub const SPACE_PENDING: u32 = 12;
+pub const BAD_KIND: u32 = 13;
+pub const BAD_STATE: u32 = 14;
+
+pub const ALERT_NOTE: u32 = 1;
+pub const ALERT_TIP: u32 = 2;
+pub const ALERT_IMPORTANT: u32 = 3;
+pub const ALERT_WARNING: u32 = 4;
+pub const ALERT_CAUTION: u32 = 5;
+
+pub const SPACE: u32 = 0;
+pub const UPTO: u32 = 1;
+pub const EOL: u32 = 2;
+pub const QUOTE: u32 = 3;
+pub const LIST: u32 = 4;
+pub const DEFINITION: u32 = 5;
+
+pub const ALIGN_NONE: u32 = 0;
+pub const ALIGN_LEFT: u32 = 1;
+pub const ALIGN_CENTER: u32 = 2;
+pub const ALIGN_RIGHT: u32 = 3;
+
+pub const HTML_RAW_TEXT: u32 = 1;
+pub const HTML_COMMENT: u32 = 2;
+pub const HTML_PROCESSING: u32 = 3;
+pub const HTML_DECLARATION: u32 = 4;
+pub const HTML_CDATA: u32 = 5;
+pub const HTML_BLOCK_NAME: u32 = 6;
+pub const HTML_TAG_ALONE: u32 = 7;
+
+#[repr(C)]
+#[derive(Clone, Copy, Debug, Default, PartialEq, Eq)]
+pub struct Text {
+    pub status: u32,
+    pub taken: usize,
+    pub length: usize,
+}
+
+#[repr(C)]
+#[derive(Clone, Copy, Debug, Default, PartialEq, Eq)]
+pub struct ListItem {
+    pub length: usize,
+    pub start: usize,
+    pub indent: usize,
+    pub delimiter: u8,
+}
+
+#[repr(C)]
+#[derive(Clone, Copy, Debug, Default, PartialEq, Eq)]
+pub struct Indent {
+    pub status: u32,
+    pub place: usize,
+    pub columns: usize,
+}
+
+#[repr(C)]
+#[derive(Clone, Copy, Debug, Default, PartialEq, Eq)]
+pub struct LineStart {
+    pub place: usize,
+    pub pending: usize,
+    pub phase: usize,
+    pub none_before: usize,
+    pub behind_break: usize,
+}
+
+#[repr(C)]
+#[derive(Clone, Copy, Debug, Default, PartialEq, Eq)]
+pub struct Columns {
+    pub status: u32,
+    pub columns: usize,
+}
+
+#[repr(C)]
+#[derive(Clone, Copy, Debug, Default, PartialEq, Eq)]
+pub struct LineItem {
+    pub status: u32,
+    pub delimiter: u8,
+    pub start: u64,
+    pub indent: usize,
+}
+
+#[repr(C)]
+#[derive(Clone, Copy, Debug, Default, PartialEq, Eq)]
+pub struct Task {
+    pub status: u32,
+    pub checked: bool,
+}
+
+#[repr(C)]
+#[derive(Clone, Copy, Debug, Default, PartialEq, Eq)]
+pub struct Alert {
+    pub status: u32,
+    pub kind: u32,
+}
+
+#[repr(C)]
+#[derive(Clone, Copy, Debug, Default, PartialEq, Eq)]
+pub struct LineCall {
+    pub kind: u32,
+    pub number: usize,
+}
+
+#[repr(C)]
+#[derive(Clone, Copy, Debug, Default, PartialEq, Eq)]
+pub struct LineAnswer {
+    pub found: bool,
+    pub delimiter: u8,
+    pub start: u64,
+    pub number: usize,
+}
+
+#[repr(C)]
+#[derive(Clone, Copy, Debug, Default, PartialEq, Eq)]
+pub struct LineRun {
+    pub status: u32,
+    pub count: usize,
+}
+
+#[repr(C)]
+#[derive(Clone, Copy, Debug, Default, PartialEq, Eq)]
+pub struct Break {
+    pub length: usize,
+    pub none_before: usize,
+}
+
+#[repr(C)]
+#[derive(Clone, Copy, Debug, Default, PartialEq, Eq)]
+pub struct Underline {
+    pub length: usize,
+    pub level: u32,
+}
+
+#[repr(C)]
+#[derive(Clone, Copy, Debug, Default, PartialEq, Eq)]
+pub struct Fence {
+    pub length: usize,
+    pub byte: u8,
+}
+
+#[repr(C)]
+#[derive(Clone, Copy, Debug, Default, PartialEq, Eq)]
+pub struct Part {
+    pub status: u32,
+    pub end: usize,
+    pub start: usize,
+    pub length: usize,
+}
+
+#[repr(C)]
+#[derive(Clone, Copy, Debug, Default, PartialEq, Eq)]
+pub struct Skip {
+    pub place: usize,
+    pub length: usize,
+}
+
+#[repr(C)]
+#[derive(Clone, Copy, Debug, Default, PartialEq, Eq)]
+pub struct Tag {
+    pub status: u32,
+    pub end: usize,
+    pub length: usize,
+}
+
+#[repr(C)]
+#[derive(Clone, Copy, Debug, Default, PartialEq, Eq)]
+pub struct HtmlGuard {
+    pub comment: usize,
+    pub cdata: usize,
+    pub declaration: usize,
+    pub processing: usize,
+}
+
+#[repr(C)]
+#[derive(Clone, Copy, Debug, Default, PartialEq, Eq)]
+pub struct End {
+    pub status: u32,
+    pub end: usize,
+    pub passed: usize,
+}
+
+#[repr(C)]
+#[derive(Clone, Copy, Debug, Default, PartialEq, Eq)]
+pub struct HtmlRun {
+    pub status: u32,
+    pub count: usize,
+}
+
+#[repr(C)]
+#[derive(Clone, Copy, Debug, Default, PartialEq, Eq)]
+pub struct Label {
+    pub status: u32,
+    pub end: usize,
+    pub length: usize,
+    pub start: usize,
+}
+
+extern "C" {
+    pub fn mds_is_whitespace(byte: u8) -> bool;
+    pub fn mds_is_whitespace_in_line(byte: u8) -> bool;
+    pub fn mds_is_punctuation(byte: u8) -> bool;
+    pub fn mds_is_utf8(bytes: *const c_void, length: usize) -> bool;
+    pub fn mds_scan_ch(bytes: *const c_void, length: usize, byte: u8) -> usize;
+    pub fn mds_scan_ch_repeat(bytes: *const c_void, length: usize, byte: u8) -> usize;
+    pub fn mds_scan_while(bytes: *const c_void, length: usize, accepted: *const c_void, count: usize) -> usize;
+    pub fn mds_scan_rev_while(bytes: *const c_void, length: usize, accepted: *const c_void, count: usize) -> usize;
+    pub fn mds_scan_whitespace_in_line(bytes: *const c_void, length: usize) -> usize;
+    pub fn mds_scan_eol(bytes: *const c_void, length: usize) -> usize;
+    pub fn mds_scan_line(bytes: *const c_void, length: usize) -> usize;
+    pub fn mds_scan_nextline(bytes: *const c_void, length: usize) -> usize;
+    pub fn mds_scan_blank_line(bytes: *const c_void, length: usize) -> usize;
+    pub fn mds_scan_blockquote_start(bytes: *const c_void, length: usize) -> usize;
+    pub fn mds_scan_listitem(bytes: *const c_void, length: usize) -> ListItem;
+    pub fn mds_calc_indent(bytes: *const c_void, length: usize, max: usize) -> Indent;
+    pub fn mds_line_space(bytes: *const c_void, length: usize, start: *mut LineStart, count: usize) -> u32;
+    pub fn mds_line_upto(bytes: *const c_void, length: usize, start: *mut LineStart, count: usize) -> Columns;
+    pub fn mds_line_all_space(bytes: *const c_void, length: usize, start: *mut LineStart) -> u32;
+    pub fn mds_line_eol(bytes: *const c_void, length: usize, start: *const LineStart) -> u32;
+    pub fn mds_line_quote(bytes: *const c_void, length: usize, start: *mut LineStart) -> u32;
+    pub fn mds_line_list(bytes: *const c_void, length: usize, start: *mut LineStart, indent: usize) -> LineItem;
+    pub fn mds_line_definition(bytes: *const c_void, length: usize, start: *mut LineStart, indent: usize) -> Columns;
+    pub fn mds_line_task(bytes: *const c_void, length: usize, start: *mut LineStart) -> Task;
+    pub fn mds_line_alert(bytes: *const c_void, length: usize, start: *mut LineStart) -> Alert;
+    pub fn mds_run_line(
+        bytes: *const c_void,
+        length: usize,
+        start: *mut LineStart,
+        calls: *const LineCall,
+        call_count: usize,
+        answers: *mut LineAnswer,
+        capacity: usize,
+    ) -> LineRun;
+    pub fn mds_line_rest(
+        bytes: *const c_void,
+        length: usize,
+        start: *const LineStart,
+        buffer: *mut u8,
+        capacity: usize,
+    ) -> Text;
+    pub fn mds_scan_hrule(bytes: *const c_void, length: usize) -> Break;
+    pub fn mds_scan_atx_heading(bytes: *const c_void, length: usize) -> u32;
+    pub fn mds_scan_setext_heading(bytes: *const c_void, length: usize) -> Underline;
+    pub fn mds_scan_code_fence(bytes: *const c_void, length: usize) -> Fence;
+    pub fn mds_scan_closing_code_fence(bytes: *const c_void, length: usize, fence: u8, count: usize) -> usize;
+    pub fn mds_scan_metadata_block(bytes: *const c_void, length: usize, yaml: bool, pluses: bool) -> Fence;
+    pub fn mds_scan_closing_metadata_block(bytes: *const c_void, length: usize, fence: u8) -> usize;
+    pub fn mds_interrupts_paragraph(bytes: *const c_void, length: usize) -> bool;
+    pub fn mds_scan_table_head(bytes: *const c_void, length: usize, alignments: *mut u8, capacity: usize) -> Text;
+    pub fn mds_scan_link_dest(bytes: *const c_void, length: usize, start: usize, max_next: usize) -> Part;
+    pub fn mds_scan_link_title(bytes: *const c_void, length: usize, start: usize) -> Part;
+    pub fn mds_scan_autolink(bytes: *const c_void, length: usize, start: usize) -> Part;
+    pub fn mds_scan_wikilink_pipe(bytes: *const c_void, length: usize, start: usize, count: usize) -> Part;
+    pub fn mds_check_skips(bytes: *const c_void, length: usize, skips: *const Skip, skip_count: usize) -> u32;
+    pub fn mds_starts_html_block_type_6(bytes: *const c_void, length: usize) -> bool;
+    pub fn mds_scan_html_type_7(bytes: *const c_void, length: usize) -> usize;
+    pub fn mds_scan_html_block_start(bytes: *const c_void, length: usize) -> u32;
+    pub fn mds_ends_html_block(bytes: *const c_void, length: usize, kind: u32) -> u32;
+    pub fn mds_scan_html_tag(bytes: *const c_void, length: usize) -> usize;
+    pub fn mds_scan_html_tag_over_lines(
+        bytes: *const c_void,
+        length: usize,
+        start: usize,
+        skips: *const Skip,
+        skip_count: usize,
+        buffer: *mut u8,
+        capacity: usize,
+    ) -> Tag;
+    pub fn mds_scan_inline_html(bytes: *const c_void, length: usize, place: usize, guard: *mut HtmlGuard) -> End;
+    pub fn mds_run_inline_html(
+        bytes: *const c_void,
+        length: usize,
+        places: *const usize,
+        place_count: usize,
+        ends: *mut usize,
+        capacity: usize,
+    ) -> HtmlRun;
+    pub fn mds_scan_entity(bytes: *const c_void, length: usize, buffer: *mut u8, capacity: usize) -> Text;
+    pub fn mds_unescape(text: *const c_void, length: usize, in_table: bool, buffer: *mut u8, capacity: usize) -> Text;
+    pub fn mds_scan_link_label(
+        bytes: *const c_void,
+        length: usize,
+        start: usize,
+        in_table: bool,
+        skips: *const Skip,
+        skip_count: usize,
+        buffer: *mut u8,
+        capacity: usize,
+    ) -> Label;
+    pub fn mds_labels_match(one: *const c_void, one_length: usize, other: *const c_void, other_length: usize) -> u32;
+    pub fn mds_label_key(text: *const c_void, length: usize, buffer: *mut u8, capacity: usize) -> Text;
+}

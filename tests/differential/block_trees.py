@@ -1,0 +1,191 @@
+"""What cmark_blocks, cmark and cmark-gfm say of the blocks and containers of a page, in one form. Pages and texts of them are bytes."""
+import html.entities
+import os
+import re
+import subprocess
+from collections import namedtuple
+from pathlib import Path
+from xml.etree import ElementTree
+
+TOP = Path(__file__).resolve().parents[2]
+OURS = [os.environ.get("CMARK_BLOCKS", str(TOP / "crates/cmark_blocks/out/cmark_blocks"))]
+# What is not UTF-8 they replace by U+FFFD: else their patterns end there.
+AS_XML = ["--validate-utf8", "--sourcepos", "-t", "xml"]
+CMARK = [os.environ.get("CMARK", "cmark"), *AS_XML]
+CMARK_GFM = [os.environ.get("CMARK_GFM", "cmark-gfm"), "-e", "table", *AS_XML]
+
+# The elements of cmark, and the kinds of blocks and containers that they are.
+BLOCKS = {"thematic_break": "break", "heading": "heading", "code_block": "code", "html_block": "html", "table": "table", "paragraph": "paragraph"}
+CONTAINERS = {"block_quote": "quote", "item": "item"}
+# Kinds of cmark_blocks that cmark has under one name.
+SAME_KIND = {"setext": "heading", "indented": "code", "fenced": "code"}
+
+LINE = re.compile(rb"[^\r\n]*(?:\r\n|\n|\r)|[^\r\n]+")
+# A line that has nothing but the markers of quotes.
+EMPTY = re.compile(rb"[ \t>]*[\r\n]*")
+REPLACEMENT = "\ufffd".encode()
+
+# A block or container. `detail` is a level, an info string, a number of columns, or the marker of an item: its delimiter, and the
+# number that its list starts at or None. `last` is 0 of a container; of what cmark says it is the set of lines that it may be.
+Block = namedtuple("Block", "kind detail first last depth")
+
+
+def said_by(program, page):
+    return subprocess.run(program, input=page, stdout=subprocess.PIPE, check=True).stdout
+
+
+def lines_of(page):
+    return LINE.findall(page)
+
+
+def trimmed(lines, first, last):
+    """The last line without the blank lines at the end of a block, which cmark may count."""
+    last = min(last, len(lines))
+    while last > first and EMPTY.fullmatch(lines[last - 1]):
+        last -= 1
+    return last
+
+
+def without_control(text):
+    """The text as XML can have it: of the bytes below the space it has tabs and line endings alone."""
+    return re.sub(rb"[\0-\x08\v\f\x0e-\x1f]", REPLACEMENT, text)
+
+
+def in_attribute(text):
+    """The text as an attribute of cmark's XML has it: tabs and line endings are spaces there, and what is not UTF-8 or no character
+    is U+FFFD, of which a run counts as one."""
+    text = re.sub(rb"\r\n|[\t\n\r]", b" ", without_control(text))
+    return re.sub("[\ufffd-\uffff]+", "\ufffd", text.decode(errors="replace")).encode()
+
+
+def meaning(found):
+    """What a backslash escape or a character reference means. (CommonMark 0.31.2, 2.4 and 2.5)"""
+    escaped, hexadecimal, decimal, name = found.groups()
+    if escaped:
+        return escaped
+    if name:
+        return html.entities.html5.get(name.decode() + ";", found[0].decode()).encode()
+    number = int(hexadecimal, 16) if hexadecimal else int(decimal)
+    is_character = 0 < number < 0xD800 or 0xE000 <= number < 0x110000
+    return chr(number).encode() if is_character else REPLACEMENT
+
+
+def resolved(info):
+    """The info string that cmark_blocks prints as cmark has it: its bytes, with escapes and references in it resolved."""
+    text = re.sub(rb"\\u00(..)", lambda it: bytes([int(it[1], 16)]), info).replace(b"\0", REPLACEMENT)
+    reference = rb"&(?:#[xX]([0-9a-fA-F]{1,6})|#([0-9]{1,7})|([a-zA-Z][a-zA-Z0-9]*));"
+    return in_attribute(re.sub(rb"\\([!-/:-@[-`{-~])|" + reference, meaning, text))
+
+
+def our_detail(kind, more):
+    if kind == "item":
+        return {b".": "period", b")": "paren"}.get(more[0], "bullet"), int(more[1])
+    if kind in ("heading", "setext", "table"):
+        return int(more[0])
+    return resolved(b" ".join(more[2:])) if kind == "fenced" else b""
+
+
+def our_blocks(page):
+    """What cmark_blocks says of a page. Blank lines are no blocks of cmark."""
+    lines, found = lines_of(page), []
+    for row in said_by(OURS, page).splitlines():
+        first, last, depth, name, *more = row.split(b" ")
+        kind, first = name.decode(), int(first)
+        end = 0 if kind in CONTAINERS.values() else trimmed(lines, first, int(last))
+        if kind != "blank":
+            found.append(Block(SAME_KIND.get(kind, kind), our_detail(kind, more), first, end, int(depth)))
+    return found
+
+
+def parsed(said):
+    """The document of cmark's XML, in whose texts each byte is a character."""
+    return ElementTree.fromstring(without_control(said), ElementTree.XMLParser(encoding="iso-8859-1"))
+
+
+def name_of(element):
+    return element.tag.rpartition("}")[2]
+
+
+def lines_in(element):
+    """The first and the last line of an element: its places are LINE:COLUMN-LINE:COLUMN."""
+    return [int(place.split(":")[0]) for place in element.get("sourcepos").split("-")]
+
+
+def elements(document):
+    """The containers and blocks of a document in order, each with its parent and how many containers are around it."""
+    waiting = [(it, document, 0) for it in reversed(document)]
+    while waiting:
+        element, parent, depth = waiting.pop()
+        name = name_of(element)
+        if name != "list":
+            yield element, parent, depth
+        if name not in BLOCKS:
+            waiting += [(it, element, depth + (name in CONTAINERS)) for it in reversed(element)]
+
+
+def marker_of(item, items):
+    """The delimiter of an item, and what its list starts at where it is the first."""
+    return items.get("delim", "bullet"), int(items.get("start", 0)) if items[0] is item else None
+
+
+def their_detail(element, kind):
+    if kind == "table":
+        header = next(it for it in element if name_of(it) == "table_header")
+        return len(header)
+    if kind == "heading":
+        return int(element.get("level"))
+    return in_attribute(element.get("info", "").encode("latin-1"))
+
+
+def their_block(element, depth, lines):
+    """A block of cmark. HTML has as many lines as its text: its last line may be one too small. That of a setext heading,
+    and of code that its container ends, may be one too large."""
+    kind = BLOCKS[name_of(element)]
+    first, last = lines_in(element)
+    if kind == "html":
+        last = first + len(lines_of((element.text or "").encode("latin-1"))) - 1
+    is_longer = kind == "heading" or kind == "code" and depth > 0
+    ends = {trimmed(lines, first, it) for it in (last, last - is_longer)}
+    return Block(kind, their_detail(element, kind), first, ends, depth)
+
+
+def their_blocks(document, lines):
+    """What cmark says of a page of these lines."""
+    found = []
+    for element, parent, depth in elements(document):
+        kind = CONTAINERS.get(name_of(element))
+        if kind:
+            detail = marker_of(element, parent) if kind == "item" else b""
+            found.append(Block(kind, detail, lines_in(element)[0], {0}, depth))
+        else:
+            found.append(their_block(element, depth, lines))
+    return found
+
+
+def may_have_table(page):
+    """Whether a page may have the delimiter row of a table: it has a pipe, or for cmark-gfm a line that ends as such a cell."""
+    return b"|" in page or re.search(rb"(?::-+:?|-:)[ \t\v\f]*(?:[\r\n]|$)", page) is not None
+
+
+def tables_of(document):
+    return [it for it, _, _ in elements(document) if name_of(it) == "table"]
+
+
+def has_table(document):
+    return bool(tables_of(document))
+
+
+def has_later_header(document):
+    """Whether a paragraph's later line is the header row of a table: cmark-gfm writes no place of the lines before it."""
+    return any(it.get("sourcepos") is None for it, _, _ in elements(document))
+
+
+def alike(our, their):
+    """Whether they are the same, but that of an item which is not the first of its list cmark has no number."""
+    if our.kind == their.kind == "item" and their.detail[1] is None:
+        our = our._replace(detail=(our.detail[0], None))
+    return our._replace(last=their.last) == their and our.last in their.last
+
+
+def agree(ours, theirs):
+    return len(ours) == len(theirs) and all(map(alike, ours, theirs))

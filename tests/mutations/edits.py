@@ -1,0 +1,83 @@
+"""The wrong bodies of the tree: where they stand, how many there must be, and the texts that each makes."""
+import re
+import shutil
+from pathlib import Path
+
+TOP = Path(__file__).resolve().parents[2]
+TOTALS = TOP / "tests/mutations/totals"
+
+
+def totals():
+    """How many wrong bodies each crate must have, in must-fail/ and in tests/mutations/, by the crate's name."""
+    rows = [line.split() for line in TOTALS.read_text().splitlines() if line.strip() and not line.startswith("#")]
+    return {name: (int(gate), int(others)) for name, gate, others in rows}
+
+
+def in_gate(crate):
+    return sorted((TOP / "crates" / crate / "must-fail").glob("*.edit"))
+
+
+def out_of_gate(crate):
+    return sorted((TOP / "tests/mutations" / crate).glob("*.edit"))
+
+
+def crate_of(edit):
+    """The name of the crate whose body an edit changes."""
+    return edit.parent.parent.name if edit.parent.name == "must-fail" else edit.parent.name
+
+
+def free_memory():
+    """The memory that is free, in kilobytes."""
+    return int(re.search(r"MemAvailable:\s+(\d+)", Path("/proc/meminfo").read_text())[1])
+
+
+class BadEdit(Exception):
+    """Why an edit can't be applied."""
+
+
+def replaced(text, path, old, new):
+    found = text.count(old)
+    if found != 1:
+        raise BadEdit(f"its old text stands {found} times in {path}, and not once: {old}")
+    return text.replace(old, new)
+
+
+def edited(edit):
+    """The texts of the files that an edit changes, by their path in the crate. Each pair is over what the pairs before it made."""
+    crate, texts, path, old = TOP / "crates" / crate_of(edit), {}, None, None
+    for line in edit.read_text().split("\n"):
+        word, _, rest = line.partition(":")
+        rest = rest.removeprefix(" ")
+        if word == "file":
+            path, old = rest.strip(), None
+            if not (crate / path).is_file():
+                raise BadEdit(f"there is no file {path}")
+        elif word == "old":
+            old = rest
+        elif word == "new":
+            if not path or not old:
+                raise BadEdit("a line new: has no file: and old: before it")
+            text = texts.get(path) or (crate / path).read_text()
+            texts[path], old = replaced(text, path, old, rest), None
+    if not texts:
+        raise BadEdit("it has no pair of lines old: and new:")
+    return texts
+
+
+def copied(room):
+    """Copies what proofs and builds read of the tree into a folder, with the libraries that are built."""
+    for name in ("crates.txt", "HANDLES", "README.md", "LICENSE", "VERSION", "CHANGELOG.md"):
+        shutil.copy(TOP / name, room)
+    for name in ("c", "python", "rust"):
+        shutil.copytree(TOP / "packages" / name, room / "packages" / name, ignore=shutil.ignore_patterns("target"))
+    for crate in (TOP / "crates").iterdir():
+        for part in ("src", "specs", "proofs"):
+            if (crate / part).is_dir():
+                shutil.copytree(crate / part, room / "crates" / crate.name / part)
+        library = crate / "out/rlib"
+        if (library / "stamp").is_file():
+            shutil.copytree(library, room / "crates" / crate.name / "out/rlib")
+        for part in ("stdin", "stdout", "args"):
+            if (crate / part).is_file():
+                shutil.copy(crate / part, room / "crates" / crate.name)
+    return room

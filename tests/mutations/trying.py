@@ -1,0 +1,115 @@
+"""Builds the tree with a wrong body in it, unproved, and runs the tests and stored runs that may tell it.
+
+A static library is built only where it is proved. So in the crate of the C functions the edited function loses what it
+ensures: then it is proved to be safe, and packages/c/run may tell it.
+"""
+import re
+import shutil
+import subprocess
+import tempfile
+from concurrent.futures import ThreadPoolExecutor
+from pathlib import Path
+
+from edits import copied, crate_of, edited
+
+# Tests of hostile texts that don't end in the minute that rt gives a build with checks: they say nothing here.
+SLOW = {"passes_over_hostile_texts_once", "passes_over_cut_texts_once"}
+
+# What may tell a wrong body of a crate, the quickest first: the stored run of a program, the tests of a crate, or its tests of
+# memory, of which each is refused its first request.
+TELLERS = {
+    "markdown_values": ["tests cmark_vectors", "run cmark_replay", "tests cmark_vectors_programs"],
+    "markdown_scanners_tree": ["run cmark_replay", "tests markdown_scanners_tree", "tests cmark_vectors"],
+    "program_faults": ["tests cmark_scan", "tests cmark_vectors_programs"],
+    "cmark_scan": ["run cmark_scan", "tests cmark_scan", "refused cmark_scan"],
+    "page_blocks": ["run cmark_blocks", "tests cmark_vectors_programs"],
+}
+
+
+def stored_run(crate, room):
+    """The words that hold a program's output to its stored run."""
+    cases = room / "cases"
+    cases.mkdir(exist_ok=True)
+    (cases / "stored").write_bytes((crate / "stdin").read_bytes() if (crate / "stdin").is_file() else b"")
+    (cases / "stored.stdout").write_bytes((crate / "stdout").read_bytes())
+    if (crate / "args").is_file():
+        (cases / "stored.args").write_bytes((crate / "args").read_bytes())
+    return ["rt", "try", "--steps", "1", "--cases", str(cases)]
+
+
+def words_of(kind, crate, room):
+    """The words of a teller's command."""
+    if kind == "run":
+        return stored_run(crate, room)
+    tests = ["rt", "try", "--test", "--steps", "1"]
+    return [*tests, "--fail-alloc", "1", "--", "memory"] if kind == "refused" else tests
+
+
+def fails(said):
+    """Whether a test that is not too slow did not pass, or None where none was run."""
+    tests = re.findall(r"^test (\S+) \.\.\. (\w+)", said, flags=re.M)
+    ends = [how for name, how in tests if name.rsplit("::", 1)[-1] not in SLOW]
+    return any(how != "ok" for how in ends) if ends else None
+
+
+def tells(teller, room):
+    """Whether the tests or the stored run fail in the tree of the folder, or None where they were not built or none was run."""
+    kind, name = teller.split()
+    crate = room / "crates" / name
+    how = {"stdin": subprocess.DEVNULL, "stdout": subprocess.PIPE, "stderr": subprocess.STDOUT, "errors": "replace"}
+    ran = subprocess.run(words_of(kind, crate, room), cwd=crate, **how)
+    if "run=none" in ran.stdout or "proved=no" not in ran.stdout:
+        return None
+    return ran.returncode != 0 if kind == "run" else fails(ran.stdout)
+
+
+def without_ensures(text, place):
+    """The source without the `ensures` of the function that stands at the place, and that function's name."""
+    start = max(it.start() for it in re.finditer(r"^(pub )?(extern \"C\" )?fn ", text, flags=re.M) if it.start() <= place)
+    end = text.index("\n{\n", start)
+    head = re.sub(r"^    ensures\b.*?(?=^    requires\b|\Z)", "", text[start:end] + "\n", flags=re.M | re.S)
+    return text[:start] + head.rstrip("\n") + text[end:], re.search(r"fn (\w+)", head)[1]
+
+
+def told_in_c(crate, texts):
+    """Whether packages/c/run tells the edited texts, where the functions that they change are safe."""
+    for path, text in texts.items():
+        before = (crate / path).read_text()
+        place = next(at for at, (one, other) in enumerate(zip(before, text)) if one != other)
+        freed, name = without_ensures(text, place)
+        (crate / path).write_text(freed)
+        shutil.rmtree(crate / path.replace("src/", "proofs/").removesuffix(".rt") / name, ignore_errors=True)
+    how = {"stdin": subprocess.DEVNULL, "stdout": subprocess.DEVNULL, "stderr": subprocess.DEVNULL}
+    if subprocess.run(["rt", "lib"], cwd=crate, **how).returncode:
+        return False, "NOT BUILT: not even safe"
+    told = subprocess.run(["packages/c/run"], cwd=crate.parent.parent, **how).returncode
+    return (True, "told by packages/c/run") if told else (False, "TOLD BY NO TEST")
+
+
+def told_by(edit):
+    """Whether a test or a stored run tells the edit, and which, or why none was found."""
+    crate = crate_of(edit)
+    with tempfile.TemporaryDirectory(prefix="mutations-") as folder:
+        room = copied(Path(folder))
+        if crate not in TELLERS:
+            return told_in_c(room / "crates" / crate, edited(edit))
+        for path, text in edited(edit).items():
+            (room / "crates" / crate / path).write_text(text)
+        for teller in TELLERS[crate]:
+            told = tells(teller, room)
+            if told is None:
+                return False, f"NOT RUN: {teller}"
+            if told:
+                return True, f"told by {teller}"
+    return False, "TOLD BY NO TEST"
+
+
+def try_all(edits, lanes):
+    """Tries the edits, a line each, and counts those that a test or a stored run tells."""
+    told = others = 0
+    with ThreadPoolExecutor(lanes) as pool:
+        for edit, (is_told, found) in zip(edits, pool.map(told_by, edits)):
+            told, others = told + is_told, others + (not is_told)
+            print(f"{crate_of(edit)}/{edit.stem}: {found}", flush=True)
+    print(f"{told} told, {others} not told")
+    return 1 if others or not edits else 0
