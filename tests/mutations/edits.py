@@ -68,7 +68,7 @@ def copied(room):
     """Copies what proofs and builds read of the tree into a folder, with the libraries that are built."""
     for name in ("crates.txt", "HANDLES", "README.md", "LICENSE", "VERSION", "CHANGELOG.md"):
         shutil.copy(TOP / name, room)
-    for name in ("c", "python", "rust"):
+    for name in ("c", "python", "rust", "javascript"):
         shutil.copytree(TOP / "packages" / name, room / "packages" / name, ignore=shutil.ignore_patterns("target"))
     for crate in (TOP / "crates").iterdir():
         for part in ("src", "specs", "proofs"):
