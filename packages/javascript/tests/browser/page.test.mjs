@@ -17,7 +17,7 @@ import { TOP } from "../tree.mjs";
 import { Browser, serve } from "./chromium.mjs";
 import { MADE, TYPED } from "./typed.mjs";
 
-const WEB = fileURLToPath(new URL("../..", import.meta.url));
+const PACKAGE = fileURLToPath(new URL("../..", import.meta.url));
 const NATIVE = fileURLToPath(new URL("native.py", import.meta.url));
 const OUTLINE = fileURLToPath(new URL("packages/c/examples/outline.py", TOP));
 const LIBRARY = fileURLToPath(new URL("out/libmarkdown_scanners.so.0", TOP));
@@ -27,7 +27,7 @@ const room = mkdtempSync(join(tmpdir(), "page-"));
 let served, browser, faults;
 
 before(async () => {
-    served = await serve(WEB);
+    served = await serve(PACKAGE);
     browser = new Browser();
     browser.on("Runtime.exceptionThrown", (it) => faults.push(it.exceptionDetails.exception?.description));
 });
@@ -340,11 +340,11 @@ test("10 MB are read, and another text behind them", async () => {
 });
 
 test("a module that is missing or of another version has a message", async () => {
-    const module = readFileSync(join(WEB, "markdown_scanners.wasm"));
+    const module = readFileSync(join(PACKAGE, "markdown_scanners.wasm"));
     const other = Buffer.from(module);
     other.write("9", other.length - VERSION.length);
     for (const [bytes, message] of [[undefined, /^ModuleMissing: .*404/], [other, /^WrongVersion: .* 9\./], [Buffer.from("none"), /^BadModule: /]]) {
-        const changed = await serve(WEB, (path) => (path.endsWith(".wasm") ? bytes : null));
+        const changed = await serve(PACKAGE, (path) => (path.endsWith(".wasm") ? bytes : null));
         await open(DESK, changed.url);
         await settled("refused");
         assert.match(await told(), message);
