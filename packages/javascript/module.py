@@ -18,6 +18,9 @@ from pathlib import Path
 
 sys.dont_write_bytecode = True
 TOP = Path(__file__).resolve().parents[2]
+sys.path.append(str(TOP / "docs"))
+from crate_list import libraries, made_of
+
 CRATE = "markdown_scanners_c"
 LAYOUT = "e-m:e-p:64:64-p10:8:8-p20:8:8-i64:64-i128:128-n32:64-S128-ni:1:10:20"
 TARGET = "wasm64-unknown-unknown"
@@ -61,15 +64,24 @@ def keeping(toolchain, room):
     return other, kept
 
 
+def libraries_of(tree, kit):
+    """The words by which `rattle build` is given the libraries of the crate: those of the tree, which are built there, and the kit's."""
+    ours = [it for it in made_of(CRATE) if it != CRATE]
+    folders = {it: tree / "crates" / it / "out/rlib" for it in ours}
+    built = {it: folders.get(it, kit / "rlibs") / f"{it}.rlib" for it in ["std", *libraries()[CRATE]]}
+    words = [word for name, folder in built.items() for word in ("--extern", f"{name}={folder}")]
+    return words + [word for folder in [kit / "rlibs", *folders.values()] for word in ("-L", f"dependency={folder}")]
+
+
 def lowered(tree, room):
     """The crate as LLVM code."""
-    rt = loaded("rtlib", Path(shutil.which("rt")).resolve().with_name("rtlib.py"))
-    toolchain = Path(rt.KIT) / "toolchain"
+    kit = Path(shutil.which("rattle")).resolve().parent.parent
+    toolchain = kit / "toolchain"
     other, kept = keeping(toolchain, room)
-    os.chdir(tree)
-    crate = next(it for it in rt.crates_below(os.getcwd()) if it.name == CRATE)
-    os.chdir(crate.folder)
-    run(rt.RATTLE, "build", *crate.words(["--cpu=x86-64"]), "--toolchain", other, "--backend", "llvm", *rt.KEPT, "-o", room / "archive.a")
+    os.chdir(tree / "crates" / CRATE)
+    logic = ["--antt-project", kit / "rattle/logic/antt-project.json", "--logic-built", kit / "logic_built", "--links", f"{CRATE}="]
+    words = ["--crate-name", CRATE, "src/lib.rt", *libraries_of(tree, kit), *logic, "--crate-type", "staticlib", "--cpu=x86-64"]
+    run("rattle", "build", *words, "--toolchain", other, "--backend", "llvm", "--incremental", "out/incremental", "-o", room / "archive.a")
     if not kept.is_file():
         stop("the kit has given its clang no LLVM code")
     return kept, toolchain
@@ -123,7 +135,7 @@ def main(words):
     if len(words) != 2:
         sys.exit(__doc__)
     with tempfile.TemporaryDirectory() as room:
-        code, toolchain = lowered(words[0], Path(room))
+        code, toolchain = lowered(Path(words[0]), Path(room))
         made = linked(code, toolchain, Path(room)) + version_section()
     Path(words[1]).write_bytes(made)
 
