@@ -172,6 +172,28 @@ static void line_runs(void) {
     SAME(run.status, MDS_OK), SAME(run.count, 0), SAME(is_front(start), true);
 }
 
+/* A run from the front of a line of which these things are known, true or not: what comes before the first MDS_LIST is answered as
+ * where nothing is known, and MDS_LIST is made. */
+static void untrue_breaks(size_t none_before, size_t behind_break) {
+    const struct mds_line_call calls[] = {{MDS_QUOTE, 0}, {MDS_UPTO, 3}, {MDS_EOL, 0}, {MDS_LIST, 0}};
+    const struct mds_line_answer wanted[] = {{true, 0, 0, 0}, {true, 0, 0, 2}, {false, 0, 0, 0}};
+    struct mds_line_answer answers[4] = {{0}};
+    struct mds_line_start start = {0, 0, 0, none_before, behind_break};
+    struct mds_line_run run = mds_run_line(OF(">\t- x"), &start, calls, 3, answers, 3);
+    SAME(run.status, MDS_OK), SAME(run.count, 3);
+    SAME(start.place, 2), SAME(start.pending, 0), SAME(start.phase, 0);
+    answers_are(__LINE__, answers, wanted, 3);
+    start = (struct mds_line_start){0, 0, 0, none_before, behind_break};
+    run = mds_run_line(OF(">\t- x"), &start, calls, 4, answers, 4);
+    SAME(run.status, MDS_OK), SAME(run.count, 4);
+    answers_are(__LINE__, answers, wanted, 3);
+}
+
+static void all_untrue_breaks(void) {
+    untrue_breaks(0, 1), untrue_breaks(5, 0), untrue_breaks(1, 3);
+    untrue_breaks(6, 6), untrue_breaks(0, SIZE_MAX), untrue_breaks(SIZE_MAX, SIZE_MAX);
+}
+
 /* Section 2.2: each tab to the next stop of four, and none behind the line. */
 static void line_rests(void) {
     LINE_REST("", 0, 0, 0, "");
@@ -192,8 +214,8 @@ static void line_rests(void) {
 }
 
 int main(void) {
-    html_runs(), line_runs(), line_rests();
+    html_runs(), line_runs(), all_untrue_breaks(), line_rests();
     at_front = true;
-    html_runs(), line_runs(), line_rests();
+    html_runs(), line_runs(), all_untrue_breaks(), line_rests();
     return report("runs");
 }
