@@ -63,9 +63,16 @@ def tells(teller, room):
     return ran.returncode != 0 if kind == "run" else fails(ran.stdout)
 
 
+class NoFunction(Exception):
+    """An edit changes something that stands before all functions of its file, as a constant."""
+
+
 def without_ensures(text, place):
     """The source without the `ensures` of the function that stands at the place, and that function's name."""
-    start = max(it.start() for it in re.finditer(r"^(pub )?(extern \"C\" )?fn ", text, flags=re.M) if it.start() <= place)
+    heads = [it.start() for it in re.finditer(r"^(pub )?(extern \"C\" )?fn ", text, flags=re.M) if it.start() <= place]
+    if not heads:
+        raise NoFunction
+    start = max(heads)
     end = text.index("\n{\n", start)
     head = re.sub(r"^    ensures\b.*?(?=^    requires\b|\Z)", "", text[start:end] + "\n", flags=re.M | re.S)
     return text[:start] + head.rstrip("\n") + text[end:], re.search(r"fn (\w+)", head)[1]
@@ -76,7 +83,10 @@ def told_in_c(crate, texts):
     for path, text in texts.items():
         before = (crate / path).read_text()
         place = next(at for at, (one, other) in enumerate(zip(before, text)) if one != other)
-        freed, name = without_ensures(text, place)
+        try:
+            freed, name = without_ensures(text, place)
+        except NoFunction:
+            return False, "NOT BUILT: it changes no function"
         (crate / path).write_text(freed)
         shutil.rmtree(crate / path.replace("src/", "proofs/").removesuffix(".rt") / name, ignore_errors=True)
     how = {"stdin": subprocess.DEVNULL, "stdout": subprocess.DEVNULL, "stderr": subprocess.DEVNULL}
