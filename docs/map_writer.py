@@ -94,20 +94,19 @@ def put(part, label, name, neighbours):
 
 
 def with_names(parts, label, wanted):
-    """The parts with these names, and no others, in the items of a label. Each comes with the number of its part, or none."""
-    places, seen = dict(wanted), set()
+    """The parts with these names, which have their modules, and no others in the items of a label."""
+    modules, seen = dict(wanted), set()
     for at, part in enumerate(parts):
         for name in listed(part, label):
-            if name not in places or name in seen:
+            if name not in modules or name in seen:
                 parts[at] = changed(parts[at], lambda line: without(line, name) if line.startswith(f"- {label}: ") else line)
             seen.add(name)
-    names = list(places)
-    for index, (name, place) in enumerate(wanted):
-        if name not in seen and place is not None:
+    for name, module in wanted:
+        if name not in seen and (place := home(parts, module)) is not None:
             here = set(listed(parts[place], label))
-            before = next((it for it in reversed(names[:index]) if it in here), "")
-            after = next((it for it in names[index:] if it in here), "")
-            parts[place] = put(parts[place], label, name, (before, after))
+            beside = [it for it, its in wanted if its == module and (it in here or it == name)]
+            at = beside.index(name)
+            parts[place] = put(parts[place], label, name, ("".join(beside[:at][-1:]), "".join(beside[at + 1 :][:1])))
     return parts
 
 
@@ -174,7 +173,7 @@ def with_files(crate, section):
 def with_uses(section):
     uses = calls_and_types(USES)[0]
     for module in dict.fromkeys(it.module for it in uses):
-        wanted = [(it.name, 0) for it in uses if it.module == module]
+        wanted = [(it.name, module) for it in uses if it.module == module]
         section = with_names([section], f"`src/{module}.rt`", wanted)[0]
     return section
 
@@ -187,7 +186,7 @@ def of_crate(crate, section):
         return section
     parts = parts_of(section)
     for label, items in zip(("Calls", "Types"), calls_and_types(crate)):
-        parts = with_names(parts, label, [(it.name, home(parts, it.module)) for it in items])
+        parts = with_names(parts, label, [(it.name, it.module) for it in items])
     return "".join(parts)
 
 
