@@ -116,6 +116,7 @@ def of_sources():
     return [
         ("README.md", "whose logic `rt version` names `{}`", [source("tests/mutations/inside.py", r'KIT = ".* logic (\w+)"')]),
         ("README.md", places, hostile),
+        ("docs/DECISIONS.md", "a perfect hash of {} seeds", [number("crates/html_entities/generate.py", r"(?m)^SEED_COUNT = (\d+)")]),
         ("tests/mutations/README.md", "tries up to {} in one check", [number("tests/mutations/grouping.py", r"(?m)^MOST = (\d+)")]),
     ]
 
