@@ -1,7 +1,8 @@
 """Writes the computed part of docs/MAP.md: the names of calls, types and files in its items, and the totals of its head.
 
-A name that the tree has not is taken out. One that the page lacks is put into the item of its module, after the one that comes
-before it in the code. What an item says beside its names stays, and so does each item whose names are right.
+A name that the tree has not is taken out. One that the page lacks, or has at another module, is put into the item of its module,
+after the one that comes before it in the code. What an item says beside its names stays, and so does each item whose names are
+right.
 """
 import re
 import textwrap
@@ -94,13 +95,14 @@ def put(part, label, name, neighbours):
 
 
 def with_names(parts, label, wanted):
-    """The parts with these names, which have their modules, and no others in the items of a label."""
+    """The parts with these names, each where its module is, and no others in the items of a label."""
     modules, seen = dict(wanted), set()
     for at, part in enumerate(parts):
         for name in listed(part, label):
-            if name not in modules or name in seen:
+            if name in modules and name not in seen and home(parts, modules[name]) in (at, None):
+                seen.add(name)
+            else:
                 parts[at] = changed(parts[at], lambda line: without(line, name) if line.startswith(f"- {label}: ") else line)
-            seen.add(name)
     for name, module in wanted:
         if name not in seen and (place := home(parts, module)) is not None:
             here = set(listed(parts[place], label))
