@@ -1,4 +1,9 @@
-"""What crates.txt says: the crates of the tree, and which of them one is made of."""
+#!/usr/bin/env python3
+"""What crates.txt says: the crates of the tree, and which of them one is made of.
+
+    docs/crate_list.py --below CRATE    prints the crate and all crates of the tree below it, a line each
+"""
+import argparse
 from functools import cache
 from pathlib import Path
 
@@ -30,3 +35,13 @@ def made_of(crate):
 def sources(crate):
     """The sources of this crate alone."""
     return sorted((TOP / "crates" / crate / "src").rglob("*.rt"))
+
+
+def main():
+    parser = argparse.ArgumentParser(description=__doc__, formatter_class=argparse.RawDescriptionHelpFormatter)
+    parser.add_argument("--below", required=True, metavar="CRATE", choices=crates())
+    print("\n".join(made_of(parser.parse_args().below)))
+
+
+if __name__ == "__main__":
+    main()

@@ -28,8 +28,9 @@ need() {
 
 # is_old FILE: something that it is made of is newer, or it is not there.
 is_old() {
-    local of=(crates.txt crates/markdown_values crates/markdown_scanners_tree crates/html_entities "$crate")
-    [ ! -f "$1" ] || [ -n "$(find "${of[@]}" -name out -prune -o \( -name '*.rt' -o -name '*.antt' -o -name '*.txt' \) -newer "$1" -print -quit)" ]
+    local of name
+    for name in $(docs/crate_list.py --below "$(basename "$crate")"); do of+=("crates/$name"); done
+    [ ! -f "$1" ] || [ -n "$(find crates.txt "${of[@]:?}" -name out -prune -o \( -name '*.rt' -o -name '*.antt' -o -name '*.txt' \) -newer "$1" -print -quit)" ]
 }
 
 # prove: the crate, which makes its archive and says how; on as many processors as JOBS says, or as rt chooses.

@@ -1,16 +1,19 @@
 """The wrong bodies of the tree: where they stand, how many there must be, and the texts that each makes."""
 import re
 import shutil
+import sys
 from pathlib import Path
 
 TOP = Path(__file__).resolve().parents[2]
+sys.path.append(str(TOP / "docs"))
+import totals_file
+
 TOTALS = TOP / "tests/mutations/totals"
 
 
 def totals():
     """How many wrong bodies each crate must have, in must-fail/ and in tests/mutations/, by the crate's name."""
-    rows = [line.split() for line in TOTALS.read_text().splitlines() if line.strip() and not line.startswith("#")]
-    return {name: (int(gate), int(others)) for name, gate, others in rows}
+    return {name: tuple(map(int, numbers.split())) for name, numbers in totals_file.read(TOTALS).items()}
 
 
 def in_gate(crate):
@@ -68,8 +71,8 @@ def copied(room):
     """Copies what proofs and builds read of the tree into a folder, with the libraries that are built."""
     for name in ("crates.txt", "HANDLES", "README.md", "LICENSE", "VERSION", "CHANGELOG.md"):
         shutil.copy(TOP / name, room)
-    for name in ("c", "python", "rust", "javascript"):
-        shutil.copytree(TOP / "packages" / name, room / "packages" / name, ignore=shutil.ignore_patterns("target"))
+    for name in ("packages", "docs"):
+        shutil.copytree(TOP / name, room / name, ignore=shutil.ignore_patterns("target"))
     for crate in (TOP / "crates").iterdir():
         for part in ("src", "specs", "proofs"):
             if (crate / part).is_dir():

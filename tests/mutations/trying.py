@@ -10,6 +10,7 @@ import tempfile
 from concurrent.futures import ThreadPoolExecutor
 from pathlib import Path
 
+from crate_list import crates, made_of
 from edits import copied, crate_of, edited
 
 # Tests of hostile texts that don't end in the minute that rt gives a build with checks: they say nothing here.
@@ -24,6 +25,15 @@ TELLERS = {
     "cmark_scan": ["run cmark_scan", "tests cmark_scan", "refused cmark_scan"],
     "page_blocks": ["run cmark_blocks", "tests cmark_vectors_programs"],
 }
+
+
+def stale_tellers():
+    """Crates of TELLERS that crates.txt has not, and tellers that are not made of their crate."""
+    for crate, tellers in TELLERS.items():
+        names = {it.split()[1] for it in tellers}
+        unknown = {crate, *names} - set(crates())
+        yield from [f"there is no crate {it}" for it in sorted(unknown)]
+        yield from [f"{it} is not made of {crate}" for it in sorted(names - unknown) if crate not in made_of(it)]
 
 
 def stored_run(crate, room):

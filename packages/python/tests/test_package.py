@@ -10,7 +10,7 @@ from pathlib import Path
 
 import markdown_scanners as mds
 from markdown_scanners import _c, _library, errors
-from test_rows import totals
+from test_rows import hold
 
 FOLDER = Path(mds.__file__).parent
 PUNCTUATION = b"!\"#$%&'()*+,-./:;<=>?@[\\]^_`{|}~"
@@ -128,7 +128,7 @@ class Package(unittest.TestCase):
         calls = [getattr(mds, it) for it in mds.__all__ if it[0].islower()]
         calls += [it for kind in (mds.LineStart, mds.HtmlScanGuard) for name, it in vars(kind).items() if not name.startswith("_")]
         self.assertEqual([it for it in calls if ">>>" not in (it.__doc__ or "") and callable(it)], [])
-        self.assertEqual(tried, totals()["examples"])
+        hold(self, "examples", tried)
 
 
 if __name__ == "__main__":

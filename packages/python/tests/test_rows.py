@@ -1,6 +1,7 @@
 """The rows of packages/c/tests, which C checks of the functions, checked of the package's calls: the same answers, or more of
 None and exceptions. The file totals of this folder has how many there are of each file; fewer and more fail."""
 import itertools
+import sys
 import unittest
 from collections import Counter
 from pathlib import Path
@@ -11,6 +12,9 @@ from c_calls import BEFORE, BEHIND, CALLS, Data, check_skips, label, tag, told
 from c_rows import SIZE_MAX as NONE
 from c_rows import Call, Name
 from markdown_scanners import _c
+
+sys.path.append(str(Path(__file__).resolve().parents[3] / "docs"))
+import totals_file
 
 FILES = ["bytes.c", "line_starts.c", "rows.c", "runs.c", "skips.c"]
 # Of a macro that checks one call, which fields of the answer it names.
@@ -24,9 +28,9 @@ LINE_CALLS = {f"mds_line_{it}" for it in (
 NOTHING = {"NO_FENCE": {"length": NONE, "byte": 0}, "NO_ITEM": {"length": NONE, "start": 0, "indent": 0, "delimiter": 0}}
 
 
-def totals():
-    lines = (Path(__file__).parent / "totals").read_text().splitlines()
-    return {name: int(number) for name, number in (it.split() for it in lines if not it.startswith("#"))}
+def hold(test, name, tried):
+    """So many are tried as the file totals says."""
+    test.assertEqual(totals_file.fault(Path(__file__).parent / "totals", name, tried), "")
 
 
 class Lines:
@@ -248,8 +252,9 @@ class Rows(unittest.TestCase):
         for name in FILES:
             for row in c_rows.rows_of(name):
                 self.check(row)
-        wanted = totals()
-        self.assertEqual(dict(self.tried), {it: wanted[it] for it in FILES})
+        self.assertEqual(set(self.tried), set(FILES))
+        for name in FILES:
+            hold(self, name, self.tried[name])
 
 
 if __name__ == "__main__":

@@ -1,0 +1,167 @@
+"""Figures in pages: each is counted from the tree, or stands in a source that has it first.
+
+A row is a page, a piece of its text with {} in the place of each figure, and the figures. White space fits any.
+"""
+import re
+from collections import Counter
+from functools import cache
+
+import totals_file
+from reading import TOP, text_of
+
+WORDS = "no one two three four five six seven eight nine ten eleven twelve".split()
+FIGURE = r"(\w+(?:[.,]\w+)*)"
+NUMBER = re.compile(r"\d+(?:[.,]\d+)*")
+# What README.md says in numbers that are no figures of the tree: a version, the proved bound, the size of the text in bench/RESULTS.md.
+GIVEN = re.compile(r"\b\d+\.\d+\.\d+\b|Python 3\b|4n \+ 8k|\bOn 1\.8 MB of Markdown|\bright of 1\b")
+
+
+@cache
+def totals(path):
+    """The totals of a file that are numbers."""
+    return {name: int(total) for name, total in totals_file.read(TOP / path).items() if total.isdecimal()}
+
+
+def source(path, pattern):
+    """What stands in a source at the group of a pattern, which fits there in one way."""
+    found = {it[1] for it in re.finditer(pattern, text_of(path))}
+    if len(found) != 1:
+        raise SystemExit(f"docs/figures.py: {path} has {len(found)} numbers by {pattern}")
+    return found.pop()
+
+
+def number(path, pattern):
+    return int(source(path, pattern).replace("_", ""))
+
+
+def shown(figure):
+    """A figure as pages write it."""
+    return f"{figure:,}" if isinstance(figure, int) else figure
+
+
+def times(row):
+    """How many times as many instructions a row of tests/parser/README.md has."""
+    found = source("tests/parser/README.md", rf"(?m)^\| {row}.*: ([\d.]+) \|$")
+    return f"{float(found):.2f}"
+
+
+def answered():
+    """How many cases of each call pulldown-cmark answered, those of lines apart."""
+    lines = text_of("crates/cmark_replay/stdin").splitlines()[-totals("tests/differential/totals")["answered"] :]
+    found = Counter(line.split("\t")[0] for line in lines)
+    return found.pop("line"), found
+
+
+def of_answers():
+    replay = totals("tests/differential/totals")
+    lines, calls = answered()
+    both = replay["worked"], replay["answered"]
+    cases = len(totals_file.read(TOP / "tests/faults/cases"))
+    return [
+        ("README.md", "say what they should: {} worked rows, tests of `cmark_vectors`, and {} inputs on which", both),
+        ("docs/MAP.md", "the {} worked rows of `tests/differential/rows`, and {} that pulldown-cmark", both),
+        ("docs/DIFFERENCES.md", "how the {} answers of pulldown-cmark were made", both[1:]),
+        ("tests/differential/README.md", "begins with the {} worked rows of", both[:1]),
+        ("tests/differential/README.md", "and then has {} cases with the answers", both[1:]),
+        ("tests/differential/README.md", "must print `{} agree, 0 differ`", [str(sum(both))]),
+        ("tests/differential/README.md", "The latter are {} lists of calls", [lines]),
+        ("tests/differential/README.md", "up to {} inputs for each of {} other calls", [max(calls.values()), len(calls)]),
+        ("tests/differential/README.md", "computes each of the {} cases", [cases]),
+        ("README.md", "the {} checks of `tests/faults/run`", [2 * sum(totals("tests/faults/totals").values())]),
+    ]
+
+
+def of_parser():
+    found = totals("tests/parser/totals")
+    original, swapped = found["tests-original"], found["tests-swapped"]
+    most = totals_file.read(TOP / "tests/parser/totals")["instructions"]
+    both = times("1.8 MB of release notes"), times("the pages of this tree")
+    page = "tests/parser/README.md"
+    return [
+        ("README.md", "{} of its {} tests pass, the other {} expect comments", [swapped, original, WORDS[original - swapped]]),
+        ("README.md", "takes {} times the instructions on 1.8 MB of release notes, and {} times on the pages", both),
+        ("README.md", "where {} is the limit", [most]),
+        (page, "Of the {} functions of `scanners.rs`", [found["functions"]]),
+        (page, "`puncttable.rs` {} are gone", [found["functions"] - found["kept"]]),
+        (page, "{} functions stay:", [WORDS[found["kept"]].capitalize()]),
+        (page, "EXPECTED.md), {} fragments made of pieces", [found["fragments"]]),
+        (page, "3 of docs | {} of {} | {}; {} comments", [original, original, swapped, WORDS[original - swapped]]),
+        (page, "| {} fragments, {} MB |", [found["fragments"], f"{found['bytes'] / 1e6:.1f}"]),
+        (page, "| {} differ, all of known kinds; of {} calls {} are answered", [found[it] for it in ("differ", "calls", "answers")]),
+        (page, "`totals` lets {}.", [most]),
+    ]
+
+
+def of_packages():
+    made = totals("packages/javascript/totals")["made_pages"]
+    most = number("packages/javascript/test", r"(?m)^most=(\d+)$") // 1000
+    asking = len(re.findall(r":\s+(?:\* )?MDS_NO_MEMORY\.", text_of("packages/c/include/markdown_scanners.h")))
+    return [
+        ("README.md", "WebAssembly module of at most {} KB", [most]),
+        ("packages/javascript/README.md", "WebAssembly module of at most {} KB", [most]),
+        ("packages/javascript/README.md", "page's reading of {} made pages", [made]),
+        ("README.md", "What the {} that ask for memory answer", [WORDS[asking]]),
+    ]
+
+
+def of_sources():
+    vectors = "crates/cmark_vectors/src"
+    hostile = [
+        number(f"{vectors}/inline_html/hostile.rt", r'\(b"<!--", (\d+),'),
+        number(f"{vectors}/line.rt", r'long_text\(rt\.alloc\(\), b"", b"- ", ([\d_]+),'),
+        number(f"{vectors}/linklabel.rt", r'"\\\\\[\\n"\.repeat\(alloc, ([\d_]+)\)'),
+        number(f"{vectors}/scanners/html_tag.rt", r'b"<a", b"\\n> b", ([\d_]+),'),
+    ]
+    places = "as {} openers, {} bullets, a label among {} escaped brackets, tags over {} lines"
+    return [
+        ("README.md", "whose logic `rt version` names `{}`", [source("tests/mutations/inside.py", r'KIT = ".* logic (\w+)"')]),
+        ("README.md", places, hostile),
+        ("docs/DECISIONS.md", "a perfect hash of {} seeds", [number("crates/html_entities/generate.py", r"(?m)^SEED_COUNT = (\d+)")]),
+        ("tests/mutations/README.md", "tries up to {} in one check", [number("tests/mutations/grouping.py", r"(?m)^MOST = (\d+)")]),
+    ]
+
+
+def rows():
+    return of_answers() + of_parser() + of_packages() + of_sources()
+
+
+def pattern_of(words):
+    parts = [r"\s+".join(map(re.escape, re.split(r"\s+", part))) for part in words.split("{}")]
+    return re.compile(FIGURE.join(parts))
+
+
+def faults_of(page, words, figures, text):
+    """What is wrong with a row, and the text of the page with its figures."""
+    found = list(pattern_of(words).finditer(text))
+    wanted = [shown(it) for it in figures]
+    if len(found) != 1:
+        return f"{page}: {len(found)} places have the words: {words}", text
+    if list(found[0].groups()) == wanted:
+        return "", text
+    for at in range(len(wanted), 0, -1):
+        start, end = found[0].span(at)
+        text = text[:start] + wanted[at - 1] + text[end:]
+    return f"{page}: {', '.join(found[0].groups())}, and not {', '.join(wanted)}: {words}", text
+
+
+def unknown_of(text, known):
+    """Numbers of README.md, beside those in code, that no row has."""
+    text = re.sub(r"(?ms)^```.*?^```", "", text)
+    for words in known:
+        text = pattern_of(words).sub("", text)
+    text = GIVEN.sub("", re.sub(r"`[^`]*`|\]\([^)]*\)", "", text))
+    return [f"README.md: a figure of which docs/figures.py says nothing: {it[0].strip()}" for it in re.finditer(r".*\d.*", text)]
+
+
+def faults(writes):
+    """What is wrong in the pages; where it is to be written, what is left of it then."""
+    said, texts, all_rows = [], {}, rows()
+    for page, words, figures in all_rows:
+        fault, text = faults_of(page, words, figures, texts.get(page, text_of(page)))
+        is_mended = writes and text != texts.get(page, text_of(page))
+        texts[page] = text if writes else text_of(page)
+        said += [fault] if fault and not is_mended else []
+    for page, text in texts.items():
+        if text != text_of(page):
+            (TOP / page).write_text(text)
+    return said + unknown_of(texts["README.md"], [words for page, words, _ in all_rows if page == "README.md"])

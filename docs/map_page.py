@@ -1,0 +1,113 @@
+"""What docs/MAP.md has, in sections of crates and of folders, and what the tree has of it."""
+import re
+from collections import Counter
+
+from contract_rows import rows_of
+from crate_list import crates
+from reading import TOP, files_below, public_items, text_of
+
+MAP = "docs/MAP.md"
+USES = "cmark_uses"
+FOLDERS = [it.relative_to(TOP).as_posix() for at in ("packages", "tests") for it in sorted((TOP / at).iterdir()) if it.is_dir()]
+FOLDERS += ["bench", "docs"]
+UNLISTED = (".pyc", ".edit", "Cargo.lock", ".wasm")  # wrong bodies, and what tools make
+PARTS = {"src": ".rt", "specs": ".antt", "proofs": ".antt"}
+OF_TYPES = ("type", "trait")
+
+
+def named(text):
+    return re.findall(r"`([^`]+)`", text)
+
+
+def sections_of(text):
+    """The text of the section of each crate or folder, by its name; a folder's ends in a slash."""
+    parts = re.split(r"^## `([\w/]+)`\n", text, flags=re.M)
+    return dict(zip(parts[1::2], parts[2::2]))
+
+
+def paragraphs_of(section):
+    """The paragraphs and the list items of a section, each in one line."""
+    found = [""]
+    for line in section.splitlines():
+        if not line.strip() or line.startswith(("- ", "#")):
+            found.append("")
+        found[-1] += " " + line.strip()
+    return [it.strip() for it in found if it.strip()]
+
+
+def listed(section, label):
+    """The names of the items that begin with a label."""
+    heads = [line.removeprefix(f"- {label}: ") for line in paragraphs_of(section) if line.startswith(f"- {label}: ")]
+    return [it for line in heads for it in named(line)]
+
+
+def has_calls(name, section):
+    """Whether a section lists all calls of its crate; that of the uses does so by their files."""
+    return name != USES and "- Calls: " in section
+
+
+def modules_of(section):
+    """The modules of the constructs of a section: those that their first lines name."""
+    lines = paragraphs_of(section)
+    heads = [line for above, line in zip(lines, lines[1:]) if above.startswith("### ") and line.startswith("`")]
+    return [it for line in heads for it in named(re.split(r":(?: |$)", line)[0])]
+
+
+def fits(path, module):
+    """Whether the path rule puts a file of specs/ or proofs/ where a module has its own."""
+    inside = path.split("/", 1)[1].removesuffix(".antt")
+    folder, _, name = module.rpartition("/")
+    camel = "".join(it.capitalize() for it in name.split("_"))
+    return inside.startswith(module + "/") or inside in (module, f"{folder}/{camel}".strip("/"))
+
+
+def only_lists(crate, path):
+    """A file of modules beside their folder."""
+    return path.endswith("Lib.antt") or path.endswith(".antt") and (TOP / "crates" / crate / path[:-5]).is_dir()
+
+
+def tokens_of(section):
+    """The files and folders of a crate that its section names, with how often."""
+    return Counter(it for it in named(section) if it.startswith(tuple(f"{part}/" for part in PARTS)))
+
+
+def files_of(crate, section):
+    """The files of a crate, each with how often its section names it and whether the path rule puts it somewhere."""
+    tokens = tokens_of(section)
+    modules = modules_of(section) + [it[4:-3] for it in tokens if it.startswith("src/") and it.endswith(".rt")]
+    of_rule = [it for it in modules if it not in ("lib", "scanners")]
+    for part, suffix in PARTS.items():
+        for path in [it.removeprefix(f"crates/{crate}/") for it in files_below(f"crates/{crate}/{part}", suffix)]:
+            by_rule = part != "src" and any(fits(path, it) for it in of_rule)
+            by_rule |= part == "src" and path[4:-3] in modules_of(section)
+            by_rule |= only_lists(crate, path) or any(it.endswith("/") and path.startswith(it) for it in tokens)
+            yield path, tokens[path], by_rule
+
+
+def files_of_folder(name, section):
+    """The files of a folder of scripts that its section has to name, and those that it names."""
+    tokens = [it for line in paragraphs_of(section) if line.startswith("- ") for it in named(line.split(": ")[0])]
+    files = [it.relative_to(TOP / name).as_posix() for it in sorted((TOP / name).rglob("*")) if it.is_file()]
+    folders = [it for it in tokens if it.endswith("/") and (TOP / name / it).is_dir()]
+    kept = [it for it in files if not it.endswith(UNLISTED) and not it.startswith("target/")]
+    wanted = [it for it in kept if not any(it.startswith(at) for at in folders)]
+    return [it for it in wanted if name != "docs" or not it.endswith(".md")] + folders, tokens
+
+
+def calls_and_types(crate):
+    """The calls, and the types, that a section of the crate has to name."""
+    items = [it for it in public_items(crate) if crate != USES or it.kind == "fn" and not it.trait]
+    return [it for it in items if it.kind not in OF_TYPES], [it for it in items if it.kind in OF_TYPES]
+
+
+def counted(ours, sections):
+    """The totals that the head of the page has."""
+    with_calls = [it for it in ours if has_calls(it, sections[it])]
+    calls, types = (sum(len(calls_and_types(it)[at]) for it in with_calls) for at in (0, 1))
+    uses, rows = len(calls_and_types(USES)[0]), len(rows_of(text_of("docs/CONTRACTS.md")))
+    return {"crates": len(ours), "calls": calls, "types": types, "uses": uses, "rows": rows}
+
+
+def crates_of(sections):
+    """The crates that have sections."""
+    return [it for it in crates() if it in sections]
