@@ -80,20 +80,25 @@ fn run(function: Function, input: &Input, rounds: usize) -> u64 {
     black_box(unsafe { function(text.as_ptr(), text.len(), at.as_ptr(), at.len(), rounds) })
 }
 
-/// Seconds of one round; what no round costs is taken off.
-fn seconds(function: Function, input: &Input) -> f64 {
-    let timed = |rounds| {
+/// Seconds of one round of each side, which take turns; what no round costs is taken off.
+fn seconds(functions: &[Function], input: &Input) -> Vec<f64> {
+    let timed = |function, rounds| {
         let start = Instant::now();
         run(function, input, rounds);
         start.elapsed().as_secs_f64()
     };
-    let mut rounds = 1;
-    while timed(rounds) < LEAST_SECONDS && rounds < 1 << 20 {
-        rounds *= 2;
+    let enough = |function| {
+        let doubled = std::iter::successors(Some(1), |rounds| Some(rounds * 2));
+        doubled.take(20).find(|rounds| timed(function, *rounds) >= LEAST_SECONDS).unwrap_or(1 << 20)
+    };
+    let rounds: Vec<usize> = functions.iter().map(|function| enough(*function)).collect();
+    let mut best = vec![[f64::MAX; 2]; functions.len()];
+    for _ in 0..TRIES {
+        for ((function, rounds), best) in functions.iter().zip(&rounds).zip(&mut best) {
+            *best = [best[0].min(timed(*function, 0)), best[1].min(timed(*function, *rounds))];
+        }
     }
-    let best = |rounds| (0..TRIES).map(|_| timed(rounds)).fold(f64::MAX, f64::min);
-    let none = best(0);
-    (best(rounds) - none).max(0.0) / rounds as f64
+    best.iter().zip(&rounds).map(|([none, all], rounds)| (all - none).max(0.0) / *rounds as f64).collect()
 }
 
 /// Allocations and growths of one round.
@@ -131,29 +136,30 @@ fn dump(function: Function, input: &Input, name: &str, counted: usize) {
     }
 }
 
+/// The sum of the answers; of hashes none, as a hash may be any number.
+fn sum_of(function: Function, call: &str, input: &Input) -> u64 {
+    if call == "label_hash" { 0 } else { run(function, input, 1) }
+}
+
 /// Prints a line for a call on an input: both names, how many places or bytes, and one answer per side.
 fn report(mode: &str, what: &str, call: &str, input: &Input, sides: &[&Side], places: usize) {
     let is_made = !matches!(what, "real" | "names");
     let found = sides.iter().filter_map(|side| Some((side.name, side.function(call, is_made)?)));
-    let mut answers = vec![];
-    for (side, function) in found {
-        answers.push(match mode {
-            // a hash may be any number
-            "check" if call == "label_hash" => format!("{side}=0"),
-            "check" => format!("{side}={}", run(function, input, 1)),
-            "time" => format!("{side}={:.1}", seconds(function, input) * 1e9),
-            "allocations" => {
-                let [new, grown] = requests(function, input);
-                format!("{side}={new}+{grown}")
+    let (names, functions): (Vec<&str>, Vec<Function>) = found.unzip();
+    let answers: Vec<String> = match mode {
+        "check" => functions.iter().map(|it| sum_of(*it, call, input).to_string()).collect(),
+        "time" => seconds(&functions, input).iter().map(|it| format!("{:.1}", it * 1e9)).collect(),
+        "allocations" => functions.iter().map(|it| requests(*it, input).map(|it| it.to_string()).join("+")).collect(),
+        "callgrind" => {
+            let counted = counted_rounds(call, input.text.len() >= LONG);
+            for (name, function) in names.iter().zip(&functions) {
+                dump(*function, input, &format!("{what}|{call}|{places}|{name}"), counted);
             }
-            "callgrind" => {
-                let counted = counted_rounds(call, input.text.len() >= LONG);
-                dump(function, input, &format!("{what}|{call}|{places}|{side}"), counted);
-                continue;
-            }
-            _ => panic!("no such mode: {mode}"),
-        });
-    }
+            vec![]
+        }
+        _ => panic!("no such mode: {mode}"),
+    };
+    let answers: Vec<String> = names.iter().zip(answers).map(|(name, answer)| format!("{name}={answer}")).collect();
     println!("{what}\t{call}\t{places}\t{}", answers.join("\t"));
 }
 

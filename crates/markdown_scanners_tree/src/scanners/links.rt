@@ -7,6 +7,7 @@ ghost use Rattle.markdown_values.specs.strings.Text.{cow_text, IsBorrowed};
 ghost use Rattle.markdown_scanners_tree.specs.Ascii.{vertical_line, less_than_sign, greater_than_sign};
 ghost use Rattle.markdown_scanners_tree.specs.Bytes.{is_line_ending};
 ghost use Rattle.markdown_scanners_tree.specs.SomeExactly.{SomeExactly, IsOnly};
+ghost use Rattle.markdown_scanners_tree.specs.scanners.classes.private.InDestination.{is_in_destination};
 ghost use Rattle.markdown_scanners_tree.specs.scanners.links.LinkDestination.{IsLinkDestination, IsBareFrom, IsPointedFrom, StandsInside};
 ghost use Rattle.markdown_scanners_tree.specs.scanners.links.Autolink.{IsUriAutolink, StartsWithScheme, is_scheme_byte, is_uri_byte};
 
@@ -143,23 +144,35 @@ fn bare_len(bytes: &[u8], max_next: usize) -> Option<usize>
     let mut i = 0;
     let mut depth = 0;
     while i < bytes.len() {
-        // One look at a table tells most bytes.
-        if is_in_destination(bytes[i]) {
+        let byte = bytes[i];
+        if byte == b'(' {
+            if depth > max_next {
+                return None;
+            }
+            depth += 1;
             i += 1;
-            continue;
+        } else if byte == b')' {
+            if depth == 0 {
+                break;
+            }
+            depth -= 1;
+            i += 1;
+        } else if byte <= b' ' {
+            break;
+        } else {
+            i += if starts_escape(bytes, i) { 2 } else { 1 };
+            i += plain_len(&bytes[i..]);
         }
-        match bytes[i] {
-            b'\0'..=b' ' => break,
-            b'\\' if starts_escape(bytes, i) => i += 1,
-            b'(' if depth > max_next => return None,
-            b'(' => depth += 1,
-            b')' if depth == 0 => break,
-            b')' => depth -= 1,
-            _ => {}
-        }
-        i += 1;
     }
     if depth == 0 { Some(i) } else { None }
+}
+
+// How many bytes stand at the front that neither nest, escape nor end a destination: most of it.
+fn plain_len(bytes: &[u8]) -> usize
+    ensures run { result ≡ prefix_len is_in_destination bytes.now }
+    ensures within { result ≤ length bytes.now }
+{
+    bytes.iter().take_while(|b| is_in_destination(**b)).count()
 }
 
 /// The length of the absolute URI at the front of the bytes, behind which stands its `>`.

@@ -1,16 +1,18 @@
 -- A bare link destination, read unit by unit.
 use Rattle.std.proofs.Common.{◌≡◌, ℕ, zero, suc, ◌+◌, ◌<◌, ◌≤◌, Bool, true, false, cond, ltb, leb, eqb, List, [], ◌∷◌, ◌++◌}
 use Rattle.std.proofs.Common.{length, take, drop, get_or, refl, ap, ◌∙◌, sym, subst, arith, ◌≢◌, inl, inr, ◌⊎◌}
-use Rattle.std.specs.List.{concat, list_all}
-use Rattle.std.proofs.lemmas.List.{length-append, drop_all}
+use Rattle.std.specs.List.{concat, list_all, prefix_len}
+use Rattle.std.proofs.lemmas.List.{length-append, drop_all, length-drop, get_or-drop}
 use Rattle.markdown_scanners_tree.proofs.PrefixLemmas.{both_true}
-use Rattle.std.proofs.lemmas.List.Sums.{sum_by-cons}
+use Rattle.std.proofs.lemmas.List.Sums.{sum_by-cons, prefix_len_passes, prefix_len-le-length}
 use Rattle.std.proofs.lemmas.Bool.{false≢true, false_from_ne_true, or_cases, or_parts, or_left, or_right, le-leb, ltb-true}
 use Rattle.std.proofs.lemmas.Bool.{leb-true, leb-false, and_parts, eqb-true, le-ltb, lt-ltb, eq-eqb, ne_eqb, and_from}
 use Rattle.std.specs.Prelude.{◌||◌, ◌&&◌}
+use Rattle.markdown_scanners_tree.proofs.scanners.classes.DestinationBytes.{in_destination}
 use Rattle.markdown_scanners_tree.proofs.scanners.escapes.UnitLemmas.{units_single_at, units_escape_at, plain_byte}
 use Rattle.markdown_scanners_tree.specs.Ascii.{space, left_parenthesis, right_parenthesis}
 use Rattle.markdown_scanners_tree.specs.scanners.Escapes.{units, starts_escape}
+use Rattle.markdown_scanners_tree.specs.scanners.classes.private.InDestination.{is_in_destination}
 use Rattle.markdown_scanners_tree.specs.scanners.links.LinkDestination.{is_single, stands_bare, opening_count, closing_count, IsBalanced, ends_bare, IsBareFrom}
 
 -- d parentheses are open before the unit and d' after it
@@ -251,6 +253,22 @@ pub so_far_single : (most d d' i : ℕ) (bytes : List ℕ) → IsBareSoFar most 
 so_far_single most d d' i bytes is in' plain on turns low =
     so_far_more most d d' i (i + 1) bytes (get_or bytes i 0 ∷ []) is (units_single_at bytes i in' plain) refl
     (omega (arith, in')) (not_ended (get_or bytes i 0) d on).0 turns low
+
+-- bytes that neither nest, escape nor end a destination
+pub so_far_plain : (most d i n : ℕ) (bytes : List ℕ) → IsBareSoFar most d i bytes
+    → n ≤ prefix_len is_in_destination (drop i bytes) → IsBareSoFar most d (i + n) bytes
+so_far_plain most d i zero bytes is few = subst (λ k. IsBareSoFar most d k bytes) (omega arith) is
+so_far_plain most d i (suc n) bytes is few =
+    let before = so_far_plain most d i n bytes is (omega (arith, few)) in
+    let inside : i + n < length bytes =
+    omega (arith, few, prefix_len-le-length is_in_destination (drop i bytes), length-drop i bytes) in
+    let plain = in_destination (get_or bytes (i + n) 0)
+    (ap is_in_destination (sym (get_or-drop i bytes n 0))
+    ∙ prefix_len_passes is_in_destination (drop i bytes) n 0 (omega (arith, few))) in
+    subst (λ k. IsBareSoFar most d k bytes) (omega arith)
+    (so_far_single most d d (i + n) bytes before inside (plain_byte bytes (i + n) inside plain.no_escape)
+    (no_end (get_or bytes (i + n) 0) d plain.high (λ close none. plain.no_close close))
+    (turns_other _ d d plain.no_open plain.no_close refl) before.depth_at_most)
 
 -- the place at which the loop stops
 abbrev pub IsStop : List ℕ → ℕ → ℕ → Type 0
