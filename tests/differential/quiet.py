@@ -23,13 +23,25 @@ def texts():
     ]
 
 
-# Kinds of code blocks, levels, links, tags and events.
+# Kinds of code blocks, levels, alerts, alignments, links, tags and events. Alerts are numbered from 1, alignments from 0.
+
+ALERTS = ("Note", "Tip", "Important", "Warning", "Caution")
+ALIGNMENTS = ("None", "Left", "Center", "Right")
+
+
+def numbered(names, first, number):
+    """The value of the number, or None."""
+    return some(Value(names[number - first]) if first <= number < first + len(names) else None)
+
 
 def values():
     is_indented = lambda kind: (kind == "indented", kind == "fenced")
     level = lambda number: Plain(f"h{number} {number}" if 1 <= number <= 6 else f"not {number}")
+    numbers = [
+        (1 + ALERTS.index("Note"), numbered(ALERTS, 1, 6)), (ALIGNMENTS.index("Right"), numbered(ALIGNMENTS, 0, 0)),
+    ]
     return [
-        *map(is_indented, ("indented", "fenced", "fenced")), level(3), level(7), Value("CollapsedUnknown"), Value("Link"),
+        *map(is_indented, ("indented", "fenced", "fenced")), level(3), level(7), *numbers, Value("CollapsedUnknown"), Value("Link"),
         Value("List", True), link(borrowed(OF_30)), Value("Text", borrowed(OF_30)), Value("TaskListMarker", True),
         Value("End", Value("Table")),
     ]
@@ -189,9 +201,10 @@ def inline_html():
     hit = text.index(b"-->")
     # one byte is looked at, three are compared, and a search passes over all up to the end of its hit
     passed = 1 + 3 + hit + 3
+    *either, (either_passed, _) = steps(b"<!-->", [3, 2])
     return [
         comment[:2], cdata[:2], (*processing[:2], 0), (len(text), some(text[1])), some(text[2]), text[3:6] == b"-->",
-        some(hit), passed, guarded(b"<!--<?a?>", "comment"), guarded(b"<?a?>", "processing"),
+        some(hit), passed, guarded(b"<!--<?a?>", "comment"), guarded(b"<?a?>", "processing"), *either, either_passed,
         *steps(b"<!-- a <!-- b --> <!-- c", [2, 9, 2, 20, 1]),
     ]
 

@@ -3,19 +3,7 @@ ghost use Rattle.std.specs.Prelude.{◌≡◌};
 
 use crate::loops::{bit, count, each_rest, two};
 use markdown_scanners_tree::scanners::*;
-use markdown_values::values::{Alignment, HeadingLevel};
 use std::alloc::Global;
-
-fn level(level: HeadingLevel) -> u64 {
-    match level {
-        HeadingLevel::H1 => 1,
-        HeadingLevel::H2 => 2,
-        HeadingLevel::H3 => 3,
-        HeadingLevel::H4 => 4,
-        HeadingLevel::H5 => 5,
-        HeadingLevel::H6 => 6,
-    }
-}
 
 // What the loop itself costs.
 #[unsafe(no_mangle)]
@@ -39,7 +27,7 @@ pub extern "C" fn ours_hrule(text: &[u8], at: &[usize], rounds: usize) -> u64 {
 pub extern "C" fn ours_atx(text: &[u8], at: &[usize], rounds: usize) -> u64 {
     let call = |b: &[u8]| -> u64 {
         match scan_atx_heading(b) {
-            Some(h) => level(h),
+            Some(level) => level.number() as u64,
             None => 0,
         }
     };
@@ -50,7 +38,7 @@ pub extern "C" fn ours_atx(text: &[u8], at: &[usize], rounds: usize) -> u64 {
 pub extern "C" fn ours_setext(text: &[u8], at: &[usize], rounds: usize) -> u64 {
     let call = |b: &[u8]| -> u64 {
         match scan_setext_heading(b) {
-            Some((n, h)) => two(n, level(h)),
+            Some((n, level)) => two(n, level.number() as u64),
             None => 0,
         }
     };
@@ -91,22 +79,15 @@ pub extern "C" fn ours_closing_metadata(text: &[u8], at: &[usize], rounds: usize
     each_rest(text, at, rounds, &call)
 }
 
-fn alignment(alignment: Alignment) -> u64 {
-    match alignment {
-        Alignment::None => 1,
-        Alignment::Left => 2,
-        Alignment::Center => 3,
-        Alignment::Right => 4,
-    }
-}
-
 fn head(alloc: Global, b: &[u8]) -> u64 {
     let Ok((n, columns)) = scan_table_head(alloc, b) else {
         return 0;
     };
     let mut sum: u64 = 0;
     for column in &columns {
-        sum = sum.wrapping_mul(5).wrapping_add(alignment(*column));
+        sum = sum
+            .wrapping_mul(5)
+            .wrapping_add(u64::from(column.number()) + 1);
     }
     two(n, sum)
 }
@@ -182,23 +163,11 @@ pub extern "C" fn ours_type_7(text: &[u8], at: &[usize], rounds: usize) -> u64 {
     each_rest(text, at, rounds, &call)
 }
 
-fn html_kind(kind: HtmlBlockKind) -> u64 {
-    match kind {
-        HtmlBlockKind::RawText => 1,
-        HtmlBlockKind::Comment => 2,
-        HtmlBlockKind::Processing => 3,
-        HtmlBlockKind::Declaration => 4,
-        HtmlBlockKind::Cdata => 5,
-        HtmlBlockKind::BlockName => 6,
-        HtmlBlockKind::TagAlone => 7,
-    }
-}
-
 #[unsafe(no_mangle)]
 pub extern "C" fn ours_html_start(text: &[u8], at: &[usize], rounds: usize) -> u64 {
     let call = |b: &[u8]| -> u64 {
         match scan_html_block_start(b) {
-            Some(kind) => html_kind(kind),
+            Some(kind) => u64::from(kind.number()),
             None => 0,
         }
     };

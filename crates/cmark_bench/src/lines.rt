@@ -3,7 +3,6 @@ ghost use Rattle.std.specs.Prelude.{◌≡◌};
 
 use crate::loops::{bit, each_rest, two};
 use markdown_scanners_tree::line::LineStart;
-use markdown_values::values::BlockQuoteKind;
 
 fn place_of(line: &LineStart) -> u64 {
     two(line.bytes_scanned(), line.remaining_space() as u64)
@@ -67,22 +66,12 @@ pub extern "C" fn ours_line_definition(text: &[u8], at: &[usize], rounds: usize)
     each_rest(text, at, rounds, &call)
 }
 
-fn kind(kind: BlockQuoteKind) -> u64 {
-    match kind {
-        BlockQuoteKind::Note => 1,
-        BlockQuoteKind::Tip => 2,
-        BlockQuoteKind::Important => 3,
-        BlockQuoteKind::Warning => 4,
-        BlockQuoteKind::Caution => 5,
-    }
-}
-
 #[unsafe(no_mangle)]
 pub extern "C" fn ours_line_tag(text: &[u8], at: &[usize], rounds: usize) -> u64 {
     let call = |b: &[u8]| -> u64 {
         let mut line = LineStart::new(b);
         let answer = match line.scan_blockquote_tag() {
-            Some(k) => kind(k),
+            Some(kind) => u64::from(kind.number()),
             None => 0,
         };
         place_of(&line).wrapping_mul(3).wrapping_add(answer)

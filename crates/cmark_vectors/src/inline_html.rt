@@ -4,8 +4,9 @@ mod run;
 
 use crate::asserts::assert_answer;
 use markdown_scanners_tree::inline_html::{
-    CountedText, HtmlScanGuard, scan_inline_html_comment, scan_inline_html_comment_counted,
-    scan_inline_html_processing, scan_inline_html_processing_counted,
+    CountedText, HtmlScanGuard, HtmlStop, scan_inline_html_comment,
+    scan_inline_html_comment_counted, scan_inline_html_counted, scan_inline_html_processing,
+    scan_inline_html_processing_counted,
 };
 use std::process::Abort;
 
@@ -84,6 +85,33 @@ fn counted_scans_count_what_they_pass_over(rt: HostRuntime) {
     for (place, end, passed) in [(2, None, 13), (6, Some(9), 16), (11, None, 17)] {
         let counted = counted_at(&rt, &mut text, &mut guard, place);
         assert_answer(&rt, &place, counted, (end, passed));
+    }
+    assert_answer(&rt, &"comments", guard.comment, 13);
+}
+
+// What the scan after either opener answers, and the bytes passed over by then.
+fn scanned_at(
+    rt: &impl Abort,
+    text: &mut CountedText<'_>,
+    guard: &mut HtmlScanGuard,
+    place: usize,
+) -> (Result<Option<usize>, HtmlStop>, u128) {
+    assert!(rt; text.passed() < 1_000_000);
+    let answer = scan_inline_html_counted(text, place, guard);
+    (answer, text.passed())
+}
+
+#[test]
+fn scans_after_either_opener_count_and_refuse_other_places(rt: HostRuntime) {
+    let mut guard = HtmlScanGuard::new();
+    let mut text = CountedText::new(COUNTED);
+    for (place, end, passed) in [(2, None, 13), (6, Some(9), 16), (11, None, 17)] {
+        let scanned = scanned_at(&rt, &mut text, &mut guard, place);
+        assert_answer(&rt, &place, scanned, (Ok(end), passed));
+    }
+    for place in [0, 1, 3, 12, 14] {
+        let scanned = scanned_at(&rt, &mut text, &mut guard, place);
+        assert_answer(&rt, &place, scanned, (Err(HtmlStop::NoOpener), 17));
     }
     assert_answer(&rt, &"comments", guard.comment, 13);
 }

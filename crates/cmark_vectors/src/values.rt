@@ -10,6 +10,7 @@ use std::alloc::{AllocError, Global};
 use std::process::Abort;
 
 mod levels;
+mod numbers;
 mod options;
 
 const OF_15: &str = "0123456789abcde";

@@ -2,7 +2,7 @@
 -- 5.1 to 5.3)
 use Rattle.std.specs.Prelude.{ℕ, Bool, false, List, ◌≤◌, Option, None, Some, if◌then◌else◌}
 use Rattle.markdown_values.specs.declared.values.BlockQuoteKind.{BlockQuoteKind}
-use Rattle.markdown_values.specs.declared.values.BlockQuoteKind.TheVariants as Kind
+use Rattle.markdown_values.specs.values.Alerts.{alert_number}
 use Rattle.markdown_scanners_tree.specs.line.KnownBreaks.{AreTrueBreaks}
 use Rattle.markdown_scanners_tree.specs.line.State.{LineState, IsLineState}
 use Rattle.markdown_scanners_tree.specs.declared.line.known_breaks.KnownBreaks.{KnownBreaks}
@@ -66,14 +66,6 @@ no_task status = record { status = status; checked = false }
 abbrev pub task_told : Option Bool → Task
 task_told None = no_task nothing
 task_told (Some checked) = record { status = ok; checked = checked }
-
--- a number of `enum mds_alert_kind`
-abbrev pub alert_number : BlockQuoteKind → ℕ
-alert_number Kind.Note = 1
-alert_number Kind.Tip = 2
-alert_number Kind.Important = 3
-alert_number Kind.Warning = 4
-alert_number Kind.Caution = 5
 
 -- a status, and no alert
 abbrev pub no_alert : ℕ → Alert

@@ -1,20 +1,13 @@
 -- Delimiter rows of tables. (GitHub Flavored Markdown 0.29, section 4.10, tables)
 use Rattle.std.specs.Prelude.{ℕ, List, ◌≡◌, ◌⊎◌, map, IsTrue}
 use Rattle.markdown_values.specs.declared.values.Alignment.{Alignment}
-use Rattle.markdown_values.specs.declared.values.Alignment.TheVariants as Aligned
+use Rattle.markdown_values.specs.values.Alignments.{alignment_number}
 use Rattle.markdown_scanners_tree.specs.scanners.tables.BegunRow.{begins_row}
 use Rattle.markdown_scanners_tree.specs.scanners.tables.DelimiterRow.{IsDelimiterRow, NoDelimiterRow}
 use Rattle.markdown_scanners_c.specs.Buffer.{IsWritten}
 use Rattle.markdown_scanners_c.specs.Status.{nothing, no_memory}
 use Rattle.markdown_scanners_c.specs.Texts.{IsNoText}
 use Rattle.markdown_scanners_c.specs.declared.texts.Text.{Text}
-
--- the number of an alignment, as of `enum mds_alignment`
-abbrev pub alignment_number : Alignment → ℕ
-alignment_number Aligned.None = 0
-alignment_number Aligned.Left = 1
-alignment_number Aligned.Center = 2
-alignment_number Aligned.Right = 3
 
 -- Memory is asked for: a row stands at the front, or the first cell of what begins as one does.
 abbrev pub AsksMemory : List ℕ → Type 0

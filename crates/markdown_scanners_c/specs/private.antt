@@ -1,5 +1,6 @@
 pub mod LabelText
 pub mod NoSpace
 pub mod PlainLabel
+pub mod ScanTold
 pub mod Searched
 pub mod SureRun

@@ -49,7 +49,7 @@ pub extern "C" fn mds_scan_atx_heading(bytes: &[u8]) -> u32
     ensures { FoundLevel (IsAtxHeading bytes.now) result }
 {
     match scan_atx_heading(bytes) {
-        Some(level) => level as u32,
+        Some(level) => level.number() as u32,
         None => 0,
     }
 }
@@ -71,7 +71,7 @@ pub extern "C" fn mds_scan_setext_heading(bytes: &[u8]) -> Underline
     match scan_setext_heading(bytes) {
         Some((length, level)) => Underline {
             length,
-            level: level as u32,
+            level: level.number() as u32,
         },
         None => Underline {
             length: NONE,

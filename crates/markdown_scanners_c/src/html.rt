@@ -1,9 +1,7 @@
 //! HTML blocks, tags and inline HTML.
-ghost use Rattle.std.specs.Prelude.{◌≡◌, ◌≢◌, ◌↔◌, ◌≤◌, ◌<◌, ◌+◌, ◌-◌, ◌^◌, ◌++◌, [], ◌∷◌, ℕ, List, IsTrue, Some, true, length};
+ghost use Rattle.std.specs.Prelude.{◌≡◌, ◌≢◌, ◌↔◌, ◌≤◌, ◌<◌, ◌-◌, ◌++◌, [], ◌∷◌, ℕ, List, IsTrue, true, length};
 ghost use Rattle.markdown_scanners_tree.specs.Kept.{KeptByte};
-ghost use Rattle.markdown_scanners_tree.specs.SomeExactly.{SomeExactly, IsOnly};
-ghost use Rattle.markdown_scanners_tree.specs.inline_html.Guard.{answer_of_scan, guard_after_scan, text_after_scan, IsTrueGuard, IsTrueScan};
-ghost use Rattle.markdown_scanners_tree.specs.inline_html.InlineHtml.{opener_before, opening_at};
+ghost use Rattle.markdown_scanners_tree.specs.inline_html.Guard.{IsTrueGuard};
 ghost use Rattle.markdown_scanners_tree.specs.inline_html.run.KeptGuard.{first_guard, AreScanPlaces, guard_after_scans};
 ghost use Rattle.markdown_scanners_tree.specs.scanners.html_block.HtmlBlock.{IsBlockStart};
 ghost use Rattle.markdown_scanners_tree.specs.scanners.html_kinds.HtmlKinds.{IsHtmlBlockStart, condition_number, is_html_end};
@@ -17,14 +15,14 @@ ghost use Rattle.markdown_scanners_c.specs.Guards.{scan_guard, new_guard, IsGuar
 ghost use Rattle.markdown_scanners_c.specs.Skips.{are_skips};
 ghost use Rattle.markdown_scanners_c.specs.Status.{past_end, bad_kind};
 ghost use Rattle.markdown_scanners_c.specs.Tags.{IsNoTag, IsTagText, IsScannedTag};
+ghost use Rattle.markdown_scanners_c.specs.private.ScanTold.{scan_told};
 ghost use Rattle.markdown_scanners_c.specs.private.Searched.{told_skip};
 
 use crate::skips::{Skip, told_skip};
 use crate::status::{BAD_KIND, NO_MEMORY, NO_OPENER, NONE, NOTHING, OK, PAST_END};
 use crate::texts::{Text, write_text};
 use markdown_scanners_tree::inline_html::{
-    CountedText, HtmlScanGuard, scan_inline_html_comment_counted,
-    scan_inline_html_processing_counted,
+    CountedText, HtmlScanGuard, HtmlStop, scan_inline_html_counted,
 };
 use markdown_scanners_tree::scanners::{
     HtmlBlockKind, ends_html_block, scan_html_block_inner, scan_html_block_start, scan_html_type_7,
@@ -58,7 +56,7 @@ pub extern "C" fn mds_scan_html_block_start(bytes: &[u8]) -> u32
     ensures { FoundKind (IsHtmlBlockStart bytes.now) result }
 {
     match scan_html_block_start(bytes) {
-        Some(kind) => kind as u32,
+        Some(kind) => u32::from(kind.number()),
         None => 0,
     }
 }
@@ -71,27 +69,13 @@ pub extern "C" fn mds_ends_html_block(bytes: &[u8], kind: u32) -> u32
         → result ≡ found_status (is_html_end k bytes.now) }
     ensures unknown { ((k : HtmlBlockKind) → condition_number k ≢ kind) → result ≡ bad_kind }
 {
-    match kind_of(kind) {
+    let Ok(number) = u8::try_from(kind) else {
+        return BAD_KIND;
+    };
+    match HtmlBlockKind::from_number(number) {
         Some(kind) if ends_html_block(bytes, kind) => OK,
         Some(_) => NOTHING,
         None => BAD_KIND,
-    }
-}
-
-// The kind of the number.
-fn kind_of(number: u32) -> Option<HtmlBlockKind>
-    ensures found { SomeExactly (λ k. condition_number k ≡ number) result }
-    ensures only { IsOnly (λ k. condition_number k ≡ number) result }
-{
-    match number {
-        1 => Some(HtmlBlockKind::RawText),
-        2 => Some(HtmlBlockKind::Comment),
-        3 => Some(HtmlBlockKind::Processing),
-        4 => Some(HtmlBlockKind::Declaration),
-        5 => Some(HtmlBlockKind::Cdata),
-        6 => Some(HtmlBlockKind::BlockName),
-        7 => Some(HtmlBlockKind::TagAlone),
-        _ => None,
     }
 }
 
@@ -194,6 +178,32 @@ pub struct Guard {
     pub processing: usize,
 }
 
+impl Guard {
+    // The guard of a scan with these numbers.
+    fn to_scan(&self) -> HtmlScanGuard
+        ensures { result ≡ scan_guard self.now }
+    {
+        HtmlScanGuard {
+            comment: self.comment,
+            cdata: self.cdata,
+            declaration: self.declaration,
+            processing: self.processing,
+        }
+    }
+
+    // The numbers of the guard that a scan leaves.
+    fn of(stops: &HtmlScanGuard) -> Guard
+        ensures { scan_guard result ≡ stops.now }
+    {
+        Guard {
+            comment: stops.comment,
+            cdata: stops.cdata,
+            declaration: stops.declaration,
+            processing: stops.processing,
+        }
+    }
+}
+
 /// `struct mds_end` of C: a place, where the status is `OK`, and how many bytes were passed over.
 #[repr(C)]
 pub struct End {
@@ -220,64 +230,24 @@ pub extern "C" fn mds_scan_inline_html(bytes: &[u8], place: usize, guard: &mut G
         → IsScanInTurn bytes.now earlier place guard.new result }
 {
     let mut text = CountedText::new(bytes);
-    let Some(mark) = text.opener_before(place) else {
-        return End {
-            status: NO_OPENER,
-            end: 0,
-            passed: 0,
-        };
-    };
-    let mut stops = HtmlScanGuard {
-        comment: guard.comment,
-        cdata: guard.cdata,
-        declaration: guard.declaration,
-        processing: guard.processing,
-    };
-    let found = scan_after(mark, &mut text, place, &mut stops);
-    *guard = Guard {
-        comment: stops.comment,
-        cdata: stops.cdata,
-        declaration: stops.declaration,
-        processing: stops.processing,
-    };
-    let passed = text.passed() as usize;
-    match found {
-        Some(end) => End {
-            status: OK,
-            end,
-            passed,
-        },
-        None => End {
-            status: NOTHING,
-            end: 0,
-            passed,
-        },
-    }
+    let mut stops = guard.to_scan();
+    let found = scan_inline_html_counted(&mut text, place, &mut stops);
+    *guard = Guard::of(&stops);
+    end_told(&found, text.passed() as usize)
 }
 
-// Scans what begins at the place, just after an opener with this mark.
-fn scan_after(
-    mark: u8,
-    text: &mut CountedText,
-    place: usize,
-    guard: &mut HtmlScanGuard,
-) -> Option<usize>
-    requires room { text.old.passed < 2 ^ 119 }
-    requires opener { opener_before text.old.text place ≡ Some mark }
-
-    // What every guard gives.
-    ensures answer { result ≡ answer_of_scan opening_at text.old.text guard.old place }
-    ensures guards { guard.new ≡ guard_after_scan opening_at text.old.text guard.old place }
-    ensures counts { text.new ≡ text_after_scan opening_at text.old guard.old place }
-    ensures bound { text.new.passed ≤ text.old.passed + length text.old.text + 8 }
-
-    // What a true guard gives.
-    ensures finds { IsTrueGuard text.old.text guard.old place
-        → IsTrueScan text.old.text place result guard.new }
+// The answer of a scan that passed over so many bytes, as C has it.
+fn end_told(found: &Result<Option<usize>, HtmlStop>, passed: usize) -> End
+    ensures { result ≡ scan_told found.now passed }
 {
-    if mark == b'!' {
-        scan_inline_html_comment_counted(text, place, guard)
-    } else {
-        scan_inline_html_processing_counted(text, place, guard)
+    let (status, end) = match found {
+        Ok(Some(end)) => (OK, *end),
+        Ok(None) => (NOTHING, 0),
+        Err(_) => (NO_OPENER, 0),
+    };
+    End {
+        status,
+        end,
+        passed,
     }
 }

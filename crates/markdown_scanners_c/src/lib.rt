@@ -1,4 +1,8 @@
 //! The scanners of `markdown_scanners_tree` as C functions, whose header is `markdown_scanners.h`.
+//!
+//! A slice is two parameters in C: a pointer, and then the length in elements. A reference to a
+//! struct is a pointer to it; a struct that is answered is returned by value. `alloc: Global` is
+//! no parameter in C: what it is asked for comes from the C library's `malloc` and `realloc`.
 #![tactic(auto)]
 
 mod blocks;

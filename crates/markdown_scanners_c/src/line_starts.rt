@@ -7,7 +7,7 @@ ghost use Rattle.markdown_scanners_tree.specs.line.KnownBreaks.{learnt_by_marker
 ghost use Rattle.markdown_scanners_tree.specs.line.Outcome.{after_all_space, after_quote, alert_outcome, definition_outcome, item_outcome, task_outcome};
 ghost use Rattle.markdown_scanners_tree.specs.line.State.{IsLineState, after_space, space_within, unscanned};
 ghost use Rattle.markdown_scanners_c.specs.LineStarts.{state_on, known_breaks, IsTrueStart, OfState, IsNext, found_status, no_columns, columns_told};
-ghost use Rattle.markdown_scanners_c.specs.LineStarts.{no_item, item_told, no_task, task_told, alert_number, no_alert, alert_told};
+ghost use Rattle.markdown_scanners_c.specs.LineStarts.{no_item, item_told, no_task, task_told, no_alert, alert_told};
 ghost use Rattle.markdown_scanners_c.specs.private.NoSpace.{HasNoSpace};
 ghost use Rattle.markdown_scanners_c.specs.Status.{ok, nothing, bad_state, too_large};
 
@@ -454,21 +454,8 @@ fn alert_of(kind: Option<BlockQuoteKind>) -> Alert
     match kind {
         Some(kind) => Alert {
             status: OK,
-            kind: number_of(kind),
+            kind: u32::from(kind.number()),
         },
         None => no_alert(NOTHING),
-    }
-}
-
-// The number of an alert's kind.
-fn number_of(kind: BlockQuoteKind) -> u32
-    ensures { result ≡ alert_number kind }
-{
-    match kind {
-        BlockQuoteKind::Note => 1,
-        BlockQuoteKind::Tip => 2,
-        BlockQuoteKind::Important => 3,
-        BlockQuoteKind::Warning => 4,
-        BlockQuoteKind::Caution => 5,
     }
 }

@@ -1,14 +1,14 @@
 //! Delimiter rows of tables.
 ghost use Rattle.std.specs.Prelude.{ℕ, ◌≡◌, ◌≢◌, ◌≤◌, List, length, map, IfOk, IfSome, IfNone, OnErr};
 ghost use Rattle.markdown_values.specs.declared.values.Alignment.{Alignment as Aligned};
+ghost use Rattle.markdown_values.specs.values.Alignments.{alignment_number};
 ghost use Rattle.markdown_scanners_tree.specs.scanners.tables.DelimiterRow.{IsDelimiterRow, NoDelimiterRow};
 ghost use Rattle.markdown_scanners_c.specs.Status.{no_memory};
-ghost use Rattle.markdown_scanners_c.specs.Tables.{alignment_number, AsksMemory, IsTableHead};
+ghost use Rattle.markdown_scanners_c.specs.Tables.{AsksMemory, IsTableHead};
 
 use crate::status::{NO_MEMORY, NOTHING};
 use crate::texts::{Text, no_text, write_text};
 use markdown_scanners_tree::scanners::scan_table_head;
-use markdown_values::values::Alignment;
 use std::alloc::{AllocError, Global};
 
 /// Writes the alignments of the delimiter row at the front. (GitHub Flavored Markdown 0.29, section
@@ -42,21 +42,6 @@ fn numbered_columns(alloc: Global, bytes: &[u8]) -> Result<Option<(usize, Vec<u8
     if length == 0 {
         return Ok(None);
     }
-    let numbers: Vec<u8> = columns
-        .iter()
-        .map(|column| number_of(*column))
-        .collect(alloc)?;
+    let numbers: Vec<u8> = columns.iter().map(|column| column.number()).collect(alloc)?;
     Ok(Some((length, numbers)))
-}
-
-// The number of an alignment.
-fn number_of(alignment: Alignment) -> u8
-    ensures { result ≡ alignment_number alignment }
-{
-    match alignment {
-        Alignment::None => 0,
-        Alignment::Left => 1,
-        Alignment::Center => 2,
-        Alignment::Right => 3,
-    }
 }

@@ -2,9 +2,9 @@
 pub use Rattle.markdown_scanners_tree.proofs.HandlerLemmas.{cut_behind_ascii, cut_behind_front, front_found, steady_at_ascii, ascii_fronts}
 pub use Rattle.markdown_scanners_tree.proofs.HandlerLemmas.{callable_after_line_endings}
 pub use Rattle.markdown_scanners_tree.proofs.LabelHandlers.{label_of_more}
-pub use Rattle.markdown_scanners_tree.proofs.inline_html.TrueGuards.{opener-bounds}
+pub use Rattle.markdown_scanners_tree.proofs.inline_html.TrueGuards.{opener-bounds, opener-there, IsTrueGuard-later}
 pub use Rattle.markdown_scanners_tree.proofs.inline_html.run.GuardsStay.{accepted}
-pub use Rattle.markdown_scanners_tree.proofs.inline_html.run.KeptGuard.{next_scan}
+pub use Rattle.markdown_scanners_tree.proofs.inline_html.run.KeptGuard.{first-true, next_scan}
 pub use Rattle.markdown_scanners_tree.proofs.inline_html.run.Sums.{passed-counted}
 pub use Rattle.markdown_scanners_tree.proofs.line.ItemIndents.{same_items}
 pub use Rattle.markdown_scanners_tree.proofs.line.ItemRules.{items_agree, item_alone, no_item_alone, items_begun, same_answers}

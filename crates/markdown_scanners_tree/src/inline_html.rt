@@ -1,10 +1,11 @@
 //! Scans of inline HTML that begins with `<!` or `<?`: comments, CDATA sections, declarations and
 //! processing instructions (CommonMark 0.31.2, section 6.6). A guard remembers that a search found
 //! nothing, so that many openers cost hardly more than one.
-ghost use Rattle.std.specs.Prelude.{◌≡◌, ◌≤◌, ◌<◌, ◌+◌, ◌^◌, length, IsTrue, IfSome, Some, slice_get};
+ghost use Rattle.std.specs.Prelude.{◌≡◌, ◌≢◌, ◌≤◌, ◌<◌, ◌+◌, ◌^◌, length, IsTrue, IfSome, Some, None, IfOk, IfErr, OnOk, OnErr, slice_get};
 ghost use Rattle.markdown_scanners_tree.specs.Ascii.{exclamation_mark, hyphen, question_mark, left_bracket};
 ghost use Rattle.markdown_scanners_tree.specs.inline_html.CountedText.{passing, searched_bytes};
-ghost use Rattle.markdown_scanners_tree.specs.inline_html.InlineHtml.{Begins, Declaration, ends_opener, declared_at, processing_at, first_place};
+ghost use Rattle.markdown_scanners_tree.specs.declared.inline_html.HtmlStop.TheVariants.{NoOpener};
+ghost use Rattle.markdown_scanners_tree.specs.inline_html.InlineHtml.{Begins, Declaration, ends_opener, opener_before, declared_at, processing_at, opening_at, first_place};
 ghost use Rattle.markdown_scanners_tree.specs.inline_html.Guard.{number_after, answer_of_scan, guard_after_scan, text_after_scan, IsTrueGuard, IsTrueScan};
 
 mod counted_text;
@@ -146,6 +147,47 @@ pub fn scan_inline_html_processing_counted(
     }
     let hit = find_or_shut(text, b"?>", place, &mut guard.processing)?;
     Some(hit + 2)
+}
+
+/// Scans what begins at `place`: after `<!` as `scan_inline_html_comment_counted` does, after `<?` as
+/// `scan_inline_html_processing_counted` does. (CommonMark 0.31.2, section 6.6)
+///
+/// # Errors
+///
+/// `NoOpener` where neither ends at `place`; then the text and the guard are as before.
+pub fn scan_inline_html_counted(
+    text: &mut CountedText,
+    place: usize,
+    guard: &mut HtmlScanGuard,
+) -> Result<Option<usize>, HtmlStop>
+    requires room { text.old.passed < 2 ^ 119 }
+
+    // It is refused exactly where no opener ends at the place.
+    ensures refused { IfErr result (λ why.
+        (why ≡ NoOpener) × (opener_before text.old.text place ≡ None)) }
+    ensures opened { OnOk result (opener_before text.old.text place ≢ None) }
+    ensures unchanged { OnErr result ((text.new ≡ text.old) × (guard.new ≡ guard.old)) }
+
+    // What every guard gives.
+    ensures answer { IfOk result (λ found.
+        found ≡ answer_of_scan opening_at text.old.text guard.old place) }
+    ensures guards { OnOk result
+        (guard.new ≡ guard_after_scan opening_at text.old.text guard.old place) }
+    ensures counts { OnOk result
+        (text.new ≡ text_after_scan opening_at text.old guard.old place) }
+    ensures within { IfOk result (λ found. IfSome found (λ end.
+        (place ≤ end) × (end ≤ length text.old.text))) }
+    ensures bound { text.new.passed ≤ text.old.passed + length text.old.text + 8 }
+
+    // What a true guard gives.
+    ensures finds { IsTrueGuard text.old.text guard.old place
+        → IfOk result (λ found. IsTrueScan text.old.text place found guard.new) }
+{
+    match text.opener_before(place) {
+        Some(b'!') => Ok(scan_inline_html_comment_counted(text, place, guard)),
+        Some(_) => Ok(scan_inline_html_processing_counted(text, place, guard)),
+        None => Err(HtmlStop::NoOpener),
+    }
 }
 
 // The first place from `from` on at which the closer stands. Where there is none, its kind's number

@@ -1,3 +1,5 @@
+pub mod Alerts
+pub mod Alignments
 pub mod Events
 pub mod Extensions
 pub mod Headings

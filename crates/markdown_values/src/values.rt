@@ -1,5 +1,7 @@
 //! Events, tags and options, and what they are made of.
-ghost use Rattle.std.specs.Prelude.{◌≡◌, ◌⊎◌, ◌<◌, ◌≤◌, IsTrue, IfOk, IsSome, Some, MatchResult, is_some, is_none};
+ghost use Rattle.std.specs.Prelude.{◌≡◌, ◌↔◌, ◌⊎◌, ◌<◌, ◌≤◌, IsTrue, IfOk, IsSome, Some, MatchResult, is_some, is_none};
+ghost use Rattle.markdown_values.specs.values.Alerts.{alert_number};
+ghost use Rattle.markdown_values.specs.values.Alignments.{alignment_number};
 ghost use Rattle.markdown_values.specs.values.Headings.{heading_number, heading_name};
 ghost use Rattle.markdown_values.specs.values.Links.{unknown_kind};
 ghost use Rattle.markdown_values.specs.values.Tags.{info_view};
@@ -95,6 +97,30 @@ pub enum BlockQuoteKind {
     Caution,
 }
 
+impl BlockQuoteKind {
+    /// The number of the kind, from 1 to 5 in the order that the kinds have here. It is for callers
+    /// that keep kinds as numbers, as C does; no specification gives one.
+    pub fn number(self) -> u8
+        ensures { result ≡ alert_number self }
+    {
+        self as u8 + 1
+    }
+
+    /// The kind of this number, and None where no kind has it.
+    pub fn from_number(number: u8) -> Option<BlockQuoteKind>
+        ensures { (kind : BlockQuoteKind) → (result ≡ Some kind) ↔ (alert_number kind ≡ number) }
+    {
+        match number {
+            1 => Some(BlockQuoteKind::Note),
+            2 => Some(BlockQuoteKind::Tip),
+            3 => Some(BlockQuoteKind::Important),
+            4 => Some(BlockQuoteKind::Warning),
+            5 => Some(BlockQuoteKind::Caution),
+            _ => None,
+        }
+    }
+}
+
 /// The kind of a metadata block, by the lines that enclose it.
 #[derive(Clone, Copy, Debug, PartialEq, Eq, PartialOrd, Ord, Hash)]
 pub enum MetadataBlockKind {
@@ -184,6 +210,30 @@ pub enum Alignment {
     Center,
     /// A colon at the right.
     Right,
+}
+
+impl Alignment {
+    /// The number of the alignment, from 0 to 3 in the order that the alignments have here. It is
+    /// for callers that keep alignments as numbers, as C does; no specification gives one.
+    pub fn number(self) -> u8
+        ensures { result ≡ alignment_number self }
+    {
+        self as u8
+    }
+
+    /// The alignment of this number, and None where no alignment has it.
+    pub fn from_number(number: u8) -> Option<Alignment>
+        ensures { (alignment : Alignment) → (result ≡ Some alignment)
+            ↔ (alignment_number alignment ≡ number) }
+    {
+        match number {
+            0 => Some(Alignment::None),
+            1 => Some(Alignment::Left),
+            2 => Some(Alignment::Center),
+            3 => Some(Alignment::Right),
+            _ => None,
+        }
+    }
 }
 
 /// How a link or an image was written. (CommonMark 0.31.2, sections 6.3 to 6.5)

@@ -6,7 +6,6 @@ ghost use Rattle.page_blocks.specs.declared.blocks.BlockKind.TheVariants.{Fenced
 use crate::blocks::BlockKind;
 use crate::containers::Container;
 use crate::info::{info_of, push_byte, push_bytes};
-use crate::printing::{number_of_html, number_of_level};
 use std::alloc::AllocError;
 
 /// Adds the front of an object: its lines, how many containers stand around, the name of its kind.
@@ -37,16 +36,12 @@ pub(crate) fn push_kind_json(
     match kind {
         BlockKind::Blank => text.push_str("\"blank\""),
         BlockKind::Break => text.push_str("\"break\""),
-        BlockKind::Heading(level) => {
-            push_number(text, "\"heading\",\"level\":", number_of_level(level))
-        }
-        BlockKind::Setext(level) => {
-            push_number(text, "\"setext\",\"level\":", number_of_level(level))
-        }
+        BlockKind::Heading(level) => push_number(text, "\"heading\",\"level\":", level.number()),
+        BlockKind::Setext(level) => push_number(text, "\"setext\",\"level\":", level.number()),
         BlockKind::Indented => text.push_str("\"indented\""),
         BlockKind::Fenced(count, byte) => push_fenced(text, count, byte, words),
         BlockKind::Html(kind) => {
-            push_number(text, "\"html\",\"condition\":", number_of_html(kind))
+            push_number(text, "\"html\",\"condition\":", usize::from(kind.number()))
         }
         BlockKind::Table(columns) => write!(text, "\"table\",\"columns\":{columns}"),
         BlockKind::Paragraph => text.push_str("\"paragraph\""),
@@ -54,7 +49,7 @@ pub(crate) fn push_kind_json(
 }
 
 // Adds a number behind a text.
-fn push_number(text: &mut String, before: &str, number: u8) -> Result<(), AllocError>
+fn push_number(text: &mut String, before: &str, number: usize) -> Result<(), AllocError>
     ensures { OnOk result (string_bytes text.new
         ≡ string_bytes text.old ++ (before.now ++ decimal number)) }
 {

@@ -1,7 +1,5 @@
 //! The printed lines of blocks and containers.
 ghost use Rattle.std.specs.Prelude.{◌≡◌, ◌+◌, ◌++◌, OnOk, string_bytes};
-ghost use Rattle.markdown_values.specs.values.Headings.{heading_number};
-ghost use Rattle.markdown_scanners_tree.specs.scanners.html_kinds.HtmlKinds.{condition_number};
 ghost use Rattle.page_blocks.specs.page.Told.{kind_told, container_told, front_told, end_told, told_line};
 ghost use Rattle.page_blocks.specs.page.Told.{kind_text, container_text, fence_text, info_text};
 
@@ -10,8 +8,6 @@ use crate::containers::Container;
 use crate::info::{info_of, push_bytes};
 use crate::json::{push_container_json, push_front_json, push_kind_json};
 use crate::words::Form;
-use markdown_scanners_tree::scanners::HtmlBlockKind;
-use markdown_values::values::HeadingLevel;
 use std::alloc::AllocError;
 
 /// Adds the line, in this form, of a block in so many containers, which stands behind so many
@@ -122,11 +118,11 @@ fn push_kind_text(text: &mut String, kind: BlockKind, words: &[u8]) -> Result<()
     match kind {
         BlockKind::Blank => text.push_str("blank"),
         BlockKind::Break => text.push_str("break"),
-        BlockKind::Heading(level) => write!(text, "heading {}", number_of_level(level)),
-        BlockKind::Setext(level) => write!(text, "setext {}", number_of_level(level)),
+        BlockKind::Heading(level) => write!(text, "heading {}", level.number()),
+        BlockKind::Setext(level) => write!(text, "setext {}", level.number()),
         BlockKind::Indented => text.push_str("indented"),
         BlockKind::Fenced(count, byte) => push_fenced(text, count, byte, info_of(words, byte)),
-        BlockKind::Html(kind) => write!(text, "html {}", number_of_html(kind)),
+        BlockKind::Html(kind) => write!(text, "html {}", kind.number()),
         BlockKind::Table(columns) => write!(text, "table {columns}"),
         BlockKind::Paragraph => text.push_str("paragraph"),
     }
@@ -150,33 +146,4 @@ fn push_info(text: &mut String, info: &[u8]) -> Result<(), AllocError>
     }
     text.push_str(" ")?;
     push_bytes(text, info)
-}
-
-/// The number of a heading's level.
-pub(crate) fn number_of_level(level: HeadingLevel) -> u8
-    ensures { result ≡ heading_number level }
-{
-    match level {
-        HeadingLevel::H1 => 1,
-        HeadingLevel::H2 => 2,
-        HeadingLevel::H3 => 3,
-        HeadingLevel::H4 => 4,
-        HeadingLevel::H5 => 5,
-        HeadingLevel::H6 => 6,
-    }
-}
-
-/// The number of the conditions of an HTML block.
-pub(crate) fn number_of_html(kind: HtmlBlockKind) -> u8
-    ensures { result ≡ condition_number kind }
-{
-    match kind {
-        HtmlBlockKind::RawText => 1,
-        HtmlBlockKind::Comment => 2,
-        HtmlBlockKind::Processing => 3,
-        HtmlBlockKind::Declaration => 4,
-        HtmlBlockKind::Cdata => 5,
-        HtmlBlockKind::BlockName => 6,
-        HtmlBlockKind::TagAlone => 7,
-    }
 }

@@ -3,7 +3,7 @@ use crate::stop::Stop;
 use crate::telling::{tell, tell_ready, tell_three, tell_two};
 use markdown_scanners_tree::inline_html::{
     CountedText, HtmlScanGuard, InlineHtmlRun, scan_inline_html_comment,
-    scan_inline_html_comment_counted, scan_inline_html_processing,
+    scan_inline_html_comment_counted, scan_inline_html_counted, scan_inline_html_processing,
     scan_inline_html_processing_counted,
 };
 use std::io::Stdout;
@@ -13,6 +13,7 @@ pub(crate) fn run(output: Stdout) -> Result<(), Stop> {
     guarded(output)?;
     counted(output)?;
     counted_scans(output)?;
+    counted_either(output)?;
     steps(output)
 }
 
@@ -45,6 +46,14 @@ fn counted_scans(output: Stdout) -> Result<(), Stop> {
     let processing = scan_inline_html_processing_counted(&mut text, 2, &mut guard);
     let processing = (processing, guard.processing, text.passed());
     tell_two(output, comment, processing)
+}
+
+fn counted_either(output: Stdout) -> Result<(), Stop> {
+    let mut guard = HtmlScanGuard::new();
+    let mut text = CountedText::new(b"<!-->");
+    let none = scan_inline_html_counted(&mut text, 3, &mut guard);
+    let found = scan_inline_html_counted(&mut text, 2, &mut guard);
+    tell_three(output, none, found, text.passed())
 }
 
 fn steps(output: Stdout) -> Result<(), Stop> {

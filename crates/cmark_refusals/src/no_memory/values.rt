@@ -4,7 +4,9 @@ use crate::tags::{TagKind, fenced, tag};
 use crate::telling::{Seen, copy_of, tell, tell_made, tell_ready, tell_ready_consuming, tell_seen};
 use crate::texts::{Holding, lent};
 use markdown_values::strings::CowStr;
-use markdown_values::values::{CodeBlockKind, Event, HeadingLevel, LinkType, Tag, TagEnd};
+use markdown_values::values::{
+    Alignment, BlockQuoteKind, CodeBlockKind, Event, HeadingLevel, LinkType, Tag, TagEnd,
+};
 use std::alloc::{AllocError, Global};
 use std::io::{Stdout, Write};
 
@@ -13,6 +15,7 @@ pub(crate) fn run(alloc: Global, output: Stdout) -> Result<(), Stop> {
     tell_ready(output)?;
     kinds(alloc, output)?;
     levels(output)?;
+    numbers(output)?;
     tell(output, LinkType::Collapsed.to_unknown())?;
     tags(alloc, output)?;
     events(alloc, output)
@@ -56,6 +59,16 @@ fn levels(mut output: Stdout) -> Result<(), Stop> {
         }
     }
     Ok(())
+}
+
+fn numbers(output: Stdout) -> Result<(), Stop> {
+    let kinds = (
+        BlockQuoteKind::Note.number(),
+        BlockQuoteKind::from_number(6),
+    );
+    tell(output, kinds)?;
+    let alignments = (Alignment::Right.number(), Alignment::from_number(0));
+    tell(output, alignments)
 }
 
 fn list_end(alloc: Global) -> Result<TagEnd, AllocError> {

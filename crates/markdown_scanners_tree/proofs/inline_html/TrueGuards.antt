@@ -1,7 +1,7 @@
 -- A guard that is true at a place stays true, and a scan under it answers the find.
 use Rattle.std.proofs.Common.{◌≡◌, ℕ, zero, suc, ◌+◌, ◌-◌, ◌≤◌, ◌<◌, Bool, true, false, List, [], ◌∷◌, length, get_or, refl}
 use Rattle.std.proofs.Common.{sym, ap, subst, ◌∙◌, arith, ⊎_elim, Option, Some, None, cond, add-zero, ◌⊎◌, inl, inr}
-use Rattle.std.specs.Prelude.{codes, IfSome, slice_index, not, ◌==◌, nat_le}
+use Rattle.std.specs.Prelude.{◌≢◌, codes, IfSome, slice_index, not, ◌==◌, nat_le}
 use Rattle.std.specs.List.{list_all}
 use Rattle.std.proofs.lemmas.Bool.{false≢true, ltb-true, leb-true, lt-ltb, le-leb, and_parts, eq-eqb, false_from_ne_true}
 use Rattle.std.proofs.lemmas.Option.{same_Some, none-some}
@@ -91,7 +91,8 @@ Nowhere-later : {P : ℕ → Type 0} {i j l : ℕ} → i ≤ j → Nowhere P i l
 Nowhere-later {P} {i} {j} {l} le h k low high = h k (omega arith) high
 
 module _ (text : List ℕ) (guard : HtmlScanGuard) where
-  IsTrueGuard-later : (p q : ℕ) → p ≤ q → IsTrueGuard text guard p → IsTrueGuard text guard q
+  -- a guard that is true at a place is true at each later one
+  pub IsTrueGuard-later : (p q : ℕ) → p ≤ q → IsTrueGuard text guard p → IsTrueGuard text guard q
   IsTrueGuard-later p q le is kind s = Nowhere-later le (is kind (earlier-stop guard p q le kind s))
 
   with_number-true : (q number : ℕ) → IsTrueGuard text guard q → (kind : Kind)
@@ -247,6 +248,14 @@ pub opener-question : (text : List ℕ) (p mark : ℕ) → opener_before text p 
     → ends_opener question_mark text p ≡ true
 opener-question text p mark e no_bang =
     ⊎_elim (λ bang. absurd (no_bang bang.1)) (λ question. question.0) (opener-mark text p mark e)
+
+some-there : (opener : Option ℕ) → opener ≢ None → (mark : ℕ) × (opener ≡ Some mark)
+some-there None there = absurd (there refl)
+some-there (Some mark) there = (mark, refl)
+
+-- an opener that ends at a place has a mark
+pub opener-there : (text : List ℕ) (p : ℕ) → opener_before text p ≢ None → (mark : ℕ) × (opener_before text p ≡ Some mark)
+opener-there text p there = some-there (opener_before text p) there
 
 pub opener-bounds : (text : List ℕ) (p mark : ℕ) → opener_before text p ≡ Some mark → (2 ≤ p) × (p ≤ length text)
 opener-bounds text p mark e =

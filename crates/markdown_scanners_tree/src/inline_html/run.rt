@@ -1,15 +1,10 @@
 //! Runs of scans of inline HTML over rising places of one text.
-ghost use Rattle.std.specs.Prelude.{◌≡◌, ◌≤◌, ◌<◌, ◌+◌, ◌*◌, ◌^◌, length, take, IfOk, OnErr, IfSome, Some};
-ghost use Rattle.markdown_scanners_tree.specs.inline_html.InlineHtml.{opener_before, opening_at};
-ghost use Rattle.markdown_scanners_tree.specs.inline_html.Guard.{answer_of_scan, guard_after_scan, text_after_scan, IsTrueGuard, IsTrueScan};
+ghost use Rattle.std.specs.Prelude.{◌≡◌, ◌⊎◌, ◌≤◌, ◌<◌, ◌+◌, ◌*◌, length, take, IfOk, OnErr, IfSome, Some};
 ghost use Rattle.markdown_scanners_tree.specs.inline_html.run.Passed.{bytes_passed};
 ghost use Rattle.markdown_scanners_tree.specs.inline_html.run.Run.{Run, new_run, place_refusal, answer_of, run_after, run_answers, run_passed, run_stop, IsWithinBudget};
-ghost use Rattle.markdown_scanners_tree.specs.inline_html.run.private.RunFields.{run_of, AreRunFields};
+ghost use Rattle.markdown_scanners_tree.specs.inline_html.run.private.RunFields.{run_of, AreFieldsInMemory};
 
-use crate::inline_html::{
-    CountedText, HtmlScanGuard, HtmlStop, scan_inline_html_comment_counted,
-    scan_inline_html_processing_counted,
-};
+use crate::inline_html::{CountedText, HtmlScanGuard, HtmlStop, scan_inline_html_counted};
 use std::alloc::{AllocError, Global};
 use std::marker::Model;
 
@@ -30,7 +25,7 @@ impl<'a> Model for InlineHtmlRun<'a> {
 
     ghost view = { λ r. run_of r.text r.guard r.last r.find_end r.steps };
 
-    ghost invariant = { λ r. AreRunFields r.text r.guard r.last r.find_end r.steps };
+    ghost invariant = { λ r. AreFieldsInMemory r.text r.guard r.last r.find_end r.steps };
 }
 
 impl<'a> InlineHtmlRun<'a> {
@@ -62,20 +57,28 @@ impl<'a> InlineHtmlRun<'a> {
         ensures text { self.new.text ≡ self.old.text }
         ensures budget { IsWithinBudget self.new }
     {
-        let Some(mark) = self.text.opener_before(place) else {
-            return Err(HtmlStop::NoOpener);
-        };
-        if place <= self.last {
-            return Err(HtmlStop::NotRising);
+        if place <= self.last || place < self.find_end {
+            return Err(self.refusal(place));
         }
-        if place < self.find_end {
-            return Err(HtmlStop::InsideFind);
-        }
-        let found = scan_after(mark, &mut self.text, place, &mut self.guard);
+        let found = scan_inline_html_counted(&mut self.text, place, &mut self.guard)?;
         self.last = place;
         self.find_end = found.unwrap_or(self.find_end);
         self.steps += 1;
         Ok(found)
+    }
+
+    // Why a place is refused that isn't above the last one, or is below the end of the last find.
+    fn refusal(&self, place: usize) -> HtmlStop
+        requires { (place ≤ self.now.last) ⊎ (place < self.now.find_end) }
+        ensures { place_refusal self.now place ≡ Some result }
+    {
+        if self.text.opener_before(place).is_none() {
+            HtmlStop::NoOpener
+        } else if place <= self.last {
+            HtmlStop::NotRising
+        } else {
+            HtmlStop::InsideFind
+        }
     }
 
     /// How many bytes the accepted steps passed over.
@@ -92,32 +95,6 @@ impl<'a> InlineHtmlRun<'a> {
         ensures budget { IsWithinBudget self.now }
     {
         self.steps
-    }
-}
-
-// Scans what begins at `place`, just after an opener with this mark.
-fn scan_after(
-    mark: u8,
-    text: &mut CountedText,
-    place: usize,
-    guard: &mut HtmlScanGuard,
-) -> Option<usize>
-    requires room { text.old.passed < 2 ^ 119 }
-    requires opener { opener_before text.old.text place ≡ Some mark }
-
-    // What every guard gives.
-    ensures answer { result ≡ answer_of_scan opening_at text.old.text guard.old place }
-    ensures guards { guard.new ≡ guard_after_scan opening_at text.old.text guard.old place }
-    ensures counts { text.new ≡ text_after_scan opening_at text.old guard.old place }
-
-    // What a true guard gives.
-    ensures finds { IsTrueGuard text.old.text guard.old place
-        → IsTrueScan text.old.text place result guard.new }
-{
-    if mark == b'!' {
-        scan_inline_html_comment_counted(text, place, guard)
-    } else {
-        scan_inline_html_processing_counted(text, place, guard)
     }
 }
 

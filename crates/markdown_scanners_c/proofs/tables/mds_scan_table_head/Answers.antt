@@ -1,8 +1,8 @@
 -- A text begins with one row at most, which has no more columns than bytes.
 use Rattle.std.proofs.Common.{◌≡◌, arith, ap, sym, ◌∙◌, length}
 use Rattle.std.proofs.lemmas.List.{length-map}
+use Rattle.markdown_values.specs.values.Alignments.{alignment_number}
 use Rattle.markdown_scanners_tree.proofs.ForCallers.{one_row}
-use Rattle.markdown_scanners_c.specs.Tables.{alignment_number}
 use Rattle.markdown_scanners_c.proofs.Rows.{columns_within}
 use Rattle.markdown_scanners_c.proofs.tables.mds_scan_table_head.Goals as goal
 

@@ -3,9 +3,9 @@ use Rattle.std.proofs.Common.{◌≡◌, ℕ, ◌+◌, ◌-◌, ◌*◌, ◌≤�
 use Rattle.std.specs.Prelude.{IfSome, unwrap_or}
 use Rattle.std.proofs.Math.Nat.{mul-le-mul_right, add-mul}
 use Rattle.markdown_scanners_tree.specs.inline_html.InlineHtml.{Kind, Comment, Cdata, Declaration, Processing, Opening, Begins, Hyphen, Bracket, Nothing}
-use Rattle.markdown_scanners_tree.specs.inline_html.InlineHtml.{closer, lead, first_closer, closed_at, end_of, opening_at, span, searched, looked_at, cost}
+use Rattle.markdown_scanners_tree.specs.inline_html.InlineHtml.{closed_at, end_of, opening_at, span, searched, looked_at, cost}
 use Rattle.markdown_scanners_tree.specs.inline_html.run.Run.{ShutKinds, Run, is_shut, shutting, shut_by, one_if, count_shut, run_step, IsWithinBudget}
-use Rattle.markdown_scanners_tree.proofs.inline_html.Scans.{first_place-bounds}
+use Rattle.markdown_scanners_tree.proofs.inline_html.ScanBounds.{end_of-bounds, looked_at-le, searched-le}
 
 one_if-le : (b : Bool) → one_if b ≤ 1
 one_if-le true = omega arith
@@ -29,32 +29,6 @@ count_shut-again shut Comment e = rw e
 count_shut-again shut Cdata e = rw e
 count_shut-again shut Declaration e = rw e
 count_shut-again shut Processing e = rw e
-
--- a find lies between its place and the end of the text
-closed_at-bounds : (text : List ℕ) (kind : Kind) (p : ℕ) (hit : Option ℕ) → first_closer text kind p ≡ hit
-    → IfSome (closed_at text kind p) (λ end. (p ≤ end) × (end ≤ length text))
-closed_at-bounds text kind p None e = rw e tt
-closed_at-bounds text kind p (Some hit) e =
-    let within = first_place-bounds text (closer kind) (p + lead kind) hit e in rw e (omega arith, within.1)
-
-pub end_of-bounds : (text : List ℕ) (opening : Opening) (p : ℕ)
-    → IfSome (end_of text opening p) (λ end. (p ≤ end) × (end ≤ length text))
-end_of-bounds text (Begins kind) p = closed_at-bounds text kind p _ refl
-end_of-bounds text Hyphen p = tt
-end_of-bounds text Bracket p = tt
-end_of-bounds text Nothing p = tt
-
-looked_at-le : (kind : Kind) → looked_at kind ≤ 7
-looked_at-le Comment = omega arith
-looked_at-le Cdata = omega arith
-looked_at-le Declaration = omega arith
-looked_at-le Processing = omega arith
-
-searched-le : (text : List ℕ) (kind : Kind) (p : ℕ) → searched text kind p ≤ 2 + span text p (closed_at text kind p)
-searched-le text Comment p = omega arith
-searched-le text Cdata p = omega arith
-searched-le text Declaration p = omega arith
-searched-le text Processing p = omega arith
 
 -- the sums of a budget, in numbers: n bytes, s shut kinds, the find's end e, passed, steps
 pub record IsSum (n s e passed steps : ℕ) : Type 0 where

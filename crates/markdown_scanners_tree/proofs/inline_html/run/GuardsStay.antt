@@ -18,7 +18,8 @@ use Rattle.markdown_scanners_tree.specs.inline_html.run.private.RunFields.{says_
 use Rattle.markdown_scanners_tree.proofs.inline_html.Openings.{declared_at-end}
 use Rattle.markdown_scanners_tree.proofs.inline_html.Scans.{cost-same, first_place-bounds}
 use Rattle.markdown_scanners_tree.proofs.inline_html.TrueGuards.{opening_at-declared, opening_at-processing, opener-mark}
-use Rattle.markdown_scanners_tree.proofs.inline_html.run.Budget.{run_step-budget, end_of-bounds}
+use Rattle.markdown_scanners_tree.proofs.inline_html.ScanBounds.{end_of-bounds}
+use Rattle.markdown_scanners_tree.proofs.inline_html.run.Budget.{run_step-budget}
 
 -- ---- one number
 

@@ -113,7 +113,7 @@ opened-in (q ∷ earlier) p run i free none =
 -- ---- from the front of a text
 
 -- the first guard stops nothing at a place above 0
-first-true : (text : List ℕ) (q : ℕ) → 0 < q → IsTrueGuard text first_guard q
+pub first-true : (text : List ℕ) (q : ℕ) → 0 < q → IsTrueGuard text first_guard q
 first-true text q some Comment stopped = absurd (omega (arith, ltb-true q 0 stopped))
 first-true text q some Cdata stopped = absurd (omega (arith, ltb-true q 0 stopped))
 first-true text q some Declaration stopped = absurd (omega (arith, ltb-true q 0 stopped))

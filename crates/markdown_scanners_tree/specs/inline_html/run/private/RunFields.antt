@@ -1,5 +1,5 @@
 -- The fields of a run of scans.
-use Rattle.std.specs.Prelude.{ℕ, ◌≡◌, ◌≢◌, ◌≤◌, ◌<◌, Bool, ◌&&◌, ◌==◌, nat_lt, length}
+use Rattle.std.specs.Prelude.{ℕ, ◌≡◌, ◌≢◌, ◌≤◌, ◌<◌, ◌^◌, Bool, ◌&&◌, ◌==◌, nat_lt, length}
 use Rattle.markdown_scanners_tree.specs.declared.inline_html.HtmlScanGuard.{HtmlScanGuard}
 use Rattle.markdown_scanners_tree.specs.inline_html.CountedText.{CountedBytes}
 use Rattle.markdown_scanners_tree.specs.inline_html.Guard.{IsTrueGuard}
@@ -42,3 +42,8 @@ pub record AreRunFields (counted : CountedBytes) (guard : HtmlScanGuard) (last f
   pub last_in_text : last ≤ length counted.text
   pub find_end_in_text : find_end ≤ length counted.text
   pub budget : IsWithinBudget (run_of counted guard last find_end steps)
+
+-- They are those of a run over a text in memory.
+pub record AreFieldsInMemory (counted : CountedBytes) (guard : HtmlScanGuard) (last find_end steps : ℕ) : Type 0 where
+  pub fits_usize : length counted.text < 2 ^ 64
+  pub fields : AreRunFields counted guard last find_end steps
