@@ -21,6 +21,7 @@ use crate::scanners::{
 };
 pub use known_breaks::KnownBreaks;
 use markdown_values::values::BlockQuoteKind;
+pub use markers::LARGEST_INDENT;
 pub use run::{LineAnswer, LineCall, LineRun, LineStop, run_line};
 use std::alloc::{AllocError, Global};
 use std::marker::Model;

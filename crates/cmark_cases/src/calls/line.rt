@@ -2,12 +2,10 @@
 use crate::arguments::{Arguments, parse_number};
 use crate::printing::{NONE, OrNone};
 use crate::stop::{CaseError, Unreadable};
-use markdown_scanners_tree::line::LineStart;
+use markdown_scanners_tree::line::{LARGEST_INDENT, LineStart};
 use markdown_values::values::BlockQuoteKind;
 use std::alloc::Global;
 use std::fmt;
-
-const LARGEST_INDENT: usize = usize::MAX - 16;
 
 /// A call's answer, the bytes scanned and the space that remains, for each call of the list.
 pub(crate) fn run(alloc: Global, arguments: &mut Arguments<'_>) -> Result<String, CaseError> {
