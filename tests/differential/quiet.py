@@ -153,7 +153,8 @@ def inline():
         some((end, borrowed(address), Value("Autolink"))), some(answers.wikilink(b"a|b]]", 0, 3)[0] - 1),
         some((bare, Plain(f"0..{bare}"))), some(len(address)), *map(told_title, (b"'a\n\\'b' c", b"(a\n\nb)")),
         answers.is_block_name(b"DIV>"),
-        some(answers.tag_alone(b"<a b=\t'c'>  \n")), *map(told_html, HTML_LINES), told_tag(b"<foo bar>", None), told_tag(b"</a\n>", None),
+        some(answers.tag_alone(b"<a b=\t'c'>  \n")), *map(told_html, HTML_LINES),
+        *(answers.ends_html(b"", it) for it in ("Comment", "TagAlone")), told_tag(b"<foo bar>", None), told_tag(b"</a\n>", None),
         told_tag(b"<a\nb\nc>", quote), told_tag(b"</a\n\n> >", quote), told("borrowed", plain),
         answers.table_head(b"| a |"), *map(told_label, (b"a\\ ]", b" a b ]", b"a  b", b"a\n\nb]")),
     ]
