@@ -103,8 +103,9 @@ def scanners():
     return [
         *map(classes, (b"\n", b" ", b"-", b"a")),
         int(b"ab".startswith(b"a")), run_of(b"aab", b"a"), run_of(b"aab", b"a"), run_of(b"baa"[::-1], b"a"),
-        answers.length_of(answers.INLINE_SPACE + b"*", b" \tx"),
-        some(answers.eol(b"\rx")), some(answers.blank_line(b"\r\r\n")), answers.line(b"a\r\nb"), len(answers.lines(b"a\r\n\nb")), b"a\rb\nc".index(b"\n") + 1,
+        answers.length_of(answers.INLINE_SPACE + b"*", b" \tx"), answers.length_of(rb"[ \t]*", b" \t\x0bx"),
+        some(answers.eol(b"\rx")), some(answers.blank_line(b"\r\r\n")), answers.line(b"a\r\nb"), len(b"a\r\nb".splitlines()[0]),
+        len(answers.lines(b"a\r\n\nb")), b"a\rb\nc".index(b"\n") + 1,
         some(answers.length_of(b"> ?", b"> ")), Value("Ok", broken), Value("Err", answers.break_length(b"- -x-")),
         answers.indent(b"\t x", 4), some(Value(f"H{level}")), some((setext[0], Value(f"H{setext[1]}"))),
         some(answers.code_fence(b"~~~a`")), some(answers.closing_code_fence(b"````  \n", ord("`"), 3)),
