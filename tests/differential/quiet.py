@@ -90,6 +90,9 @@ def lines():
     found += [some(box), seen]
     alert, seen = of_line(b"[!Note]  \nx", ("alert",), ("seen",))
     found += [some(alert and Value(alert)), seen]
+    _, left = of_line(b">\tx", ("quote",), ("rest",))
+    signs = [ord("#")] * 4
+    found += [len(left), Value("Err", len(left)), signs, Value("Ok", len(left)), [*left, *signs[len(left):]]]
     quote, taken, item, seen = of_line(b">\t- x", ("quote",), ("upto", 9), ("list", 1), ("seen",))
     found += [False, (0, taken), some(item), seen]
     called = [Value("Flag", quote), None, Value("Count", taken), Value("List", some(item))]
@@ -115,8 +118,9 @@ def scanners():
     return [
         *map(classes, (b"\n", b" ", b"-", b"a")),
         int(b"ab".startswith(b"a")), run_of(b"aab", b"a"), run_of(b"aab", b"a"), run_of(b"baa"[::-1], b"a"),
-        answers.length_of(answers.INLINE_SPACE + b"*", b" \tx"),
-        some(answers.eol(b"\rx")), some(answers.blank_line(b"\r\r\n")), answers.line(b"a\r\nb"), len(answers.lines(b"a\r\n\nb")), b"a\rb\nc".index(b"\n") + 1,
+        answers.length_of(answers.INLINE_SPACE + b"*", b" \tx"), answers.length_of(rb"[ \t]*", b" \t\x0bx"),
+        some(answers.eol(b"\rx")), some(answers.blank_line(b"\r\r\n")), answers.line(b"a\r\nb"), len(b"a\r\nb".splitlines()[0]),
+        len(answers.lines(b"a\r\n\nb")), b"a\rb\nc".index(b"\n") + 1,
         some(answers.length_of(b"> ?", b"> ")), Value("Ok", broken), Value("Err", answers.break_length(b"- -x-")),
         answers.indent(b"\t x", 4), some(Value(f"H{level}")), some((setext[0], Value(f"H{setext[1]}"))),
         some(answers.code_fence(b"~~~a`")), some(answers.closing_code_fence(b"````  \n", ord("`"), 3)),
@@ -165,7 +169,8 @@ def inline():
         some((end, borrowed(address), Value("Autolink"))), some(answers.wikilink(b"a|b]]", 0, 3)[0] - 1),
         some((bare, Plain(f"0..{bare}"))), some(len(address)), *map(told_title, (b"'a\n\\'b' c", b"(a\n\nb)")),
         answers.is_block_name(b"DIV>"),
-        some(answers.tag_alone(b"<a b=\t'c'>  \n")), *map(told_html, HTML_LINES), told_tag(b"<foo bar>", None), told_tag(b"</a\n>", None),
+        some(answers.tag_alone(b"<a b=\t'c'>  \n")), *map(told_html, HTML_LINES),
+        *(answers.ends_html(b"", it) for it in ("Comment", "TagAlone")), told_tag(b"<foo bar>", None), told_tag(b"</a\n>", None),
         told_tag(b"<a\nb\nc>", quote), told_tag(b"</a\n\n> >", quote), told("borrowed", plain),
         answers.table_head(b"| a |"), *map(told_label, (b"a\\ ]", b" a b ]", b"a  b", b"a\n\nb]")),
     ]

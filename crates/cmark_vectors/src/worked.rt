@@ -52,7 +52,7 @@ fn assert_agree(rt: &impl Abort, alloc: Global, rows: &str, wanted: &str) {
 
 #[test]
 fn lines_runs_and_indents(rt: HostRuntime) {
-    assert_agree(&rt, rt.alloc(), lines::ROWS, "23 agree, 0 differ\n");
+    assert_agree(&rt, rt.alloc(), lines::ROWS, "41 agree, 0 differ\n");
 }
 
 #[test]
@@ -77,5 +77,5 @@ fn link_labels(rt: HostRuntime) {
 
 #[test]
 fn calls_on_line_starts(rt: HostRuntime) {
-    assert_agree(&rt, rt.alloc(), line_starts::ROWS, "78 agree, 0 differ\n");
+    assert_agree(&rt, rt.alloc(), line_starts::ROWS, "92 agree, 0 differ\n");
 }

@@ -12,11 +12,8 @@ ghost use Rattle.markdown_scanners_c.specs.private.NoSpace.{HasNoSpace};
 ghost use Rattle.markdown_scanners_c.specs.Status.{ok, nothing, bad_state, too_large};
 
 use crate::status::{BAD_STATE, NOTHING, OK, TOO_LARGE};
-use markdown_scanners_tree::line::{KnownBreaks, LineStart};
+use markdown_scanners_tree::line::{KnownBreaks, LARGEST_INDENT, LineStart};
 use markdown_values::values::BlockQuoteKind;
-
-// The columns of a marker can be added to it.
-const LARGEST_INDENT: usize = usize::MAX - 16;
 
 /// `struct mds_line_start` of C: a place in a line, and what is known of the line from there on.
 #[repr(C)]

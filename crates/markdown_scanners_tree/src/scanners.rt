@@ -35,7 +35,9 @@ pub use html_kinds::{HtmlBlockKind, ends_html_block, scan_html_block_start};
 pub use html_tag::{scan_html_block_inner, scan_html_type_7};
 pub use indent::calc_indent;
 pub use interrupts::interrupts_paragraph;
-pub use lines::{scan_blank_line, scan_blockquote_start, scan_eol, scan_line, scan_nextline};
+pub use lines::{
+    line_head, scan_blank_line, scan_blockquote_start, scan_eol, scan_line, scan_nextline,
+};
 pub use links::{
     scan_autolink, scan_autolink_bytes, scan_link_dest, scan_link_dest_bytes, scan_wikilink_pipe,
     scan_wikilink_pipe_bytes,
@@ -43,8 +45,10 @@ pub use links::{
 pub use list_items::scan_listitem;
 pub(crate) use list_items::scan_marker;
 pub use metadata::{scan_closing_metadata_block, scan_metadata_block};
-pub(crate) use runs::scan_spaces_and_tabs;
-pub use runs::{scan_ch, scan_ch_repeat, scan_rev_while, scan_while, scan_whitespace_no_nl};
+pub use runs::{
+    scan_ch, scan_ch_repeat, scan_rev_while, scan_spaces_and_tabs, scan_while,
+    scan_whitespace_no_nl,
+};
 pub use tables::scan_table_head;
 pub use text_lines::{TextLines, scan_lines};
 pub use titles::scan_link_title;

@@ -2,7 +2,6 @@
 ghost use Rattle.std.specs.Prelude.{◌≡◌, ◌↔◌, ◌++◌, ◌∷◌, [], List, ℕ, drop, IsTrue, IfOk, IfSome, IfNone};
 ghost use Rattle.markdown_scanners_tree.specs.SomeExactly.{SomeExactly};
 ghost use Rattle.markdown_scanners_tree.specs.scanners.TextLines.{lines_of};
-ghost use Rattle.markdown_scanners_tree.specs.scanners.html_kinds.HtmlKinds.{ends_before_blank};
 ghost use Rattle.page_blocks.specs.blocks.Leaves.{Begins, IsUnderline, EndsParagraph, ClosesFence, HasIndent};
 ghost use Rattle.page_blocks.specs.blocks.Leaves.{In, IsLazy, StopsBefore, StopsBehind, EndsAsHtml, GoesOnIndented};
 ghost use Rattle.page_blocks.specs.blocks.Leaves.{IsHead, BeginsNoTable};
@@ -152,20 +151,13 @@ fn take_html(text: &[u8], first: Taken, outer: Outer, kind: HtmlBlockKind, words
         × EndsAsHtml outer.entry.containers.now kind (record { indent = indent; text = words.now }) more
         (lines_of (drop result.bytes text.now)) }
 {
-    if ends_before_blank(kind) {
+    if kind.ends_before_blank() {
         return take_until(text, first, outer, Ending::Html(kind));
     }
     if ends_html_block(words, kind) {
         return first;
     }
     take_through(text, first, outer, Ending::Html(kind))
-}
-
-// Whether an HTML block of this kind goes on to the next blank line.
-fn ends_before_blank(kind: HtmlBlockKind) -> bool
-    ensures { result ≡ ends_before_blank kind }
-{
-    matches!(kind, HtmlBlockKind::BlockName | HtmlBlockKind::TagAlone)
 }
 
 // The lines, and those of the indented code that they begin: up to its last line with text.

@@ -1,10 +1,8 @@
 //! Info strings of fenced code, and how they are printed.
-ghost use Rattle.std.specs.Prelude.{◌≡◌, ◌≤◌, ◌++◌, OnOk, length, not, string_bytes};
-ghost use Rattle.std.specs.List.{prefix_len};
-ghost use Rattle.markdown_scanners_tree.specs.Bytes.{is_line_ending, is_space_or_tab, line_head};
+ghost use Rattle.std.specs.Prelude.{◌≡◌, ◌++◌, OnOk, string_bytes};
 ghost use Rattle.page_blocks.specs.info.Info.{info_of, without_end, without_front, is_plain, byte_text, bytes_text};
 
-use markdown_scanners_tree::scanners::scan_ch_repeat;
+use markdown_scanners_tree::scanners::{line_head, scan_ch_repeat, scan_spaces_and_tabs};
 use std::alloc::AllocError;
 
 /// The info string where a fence of this byte opens code, and this is the rest of its line.
@@ -15,40 +13,12 @@ pub(crate) fn info_of(fence: &[u8], byte: u8) -> &[u8]
     without_end(without_front(line_head(behind)))
 }
 
-/// What stands before the line ending.
-pub(crate) fn line_head(line: &[u8]) -> &[u8]
-    ensures { result.now ≡ line_head line.now }
-{
-    &line[..head_length(line)]
-}
-
-// The length of what stands before the line ending.
-fn head_length(line: &[u8]) -> usize
-    ensures run { result ≡ prefix_len (λ b. not (is_line_ending b)) line.now }
-    ensures within { result ≤ length line.now }
-{
-    line.iter()
-        .take_while(|b| !(**b == b'\n' || **b == b'\r'))
-        .count()
-}
-
 // The bytes without the spaces and tabs at their front.
 fn without_front(bytes: &[u8]) -> &[u8]
     ensures { result.now ≡ without_front bytes.now }
 {
-    let (_, behind) = bytes.split_at(front_length(bytes));
+    let (_, behind) = bytes.split_at(scan_spaces_and_tabs(bytes));
     behind
-}
-
-// The length of the spaces and tabs at the front.
-fn front_length(bytes: &[u8]) -> usize
-    ensures run { result ≡ prefix_len is_space_or_tab bytes.now }
-    ensures within { result ≤ length bytes.now }
-{
-    bytes
-        .iter()
-        .take_while(|b| **b == b' ' || **b == b'\t')
-        .count()
 }
 
 /// The bytes without the spaces and tabs at their end.

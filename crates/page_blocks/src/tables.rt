@@ -11,10 +11,10 @@ ghost use Rattle.page_blocks.specs.taken.Lines.{IsTaken};
 
 use crate::blocks::BlockKind;
 use crate::containers::{Outer, go_on, rest_behind, scan_container};
-use crate::info::{line_head, without_end};
+use crate::info::without_end;
 use crate::kinds::kind_of;
 use crate::taken::Taken;
-use markdown_scanners_tree::scanners::scan_table_head;
+use markdown_scanners_tree::scanners::{line_head, scan_table_head};
 use std::alloc::{AllocError, Global};
 
 /// How many cells a line with this text has as a row.

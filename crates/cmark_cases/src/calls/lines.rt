@@ -1,10 +1,10 @@
 //! Line endings, runs of bytes and indents.
 use crate::arguments::Arguments;
-use crate::printing::{OrNone, shown};
+use crate::printing::{OrNone, hex_text, shown};
 use crate::stop::{CaseError, Unreadable};
 use markdown_scanners_tree::scanners::{
-    calc_indent, scan_blank_line, scan_blockquote_start, scan_ch_repeat, scan_eol, scan_line,
-    scan_nextline, scan_whitespace_no_nl,
+    calc_indent, line_head, scan_blank_line, scan_blockquote_start, scan_ch_repeat, scan_eol,
+    scan_line, scan_nextline, scan_spaces_and_tabs, scan_whitespace_no_nl,
 };
 use std::alloc::Global;
 
@@ -29,6 +29,11 @@ pub(crate) fn line_length(
     shown(alloc, &scan_line(&bytes))
 }
 
+pub(crate) fn head(alloc: Global, arguments: &mut Arguments<'_>) -> Result<String, CaseError> {
+    let bytes = arguments.bytes(alloc)?;
+    Ok(hex_text(alloc, line_head(&bytes))?)
+}
+
 pub(crate) fn next_line(alloc: Global, arguments: &mut Arguments<'_>) -> Result<String, CaseError> {
     let bytes = arguments.bytes(alloc)?;
     shown(alloc, &scan_nextline(&bytes))
@@ -40,6 +45,14 @@ pub(crate) fn white_space(
 ) -> Result<String, CaseError> {
     let bytes = arguments.bytes(alloc)?;
     shown(alloc, &scan_whitespace_no_nl(&bytes))
+}
+
+pub(crate) fn spaces_and_tabs(
+    alloc: Global,
+    arguments: &mut Arguments<'_>,
+) -> Result<String, CaseError> {
+    let bytes = arguments.bytes(alloc)?;
+    shown(alloc, &scan_spaces_and_tabs(&bytes))
 }
 
 pub(crate) fn repeated(alloc: Global, arguments: &mut Arguments<'_>) -> Result<String, CaseError> {

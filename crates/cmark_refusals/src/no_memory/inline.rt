@@ -75,7 +75,12 @@ fn html_blocks(output: Stdout) -> Result<(), Stop> {
     tell_html(output, b"<PRE>")?;
     tell_html(output, b"a --> b")?;
     tell_html(output, b"</td/>")?;
-    tell_html(output, b"<b c> \n")
+    tell_html(output, b"<b c> \n")?;
+    tell_two(
+        output,
+        HtmlBlockKind::Comment.ends_before_blank(),
+        HtmlBlockKind::TagAlone.ends_before_blank(),
+    )
 }
 
 fn tags(alloc: Global, output: Stdout) -> Result<(), Stop> {

@@ -3,10 +3,10 @@ use crate::stop::Stop;
 use crate::telling::{tell, tell_ready, tell_three, tell_two};
 use markdown_scanners_tree::scanners::{
     calc_indent, interrupts_paragraph, is_ascii_punctuation, is_ascii_whitespace,
-    is_ascii_whitespace_no_nl, scan_atx_heading, scan_blank_line, scan_blockquote_start, scan_ch,
-    scan_ch_repeat, scan_closing_code_fence, scan_closing_metadata_block, scan_code_fence,
+    is_ascii_whitespace_no_nl, line_head, scan_atx_heading, scan_blank_line, scan_blockquote_start,
+    scan_ch, scan_ch_repeat, scan_closing_code_fence, scan_closing_metadata_block, scan_code_fence,
     scan_eol, scan_hrule, scan_line, scan_lines, scan_listitem, scan_metadata_block, scan_nextline,
-    scan_rev_while, scan_setext_heading, scan_while, scan_whitespace_no_nl,
+    scan_rev_while, scan_setext_heading, scan_spaces_and_tabs, scan_while, scan_whitespace_no_nl,
 };
 use std::io::Stdout;
 
@@ -37,7 +37,8 @@ fn runs(output: Stdout) -> Result<(), Stop> {
         scan_while(b"aab", is_a),
         scan_rev_while(b"baa", is_a),
         scan_whitespace_no_nl(b" \tx"),
-    )
+    )?;
+    tell(output, scan_spaces_and_tabs(b" \t\x0bx"))
 }
 
 fn endings(output: Stdout) -> Result<(), Stop> {
@@ -47,6 +48,7 @@ fn endings(output: Stdout) -> Result<(), Stop> {
         scan_blank_line(b"\r\r\n"),
         scan_line(b"a\r\nb"),
     )?;
+    tell(output, line_head(b"a\r\nb").len())?;
     tell_three(
         output,
         scan_lines(b"a\r\n\nb").count(),

@@ -2,7 +2,9 @@
 use crate::asserts::assert_answer;
 use markdown_scanners_tree::line::LineAnswer::{Count, Flag};
 use markdown_scanners_tree::line::LineCall::{Eol, Quote, Space, Upto};
-use markdown_scanners_tree::line::{KnownBreaks, LineAnswer, LineCall, LineStart, LineStop};
+use markdown_scanners_tree::line::{
+    KnownBreaks, LARGEST_INDENT, LineAnswer, LineCall, LineStart, LineStop,
+};
 use std::process::Abort;
 
 // A place, the columns pending there, and its column modulo four.
@@ -171,6 +173,7 @@ const LARGE_INDENTS: [Row; 3] = [
 
 #[test]
 fn large_indents_are_refused(rt: HostRuntime) {
+    assert_answer(&rt, &"largest", LARGEST_INDENT, usize::MAX - 16);
     assert_calls(&rt, b"- x", (0, 0, 0), &LARGE_INDENTS, (2, 0));
 }
 

@@ -27,6 +27,14 @@ fn kinds_have_the_numbers_of_their_conditions(rt: HostRuntime) {
     }
 }
 
+// Blocks of the kinds 6 and 7 end before a blank line (4.6).
+#[test]
+fn kinds_6_and_7_end_before_a_blank_line(rt: HostRuntime) {
+    for (number, _, kind) in NUMBERS {
+        assert_answer(&rt, &number, kind.ends_before_blank(), number >= 6);
+    }
+}
+
 // The kind of a block that begins with this name, and whether the name ends a declaration.
 fn assert_name(rt: &impl Abort, name: &[u8], kind: Option<HtmlBlockKind>, ends: bool) {
     assert_answer(rt, &name.len(), scan_html_block_start(name), kind);

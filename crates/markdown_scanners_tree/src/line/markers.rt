@@ -10,6 +10,13 @@ ghost use Rattle.markdown_scanners_tree.specs.scanners.list_items.ListMarker.{li
 use crate::line::{KnownBreaks, LineAnswer, LineCall, LineStart};
 use crate::scanners::{scan_blank_line, scan_marker};
 
+/// The largest indent, in columns, at which `scan_list_marker_with_indent`,
+/// `scan_list_marker_with_breaks` and `scan_definition_list_definition_marker_with_indent` may be
+/// called: that of the content, which they answer, is then a `usize`.
+///
+/// A parser compares an indent that it was given with it before it calls them.
+pub const LARGEST_INDENT: usize = usize::MAX - 16;
+
 impl LineStart<'_> {
     /// Passes a list item's marker and the space that belongs to it, at an indent in columns.
     /// Answers the bullet or the delimiter, the start number (0 for a bullet), and the indent of
@@ -24,7 +31,7 @@ impl LineStart<'_> {
     /// break such as `- - -`, and a marker before a blank rest that begins with a vertical tab or a
     /// form feed.
     ///
-    /// `indent` is at most `usize::MAX - 16`, so that the columns of the marker can be added.
+    /// `indent` is at most `LARGEST_INDENT`, so that the columns of the marker can be added.
     pub fn scan_list_marker_with_indent(&mut self, indent: usize) -> Option<(u8, u64, usize)>
         requires { indent ≤ usize.MAX - 16 }
 
@@ -50,7 +57,7 @@ impl LineStart<'_> {
     /// breaks in the line: nothing at first, and then what a call leaves is given to the next one.
     /// So the bytes are read once for them, although `resumed` makes a `LineStart` for each call.
     ///
-    /// `indent` is at most `usize::MAX - 16`, so that the columns of the marker can be added.
+    /// `indent` is at most `LARGEST_INDENT`, so that the columns of the marker can be added.
     pub fn scan_list_marker_with_breaks(
         &mut self,
         indent: usize,
@@ -88,7 +95,7 @@ impl LineStart<'_> {
     /// Answers the indent of the definition's content.
     ///
     /// Up to four columns of space are taken, and one alone where there are more. `indent` is at
-    /// most `usize::MAX - 16`, so that the columns of the marker can be added.
+    /// most `LARGEST_INDENT`, so that the columns of the marker can be added.
     pub fn scan_definition_list_definition_marker_with_indent(
         &mut self,
         indent: usize,

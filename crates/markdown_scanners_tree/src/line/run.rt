@@ -6,11 +6,8 @@ ghost use Rattle.markdown_scanners_tree.specs.line.State.{rest_of};
 ghost use Rattle.markdown_scanners_tree.specs.line.run.PlainRun.{plain_run, indexed_stop, rest_after, scanned_after, line_refusal};
 ghost use Rattle.markdown_scanners_tree.specs.line.run.StateRun.{asks_for_breaks, learnt_by_call};
 
-use crate::line::{KnownBreaks, LineStart};
+use crate::line::{KnownBreaks, LARGEST_INDENT, LineStart};
 use std::alloc::{AllocError, Global};
-
-// The columns of a marker can be added to it.
-const LARGEST_INDENT: usize = usize::MAX - 16;
 
 /// One call of a run.
 #[derive(Debug, PartialEq, Drop)]
@@ -47,7 +44,7 @@ pub enum LineAnswer {
 pub enum LineStop {
     /// Columns of a tab are pending, and the call is not one that takes space.
     SpacePending,
-    /// The indent is above `usize::MAX - 16`, so that the columns of a marker might not be added.
+    /// The indent is above `LARGEST_INDENT`, so that the columns of a marker might not be added.
     IndentTooLarge,
 }
 

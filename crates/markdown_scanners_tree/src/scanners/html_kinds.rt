@@ -63,6 +63,15 @@ impl HtmlBlockKind {
             _ => None,
         }
     }
+
+    /// Whether a block of this kind goes on to the next blank line, and ends before it: true of
+    /// `BlockName` and `TagAlone`. Each other kind ends with the first line that has its closing
+    /// mark, blank lines or not. (CommonMark 0.31.2, section 4.6)
+    pub fn ends_before_blank(self) -> bool
+        ensures { result ≡ ends_before_blank self }
+    {
+        matches!(self, HtmlBlockKind::BlockName | HtmlBlockKind::TagAlone)
+    }
 }
 
 // The names of start condition 1.
@@ -235,18 +244,11 @@ fn ends_tag_name(rest: &[u8]) -> bool
 pub fn ends_html_block(line: &[u8], kind: HtmlBlockKind) -> bool
     ensures { result ≡ is_html_end kind line.now }
 {
-    if ends_before_blank(kind) {
+    if kind.ends_before_blank() {
         scan_blank_line(line).is_some()
     } else {
         holds_html_end(line_head(line), kind)
     }
-}
-
-// Whether a block of this kind ends before a blank line.
-fn ends_before_blank(kind: HtmlBlockKind) -> bool
-    ensures { result ≡ ends_before_blank kind }
-{
-    matches!(kind, HtmlBlockKind::BlockName | HtmlBlockKind::TagAlone)
 }
 
 // Whether what ends a block of this kind stands somewhere in the bytes.

@@ -56,9 +56,11 @@ pub fn scan_line(bytes: &[u8]) -> usize
     }
 }
 
-// The head of the line at the front, which ends before its line ending.
-pub(in crate::scanners) fn line_head(text: &[u8]) -> &[u8]
-    ensures { result.now ≡ line_head text.now }
+/// The line at the front without its line ending: the bytes before the first LF or CR, or all of
+/// them. (CommonMark 0.31.2, section 2.1)
+pub fn line_head(text: &[u8]) -> &[u8]
+    ensures head { result.now ≡ line_head text.now }
+    ensures within { length result.now ≤ length text.now }
 {
     match memchr2(b'\n', b'\r', text) {
         Some(end) => &text[..end],

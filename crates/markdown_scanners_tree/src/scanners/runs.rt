@@ -80,8 +80,12 @@ pub fn scan_whitespace_no_nl(bytes: &[u8]) -> usize
         .count()
 }
 
-// The length of the longest prefix of spaces and tabs.
-pub(crate) fn scan_spaces_and_tabs(bytes: &[u8]) -> usize
+/// The length in bytes of the longest prefix of spaces and tabs: of an indent, or of what may stand
+/// after a closing fence and around an info string.
+///
+/// Vertical tabs and form feeds are no part of it, as they are for `scan_whitespace_no_nl`. Columns
+/// are counted by a `LineStart`. (CommonMark 0.31.2, sections 2.1 and 2.2)
+pub fn scan_spaces_and_tabs(bytes: &[u8]) -> usize
     ensures run { result ≡ prefix_len is_space_or_tab bytes.now }
     ensures within { result ≤ length bytes.now }
 {
