@@ -2,6 +2,7 @@
 pub use Rattle.markdown_scanners_tree.proofs.HandlerLemmas.{cut_behind_ascii, cut_behind_front, front_found, steady_at_ascii, ascii_fronts}
 pub use Rattle.markdown_scanners_tree.proofs.HandlerLemmas.{callable_after_line_endings}
 pub use Rattle.markdown_scanners_tree.proofs.LabelHandlers.{label_of_more}
+pub use Rattle.markdown_scanners_tree.proofs.RisingBytes.{Rises, kept_rises, rises_front, rises_length}
 pub use Rattle.markdown_scanners_tree.proofs.inline_html.TrueGuards.{opener-bounds}
 pub use Rattle.markdown_scanners_tree.proofs.inline_html.run.GuardsStay.{accepted}
 pub use Rattle.markdown_scanners_tree.proofs.inline_html.run.KeptGuard.{next_scan}
@@ -10,7 +11,7 @@ pub use Rattle.markdown_scanners_tree.proofs.line.ItemIndents.{same_items}
 pub use Rattle.markdown_scanners_tree.proofs.line.ItemRules.{items_agree, item_alone, no_item_alone, items_begun, same_answers}
 pub use Rattle.markdown_scanners_tree.proofs.line.PlaceLemmas.{space_forward, all_space_forward, quote_forward, definition_forward, task_forward, alert_forward, breaks_stay}
 pub use Rattle.markdown_scanners_tree.proofs.line.run.StateRunLemmas.{run_at_front, run_in_parts, run_stopped}
-pub use Rattle.markdown_scanners_tree.proofs.linklabel.OneLabel.{one_label}
+pub use Rattle.markdown_scanners_tree.proofs.linklabel.OneLabel.{one_label, one_label_in_bytes}
 pub use Rattle.markdown_scanners_tree.proofs.scanners.Scanned.{same_pieces, thematic_breaks, blank_lines, place_of_rest}
 pub use Rattle.markdown_scanners_tree.proofs.scanners.Scanned.{one_atx_heading, one_blank_line, one_closing_fence, one_closing_metadata, one_code_fence, one_destination}
 pub use Rattle.markdown_scanners_tree.proofs.scanners.Scanned.{one_html_block_start, one_html_kind, one_indent, one_item, one_metadata_block, one_quote_start, one_reference, one_row}
@@ -31,6 +32,7 @@ pub ruleset only_answers = (
   one_indent,
   one_item,
   one_label,
+  one_label_in_bytes,
   one_metadata_block,
   one_quote_start,
   one_reference,

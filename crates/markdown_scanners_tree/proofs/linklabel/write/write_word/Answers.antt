@@ -10,8 +10,8 @@ use Rattle.markdown_scanners_tree.specs.linklabel.private.Pass.{due_len, starts_
 use Rattle.markdown_scanners_tree.proofs.linklabel.SourceSteps.{rest_is}
 use Rattle.markdown_scanners_tree.proofs.linklabel.SeenBytes.{word_text-length}
 use Rattle.markdown_scanners_tree.proofs.linklabel.WriteLemmas.{cut_after_dropped, no_slice, slice_more, space_after}
-use Rattle.markdown_scanners_tree.proofs.linklabel.write_word.Goals as goal
-use Rattle.markdown_scanners_tree.proofs.linklabel.write_word.Goals.{then-is_space_due+in_ok-push_str, else-is_space_due}
+use Rattle.markdown_scanners_tree.proofs.linklabel.write.write_word.Goals as goal
+use Rattle.markdown_scanners_tree.proofs.linklabel.write.write_word.Goals.{then-is_space_due+in_ok-push_str, else-is_space_due}
 
 module _ {Z : Type 0} (due : Bool) (old mid : String Z) where
   -- the space was appended exactly where it is due

@@ -1,6 +1,6 @@
 use Rattle.std.proofs.Common.{arith}
 use Rattle.std.proofs.lemmas.Grind.{common_steps}
-use Rattle.markdown_scanners_tree.proofs.linklabel.next_part.Goals as goal
+use Rattle.markdown_scanners_tree.proofs.linklabel.write.next_part.Goals as goal
 
 pub returns-in-92-2 : goal.returns-in-92-2
 returns-in-92-2 c = grind (arith, common_steps)

@@ -5,19 +5,20 @@ use Rattle.markdown_scanners_tree.specs.Kept.{KeptByte}
 use Rattle.markdown_scanners_tree.specs.Handler.{Skips}
 use Rattle.markdown_scanners_tree.proofs.linklabel.SourceSteps.{IsAt}
 use Rattle.markdown_scanners_tree.proofs.linklabel.SeenBytes.{Written}
-use Rattle.markdown_scanners_tree.proofs.linklabel.write_label.Given as goal
+use Rattle.markdown_scanners_tree.proofs.linklabel.write.write_label.Given as goal
 
 abbrev pub invariant-loop-out : goal.invariant-loop-out
 invariant-loop-out g l = record {
   within : l.ix ≤ length l.bytes;
-  behind : l.mark ≤ l.ix;
-  cut : IsCharBoundary l.fn.text l.mark;
+  in_text : l.ix ≤ length l.text;
+  after : l.mark ≤ l.ix;
+  cut : IsCharBoundary l.text l.mark;
   flushed : l.in_run ≡ true → l.mark ≡ l.ix;
   seen : List KeptByte;
-  at : IsAt (Skips g.F.Fn l.handler) l.fn.text l.escaped seen l.ix (drop l.ix l.fn.text);
+  at : IsAt (Skips g.F.Fn l.handler) l.bytes l.escaped seen l.ix (drop l.ix l.bytes);
   pushed : List ℕ;
-  written : Written l.is_in_table seen l.ix (drop l.ix l.fn.text) l.has_word l.in_run pushed;
-  same : string_bytes l.initial.out ++ pushed ≡ string_bytes l.out ++ take (l.ix - l.mark) (drop l.mark l.fn.text);
+  written : Written l.is_in_table seen l.ix (drop l.ix l.bytes) l.has_word l.in_run pushed;
+  same : string_bytes l.initial.out ++ pushed ≡ string_bytes l.out ++ take (l.ix - l.mark) (drop l.mark l.text);
   counts : string_len l.initial.out + length pushed ≡ string_len l.out + (l.ix - l.mark);
   room : string_capacity l.initial.out ≤ string_capacity l.out;
 }
