@@ -1,5 +1,4 @@
 pub mod LabelText
 pub mod NoSpace
-pub mod PlainLabel
 pub mod Searched
 pub mod SureRun
