@@ -113,6 +113,7 @@ def scans():
     yield "scan_html_block_inner_900", call("448 attributes", told_tag(b"<ab" + b"\n> a" * 448 + b">", quote))
     yield "scan_link_label_rest", call("hello world", told_label(b"hello\r\nworld\r\n]"))
     yield "scan_link_label_rest_900", call("two words", told_label(b"a" * 450 + b"  " + b"a" * 449 + b"]"))
+    yield "scan_link_label_bytes", call("hello world", told_label(b"hello\r\nworld\r\n]\xff"))
     yield "link_label_new", call(STREET, Plain(STREET))
     text = "<!-- <!x> <!-- <![CDATA[ ]]>"
     yield "run_inline_html", call(text, html_run(text, [2, 7, 12, 17, 18]))

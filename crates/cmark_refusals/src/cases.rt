@@ -21,6 +21,7 @@ enum ScanCase {
     HtmlBlockInner900,
     LinkLabelRest,
     LinkLabelRest900,
+    LinkLabelBytes,
     LinkLabelNew,
     RunInlineHtml,
 }
@@ -99,6 +100,7 @@ const CASES: &[(&str, Case)] = &[
         "scan_link_label_rest_900",
         Case::Scan(ScanCase::LinkLabelRest900),
     ),
+    ("scan_link_label_bytes", Case::Scan(ScanCase::LinkLabelBytes)),
     ("link_label_new", Case::Scan(ScanCase::LinkLabelNew)),
     ("run_inline_html", Case::Scan(ScanCase::RunInlineHtml)),
     ("tree_with_capacity", Case::Tree(TreeCase::WithCapacity)),
@@ -215,6 +217,7 @@ fn run_scan(alloc: Global, output: Stdout, case: ScanCase) -> Result<(), Stop> {
         ScanCase::HtmlBlockInner900 => inline_html::tag_of_900_bytes(alloc, output),
         ScanCase::LinkLabelRest => labels::short(alloc, output),
         ScanCase::LinkLabelRest900 => labels::of_900_bytes(alloc, output),
+        ScanCase::LinkLabelBytes => labels::in_bytes(alloc, output),
         ScanCase::LinkLabelNew => labels::new(alloc, output),
         ScanCase::RunInlineHtml => inline_html::run(alloc, output),
     }

@@ -3,7 +3,7 @@ use crate::no_memory::texts::hash_of;
 use crate::stop::Stop;
 use crate::telling::{MadeOf, tell, tell_consuming, tell_reading, tell_ready};
 use crate::texts::boxed;
-use markdown_scanners_tree::linklabel::{LinkLabel, scan_link_label_rest};
+use markdown_scanners_tree::linklabel::{LinkLabel, scan_link_label_bytes, scan_link_label_rest};
 use markdown_values::strings::CowStr;
 use std::alloc::{AllocError, Global};
 use std::fmt;
@@ -24,10 +24,23 @@ impl<'a> MadeOf<&'a str> for Option<(usize, CowStr<'a>)> {
     }
 }
 
+impl<'a> MadeOf<&'a [u8]> for Option<(usize, CowStr<'a>)> {
+    fn made_of(alloc: Global, bytes: &'a [u8]) -> Result<Label<'a>, AllocError> {
+        let handler = |_: &[u8]| -> Option<usize> { Some(0) };
+        scan_link_label_bytes(alloc, bytes, &handler, false)
+    }
+}
+
 /// A label that doesn't stand in its text as it is.
 pub(crate) fn short(alloc: Global, output: Stdout) -> Result<(), Stop> {
     let text = "hello\r\nworld\r\n]";
     tell_reading::<&str, Label<'_>>(alloc, output, "hello world", text)
+}
+
+/// A label that doesn't stand as it is in its bytes, which are no text.
+pub(crate) fn in_bytes(alloc: Global, output: Stdout) -> Result<(), Stop> {
+    let bytes: &[u8] = b"hello\r\nworld\r\n]\xff";
+    tell_reading::<&[u8], Label<'_>>(alloc, output, "hello world", bytes)
 }
 
 /// A label of 900 bytes.

@@ -1,11 +1,14 @@
 //! Link labels: hostile texts and handlers, which labels are boxed, and which match.
 ghost use Rattle.std.specs.Prelude.{◌≡◌, ◌↔◌, ◌≤◌, ◌<◌, ◌-◌, length, slice_index, IsTrue};
 ghost use Rattle.markdown_scanners_tree.specs.linklabel.Key.{label_key};
-ghost use Rattle.cmark_vectors.specs.Markers.{skipped};
+ghost use Rattle.markdown_scanners_tree.specs.Handler.{IsAsciiFront};
+ghost use Rattle.cmark_vectors.specs.Markers.{skipped, quote_len};
 
 use crate::asserts::{assert_answer, made};
 use crate::bounds::{are_equal, hash_of};
-use markdown_scanners_tree::linklabel::{FootnoteLabel, LinkLabel, scan_link_label_rest};
+use markdown_scanners_tree::linklabel::{
+    FootnoteLabel, LinkLabel, scan_link_label_bytes, scan_link_label_rest,
+};
 use markdown_values::strings::CowStr;
 use std::alloc::{AllocError, Global};
 use std::process::Abort;
@@ -110,6 +113,59 @@ fn scan_in_one_line(alloc: Global, text: &str) -> Result<Answer<'_>, AllocError>
 fn scan_skipping_all(alloc: Global, text: &str) -> Result<Answer<'_>, AllocError> {
     let handler = |rest: &[u8]| -> Option<usize> { Some(rest.len()) };
     scan_link_label_rest(alloc, text, &handler, false)
+}
+
+// How many bytes the marker of a block quote takes at the front, with a space after it.
+fn quote_len(rest: &[u8]) -> usize
+    ensures value { result ≡ quote_len rest.now }
+    ensures ascii { IsAsciiFront rest.now result }
+{
+    match rest {
+        [b'>', b' ', ..] => 2,
+        _ => 0,
+    }
+}
+
+// Reads a label in the bytes of a block quote.
+fn scan_quoted_bytes(
+    alloc: Global,
+    bytes: &[u8],
+    is_in_table: bool,
+) -> Result<Answer<'_>, AllocError> {
+    let handler = |rest: &[u8]| -> Option<usize> { Some(quote_len(rest)) };
+    scan_link_label_bytes(alloc, bytes, &handler, is_in_table)
+}
+
+// Bytes, whether they are in a table, and the label at their front: how many of them it takes, and
+// its text.
+const IN_BYTES: [(&[u8], bool, Option<(usize, &str)>); 14] = [
+    (b"a b]\xff", false, Some((4, "a b"))),
+    (b"a  b]\xff\xfe", false, Some((5, "a b"))),
+    (b"a\n> b]\xff", false, Some((6, "a b"))),
+    (b"a\r\nb]\x80", false, Some((5, "a b"))),
+    (b"a\\]b]\xff", false, Some((5, "a\\]b"))),
+    (b"\xc3\xa9 ]\xff", false, Some((4, "\u{e9}"))),
+    (b"a\\|b]\xff", true, Some((5, "a|b"))),
+    (b"a\\|b]\xff", false, Some((5, "a\\|b"))),
+    (b"a\xff]", false, None),
+    (b"a\xc3]\xa9", false, None),
+    (b"a  \xff]", false, None),
+    (b"a\n\nb]", false, None),
+    (b"a[\xff]", false, None),
+    (b"a\xff", false, None),
+];
+
+// Only the bytes that a label takes are UTF-8.
+#[test]
+fn labels_end_before_other_bytes(rt: HostRuntime) {
+    for (bytes, is_in_table, label) in IN_BYTES {
+        let found = made(&rt, scan_quoted_bytes(rt.alloc(), bytes, is_in_table));
+        let is_found = match label {
+            Some((taken, text)) => is_label(&found, taken, text),
+            None => found.is_none(),
+        };
+        assert_answer(&rt, &bytes, is_found, true);
+    }
 }
 
 #[test]

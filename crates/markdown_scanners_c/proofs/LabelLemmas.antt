@@ -1,23 +1,23 @@
 -- Labels over lines of which ASCII is left out, and where their texts stand.
 use Rattle.std.proofs.Common.{ℕ, zero, suc, ◌+◌, ◌-◌, ◌≤◌, ◌<◌, ◌≡◌, ◌==◌, Some, Bool, true, false, nat_le, nat_lt, List, []}
-use Rattle.std.proofs.Common.{◌∷◌, length, take, drop, get_or, IsAscii, IsTrue, if◌then◌else◌, inl, inr, refl, sym, ap, subst, ◌∙◌, arith}
+use Rattle.std.proofs.Common.{◌∷◌, ◌++◌, length, take, drop, get_or, IsAscii, IsTrue, if◌then◌else◌, inl, inr, refl, sym, ap, subst, ◌∙◌, arith}
 use Rattle.std.specs.List.{list_all}
-use Rattle.std.specs.Str.{IsUtf8, IsNotAscii}
+use Rattle.std.specs.Str.{IsNotAscii}
 use Rattle.std.specs.Bool.{MatchBool}
-use Rattle.std.proofs.lemmas.Bool.{cases_Bool, and_parts, and_from, lt-ltb, ltb-true, le-leb, leb-true, eqb-true}
-use Rattle.std.proofs.lemmas.List.{length-take, take-take}
+use Rattle.std.proofs.lemmas.Bool.{cases_Bool, cases_lt, and_parts, and_from, lt-ltb, ltb-true, le-leb, leb-true, eqb-true}
+use Rattle.std.proofs.lemmas.List.{length-drop, length-take, take-take, drop-drop, drop_all, drop-append-le, take-append-le}
 use Rattle.markdown_scanners_tree.specs.Ascii.{space}
 use Rattle.markdown_scanners_tree.specs.Handler.{IsAsciiFront}
 use Rattle.markdown_scanners_tree.specs.linklabel.Answer.{slice_before, without_first_space, without_last_space}
-use Rattle.markdown_scanners_tree.specs.linklabel.Label.{Label}
+use Rattle.markdown_scanners_tree.specs.linklabel.Label.{Label, IsLabel, label_of}
 use Rattle.markdown_scanners_c.specs.Answers.{none}
-use Rattle.markdown_scanners_c.specs.Labels.{IsStart, IsLabelAt, IsLabelText}
-use Rattle.markdown_scanners_c.specs.Skips.{is_ascii_front, are_ascii_skips, left_out}
-use Rattle.markdown_scanners_c.specs.private.LabelText.{ToldAscii, IsWindow, IsWindowLabel, space_len}
-use Rattle.markdown_scanners_c.specs.private.Searched.{searched}
-use Rattle.markdown_scanners_c.specs.declared.labels.LabelText.{LabelText}
+use Rattle.markdown_scanners_c.specs.Labels.{IsStart}
+use Rattle.markdown_scanners_c.specs.Skips.{is_ascii_front, are_skips, are_ascii_skips, left_out, LeavesOut}
+use Rattle.markdown_scanners_c.specs.private.LabelText.{ToldAscii, space_len}
+use Rattle.markdown_scanners_c.specs.private.Searched.{searched, told_skip}
 use Rattle.markdown_scanners_c.specs.declared.skips.Skip.{Skip}
-use Rattle.markdown_scanners_c.proofs.Windows.{window, window_drop, window_length}
+use Rattle.markdown_scanners_c.proofs.SameKept.{AgreeOnRests, kept_too}
+use Rattle.markdown_scanners_c.proofs.SkipLemmas.{finds}
 
 -- ---- ASCII
 
@@ -51,6 +51,85 @@ front_at bytes (skip ∷ skips) place ascii =
           rw here (subst (λ p. is_ascii_front (drop p bytes) skip.length ≡ true) (eqb-true skip.place place here) parts.0)
       | inr other ↦ rw other (front_at bytes skips place parts.1)
     ]
+
+all_take : (test : ℕ → Bool) (m : ℕ) (xs : List ℕ) → list_all test xs ≡ true → list_all test (take m xs) ≡ true
+all_take test zero xs all = refl
+all_take test (suc m) [] all = refl
+all_take test (suc m) (b ∷ xs) all =
+    let parts = and_parts (test b) (list_all test xs) all in
+    and_from _ _ parts.0 (all_take test m xs parts.1)
+
+module _ (skips : List Skip) (bytes : List ℕ) where
+  -- what is told is what a search finds, all of the rest where that is more, and is ASCII
+  told_is : (rest : List ℕ) (skip : ℕ) → ToldAscii skips bytes rest skip
+      → (skip ≡ told_skip skips bytes rest) × (is_ascii_front rest skip ≡ true)
+  told_is rest skip told =
+      let found = told_skip skips bytes rest in
+      elim (cases_Bool (is_ascii_front rest found)) [
+        | inl front ↦
+            (let same : Some found ≡ Some skip = rw front at told in
+            let is : found ≡ skip = cc in
+            (sym is, subst (λ n. is_ascii_front rest n ≡ true) is front))
+        | inr other ↦ absurd (let lacks = rw other at told in cc)
+      ]
+
+  pub told_front : (rest : List ℕ) (skip : ℕ) → ToldAscii skips bytes rest skip → IsAsciiFront rest skip
+  told_front rest skip told =
+      let parts = and_parts (nat_le skip (length rest)) _ (told_is rest skip told).1 in
+      (leb-true skip (length rest) parts.0, parts.1)
+
+  -- with a table of a text that the bytes begin
+  module _ (behind : List ℕ) (stand : are_skips skips (bytes ++ behind) ≡ true)
+      (ascii : are_ascii_skips skips (bytes ++ behind) ≡ true) where
+    ascii_there : (p : ℕ) → let rest = drop p bytes in list_all (λ b. nat_lt b 128) (take (told_skip skips bytes rest) rest) ≡ true
+    ascii_there p =
+        let rest = drop p bytes in
+        let m = told_skip skips bytes rest in
+        let size = length-drop p bytes in
+        elim (cases_lt (length bytes) p) [
+          | inl past ↦
+              (let none : rest ≡ [] = drop_all p bytes (omega (arith, past)) in
+              all_take (λ b. nat_lt b 128) m rest (ap (list_all (λ b. nat_lt b 128)) none))
+          | inr within ↦
+              (let n = left_out skips p in
+              let here : length bytes - length rest ≡ p = omega (arith, size, within) in
+              let found : searched skips (length bytes - length rest) ≡ n =
+              finds skips bytes behind stand (length bytes - length rest) ∙ ap (left_out skips) here in
+              let front = and_parts (nat_le n (length (drop p (bytes ++ behind)))) _
+              (front_at (bytes ++ behind) skips p ascii) in
+              let whole : drop p (bytes ++ behind) ≡ rest ++ behind = drop-append-le p bytes behind within in
+              let same : take m (take n (rest ++ behind)) ≡ take m rest =
+              take-take m n (rest ++ behind) (omega (arith, found)) ∙ take-append-le m rest behind (omega arith) in
+              subst (λ xs. list_all (λ b. nat_lt b 128) xs ≡ true) same
+              (all_take (λ b. nat_lt b 128) m (take n (rest ++ behind))
+              (subst (λ xs. list_all (λ b. nat_lt b 128) (take n xs) ≡ true) whole front.1)))
+        ]
+
+    told_is_left_out : AgreeOnRests bytes (ToldAscii skips bytes) (LeavesOut skips bytes)
+    told_is_left_out p n told =
+        let rest = drop p bytes in
+        let place = length bytes - length rest in
+        (left_out skips place, refl, omega (arith, (told_is rest n told).0, finds skips bytes behind stand place))
+
+    left_out_is_told : AgreeOnRests bytes (LeavesOut skips bytes) (ToldAscii skips bytes)
+    left_out_is_told p n leaves =
+        let rest = drop p bytes in
+        let m = told_skip skips bytes rest in
+        let front : is_ascii_front rest m ≡ true = and_from _ _ (le-leb m (length rest) (omega arith)) (ascii_there p) in
+        (m, rw front refl, omega (arith, leaves, finds skips bytes behind stand (length bytes - length rest)))
+
+    -- A label of what is told is one of what is left out, and the other way.
+    pub label_of_told : (p : ℕ) (t : Bool) (label : Label) → IsLabel (ToldAscii skips bytes) (drop p bytes) t label
+        → IsLabel (LeavesOut skips bytes) (drop p bytes) t label
+    label_of_told p t label is =
+        let too = kept_too bytes (ToldAscii skips bytes) (LeavesOut skips bytes) told_is_left_out 0 p is.skips is.answered in
+        record { skips = too.0; answered = too.1; label_is = ap (label_of t) too.2 ∙ is.label_is }
+
+    pub label_as_told : (p : ℕ) (t : Bool) (label : Label) → IsLabel (LeavesOut skips bytes) (drop p bytes) t label
+        → IsLabel (ToldAscii skips bytes) (drop p bytes) t label
+    label_as_told p t label is =
+        let too = kept_too bytes (LeavesOut skips bytes) (ToldAscii skips bytes) left_out_is_told 0 p is.skips is.answered in
+        record { skips = too.0; answered = too.1; label_is = ap (label_of t) too.2 ∙ is.label_is }
 
 -- ---- where a label stands
 
@@ -93,70 +172,22 @@ cut_stands (suc n) (b ∷ bs) = elim (cases_Bool (b == space)) [
 pub slice_stands : (bytes : List ℕ) (n : ℕ) → StandsAt bytes (slice_before bytes n) (space_len bytes)
 slice_stands bytes n = cut_stands (n - 1) bytes
 
--- where a label is lent from the bytes up to an end, and else nowhere
-pub started : (bytes : List ℕ) (start end : ℕ) → start ≤ end → end ≤ length bytes → (label : Label) (n place : ℕ) (lent : Bool)
-    → label.plain ≡ lent → place ≡ (if lent then start + space_len (window bytes start end) else none)
-    → (IsTrue lent → label.text ≡ slice_before (window bytes start end) n) → IsStart bytes label place
-started bytes start end order within label n place true plain at slice =
-    let front = window bytes start end in
+-- where a label is lent from the bytes from a place on, and else nowhere
+pub started : (bytes : List ℕ) (start : ℕ) → start ≤ length bytes → (label : Label) (n place : ℕ) (lent : Bool)
+    → label.plain ≡ lent → place ≡ (if lent then start + space_len (drop start bytes) else none)
+    → (IsTrue lent → label.text ≡ slice_before (drop start bytes) n) → IsStart bytes label place
+started bytes start within label n place true plain at slice =
+    let front = drop start bytes in
     let space = space_len front in
     let stands = slice_stands front n in
     let text = slice refl in
-    let size = window_length bytes start end within in
     let count = length (slice_before front n) in
-    let rest : drop space front ≡ window bytes (start + space) end = window_drop bytes start end space (omega (arith, stands.0, size, order)) in
     let there : take count (drop (start + space) bytes) ≡ slice_before front n =
-    sym (take-take count (end - (start + space)) (drop (start + space) bytes) (omega (arith, stands.0, size, order)))
-    ∙ ap (take count) (sym rest) ∙ stands.1 in
+    ap (take count) (sym (drop-drop space start bytes)) ∙ stands.1 in
     inl (
       plain,
-      omega (arith, at, ap length text, stands.0, size, order, within),
+      omega (arith, at, ap length text, stands.0, length-drop start bytes, within),
       subst (λ t. take (length t) (drop place bytes) ≡ t) (sym text)
           (subst (λ s. take count (drop s bytes) ≡ slice_before front n) (sym at) there),
     )
-started bytes start end order within label n place false plain at slice = inr (plain, at)
-
--- what is told is there, and is ASCII
-pub told_front : (skips : List Skip) (end : ℕ) (rest : List ℕ) (skip : ℕ) → ToldAscii skips end rest skip → IsAsciiFront rest skip
-told_front skips end rest skip told =
-    let found = searched skips (end - length rest) in
-    elim (cases_Bool (is_ascii_front rest found)) [
-      | inl front ↦
-          (let same : Some found ≡ Some skip = rw front at told in
-          let is : found ≡ skip = cc in
-          let parts = and_parts (nat_le found (length rest)) _ front in
-          subst (IsAsciiFront rest) is (leb-true found (length rest) parts.0, parts.1))
-      | inr other ↦ absurd (let none = rw other at told in cc)
-    ]
-
--- what is told of labels, where they are the same
-told_of_all : (IsOne IsOther : Label → Type 0) → ((label : Label) → IsOne label → IsOther label)
-    → ((label : Label) → IsOther label → IsOne label) → (bytes : List ℕ) (start : ℕ) (old new : List ℕ) (text : LabelText)
-    → IsLabelText IsOne bytes start old new text → IsLabelText IsOther bytes start old new text
-unfolding IsLabelText
-told_of_all IsOne IsOther to from bytes start old new text (inl nowhere) =
-    inl (nowhere.0, nowhere.1, λ label is. nowhere.2 label (from label is))
-told_of_all IsOne IsOther to from bytes start old new text (inr (inl refused)) =
-    inr (inl (
-      refused.0,
-      refused.1,
-      (λ nowhere. refused.2 (λ label is. nowhere label (to label is))),
-      (λ label is. refused.3 label (from label is)),
-    ))
-told_of_all IsOne IsOther to from bytes start old new text (inr (inr found)) =
-    inr (inr (found.0, to found.0 found.1, found.2, found.3, found.4))
-
--- the label of the bytes up to the end of a window is that of all
-pub told_of_window : (skips : List Skip) (bytes : List ℕ) (start end : ℕ) (t : Bool) → IsWindow skips bytes start end
-    → (old new : List ℕ) (text : LabelText) → IsLabelText (IsWindowLabel skips bytes start end t) bytes start old new text
-    → IsLabelText (IsLabelAt skips bytes start t) bytes start old new text
-told_of_window skips bytes start end t w old new text told =
-    told_of_all (IsWindowLabel skips bytes start end t) (IsLabelAt skips bytes start t)
-    (λ label is. (
-    let whole = w.from t label is.0 in
-    let size : end - start ≡ label.len = omega (arith, w.ends t label whole) in
-    (whole, subst (λ n. IsUtf8 (take n (drop start bytes))) size is.1)))
-    (λ label is. (
-    let size : label.len ≡ end - start = omega (arith, w.ends t label is.0) in
-    (w.to t label is.0, subst (λ n. IsUtf8 (take n (drop start bytes))) size is.1)))
-    bytes start old new text told
+started bytes start within label n place false plain at slice = inr (plain, at)

@@ -1,15 +1,12 @@
 pub mod Buffers
 pub mod HtmlScans
 pub mod KeyLemmas
-pub mod LabelEnds
 pub mod LabelLemmas
-pub mod LabelRoom
 pub mod LineRuns
 pub mod Meanings
 pub mod NoSpaces
 pub mod Parts
-pub mod PlainLabels
 pub mod Rows
+pub mod SameKept
 pub mod SkipLemmas
 pub mod TagLemmas
-pub mod Windows

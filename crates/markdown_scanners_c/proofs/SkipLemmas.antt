@@ -1,10 +1,10 @@
 -- What a table of skips leaves out, place by place, and that a search by halving finds it.
-use Rattle.std.proofs.Common.{ℕ, zero, suc, ◌+◌, ◌-◌, ◌/◌, ◌≤◌, ◌<◌, ◌≡◌, ◌≢◌, ◌==◌, ◌&&◌, max, nat_le, nat_lt, true, List, [], ◌∷◌, length, take, drop, get_or, if◌then◌else◌}
+use Rattle.std.proofs.Common.{ℕ, zero, suc, ◌+◌, ◌-◌, ◌/◌, ◌≤◌, ◌<◌, ◌≡◌, ◌≢◌, ◌==◌, ◌&&◌, max, nat_le, nat_lt, true, List, [], ◌∷◌, ◌++◌, length, take, drop, get_or, if◌then◌else◌}
 use Rattle.std.proofs.Common.{inl, inr, refl, sym, ◌∙◌, ap, arith}
 use Rattle.std.proofs.lemmas.Bool.{cases_Bool, and_parts, leb-true, ltb-true, eqb-true, eq-eqb, ne_eqb, lt-ltb, le-ltb}
 use Rattle.std.proofs.lemmas.Bool.Decides.{nat_tests}
 use Rattle.std.proofs.lemmas.List.{length-drop, length-take, nil_from_length, take_rest}
-use Rattle.markdown_scanners_c.specs.Skips.{stand_from, left_out}
+use Rattle.markdown_scanners_c.specs.Skips.{stand_from, are_skips, left_out}
 use Rattle.markdown_scanners_c.specs.private.Searched.{no_skip, halved, searched}
 use Rattle.markdown_scanners_c.specs.declared.skips.Skip.{Skip}
 
@@ -190,3 +190,8 @@ search_finds (suc steps) size from place (skip ∷ skips) fits stand =
             ∙ sym (earlier size place from table middle stand below beyond)))
       ]
     ]
+
+-- and so of a table of a text that the bytes begin
+pub finds : (skips : List Skip) (bytes behind : List ℕ) → are_skips skips (bytes ++ behind) ≡ true → (place : ℕ)
+    → searched skips place ≡ left_out skips place
+finds skips bytes behind stand place = search_finds (length skips) (length (bytes ++ behind)) 0 place skips (omega arith) stand

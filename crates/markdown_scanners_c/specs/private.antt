@@ -1,6 +1,5 @@
 pub mod LabelText
 pub mod NoSpace
-pub mod PlainLabel
 pub mod ScanTold
 pub mod Searched
 pub mod SureRun

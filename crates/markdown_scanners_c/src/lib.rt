@@ -14,7 +14,6 @@ mod line_rests;
 mod line_runs;
 mod line_starts;
 mod lines;
-mod plain_labels;
 mod runs;
 mod skips;
 mod status;

@@ -105,12 +105,12 @@ pub(crate) fn told_skip(skips: &[Skip], bytes: &[u8], rest: &[u8]) -> usize
     searched(skips, place).min(rest.len())
 }
 
-/// How many bytes of a rest of the bytes up to the place a table leaves out, if so many are there and
+/// How many bytes of a rest of the text a table leaves out, all of them where it names more, if they
 /// are ASCII.
-pub(crate) fn told_ascii(skips: &[Skip], end: usize, rest: &[u8]) -> Option<usize>
-    ensures { result ≡ told_ascii skips.now end rest.now }
+pub(crate) fn told_ascii(skips: &[Skip], bytes: &[u8], rest: &[u8]) -> Option<usize>
+    ensures { result ≡ told_ascii skips.now bytes.now rest.now }
 {
-    let count = searched(skips, end.saturating_sub(rest.len()));
+    let count = told_skip(skips, bytes, rest);
     if is_ascii_front(rest, count) {
         Some(count)
     } else {

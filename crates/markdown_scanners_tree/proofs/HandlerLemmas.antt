@@ -22,7 +22,7 @@ pub cut_behind_ascii : (rest : List ℕ) (skip : ℕ) → IsUtf8 rest → skip �
 cut_behind_ascii rest skip utf8 within some ascii =
     subst (IsCharBoundary rest) (omega (arith, some)) (IsCharBoundary-after_ascii rest (skip - 1) utf8 (omega (arith, some, within)) ascii)
 
-last_ascii : (rest : List ℕ) (k : ℕ) → k < length rest → list_all (λ b. nat_lt b 128) (take (suc k) rest) ≡ true
+pub last_ascii : (rest : List ℕ) (k : ℕ) → k < length rest → list_all (λ b. nat_lt b 128) (take (suc k) rest) ≡ true
     → get_or rest k 0 < 128
 last_ascii [] k inside all = absurd (omega (arith, inside))
 last_ascii (b ∷ rest) zero inside all = ltb-true b 128 (both_true (nat_lt b 128) true all).0

@@ -6,6 +6,7 @@ pub mod KeptStep
 pub mod LabelHandlers
 pub mod OneKeptText
 pub mod PassLemmas
+pub mod RisingBytes
 pub mod RunLemmas
 pub mod ScanLemmas
 pub mod SomeExactlyLemmas

@@ -3,7 +3,7 @@ use Rattle.std.proofs.Common.{ℕ, Bool, true, false, ◌||◌, ◌&&◌, ◌==�
 use Rattle.markdown_scanners_tree.specs.Ascii.{space}
 use Rattle.markdown_scanners_tree.specs.Bytes.{is_between}
 use Rattle.markdown_scanners_tree.specs.linklabel.private.Pass.{begun, continued, due_len, space_len, gap_len}
-use Rattle.markdown_scanners_tree.specs.linklabel.private.Pass.{new_tally, tally_past_ending, tally_past_space, tally_past_word}
+use Rattle.markdown_scanners_tree.specs.linklabel.private.Pass.{tally_after_words, tally_past_ending, tally_past_space, tally_past_word}
 use Rattle.markdown_scanners_tree.specs.declared.linklabel.tally.Tally.{Tally}
 
 -- How many characters the bytes are, how long a text their words make, whether there is a word, whether a run of white
@@ -66,7 +66,7 @@ pub record Tells (y : Tally) (ix : ℕ) (f : Facts) : Type 0 where
   pub ending_is : (y.in_run && y.has_ending) ≡ f.has_ending
   pub plain_is : y.is_plain ≡ (f.is_spaced && not f.is_rewritten)
 
-pub tells_none : Tells new_tally 0 no_facts
+pub tells_none : Tells (tally_after_words 0) 0 no_facts
 tells_none = record {
   characters_are = refl;
   length_is = refl;

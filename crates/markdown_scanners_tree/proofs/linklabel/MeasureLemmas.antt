@@ -6,7 +6,6 @@ use Rattle.std.proofs.Math.Seq.{take-append_seam}
 use Rattle.std.proofs.lemmas.Bool.{cases_Bool, and_parts}
 use Rattle.std.proofs.lemmas.Bool.Decides.{nat_tests}
 use Rattle.std.proofs.lemmas.List.{drop-drop, drop_more}
-use Rattle.std.specs.Str.{IsUtf8}
 use Rattle.markdown_scanners_tree.specs.Ascii.{right_bracket}
 use Rattle.markdown_scanners_tree.specs.Bytes.{begins_with, is_line_ending, is_white_space, is_punctuation}
 use Rattle.markdown_scanners_tree.specs.Kept.{KeptByte, bytes_of, in_line, kept_line, line_len}
@@ -19,7 +18,7 @@ use Rattle.markdown_scanners_tree.specs.linklabel.private.Run.{is_ordinary}
 use Rattle.markdown_scanners_tree.specs.declared.linklabel.tally.Tally.{Tally}
 use Rattle.markdown_scanners_tree.proofs.linklabel.Facts.{Facts, facts_past_ending, facts_past_space, facts_past_word}
 use Rattle.markdown_scanners_tree.proofs.linklabel.Facts.{Tells, tells_ending, tells_space, tells_word, tells_length}
-use Rattle.markdown_scanners_tree.proofs.linklabel.SourceSteps.{IsAt, IsOnlySkip, at_closing, from_closing, none_at_closing, cut_before, cut_after}
+use Rattle.markdown_scanners_tree.proofs.linklabel.SourceSteps.{IsAt, IsOnlySkip, at_closing, from_closing, none_at_closing, byte_at}
 use Rattle.markdown_scanners_tree.proofs.linklabel.SourceSteps.{after_word, after_space, after_ending, byte_rest, byte_fits, ending_fits, told_word, told_space, told_ending}
 use Rattle.markdown_scanners_tree.proofs.linklabel.SeenBytes.{Seen, content_of_seen, plain_of_seen, length_of_seen, stands_in_source}
 
@@ -61,9 +60,9 @@ module _ (a : List ℕ → ℕ → Type 0) (source : List ℕ) (t escaped : Bool
   content : is_label_content seen ≡ (nat_le y.characters 999 && y.has_word)
   content = content_of_seen t source seen ix (93 ∷ bracket.1.0) y at_bracket
 
-  measured : IsUtf8 source → ix ≤ length source → y.has_word ≡ true → y.characters ≤ 999
+  measured : ix ≤ length source → y.has_word ≡ true → y.characters ≤ 999
       → IsMeasure a source t (record { close = ix; length = y.length; is_plain = y.is_spaced && not y.is_rewritten })
-  measured utf8 within word few =
+  measured within word few =
       let tested : nat_le y.characters 999 ≡ true = grind (arith, nat_tests, few) in
       let is_content : is_label_content seen ≡ true = content ∙ (λ i. tested i && word i) in
       let made : label_between t (Some (record { content = seen; close = ix }))
@@ -80,18 +79,18 @@ module _ (a : List ℕ → ℕ → Type 0) (source : List ℕ) (t escaped : Bool
             λ h. (let s = stands_in_source t source seen ix bracket.1.0 y at_bracket h in
             s.1 ∙ ap (λ z. without_last_space (without_first_space z))
             (prefix_taken source (bytes_of seen) (93 ∷ bracket.1.0) ix s.0 bracket.1.1 within));
-        cut = cut_before source ix 93 bracket.1.0 bracket.1.1 (omega arith);
-        behind = cut_after source ix 93 bracket.1.0 utf8 bracket.1.1 (omega arith);
+        inside = (byte_at source ix 93 bracket.1.0 bracket.1.1).0;
+        closes = (byte_at source ix 93 bracket.1.0 bracket.1.1).1;
       }
 
-  pub measured_by : (tally : Tally) → Tells tally ix y → IsUtf8 source → ix ≤ length source → tally.has_word ≡ true
+  pub measured_by : (tally : Tally) → Tells tally ix y → ix ≤ length source → tally.has_word ≡ true
       → ix - tally.skipped ≤ 999 → IsMeasure a source t
       (record { close = ix; length = ix - (tally.left_out + due_len tally.in_run); is_plain = tally.is_plain })
-  measured_by tally h utf8 within word few =
+  measured_by tally h within word few =
       let has_word : y.has_word ≡ true = sym h.word_is ∙ word in
       subst (λ x. x) (λ i. IsMeasure a source t
       (record { close = ix; length = sym (tells_length tally ix y h has_word).1 i; is_plain = sym h.plain_is i }))
-      (measured utf8 within has_word (omega (arith, few, h.characters_are)))
+      (measured within has_word (omega (arith, few, h.characters_are)))
 
   pub not_measured : (nat_le y.characters 999 && y.has_word) ≡ false → (label : Label) → IsLabel a source t label → ⊥
   not_measured lacks label l =

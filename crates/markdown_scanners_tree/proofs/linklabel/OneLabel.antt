@@ -8,7 +8,7 @@ use Rattle.std.proofs.lemmas.Str.{IsUtf8-drop, IsCharBoundary-from_rest}
 use denote.Ref.{Bor}
 use Rattle.markdown_scanners_tree.specs.Ascii.{line_feed, carriage_return, left_bracket, backslash, right_bracket}
 use Rattle.markdown_scanners_tree.specs.Bytes.{is_line_ending, is_punctuation}
-use Rattle.markdown_scanners_tree.specs.Handler.{Skips, IsSteadyAtChars}
+use Rattle.markdown_scanners_tree.specs.Handler.{Skips, IsSteadyAtChars, IsSteadyAtAscii}
 use Rattle.markdown_scanners_tree.specs.Kept.{KeptByte, kept_text, line_len, AreSkips}
 use Rattle.markdown_scanners_tree.specs.linklabel.Label.{kept_units, bracketed, preceded, Label, label_between, label_of, IsLabel}
 use Rattle.markdown_scanners_tree.specs.linklabel.private.NextPart.{IsEnding}
@@ -133,3 +133,14 @@ module _ {F : Type 0} (g : Shared F (Bor (List ℕ) × Unit {0}) (Option ℕ)) (
       same_label is_in_table (kept_text text is.skips) (kept_text text is'.skips) label other
       (one_kept_text (SkipsText g f) one_skip 0 text is.skips is'.skips (skips_text text is.skips utf8 is.answered)
       (skips_text text is'.skips utf8 is'.answered)) is.label_is is'.label_is
+
+-- and so have bytes that may be anything after it
+pub one_label_in_bytes : {F : Type 0} (g : Shared F (Bor (List ℕ) × Unit {0}) (Option ℕ)) (f : F) → IsSteadyAtAscii g f
+    → (bytes : List ℕ) (is_in_table : Bool) (label other : Label) → IsLabel (Skips g f) bytes is_in_table label
+    → IsLabel (Skips g f) bytes is_in_table other → label ≡ other
+one_label_in_bytes g f steady bytes is_in_table label other is is' =
+    same_label is_in_table (kept_text bytes is.skips) (kept_text bytes is'.skips) label other
+    (one_kept_text (Skips g f) one 0 bytes is.skips is'.skips is.answered is'.answered) is.label_is is'.label_is
+  where
+    one : (rest : List ℕ) (m n : ℕ) → Skips g f rest m → Skips g f rest n → m ≡ n
+    one rest m n answer other = (let same : Some m ≡ Some n = steady.one_answer rest (Some m) (Some n) answer other in cc)

@@ -21,7 +21,7 @@ use Rattle.markdown_scanners_tree.specs.Kept.{KeptByte, in_line, kept_line, line
 use Rattle.markdown_scanners_tree.specs.linklabel.Label.{Label, IsLabel, label_between, preceded, Bracketed, bracketed, kept_units, is_label_content}
 use Rattle.markdown_scanners_tree.specs.linklabel.private.NextPart.{IsBracket, IsEnding, IsSpace, IsWord, IsNextPart}
 use Rattle.markdown_scanners_tree.specs.linklabel.private.Pass.{starts_dropped}
-use Rattle.markdown_scanners_tree.specs.declared.linklabel.NextPart.{NextPart}
+use Rattle.markdown_scanners_tree.specs.declared.linklabel.write.NextPart.{NextPart}
 use Rattle.markdown_scanners_tree.proofs.linklabel.Facts.{Facts, facts_past_ending, facts_past_space, facts_past_word}
 use Rattle.markdown_scanners_tree.proofs.linklabel.CellText.{white_no_backslash}
 use Rattle.markdown_scanners_tree.proofs.linklabel.KeptTextSteps.{Goes, past_byte, at_byte, no_label_at_end, no_label_at_opening, label_at_closing, closing_label}
@@ -51,7 +51,7 @@ white_not_punctuation b w p = grind (arith, nat_tests, w, p)
 white_no_bracket : (b : ℕ) → is_white_space b ≡ true → ((b == 93) ≡ false) × ((b == 91) ≡ false)
 white_no_bracket b w = (grind (arith, nat_tests, w), grind (arith, nat_tests, w))
 
-ending_white : (b : ℕ) → is_line_ending b ≡ true → is_white_space b ≡ true
+pub ending_white : (b : ℕ) → is_line_ending b ≡ true → is_white_space b ≡ true
 ending_white b h = grind (arith, nat_tests, h)
 
 pub dark_no_ending : (b : ℕ) → is_white_space b ≡ false → is_line_ending b ≡ false
@@ -315,10 +315,10 @@ ending_fits source ix len h = (
 )
 
 -- what stands next, as the slice tells it
-pub next_part_at : (bytes source : List ℕ) (ix : ℕ) (escaped : Bool) (f g : NextPart) → bytes ≡ source
-    → IsNextPart escaped (take (length bytes - ix) (drop ix bytes)) f → f ≡ g → IsNextPart escaped (drop ix source) g
-next_part_at bytes source ix escaped f g value h e =
-    subst (λ x. x) (λ i. IsNextPart escaped ((rest_is bytes ix ∙ ap (drop ix) value) i) (e i)) h
+pub next_part_at : (source : List ℕ) (ix : ℕ) (escaped : Bool) (f g : NextPart)
+    → IsNextPart escaped (take (length source - ix) (drop ix source)) f → f ≡ g → IsNextPart escaped (drop ix source) g
+next_part_at source ix escaped f g h e =
+    subst (λ x. x) (λ i. IsNextPart escaped (rest_is source ix i) (e i)) h
 
 pub byte_fits : (source : List ℕ) (ix b : ℕ) (bs : List ℕ) → drop ix source ≡ b ∷ bs → ix + 1 ≤ length source
 byte_fits source ix b bs e = omega (arith, length-drop ix source, ap length e)

@@ -1,6 +1,7 @@
 -- Link labels. (CommonMark 0.31.2, section 6.3, link labels)
-use Rattle.std.specs.Prelude.{ℕ, Bool, true, false, ◌||◌, ◌&&◌, ◌==◌, not, nat_le, List, [], ◌∷◌, ◌++◌, ◌≡◌, ◌+◌, length, map, count_by, Option, Some, None, if◌then◌else◌}
+use Rattle.std.specs.Prelude.{ℕ, Bool, true, false, ◌||◌, ◌&&◌, ◌==◌, not, nat_le, List, [], ◌∷◌, ◌++◌, ◌≡◌, ◌+◌, length, take, map, count_by, Option, Some, None, if◌then◌else◌}
 use Rattle.std.specs.List.{list_all, join_with_byte}
+use Rattle.std.specs.Str.{IsUtf8}
 use Rattle.markdown_scanners_tree.specs.Bytes.{begins_with, is_white_space, is_between}
 use Rattle.markdown_scanners_tree.specs.Ascii.{space, left_bracket, backslash, right_bracket, vertical_line}
 use Rattle.markdown_scanners_tree.specs.Kept.{KeptByte, bytes_of, line_endings, kept_text, AreSkips}
@@ -130,6 +131,15 @@ pub record IsLabel (answers : List ℕ → ℕ → Type 0) (source : List ℕ) (
 -- No label stands there.
 abbrev pub HasNoLabel : (List ℕ → ℕ → Type 0) → List ℕ → Bool → Type 0
 HasNoLabel answers source is_in_table = (label : Label) → ¬ IsLabel answers source is_in_table label
+
+-- A label stands at the front of bytes that may be anything after it: those that it takes are UTF-8.
+abbrev pub IsLabelInBytes : (List ℕ → ℕ → Type 0) → List ℕ → Bool → Label → Type 0
+IsLabelInBytes answers bytes is_in_table label =
+    IsLabel answers bytes is_in_table label × IsUtf8 (take label.len bytes)
+
+-- No such label stands there.
+abbrev pub HasNoLabelInBytes : (List ℕ → ℕ → Type 0) → List ℕ → Bool → Type 0
+HasNoLabelInBytes answers bytes is_in_table = (label : Label) → ¬ IsLabelInBytes answers bytes is_in_table label
 
 abbrev pub ends_in_backslash : List ℕ → Bool
 ends_in_backslash [] = false

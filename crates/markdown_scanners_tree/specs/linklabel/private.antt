@@ -1,3 +1,5 @@
 pub mod NextPart
 pub mod Pass
 pub mod Run
+pub mod Steady
+pub mod Words

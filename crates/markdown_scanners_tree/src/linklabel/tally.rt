@@ -1,6 +1,6 @@
 //! What the first pass over a label keeps of the bytes that it has read.
 ghost use Rattle.std.specs.Prelude.{◌≡◌, ◌≤◌, ◌+◌, ◌-◌, ◌&&◌, not};
-ghost use Rattle.markdown_scanners_tree.specs.linklabel.private.Pass.{continued, due_len, gap_len, new_tally, tally_past_ending, tally_past_space, tally_past_word};
+ghost use Rattle.markdown_scanners_tree.specs.linklabel.private.Pass.{continued, due_len, gap_len, tally_after_words, tally_past_ending, tally_past_space, tally_past_word};
 
 // What is known of the bytes of a label that were read: how many of them begin none of its
 // characters, how many its text leaves out, where the space between two words counts as soon as white
@@ -18,13 +18,14 @@ pub(crate) struct Tally {
 }
 
 impl Tally {
-    pub(crate) fn new() -> Tally
-        ensures { result ≡ new_tally }
+    // After so many bytes that are words of ASCII, with one space between.
+    pub(crate) fn after_words(count: usize) -> Tally
+        ensures { result ≡ tally_after_words count }
     {
         Tally {
             skipped: 0,
             left_out: 0,
-            has_word: false,
+            has_word: count > 0,
             in_run: false,
             has_ending: false,
             is_plain: true,

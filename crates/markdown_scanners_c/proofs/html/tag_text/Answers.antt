@@ -26,7 +26,7 @@ returns-in-Ok-Some c =
     record {
       tag = λ behind stand. inr (inr (
         found.0,
-        tag_too _ (LeavesOut skips bytes) (told_is_left_out skips bytes behind stand) _ found.0 told,
+        tag_too bytes _ (LeavesOut skips bytes) (told_is_left_out skips bytes behind stand) c.args.start found.0 told,
         omega (arith, w.ensures.taken, found.2.1),
         written,
       ));
@@ -49,7 +49,7 @@ returns-in-Ok-None c =
         λ tag is. none tag (tag_of_more (Told skips bytes) _
             (λ rest skip e. record { shown = record c.args.bytes { now = rest }; shows = refl; says = record { met = e } })
             (drop c.args.start bytes) tag
-            (tag_too (LeavesOut skips bytes) (Told skips bytes) (left_out_is_told skips bytes behind stand) (drop c.args.start bytes) tag is)),
+            (tag_too bytes (LeavesOut skips bytes) (Told skips bytes) (left_out_is_told skips bytes behind stand) c.args.start tag is)),
       );
       there = λ past. omega (arith, past, c.no_tag.ensures.0);
       within = omega (arith, c.no_tag.ensures.1);
@@ -70,7 +70,7 @@ returns-in-Err c =
       tag = λ behind stand. inr (inl (
         c.no_tag-in-Err.ensures,
         refl,
-        (found.0, tag_too _ (LeavesOut skips bytes) (told_is_left_out skips bytes behind stand) _ found.0 told, found.2),
+        (found.0, tag_too bytes _ (LeavesOut skips bytes) (told_is_left_out skips bytes behind stand) c.args.start found.0 told, found.2),
       ));
       there = λ past. omega (arith, past, c.no_tag-in-Err.ensures.0);
       within = omega (arith, c.no_tag-in-Err.ensures.1);

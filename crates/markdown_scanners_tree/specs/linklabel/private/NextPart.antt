@@ -3,8 +3,8 @@ use Rattle.std.specs.Prelude.{ℕ, Bool, true, false, ◌&&◌, ◌==◌, not, L
 use Rattle.markdown_scanners_tree.specs.Bytes.{begins_with, is_line_ending, is_white_space, is_punctuation}
 use Rattle.markdown_scanners_tree.specs.Ascii.{left_bracket, backslash, right_bracket}
 use Rattle.markdown_scanners_tree.specs.Kept.{line_len}
-use Rattle.markdown_scanners_tree.specs.declared.linklabel.NextPart.{NextPart}
-use Rattle.markdown_scanners_tree.specs.declared.linklabel.NextPart.TheVariants.{End, Open, Close, Ending, Space, Word}
+use Rattle.markdown_scanners_tree.specs.declared.linklabel.write.NextPart.{NextPart}
+use Rattle.markdown_scanners_tree.specs.declared.linklabel.write.NextPart.TheVariants.{End, Open, Close, Ending, Space, Word}
 
 -- a bracket stands at the front, and no backslash before it escapes it
 abbrev pub IsBracket : Bool → List ℕ → ℕ → Type 0

@@ -1,13 +1,13 @@
 -- What the two passes over a label tell each other.
-use Rattle.std.specs.Prelude.{ℕ, Bool, true, false, ◌||◌, ◌&&◌, ◌==◌, not, List, [], ◌∷◌, ◌≡◌, ◌++◌, ◌+◌, ◌-◌, ◌≤◌}
+use Rattle.std.specs.Prelude.{ℕ, Bool, true, false, ◌&&◌, ◌==◌, not, List, [], ◌∷◌, ◌≡◌, ◌++◌, ◌+◌, ◌-◌, ◌≤◌, ◌<◌, nat_lt}
 use Rattle.std.specs.Prelude.{length, drop, take, get_or, slice_index, slice_range, IsCharBoundary, String, if◌then◌else◌}
 use Rattle.std.specs.String.{string_bytes, string_len}
 use Rattle.markdown_scanners_tree.specs.Bytes.{begins_with, is_between, is_punctuation}
-use Rattle.markdown_scanners_tree.specs.Ascii.{space, backslash, vertical_line}
+use Rattle.markdown_scanners_tree.specs.Ascii.{space, backslash, right_bracket, vertical_line}
 use Rattle.markdown_scanners_tree.specs.linklabel.Answer.{without_first_space, without_last_space}
 use Rattle.markdown_scanners_tree.specs.linklabel.Label.{Label, IsLabel}
 use Rattle.markdown_scanners_tree.specs.declared.linklabel.tally.Tally.{Tally}
-use Rattle.markdown_scanners_tree.specs.declared.linklabel.Measure.{Measure}
+use Rattle.markdown_scanners_tree.specs.declared.linklabel.measure.Measure.{Measure}
 
 -- how many characters begin at this byte
 abbrev pub begun : ℕ → ℕ
@@ -35,12 +35,12 @@ starts_dropped is_in_table [] = false
 starts_dropped is_in_table (b ∷ bs) =
     is_in_table && (b == backslash && begins_with (λ c. c == vertical_line) bs)
 
--- before anything was read
-abbrev pub new_tally : Tally
-new_tally = record {
+-- after so many bytes that are words of ASCII, with one space between
+abbrev pub tally_after_words : ℕ → Tally
+tally_after_words count = record {
   skipped = 0;
   left_out = 0;
-  has_word = false;
+  has_word = nat_lt 0 count;
   in_run = false;
   has_ending = false;
   is_plain = true;
@@ -96,8 +96,14 @@ pub record IsMeasure (answers : List ℕ → ℕ → Type 0) (source : List ℕ)
   pub length_is : m.length ≡ length label.text
   pub plain_is : m.is_plain ≡ label.plain
   pub stands : label.plain ≡ true → label.text ≡ without_last_space (without_first_space (take m.close source))
-  pub cut : IsCharBoundary source m.close
-  pub behind : IsCharBoundary source (m.close + 1)
+  pub inside : m.close < length source
+  pub closes : get_or source m.close 0 ≡ right_bracket
+
+-- the source has a label, which takes so many bytes at most
+pub record HasLabelWithin (answers : List ℕ → ℕ → Type 0) (source : List ℕ) (is_in_table : Bool) (size : ℕ) : Type 0 where
+  pub label : Label
+  pub is_label : IsLabel answers source is_in_table label
+  pub within : label.len ≤ size
 
 -- what a byte of a word adds to a text: the space that is due before it, and itself, or nothing for
 -- a backslash that a cell drops

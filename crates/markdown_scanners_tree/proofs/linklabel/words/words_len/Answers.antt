@@ -1,0 +1,24 @@
+-- Each turn passes a byte of a word, or a space and the first byte of the next word.
+use Rattle.std.proofs.Common.{◌≡◌, ◌∙◌, sym, ap, true, arith, drop}
+use Rattle.markdown_scanners_tree.specs.linklabel.private.Words.{joins_words, none, byte}
+use Rattle.markdown_scanners_tree.proofs.linklabel.SourceSteps.{rest_is}
+use Rattle.markdown_scanners_tree.proofs.linklabel.WordSteps.{joined_here}
+use Rattle.markdown_scanners_tree.proofs.linklabel.words.words_len.Goals as goal
+
+pub loop-place-init : goal.loop-place-init
+loop-place-init c = record { within = omega arith; words = none }
+
+pub loop-place-preserved-then-is_ordinary : goal.loop-place-preserved-then-is_ordinary
+loop-place-preserved-then-is_ordinary c = record {
+  within = omega (arith, c.loop-place-test.true);
+  words = byte c.loop-place.place c.loop-place.invariant.words c.loop-place-test.true
+      (sym c.is_ordinary.ensures ∙ c.if-is_ordinary.true);
+}
+
+pub loop-place-preserved : goal.loop-place-preserved
+loop-place-preserved c =
+    let place = c.loop-place.place in
+    let joins : joins_words (drop place c.args.bytes.now) ≡ true =
+    ap joins_words (sym (rest_is c.args.bytes.now place)) ∙ sym c.joins_words.ensures ∙ c.if-joins_words.true in
+    let next = joined_here c.args.bytes.now place c.loop-place.invariant.words c.if-place-gt0.true joins in
+    record { within = next.0; words = next.1 }
