@@ -45,4 +45,5 @@ ROWS = [
     label("a" * 1000 + "]", NOTHING, False, None),
     label("a" * 999 + " ]", NOTHING, False, None),
     label("a" * 998 + "\r\n]", NOTHING, False, None),
+    label("a" * 499 + "\n" + "a" * 500 + "]", NOTHING, False, None),
 ]

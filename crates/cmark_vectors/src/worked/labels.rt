@@ -31,4 +31,5 @@ label\t{61*998}0a5d\tzero\t0\t=>\t1000 false {61*998}
 label\t{61*1000}5d\tzero\t0\t=>\tnone
 label\t{61*999}205d\tzero\t0\t=>\tnone
 label\t{61*998}0d0a5d\tzero\t0\t=>\tnone
+label\t{61*499}0a{61*500}5d\tzero\t0\t=>\tnone
 ";

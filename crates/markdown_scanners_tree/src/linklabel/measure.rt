@@ -71,9 +71,9 @@ fn ascii_len(bytes: &[u8], words: usize) -> usize
     }
 }
 
-// The first pass after words that were read, which are ASCII.
-// Each byte is matched by itself: most labels are read by this pass alone, and told in parts, as the
-// second pass has them, a byte would take about twice as long.
+// The first pass after words of ASCII, with one space between, that were read.
+// Each byte is matched by itself: told in parts, as the second pass has them, it would take about
+// twice as long.
 fn measure_from<F: Fn(&[u8]) -> Option<usize>>(
     bytes: &[u8],
     words: usize,

@@ -1,4 +1,4 @@
--- What both scans for a label need of a handler, and the two conditions of callers come to.
+-- What both passes over a label need of a handler, to which the conditions on callers come.
 use Rattle.std.specs.Prelude.{ℕ, List, ◌≡◌, ◌≤◌, ◌+◌, length, drop, Option}
 use Rattle.std.specs.Fn.{FnReturnsAt, Shared}
 use Rattle.std.specs.Str.{IsCharBoundary}
