@@ -150,11 +150,13 @@ pub fn scan_inline_html_processing_counted(
 }
 
 /// Scans what begins at `place`: after `<!` as `scan_inline_html_comment_counted` does, after `<?` as
-/// `scan_inline_html_processing_counted` does. (CommonMark 0.31.2, section 6.6)
+/// `scan_inline_html_processing_counted` does. It is inlined, since its answer would be passed by
+/// its address. (CommonMark 0.31.2, section 6.6)
 ///
 /// # Errors
 ///
 /// `NoOpener` where neither ends at `place`; then the text and the guard are as before.
+#[inline(always)]
 pub fn scan_inline_html_counted(
     text: &mut CountedText,
     place: usize,
