@@ -79,13 +79,13 @@ module _ (bytes : List ℕ) (place : ℕ) (old new : Guard) where
       → IsTrueEnd bytes place new (scan_told answer text.passed)
   true_end (Err why) text scan here there = record {
     finds = inl (refl, refl, scan.refused.1);
-    stays_true = λ later after behind. rw scan.unchanged.1 (there later after);
+    stays_true = λ later after past. rw scan.unchanged.1 (there later after);
   }
   true_end (Ok found) text scan here there =
       let is = scan.finds (here scan.opened) in
       record {
         finds = find_told found text.passed scan.opened is.finds;
-        stays_true = λ later after behind. is.stays_true later after (outside found text.passed later behind);
+        stays_true = λ later after past. is.stays_true later after (outside found text.passed later past);
       }
 
   pub ends : (answer : Result (Option ℕ) HtmlStop) (text : CountedBytes) → IsScan bytes place old new answer text

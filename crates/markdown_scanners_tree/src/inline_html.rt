@@ -149,9 +149,9 @@ pub fn scan_inline_html_processing_counted(
     Some(hit + 2)
 }
 
-/// Scans what begins at `place`: after `<!` as `scan_inline_html_comment_counted` does, after `<?` as
-/// `scan_inline_html_processing_counted` does. It is inlined, since its answer would be passed by
-/// its address. (CommonMark 0.31.2, section 6.6)
+/// Scans what begins at `place`: after `<!` as `scan_inline_html_comment_counted` does, and after
+/// `<?` as `scan_inline_html_processing_counted` does. It is inlined, since its answer would be
+/// passed by its address. (CommonMark 0.31.2, section 6.6)
 ///
 /// # Errors
 ///
