@@ -72,7 +72,7 @@ fn tags_and_html_blocks(rt: HostRuntime) {
 
 #[test]
 fn link_labels(rt: HostRuntime) {
-    assert_agree(&rt, rt.alloc(), labels::ROWS, "31 agree, 0 differ\n");
+    assert_agree(&rt, rt.alloc(), labels::ROWS, "32 agree, 0 differ\n");
 }
 
 #[test]
