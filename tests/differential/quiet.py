@@ -78,6 +78,9 @@ def lines():
     found += [some(box), seen]
     alert, seen = of_line(b"[!Note]  \nx", ("alert",), ("seen",))
     found += [some(alert and Value(alert)), seen]
+    _, left = of_line(b">\tx", ("quote",), ("rest",))
+    signs = [ord("#")] * 4
+    found += [len(left), Value("Err", len(left)), signs, Value("Ok", len(left)), [*left, *signs[len(left):]]]
     quote, taken, item, seen = of_line(b">\t- x", ("quote",), ("upto", 9), ("list", 1), ("seen",))
     found += [False, (0, taken), some(item), seen]
     called = [Value("Flag", quote), None, Value("Count", taken), Value("List", some(item))]

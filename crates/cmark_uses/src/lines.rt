@@ -1,6 +1,7 @@
 //! Lines in containers, read column by column: their markers, and what stands behind them.
 ghost use Rattle.std.specs.Prelude.{◌≡◌, ◌++◌, ◌<◌, ◌≤◌, length, map, count_by, false, is_some, IfOk};
 ghost use Rattle.std.specs.List.{concat, filter_map};
+ghost use Rattle.markdown_scanners_tree.specs.Columns.{expanded};
 ghost use Rattle.markdown_scanners_tree.specs.line.ItemRules.{is_item_alone, item_at_start};
 ghost use Rattle.cmark_uses.specs.Markers.{start_of, behind_quote, behind_item, item_behind, box_behind};
 
@@ -61,6 +62,21 @@ pub fn items_of(alloc: Global, lines: &[&[u8]]) -> Result<Vec<(u8, u64, usize)>,
         ≡ filter_map (λ line. item_behind (start_of line.now)) lines.now) }
 {
     lines.iter().filter_map(|line| item_of(line)).collect(alloc)
+}
+
+/// The line as a terminal with tab stops of four shows it, where a caret below it points at a column: its tabs are spaces.
+pub fn shown_line(alloc: Global, line: &[u8]) -> Result<Vec<u8>, AllocError>
+    ensures { IfOk result (λ text. text.items ≡ expanded line.now) }
+{
+    let start = LineStart::new(line);
+    let Ok(length) = usize::try_from(start.rest_len()) else {
+        return Err(AllocError);
+    };
+    let mut text = vec![in alloc; 0; length]?;
+    match start.write_rest(&mut text) {
+        Ok(_) => Ok(text),
+        Err(_) => Err(AllocError),
+    }
 }
 
 // The length of the item at the front: its first line, and those behind it that begin no item.

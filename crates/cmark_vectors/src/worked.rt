@@ -77,5 +77,5 @@ fn link_labels(rt: HostRuntime) {
 
 #[test]
 fn calls_on_line_starts(rt: HostRuntime) {
-    assert_agree(&rt, rt.alloc(), line_starts::ROWS, "78 agree, 0 differ\n");
+    assert_agree(&rt, rt.alloc(), line_starts::ROWS, "92 agree, 0 differ\n");
 }

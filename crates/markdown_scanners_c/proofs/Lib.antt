@@ -4,7 +4,6 @@ pub mod KeyLemmas
 pub mod LabelEnds
 pub mod LabelLemmas
 pub mod LabelRoom
-pub mod LineRests
 pub mod LineRuns
 pub mod Meanings
 pub mod NoSpaces

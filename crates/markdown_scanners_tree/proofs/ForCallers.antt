@@ -9,6 +9,7 @@ pub use Rattle.markdown_scanners_tree.proofs.inline_html.run.Sums.{passed-counte
 pub use Rattle.markdown_scanners_tree.proofs.line.ItemIndents.{same_items}
 pub use Rattle.markdown_scanners_tree.proofs.line.ItemRules.{items_agree, item_alone, no_item_alone, items_begun, same_answers}
 pub use Rattle.markdown_scanners_tree.proofs.line.PlaceLemmas.{space_forward, all_space_forward, quote_forward, definition_forward, task_forward, alert_forward, breaks_stay}
+pub use Rattle.markdown_scanners_tree.proofs.line.RestLemmas.{rest_within}
 pub use Rattle.markdown_scanners_tree.proofs.line.run.StateRunLemmas.{run_at_front, run_in_parts, run_stopped}
 pub use Rattle.markdown_scanners_tree.proofs.linklabel.OneLabel.{one_label}
 pub use Rattle.markdown_scanners_tree.proofs.scanners.Scanned.{same_pieces, thematic_breaks, blank_lines, place_of_rest}

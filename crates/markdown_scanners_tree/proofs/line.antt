@@ -5,6 +5,7 @@ pub mod ItemLemmas
 pub mod ItemRules
 pub mod ItemSpaces
 pub mod PlaceLemmas
+pub mod RestLemmas
 pub mod Rows
 pub mod SpaceLemmas
 pub mod StepLemmas

@@ -1,6 +1,6 @@
 //! A place in a line that is read column by column, with tab stops of four.
 //! (CommonMark 0.31.2, section 2.2, tabs)
-ghost use Rattle.std.specs.Prelude.{ℕ, ◌≡◌, ◌+◌, ◌-◌, ◌*◌, ◌%◌, ◌<◌, ◌≤◌, ◌↔◌, ◌==◌, true, [], ◌∷◌, length, drop, IsTrue, IfOk, IfSome, IfNone, ⊤};
+ghost use Rattle.std.specs.Prelude.{ℕ, ◌≡◌, ◌+◌, ◌-◌, ◌*◌, ◌%◌, ◌<◌, ◌≤◌, ◌↔◌, ◌==◌, true, [], ◌∷◌, length, drop, IsTrue, IfSome, IfNone, ⊤};
 ghost use Rattle.markdown_scanners_tree.specs.Ascii.{greater_than_sign};
 ghost use Rattle.markdown_scanners_tree.specs.Bytes.{begins_with, is_space_or_tab, is_at_line_end};
 ghost use Rattle.markdown_scanners_tree.specs.line.KnownBreaks.{AreTrueBreaks};
@@ -11,11 +11,12 @@ ghost use Rattle.markdown_scanners_tree.specs.line.State.{LineState, IsLineState
 mod alerts;
 mod known_breaks;
 mod markers;
+mod rests;
 mod run;
 mod tabs;
 
 use crate::line::alerts::scan_alert;
-use crate::line::tabs::{push_byte, push_spaces, tab_width};
+use crate::line::tabs::tab_width;
 use crate::scanners::{
     is_ascii_whitespace, is_ascii_whitespace_no_nl, is_line_ending, scan_spaces_and_tabs,
 };
@@ -23,7 +24,7 @@ pub use known_breaks::KnownBreaks;
 use markdown_values::values::BlockQuoteKind;
 pub use markers::LARGEST_INDENT;
 pub use run::{LineAnswer, LineCall, LineRun, LineStop, run_line};
-use std::alloc::{AllocError, Global};
+use std::alloc::AllocError;
 use std::marker::Model;
 
 /// A place in a line, and the columns of a tab before it that are not taken yet.
@@ -337,24 +338,6 @@ impl<'a> LineStart<'a> {
         let (kind, length) = scan_alert(&self.bytes[self.place..])?;
         self.pass_bytes(length);
         Some(kind)
-    }
-
-    // What is left of the line, its tabs written out.
-    fn written_rest(&self, alloc: Global) -> Result<Vec<u8>, AllocError>
-        ensures { IfOk result (λ rest. rest.items ≡ rest_of self.now) }
-    {
-        let mut rest = Vec::new(alloc);
-        push_spaces(&mut rest, self.pending)?;
-        let mut phase = (self.column % 4) as usize;
-        let unscanned = &self.bytes[self.place..];
-        for (index, byte) in unscanned.iter().enumerate() {
-            if is_line_ending(*byte) {
-                rest.extend_from_slice(&unscanned[index..])?;
-                return Ok(rest);
-            }
-            phase = push_byte(&mut rest, phase, *byte)?;
-        }
-        Ok(rest)
     }
 }
 

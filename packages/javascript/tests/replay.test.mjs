@@ -124,7 +124,15 @@ const LINE_CALLS = {
     quote: (start) => start.quote(),
     task: (start) => orNone(start.task()),
     tag: (start) => orNone(start.alert()).replace(/^(?!none)./, (it) => it.toUpperCase()),
+    restlen: (start) => `${start.rest().length}`,
+    rest: (start, count) => written(Buffer.from(start.rest()), Number(count)),
 };
+
+/** What is left of a line over so many `#`, as a case has it. */
+function written(rest, count) {
+    if (rest.length > count) return `err/${rest.length}/${"23".repeat(count)}`;
+    return `ok/${rest.length}/${rest.toString("hex")}${"23".repeat(count - rest.length)}`;
+}
 
 function line(text, _, calls) {
     const start = text.lineStart();

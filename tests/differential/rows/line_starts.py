@@ -1,5 +1,17 @@
 """Calls on the start of a line, one after the other: each call's answer, and the bytes scanned and the columns of a tab that are
 left after it."""
+
+NEW_LINE = b"\n"
+
+
+def rest(text, count=None):
+    """The answer where a rest is written over so many `#`, by itself as many as it has bytes."""
+    count = len(text) if count is None else count
+    if count < len(text):
+        return f"err/{len(text)}/" + "23" * count
+    return f"ok/{len(text)}/" + text.hex() + "23" * (count - len(text))
+
+
 ROWS = [
     # columns of space (2.2)
     ("line", b"   x", "upto:2,space:1,eol", "2 @2+0 true @3+0 false @3+0"),
@@ -14,6 +26,20 @@ ROWS = [
     ("line", b" \tx", "all", "- @2+0"),
     ("line", b"\tx", "upto:1,all", "1 @1+3 - @1+0"),
     ("line", b"\t>\n", "upto:1,eol,quote,eol", "1 @1+3 false @1+3 true @2+2 true @2+2"),
+    # what is left of a line, its tabs up to the next multiple of four (2.2)
+    ("line", b"", "restlen,rest:0,rest:2", f"0 @0+0 {rest(b'')} @0+0 {rest(b'', 2)} @0+0"),
+    ("line", b"x", "restlen,rest:0,rest:1,rest:3", f"1 @0+0 {rest(b'x', 0)} @0+0 {rest(b'x')} @0+0 {rest(b'x', 3)} @0+0"),
+    ("line", b"a\tb", "restlen,rest:4,rest:5", f"5 @0+0 {rest(b'a   b', 4)} @0+0 {rest(b'a   b')} @0+0"),
+    ("line", b"\t\t\t\t", "restlen,rest:16", f"16 @0+0 {rest(b' ' * 16)} @0+0"),
+    ("line", b"abc\td\te", "restlen,rest:12", f"9 @0+0 {rest(b'abc d   e', 12)} @0+0"),
+    ("line", b"\tx\ty\n", "upto:1,restlen,rest:9", f"1 @1+3 9 @1+3 {rest(b'   x   y' + NEW_LINE)} @1+3"),
+    ("line", b"\tx\ty\n", "upto:4,rest:6,upto:1", f"4 @1+0 {rest(b'x   y' + NEW_LINE)} @1+0 0 @1+0"),
+    ("line", b">\tx", "quote,restlen,rest:2,rest:3", f"true @2+2 3 @2+2 {rest(b'  x', 2)} @2+2 {rest(b'  x')} @2+2"),
+    ("line", b">a\tb", "quote,rest:4", f"true @1+0 {rest(b'a  b')} @1+0"),
+    ("line", b"\t\tx", "all,restlen,rest:1", f"- @2+0 1 @2+0 {rest(b'x')} @2+0"),
+    # tabs after a line ending stay (2.1)
+    *(("line", line, "restlen,rest:8", f"{len(left)} @0+0 {rest(left, 8)} @0+0") for line, left in (
+        (b"a\n\tb", b"a\n\tb"), (b"\t\r\t", b"    \r\t"), (b"\r\n\t", b"\r\n\t"), (b"\x0b\tb", b"\x0b   b"))),
     # the ends of lines (2.1)
     *(("line", line, "eol", "true @0+0") for line in (b"", b"\nx", b"\rx", b"\r\nx")),
     *(("line", line, "eol", "false @0+0") for line in (b"x", b" \n", b"\x0b", b"\x0c")),

@@ -7,6 +7,9 @@ use markdown_values::values::BlockQuoteKind;
 use std::alloc::Global;
 use std::fmt;
 
+// Over how many bytes a rest is written at most.
+const MOST_BYTES: usize = 64;
+
 /// A call's answer, the bytes scanned and the space that remains, for each call of the list.
 pub(crate) fn run(alloc: Global, arguments: &mut Arguments<'_>) -> Result<String, CaseError> {
     let bytes = arguments.bytes(alloc)?;
@@ -57,7 +60,28 @@ fn push_counted(
     if name == "upto" {
         return push_shown(text, &start.scan_space_upto(n));
     }
+    if name == "rest" {
+        return push_rest(text, start, n);
+    }
     push_marker(text, start, name, n)
+}
+
+// What is left of the line, written over so many `#`: whether there was room for it, how many bytes
+// it has, and what stands there then.
+fn push_rest(text: &mut String, start: &LineStart<'_>, count: usize) -> Result<(), CaseError> {
+    if count > MOST_BYTES {
+        return Err(CaseError::Unreadable(Unreadable::TooLarge));
+    }
+    let mut bytes = [b'#'; MOST_BYTES];
+    let buffer = &mut bytes[..count];
+    match start.write_rest(buffer) {
+        Ok(length) => write!(text, "ok/{length}/")?,
+        Err(length) => write!(text, "err/{length}/")?,
+    }
+    for byte in buffer {
+        write!(text, "{byte:02x}")?;
+    }
+    Ok(())
 }
 
 // The marker of a list item or of a definition, which is indented by so many columns.
@@ -101,6 +125,9 @@ fn push_plain(text: &mut String, start: &mut LineStart<'_>, name: &str) -> Resul
     }
     if name == "quote" {
         return push_shown(text, &start.scan_blockquote_marker());
+    }
+    if name == "restlen" {
+        return push_shown(text, &start.rest_len());
     }
     push_tag(text, start, name)
 }

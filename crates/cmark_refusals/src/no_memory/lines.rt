@@ -10,6 +10,7 @@ pub(crate) fn run(output: Stdout) -> Result<(), Stop> {
     markers(output)?;
     definitions(output)?;
     tags(output)?;
+    rests(output)?;
     resumed(output)?;
     called(output)
 }
@@ -50,6 +51,17 @@ fn tags(output: Stdout) -> Result<(), Stop> {
     let mut start = LineStart::new(b"[!Note]  \nx");
     let tag = start.scan_blockquote_tag();
     tell_two(output, tag, place(&start))
+}
+
+// What is left after the quote's marker, for which a buffer is too short, and another has room.
+fn rests(output: Stdout) -> Result<(), Stop> {
+    let mut start = LineStart::new(b">\tx");
+    start.scan_blockquote_marker();
+    let mut buffer = [b'#'; 4];
+    let refused = start.write_rest(&mut buffer[..2]);
+    tell_three(output, start.rest_len(), refused, buffer)?;
+    let written = start.write_rest(&mut buffer);
+    tell_two(output, written, buffer)
 }
 
 // Behind the quote's marker in `>\t- x`.

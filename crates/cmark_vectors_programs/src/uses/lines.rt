@@ -1,13 +1,24 @@
 //! Tests of `cmark_uses::lines`.
 use crate::asserts::{assert_elements, assert_same};
 use cmark_uses::lines::{
-    begun_item, ends_paragraph, is_ticked, item_count, items_of, list_items, split_markers,
+    begun_item, ends_paragraph, is_ticked, item_count, items_of, list_items, shown_line,
+    split_markers,
 };
 
 #[test]
 fn lines_are_split_from_their_markers(rt: HostRuntime) {
     let parts: (&[u8], &[u8]) = (b"  > 1. ", b"milk");
     assert_same(&rt, split_markers(b"  > 1. milk"), parts);
+}
+
+#[test]
+fn lines_are_shown_without_tabs(rt: HostRuntime) {
+    assert_elements(
+        &rt,
+        shown_line(rt.alloc(), b"-\tab\tc\n\t"),
+        b"-   ab  c\n\t",
+    );
+    assert_elements(&rt, shown_line(rt.alloc(), b""), b"");
 }
 
 #[test]

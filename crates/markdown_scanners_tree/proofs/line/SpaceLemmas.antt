@@ -280,15 +280,3 @@ none_of_byte bytes place c p n none inside front =
     let before : IsTaking bytes place c p n place c p n =
     taking_none bytes place c p n inside (omega arith) (omega arith) in
     taken_from p n 0 before (omega arith) refl (omega arith) (inr (none, front))
-
--- one byte more is written out, and its phase counts alone
-pub written_step : (bytes : List ℕ) (i phase : ℕ) → i < length bytes → is_line_ending (get_or bytes i 0) ≡ false →
-    written_out phase (drop i bytes)
-    ≡ written_byte phase (get_or bytes i 0) ++ written_out
-    (column_after phase (get_or bytes i 0) % 4) (drop (i + 1) bytes)
-written_step bytes i phase inside goes =
-    let b = get_or bytes i 0 in
-    let back = drop (i + 1) bytes in
-    let split : drop i bytes ≡ b ∷ back = drop_more bytes i 0 inside in
-    ap (written_out phase) split ∙ written-cons phase b back goes
-    ∙ ap (λ w. written_byte phase b ++ w) (sym (written_out-phase back (column_after phase b)))

@@ -1,9 +1,9 @@
-//! Tabs: how many columns one takes, and the spaces that stand for it.
-ghost use Rattle.std.specs.Prelude.{◌≡◌, ◌++◌, ◌-◌, ◌%◌, ◌<◌, replicate, IfOk};
-ghost use Rattle.markdown_scanners_tree.specs.Ascii.{space};
+//! Tabs: how many columns one takes, and the spaces that are written for it.
+ghost use Rattle.std.specs.Prelude.{◌≡◌, ◌++◌, ◌+◌, ◌-◌, ◌%◌, ◌≤◌, drop, length, take};
 ghost use Rattle.markdown_scanners_tree.specs.Columns.{column_after, written_byte};
 
-use std::alloc::AllocError;
+// As many spaces as the widest tab has.
+pub(in crate::line) const SPACES: [u8; 4] = [b' ', b' ', b' ', b' '];
 
 // How many columns a tab at this column takes.
 pub(in crate::line) fn tab_width(column: u128) -> usize
@@ -12,32 +12,38 @@ pub(in crate::line) fn tab_width(column: u128) -> usize
     4 - (column % 4) as usize
 }
 
-// Adds spaces at the end.
-pub(in crate::line) fn push_spaces(rest: &mut Vec<u8>, count: usize) -> Result<(), AllocError>
-    ensures { IfOk result (λ _. rest.new.items ≡ rest.old.items ++ replicate count space) }
+// How many columns a byte at this column takes.
+pub(in crate::line) fn width_at(column: u128, byte: u8) -> usize
+    ensures column { column + result ≡ column_after column byte }
+    ensures written { result ≡ length (written_byte column byte) }
+    ensures within { result ≤ 4 }
 {
-    for _ in 0..count {
-        rest.push(b' ')?;
-    }
-    Ok(())
+    if byte == b'\t' { tab_width(column) } else { 1 }
 }
 
-// Adds a byte at a column, a tab as spaces; answers the column of what follows it, modulo four.
-pub(in crate::line) fn push_byte(
-    rest: &mut Vec<u8>,
-    phase: usize,
-    byte: u8,
-) -> Result<usize, AllocError>
-    requires { phase < 4 }
-    ensures items { IfOk result (λ _.
-        rest.new.items ≡ rest.old.items ++ written_byte phase byte) }
-    ensures phase { IfOk result (λ next. next ≡ column_after phase byte % 4) }
+// Writes a byte at a column, a tab as spaces; answers how many columns it takes.
+pub(in crate::line) fn put_byte(buffer: &mut [u8], at: usize, column: u128, byte: u8) -> usize
+    requires { at + length (written_byte column byte) ≤ length buffer.old }
+    ensures column { column + result ≡ column_after column byte }
+    ensures width { result ≡ length (written_byte column byte) }
+    ensures within { result ≤ 4 }
+    ensures written { buffer.new ≡ take at buffer.old ++ (written_byte column byte
+        ++ drop (at + length (written_byte column byte)) buffer.old) }
 {
+    let width = width_at(column, byte);
     if byte == b'\t' {
-        push_spaces(rest, 4 - phase)?;
-        Ok(0)
+        put(buffer, at, &SPACES[..width]);
     } else {
-        rest.push(byte)?;
-        Ok((phase + 1) % 4)
+        put(buffer, at, &[byte]);
     }
+    width
+}
+
+// Writes a text at an offset of the buffer.
+pub(in crate::line) fn put(buffer: &mut [u8], at: usize, text: &[u8])
+    requires { at + length text.now ≤ length buffer.old }
+    ensures { buffer.new
+        ≡ take at buffer.old ++ (text.now ++ drop (at + length text.now) buffer.old) }
+{
+    buffer[at..at + text.len()].copy_from_slice(text);
 }

@@ -2,8 +2,8 @@ use Rattle.std.proofs.Common.{◌≡◌, ◌+◌, drop, length, get_or, false, s
 use Rattle.std.proofs.lemmas.List.{length-append}
 use Rattle.markdown_scanners_tree.specs.Bytes.{is_line_ending}
 use Rattle.markdown_scanners_tree.specs.Columns.{column_after, written_byte, written_out}
-use Rattle.markdown_scanners_c.proofs.LineRests.{written_next}
-use Rattle.markdown_scanners_c.proofs.line_rests.written_length.Goals as goal
+use Rattle.markdown_scanners_tree.proofs.line.RestLemmas.{written_next}
+use Rattle.markdown_scanners_tree.proofs.line.rests.written_len.Goals as goal
 
 pub loop-index-preserved : goal.loop-index-preserved
 loop-index-preserved c =

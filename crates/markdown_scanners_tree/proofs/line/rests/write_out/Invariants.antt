@@ -1,7 +1,7 @@
 use Rattle.std.proofs.Common.{ℕ, List, ◌≡◌, ◌≤◌, ◌+◌, ◌*◌, ◌++◌, drop, length, replicate}
 use Rattle.markdown_scanners_tree.specs.Ascii.{space}
 use Rattle.markdown_scanners_tree.specs.Columns.{written_out}
-use Rattle.markdown_scanners_c.proofs.line_rests.write_rest.Given as goal
+use Rattle.markdown_scanners_tree.proofs.line.rests.write_out.Given as goal
 
 -- what is written at the front of the buffer, and what the bytes to come are written out to, is all
 abbrev pub invariant-loop-index : goal.invariant-loop-index

@@ -3,8 +3,8 @@ use Rattle.std.proofs.lemmas.List.{length-append, length-replicate}
 use Rattle.markdown_scanners_tree.specs.Ascii.{space}
 use Rattle.markdown_scanners_tree.specs.Bytes.{is_line_ending}
 use Rattle.markdown_scanners_tree.specs.Columns.{column_after, written_byte, written_out}
-use Rattle.markdown_scanners_c.proofs.LineRests.{put_next, room_left, whole_rest, written_end, written_next}
-use Rattle.markdown_scanners_c.proofs.line_rests.write_rest.Goals as goal
+use Rattle.markdown_scanners_tree.proofs.line.RestLemmas.{put_next, room_left, whole_rest, written_end, written_next}
+use Rattle.markdown_scanners_tree.proofs.line.rests.write_out.Goals as goal
 
 -- all that is written
 abbrev all : ℕ → ℕ → List ℕ → List ℕ

@@ -1,6 +1,6 @@
 use Rattle.std.proofs.Common.{◌≡◌, ◌≤◌, ◌+◌, ◌*◌, drop, length}
 use Rattle.markdown_scanners_tree.specs.Columns.{written_out}
-use Rattle.markdown_scanners_c.proofs.line_rests.written_length.Given as goal
+use Rattle.markdown_scanners_tree.proofs.line.rests.written_len.Given as goal
 
 -- the columns so far, and those that the bytes to come are written out to, are all
 abbrev pub invariant-loop-index : goal.invariant-loop-index
