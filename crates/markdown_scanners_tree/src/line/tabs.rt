@@ -34,7 +34,7 @@ pub(in crate::line) fn put_byte(buffer: &mut [u8], at: usize, column: u128, byte
     if byte == b'\t' {
         put(buffer, at, &SPACES[..width]);
     } else {
-        put(buffer, at, &[byte]);
+        buffer[at] = byte;
     }
     width
 }
