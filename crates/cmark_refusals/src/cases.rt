@@ -100,7 +100,10 @@ const CASES: &[(&str, Case)] = &[
         "scan_link_label_rest_900",
         Case::Scan(ScanCase::LinkLabelRest900),
     ),
-    ("scan_link_label_bytes", Case::Scan(ScanCase::LinkLabelBytes)),
+    (
+        "scan_link_label_bytes",
+        Case::Scan(ScanCase::LinkLabelBytes),
+    ),
     ("link_label_new", Case::Scan(ScanCase::LinkLabelNew)),
     ("run_inline_html", Case::Scan(ScanCase::RunInlineHtml)),
     ("tree_with_capacity", Case::Tree(TreeCase::WithCapacity)),

@@ -192,8 +192,9 @@ pub fn scan_link_label_rest<'t, F: Fn(&[u8]) -> Option<usize>>(
 
 /// Reads a label whose opening bracket has been read, as `scan_link_label_rest` does, from bytes that
 /// may be anything after its closing bracket (CommonMark 0.31.2, section 6.3, link labels). There is
-/// no label where the bytes that it takes are not UTF-8. No byte is read past the bracket that ends
-/// the label or says that there is none, nor past the character that is one too many.
+/// no label where the bytes that it takes are not UTF-8. Beside what the handler skips or reads, no
+/// byte is read past the first bracket that no backslash escapes, and at most 1001 that begin a
+/// character.
 ///
 /// `handler` has one answer for one rest, and what it skips is there and is ASCII, as the markers of
 /// containers are. It is given no other bytes than what follows a line ending, and may be asked twice
