@@ -67,8 +67,11 @@ loop-i-preserved c =
     ] in record {
       so_far =
           so_far_plain most depth (i + c.if-starts_escape.i) c.plain_len.result bytes unit
-          (omega (arith, c.plain_len.ensures.run
-          ∙ ap (prefix_len is_in_destination) (from_place bytes (i + c.if-starts_escape.i))));
+          (omega (
+            arith,
+            c.plain_len.ensures.run
+                ∙ ap (prefix_len is_in_destination) (from_place bytes (i + c.if-starts_escape.i)),
+          ));
       depth_within = omega (arith, c.loop-i.invariant.depth_within);
     }
 
