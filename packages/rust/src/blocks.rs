@@ -1,4 +1,7 @@
 //! Bytes, lines and blocks at the front of the text. Sections in brackets are those of CommonMark 0.31.2.
+//!
+//! A call of the library takes longer than a look at one byte. So where the first byte tells the answer, it is told here; a build
+//! with debug assertions compares it with the library's.
 
 use crate::raw::{self, ffi};
 use crate::values::{found, Alignment, HeadingLevel};
@@ -10,7 +13,9 @@ use crate::values::{found, Alignment, HeadingLevel};
 /// ```
 #[inline]
 pub fn is_ascii_whitespace(byte: u8) -> bool {
-    raw::is_whitespace(byte)
+    let is = matches!(byte, b' ' | b'\t'..=b'\r');
+    debug_assert_eq!(is, raw::is_whitespace(byte));
+    is
 }
 
 /// Space, tab, VT or FF: white space that ends no line. (2.1)
@@ -20,7 +25,9 @@ pub fn is_ascii_whitespace(byte: u8) -> bool {
 /// ```
 #[inline]
 pub fn is_ascii_whitespace_no_nl(byte: u8) -> bool {
-    raw::is_whitespace_in_line(byte)
+    let is = matches!(byte, b' ' | b'\t' | 0x0b | 0x0c);
+    debug_assert_eq!(is, raw::is_whitespace_in_line(byte));
+    is
 }
 
 /// An ASCII punctuation character. (2.1)
@@ -40,7 +47,9 @@ pub fn is_ascii_punctuation(byte: u8) -> bool {
 /// ```
 #[inline]
 pub fn scan_ch(data: &[u8], byte: u8) -> usize {
-    raw::scan_ch(data, byte)
+    let length = usize::from(data.first() == Some(&byte));
+    debug_assert_eq!(length, raw::scan_ch(data, byte));
+    length
 }
 
 /// How many of this byte stand at the front.
@@ -50,6 +59,10 @@ pub fn scan_ch(data: &[u8], byte: u8) -> usize {
 /// ```
 #[inline]
 pub fn scan_ch_repeat(data: &[u8], byte: u8) -> usize {
+    if data.first() != Some(&byte) {
+        debug_assert_eq!(0, raw::scan_ch_repeat(data, byte));
+        return 0;
+    }
     raw::scan_ch_repeat(data, byte)
 }
 
@@ -91,7 +104,14 @@ pub fn scan_whitespace_no_nl(data: &[u8]) -> usize {
 /// ```
 #[inline]
 pub fn scan_eol(bytes: &[u8]) -> Option<usize> {
-    found(raw::scan_eol(bytes))
+    let length = match bytes {
+        [] => Some(0),
+        [b'\r', b'\n', ..] => Some(2),
+        [b'\n' | b'\r', ..] => Some(1),
+        _ => None,
+    };
+    debug_assert_eq!(length, found(raw::scan_eol(bytes)));
+    length
 }
 
 /// The length of the line at the front with its ending, LF, CR LF or CR; all bytes where there is none. (2.1)
@@ -121,6 +141,10 @@ pub fn scan_nextline(bytes: &[u8]) -> usize {
 /// ```
 #[inline]
 pub fn scan_blank_line(bytes: &[u8]) -> Option<usize> {
+    if matches!(bytes.first(), Some(b'!'..)) {
+        debug_assert_eq!(None, found(raw::scan_blank_line(bytes)));
+        return None;
+    }
     found(raw::scan_blank_line(bytes))
 }
 

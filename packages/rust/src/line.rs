@@ -52,6 +52,9 @@ impl<'line> LineStart<'line> {
     /// ```
     #[inline]
     pub fn scan_space(&mut self, count: usize) -> bool {
+        if self.has_no_space() {
+            return count == 0;
+        }
         stated(raw::line_space(self.bytes, &mut self.numbers, count))
     }
 
@@ -62,6 +65,9 @@ impl<'line> LineStart<'line> {
     /// ```
     #[inline]
     pub fn scan_space_upto(&mut self, count: usize) -> usize {
+        if self.has_no_space() {
+            return 0;
+        }
         raw::line_upto(self.bytes, &mut self.numbers, count).columns
     }
 
@@ -74,7 +80,9 @@ impl<'line> LineStart<'line> {
     /// ```
     #[inline]
     pub fn scan_all_space(&mut self) {
-        raw::line_all_space(self.bytes, &mut self.numbers);
+        if !self.has_no_space() {
+            raw::line_all_space(self.bytes, &mut self.numbers);
+        }
     }
 
     /// Whether the line ends there. Pending columns are looked past.
@@ -84,7 +92,9 @@ impl<'line> LineStart<'line> {
     /// ```
     #[inline]
     pub fn is_at_eol(&self) -> bool {
-        stated(raw::line_eol(self.bytes, &self.numbers))
+        let is = matches!(self.bytes.get(self.numbers.place), None | Some(b'\n' | b'\r'));
+        debug_assert_eq!(is, stated(raw::line_eol(self.bytes, &self.numbers)));
+        is
     }
 
     /// Passes a block quote marker and at most one column of space. (5.1)
@@ -179,5 +189,15 @@ impl<'line> LineStart<'line> {
     #[inline]
     pub fn remaining_space(&self) -> usize {
         self.numbers.pending
+    }
+
+    /// Whether no space can be taken, as most often: nothing is pending, and a byte follows that is none. It is told without a
+    /// call of the library, and compared with one where there are debug assertions.
+    #[inline]
+    fn has_no_space(&self) -> bool {
+        let byte = self.bytes.get(self.numbers.place);
+        let is = self.numbers.pending == 0 && !matches!(byte, None | Some(b' ' | b'\t'));
+        debug_assert!(!is || raw::line_upto(self.bytes, &mut self.numbers.clone(), usize::MAX).columns == 0);
+        is
     }
 }

@@ -72,6 +72,53 @@ fn alignments() {
     assert_eq!(scan_table_head(b"-|").1, [Alignment::None]);
 }
 
+/// All texts of at most so many bytes among these.
+fn texts(bytes: &[u8], most: usize) -> Vec<Vec<u8>> {
+    let mut all = vec![vec![]];
+    let mut last = all.clone();
+    for _ in 0..most {
+        last = last.iter().flat_map(|text| bytes.iter().map(move |byte| [&text[..], &[*byte]].concat())).collect();
+        all.extend_from_slice(&last);
+    }
+    all
+}
+
+#[test]
+fn first_bytes() {
+    let bytes: Vec<u8> = (0..=255).collect();
+    if cfg!(not(debug_assertions)) {
+        panic!("what is told without the library is not compared with it");
+    }
+    let spaces: Vec<u8> = bytes.iter().copied().filter(|byte| is_ascii_whitespace(*byte)).collect();
+    assert_eq!(spaces, b"\t\n\x0b\x0c\r ");
+    let in_line: Vec<u8> = bytes.iter().copied().filter(|byte| is_ascii_whitespace_no_nl(*byte)).collect();
+    assert_eq!(in_line, b"\t\x0b\x0c ");
+    for text in texts(&bytes, 2) {
+        scan_eol(&text);
+        scan_blank_line(&text);
+        scan_ch(&text, b'\r');
+        scan_ch_repeat(&text, b' ');
+    }
+}
+
+#[test]
+fn places_without_space() {
+    for text in texts(b" \t\r\n>a", 4) {
+        for first in 0..6 {
+            let mut start = LineStart::new(&text);
+            let taken = start.scan_space_upto(first);
+            assert!(taken <= first);
+            let mut other = start.clone();
+            let column = start.scan_space_upto(1);
+            assert_eq!(other.scan_space(1), column == 1);
+            assert_eq!(other.remaining_space(), start.remaining_space());
+            assert_eq!(start.is_at_eol(), matches!(text.get(start.bytes_scanned()), None | Some(b'\r' | b'\n')));
+            start.scan_all_space();
+            assert_eq!(start.scan_space_upto(9), 0);
+        }
+    }
+}
+
 #[test]
 fn line_starts() {
     let mut start = LineStart::new(b">\t\tfoo");
