@@ -13,7 +13,12 @@ pub(crate) fn leading_words(bytes: &[u8]) -> usize
     ensures words { AreWords bytes.now result }
     ensures within { result ≤ length bytes.now }
 {
-    words_len(&bytes[..bytes.len().min(MOST_CHARACTERS + 1)])
+    match bytes {
+        [first, ..] if is_ordinary(*first) => {
+            words_len(&bytes[..bytes.len().min(MOST_CHARACTERS + 1)])
+        }
+        _ => 0,
+    }
 }
 
 // How many bytes words with one space between them take at the front.
