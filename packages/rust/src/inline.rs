@@ -1,7 +1,6 @@
 //! Parts of inline text, HTML, escapes and labels. Sections in brackets are those of CommonMark 0.31.2.
 
 use std::borrow::Cow;
-use std::hash::{Hash, Hasher};
 use std::ops::Range;
 
 use crate::raw::{self, ffi, Skip};
@@ -13,14 +12,14 @@ const SMALL: usize = 256;
 const REFERENCE: usize = 6;
 
 /// Gives room for so many bytes, of the stack where they are few.
-fn with_room<T>(length: usize, call: impl FnOnce(&mut [u8]) -> T) -> T {
+pub(crate) fn with_room<T>(length: usize, call: impl FnOnce(&mut [u8]) -> T) -> T {
     match length {
         0..=SMALL => call(&mut [0; SMALL]),
         _ => call(&mut vec![0; length]),
     }
 }
 
-fn string(bytes: Vec<u8>) -> String {
+pub(crate) fn string(bytes: Vec<u8>) -> String {
     String::from_utf8(bytes).expect("texts that are made of a text are UTF-8")
 }
 
@@ -423,82 +422,4 @@ pub fn scan_link_label_rest<'text>(
     }
     let own = |label: LabelText| label.map_or_else(Cow::Owned, |place| Cow::Borrowed(&text[place]));
     Ok(label_at(text.as_bytes(), 0, skips, is_in_table).map(|(length, label)| (length, own(label))))
-}
-
-/// Whether two labels match: their full case foldings are equal. (6.3)
-///
-/// ```
-/// assert!(markdown_scanners::labels_match("ẞ", "SS"));
-/// ```
-#[inline]
-pub fn labels_match(one: &str, other: &str) -> bool {
-    raw::labels_match(one, other)
-}
-
-/// The full case folding of a label: two labels match exactly where their keys are equal. (6.3)
-///
-/// ```
-/// assert_eq!(markdown_scanners::label_key("Straße"), "strasse");
-/// ```
-#[inline]
-pub fn label_key(label: &str) -> String {
-    string(key_of(label))
-}
-
-fn key_of(label: &str) -> Vec<u8> {
-    with_room(3 * label.len(), |room| {
-        let length = raw::label_key(label, room).length;
-        room[..length].to_vec()
-    })
-}
-
-/// A link label, equal to those that match it, for tables of definitions.
-///
-/// ```
-/// use markdown_scanners::LinkLabel;
-/// let labels = std::collections::HashMap::from([(LinkLabel::new("Foo"), "/url")]);
-/// assert_eq!(labels.get(&LinkLabel::new("FOO")), Some(&"/url"));
-/// ```
-#[derive(Clone, Debug)]
-pub struct LinkLabel<'text> {
-    text: Cow<'text, str>,
-    key: Vec<u8>,
-}
-
-impl<'text> LinkLabel<'text> {
-    /// The label of a text, as `scan_link_label_rest` writes it.
-    ///
-    /// ```
-    /// assert_eq!(markdown_scanners::LinkLabel::new("Foo"), markdown_scanners::LinkLabel::new("foo"));
-    /// ```
-    #[inline]
-    pub fn new(text: impl Into<Cow<'text, str>>) -> Self {
-        let text = text.into();
-        let key = key_of(&text);
-        LinkLabel { text, key }
-    }
-
-    /// The text as it was given.
-    ///
-    /// ```
-    /// assert_eq!(markdown_scanners::LinkLabel::new("Foo").as_str(), "Foo");
-    /// ```
-    #[inline]
-    pub fn as_str(&self) -> &str {
-        &self.text
-    }
-}
-
-impl PartialEq for LinkLabel<'_> {
-    fn eq(&self, other: &Self) -> bool {
-        self.key == other.key
-    }
-}
-
-impl Eq for LinkLabel<'_> {}
-
-impl Hash for LinkLabel<'_> {
-    fn hash<H: Hasher>(&self, state: &mut H) {
-        self.key.hash(state);
-    }
 }

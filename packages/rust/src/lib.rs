@@ -3,6 +3,7 @@
 
 mod blocks;
 mod inline;
+mod labels;
 mod line;
 #[allow(unsafe_code)]
 mod raw;
@@ -11,6 +12,7 @@ mod values;
 
 pub use blocks::*;
 pub use inline::*;
+pub use labels::*;
 pub use line::LineStart;
 pub use raw::Skip;
 pub use runs::{line_rest, run_inline_html, run_line, HtmlRun, HtmlStop, LineAnswer, LineCall, LineRun, LineStop};

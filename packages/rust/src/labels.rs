@@ -1,0 +1,85 @@
+//! Labels by which references find their definitions. Sections in brackets are those of CommonMark 0.31.2.
+
+use std::borrow::Cow;
+use std::hash::{Hash, Hasher};
+
+use crate::inline::{string, with_room};
+use crate::raw;
+
+/// Whether two labels match: their full case foldings are equal. (6.3)
+///
+/// ```
+/// assert!(markdown_scanners::labels_match("ẞ", "SS"));
+/// ```
+#[inline]
+pub fn labels_match(one: &str, other: &str) -> bool {
+    raw::labels_match(one, other)
+}
+
+/// The full case folding of a label: two labels match exactly where their keys are equal. (6.3)
+///
+/// ```
+/// assert_eq!(markdown_scanners::label_key("Straße"), "strasse");
+/// ```
+#[inline]
+pub fn label_key(label: &str) -> String {
+    string(key_of(label))
+}
+
+fn key_of(label: &str) -> Vec<u8> {
+    with_room(3 * label.len(), |room| {
+        let length = raw::label_key(label, room).length;
+        room[..length].to_vec()
+    })
+}
+
+/// A link label, equal to those that match it, for tables of definitions.
+///
+/// ```
+/// use markdown_scanners::LinkLabel;
+/// let labels = std::collections::HashMap::from([(LinkLabel::new("Foo"), "/url")]);
+/// assert_eq!(labels.get(&LinkLabel::new("FOO")), Some(&"/url"));
+/// ```
+#[derive(Clone, Debug)]
+pub struct LinkLabel<'text> {
+    text: Cow<'text, str>,
+    key: Vec<u8>,
+}
+
+impl<'text> LinkLabel<'text> {
+    /// The label of a text, as `scan_link_label_rest` writes it.
+    ///
+    /// ```
+    /// assert_eq!(markdown_scanners::LinkLabel::new("Foo"), markdown_scanners::LinkLabel::new("foo"));
+    /// ```
+    #[inline]
+    pub fn new(text: impl Into<Cow<'text, str>>) -> Self {
+        let text = text.into();
+        let key = key_of(&text);
+        LinkLabel { text, key }
+    }
+
+    /// The text as it was given.
+    ///
+    /// ```
+    /// assert_eq!(markdown_scanners::LinkLabel::new("Foo").as_str(), "Foo");
+    /// ```
+    #[inline]
+    pub fn as_str(&self) -> &str {
+        &self.text
+    }
+}
+
+impl PartialEq for LinkLabel<'_> {
+    fn eq(&self, other: &Self) -> bool {
+        self.key == other.key
+    }
+}
+
+impl Eq for LinkLabel<'_> {}
+
+impl Hash for LinkLabel<'_> {
+    fn hash<H: Hasher>(&self, state: &mut H) {
+        self.key.hash(state);
+    }
+}
