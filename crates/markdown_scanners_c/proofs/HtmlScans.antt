@@ -1,5 +1,5 @@
 -- What C is told of a scan of inline HTML under a guard, by what the scan answers.
-use Rattle.std.proofs.Common.{ℕ, ◌+◌, ◌≤◌, ◌<◌, ◌≡◌, ◌⊎◌, List, [], ◌∷◌, ◌++◌, Option, Some, None, inl, inr, refl, sym, ap, subst, ◌∙◌, arith, zero-add}
+use Rattle.std.proofs.Common.{ℕ, ◌≤◌, ◌<◌, ◌≡◌, List, [], ◌∷◌, ◌++◌, Option, Some, None, inl, inr, refl, sym, ap, subst, ◌∙◌, arith, zero-add}
 use Rattle.std.specs.Prelude.{◌≢◌, Result, Ok, Err, IfSome, IfOk, IfErr, OnOk, OnErr}
 use Rattle.markdown_scanners_tree.specs.declared.inline_html.HtmlScanGuard.{HtmlScanGuard}
 use Rattle.markdown_scanners_tree.specs.declared.inline_html.HtmlStop.{HtmlStop}
@@ -10,8 +10,7 @@ use Rattle.markdown_scanners_tree.specs.inline_html.InlineHtml.{opening_at, open
 use Rattle.markdown_scanners_tree.specs.inline_html.run.KeptGuard.{first_guard, AreScanPlaces, guard_after_scans, bytes_scanned}
 use Rattle.markdown_scanners_tree.proofs.ForCallers.{opener-bounds, opener-there, IsTrueGuard-later, first-true, next_scan}
 use Rattle.markdown_scanners_c.specs.Finds.{IsFindEnd}
-use Rattle.markdown_scanners_c.specs.Guards.{scan_guard, new_guard, IsAnswerTold, IsGuardedEnd, IsScanUnder, IsTrueEnd, IsScanInTurn}
-use Rattle.markdown_scanners_c.specs.declared.html.End.{End}
+use Rattle.markdown_scanners_c.specs.Guards.{scan_guard, new_guard, IsAnswerTold, IsGuardedEnd, IsTrueEnd, IsScanInTurn}
 use Rattle.markdown_scanners_c.specs.declared.html.Guard.{Guard}
 use Rattle.markdown_scanners_c.specs.private.ScanTold.{scan_told}
 

@@ -1,5 +1,5 @@
 -- Labels over lines of which ASCII is left out, and where their texts stand.
-use Rattle.std.proofs.Common.{ℕ, zero, suc, ◌+◌, ◌-◌, ◌≤◌, ◌<◌, ◌≡◌, ◌==◌, Some, Bool, true, false, nat_le, nat_lt, List, []}
+use Rattle.std.proofs.Common.{ℕ, zero, suc, ◌+◌, ◌-◌, ◌≤◌, ◌<◌, ◌≡◌, ◌≢◌, ◌==◌, Some, Bool, true, false, nat_le, nat_lt, List, []}
 use Rattle.std.proofs.Common.{◌∷◌, ◌++◌, length, take, drop, get_or, IsAscii, IsTrue, if◌then◌else◌, inl, inr, refl, sym, ap, subst, ◌∙◌, arith}
 use Rattle.std.specs.List.{list_all}
 use Rattle.std.specs.Str.{IsNotAscii}
@@ -11,11 +11,14 @@ use Rattle.markdown_scanners_tree.specs.Handler.{IsAsciiFront}
 use Rattle.markdown_scanners_tree.specs.linklabel.Answer.{slice_before, without_first_space, without_last_space}
 use Rattle.markdown_scanners_tree.specs.linklabel.Label.{Label, IsLabel, label_of}
 use Rattle.markdown_scanners_c.specs.Answers.{none}
-use Rattle.markdown_scanners_c.specs.Labels.{IsStart}
+use Rattle.markdown_scanners_c.specs.Buffer.{IsChangedFront}
+use Rattle.markdown_scanners_c.specs.Labels.{IsGiven, IsStart}
 use Rattle.markdown_scanners_c.specs.Skips.{is_ascii_front, are_skips, are_ascii_skips, left_out, LeavesOut}
+use Rattle.markdown_scanners_c.specs.Status.{past_end}
 use Rattle.markdown_scanners_c.specs.private.LabelText.{ToldAscii, space_len}
 use Rattle.markdown_scanners_c.specs.private.Searched.{searched, told_skip}
 use Rattle.markdown_scanners_c.specs.declared.skips.Skip.{Skip}
+use Rattle.markdown_scanners_c.proofs.Buffers.{front_changed, no_refused_place}
 use Rattle.markdown_scanners_c.proofs.SameKept.{AgreeOnRests, kept_too}
 use Rattle.markdown_scanners_c.proofs.SkipLemmas.{finds}
 
@@ -191,3 +194,18 @@ started bytes start within label n place true plain at slice =
           (subst (λ s. take count (drop s bytes) ≡ slice_before front n) (sym at) there),
     )
 started bytes start within label n place false plain at slice = inr (plain, at)
+
+-- ---- a text that is given
+
+module _ (stands : Bool) (text old new : List ℕ) (status needed : ℕ) where
+  pub given_length : IsGiven stands text old new status needed → needed ≡ length text
+  given_length (inl is) = is.3
+  given_length (inr is) = is.1.0
+
+  pub label_changed : IsGiven stands text old new status needed → IsChangedFront old new status needed
+  label_changed (inl is) = (ap (drop needed) is.4, λ other. is.4)
+  label_changed (inr is) = front_changed text old new status needed is.1
+
+  pub no_refused_label : IsGiven stands text old new status needed → status ≢ past_end
+  no_refused_label (inl is) past = omega (arith, is.2, past)
+  no_refused_label (inr is) past = no_refused_place text old new status needed is.1 past

@@ -1,5 +1,5 @@
 -- Link labels. (CommonMark 0.31.2, section 6.3, links)
-use Rattle.std.specs.Prelude.{ℕ, Bool, true, false, List, ◌≡◌, ◌≢◌, ◌≤◌, ◌+◌, ◌⊎◌, nat_eq, length, take, drop, if◌then◌else◌}
+use Rattle.std.specs.Prelude.{ℕ, Bool, true, false, List, [], ◌≡◌, ◌≢◌, ◌≤◌, ◌+◌, ◌⊎◌, nat_eq, length, take, drop, if◌then◌else◌}
 use Rattle.std.specs.Cmp.Lexicographic.{pointwise}
 use Rattle.std.specs.Str.{IsUtf8}
 use Rattle.markdown_scanners_tree.specs.linklabel.Key.{label_key}
@@ -29,15 +29,21 @@ abbrev pub IsLabelAt : List Skip → List ℕ → ℕ → Bool → Label → Typ
 IsLabelAt skips bytes start in_table label =
     IsLabel (LeavesOut skips bytes) (drop start bytes) in_table label × IsUtf8 (take label.len (drop start bytes))
 
+-- A text that stands in the input is given by its place alone where there is no buffer; and else a text is written.
+abbrev pub IsGiven : Bool → List ℕ → List ℕ → List ℕ → ℕ → ℕ → Type 0
+IsGiven stands text old new status needed =
+    ((stands ≡ true) × (old ≡ []) × (status ≡ ok) × (needed ≡ length text) × (new ≡ old))
+    ⊎ (¬ ((stands ≡ true) × (old ≡ [])) × IsWritten text old new status needed)
+
 -- No label is one; or some is, which doesn't stand there as it is, and memory for its text was refused; or one is, and its
--- text is written.
+-- text is given.
 unfoldable pub IsLabelText : (Label → Type 0) → List ℕ → ℕ → List ℕ → List ℕ → LabelText → Type 0
 IsLabelText IsOne bytes start old new text =
     (IsNoLabelText nothing text × (new ≡ old) × ((label : Label) → ¬ (IsOne label)))
     ⊎ (IsNoLabelText no_memory text × (new ≡ old) × ¬ ((label : Label) → ¬ (IsOne label))
     × ((label : Label) → IsOne label → label.plain ≢ true))
     ⊎ ((label : Label) × IsOne label × (text.end ≡ start + label.len) × IsStart bytes label text.start
-    × IsWritten label.text old new text.status text.length)
+    × IsGiven label.plain label.text old new text.status text.length)
 
 -- The place is past the end; or the label at it is told.
 abbrev pub IsScannedLabel : Bool → List Skip → List ℕ → ℕ → List ℕ → List ℕ → LabelText → Type 0

@@ -16,4 +16,5 @@ pub mod Tables
 pub mod Tags
 pub mod TextPlace
 pub mod Texts
+pub mod Version
 pub mod private

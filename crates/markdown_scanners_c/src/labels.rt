@@ -2,11 +2,11 @@
 ghost use Rattle.std.specs.Prelude.{◌≡◌, ◌≢◌, ◌≤◌, ◌<◌, ◌+◌, ◌-◌, ◌++◌, ◌⊎◌, ◌↔◌, ℕ};
 ghost use Rattle.std.specs.Prelude.{List, true, length, drop, if◌then◌else◌};
 ghost use Rattle.std.specs.Str.{IsUtf8};
-ghost use Rattle.markdown_values.specs.strings.Text.{is_borrowed};
+ghost use Rattle.markdown_values.specs.strings.Text.{cow_text, is_borrowed};
 ghost use Rattle.markdown_scanners_c.specs.Answers.{none};
 ghost use Rattle.markdown_scanners_c.specs.Buffer.{IsChangedFront};
 ghost use Rattle.markdown_scanners_c.specs.Keys.{key_bytes};
-ghost use Rattle.markdown_scanners_c.specs.Labels.{IsLabelAt, IsNoLabelText, IsLabelText, IsScannedLabel, match_status};
+ghost use Rattle.markdown_scanners_c.specs.Labels.{IsGiven, IsLabelAt, IsNoLabelText, IsLabelText, IsScannedLabel, match_status};
 ghost use Rattle.markdown_scanners_c.specs.Skips.{are_skips, are_ascii_skips};
 ghost use Rattle.markdown_scanners_c.specs.Status.{ok, not_utf8, past_end};
 ghost use Rattle.markdown_scanners_c.specs.private.LabelText.{told_ascii, space_len};
@@ -98,7 +98,7 @@ fn label_at(
                 status,
                 taken,
                 length,
-            } = write_text(label.as_str().as_bytes(), taken, buffer);
+            } = write_label(&label, taken, buffer);
             LabelText {
                 status,
                 end: start + taken,
@@ -108,6 +108,23 @@ fn label_at(
         }
         Ok(None) => no_label(NOTHING),
         Err(_) => no_label(NO_MEMORY),
+    }
+}
+
+// Writes a label's text; but one that is lent needs no writing where there is no buffer.
+fn write_label(label: &CowStr, taken: usize, buffer: &mut [u8]) -> Text
+    ensures written { IsGiven (is_borrowed label.now) (cow_text label.now)
+        buffer.old buffer.new result.status result.length }
+    ensures taken { result.taken ≡ taken }
+{
+    let text = label.as_str().as_bytes();
+    match (label, buffer.is_empty()) {
+        (CowStr::Borrowed(_), true) => Text {
+            status: OK,
+            taken,
+            length: text.len(),
+        },
+        _ => write_text(text, taken, buffer),
     }
 }
 

@@ -19,3 +19,4 @@ mod skips;
 mod status;
 mod tables;
 mod texts;
+mod version;

@@ -7,12 +7,15 @@
  *
  * Bytes and texts. A pointer and a length go together; nothing has to end in a zero byte, and zero bytes are read as
  * any other. What is read may be of any type of bytes, as `char` or `uint8_t`. The pointer may be null where the length
- * is 0. What is given is read during the call alone, and nothing is written but in a buffer, a line start or a guard.
+ * is 0, and nowhere else. What is given is read during the call alone, and nothing is written but in a buffer, a line
+ * start or a guard.
  * What is named `bytes` may be any bytes; what is named `text`, `one` or `other` must be UTF-8. Each call looks through
  * all of it, and refuses it where it is not.
  *
  * Duties. No buffer may overlap another buffer or anything else that the call is given. A length or capacity is that of
- * memory which is there, and its size in bytes is at most PTRDIFF_MAX. An array is aligned for its type.
+ * memory which is there, and its size in bytes is at most PTRDIFF_MAX. An array is aligned for its type. A pointer to a
+ * `struct mds_line_start` or a `struct mds_html_guard`, beside which no length stands, is not null: no call tests it, and
+ * with a null one the program crashes.
  *
  * Units. Lengths, capacities and places are in bytes, those of an array of another type in its elements. Places count
  * from 0. Columns and indents are in columns of a line whose tabs go to stops of four (2.2).
@@ -35,6 +38,8 @@
  * Cost. Each call takes time in proportion to all that it is given, at most. Of a text it reads all, since it looks
  * whether it is UTF-8; of bytes no more than it has to, most often up to the end of the line. Only a call that looks
  * for what closes or ends something goes through all of them where nothing does.
+ *
+ * Examples. Behind most comments stand lines of C, of which those that end in no semicolon are true.
  *
  * Machines. The archive is for x86-64 processors of level 2 (x86-64-v2) and above. One for each x86-64 is made by
  * `rt lib --cpu=x86-64` in the crate's folder: it has 3 KB more, and its outline of 1.8 MB of Markdown takes 2% fewer
@@ -59,6 +64,16 @@ extern "C" {
 #define MDS_VERSION_MAJOR 0
 #define MDS_VERSION_MINOR 1
 #define MDS_VERSION_PATCH 0
+
+/* The same as one number, 0xMMmmpp; so that a later version has a larger one. */
+#define MDS_VERSION ((MDS_VERSION_MAJOR << 16) | (MDS_VERSION_MINOR << 8) | MDS_VERSION_PATCH)
+
+/* The version of the library that is linked or loaded, as that number. A program runs with the version whose header it
+ * was compiled with, and with each later one of the same first number.
+ *
+ *     mds_version() >= MDS_VERSION && mds_version() >> 16 == MDS_VERSION_MAJOR
+ */
+uint32_t mds_version(void);
 
 /* In place of a length or a place, where nothing is found. */
 #define MDS_NONE SIZE_MAX
@@ -114,50 +129,93 @@ struct mds_text {
 
 /* ---- Bytes and lines ---- */
 
-/* Space, tab, LF, VT, FF or CR. (2.1) */
+/* Space, tab, LF, VT, FF or CR. (2.1)
+ *
+ *     mds_is_whitespace('\n')
+ */
 bool mds_is_whitespace(uint8_t byte);
 
-/* Space, tab, VT or FF: white space that ends no line. (2.1) */
+/* Space, tab, VT or FF: white space that ends no line. (2.1)
+ *
+ *     mds_is_whitespace_in_line('\t') && !mds_is_whitespace_in_line('\n')
+ */
 bool mds_is_whitespace_in_line(uint8_t byte);
 
-/* An ASCII punctuation character. (2.1) */
+/* An ASCII punctuation character. (2.1)
+ *
+ *     mds_is_punctuation('!')
+ */
 bool mds_is_punctuation(uint8_t byte);
 
-/* Whether the bytes are UTF-8. */
+/* Whether the bytes are UTF-8.
+ *
+ *     mds_is_utf8("\xc3\xa4", 2) && !mds_is_utf8("\xc3", 1)
+ */
 bool mds_is_utf8(const void *bytes, size_t length);
 
-/* 1 where the first byte is this one, else 0. */
+/* 1 where the first byte is this one, else 0.
+ *
+ *     mds_scan_ch("#a", 2, '#') == 1
+ */
 size_t mds_scan_ch(const void *bytes, size_t length, uint8_t byte);
 
-/* How many of this byte stand at the front. */
+/* How many of this byte stand at the front.
+ *
+ *     mds_scan_ch_repeat("##a", 3, '#') == 2
+ */
 size_t mds_scan_ch_repeat(const void *bytes, size_t length, uint8_t byte);
 
-/* How many bytes from the front are among the accepted ones. Each is looked for among all of these. */
+/* How many bytes from the front are among the accepted ones. Each is looked for among all of these.
+ *
+ *     mds_scan_while("abca", 4, "ba", 2) == 2
+ */
 size_t mds_scan_while(const void *bytes, size_t length, const void *accepted, size_t count);
 
-/* The same from the back. */
+/* The same from the back.
+ *
+ *     mds_scan_rev_while("a \t", 3, " \t", 2) == 2
+ */
 size_t mds_scan_rev_while(const void *bytes, size_t length, const void *accepted, size_t count);
 
-/* How many bytes of white space that ends no line stand at the front. */
+/* How many bytes of white space that ends no line stand at the front.
+ *
+ *     mds_scan_whitespace_in_line(" \t\n", 3) == 2
+ */
 size_t mds_scan_whitespace_in_line(const void *bytes, size_t length);
 
 /* The length of the line ending at the front: 1 for LF or CR, 2 for CR LF, 0 at the end of the bytes; else MDS_NONE.
- * (2.1) */
+ * (2.1)
+ *
+ *     mds_scan_eol("\r\na", 3) == 2
+ *     mds_scan_eol("a", 1) == MDS_NONE
+ */
 size_t mds_scan_eol(const void *bytes, size_t length);
 
 /* The length of the line at the front with its ending, LF, CR LF or CR; all bytes where there is none. It is 0 only
- * of no bytes. (2.1) */
+ * of no bytes. (2.1)
+ *
+ *     mds_scan_line("a\rb\n", 4) == 2
+ */
 size_t mds_scan_line(const void *bytes, size_t length);
 
 /* The place behind the first LF, or the length where there is none. It knows LF alone: where lines may end in CR, ask
- * mds_scan_line. */
+ * mds_scan_line.
+ *
+ *     mds_scan_nextline("a\rb\nc", 5) == 4
+ */
 size_t mds_scan_nextline(const void *bytes, size_t length);
 
 /* The length of the blank line at the front with its ending, or MDS_NONE where the line is not blank. Of no bytes it
- * is 0. (4.9) */
+ * is 0. (4.9)
+ *
+ *     mds_scan_blank_line(" \t\na", 4) == 3
+ */
 size_t mds_scan_blank_line(const void *bytes, size_t length);
 
-/* The length of the block quote marker at the front, `>` and at most one space: 1 or 2, or MDS_NONE. (5.1) */
+/* The length of the block quote marker at the front, `>` and at most one space: 1 or 2, or MDS_NONE. (5.1)
+ *
+ *     mds_scan_blockquote_start("> a", 3) == 2
+ */
 size_t mds_scan_blockquote_start(const void *bytes, size_t length);
 
 /* A list item. Where there is none `length` is MDS_NONE. */
@@ -171,7 +229,11 @@ struct mds_list_item {
 /* The list item that begins at the front. (5.2) Tab stops count from the marker's end. Two kinds are items here that
  * are none to MDS_LIST below: a thematic break such as `- - -`, and a marker before a blank rest that begins with a
  * vertical tab or a form feed. A parser that ends a paragraph by this call and begins the item by MDS_LIST loses the
- * second kind, so it asks MDS_LIST both times. */
+ * second kind, so it asks MDS_LIST both times.
+ *
+ *     struct mds_list_item item = mds_scan_listitem("10) a", 5);
+ *     item.length == 4 && item.start == 10 && item.indent == 4 && item.delimiter == ')'
+ */
 struct mds_list_item mds_scan_listitem(const void *bytes, size_t length);
 
 /* An indent, where the status is MDS_OK; else it is MDS_TOO_LARGE. */
@@ -183,14 +245,19 @@ struct mds_indent {
 
 /* The columns of the spaces and tabs at the front. A space that fills `max` columns is counted and ends the scan; a tab
  * that would go past `max` ends it uncounted, as each other byte does. So spaces are counted on where `max` is 0, and
- * behind a tab that fills it. `max` is SIZE_MAX / 4 at most. (2.2) */
+ * behind a tab that fills it. `max` is SIZE_MAX / 4 at most. (2.2)
+ *
+ *     struct mds_indent indent = mds_calc_indent("  a", 3, 4);
+ *     indent.place == 2 && indent.columns == 2
+ */
 struct mds_indent mds_calc_indent(const void *bytes, size_t length, size_t max);
 
 /* ---- Line starts ---- */
 
 /* A place in a line that is read column by column. It is the caller's: all 0 at the front of a line, `{0}`, and then
- * moved by the calls below. It belongs to the bytes of one line, from the line's front on; they may go on behind it, up
- * to the end of the text, and are passed whole to each call, from their front. A copy of the struct goes on by itself.
+ * moved by the calls below. The pointer to it is not null. It belongs to the bytes of one line, from the line's front
+ * on; they may go on behind it, up to the end of the text, and are passed whole to each call, from their front. A copy of
+ * the struct goes on by itself.
  *
  * `none_before` and `behind_break` are what is known of the thematic breaks in the line, of which a bullet may be the
  * first byte. Keep them, or the bytes behind each bullet are read once more.
@@ -216,22 +283,44 @@ struct mds_columns {
 
 /* Takes `count` columns of space, or fewer where there are fewer: pending ones first, then those of spaces and tabs.
  * MDS_OK where there were as many, MDS_NOTHING where there were fewer, or MDS_BAD_STATE. It reads what it takes.
- * (2.2) */
+ * (2.2)
+ *
+ *     struct mds_line_start start = {0};
+ *     mds_line_space("  a", 3, &start, 3) == MDS_NOTHING && start.place == 2
+ */
 uint32_t mds_line_space(const void *bytes, size_t length, struct mds_line_start *start, size_t count);
 
-/* The same, and how many it took, 0 too: MDS_OK or MDS_BAD_STATE. */
+/* The same, and how many it took, 0 too: MDS_OK or MDS_BAD_STATE.
+ *
+ *     struct mds_line_start start = {0};
+ *     mds_line_upto("\ta", 2, &start, 1).columns == 1 && start.place == 1 && start.pending == 3
+ */
 struct mds_columns mds_line_upto(const void *bytes, size_t length, struct mds_line_start *start, size_t count);
 
 /* Drops pending columns, and passes all spaces and tabs, each as one column, so that columns are not those of the line
- * from then on: MDS_OK or MDS_BAD_STATE. */
+ * from then on: MDS_OK or MDS_BAD_STATE.
+ *
+ *     struct mds_line_start start = {0};
+ *     mds_line_all_space(" \t a", 4, &start) == MDS_OK && start.place == 3
+ */
 uint32_t mds_line_all_space(const void *bytes, size_t length, struct mds_line_start *start);
 
 /* Whether LF, CR or the end of the bytes stands at the place; pending columns are looked past. MDS_OK, MDS_NOTHING or
- * MDS_BAD_STATE. It reads one byte. */
+ * MDS_BAD_STATE. It reads one byte.
+ *
+ *     struct mds_line_start start = {0};
+ *     mds_line_eol("\r", 1, &start) == MDS_OK
+ */
 uint32_t mds_line_eol(const void *bytes, size_t length, const struct mds_line_start *start);
 
 /* Passes a block quote marker, `>` and at most one column of space; pending columns are looked past, and one of them
- * is that space. MDS_OK, MDS_NOTHING or MDS_BAD_STATE. It reads two bytes. (5.1) */
+ * is that space. So take up to four columns first, by mds_line_upto: where there are four, no block quote begins there,
+ * though this call would find the `>` behind them. MDS_OK, MDS_NOTHING or MDS_BAD_STATE. It reads two bytes. (5.1)
+ *
+ *     struct mds_line_start start = {0};
+ *     mds_line_upto(" > a", 4, &start, 4).columns == 1
+ *     mds_line_quote(" > a", 4, &start) == MDS_OK && start.place == 3
+ */
 uint32_t mds_line_quote(const void *bytes, size_t length, struct mds_line_start *start);
 
 /* A list item's marker, where the status is MDS_OK. */
@@ -247,12 +336,21 @@ struct mds_line_item {
  * MDS_TOO_LARGE; MDS_BAD_STATE. Pending columns are looked past, so take up to four columns first: where there are
  * four, no item begins there, as no block quote does. mds_scan_listitem finds two kinds more. It reads the marker,
  * the space behind it and a blank rest of the line; and of a bullet the line's bytes up to the first that stands in
- * no thematic break, once as long as the numbers are kept. (5.2) */
+ * no thematic break, once as long as the numbers are kept. (5.2)
+ *
+ *     struct mds_line_start start = {0};
+ *     struct mds_line_item item = mds_line_list("10) a", 5, &start, 0);
+ *     item.status == MDS_OK && item.delimiter == ')' && item.start == 10 && item.indent == 4 && start.place == 4
+ */
 struct mds_line_item mds_line_list(const void *bytes, size_t length, struct mds_line_start *start, size_t indent);
 
 /* Passes a definition's marker, `:` and the columns that belong to it, at an indent of `indent` columns, SIZE_MAX - 16
  * at most; the columns are the indent of what the definition holds. MDS_OK, MDS_NOTHING where there is none and the
- * place stays, MDS_TOO_LARGE, MDS_BAD_STATE. It reads six bytes. (An extension of pulldown-cmark) */
+ * place stays, MDS_TOO_LARGE, MDS_BAD_STATE. It reads six bytes. (An extension of pulldown-cmark)
+ *
+ *     struct mds_line_start start = {0};
+ *     mds_line_definition(": a", 3, &start, 0).columns == 2
+ */
 struct mds_columns mds_line_definition(const void *bytes, size_t length, struct mds_line_start *start, size_t indent);
 
 /* The box of a task, where the status is MDS_OK. */
@@ -263,7 +361,11 @@ struct mds_task {
 
 /* Passes up to three columns of space and a task list item's box, `[ ]`, `[x]` or `[X]`, behind which white space
  * stands and is not taken. MDS_OK; MDS_NOTHING where there is none, and the place stays; MDS_BAD_STATE. It reads seven
- * bytes. (GitHub Flavored Markdown 0.29, 5.3) */
+ * bytes. (GitHub Flavored Markdown 0.29, 5.3)
+ *
+ *     struct mds_line_start start = {0};
+ *     mds_line_task("[x] a", 5, &start).checked && start.place == 3
+ */
 struct mds_task mds_line_task(const void *bytes, size_t length, struct mds_line_start *start);
 
 /* The kinds of alerts. */
@@ -283,7 +385,11 @@ struct mds_alert {
 
 /* Passes the line of an alert, `[!NOTE]` or another of the names in any case, with the blank rest of its line and the
  * line ending. MDS_OK; MDS_NOTHING where there is none, and the place stays; MDS_BAD_STATE. It reads those bytes. (An
- * extension of GitHub) */
+ * extension of GitHub)
+ *
+ *     struct mds_line_start start = {0};
+ *     mds_line_alert("[!tip]\n", 7, &start).kind == MDS_ALERT_TIP
+ */
 struct mds_alert mds_line_alert(const void *bytes, size_t length, struct mds_line_start *start);
 
 /* ---- Runs of calls on a line start ---- */
@@ -323,7 +429,14 @@ struct mds_line_run {
  * else the status is MDS_OK. In all these cases the answers of the calls before stand at the front of `answers`. No call
  * is made, and nothing is written, where the numbers of the line start are refused, MDS_BAD_STATE, where some call has
  * no known kind, MDS_BAD_KIND, and where `answers` has no room for as many answers as there are calls, MDS_TOO_SHORT.
- * Each call reads what the one of its name above reads. (2.2) */
+ * Each call reads what the one of its name above reads. (2.2)
+ *
+ *     struct mds_line_start start = {0};
+ *     struct mds_line_call calls[] = {{MDS_QUOTE, 0}, {MDS_UPTO, 1}};
+ *     struct mds_line_answer answers[2];
+ *     mds_run_line(">\t- x", 5, &start, calls, 2, answers, 2).count == 2
+ *     answers[0].found && answers[1].number == 1 && start.place == 2
+ */
 struct mds_line_run mds_run_line(
     const void *bytes, size_t length, struct mds_line_start *start, const struct mds_line_call *calls, size_t call_count,
     struct mds_line_answer *answers, size_t capacity);
@@ -331,7 +444,12 @@ struct mds_line_run mds_run_line(
 /* What is left of the bytes from the line start on: pending columns as spaces, then the bytes from its place on, of which
  * the tabs before the first line ending are written out as spaces. So for the rest of a line give its bytes alone.
  * `taken` is how many bytes stand from the place on; four bytes for each of these, and one for each pending column, are
- * room enough. It goes through them twice. MDS_OK, MDS_TOO_SHORT or MDS_BAD_STATE. (2.2) */
+ * room enough. It goes through them twice. MDS_OK, MDS_TOO_SHORT or MDS_BAD_STATE. (2.2)
+ *
+ *     struct mds_line_start start = {0};
+ *     uint8_t buffer[12];
+ *     mds_line_rest("a\tb", 3, &start, buffer, 12).length == 5 && memcmp(buffer, "a   b", 5) == 0
+ */
 struct mds_text mds_line_rest(
     const void *bytes, size_t length, const struct mds_line_start *start, uint8_t *buffer, size_t capacity);
 
@@ -344,10 +462,17 @@ struct mds_break {
 };
 
 /* The thematic break at the front. Of a line such as `* * * a` each bullet could begin one, and none does: who keeps
- * `none_before` need not ask again below it, and so reads a line of bullets once. (4.1) */
+ * `none_before` need not ask again below it, and so reads a line of bullets once. (4.1)
+ *
+ *     mds_scan_hrule("* * *\n", 6).length == 6
+ *     mds_scan_hrule("* * a", 5).none_before == 4
+ */
 struct mds_break mds_scan_hrule(const void *bytes, size_t length);
 
-/* The level, 1 to 6, of the ATX heading at the front, which has as many `#`; 0 where there is none. (4.2) */
+/* The level, 1 to 6, of the ATX heading at the front, which has as many `#`; 0 where there is none. (4.2)
+ *
+ *     mds_scan_atx_heading("## a", 4) == 2
+ */
 uint32_t mds_scan_atx_heading(const void *bytes, size_t length);
 
 /* A setext heading's underline. Where there is none `length` is MDS_NONE. */
@@ -356,7 +481,11 @@ struct mds_underline {
     uint32_t level; /* 1 of `=`, 2 of `-` */
 };
 
-/* The setext heading underline at the front. (4.3) */
+/* The setext heading underline at the front. (4.3)
+ *
+ *     struct mds_underline line = mds_scan_setext_heading("---\na", 5);
+ *     line.length == 4 && line.level == 2
+ */
 struct mds_underline mds_scan_setext_heading(const void *bytes, size_t length);
 
 /* A fence, of code or of metadata. Where there is none `length` is MDS_NONE. */
@@ -365,26 +494,42 @@ struct mds_fence {
     uint8_t byte;  /* a backtick or `~` of code; `-` or `+` of metadata */
 };
 
-/* The opening code fence at the front; its info string is not taken. (4.5) */
+/* The opening code fence at the front; its info string is not taken. (4.5)
+ *
+ *     struct mds_fence fence = mds_scan_code_fence("~~~~ c", 6);
+ *     fence.length == 4 && fence.byte == '~'
+ */
 struct mds_fence mds_scan_code_fence(const void *bytes, size_t length);
 
 /* The length of the closing code fence at the front, with the spaces and tabs behind it and without its line ending, of
  * a fence that was opened by `count` of the byte `fence`; or MDS_NONE. Of no bytes it is 0: the end closes a fence too.
- * (4.5) */
+ * (4.5)
+ *
+ *     mds_scan_closing_code_fence("```` \n", 6, '`', 3) == 5
+ */
 size_t mds_scan_closing_code_fence(const void *bytes, size_t length, uint8_t fence, size_t count);
 
 /* The opening line of a metadata block, of `---` where `yaml` is true and of `+++` where `pluses` is. Its next line is
- * neither blank nor closes it, and a later one does; they end at LF. (An extension of pulldown-cmark) */
+ * neither blank nor closes it, and a later one does; they end at LF. (An extension of pulldown-cmark)
+ *
+ *     mds_scan_metadata_block("---\na: b\n---\n", 13, true, false).length == 3
+ */
 struct mds_fence mds_scan_metadata_block(const void *bytes, size_t length, bool yaml, bool pluses);
 
 /* The length of the line at the front that closes a metadata block opened by the byte `fence`, without its line
- * ending, or MDS_NONE. */
+ * ending, or MDS_NONE.
+ *
+ *     mds_scan_closing_metadata_block("...\n", 4, '-') == 3
+ */
 size_t mds_scan_closing_metadata_block(const void *bytes, size_t length, uint8_t fence);
 
 /* Whether the line at the front can interrupt a paragraph, behind at most three columns of indent: a thematic break, an
  * ATX heading, an opening code fence, a block quote marker, a list item that is not blank and has a bullet or the number
  * 1, or an HTML block whose kind is not MDS_HTML_TAG_ALONE. Blank lines and setext heading underlines end a paragraph
- * too, and interrupt none. (4.8, and 4.1, 4.2, 4.5, 4.6, 5.1, 5.2) */
+ * too, and interrupt none. (4.8, and 4.1, 4.2, 4.5, 4.6, 5.1, 5.2)
+ *
+ *     mds_interrupts_paragraph("- a", 3) && !mds_interrupts_paragraph("2. a", 4)
+ */
 bool mds_interrupts_paragraph(const void *bytes, size_t length);
 
 /* How a column of a table is aligned. */
@@ -394,7 +539,12 @@ enum mds_alignment { MDS_ALIGN_NONE = 0, MDS_ALIGN_LEFT = 1, MDS_ALIGN_CENTER = 
  * has, whose alignments, each a number of enum mds_alignment, stand at the front of the buffer; `length` bytes are
  * enough for them. MDS_NOTHING where there is none. Memory is asked for where there is one, or where the line has
  * nothing but bytes of one, a pipe among them, and its first cell is one: MDS_NO_MEMORY. (GitHub Flavored Markdown
- * 0.29, 4.10) */
+ * 0.29, 4.10)
+ *
+ *     uint8_t alignments[2];
+ *     mds_scan_table_head("|-|:-:|\n", 8, alignments, 2).length == 2
+ *     alignments[0] == MDS_ALIGN_NONE && alignments[1] == MDS_ALIGN_CENTER
+ */
 struct mds_text mds_scan_table_head(const void *bytes, size_t length, uint8_t *alignments, size_t capacity);
 
 /* ---- Parts of inline text ---- */
@@ -412,20 +562,36 @@ struct mds_part {
 
 /* The link destination that begins at the place `start`, with or without angle brackets; they are not among its own
  * bytes. Parentheses may stand in each other `max_next` + 1 deep. An empty destination without brackets is one too.
- * (6.3) */
+ * (6.3)
+ *
+ *     struct mds_part part = mds_scan_link_dest("[a](<b c>)", 10, 4, 31);
+ *     part.end == 9 && part.start == 5 && part.length == 3
+ */
 struct mds_part mds_scan_link_dest(const void *bytes, size_t length, size_t start, size_t max_next);
 
 /* The link title that begins at the place `start`, in straight double quotes, straight single quotes or parentheses,
  * which are not among its own bytes. It may go on over lines, of which none is blank; what stands at the front of a line
- * in a container is not left out. (6.3) */
+ * in a container is not left out. (6.3)
+ *
+ *     struct mds_part part = mds_scan_link_title("[a](/b 'c d')", 13, 7);
+ *     part.end == 12 && part.start == 8 && part.length == 3
+ */
 struct mds_part mds_scan_link_title(const void *bytes, size_t length, size_t start);
 
 /* The absolute URI of the autolink whose `<`, at which the call doesn't look, stands just before the place `start`; the
- * end is behind its `>`. (6.5) */
+ * end is behind its `>`. (6.5)
+ *
+ *     struct mds_part part = mds_scan_autolink("<https://a.b>", 13, 1);
+ *     part.end == 13 && part.start == 1 && part.length == 11
+ */
 struct mds_part mds_scan_autolink(const void *bytes, size_t length, size_t start);
 
 /* What stands before the first pipe of the `count` bytes from the place `start` on, or of as many as there are; the end
- * is behind the pipe. It may read all of these bytes. (An extension of pulldown-cmark) */
+ * is behind the pipe. It may read all of these bytes. (An extension of pulldown-cmark)
+ *
+ *     struct mds_part part = mds_scan_wikilink_pipe("[[a|b]]", 7, 2, 3);
+ *     part.end == 4 && part.start == 2 && part.length == 1
+ */
 struct mds_part mds_scan_wikilink_pipe(const void *bytes, size_t length, size_t start, size_t count);
 
 /* ---- Texts over lines ---- */
@@ -447,17 +613,27 @@ struct mds_skip {
 
 /* MDS_OK where the skips are a table of these bytes, and else MDS_BAD_SKIPS. Ask once for a page: it goes through the
  * whole table and all that it leaves out, and no other call does. What others tell over a table that is refused means
- * nothing; but they are safe and end, and what is said of `end`, of room and of what is written holds. */
+ * nothing; but they are safe and end, and what is said of `end`, of room and of what is written holds.
+ *
+ *     struct mds_skip skips[] = {{0, 2}, {4, 2}};
+ *     mds_check_skips("> a\n> b", 7, skips, 2) == MDS_OK
+ */
 uint32_t mds_check_skips(const void *bytes, size_t length, const struct mds_skip *skips, size_t skip_count);
 
 /* ---- HTML ---- */
 
 /* Whether an HTML block that one of the names of start condition 6 opens begins here; the bytes are those behind the
- * `<`. (4.6) */
+ * `<`. (4.6)
+ *
+ *     mds_starts_html_block_type_6("div>", 4)
+ */
 bool mds_starts_html_block_type_6(const void *bytes, size_t length);
 
 /* The length of the open or closing tag at the front that stands alone in its line, whatever its name; or MDS_NONE.
- * (4.6, start condition 7) */
+ * (4.6, start condition 7)
+ *
+ *     mds_scan_html_type_7("<b> \n", 5) == 3
+ */
 size_t mds_scan_html_type_7(const void *bytes, size_t length);
 
 /* The kinds of HTML blocks, by the numbers of their start and end conditions. (4.6) */
@@ -472,15 +648,26 @@ enum mds_html_kind {
 };
 
 /* The kind of the HTML block that begins at the front, behind the indent of its line: the lowest number of enum
- * mds_html_kind whose start condition is met, or 0. (4.6) */
+ * mds_html_kind whose start condition is met, or 0. (4.6)
+ *
+ *     mds_scan_html_block_start("<!-- a", 6) == MDS_HTML_COMMENT
+ *     mds_scan_html_block_start("<a> b", 5) == 0
+ */
 uint32_t mds_scan_html_block_start(const void *bytes, size_t length);
 
 /* Whether the line at the front ends an HTML block of this kind: MDS_OK or MDS_NOTHING; MDS_BAD_KIND where the number
  * is none of enum mds_html_kind. Of the kinds up to MDS_HTML_CDATA it is the block's last line, and may be its first
- * too; of the others it is a blank line, and no part of the block. (4.6) */
+ * too; of the others it is a blank line, and no part of the block. (4.6)
+ *
+ *     mds_ends_html_block("a -->", 5, MDS_HTML_COMMENT) == MDS_OK
+ *     mds_ends_html_block("a -->", 5, MDS_HTML_BLOCK_NAME) == MDS_NOTHING
+ */
 uint32_t mds_ends_html_block(const void *bytes, size_t length, uint32_t kind);
 
-/* The length of the open or closing tag at the front, which holds no line ending; or MDS_NONE. (6.6) */
+/* The length of the open or closing tag at the front, which holds no line ending; or MDS_NONE. (6.6)
+ *
+ *     mds_scan_html_tag("<b c='d'> e", 11) == 9
+ */
 size_t mds_scan_html_tag(const void *bytes, size_t length);
 
 /* A tag, where the status is MDS_OK; where it is MDS_TOO_SHORT the buffer is as it was, and `end` and `length` are told
@@ -495,7 +682,13 @@ struct mds_tag {
  * tag holds at most one line ending. Where bytes inside it are left out its text, without them, is written, and memory is
  * asked for: MDS_NO_MEMORY. Else its text is what stands from `start` to `end`, and no memory is asked for. `end` is the
  * length of the bytes at most, and `length` is `end - start` at most, so a buffer as long as the bytes is always enough.
- * (6.6) */
+ * (6.6)
+ *
+ *     struct mds_skip skips[] = {{5, 2}};
+ *     uint8_t buffer[11];
+ *     struct mds_tag tag = mds_scan_html_tag_over_lines("<foo\n> bar>", 11, 0, skips, 1, buffer, 11);
+ *     tag.end == 11 && tag.length == 9 && memcmp(buffer, "<foo\nbar>", 9) == 0
+ */
 struct mds_tag mds_scan_html_tag_over_lines(
     const void *bytes, size_t length, size_t start, const struct mds_skip *skips, size_t skip_count, uint8_t *buffer,
     size_t capacity);
@@ -516,7 +709,11 @@ struct mds_end {
 /* The end of the comment, CDATA section, declaration or processing instruction whose `<!` or `<?` ends at `place`,
  * under a guard. A guard that is all 0, or that calls with the same bytes at lower places have left, each at or behind
  * the end that was found before it, misses nothing. k such calls for n bytes pass over 4n + 8k bytes at most, whatever
- * the bytes, and each n + 8 at most. MDS_NO_OPENER leaves the guard as it was. (6.6) */
+ * the bytes, and each n + 8 at most. MDS_NO_OPENER leaves the guard as it was. (6.6)
+ *
+ *     struct mds_html_guard guard = {0, 0, 0, 0};
+ *     mds_scan_inline_html("a <!-- b --> c", 14, 4, &guard).end == 12
+ */
 struct mds_end mds_scan_inline_html(const void *bytes, size_t length, size_t place, struct mds_html_guard *guard);
 
 /* What a run found. `count` is at how many places it scanned before it stopped, or 0 where memory was refused. */
@@ -531,7 +728,12 @@ struct mds_html_run {
  * MDS_NOT_RISING, or MDS_INSIDE_FIND where it is below the last end; else the status is MDS_OK. In all these cases
  * the ends stand at the front of `ends`; where it has no room for them, for which as many as there are places is
  * enough, nothing is written, and the status is MDS_TOO_SHORT. Memory is asked for where the first place is not
- * refused, some for each place: MDS_NO_MEMORY. (6.6) */
+ * refused, some for each place: MDS_NO_MEMORY. (6.6)
+ *
+ *     size_t places[] = {2, 7, 10}, ends[3];
+ *     mds_run_inline_html("<!a> <? <!-- b -->", 18, places, 3, ends, 3).count == 3
+ *     ends[0] == 4 && ends[1] == MDS_NONE && ends[2] == 18
+ */
 struct mds_html_run mds_run_inline_html(
     const void *bytes, size_t length, const size_t *places, size_t place_count, size_t *ends, size_t capacity);
 
@@ -539,17 +741,28 @@ struct mds_html_run mds_run_inline_html(
 
 /* What the character reference at the front stands for: a decimal or hexadecimal one, or one of the 2,125 entities of
  * HTML whose names end in `;`, in the case in which HTML writes them. The first byte is taken for its `&`, whatever it
- * is. 6 bytes are room enough. Others are MDS_NOTHING. MDS_EMPTY where there are no bytes. (2.5) */
+ * is. 6 bytes are room enough. Others are MDS_NOTHING. MDS_EMPTY where there are no bytes. (2.5)
+ *
+ *     uint8_t buffer[6];
+ *     struct mds_text text = mds_scan_entity("&auml;b", 7, buffer, 6);
+ *     text.taken == 6 && text.length == 2 && memcmp(buffer, "\xc3\xa4", 2) == 0
+ */
 struct mds_text mds_scan_entity(const void *bytes, size_t length, uint8_t *buffer, size_t capacity);
 
 /* The text with its backslash escapes and the character references of mds_scan_entity resolved; CR are left out. In a
  * cell of a table (`in_table`) two backslashes and a pipe stand for the pipe, where the first of them is not itself
  * escaped: both `\\|` and `\|` give `|`, and `\\\|` gives `\|`. `length + length / 5` bytes are room enough, as
  * `&nGt;` stands for 6. MDS_NOT_UTF8. Memory is asked for where the text changes, as much as it then has:
- * MDS_NO_MEMORY. (2.4, 2.5) */
+ * MDS_NO_MEMORY. (2.4, 2.5)
+ *
+ *     uint8_t buffer[14];
+ *     mds_unescape("a\\*b &amp; c", 12, false, buffer, 14).length == 7 && memcmp(buffer, "a*b & c", 7) == 0
+ */
 struct mds_text mds_unescape(const void *text, size_t length, bool in_table, uint8_t *buffer, size_t capacity);
 
-/* A label's text for the caller's buffer, as of struct mds_text, with MDS_NOTHING and MDS_PAST_END as of a tag. */
+/* A label's text for the caller's buffer, as of struct mds_text, with MDS_NOTHING and MDS_PAST_END as of a tag. Where
+ * the text stands in the input as it is and the buffer has no room at all, as null and 0, nothing has to be written, and
+ * the status is MDS_OK. */
 struct mds_label {
     uint32_t status;
     size_t end;    /* the place behind the closing bracket */
@@ -563,18 +776,29 @@ struct mds_label {
  * `end` is the length of the bytes at most, and `length` is `end - start` at most, so a buffer as long as the bytes is
  * always enough. Memory is asked for where `start` is MDS_NONE: MDS_NO_MEMORY. It reads, beside what is left out, no byte
  * behind the first bracket that no backslash escapes, and at most 1,001 that begin a character, as those from 0x80 to
- * 0xBF do not: a label's content has 999 at most. (6.3) */
+ * 0xBF do not: a label's content has 999 at most. (6.3)
+ *
+ *     struct mds_label label = mds_scan_link_label("[a b]: /c", 9, 1, false, NULL, 0, NULL, 0);
+ *     label.status == MDS_OK && label.end == 5 && label.start == 1 && label.length == 3
+ */
 struct mds_label mds_scan_link_label(
     const void *bytes, size_t length, size_t start, bool in_table, const struct mds_skip *skips, size_t skip_count,
     uint8_t *buffer, size_t capacity);
 
 /* Whether two labels, as mds_scan_link_label writes them, match, so that the one refers to what the other defines:
- * MDS_OK or MDS_NOTHING. They do where their full case foldings are equal. MDS_NOT_UTF8. (6.3) */
+ * MDS_OK or MDS_NOTHING. They do where their full case foldings are equal. MDS_NOT_UTF8. (6.3)
+ *
+ *     mds_labels_match("Foo", 3, "FOO", 3) == MDS_OK
+ */
 uint32_t mds_labels_match(const void *one, size_t one_length, const void *other, size_t other_length);
 
 /* The key of a label, its full case folding: two labels match exactly where their keys are the same bytes, so a table
  * of definitions may be one of keys. `taken` is the label's length. A buffer of three times the label is always enough.
- * MDS_NOT_UTF8. Memory is asked for where a byte is no ASCII: MDS_NO_MEMORY. (6.3) */
+ * MDS_NOT_UTF8. Memory is asked for where a byte is no ASCII: MDS_NO_MEMORY. (6.3)
+ *
+ *     uint8_t key[9];
+ *     mds_label_key("Foo", 3, key, 9).length == 3 && memcmp(key, "foo", 3) == 0
+ */
 struct mds_text mds_label_key(const void *text, size_t length, uint8_t *buffer, size_t capacity);
 
 #ifdef __cplusplus

@@ -221,7 +221,8 @@ static void asking(void) {
 static void sparing(void) {
     ASKS_NOT(mds_unescape(OF("plain"), false, NULL, 0).status, MDS_TOO_SHORT);
     ASKS_NOT(mds_unescape(OF("\xff"), false, NULL, 0).status, MDS_NOT_UTF8);
-    ASKS_NOT(mds_scan_link_label(OF("a b]"), 0, false, NULL, 0, NULL, 0).status, MDS_TOO_SHORT);
+    ASKS_NOT(mds_scan_link_label(OF("a b]"), 0, false, NULL, 0, NULL, 0).status, MDS_OK);
+    ASKS_NOT(mds_scan_link_label(OF("a b]"), 0, false, NULL, 0, writable(BUFFER, 2), 2).status, MDS_TOO_SHORT);
     ASKS_NOT(mds_scan_link_label(OF("a  b"), 0, false, NULL, 0, NULL, 0).status, MDS_NOTHING);
     ASKS_NOT(mds_scan_link_label(OF("a  \xff]"), 0, false, NULL, 0, NULL, 0).status, MDS_NOTHING);
     ASKS_NOT(mds_scan_link_label(OF("a  b]"), 6, false, NULL, 0, NULL, 0).status, MDS_PAST_END);
@@ -247,6 +248,7 @@ static void others_on_lines(void) {
     ASKS_NOT(mds_is_whitespace_in_line(' '), true);
     ASKS_NOT(mds_is_punctuation('!'), true);
     ASKS_NOT(mds_is_utf8(OF("\xc3\xa9")), true);
+    ASKS_NOT(mds_version(), MDS_VERSION);
     ASKS_NOT(mds_scan_ch(OF("#x"), '#'), 1);
     ASKS_NOT(mds_scan_ch_repeat(OF("##x"), '#'), 2);
     ASKS_NOT(mds_scan_while(OF("aab"), OTHER("a")), 2);

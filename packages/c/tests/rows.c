@@ -18,6 +18,14 @@ static void status_names(void) {
     SAME(strcmp(mds_status_name(UINT32_MAX), "unknown"), 0);
 }
 
+/* The library is of the header's version. */
+static void version(void) {
+    same(__LINE__, "mds_version()", mds_version(), MDS_VERSION);
+    same(__LINE__, "major", MDS_VERSION >> 16, MDS_VERSION_MAJOR);
+    same(__LINE__, "minor", MDS_VERSION >> 8 & 255, MDS_VERSION_MINOR);
+    same(__LINE__, "patch", MDS_VERSION & 255, MDS_VERSION_PATCH);
+}
+
 static void byte_classes(void) {
     for (int byte = 0; byte < 256; byte++) {
         bool in_line = byte == ' ' || byte == '\t' || byte == '\v' || byte == '\f';
@@ -291,16 +299,18 @@ static struct mds_text unescape_cell(const void *bytes, size_t length, uint8_t *
     return mds_unescape(bytes, length, true, buffer, capacity);
 }
 
-static struct mds_text of_label(struct mds_label found) {
-    return (struct mds_text){found.status, found.end, found.length};
+/* A label as a text. One that stands in the input needs no buffer, which skips.c checks; of a text the length is asked for so. */
+static struct mds_text of_label(struct mds_label found, size_t capacity) {
+    bool stands = capacity == 0 && found.status == MDS_OK && found.start != MDS_NONE;
+    return (struct mds_text){stands ? MDS_TOO_SHORT : found.status, found.end, found.length};
 }
 
 static struct mds_text label(const void *bytes, size_t length, uint8_t *buffer, size_t capacity) {
-    return of_label(mds_scan_link_label(bytes, length, 0, false, NULL, 0, buffer, capacity));
+    return of_label(mds_scan_link_label(bytes, length, 0, false, NULL, 0, buffer, capacity), capacity);
 }
 
 static struct mds_text label_in_cell(const void *bytes, size_t length, uint8_t *buffer, size_t capacity) {
-    return of_label(mds_scan_link_label(bytes, length, 0, true, NULL, 0, buffer, capacity));
+    return of_label(mds_scan_link_label(bytes, length, 0, true, NULL, 0, buffer, capacity), capacity);
 }
 
 static void references(void) {
@@ -499,6 +509,7 @@ static void scanners(void) {
 
 int main(void) {
     status_names();
+    version();
     byte_classes();
     scanners();
     at_front = true;

@@ -1,6 +1,7 @@
 """The structs, functions and numbers of markdown_scanners.h, as packages/c/bindings has written them."""
 from ctypes import POINTER, Structure, c_void_p, c_bool, c_size_t, c_uint32, c_uint64, c_uint8
 
+VERSION = 0x000100
 NONE = c_size_t(-1).value
 
 OK = 0

@@ -34,6 +34,19 @@ impl Skip {
     }
 }
 
+/// Ends the process, as it begins or loads the library, where that is of another version than the crate's, or an earlier one.
+extern "C" fn check_version() {
+    // SAFETY: it is given nothing.
+    let told = unsafe { ffi::mds_version() };
+    let fits = told >= ffi::VERSION && told >> 16 == ffi::VERSION >> 16;
+    assert!(fits, "markdown-scanners is of version {:#08x}, and its library of {told:#08x}", ffi::VERSION);
+}
+
+/// A shared library may be another one where a program is run than where it was linked.
+#[used]
+#[link_section = ".init_array"]
+static CHECKS_VERSION: extern "C" fn() = check_version;
+
 #[inline]
 fn front(bytes: &[u8]) -> *const c_void {
     bytes.as_ptr().cast()

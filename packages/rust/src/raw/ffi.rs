@@ -2,6 +2,7 @@
 
 use core::ffi::c_void;
 
+pub const VERSION: u32 = 0x000100;
 pub const NONE: usize = usize::MAX;
 
 pub const OK: u32 = 0;
@@ -213,6 +214,7 @@ pub struct Label {
 }
 
 extern "C" {
+    pub fn mds_version() -> u32;
     pub fn mds_is_whitespace(byte: u8) -> bool;
     pub fn mds_is_whitespace_in_line(byte: u8) -> bool;
     pub fn mds_is_punctuation(byte: u8) -> bool;

@@ -1,16 +1,14 @@
 -- The handler leaves out what a search in the table tells, and nothing else.
-use Rattle.std.proofs.Common.{◌≡◌, ◌∙◌, sym, subst, refl, ap, inl, inr, rules, of_calls, arith, length, drop}
+use Rattle.std.proofs.Common.{◌∙◌, sym, refl, ap, inl, inr, rules, of_calls, arith, length, drop}
 use Rattle.std.proofs.lemmas.Bool.{false≢true}
 use Rattle.std.proofs.lemmas.List.{take_rest, length-drop}
-use Rattle.markdown_values.specs.strings.Text.{cow_text, is_borrowed}
+use Rattle.markdown_values.specs.strings.Text.{is_borrowed}
 use Rattle.markdown_scanners_tree.specs.linklabel.Answer.{answered_label}
 use Rattle.markdown_scanners_tree.specs.linklabel.Label.{IsLabel}
 use Rattle.markdown_scanners_tree.proofs.ForCallers.{label_of_more}
-use Rattle.markdown_scanners_c.specs.Buffer.{IsWritten}
 use Rattle.markdown_scanners_c.specs.Labels.{IsLabelText, IsStart}
 use Rattle.markdown_scanners_c.specs.private.LabelText.{told_ascii, ToldAscii}
-use Rattle.markdown_scanners_c.proofs.Buffers.{front_changed, no_refused_place}
-use Rattle.markdown_scanners_c.proofs.LabelLemmas.{started, told_front, label_of_told, label_as_told}
+use Rattle.markdown_scanners_c.proofs.LabelLemmas.{given_length, label_changed, no_refused_label, started, told_front, label_of_told, label_as_told}
 use Rattle.markdown_scanners_c.proofs.labels.label_at.Goals as goal
 
 pub returns-in-Ok-Some : goal.returns-in-Ok-Some
@@ -33,21 +31,20 @@ returns-in-Ok-Some c =
     let starts : IsStart bytes label c.start_of-place.result =
     started bytes start c.requires.within label c.in-Ok-Some.taken c.start_of-place.result (is_borrowed c.in-Ok-Some.label) refl
     place slice in
-    let w = c.write_text-status in
-    let text : c.as_bytes.result.now ≡ cow_text c.in-Ok-Some.label = c.as_bytes.ensures.value ∙ c.as_str.ensures in
-    let written = subst (λ t. IsWritten t c.args.buffer.now w.new.buffer w.result.status w.result.length) text w.ensures.written in
+    let w = c.write_label-status in
+    let given = w.ensures.written in
     record {
       label = λ behind stand ascii. inr (inr (
         label,
         (label_of_told skips bytes behind stand ascii start t label told, found.1),
         omega (arith, w.ensures.taken),
         starts,
-        written,
+        given,
       ));
-      there = no_refused_place _ _ _ _ _ written;
+      there = no_refused_label _ _ _ _ _ _ given;
       within = omega (arith, within, w.ensures.taken, ap length source, length-drop start bytes, c.requires.within);
-      room = omega (arith, w.ensures.taken, written.0, room);
-      kept = front_changed _ _ _ _ _ written;
+      room = omega (arith, w.ensures.taken, given_length _ _ _ _ _ _ given, room);
+      kept = label_changed _ _ _ _ _ _ given;
     }
 
 pub returns-in-Ok-None-clause-label : goal.returns-in-Ok-None-clause-label

@@ -1,0 +1,15 @@
+-- The version of the library, as C is told.
+use Rattle.std.specs.Prelude.{ℕ, ◌+◌, ◌*◌}
+
+abbrev major : ℕ
+major = 0
+
+abbrev minor : ℕ
+minor = 1
+
+abbrev patch : ℕ
+patch = 0
+
+-- the three numbers as one: each but the first has eight bits
+abbrev pub version : ℕ
+version = 65536 * major + 256 * minor + patch
