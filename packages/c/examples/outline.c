@@ -1,6 +1,5 @@
 /* Prints the outline of a Markdown file. cc -Ipackages/c/include packages/c/examples/outline.c out/libmarkdown_scanners.a -o outline */
 #include "markdown_scanners.h"
-#include <ctype.h>
 #include <errno.h>
 #include <stdio.h>
 #include <stdlib.h>
@@ -11,8 +10,7 @@ static const char help[] =
     "Prints the outline of a Markdown file, or of standard input: a line for each ATX and setext heading, for each\n"
     "link reference definition with its normalised label, and for each full reference, as [text][label], whose label\n"
     "no definition has, those in block quotes and lists too. Each line begins with the number of a line of the file.\n\n"
-    "It is no full CommonMark parser: an HTML block of `<script>`, `<pre>`, `<style>` or `<textarea>` ends at a blank\n"
-    "line, as of other tags; and all brackets before a label make a full reference, those with a link in them too.\n"
+    "It is no full CommonMark parser: all brackets before a label make a full reference, those with a link in them too.\n"
     "The status is 0; 1 where a label has no definition; 2 where the outline can't be had.\n";
 
 struct text {
@@ -40,8 +38,14 @@ struct reader {
     size_t blank_end;         /* where the innermost item has only a marker, the line that ends it if that is blank */
     uint8_t *paragraph;       /* the lines of the open paragraph, without markers and indent, each with LF */
     size_t length, begun_at;  /* how many bytes it has, and the number of its first line */
-    struct mds_fence fence; /* of the open code block; its length is MDS_NONE where there is none */
-    const char *html;       /* what ends the open HTML block, "" for a blank line; null where there is none */
+    struct mds_fence fence;   /* of the open code block; its length is MDS_NONE where there is none */
+    uint32_t html;            /* the kind of the open HTML block, or 0 */
+};
+
+/* What is known of one text: which HTML it has not, and where runs of backticks are the last of their length, or null. */
+struct known {
+    struct mds_html_guard guard;
+    size_t *runs;
 };
 
 static void fail(const char *what, const char *why) {
@@ -130,26 +134,50 @@ static size_t define(struct reader *reader, struct text text) {
     return part.end + end;
 }
 
-/* How many bytes the code span at the front takes, or its backticks where nothing closes it. (6.1) */
-static size_t code_length(struct text text) {
-    size_t run = 0, count = 0, end;
-    while (begins_with(rest_of(text, run), "`"))
-        run++;
-    for (end = run; end < text.length && (count != run || text.bytes[end] == '`'); end++)
-        count = text.bytes[end] == '`' ? count + 1 : 0;
-    return count == run ? end : run;
+static size_t run_length(struct text text, size_t place) {
+    return mds_scan_ch_repeat(text.bytes + place, text.length - place, '`');
+}
+
+/* Of each length the place of the last run of so many backticks, 0 where there is none. */
+static size_t *last_runs(struct text text) {
+    size_t longest = 0, run, *last;
+    for (size_t place = 0; place < text.length; place += run + 1) {
+        run = run_length(text, place);
+        longest = run > longest ? run : longest;
+    }
+    last = memset(grown(NULL, (longest + 1) * sizeof(*last)), 0, (longest + 1) * sizeof(*last));
+    for (size_t place = 0; place < text.length; place += run + 1) {
+        run = run_length(text, place);
+        last[run] = place;
+    }
+    return last;
+}
+
+/* How many bytes the code span at the place takes, or its backticks where nothing closes it. That is known before a closing
+ * run is looked for, so no part of a text is searched twice, whatever the lengths of its runs. (6.1) */
+static size_t code_length(struct text text, size_t place, struct known *known) {
+    size_t run = run_length(text, place), end = place + run, count = 0;
+    if (!known->runs)
+        known->runs = last_runs(text);
+    if (known->runs[run] <= place)
+        return run;
+    while (count != run) {
+        end += count + 1;
+        count = run_length(text, end);
+    }
+    return end + run - place;
 }
 
 /* How many bytes the escape, code span, autolink or HTML at the place takes; else 1. (2.4, 6.1, 6.5, 6.6) */
-static size_t inline_length(struct text text, size_t place, struct mds_html_guard *guard) {
+static size_t inline_length(struct text text, size_t place, struct known *known) {
     struct text rest = rest_of(text, place);
     if (begins_with(rest, "\\"))
         return rest.length > 1 && mds_is_punctuation(rest.bytes[1]) ? 2 : 1;
     if (!begins_with(rest, "<"))
-        return begins_with(rest, "`") ? code_length(rest) : 1;
+        return begins_with(rest, "`") ? code_length(text, place, known) : 1;
     struct mds_part uri = mds_scan_autolink(text.bytes, text.length, place + 1);
     struct mds_tag tag = mds_scan_html_tag_over_lines(text.bytes, text.length, place, NULL, 0, NULL, 0);
-    struct mds_end html = mds_scan_inline_html(text.bytes, text.length, place + 2, guard);
+    struct mds_end html = mds_scan_inline_html(text.bytes, text.length, place + 2, &known->guard);
     size_t other = html.status == MDS_OK ? html.end - place : 1;
     return uri.status == MDS_OK ? uri.end - place : tag.status == MDS_OK ? tag.end - place : other;
 }
@@ -166,18 +194,19 @@ static void read_text(struct reader *reader, size_t line, uint32_t level, struct
         printf("%zu: %s", line, &"###### "[6 - level]);
         write_text(text, "\n");
     }
-    struct mds_html_guard guard = {0, 0, 0, 0};
+    struct known known = {0};
     for (size_t place = 0, taken, depth = 0; place < text.length; place += taken) {
         struct entry entry = {.line = line};
         bool closes = text.bytes[place] == ']' && depth > 0;
         size_t end = closes ? read_label(text, place + 1, &entry) : 0;
         if (end > 0)
             add(&reader->references, entry);
-        taken = end > 0 ? end - place : inline_length(text, place, &guard);
+        taken = end > 0 ? end - place : inline_length(text, place, &known);
         depth = depth + (text.bytes[place] == '[') - closes;
         for (size_t i = place; i < place + taken; i++)
             line += text.bytes[i] == '\n';
     }
+    free(known.runs);
 }
 
 /* Ends the paragraph, or heading of this level, and answers whether it is more than definitions. (4.3, 4.7) */
@@ -198,7 +227,7 @@ static void close_beyond(struct reader *reader, size_t depth) {
     reader->begun_at = reader->number;
     reader->depth = depth;
     reader->fence.length = MDS_NONE;
-    reader->html = NULL;
+    reader->html = 0;
 }
 
 static struct text rest_of_line(const struct reader *reader) {
@@ -255,22 +284,17 @@ static struct text atx_text(struct text line, uint32_t level) {
     return front.length == 0 || mds_is_whitespace_in_line(front.bytes[front.length - 1]) ? trimmed(front) : text;
 }
 
-/* What ends the HTML block that begins at the front, "" for a blank line; null where none begins. (4.6) */
-static const char *html_end(struct text text, bool in_paragraph) {
-    bool declares = begins_with(text, "<!") && text.length > 2 && isalpha(text.bytes[2]);
-    bool named = begins_with(text, "<") && mds_starts_html_block_type_6(text.bytes + 1, text.length - 1);
-    bool alone = !in_paragraph && mds_scan_html_type_7(text.bytes, text.length) != MDS_NONE;
-    const char *marked = begins_with(text, "<!--") ? "-->" : begins_with(text, "<?") ? "?>" : declares ? ">" : NULL;
-    return begins_with(text, "<![CDATA[") ? "]]>" : marked ? marked : named || alone ? "" : NULL;
+/* The kind of the HTML block that begins at the front, or 0. (4.6) */
+static uint32_t html_kind(struct text text, bool in_paragraph) {
+    uint32_t kind = mds_scan_html_block_start(text.bytes, text.length);
+    return kind == MDS_HTML_TAG_ALONE && in_paragraph ? 0 : kind;
 }
 
 /* A line of the open HTML block, which it may end. */
 static void read_html(struct reader *reader) {
     struct text rest = rest_of_line(reader);
-    bool ends = *reader->html == '\0' && is_blank(reader);
-    for (; *reader->html != '\0' && !ends && rest.length > 0; rest = rest_of(rest, 1))
-        ends = begins_with(rest, reader->html);
-    reader->html = ends ? NULL : reader->html;
+    if (mds_ends_html_block(rest.bytes, rest.length, reader->html) == MDS_OK)
+        reader->html = 0;
 }
 
 /* Whether the rest of a line makes a heading, is a thematic break, or begins code or HTML. (4.1 to 4.3, 4.5, 4.6) */
@@ -278,7 +302,7 @@ static bool read_block(struct reader *reader, struct text rest, size_t depth) {
     uint32_t level = mds_scan_atx_heading(rest.bytes, rest.length);
     struct mds_underline underline = mds_scan_setext_heading(rest.bytes, rest.length);
     struct mds_fence fence = mds_scan_code_fence(rest.bytes, rest.length);
-    const char *html = html_end(rest, reader->length > 0);
+    uint32_t html = html_kind(rest, reader->length > 0);
     bool underlines = underline.length != MDS_NONE && reader->length > 0 && depth == reader->depth;
     if (underlines && end_paragraph(reader, underline.level))
         return true;
