@@ -1,6 +1,5 @@
-//! Finds the library: in the folder that `MARKDOWN_SCANNERS_LIB_DIR` names, else by pkg-config. The shared library is linked
-//! where it is there under the name that linkers look for; the archive where it is not, or where `MARKDOWN_SCANNERS_STATIC`
-//! is 1.
+//! Finds the library: in the folder that `MARKDOWN_SCANNERS_LIB_DIR` names, else by pkg-config. The archive is linked where it is
+//! there; the shared library where it is not, or where `MARKDOWN_SCANNERS_STATIC` is 0.
 
 use std::env;
 use std::path::PathBuf;
@@ -22,8 +21,8 @@ fn main() {
     let folder = folder.canonicalize().unwrap_or_else(|why| panic!("{}: {why}", folder.display()));
     let archive = folder.join("libmarkdown_scanners.a");
     let shared = folder.join("libmarkdown_scanners.so");
-    let is_static = env::var("MARKDOWN_SCANNERS_STATIC").is_ok_and(|it| it == "1");
-    let (kind, file) = if is_static || !shared.exists() { ("static", archive) } else { ("dylib", shared) };
+    let wants_shared = env::var("MARKDOWN_SCANNERS_STATIC").is_ok_and(|it| it == "0");
+    let (kind, file) = if wants_shared || !archive.exists() { ("dylib", shared) } else { ("static", archive) };
     assert!(file.exists(), "there is no {}", file.display());
     println!("cargo:rerun-if-changed={}", file.display());
     println!("cargo:rustc-link-search=native={}", folder.display());

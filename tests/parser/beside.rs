@@ -12,6 +12,8 @@ mod swapped;
 pub(crate) use crate::puncttable::is_punctuation;
 pub(crate) use before::scan_email;
 
+pub(crate) use swapped::HtmlScanGuard as SwappedGuard;
+
 use crate::parse::HtmlScanGuard;
 use crate::strings::CowStr;
 use crate::{Alignment, HeadingLevel, LinkType};
@@ -143,12 +145,20 @@ fn opened(bytes: &[u8], ix: usize) -> &[u8] {
     &bytes[ix.saturating_sub(2)..]
 }
 
-pub(crate) fn scan_inline_html_comment(bytes: &[u8], ix: usize, guard: &mut HtmlScanGuard) -> Option<usize> {
+pub(crate) fn scan_inline_html_comment<'input>(
+    bytes: &'input [u8],
+    ix: usize,
+    guard: &mut HtmlScanGuard<'input>,
+) -> Option<usize> {
     let swapped = swapped::scan_inline_html_comment(bytes, ix, &mut guard.swapped);
     compared("scan_inline_html_comment", opened(bytes, ix), before::scan_inline_html_comment(bytes, ix, guard), swapped)
 }
 
-pub(crate) fn scan_inline_html_processing(bytes: &[u8], ix: usize, guard: &mut HtmlScanGuard) -> Option<usize> {
+pub(crate) fn scan_inline_html_processing<'input>(
+    bytes: &'input [u8],
+    ix: usize,
+    guard: &mut HtmlScanGuard<'input>,
+) -> Option<usize> {
     let swapped = swapped::scan_inline_html_processing(bytes, ix, &mut guard.swapped);
     compared(
         "scan_inline_html_processing",

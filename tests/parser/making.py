@@ -19,9 +19,15 @@ KEPT = {
     "is_ascii_alphanumeric": "called by scan_email alone",
     "is_punctuation": "Unicode punctuation is none of the library's",
 }
+# The guard of inline HTML holds its text, which lives as long as the page.
+GUARDS = [
+    (r"html_scan_guard: HtmlScanGuard,\n", "html_scan_guard: HtmlScanGuard<'input>,\n"),
+    (r"fn scan_inline_html\(&mut self, bytes: &\[u8\]", "fn scan_inline_html(&mut self, bytes: &'input [u8]"),
+]
 # What is swapped in place, or by a name of ours.
 PASSES = {
     "parse.rs": [
+        *GUARDS,
         (r"(?m)^(?:(?://|#\[).*\n)*pub\(crate\) struct HtmlScanGuard\b[\s\S]*?^}\n", "pub(crate) use crate::scanners::HtmlScanGuard;\n"),
         (r"use unicase::UniCase;", "use crate::scanners::UniCase;"),
     ],
@@ -165,7 +171,9 @@ def make_beside(room, ours):
         text = replaced(text, r"use unicase::UniCase;", "use crate::scanners::UniCase;", file)
         if file == "parse.rs":
             text = replaced(text, r"pub declaration: usize,\n", "pub declaration: usize,\n    pub swapped: "
-                            "markdown_scanners::HtmlScanGuard,\n", file)
+                            "crate::scanners::SwappedGuard<'input>,\n", file)
+            for pattern, by in [*GUARDS, (r"struct HtmlScanGuard \{", "struct HtmlScanGuard<'input> {")]:
+                text = replaced(text, pattern, by, file)
         (source / file).write_text(text)
     with (source / "lib.rs").open("a") as file:
         file.write("\npub use crate::scanners::{take_notes, Note};\n")

@@ -7,12 +7,40 @@ use markdown_scanners::Skip;
 pub(crate) use markdown_scanners::{
     is_ascii_punctuation, is_ascii_whitespace, is_ascii_whitespace_no_nl, scan_blank_line, scan_blockquote_start,
     scan_ch, scan_ch_repeat, scan_closing_code_fence, scan_code_fence, scan_eol, scan_hrule, scan_html_type_7,
-    scan_inline_html_comment, scan_inline_html_processing, scan_link_dest, scan_nextline, scan_whitespace_no_nl,
-    starts_html_block_type_6, HtmlScanGuard,
+    scan_link_dest, scan_nextline, scan_whitespace_no_nl, starts_html_block_type_6,
 };
 
 use crate::strings::CowStr;
 use crate::{Alignment, HeadingLevel, LinkType};
+
+/// The guard of the block that is read last. Each block is a text of its own, up to its end.
+#[derive(Clone, Default)]
+pub(crate) struct HtmlScanGuard<'input>(markdown_scanners::HtmlScanGuard<'input>);
+
+impl<'input> HtmlScanGuard<'input> {
+    fn of(&mut self, text: &'input [u8]) -> &mut markdown_scanners::HtmlScanGuard<'input> {
+        if !std::ptr::eq(self.0.text(), text) {
+            self.0 = markdown_scanners::HtmlScanGuard::new(text);
+        }
+        &mut self.0
+    }
+}
+
+pub(crate) fn scan_inline_html_comment<'input>(
+    bytes: &'input [u8],
+    ix: usize,
+    guard: &mut HtmlScanGuard<'input>,
+) -> Option<usize> {
+    guard.of(bytes).scan_inline_html_comment(ix)
+}
+
+pub(crate) fn scan_inline_html_processing<'input>(
+    bytes: &'input [u8],
+    ix: usize,
+    guard: &mut HtmlScanGuard<'input>,
+) -> Option<usize> {
+    guard.of(bytes).scan_inline_html_processing(ix)
+}
 
 /// The start of a line. In the version of these passes its calls take the spaces before a marker themselves, so they are made
 /// where the next byte is a space or may begin one; and where it begins one and no column is pending, the marker is asked for at

@@ -3,8 +3,11 @@
 //! A call of the library takes longer than a look at one byte. So where the first byte tells the answer, it is told here; a build
 //! with debug assertions compares it with the library's.
 
+use alloc::vec;
+use alloc::vec::Vec;
+
 use crate::raw::{self, ffi};
-use crate::values::{found, Alignment, HeadingLevel};
+use crate::values::{found, Alignment, HeadingLevel, ListItem};
 
 /// Space, tab, LF, VT, FF or CR. (2.1)
 ///
@@ -12,6 +15,7 @@ use crate::values::{found, Alignment, HeadingLevel};
 /// assert!(markdown_scanners::is_ascii_whitespace(b'\n'));
 /// ```
 #[inline]
+#[must_use]
 pub fn is_ascii_whitespace(byte: u8) -> bool {
     let is = matches!(byte, b' ' | b'\t'..=b'\r');
     debug_assert_eq!(is, raw::is_whitespace(byte));
@@ -24,6 +28,7 @@ pub fn is_ascii_whitespace(byte: u8) -> bool {
 /// assert!(!markdown_scanners::is_ascii_whitespace_no_nl(b'\n'));
 /// ```
 #[inline]
+#[must_use]
 pub fn is_ascii_whitespace_no_nl(byte: u8) -> bool {
     let is = matches!(byte, b' ' | b'\t' | 0x0b | 0x0c);
     debug_assert_eq!(is, raw::is_whitespace_in_line(byte));
@@ -36,6 +41,7 @@ pub fn is_ascii_whitespace_no_nl(byte: u8) -> bool {
 /// assert!(markdown_scanners::is_ascii_punctuation(b'!'));
 /// ```
 #[inline]
+#[must_use]
 pub fn is_ascii_punctuation(byte: u8) -> bool {
     raw::is_punctuation(byte)
 }
@@ -46,6 +52,7 @@ pub fn is_ascii_punctuation(byte: u8) -> bool {
 /// assert_eq!(markdown_scanners::scan_ch(b"#a", b'#'), 1);
 /// ```
 #[inline]
+#[must_use]
 pub fn scan_ch(data: &[u8], byte: u8) -> usize {
     let length = usize::from(data.first() == Some(&byte));
     debug_assert_eq!(length, raw::scan_ch(data, byte));
@@ -58,6 +65,7 @@ pub fn scan_ch(data: &[u8], byte: u8) -> usize {
 /// assert_eq!(markdown_scanners::scan_ch_repeat(b"##a", b'#'), 2);
 /// ```
 #[inline]
+#[must_use]
 pub fn scan_ch_repeat(data: &[u8], byte: u8) -> usize {
     if data.first() != Some(&byte) {
         debug_assert_eq!(0, raw::scan_ch_repeat(data, byte));
@@ -72,6 +80,7 @@ pub fn scan_ch_repeat(data: &[u8], byte: u8) -> usize {
 /// assert_eq!(markdown_scanners::scan_while(b"abca", b"ba"), 2);
 /// ```
 #[inline]
+#[must_use]
 pub fn scan_while(data: &[u8], accepted: &[u8]) -> usize {
     raw::scan_while(data, accepted)
 }
@@ -82,6 +91,7 @@ pub fn scan_while(data: &[u8], accepted: &[u8]) -> usize {
 /// assert_eq!(markdown_scanners::scan_rev_while(b"a \t", b" \t"), 2);
 /// ```
 #[inline]
+#[must_use]
 pub fn scan_rev_while(data: &[u8], accepted: &[u8]) -> usize {
     raw::scan_rev_while(data, accepted)
 }
@@ -92,6 +102,7 @@ pub fn scan_rev_while(data: &[u8], accepted: &[u8]) -> usize {
 /// assert_eq!(markdown_scanners::scan_whitespace_no_nl(b" \t\n"), 2);
 /// ```
 #[inline]
+#[must_use]
 pub fn scan_whitespace_no_nl(data: &[u8]) -> usize {
     raw::scan_whitespace_in_line(data)
 }
@@ -103,6 +114,7 @@ pub fn scan_whitespace_no_nl(data: &[u8]) -> usize {
 /// assert_eq!(markdown_scanners::scan_eol(b"a"), None);
 /// ```
 #[inline]
+#[must_use]
 pub fn scan_eol(bytes: &[u8]) -> Option<usize> {
     let length = match bytes {
         [] => Some(0),
@@ -120,6 +132,7 @@ pub fn scan_eol(bytes: &[u8]) -> Option<usize> {
 /// assert_eq!(markdown_scanners::scan_line(b"a\rb\n"), 2);
 /// ```
 #[inline]
+#[must_use]
 pub fn scan_line(bytes: &[u8]) -> usize {
     raw::scan_line(bytes)
 }
@@ -130,6 +143,7 @@ pub fn scan_line(bytes: &[u8]) -> usize {
 /// assert_eq!(markdown_scanners::scan_nextline(b"a\rb\nc"), 4);
 /// ```
 #[inline]
+#[must_use]
 pub fn scan_nextline(bytes: &[u8]) -> usize {
     raw::scan_nextline(bytes)
 }
@@ -140,6 +154,7 @@ pub fn scan_nextline(bytes: &[u8]) -> usize {
 /// assert_eq!(markdown_scanners::scan_blank_line(b" \t\na"), Some(3));
 /// ```
 #[inline]
+#[must_use]
 pub fn scan_blank_line(bytes: &[u8]) -> Option<usize> {
     if matches!(bytes.first(), Some(b'!'..)) {
         debug_assert_eq!(None, found(raw::scan_blank_line(bytes)));
@@ -154,20 +169,28 @@ pub fn scan_blank_line(bytes: &[u8]) -> Option<usize> {
 /// assert_eq!(markdown_scanners::scan_blockquote_start(b"> a"), Some(2));
 /// ```
 #[inline]
+#[must_use]
 pub fn scan_blockquote_start(data: &[u8]) -> Option<usize> {
     found(raw::scan_blockquote_start(data))
 }
 
-/// The list item that begins at the front: the length of its marker and the space that belongs to it, the delimiter, the
-/// number of an ordered item, and the columns of marker and space. (5.2)
+/// The list item that begins at the front. (5.2)
 ///
 /// ```
-/// assert_eq!(markdown_scanners::scan_listitem(b"10. a"), Some((4, b'.', 10, 4)));
+/// use markdown_scanners::{scan_listitem, ListItem};
+/// let item = ListItem { length: 4, delimiter: b'.', start: 10, indent: 4 };
+/// assert_eq!(scan_listitem(b"10. a"), Some(item));
 /// ```
 #[inline]
-pub fn scan_listitem(bytes: &[u8]) -> Option<(usize, u8, usize, usize)> {
+#[must_use]
+pub fn scan_listitem(bytes: &[u8]) -> Option<ListItem> {
     let item = raw::scan_listitem(bytes);
-    found(item.length).map(|length| (length, item.delimiter, item.start, item.indent))
+    found(item.length).map(|length| ListItem {
+        length,
+        delimiter: item.delimiter,
+        start: item.start,
+        indent: item.indent,
+    })
 }
 
 /// The place of the last byte that was looked at, and the columns of the spaces and tabs at the front, up to a limit. (2.2)
@@ -180,9 +203,10 @@ pub fn scan_listitem(bytes: &[u8]) -> Option<(usize, u8, usize, usize)> {
 /// assert_eq!(markdown_scanners::calc_indent(b"\t x", 8), (2, 5));
 /// ```
 #[inline]
+#[must_use]
 pub fn calc_indent(text: &[u8], max: usize) -> (usize, usize) {
     let indent = raw::calc_indent(text, max);
-    assert_eq!(indent.status, ffi::OK, "the limit is too large: {max}");
+    assert!(indent.status == ffi::OK, "the limit is too large: {max}");
     (indent.place, indent.columns)
 }
 
@@ -205,6 +229,7 @@ pub fn scan_hrule(bytes: &[u8]) -> Result<usize, usize> {
 /// assert_eq!(scan_atx_heading(b"## a"), Some(HeadingLevel::H2));
 /// ```
 #[inline]
+#[must_use]
 pub fn scan_atx_heading(data: &[u8]) -> Option<HeadingLevel> {
     HeadingLevel::of(raw::scan_atx_heading(data))
 }
@@ -216,6 +241,7 @@ pub fn scan_atx_heading(data: &[u8]) -> Option<HeadingLevel> {
 /// assert_eq!(scan_setext_heading(b"---\na"), Some((4, HeadingLevel::H2)));
 /// ```
 #[inline]
+#[must_use]
 pub fn scan_setext_heading(data: &[u8]) -> Option<(usize, HeadingLevel)> {
     let line = raw::scan_setext_heading(data);
     found(line.length).zip(HeadingLevel::of(line.level))
@@ -229,6 +255,7 @@ pub fn scan_setext_heading(data: &[u8]) -> Option<(usize, HeadingLevel)> {
 /// assert_eq!(scan_table_head(b"|-|:-:|\n"), (8, vec![Alignment::None, Alignment::Center]));
 /// ```
 #[inline]
+#[must_use]
 pub fn scan_table_head(data: &[u8]) -> (usize, Vec<Alignment>) {
     let mut room = [0; 64];
     let text = raw::scan_table_head(data, &mut room);
@@ -254,6 +281,7 @@ fn fence(told: ffi::Fence) -> Option<(usize, u8)> {
 /// assert_eq!(markdown_scanners::scan_code_fence(b"~~~~ rust"), Some((4, b'~')));
 /// ```
 #[inline]
+#[must_use]
 pub fn scan_code_fence(data: &[u8]) -> Option<(usize, u8)> {
     fence(raw::scan_code_fence(data))
 }
@@ -265,6 +293,7 @@ pub fn scan_code_fence(data: &[u8]) -> Option<(usize, u8)> {
 /// assert_eq!(markdown_scanners::scan_closing_code_fence(b"```` \n", b'`', 3), Some(5));
 /// ```
 #[inline]
+#[must_use]
 pub fn scan_closing_code_fence(bytes: &[u8], fence: u8, count: usize) -> Option<usize> {
     found(raw::scan_closing_code_fence(bytes, fence, count))
 }
@@ -275,6 +304,7 @@ pub fn scan_closing_code_fence(bytes: &[u8], fence: u8, count: usize) -> Option<
 /// assert_eq!(markdown_scanners::scan_metadata_block(b"---\na: b\n---\n", true, false), Some((3, b'-')));
 /// ```
 #[inline]
+#[must_use]
 pub fn scan_metadata_block(data: &[u8], yaml_style: bool, pluses_style: bool) -> Option<(usize, u8)> {
     fence(raw::scan_metadata_block(data, yaml_style, pluses_style))
 }
@@ -285,6 +315,7 @@ pub fn scan_metadata_block(data: &[u8], yaml_style: bool, pluses_style: bool) ->
 /// assert_eq!(markdown_scanners::scan_closing_metadata_block(b"...\n", b'-'), Some(3));
 /// ```
 #[inline]
+#[must_use]
 pub fn scan_closing_metadata_block(bytes: &[u8], fence: u8) -> Option<usize> {
     found(raw::scan_closing_metadata_block(bytes, fence))
 }
@@ -295,6 +326,7 @@ pub fn scan_closing_metadata_block(bytes: &[u8], fence: u8) -> Option<usize> {
 /// assert!(markdown_scanners::interrupts_paragraph(b"- a"));
 /// assert!(!markdown_scanners::interrupts_paragraph(b"2. a"));
 /// ```
+#[must_use]
 pub fn interrupts_paragraph(line: &[u8]) -> bool {
     raw::interrupts_paragraph(line)
 }

@@ -1,7 +1,10 @@
 //! Parts of inline text, HTML, escapes and labels. Sections in brackets are those of CommonMark 0.31.2.
 
-use std::borrow::Cow;
-use std::ops::Range;
+use alloc::borrow::Cow;
+use alloc::string::String;
+use alloc::vec;
+use alloc::vec::Vec;
+use core::ops::Range;
 
 use crate::raw::{self, ffi, Skip};
 use crate::values::{found, BadSkips, HtmlBlockKind, LinkType};
@@ -48,6 +51,7 @@ fn check_place(data: &str, start: usize) {
 /// assert_eq!(markdown_scanners::scan_wikilink_pipe("[[a|b]]", 2, 3), Some((4, "a")));
 /// ```
 #[inline]
+#[must_use]
 pub fn scan_wikilink_pipe(data: &str, start_ix: usize, len: usize) -> Option<(usize, &str)> {
     check_place(data, start_ix);
     text_part(raw::scan_wikilink_pipe(data.as_bytes(), start_ix, len), data)
@@ -59,6 +63,7 @@ pub fn scan_wikilink_pipe(data: &str, start_ix: usize, len: usize) -> Option<(us
 /// assert_eq!(markdown_scanners::scan_wikilink_pipe_bytes(b"\xff|", 0, 2), Some((2, &b"\xff"[..])));
 /// ```
 #[inline]
+#[must_use]
 pub fn scan_wikilink_pipe_bytes(data: &[u8], start_ix: usize, len: usize) -> Option<(usize, &[u8])> {
     part(raw::scan_wikilink_pipe(data, start_ix, len), data)
 }
@@ -74,6 +79,7 @@ pub fn scan_wikilink_pipe_bytes(data: &[u8], start_ix: usize, len: usize) -> Opt
 /// assert_eq!(markdown_scanners::scan_link_dest("[a](<b c>)", 4, 31), Some((5, "b c")));
 /// ```
 #[inline]
+#[must_use]
 pub fn scan_link_dest(data: &str, start_ix: usize, max_next: usize) -> Option<(usize, &str)> {
     check_place(data, start_ix);
     let told = text_part(raw::scan_link_dest(data.as_bytes(), start_ix, max_next), data);
@@ -86,6 +92,7 @@ pub fn scan_link_dest(data: &str, start_ix: usize, max_next: usize) -> Option<(u
 /// assert_eq!(markdown_scanners::scan_link_dest_bytes(b"\xff )", 0, 31), Some((1, &b"\xff"[..])));
 /// ```
 #[inline]
+#[must_use]
 pub fn scan_link_dest_bytes(data: &[u8], start_ix: usize, max_next: usize) -> Option<(usize, &[u8])> {
     let told = part(raw::scan_link_dest(data, start_ix, max_next), data);
     told.map(|(end, text)| (end - start_ix, text))
@@ -102,6 +109,7 @@ pub fn scan_link_dest_bytes(data: &[u8], start_ix: usize, max_next: usize) -> Op
 /// assert_eq!(markdown_scanners::scan_link_title("[a](/b 'c d')", 7), Some((5, "c d")));
 /// ```
 #[inline]
+#[must_use]
 pub fn scan_link_title(data: &str, start_ix: usize) -> Option<(usize, &str)> {
     check_place(data, start_ix);
     let told = text_part(raw::scan_link_title(data.as_bytes(), start_ix), data);
@@ -114,6 +122,7 @@ pub fn scan_link_title(data: &str, start_ix: usize) -> Option<(usize, &str)> {
 /// assert_eq!(markdown_scanners::scan_link_title_bytes(b"(\xff)", 0), Some((3, &b"\xff"[..])));
 /// ```
 #[inline]
+#[must_use]
 pub fn scan_link_title_bytes(data: &[u8], start_ix: usize) -> Option<(usize, &[u8])> {
     let told = part(raw::scan_link_title(data, start_ix), data);
     told.map(|(end, text)| (end - start_ix, text))
@@ -130,6 +139,7 @@ pub fn scan_link_title_bytes(data: &[u8], start_ix: usize) -> Option<(usize, &[u
 /// assert_eq!(scan_autolink("<https://a.b>", 1), Some((13, "https://a.b".into(), LinkType::Autolink)));
 /// ```
 #[inline]
+#[must_use]
 pub fn scan_autolink(text: &str, start_ix: usize) -> Option<(usize, Cow<'_, str>, LinkType)> {
     check_place(text, start_ix);
     let told = text_part(raw::scan_autolink(text.as_bytes(), start_ix), text);
@@ -142,6 +152,7 @@ pub fn scan_autolink(text: &str, start_ix: usize) -> Option<(usize, Cow<'_, str>
 /// assert_eq!(markdown_scanners::scan_autolink_bytes(b"<ab:\xff>", 1), Some((6, &b"ab:\xff"[..])));
 /// ```
 #[inline]
+#[must_use]
 pub fn scan_autolink_bytes(data: &[u8], start_ix: usize) -> Option<(usize, &[u8])> {
     part(raw::scan_autolink(data, start_ix), data)
 }
@@ -152,6 +163,7 @@ pub fn scan_autolink_bytes(data: &[u8], start_ix: usize) -> Option<(usize, &[u8]
 /// assert!(markdown_scanners::starts_html_block_type_6(b"div>"));
 /// ```
 #[inline]
+#[must_use]
 pub fn starts_html_block_type_6(data: &[u8]) -> bool {
     raw::starts_html_block_type_6(data)
 }
@@ -162,6 +174,7 @@ pub fn starts_html_block_type_6(data: &[u8]) -> bool {
 /// assert_eq!(markdown_scanners::scan_html_type_7(b"<b> \n"), Some(3));
 /// ```
 #[inline]
+#[must_use]
 pub fn scan_html_type_7(data: &[u8]) -> Option<usize> {
     found(raw::scan_html_type_7(data))
 }
@@ -173,6 +186,7 @@ pub fn scan_html_type_7(data: &[u8]) -> Option<usize> {
 /// assert_eq!(scan_html_block_start(b"<!-- a"), Some(HtmlBlockKind::Comment));
 /// assert_eq!(scan_html_block_start(b"<a> b"), None);
 /// ```
+#[must_use]
 pub fn scan_html_block_start(data: &[u8]) -> Option<HtmlBlockKind> {
     HtmlBlockKind::of(raw::scan_html_block_start(data))
 }
@@ -184,6 +198,7 @@ pub fn scan_html_block_start(data: &[u8]) -> Option<HtmlBlockKind> {
 /// assert!(ends_html_block(b"a -->", HtmlBlockKind::Comment));
 /// assert!(!ends_html_block(b"a -->", HtmlBlockKind::BlockName));
 /// ```
+#[must_use]
 pub fn ends_html_block(line: &[u8], kind: HtmlBlockKind) -> bool {
     raw::ends_html_block(line, kind as u32) == ffi::OK
 }
@@ -194,6 +209,7 @@ pub fn ends_html_block(line: &[u8], kind: HtmlBlockKind) -> bool {
 /// assert_eq!(markdown_scanners::scan_html_tag(b"<b c='d'> e"), Some(9));
 /// ```
 #[inline]
+#[must_use]
 pub fn scan_html_tag(data: &[u8]) -> Option<usize> {
     found(raw::scan_html_tag(data))
 }
@@ -251,6 +267,7 @@ impl<'page> Page<'page> {
     /// assert_eq!(page.up_to(3).scan_label(0, false), None);
     /// ```
     #[inline]
+    #[must_use]
     pub fn up_to(self, end: usize) -> Self {
         Page { bytes: &self.bytes[..end], ..self }
     }
@@ -262,6 +279,7 @@ impl<'page> Page<'page> {
     /// assert_eq!(page.scan_tag(2), Some((7, None)));
     /// ```
     #[inline]
+    #[must_use]
     pub fn scan_tag(&self, start: usize) -> Option<(usize, Option<Vec<u8>>)> {
         let mut room = [0; SMALL];
         let tag = raw::scan_html_tag_over_lines(self.bytes, start, self.skips, &mut room);
@@ -286,7 +304,7 @@ impl<'page> Page<'page> {
     #[inline]
     pub fn scan_label(&self, start: usize, is_in_table: bool) -> Option<(usize, Cow<'page, str>)> {
         let (end, text) = label_at(self.bytes, start, self.skips, is_in_table)?;
-        let own = |place| std::str::from_utf8(&self.bytes[place]).expect("a label is UTF-8");
+        let own = |place| core::str::from_utf8(&self.bytes[place]).expect("a label is UTF-8");
         Some((end, text.map_or_else(Cow::Owned, |place| Cow::Borrowed(own(place)))))
     }
 }
@@ -318,53 +336,73 @@ fn label_at(bytes: &[u8], start: usize, skips: &[Skip], is_in_table: bool) -> Op
     Some((label.end, text))
 }
 
-/// What the scans of one text have searched in vain, so that none of them searches it again: k scans of n bytes, at rising
-/// places, each at or behind the end that was found before, pass over at most 4n + 8k bytes.
+/// A text with what scans for inline HTML have searched in it in vain, so that none of them searches it again: k scans of n
+/// bytes, at rising places, each at or behind the end that was found before, pass over at most 4n + 8k bytes.
+///
+/// ```
+/// use markdown_scanners::HtmlScanGuard;
+/// let mut guard = HtmlScanGuard::new(b"<!-- a --> <!-- b <!-- c");
+/// assert_eq!(guard.scan_inline_html_comment(2), Some(10));
+/// assert_eq!(guard.scan_inline_html_comment(13), None);
+/// assert_eq!(guard.scan_inline_html_comment(20), None); // known from the scan before
+/// ```
 #[derive(Clone, Debug, Default, PartialEq, Eq)]
-pub struct HtmlScanGuard(ffi::HtmlGuard);
+pub struct HtmlScanGuard<'text> {
+    text: &'text [u8],
+    numbers: ffi::HtmlGuard,
+}
 
-impl HtmlScanGuard {
+impl<'text> HtmlScanGuard<'text> {
     /// That of a text of which nothing has been searched.
     ///
     /// ```
-    /// use markdown_scanners::{scan_inline_html_comment, HtmlScanGuard};
-    /// let mut guard = HtmlScanGuard::new();
-    /// assert_eq!(scan_inline_html_comment(b"<!-- a", 2, &mut guard), None);
-    /// assert_ne!(guard, HtmlScanGuard::new());
+    /// assert_eq!(markdown_scanners::HtmlScanGuard::new(b"a").text(), b"a");
     /// ```
     #[inline]
-    pub fn new() -> Self {
-        Self::default()
+    #[must_use]
+    pub fn new(text: &'text [u8]) -> Self {
+        HtmlScanGuard { text, numbers: ffi::HtmlGuard::default() }
     }
-}
 
-fn html_end(bytes: &[u8], ix: usize, guard: &mut HtmlScanGuard, opener: u8) -> Option<usize> {
-    let opens = ix.checked_sub(1).and_then(|before| bytes.get(before)) == Some(&opener);
-    let told = opens.then(|| raw::scan_inline_html(bytes, ix, &mut guard.0))?;
-    (told.status == ffi::OK).then_some(told.end)
-}
+    /// The text in which it scans.
+    ///
+    /// ```
+    /// assert_eq!(markdown_scanners::HtmlScanGuard::new(b"<!a>").text().len(), 4);
+    /// ```
+    #[inline]
+    #[must_use]
+    pub fn text(&self) -> &'text [u8] {
+        self.text
+    }
 
-/// The place behind the comment, CDATA section or declaration whose `<!` ends at the place; `None` too where none ends
-/// there. (6.6)
-///
-/// ```
-/// use markdown_scanners::{scan_inline_html_comment, HtmlScanGuard};
-/// assert_eq!(scan_inline_html_comment(b"a <!-- b --> c", 4, &mut HtmlScanGuard::new()), Some(12));
-/// ```
-#[inline]
-pub fn scan_inline_html_comment(bytes: &[u8], ix: usize, guard: &mut HtmlScanGuard) -> Option<usize> {
-    html_end(bytes, ix, guard, b'!')
-}
+    fn end(&mut self, ix: usize, opener: u8) -> Option<usize> {
+        let opens = ix.checked_sub(1).and_then(|before| self.text.get(before)) == Some(&opener);
+        let told = opens.then(|| raw::scan_inline_html(self.text, ix, &mut self.numbers))?;
+        (told.status == ffi::OK).then_some(told.end)
+    }
 
-/// The place behind the processing instruction whose `<?` ends at the place; `None` too where none ends there. (6.6)
-///
-/// ```
-/// use markdown_scanners::{scan_inline_html_processing, HtmlScanGuard};
-/// assert_eq!(scan_inline_html_processing(b"<?a?>", 2, &mut HtmlScanGuard::new()), Some(5));
-/// ```
-#[inline]
-pub fn scan_inline_html_processing(bytes: &[u8], ix: usize, guard: &mut HtmlScanGuard) -> Option<usize> {
-    html_end(bytes, ix, guard, b'?')
+    /// The place behind the comment, CDATA section or declaration whose `<!` ends at the place; `None` too where none ends
+    /// there. (6.6)
+    ///
+    /// ```
+    /// use markdown_scanners::HtmlScanGuard;
+    /// assert_eq!(HtmlScanGuard::new(b"a <!-- b --> c").scan_inline_html_comment(4), Some(12));
+    /// ```
+    #[inline]
+    pub fn scan_inline_html_comment(&mut self, ix: usize) -> Option<usize> {
+        self.end(ix, b'!')
+    }
+
+    /// The place behind the processing instruction whose `<?` ends at the place; `None` too where none ends there. (6.6)
+    ///
+    /// ```
+    /// use markdown_scanners::HtmlScanGuard;
+    /// assert_eq!(HtmlScanGuard::new(b"<?a?>").scan_inline_html_processing(2), Some(5));
+    /// ```
+    #[inline]
+    pub fn scan_inline_html_processing(&mut self, ix: usize) -> Option<usize> {
+        self.end(ix, b'?')
+    }
 }
 
 /// The length of the character reference at the front, and what it stands for; 0 and `None` where there is none. The first
@@ -375,6 +413,7 @@ pub fn scan_inline_html_processing(bytes: &[u8], ix: usize, guard: &mut HtmlScan
 /// assert_eq!(markdown_scanners::scan_entity(b"&a;"), (0, None));
 /// ```
 #[inline]
+#[must_use]
 pub fn scan_entity(bytes: &[u8]) -> (usize, Option<Cow<'static, str>>) {
     let mut room = [0; REFERENCE];
     let text = raw::scan_entity(bytes, &mut room);
@@ -391,6 +430,7 @@ pub fn scan_entity(bytes: &[u8]) -> (usize, Option<Cow<'static, str>>) {
 /// assert_eq!(markdown_scanners::unescape(r"a\*b &amp; c", false), "a*b & c");
 /// ```
 #[inline]
+#[must_use]
 pub fn unescape(input: &str, is_in_table: bool) -> Cow<'_, str> {
     with_room(input.len() + input.len() / 5, |room| {
         let length = raw::unescape(input, is_in_table, room).length;

@@ -1,7 +1,9 @@
 //! Labels by which references find their definitions. Sections in brackets are those of CommonMark 0.31.2.
 
-use std::borrow::Cow;
-use std::hash::{Hash, Hasher};
+use alloc::borrow::Cow;
+use alloc::string::String;
+use alloc::vec::Vec;
+use core::hash::{Hash, Hasher};
 
 use crate::inline::{string, with_room};
 use crate::raw;
@@ -12,6 +14,7 @@ use crate::raw;
 /// assert!(markdown_scanners::labels_match("ẞ", "SS"));
 /// ```
 #[inline]
+#[must_use]
 pub fn labels_match(one: &str, other: &str) -> bool {
     raw::labels_match(one, other)
 }
@@ -22,6 +25,7 @@ pub fn labels_match(one: &str, other: &str) -> bool {
 /// assert_eq!(markdown_scanners::label_key("Straße"), "strasse");
 /// ```
 #[inline]
+#[must_use]
 pub fn label_key(label: &str) -> String {
     string(key_of(label))
 }
@@ -65,6 +69,7 @@ impl<'text> LinkLabel<'text> {
     /// assert_eq!(markdown_scanners::LinkLabel::new("Foo").as_str(), "Foo");
     /// ```
     #[inline]
+    #[must_use]
     pub fn as_str(&self) -> &str {
         &self.text
     }

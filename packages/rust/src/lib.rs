@@ -1,5 +1,11 @@
 #![doc = include_str!("../README.md")]
+#![no_std]
 #![deny(unsafe_code)]
+
+#[cfg(not(all(target_arch = "x86_64", target_pointer_width = "64", target_os = "linux")))]
+compile_error!("markdown-scanners is for Linux on x86-64: its library is proved and built for no other machine");
+
+extern crate alloc;
 
 mod blocks;
 mod inline;
@@ -16,4 +22,4 @@ pub use labels::*;
 pub use line::LineStart;
 pub use raw::Skip;
 pub use runs::{line_rest, run_inline_html, run_line, HtmlRun, HtmlStop, LineAnswer, LineCall, LineRun, LineStop};
-pub use values::{Alignment, BadSkips, BlockQuoteKind, HeadingLevel, HtmlBlockKind, LinkType};
+pub use values::{Alignment, BadSkips, BlockQuoteKind, HeadingLevel, HtmlBlockKind, LinkType, ListItem};

@@ -1,6 +1,6 @@
 //! A place in a line that is read column by column. Sections in brackets are those of CommonMark 0.31.2.
 
-use std::fmt;
+use core::fmt;
 
 use crate::raw::{self, ffi};
 use crate::values::BlockQuoteKind;
@@ -41,6 +41,7 @@ impl<'line> LineStart<'line> {
     /// assert_eq!(markdown_scanners::LineStart::new(b"a").bytes_scanned(), 0);
     /// ```
     #[inline]
+    #[must_use]
     pub fn new(bytes: &'line [u8]) -> Self {
         LineStart { bytes, numbers: raw::LineStart::default() }
     }
@@ -91,6 +92,7 @@ impl<'line> LineStart<'line> {
     /// assert!(markdown_scanners::LineStart::new(b"\r").is_at_eol());
     /// ```
     #[inline]
+    #[must_use]
     pub fn is_at_eol(&self) -> bool {
         let is = matches!(self.bytes.get(self.numbers.place), None | Some(b'\n' | b'\r'));
         debug_assert_eq!(is, stated(raw::line_eol(self.bytes, &self.numbers)));
@@ -122,7 +124,7 @@ impl<'line> LineStart<'line> {
     #[inline]
     pub fn scan_list_marker_with_indent(&mut self, indent: usize) -> Option<(u8, u64, usize)> {
         let item = raw::line_list(self.bytes, &mut self.numbers, indent);
-        assert_ne!(item.status, ffi::TOO_LARGE, "the indent is too large: {indent}");
+        assert!(item.status != ffi::TOO_LARGE, "the indent is too large: {indent}");
         stated(item.status).then_some((item.delimiter, item.start, item.indent))
     }
 
@@ -140,7 +142,7 @@ impl<'line> LineStart<'line> {
     #[inline]
     pub fn scan_definition_list_definition_marker_with_indent(&mut self, indent: usize) -> Option<usize> {
         let told = raw::line_definition(self.bytes, &mut self.numbers, indent);
-        assert_ne!(told.status, ffi::TOO_LARGE, "the indent is too large: {indent}");
+        assert!(told.status != ffi::TOO_LARGE, "the indent is too large: {indent}");
         stated(told.status).then_some(told.columns)
     }
 
@@ -175,6 +177,7 @@ impl<'line> LineStart<'line> {
     /// assert_eq!(start.bytes_scanned(), 2);
     /// ```
     #[inline]
+    #[must_use]
     pub fn bytes_scanned(&self) -> usize {
         self.numbers.place
     }
@@ -187,6 +190,7 @@ impl<'line> LineStart<'line> {
     /// assert_eq!(start.remaining_space(), 3);
     /// ```
     #[inline]
+    #[must_use]
     pub fn remaining_space(&self) -> usize {
         self.numbers.pending
     }

@@ -4,8 +4,9 @@
 //! aligned, and that nothing that is written overlaps anything else that a call is given. A slice is such memory, and a
 //! `&mut` overlaps nothing. What is given is read during the call alone.
 
-use std::alloc::{handle_alloc_error, Layout};
-use std::ffi::c_void;
+use alloc::alloc::handle_alloc_error;
+use core::alloc::Layout;
+use core::ffi::c_void;
 
 #[allow(dead_code)] // it has all numbers of the header, and some are for programs in C
 pub(crate) mod ffi;
@@ -19,16 +20,19 @@ pub struct Skip(ffi::Skip);
 
 impl Skip {
     /// `length` bytes at `place`.
+    #[must_use]
     pub const fn new(place: usize, length: usize) -> Self {
         Skip(ffi::Skip { place, length })
     }
 
     /// The place of the first byte that is left out.
+    #[must_use]
     pub const fn place(self) -> usize {
         self.0.place
     }
 
     /// How many bytes are left out.
+    #[must_use]
     pub const fn length(self) -> usize {
         self.0.length
     }

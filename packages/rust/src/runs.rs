@@ -1,5 +1,8 @@
 //! Many calls in one: on a line start, and of inline HTML. Sections in brackets are those of CommonMark 0.31.2.
 
+use alloc::vec;
+use alloc::vec::Vec;
+
 use crate::line::LineStart;
 use crate::raw::{self, ffi};
 use crate::values::found;
@@ -109,6 +112,7 @@ pub fn run_line(start: &mut LineStart, calls: &[LineCall]) -> LineRun {
 /// use markdown_scanners::{line_rest, LineStart};
 /// assert_eq!(line_rest(&LineStart::new(b"a\tb\n\tc")), b"a   b\n\tc");
 /// ```
+#[must_use]
 pub fn line_rest(start: &LineStart) -> Vec<u8> {
     let mut rest = vec![0; raw::line_rest(start.bytes, &start.numbers, &mut []).length];
     raw::line_rest(start.bytes, &start.numbers, &mut rest);

@@ -1,7 +1,7 @@
 //! What the scanners tell: levels, alignments, kinds, and why a call refuses what it is given.
 
-use std::error::Error;
-use std::fmt;
+use core::error::Error;
+use core::fmt;
 
 use crate::raw::ffi;
 
@@ -51,6 +51,19 @@ impl Alignment {
             _ => Alignment::None,
         }
     }
+}
+
+/// A list item's marker.
+#[derive(Clone, Copy, Debug, PartialEq, Eq, Hash)]
+pub struct ListItem {
+    /// The bytes of the marker and of the space that belongs to it.
+    pub length: usize,
+    /// `-`, `+` or `*`; `.` or `)` of an ordered item.
+    pub delimiter: u8,
+    /// The number of an ordered item, else 0.
+    pub start: usize,
+    /// The columns of the marker and of that space.
+    pub indent: usize,
 }
 
 /// The kind of an alert, which is a block quote.

@@ -11,6 +11,7 @@ fn nothing() {
     assert_eq!(scan_eol(b""), Some(0));
     assert_eq!(scan_blank_line(b"a"), None);
     assert_eq!(scan_listitem(b"-x"), None);
+    assert_eq!(scan_listitem(b"-"), Some(ListItem { length: 1, delimiter: b'-', start: 0, indent: 2 }));
     assert_eq!(scan_atx_heading(b"#######"), None);
     assert_eq!(scan_setext_heading(b"=-"), None);
     assert_eq!(scan_code_fence(b"``"), None);
@@ -94,10 +95,8 @@ fn first_bytes() {
     let in_line: Vec<u8> = bytes.iter().copied().filter(|byte| is_ascii_whitespace_no_nl(*byte)).collect();
     assert_eq!(in_line, b"\t\x0b\x0c ");
     for text in texts(&bytes, 2) {
-        scan_eol(&text);
-        scan_blank_line(&text);
-        scan_ch(&text, b'\r');
-        scan_ch_repeat(&text, b' ');
+        let _ = (scan_eol(&text), scan_blank_line(&text));
+        let _ = (scan_ch(&text, b'\r'), scan_ch_repeat(&text, b' '));
     }
 }
 
@@ -183,16 +182,18 @@ fn tags() {
 #[test]
 fn guards() {
     let text = b"<!-- a --> <!b> <![CDATA[c]]> <?d?> <!-- e";
-    let mut guard = HtmlScanGuard::new();
+    let mut guard = HtmlScanGuard::new(text);
     for (place, end) in [(2, 10), (13, 15), (18, 29)] {
-        assert_eq!(scan_inline_html_comment(text, place, &mut guard), Some(end));
+        assert_eq!(guard.scan_inline_html_comment(place), Some(end));
     }
-    assert_eq!(scan_inline_html_processing(text, 32, &mut guard), Some(35));
-    assert_eq!(scan_inline_html_comment(text, 38, &mut guard), None);
+    assert_eq!(guard.scan_inline_html_processing(32), Some(35));
+    assert_eq!(guard.scan_inline_html_comment(38), None);
     for place in [0, 1, 3, 32, text.len(), text.len() + 1, usize::MAX] {
-        assert_eq!(scan_inline_html_comment(text, place, &mut HtmlScanGuard::new()), None);
+        assert_eq!(HtmlScanGuard::new(text).scan_inline_html_comment(place), None);
     }
-    assert_eq!(scan_inline_html_processing(text, 2, &mut HtmlScanGuard::new()), None);
+    assert_eq!(HtmlScanGuard::new(text).scan_inline_html_processing(2), None);
+    assert_ne!(guard, HtmlScanGuard::new(text));
+    assert_eq!(HtmlScanGuard::default().scan_inline_html_comment(2), None);
 }
 
 fn is_borrowed(text: Cow<'_, str>) -> bool {
