@@ -26,18 +26,18 @@ need() {
     done
 }
 
-# is_old FILE: something that it is made of is newer, or it is not there.
+# is_old FILE [CRATE]: something that it is made of, which is that crate or markdown_scanners_c, is newer, or it is not there.
 is_old() {
-    local of name
-    for name in $(docs/crate_list.py --below "$(basename "$crate")"); do of+=("crates/$name"); done
+    local of=() name
+    for name in $(docs/crate_list.py --below "${2:-$(basename "$crate")}"); do of+=("crates/$name"); done
     [ ! -f "$1" ] || [ -n "$(find crates.txt "${of[@]:?}" -name out -prune -o \( -name '*.rt' -o -name '*.antt' -o -name '*.txt' \) -newer "$1" -print -quit)" ]
 }
 
-# prove: the crate, which makes its archive and says how; on as many processors as JOBS says, or as rt chooses.
+# prove: the crate, which makes its archive; rt says how far it is. As many jobs prove a crate as JOBS says, or as rt chooses.
 prove() {
     need rt
-    echo "proving and building markdown_scanners_c"
-    (cd "$crate" && rt lib ${JOBS:+--jobs "$JOBS"} >"$room/said" 2>&1) || { cat "$room/said" >&2; stop "the crate was not built"; }
+    echo "proving and building markdown_scanners_c, and what it stands on: some twenty minutes from nothing"
+    (cd "$crate" && rt lib ${JOBS:+--jobs "$JOBS"} 2>&1) | tee "$room/said" || stop "the crate was not built"
     { sha256sum <"$made" && rt version && tail -n 30 "$room/said"; } >"$proof"
 }
 
