@@ -89,17 +89,30 @@ check_dist() {
     grep -q 'rattle-kit-' "$at/PROOF" && [[ $(tail -n 1 "$at/PROOF") = logic=proved\ * ]] || stop "the proof is not told"
     cmp "$archive" "$at/lib/libmarkdown_scanners.a" && cmp "$shared" "$at/lib/$shared_name" || stop "other libraries are packed"
     by_pkg_config "$at"
+    check_packed_programs "$at"
     check_packed_python "$at"
     check_packed_rust "$at"
-    rm -r "$at"/{LICENSE,VERSION,PROOF,SHA256SUMS,README.md,python,rust,examples}
+    check_packed_javascript "$at"
+    rm -r "$at"/{LICENSE,VERSION,PROOF,SHA256SUMS,README.md,bin,python,rust,javascript,examples}
     has_files "$at"
     passed dist "$runs"
 }
 
 # prints_outline WORD..: the command prints the outline of what is packed.
 prints_outline() {
-    printf '1: # markdown-scanners %s, for Linux on x86-64\n13: ## C\n23: ## Python\n30: ## Rust\n' "$version" >"$room/wanted"
+    { echo "1: # markdown-scanners $version, for Linux on x86-64" && grep -n '^## ' "$at/README.md" | sed 's/:/: /'; } >"$room/wanted"
     "$@" >"$room/printed" && cmp "$room/wanted" "$room/printed" || stop "$* prints something else"
+}
+
+# The programs, in an empty environment, as the stored runs have it; the README says which C library they need.
+check_packed_programs() {
+    local needs words
+    mapfile -t words <crates/cmark_scan/args
+    env -i "$1/bin/cmark_blocks" <crates/cmark_blocks/stdin | cmp - crates/cmark_blocks/stdout || stop "cmark_blocks prints something else"
+    env -i "$1/bin/cmark_scan" "${words[@]}" <crates/cmark_scan/stdin | cmp - crates/cmark_scan/stdout || stop "cmark_scan prints something else"
+    needs=$(sed -n 's/^The programs .*glibc \([0-9.]*\), the libraries$/\1/p; s/^glibc \([0-9.]*\), or later\.$/\1/p; ' "$1/README.md" | wc -l)
+    [ "$needs" = 2 ] || stop "the README doesn't say which glibc is needed"
+    passed packed_programs 2
 }
 
 # The package, of the wheel alone, and the example on it.
@@ -111,12 +124,26 @@ check_packed_python() {
     passed packed_python 1
 }
 
+# The JavaScript package. Later engines need no flag.
+check_packed_javascript() {
+    local flags=()
+    command -v node >/dev/null || { leave packed_javascript node; return; }
+    if node --experimental-wasm-memory64 -e 0 2>/dev/null; then flags=(--no-warnings --experimental-wasm-memory64); fi
+    cat >"$room/level.mjs" <<END
+import { load } from "$1/javascript/markdown_scanners.mjs";
+console.log((await load()).text("## A heading").scanAtxHeading());
+END
+    [ "$(node "${flags[@]}" "$room/level.mjs")" = 2 ] || stop "the JavaScript package that is packed prints something else"
+    cmp LICENSE "$1/javascript/LICENSE" || stop "the JavaScript package has another licence"
+    passed packed_javascript 1
+}
+
 # The crate, and its example, with the archive that is packed.
 check_packed_rust() {
     command -v cargo >/dev/null || { leave packed_rust cargo; return; }
     (
         cd "$1/rust"
-        export MARKDOWN_SCANNERS_LIB_DIR=$1/lib MARKDOWN_SCANNERS_STATIC=1 CARGO_TARGET_DIR=$room/packed
+        export MARKDOWN_SCANNERS_LIB_DIR=$1/lib CARGO_TARGET_DIR=$room/packed
         prints_outline cargo run -q --offline --example headings ../README.md
     )
     passed packed_rust 1
