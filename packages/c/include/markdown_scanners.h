@@ -14,7 +14,7 @@
  *
  * Duties. No buffer may overlap another buffer or anything else that the call is given. A length or capacity is that of
  * memory which is there, and its size in bytes is at most PTRDIFF_MAX. An array is aligned for its type. A pointer to a
- * `struct mds_line_start` or a `struct mds_html_guard`, beside which no length stands, is not null: no call tests it, and
+ * `struct mds_line_start` or a `struct mds_html_guard` is never null: it has no length beside it, no call tests it, and
  * with a null one the program crashes.
  *
  * Units. Lengths, capacities and places are in bytes, those of an array of another type in its elements. Places count
@@ -39,7 +39,8 @@
  * whether it is UTF-8; of bytes no more than it has to, most often up to the end of the line. Only a call that looks
  * for what closes or ends something goes through all of them where nothing does.
  *
- * Examples. Behind most comments stand lines of C, of which those that end in no semicolon are true.
+ * Examples. The comment of each function of the library ends with lines of C. Each that has no semicolon at its end is
+ * true.
  *
  * Machines. The archive is for x86-64 processors of level 2 (x86-64-v2) and above. One for each x86-64 is made by
  * `rt lib --cpu=x86-64` in the crate's folder: it has 3 KB more, and its outline of 1.8 MB of Markdown takes 2% fewer
@@ -315,7 +316,7 @@ uint32_t mds_line_eol(const void *bytes, size_t length, const struct mds_line_st
 
 /* Passes a block quote marker, `>` and at most one column of space; pending columns are looked past, and one of them
  * is that space. So take up to four columns first, by mds_line_upto: where there are four, no block quote begins there,
- * though this call would find the `>` behind them. MDS_OK, MDS_NOTHING or MDS_BAD_STATE. It reads two bytes. (5.1)
+ * though this call would find the `>` after them. MDS_OK, MDS_NOTHING or MDS_BAD_STATE. It reads two bytes. (5.1)
  *
  *     struct mds_line_start start = {0};
  *     mds_line_upto(" > a", 4, &start, 4).columns == 1
