@@ -23,6 +23,7 @@ TELLERS = {
     "markdown_scanners_tree": ["run cmark_replay", "tests markdown_scanners_tree", "tests cmark_vectors"],
     "program_faults": ["tests cmark_scan", "tests cmark_vectors_programs"],
     "cmark_scan": ["run cmark_scan", "tests cmark_scan", "refused cmark_scan"],
+    "markdown_blocks": ["run cmark_blocks", "tests cmark_vectors_programs"],
     "page_blocks": ["run cmark_blocks", "tests cmark_vectors_programs"],
 }
 

@@ -1,11 +1,12 @@
 //! Blocks and containers as JSON Lines.
 ghost use Rattle.std.specs.Prelude.{◌≡◌, ◌++◌, OnOk, decimal, string_bytes};
 ghost use Rattle.page_blocks.specs.json.Json.{kind_json, container_json, front_json};
-ghost use Rattle.page_blocks.specs.declared.blocks.BlockKind.TheVariants.{Fenced};
+ghost use Rattle.markdown_blocks.specs.declared.blocks.BlockKind.TheVariants.{Fenced};
 
-use crate::blocks::BlockKind;
-use crate::containers::Container;
-use crate::info::{info_of, push_byte, push_bytes};
+use crate::info::{push_byte, push_bytes};
+use markdown_blocks::blocks::BlockKind;
+use markdown_blocks::containers::Container;
+use markdown_blocks::info::info_of;
 use std::alloc::AllocError;
 
 /// Adds the front of an object: its lines, how many containers stand around, the name of its kind.

@@ -1,16 +1,10 @@
-//! The blocks of a page of Markdown, and what `cmark_blocks` tells of them.
+//! What `cmark_blocks` prints of the blocks of a page of Markdown, reads and writes.
 #![tactic(auto)]
 
-mod blocks;
-mod containers;
 mod info;
 mod json;
-mod kinds;
 mod page;
 mod printing;
 pub mod program;
 mod reading;
-mod tables;
-mod taken;
-mod whole;
 mod words;

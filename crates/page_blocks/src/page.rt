@@ -1,26 +1,24 @@
 //! The blocks of a page, told from the first to the last.
-ghost use Rattle.std.specs.Prelude.{◌≡◌, ◌<◌, ◌≤◌, ◌+◌, ◌-◌, ◌++◌, [], List, ℕ, length, take, drop, IsTrue, MatchBool, IfOk, IfSome, IfNone, OnOk, string_bytes};
+ghost use Rattle.std.specs.Prelude.{◌≡◌, ◌<◌, ◌≤◌, ◌+◌, ◌-◌, ◌++◌, [], List, ℕ};
+ghost use Rattle.std.specs.Prelude.{length, take, drop, IsTrue, MatchBool, IfOk, IfSome, IfNone, OnOk, string_bytes};
 ghost use Rattle.markdown_scanners_tree.specs.scanners.TextLines.{lines_of};
-ghost use Rattle.page_blocks.specs.containers.Containers.{settled, settled_last};
-ghost use Rattle.page_blocks.specs.page.Going.{IsOpening, HasTold, Tells};
+ghost use Rattle.page_blocks.specs.page.Going.{HasTold, Tells};
 ghost use Rattle.page_blocks.specs.page.Told.{told_containers};
-ghost use Rattle.page_blocks.specs.taken.Whole.{AreWhole};
+ghost use Rattle.markdown_blocks.specs.taken.Whole.{AreWhole};
 
-use crate::blocks::{is_over, scan_block};
-use crate::containers::{Container, ListItem, Outer, go_on, scan_container};
 use crate::printing::{push_block, push_container};
-use crate::taken::Taken;
-use crate::whole::whole_lines;
 use crate::words::Form;
+use markdown_blocks::containers::Container;
+use markdown_blocks::walk::Walk;
+use markdown_blocks::whole::whole_lines;
 use std::alloc::{AllocError, Global};
-use std::mem::swap;
 
 /// How far a page is told: the open containers, how many lines stand before the next block, and
 /// the lines that are told and not yet written.
 #[derive(Drop)]
 pub(crate) struct Telling {
     form: Form,
-    outer: Vec<Container>,
+    walk: Walk,
     pub(crate) before: usize,
     pub(crate) told: String,
 }
@@ -35,7 +33,7 @@ impl Telling {
     {
         Telling {
             form,
-            outer: Vec::new(alloc),
+            walk: Walk::new(alloc),
             before: 0,
             told: String::new(alloc),
         }
@@ -80,20 +78,18 @@ impl Telling {
         ensures before { IfOk result (λ count. self.new.before ≤ self.old.before + count) }
         ensures form { OnOk result (self.new.form ≡ self.old.form) }
     {
-        let mut inner = Vec::new(alloc);
         let mut count = 0;
-        while let Some(more) = self.tell_block(alloc, &mut inner, &lines[count..], has_ended)? {
+        while let Some(more) = self.tell_block(alloc, &lines[count..], has_ended)? {
             count += more;
         }
         Ok(count)
     }
 
     // Tells the block at the front of the lines, if there is one that no line behind them changes.
-    // Answers how many bytes it has. What is in `inner` doesn't matter; its room is used.
+    // Answers how many bytes it has.
     fn tell_block(
         &mut self,
         alloc: Global,
-        inner: &mut Vec<Container>,
         lines: &[u8],
         has_ended: bool,
     ) -> Result<Option<usize>, AllocError>
@@ -111,28 +107,27 @@ impl Telling {
         ensures unchanged { IfOk result (λ found. IfNone found (self.new ≡ self.old)) }
         ensures form { OnOk result (self.new.form ≡ self.old.form) }
     {
-        let Some((line, first)) = Taken::nothing().next(lines) else {
+        let Some(step) = self.walk.next_block(alloc, lines, has_ended)? else {
             return Ok(None);
         };
-        inner.clear();
-        inner.extend_from_slice(&self.outer)?;
-        let (kept, indent, words) = open_containers(inner, line)?;
-        let block = scan_block(alloc, lines, first, Outer::new(inner), indent, words)?;
-        if !is_over(lines, block, Outer::new(inner), has_ended) {
-            return Ok(None);
-        }
-        push_containers(&mut self.told, self.form, self.before, inner, kept)?;
+        let containers = self.walk.containers();
+        push_containers(
+            &mut self.told,
+            self.form,
+            self.before,
+            containers,
+            step.kept,
+        )?;
         push_block(
             &mut self.told,
             self.form,
             self.before,
-            inner.len(),
-            block,
-            words,
+            containers.len(),
+            step.block,
+            step.text,
         )?;
-        swap(&mut self.outer, inner);
-        self.before += block.taken.lines;
-        Ok(Some(block.taken.bytes))
+        self.before += step.block.taken.lines;
+        Ok(Some(step.block.taken.bytes))
     }
 }
 
@@ -145,26 +140,6 @@ fn front_of(text: &[u8], has_ended: bool) -> usize
         return text.len();
     }
     whole_lines(text)
-}
-
-// Closes the containers that the line does not go on with, and opens those that it begins. Answers
-// how many it goes on with, and what it has behind all of them.
-fn open_containers<'a>(
-    outer: &mut Vec<Container>,
-    line: &'a [u8],
-) -> Result<(usize, usize, &'a [u8]), AllocError>
-    ensures { IfOk result (λ r. IsOpening outer.old.items line.now outer.new.items r.0
-        (record { indent = r.1; text = r.2.now })) }
-{
-    let (kept, mut start) = go_on(line, Outer::new(outer));
-    keep(outer, kept)?;
-    let count = outer.len();
-    let mut indent = start.scan_space_upto(4);
-    while let Some(container) = scan_container(line, &mut start, indent) {
-        outer.push(container)?;
-        indent = start.scan_space_upto(4);
-    }
-    Ok((count, indent, &line[start.bytes_scanned()..]))
 }
 
 // Adds the lines of the containers behind the first ones, which begin behind so many lines.
@@ -182,31 +157,4 @@ fn push_containers(
         push_container(told, form, before, depth, containers[depth])?;
     }
     Ok(())
-}
-
-// Closes all but the first of the containers; an item that is the last of them has a second line.
-fn keep(outer: &mut Vec<Container>, kept: usize) -> Result<(), AllocError>
-    requires { kept ≤ length outer.old.items }
-    ensures { OnOk result (outer.new.items ≡ settled_last (take kept outer.old.items)) }
-{
-    while outer.len() > kept {
-        outer.pop();
-    }
-    if let Some(last) = outer.pop() {
-        outer.push(settled(last))?;
-    }
-    Ok(())
-}
-
-// The container, where a second line of it is read.
-fn settled(container: Container) -> Container
-    ensures { result ≡ settled container }
-{
-    match container {
-        Container::Quote => Container::Quote,
-        Container::Item(item) => Container::Item(ListItem {
-            begun: false,
-            ..item
-        }),
-    }
 }

@@ -3,11 +3,12 @@ ghost use Rattle.std.specs.Prelude.{◌≡◌, ◌+◌, ◌++◌, OnOk, string_b
 ghost use Rattle.page_blocks.specs.page.Told.{kind_told, container_told, front_told, end_told, told_line};
 ghost use Rattle.page_blocks.specs.page.Told.{kind_text, container_text, fence_text, info_text};
 
-use crate::blocks::{Block, BlockKind};
-use crate::containers::Container;
-use crate::info::{info_of, push_bytes};
+use crate::info::push_bytes;
 use crate::json::{push_container_json, push_front_json, push_kind_json};
 use crate::words::Form;
+use markdown_blocks::blocks::{Block, BlockKind};
+use markdown_blocks::containers::Container;
+use markdown_blocks::info::info_of;
 use std::alloc::AllocError;
 
 /// Adds the line, in this form, of a block in so many containers, which stands behind so many

@@ -3,11 +3,12 @@ use Rattle.std.specs.Prelude.{ℕ, List, ◌++◌, codes, encode_utf8}
 use Rattle.std.specs.Fmt.{decimal}
 use Rattle.markdown_values.specs.values.Headings.{heading_number}
 use Rattle.markdown_scanners_tree.specs.scanners.html_kinds.HtmlKinds.{condition_number}
-use Rattle.page_blocks.specs.declared.blocks.BlockKind.{BlockKind}
-use Rattle.page_blocks.specs.declared.blocks.BlockKind.TheVariants.{Blank, Break, Heading, Setext, Indented, Fenced, Html, Table, Paragraph}
-use Rattle.page_blocks.specs.declared.containers.Container.{Container}
-use Rattle.page_blocks.specs.declared.containers.Container.TheVariants.{Quote, Item}
-use Rattle.page_blocks.specs.info.Info.{info_of, byte_text, bytes_text}
+use Rattle.markdown_blocks.specs.declared.blocks.BlockKind.{BlockKind}
+use Rattle.markdown_blocks.specs.declared.blocks.BlockKind.TheVariants.{Blank, Break, Heading, Setext, Indented, Fenced, Html, Table, Paragraph}
+use Rattle.markdown_blocks.specs.declared.containers.Container.{Container}
+use Rattle.markdown_blocks.specs.declared.containers.Container.TheVariants.{Quote, Item}
+use Rattle.markdown_blocks.specs.info.Info.{info_of}
+use Rattle.page_blocks.specs.info.Info.{byte_text, bytes_text}
 
 -- the first line, the last one and how many containers stand around, at the front of an object, and the name of its kind
 abbrev pub front_json : ℕ → ℕ → ℕ → List ℕ

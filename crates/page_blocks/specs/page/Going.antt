@@ -1,19 +1,10 @@
 -- How a page is told block by block.
-use Rattle.std.specs.Prelude.{ℕ, ◌≡◌, List, ◌++◌, length, string_bytes}
-use Rattle.page_blocks.specs.blocks.Pages.{Piece, AreOpened, AreBlocks, IsFront, lines_in}
-use Rattle.page_blocks.specs.containers.Containers.{Rest}
-use Rattle.page_blocks.specs.declared.containers.Container.{Container}
+use Rattle.std.specs.Prelude.{ℕ, ◌≡◌, List, ◌++◌, string_bytes}
+use Rattle.markdown_blocks.specs.blocks.Pages.{Piece, AreBlocks, IsFront, lines_in}
+use Rattle.markdown_blocks.specs.declared.containers.Container.{Container}
 use Rattle.page_blocks.specs.declared.page.Telling.{Telling}
 use Rattle.page_blocks.specs.declared.words.Form.{Form}
 use Rattle.page_blocks.specs.page.Told.{told_from}
-
--- where these containers are open, the line opens new ones, so many of which were open before, and what is left of it is this
-pub record IsOpening (old : List Container) (line : List ℕ) (new : List Container) (count : ℕ) (words : Rest) : Type 0 where
-  pub kept : List Container
-  pub begun : List Container
-  pub open_now : new ≡ kept ++ begun
-  pub counted : count ≡ length kept
-  pub opened : AreOpened old line kept begun words
 
 -- The text tells a page as far as these lines, before which so many lines stand and these containers are open: whatever blocks the
 -- first of them are, with what is told of these it tells blocks at the front of the page.
@@ -25,7 +16,7 @@ GoesOnTelling form page text before outer lines =
 -- what was written, and then what is told and not yet written, tells the page as far as these lines
 abbrev pub HasTold : List ℕ → List ℕ → Telling → List (List ℕ) → Type 0
 HasTold page written telling lines =
-    GoesOnTelling telling.form page (written ++ string_bytes telling.told) telling.before telling.outer.items lines
+    GoesOnTelling telling.form page (written ++ string_bytes telling.told) telling.before telling.walk lines
 
 -- of each page that is told as far as the ones, it goes on to tell it as far as the others
 abbrev pub Tells : Telling → List (List ℕ) → Telling → List (List ℕ) → Type 0

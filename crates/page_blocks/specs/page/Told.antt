@@ -5,14 +5,15 @@ use Rattle.std.specs.Io.KnownBytes.{Appends, Consumes}
 use Rattle.markdown_values.specs.values.Headings.{heading_number}
 use Rattle.markdown_scanners_tree.specs.Ascii.{line_feed}
 use Rattle.markdown_scanners_tree.specs.scanners.html_kinds.HtmlKinds.{condition_number}
-use Rattle.page_blocks.specs.declared.blocks.BlockKind.{BlockKind}
-use Rattle.page_blocks.specs.declared.blocks.BlockKind.TheVariants.{Blank, Break, Heading, Setext, Indented, Fenced, Html, Table, Paragraph}
-use Rattle.page_blocks.specs.declared.containers.Container.{Container}
-use Rattle.page_blocks.specs.declared.containers.Container.TheVariants.{Quote, Item}
+use Rattle.markdown_blocks.specs.declared.blocks.BlockKind.{BlockKind}
+use Rattle.markdown_blocks.specs.declared.blocks.BlockKind.TheVariants.{Blank, Break, Heading, Setext, Indented, Fenced, Html, Table, Paragraph}
+use Rattle.markdown_blocks.specs.declared.containers.Container.{Container}
+use Rattle.markdown_blocks.specs.declared.containers.Container.TheVariants.{Quote, Item}
 use Rattle.page_blocks.specs.declared.words.Form.{Form}
 use Rattle.page_blocks.specs.declared.words.Form.TheVariants.{Words, Json}
-use Rattle.page_blocks.specs.blocks.Pages.{Piece, IsPage, IsFront}
-use Rattle.page_blocks.specs.info.Info.{info_of, bytes_text}
+use Rattle.markdown_blocks.specs.blocks.Pages.{Piece, IsPage, IsFront}
+use Rattle.markdown_blocks.specs.info.Info.{info_of}
+use Rattle.page_blocks.specs.info.Info.{bytes_text}
 use Rattle.page_blocks.specs.json.Json.{kind_json, container_json, front_json}
 
 -- an info string behind a space, or nothing

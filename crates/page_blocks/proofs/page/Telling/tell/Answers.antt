@@ -3,8 +3,8 @@ use Rattle.std.proofs.lemmas.List.{drop_all, length-take-le}
 use Rattle.markdown_scanners_tree.specs.scanners.TextLines.{lines_of}
 use Rattle.page_blocks.specs.declared.page.Telling.{Telling}
 use Rattle.page_blocks.specs.page.Going.{HasTold, Tells}
-use Rattle.page_blocks.specs.taken.Whole.{AreWhole}
-use Rattle.page_blocks.proofs.whole.WholeLemmas.{front_cut}
+use Rattle.markdown_blocks.specs.taken.Whole.{AreWhole}
+use Rattle.markdown_blocks.proofs.whole.WholeLemmas.{front_cut}
 use Rattle.page_blocks.proofs.page.Telling.tell.Goals as goal
 
 -- nothing is behind the text where the input has ended

@@ -4,11 +4,11 @@ use Rattle.page_blocks.specs.page.Going.{Tells}
 use Rattle.page_blocks.proofs.page.Telling.tell_lines.Given as goal
 
 -- the lines are told as far as the place
-abbrev pub invariant-loop-inner : goal.invariant-loop-inner
-invariant-loop-inner l =
+abbrev pub invariant-loop-more : goal.invariant-loop-more
+invariant-loop-more l =
     ((more : List (List ℕ)) → (IsTrue l.has_ended → more ≡ [])
     → Tells l.fn.self (lines_of l.lines ++ more) l.self (lines_of (drop l.count l.lines) ++ more))
     × (l.count ≤ length l.lines) × (l.self.before ≤ l.fn.self.before + l.count) × (l.self.form ≡ l.fn.self.form)
 
-abbrev pub decreases-loop-inner : goal.decreases-loop-inner
-decreases-loop-inner l = length l.lines - l.count
+abbrev pub decreases-loop-more : goal.decreases-loop-more
+decreases-loop-more l = length l.lines - l.count

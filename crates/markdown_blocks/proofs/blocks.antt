@@ -1,0 +1,7 @@
+pub mod BlockLemmas
+pub mod IndentedLemmas
+pub mod OneFirst
+pub mod OneLeaf
+pub mod OneText
+pub mod OverLemmas
+pub mod RestLemmas

@@ -1,0 +1,107 @@
+-- The lines that are taken make a block.
+use Rattle.std.proofs.Common.{ℕ, List, [], ◌∷◌, ◌++◌, ◌≡◌, drop, refl, sym, ◌∙◌}
+use Rattle.std.proofs.lemmas.List.{append_cancel_left}
+use Rattle.markdown_values.specs.declared.values.HeadingLevel.{HeadingLevel}
+use Rattle.markdown_scanners_tree.specs.declared.scanners.html_kinds.HtmlBlockKind.{HtmlBlockKind}
+use Rattle.markdown_scanners_tree.specs.scanners.TextLines.{lines_of}
+use Rattle.markdown_blocks.specs.containers.Containers.{Rest}
+use Rattle.markdown_blocks.specs.declared.blocks.BlockKind.{BlockKind}
+use Rattle.markdown_blocks.specs.declared.blocks.BlockKind.TheVariants.{Blank, Break, Heading, Indented, Fenced, Html, Setext, Table, Paragraph}
+use Rattle.markdown_blocks.specs.declared.containers.Container.{Container}
+use Rattle.markdown_blocks.specs.declared.taken.Taken.{Taken}
+use Rattle.markdown_blocks.specs.taken.Lines.{IsTaken, IsNext}
+use Rattle.markdown_blocks.specs.blocks.Leaves.{Begins, IsBlank, IsUnderline, In, OutOr, LeavesParagraph, ClosesFence, OnFirst, EndsAsHtml, GoesOnIndented, IsHead, IsRow, BeginsNoTable}
+use Rattle.markdown_blocks.specs.blocks.Pages.{IsBlockOf}
+use Rattle.markdown_blocks.proofs.taken.TakenLemmas.{Until, Through, taken-next}
+
+module _ (text : List ℕ) (outer : List Container) (line : List ℕ) (rest : Rest) (first : Taken) (h : IsTaken text first (line ∷ [])) where
+  -- blank lines
+  pub blank_block : (taken : Taken) → Begins Blank rest → Until (OutOr outer (λ r. ¬ IsBlank r)) text first taken
+      → IsBlockOf text outer line rest (record { kind = Blank; taken = taken })
+  blank_block taken begins until =
+      let u = until (line ∷ []) h in record { later = u.0; taken = u.1; leaf = (begins, u.2) }
+
+  -- a block of one line
+  pub one_line : (kind : BlockKind) → Begins kind rest → ¬ (kind ≡ Blank) → ¬ (kind ≡ Indented)
+      → ((count byte : ℕ) → ¬ (kind ≡ Fenced count byte)) → ((html : HtmlBlockKind) → ¬ (kind ≡ Html html)) → ¬ (kind ≡ Paragraph)
+      → IsBlockOf text outer line rest (record { kind = kind; taken = first })
+  one_line Blank begins blank indented fenced html paragraph = absurd (blank refl)
+  one_line Indented begins blank indented fenced html paragraph = absurd (indented refl)
+  one_line (Fenced count byte) begins blank indented fenced html paragraph = absurd (fenced count byte refl)
+  one_line (Html kind) begins blank indented fenced html paragraph = absurd (html kind refl)
+  one_line Paragraph begins blank indented fenced html paragraph = absurd (paragraph refl)
+  one_line (Setext level) begins blank indented fenced html paragraph = absurd begins.2
+  one_line (Table columns) begins blank indented fenced html paragraph = absurd begins.2
+  one_line Break begins blank indented fenced html paragraph = record { later = []; taken = h; leaf = (begins, refl) }
+  one_line (Heading level) begins blank indented fenced html paragraph = record { later = []; taken = h; leaf = (begins, refl) }
+
+  -- fenced code
+  pub fenced_block : (count byte : ℕ) (taken : Taken) → Begins (Fenced count byte) rest → Through (OutOr outer
+      (ClosesFence count byte)) text outer first taken
+      → IsBlockOf text outer line rest (record { kind = Fenced count byte; taken = taken })
+  fenced_block count byte taken begins through =
+      let u = through (line ∷ []) h in record { later = u.0; taken = u.1; leaf = (begins, u.2) }
+
+  -- indented code
+  pub indented_block : (taken : Taken) → Begins Indented rest
+      → ((lines : List (List ℕ)) → IsTaken text first lines
+      → (more : List (List ℕ)) × IsTaken text taken (lines ++ more) × GoesOnIndented outer more (lines_of (drop taken.bytes text)))
+      → IsBlockOf text outer line rest (record { kind = Indented; taken = taken })
+  indented_block taken begins goes =
+      let g = goes (line ∷ []) h in record { later = g.0; taken = g.1; leaf = (begins, g.2) }
+
+  -- an HTML block
+  pub html_block : (kind : HtmlBlockKind) (taken : Taken) → Begins (Html kind) rest
+      → ((lines : List (List ℕ)) (indent : ℕ) → IsTaken text first lines
+      → (more : List (List ℕ)) × IsTaken text taken (lines ++ more)
+      × EndsAsHtml outer kind (record { indent = indent; text = rest.text }) more (lines_of (drop taken.bytes text)))
+      → IsBlockOf text outer line rest (record { kind = Html kind; taken = taken })
+  html_block kind taken begins goes =
+      let g = goes (line ∷ []) rest.indent h in record { later = g.0; taken = g.1; leaf = (begins, g.2) }
+
+  -- the lines behind the first
+  behind_first : (taken : Taken) (more : List (List ℕ)) → IsTaken text taken (line ∷ more)
+      → lines_of (drop first.bytes text) ≡ more ++ lines_of (drop taken.bytes text)
+  behind_first taken more t = append_cancel_left (line ∷ []) (lines_of (drop first.bytes text)) (more ++ lines_of (drop taken.bytes text)) (sym h.parts ∙ t.parts)
+
+  first_of : (P : List ℕ → Type 0) (front rest : List (List ℕ)) → OnFirst P (front ++ rest) → OnFirst P front
+  first_of P [] rest on = tt
+  first_of P (l ∷ front) rest on = on
+
+  -- a paragraph, and a paragraph whose next line is an underline, where it begins no table
+  module _ (no_table : BeginsNoTable outer rest (lines_of (drop first.bytes text))) (begins : Begins Paragraph rest) where
+    none_in : (taken : Taken) (more : List (List ℕ)) → IsTaken text taken (line ∷ more) → BeginsNoTable outer rest more
+    none_in taken more t = first_of _ more (lines_of (drop taken.bytes text)) (rw (behind_first taken more t) at no_table)
+
+    pub paragraph_block : (taken : Taken) → Until (LeavesParagraph outer) text first taken
+        → OnFirst (λ l. (level : HeadingLevel) → ¬ In outer (IsUnderline level) l) (lines_of (drop taken.bytes text))
+        → IsBlockOf text outer line rest (record { kind = Paragraph; taken = taken })
+    paragraph_block taken until plain =
+        let u = until (line ∷ []) h in record { later = u.0; taken = u.1; leaf = (begins, none_in taken u.0 u.1, u.2, plain) }
+
+    pub setext_block : (last : List ℕ) (level : HeadingLevel) (taken more : Taken)
+        → Until (LeavesParagraph outer) text first taken → IsNext text taken last more → In outer (IsUnderline level) last
+        → IsBlockOf text outer line rest (record { kind = Setext level; taken = more })
+    setext_block last level taken more until next underlines =
+        let u = until (line ∷ []) h in
+        record {
+          later = u.0 ++ last ∷ [];
+          taken = taken-next text taken more (line ∷ u.0) last u.1 next;
+          leaf = (
+            begins,
+            u.0,
+            last,
+            refl,
+            none_in taken u.0 u.1,
+            record { none = u.2.none; stopped = rw next.parts at u.2.stopped },
+            underlines,
+          );
+        }
+
+  -- a table: its delimiter row, and the rows behind that
+  pub table_block : (columns : ℕ) (head : List ℕ) (second taken : Taken) → Begins Paragraph rest → IsNext text first head second
+      → IsHead outer rest.text columns head → Until (λ l. ¬ IsRow outer l) text second taken
+      → IsBlockOf text outer line rest (record { kind = Table columns; taken = taken })
+  table_block columns head second taken begins next is_head until =
+      let u = until (line ∷ head ∷ []) (taken-next text first second (line ∷ []) head h next) in
+      record { later = head ∷ u.0; taken = u.1; leaf = (begins, head, u.0, refl, is_head, u.2) }

@@ -1,0 +1,135 @@
+-- A block whose end is seen is a block whatever lines follow.
+use Rattle.std.proofs.Common.{ℕ, List, [], ◌∷◌, ◌++◌, ◌≡◌, ◌≢◌, ◌⊎◌, Bool, true, false, IsTrue, inl, inr, refl, sym, ◌∙◌, append_assoc, append-nil, drop, Bor}
+use Rattle.std.specs.Prelude.{MatchBool, Option, Some, None, IfSome, IfNone, is_some}
+use Rattle.std.specs.List.{AllByRecursion}
+use Rattle.std.proofs.lemmas.List.{append_cancel_left}
+use Rattle.markdown_scanners_tree.specs.declared.scanners.html_kinds.HtmlBlockKind.{HtmlBlockKind}
+use Rattle.markdown_scanners_tree.specs.scanners.TextLines.{lines_of}
+use Rattle.markdown_scanners_tree.specs.scanners.html_kinds.HtmlKinds.{ends_before_blank}
+use Rattle.markdown_blocks.specs.containers.Containers.{Rest, IsInside}
+use Rattle.markdown_blocks.specs.declared.blocks.BlockKind.{BlockKind}
+use Rattle.markdown_blocks.specs.declared.blocks.BlockKind.TheVariants.{Blank, Break, Heading, Setext, Indented, Fenced, Html, Table, Paragraph}
+use Rattle.markdown_blocks.specs.declared.blocks.Ending.TheVariants.{Text}
+use Rattle.markdown_blocks.specs.declared.containers.Container.{Container}
+use Rattle.markdown_blocks.specs.declared.taken.Taken.{Taken}
+use Rattle.markdown_blocks.specs.taken.Lines.{IsTaken, IsNext}
+use Rattle.markdown_blocks.specs.blocks.Endings.{IsEnd}
+use Rattle.markdown_blocks.specs.blocks.Leaves.{IsBlankIn, OnFirst, StopsBefore, StopsBehind, NoMoreIndented, EndsAsHtml, OutOr, EndsHtml, IsLeaf}
+use Rattle.markdown_blocks.specs.blocks.Over.{ShowEnd, IsOver}
+use Rattle.markdown_blocks.proofs.blocks.IndentedLemmas.{blank_told}
+
+module _ (outer : List Container) (more : List (List ℕ)) where
+  first-over : (P : List ℕ → Type 0) (rest : List (List ℕ)) → rest ≢ [] → OnFirst P rest → OnFirst P (rest ++ more)
+  first-over P [] some h = absurd (some refl)
+  first-over P (line ∷ rest) some h = h
+
+  before-over : (P : List ℕ → Type 0) (lines rest : List (List ℕ)) → rest ≢ [] → StopsBefore P lines rest → StopsBefore P lines (rest ++ more)
+  before-over P lines rest some s = record { none = s.none; stopped = first-over P rest some s.stopped }
+
+  behind-over : (P : List ℕ → Type 0) (lines rest : List (List ℕ)) → rest ≢ [] → StopsBehind outer P lines rest → StopsBehind outer P lines (rest ++ more)
+  behind-over P lines rest some (inl h) = inl (h.0, h.1, h.2, record { none = h.3.none; stopped = h.3.stopped }, h.4)
+  behind-over P lines rest some (inr h) = inr (before-over P lines rest some h.0, first-over (λ line. ¬ IsInside outer line) rest some h.1)
+
+  indented-over : (rest : List (List ℕ)) → ¬ AllByRecursion (IsBlankIn outer) rest → NoMoreIndented outer rest → NoMoreIndented outer (rest ++ more)
+  indented-over [] some none = absurd (some tt)
+  indented-over (line ∷ rest) some (inl h) = inl (h.0, indented-over rest (λ all. some (h.0, all)) h.1)
+  indented-over (line ∷ rest) some (inr ends) = inr ends
+
+  in_either : (b : Bool) {A B C D : Type 0} → (A → C) → (B → D) → MatchBool b A B → MatchBool b C D
+  in_either true f g h = f h
+  in_either false f g h = g h
+
+  html-over : (kind : HtmlBlockKind) (first : Rest) (later rest : List (List ℕ)) → rest ≢ [] → EndsAsHtml outer kind first later rest
+      → EndsAsHtml outer kind first later (rest ++ more)
+  html-over kind first later rest some ends =
+      in_either (ends_before_blank kind) (before-over (OutOr outer (EndsHtml kind)) later rest some) by ends
+    where
+      by : (EndsHtml kind first × (later ≡ [])) ⊎ ((¬ EndsHtml kind first) × StopsBehind outer (OutOr outer (EndsHtml kind)) later rest)
+          → (EndsHtml kind first × (later ≡ [])) ⊎ ((¬ EndsHtml kind first)
+          × StopsBehind outer (OutOr outer (EndsHtml kind)) later (rest ++ more))
+      by (inl h) = inl h
+      by (inr h) = inr (h.0, behind-over (OutOr outer (EndsHtml kind)) later rest some h.1)
+
+  -- the block ends there
+  pub leaf-over : (kind : BlockKind) (first : Rest) (later rest : List (List ℕ)) → ShowEnd outer kind rest → IsLeaf outer kind first later rest
+      → IsLeaf outer kind first later (rest ++ more)
+  leaf-over Blank first later rest some leaf = (leaf.0, before-over _ later rest some leaf.1)
+  leaf-over Indented first later rest some leaf =
+      (leaf.0, record { inside = leaf.1.inside; last = leaf.1.last; stopped = indented-over rest some leaf.1.stopped })
+  leaf-over (Fenced count byte) first later rest some leaf = (leaf.0, behind-over _ later rest some leaf.1)
+  leaf-over (Html kind) first later rest some leaf = (leaf.0, html-over kind first later rest some leaf.1)
+  leaf-over (Table columns) first later rest some leaf =
+      (leaf.0, leaf.1, leaf.2, leaf.3, leaf.4, before-over _ leaf.2 rest some leaf.5)
+  leaf-over Paragraph first later rest some leaf =
+      (leaf.0, leaf.1, before-over _ later rest some leaf.2, first-over _ rest some leaf.3)
+  leaf-over (Setext level) first later rest some leaf =
+      (leaf.0, leaf.1, leaf.2, leaf.3, leaf.4, record { none = leaf.5.none; stopped = leaf.5.stopped }, leaf.6)
+  leaf-over Break first later rest some leaf = leaf
+  leaf-over (Heading level) first later rest some leaf = leaf
+
+  -- it does so where its end is seen, or where no line follows
+  pub leaf-more : (kind : BlockKind) (first : Rest) (later rest : List (List ℕ)) (has_ended : Bool) → IsOver outer kind has_ended rest
+      → (IsTrue has_ended → more ≡ []) → IsLeaf outer kind first later rest → IsLeaf outer kind first later (rest ++ more)
+  leaf-more kind first later rest has_ended (inl ended) none leaf = rw (none ended, append-nil) leaf
+  leaf-more kind first later rest has_ended (inr shown) none leaf = leaf-over kind first later rest shown leaf
+
+-- what shows the end
+module _ (outer : List Container) (has_ended : Bool) (open_yet : has_ended ≡ false) where
+  -- a test of lines
+  pub over_told : (kind : BlockKind) (rest : List (List ℕ)) (seen : Bool) → (IsTrue seen → ShowEnd outer kind rest) × (ShowEnd outer kind rest → IsTrue seen)
+      → (IsTrue seen → IsOver outer kind has_ended rest) × (IsOver outer kind has_ended rest → IsTrue seen)
+  over_told kind rest seen tells = (λ t. inr (tells.0 t), by)
+    where
+      by : IsOver outer kind has_ended rest → IsTrue seen
+      by (inl ended) = let both : true ≡ false = sym ended ∙ open_yet in cc
+      by (inr shown) = tells.1 shown
+
+  pub any_told : (kind : BlockKind) (rest : List (List ℕ)) (seen : Bool) → kind ≢ Indented → (IsTrue seen → rest ≢ []) × (rest ≢ [] → IsTrue seen)
+      → (IsTrue seen → ShowEnd outer kind rest) × (ShowEnd outer kind rest → IsTrue seen)
+  any_told Indented rest seen other tells = absurd (other refl)
+  any_told Blank rest seen other tells = tells
+  any_told Break rest seen other tells = tells
+  any_told (Heading level) rest seen other tells = tells
+  any_told (Setext level) rest seen other tells = tells
+  any_told (Fenced count byte) rest seen other tells = tells
+  any_told (Html html) rest seen other tells = tells
+  any_told (Table columns) rest seen other tells = tells
+  any_told Paragraph rest seen other tells = tells
+
+module _ (outer : List Container) where
+  text_told : (line : List ℕ) → IsEnd outer Text line → ¬ IsBlankIn outer line
+  text_told line (inl out) blank = out blank.0
+  text_told line (inr text) blank = text.1 blank.1
+
+  all-blank : (lines : List (List ℕ)) → AllByRecursion (λ line. ¬ IsEnd outer Text line) lines → AllByRecursion (IsBlankIn outer) lines
+  all-blank [] none = tt
+  all-blank (line ∷ lines) none = (blank_told outer line none.0, all-blank lines none.1)
+
+  not-blank : (lines : List (List ℕ)) (line : List ℕ) (rest : List (List ℕ)) → ¬ IsBlankIn outer line
+      → ¬ AllByRecursion (IsBlankIn outer) (lines ++ line ∷ rest)
+  not-blank [] line rest text all = text all.0
+  not-blank (blank ∷ lines) line rest text all = not-blank lines line rest text all.1
+
+  -- the lines up to the first with text
+  module _ (text : List ℕ) (taken seen : Taken) (lines blanks : List (List ℕ)) (h : IsTaken text taken lines) (s : IsTaken text seen (lines ++ blanks))
+      (stops : StopsBefore (IsEnd outer Text) blanks (lines_of (drop seen.bytes text))) where
+    behind : lines_of (drop taken.bytes text) ≡ blanks ++ lines_of (drop seen.bytes text)
+    behind = append_cancel_left lines (lines_of (drop taken.bytes text)) (blanks ++ lines_of (drop seen.bytes text))
+        (sym h.parts ∙ s.parts ∙ append_assoc lines blanks (lines_of (drop seen.bytes text)))
+
+    text_shows : (line : List ℕ) (rest : List (List ℕ)) → lines_of (drop seen.bytes text) ≡ line ∷ rest
+        → ShowEnd outer Indented (lines_of (drop taken.bytes text))
+    text_shows line rest is =
+        let here : IsEnd outer Text line = rw is at stops.stopped in
+        rw (behind, is) (not-blank blanks line rest (text_told line here))
+
+    blank_shows : lines_of (drop seen.bytes text) ≡ [] → ¬ ShowEnd outer Indented (lines_of (drop taken.bytes text))
+    blank_shows none shown = shown (rw (behind, none, append-nil) (all-blank blanks stops.none))
+
+    -- a test whether they go on
+    pub seen_told : (found : Option (Bor (List ℕ) × Taken)) (seen_some : Bool) → seen_some ≡ is_some found
+        → IfSome found (λ r. IsNext text seen r.0.now r.1) → IfNone found (lines_of (drop seen.bytes text) ≡ [])
+        → (IsTrue seen_some → ShowEnd outer Indented (lines_of (drop taken.bytes text)))
+        × (ShowEnd outer Indented (lines_of (drop taken.bytes text)) → IsTrue seen_some)
+    seen_told (Some r) seen_some is next none = (λ t. text_shows r.0.now _ next.parts, λ shown. is)
+    seen_told None seen_some is next none = (λ t. let both : false ≡ true = sym is ∙ t in cc, λ shown. absurd (blank_shows none shown))

@@ -1,0 +1,13 @@
+use Rattle.std.proofs.Common.{arith}
+use Rattle.markdown_blocks.specs.blocks.Leaves.{IsUnderline}
+use Rattle.markdown_blocks.proofs.blocks.RestLemmas.{same_rest, all_kept, some_inside}
+use Rattle.markdown_blocks.proofs.blocks.underline_in.Goals as goal
+
+pub returns : goal.returns
+returns c =
+    some_inside c.args.outer.containers.now c.args.line.now _
+    (same_rest c.rest_behind-indent.result.0 c.rest_behind-indent.result.1.now c.go_on-kept.result.1 _ c.rest_behind-indent.ensures.indent
+    c.rest_behind-indent.ensures.text c.go_on-kept.ensures.state)
+    (all_kept c.args.outer.containers.now c.args.line.now c.go_on-kept.result.0 c.go_on-kept.ensures.kept c.go_on-kept.ensures.few (omega
+    (arith, c.if-kept-outer.false)))
+    IsUnderline c.underline_level.result c.underline_level.ensures

@@ -1,0 +1,40 @@
+-- What tests tell of the first line of a block.
+use Rattle.std.proofs.Common.{Bool, false, ◌≡◌, IsTrue, Option, Some, None, is_some, refl}
+use Rattle.markdown_scanners_tree.specs.SomeExactly.{SomeExactly}
+use Rattle.markdown_blocks.specs.containers.Containers.{Rest}
+use Rattle.markdown_blocks.specs.declared.blocks.BlockKind.{BlockKind}
+use Rattle.markdown_blocks.specs.declared.blocks.BlockKind.TheVariants.{Blank, Break, Heading, Setext, Indented, Fenced, Html, Table, Paragraph}
+use Rattle.markdown_blocks.specs.blocks.Leaves.{IsBlank, HasIndent, Begins, BeginsAt}
+
+-- nothing is found
+pub none_told : {A : Type 0} (P : A → Type 0) (r : Option A) → is_some r ≡ false → SomeExactly P r → (a : A) → ¬ P a
+none_told P None told exactly = exactly
+none_told P (Some a) told exactly = cc
+
+-- a test that fails
+pub not_told : {P : Type 0} {t : Bool} → t ≡ false → (P → IsTrue t) → ¬ P
+not_told {P} {t} fails tells p = let passes = tells p in cc
+
+-- what begins behind the indent begins with the rest of the line
+pub begins_behind : (kind : BlockKind) (rest : Rest) → ¬ IsBlank rest → ¬ HasIndent rest → BeginsAt kind rest.text → Begins kind rest
+begins_behind Blank rest text near h = absurd h
+begins_behind Indented rest text near h = absurd h
+begins_behind (Setext level) rest text near h = absurd h
+begins_behind (Table columns) rest text near h = absurd h
+begins_behind Break rest text near h = (text, near, h)
+begins_behind (Heading level) rest text near h = (text, near, h)
+begins_behind (Fenced count byte) rest text near h = (text, near, h)
+begins_behind (Html kind) rest text near h = (text, near, h)
+begins_behind Paragraph rest text near h = (text, near, h)
+
+-- a block of another kind is no paragraph
+pub other_kind : (kind : BlockKind) (rest : Rest) → ¬ (kind ≡ Paragraph) → Begins kind rest → ¬ Begins Paragraph rest
+other_kind Blank rest other begins paragraph = paragraph.0 begins
+other_kind Indented rest other begins paragraph = paragraph.1 begins.1
+other_kind (Setext level) rest other begins paragraph = absurd begins.2
+other_kind (Table columns) rest other begins paragraph = absurd begins.2
+other_kind Break rest other begins paragraph = paragraph.2.0 begins.2
+other_kind (Heading level) rest other begins paragraph = paragraph.2.1 level begins.2
+other_kind (Fenced count byte) rest other begins paragraph = paragraph.2.2 (count, byte) begins.2
+other_kind (Html kind) rest other begins paragraph = paragraph.2.3 kind begins.2
+other_kind Paragraph rest other begins paragraph = absurd (other refl)

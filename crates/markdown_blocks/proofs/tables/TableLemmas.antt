@@ -1,0 +1,88 @@
+-- Cells of a row, read from its front, and lines that are rows.
+use Rattle.std.proofs.Common.{ℕ, ◌+◌, ◌<◌, ◌≤◌, Bool, true, false, IsTrue, List, [], ◌∷◌, length, drop, get_or, Option, Some, None, is_some}
+use Rattle.std.proofs.Common.{◌≡◌, refl, sym, ap, subst, ◌∙◌, arith}
+use Rattle.std.specs.Prelude.{IfSome}
+use Rattle.std.proofs.lemmas.List.{at_drop_more}
+use mir.Val.{bool_byte}
+use Rattle.markdown_values.specs.declared.values.Alignment.{Alignment}
+use Rattle.markdown_scanners_tree.proofs.ForCallers.{one_row}
+use Rattle.markdown_scanners_tree.specs.line.State.{LineState, space_within, after_space}
+use Rattle.markdown_blocks.specs.containers.Containers.{Rest, rest_at, begun_at, begun_behind, behind, IsInside, rest_in}
+use Rattle.markdown_blocks.specs.declared.blocks.BlockKind.TheVariants.{Paragraph}
+use Rattle.markdown_blocks.specs.declared.containers.Container.{Container}
+use Rattle.markdown_blocks.specs.blocks.Leaves.{Begins, IsRow, In, IsHead, LeavesParagraph}
+use Rattle.markdown_blocks.specs.blocks.Tables.{separates, separators, ends_separated, cells, IsDelimiter}
+
+-- whether the last byte of a row separates, where this is known of the one before what is left of it
+abbrev pub ends_from : Bool → ℕ → List ℕ → Bool
+ends_from is_last before [] = is_last
+ends_from is_last before (b ∷ bs) = ends_separated before (b ∷ bs)
+
+pub ends_from-front : (before : ℕ) (row : List ℕ) → ends_from false before row ≡ ends_separated before row
+ends_from-front before [] = refl
+ends_from-front before (b ∷ bs) = refl
+
+ends_from-next : (is_last : Bool) (before b : ℕ) (bs : List ℕ) → ends_from (separates before b) b bs ≡ ends_from is_last before (b ∷ bs)
+ends_from-next is_last before b [] = refl
+ends_from-next is_last before b (c ∷ bs) = refl
+
+-- a byte more
+module _ (row : List ℕ) (i before : ℕ) (below : i < length row) (separated : Bool) (is : separated ≡ separates before (get_or row i 0)) where
+  pub counted_next : (count n all : ℕ) → n ≡ bool_byte separated → count + separators before (drop i row) ≡ all
+      → (count + n) + separators (get_or row i 0) (drop (i + 1) row) ≡ all
+  counted_next count n all one so_far = by separated is one (at_drop_more (separators before) row i 0 below)
+    where
+      by : (s : Bool) → s ≡ separates before (get_or row i 0) → n ≡ bool_byte s
+          → separators before (drop i row) ≡ separators before (get_or row i 0 ∷ drop (i + 1) row)
+          → (count + n) + separators (get_or row i 0) (drop (i + 1) row) ≡ all
+      by true told one next = let next_one = rw (← told) at next in omega (arith, one, next_one, so_far)
+      by false told one next = let next_none = rw (← told) at next in omega (arith, one, next_none, so_far)
+
+  pub ends_next : (is_last last : Bool) → ends_from is_last before (drop i row) ≡ last
+      → ends_from separated (get_or row i 0) (drop (i + 1) row) ≡ last
+  ends_next is_last last so_far =
+      rw is (ends_from-next is_last before (get_or row i 0) (drop (i + 1) row) ∙ sym (at_drop_more (ends_from is_last before) row i 0 below) ∙ so_far)
+
+pub few_more : (separated : Bool) (count i n : ℕ) → n ≡ bool_byte separated → count ≤ i → count + n ≤ i + 1
+few_more true count i n one few = omega (arith, one, few)
+few_more false count i n one few = omega (arith, one, few)
+
+-- a container begins at the place of a line
+pub some_at : (at s t after : LineState) (indent : ℕ) (r : Option Container) → is_some r ≡ true
+    → IfSome r (λ container. begun_behind indent t ≡ Some (container, after)) → indent ≡ space_within 4 s → t ≡ after_space 4 s → s ≡ at
+    → ¬ (begun_at at ≡ None)
+some_at at s t after indent None told found columns is same none = cc
+some_at at s t after indent (Some container) told found columns is same none =
+    let here : begun_at s ≡ None = subst (λ z. begun_at z ≡ None) (sym same) none in
+    let found_none : begun_behind indent t ≡ None =
+    subst (λ n. begun_behind n t ≡ None) (sym columns) (subst (λ z. begun_behind (space_within 4 s) z ≡ None) (sym is) here) in
+    let both : ◌≡◌ {A = Option (Container × LineState)} (Some (container, after)) None = sym found ∙ found_none in
+    cc
+
+-- a test of a line in which none begins
+pub row_told : (outer : List Container) (line : List ℕ) (s : LineState) (rest : Rest) (r : Bool) → s ≡ (behind outer line).state → rest ≡ rest_at s
+    → IsInside outer line → begun_at s ≡ None → (IsTrue r → Begins Paragraph rest) × (Begins Paragraph rest → IsTrue r)
+    → (IsTrue r → IsRow outer line) × (IsRow outer line → IsTrue r)
+row_told outer line s rest r same is inside none tells =
+    let at : rest ≡ rest_at (behind outer line).state = is ∙ ap rest_at same in (
+      λ t. (subst (λ z. begun_at z ≡ None) same none, (inside, subst (Begins Paragraph) at (tells.0 t))),
+      λ row. tells.1 (subst (Begins Paragraph) (sym at) row.1.1),
+    )
+
+-- a delimiter row has one number of columns
+one_number : (rest : Rest) (columns other : ℕ) → IsDelimiter columns rest → IsDelimiter other rest → other ≡ columns
+one_number rest columns other d o =
+    let same = one_row rest.text d.1 d.2 o.1 o.2 d.3 o.3 in
+    o.4 ∙ ap (λ (row : ℕ × List Alignment). length row.1) (sym same) ∙ sym d.4
+
+-- a line that is the delimiter row of no table
+pub no_delimiter : (outer : List Container) (text line : List ℕ) → ((columns : ℕ) → ¬ In outer (IsDelimiter columns) line)
+    → (columns : ℕ) → ¬ IsHead outer text columns line
+no_delimiter outer text line none columns head = none columns head.1
+
+-- or of a table of so many columns
+module _ (outer : List Container) (text line : List ℕ) (columns : ℕ) (found : In outer (IsDelimiter columns) line) where
+  pub no_head : (cells text ≡ columns → LeavesParagraph outer line) → (other : ℕ) → ¬ IsHead outer text other line
+  no_head leaves other head =
+      let same : other ≡ columns = one_number (rest_in outer line) columns other found.1 head.1.1 in
+      head.0 (leaves (head.2 ∙ same))

@@ -1,0 +1,48 @@
+use Rattle.std.proofs.Common.{◌≡◌, ◌∷◌, ℕ, List, [], IsTrue, inl, sym, ◌∙◌}
+use Rattle.markdown_blocks.proofs.kinds.KindLemmas.{not_told}
+use Rattle.markdown_blocks.proofs.blocks.OverLemmas.{leaf-more}
+use Rattle.markdown_blocks.proofs.taken.TakenLemmas.{taken-next}
+use Rattle.markdown_blocks.proofs.whole.WholeLemmas.{some_lines}
+use Rattle.markdown_blocks.proofs.walk.WalkLemmas.{some_bytes, step_here, none_over}
+use Rattle.markdown_blocks.proofs.walk.Walk.next_block.Goals as goal
+
+pub returns-in_default-clause-all : goal.returns-in_default-clause-all
+returns-in_default-clause-all c = λ ended.
+    some_lines c.args.lines.now ((c.nothing.ensures c.args.lines.now).parts ∙ c.in_default.ensures.none)
+
+pub returns-then-not-is_over-clause-all : goal.returns-then-not-is_over-clause-all
+returns-then-not-is_over-clause-all c = λ ended.
+    let one = taken-next c.args.lines.now c.nothing.result c.in-Some.first [] c.in-Some.line.now (c.nothing.ensures c.args.lines.now) c.in-Some.ensures.line in
+    let block = c.in_ok-block.ensures c.in-Some.line.now one in
+    let over : IsTrue c.is_over.result = (c.is_over.ensures (c.in-Some.line.now ∷ block.later) block.taken).1 (inl ended) in
+    absurd (not_told c.if-not-is_over.true (λ t. t) over)
+
+pub returns-then-not-is_over-clause-none : goal.returns-then-not-is_over-clause-none
+returns-then-not-is_over-clause-none c =
+    let one = taken-next c.args.lines.now c.nothing.result c.in-Some.first [] c.in-Some.line.now (c.nothing.ensures c.args.lines.now) c.in-Some.ensures.line in
+    let block = rw (c.new.ensures ∙ c.deref-2.ensures.value) at (c.in_ok-block.ensures c.in-Some.line.now one) in
+    let over = rw (c.new-2.ensures ∙ c.deref-3.ensures.value) at (c.is_over.ensures (c.in-Some.line.now ∷ block.later) block.taken) in
+    let opening = rw (c.in_ok-extend_from_slice.ensures.items, c.clear.ensures.items, c.deref.ensures.value) at c.in_ok-kept.ensures in
+    rw (← c.self.view_is) (none_over c.self.inside.open.items c.open_containers.new.outer.items c.in-Some.line.now
+    c.args.lines.now c.args.has_ended c.in_ok-kept.kept _ c.in_ok-block.block opening block (not_told c.if-not-is_over.true over.1))
+
+pub returns-clause-some : goal.returns-clause-some
+returns-clause-some c =
+    let one = taken-next c.args.lines.now c.nothing.result c.in-Some.first [] c.in-Some.line.now (c.nothing.ensures c.args.lines.now) c.in-Some.ensures.line in
+    (some_bytes c.args.lines.now _ c.in-Some.line.now _ c.in_ok-block.block (c.in_ok-block.ensures c.in-Some.line.now one)).0
+
+pub returns-clause-within : goal.returns-clause-within
+returns-clause-within c =
+    let one = taken-next c.args.lines.now c.nothing.result c.in-Some.first [] c.in-Some.line.now (c.nothing.ensures c.args.lines.now) c.in-Some.ensures.line in
+    (some_bytes c.args.lines.now _ c.in-Some.line.now _ c.in_ok-block.block (c.in_ok-block.ensures c.in-Some.line.now one)).1
+
+pub returns-clause-step : goal.returns-clause-step
+returns-clause-step c = λ more none.
+    let one = taken-next c.args.lines.now c.nothing.result c.in-Some.first [] c.in-Some.line.now (c.nothing.ensures c.args.lines.now) c.in-Some.ensures.line in
+    let block = rw (c.new.ensures ∙ c.deref-2.ensures.value) at (c.in_ok-block.ensures c.in-Some.line.now one) in
+    let over = rw (c.new-2.ensures ∙ c.deref-3.ensures.value) at (c.is_over.ensures (c.in-Some.line.now ∷ block.later) block.taken) in
+    let opening = rw (c.in_ok-extend_from_slice.ensures.items, c.clear.ensures.items, c.deref.ensures.value) at c.in_ok-kept.ensures in
+    let leaf = leaf-more c.open_containers.new.outer.items more c.in_ok-block.block.kind _ block.later _ c.args.has_ended
+    (over.0 c.if-not-is_over.false) none block.leaf in
+    rw (← c.self.view_is, c.swap.ensures.x_after) (step_here c.self.inside.open.items c.open_containers.new.outer.items
+    c.in-Some.line.now c.args.lines.now more _ opening block leaf)

@@ -1,0 +1,134 @@
+-- Containers that are opened, and the block of a step.
+use Rattle.std.proofs.Common.{ℕ, Bool, List, [], ◌∷◌, ◌++◌, ◌<◌, ◌≤◌, ◌≡◌, length, take}
+use Rattle.std.proofs.Common.{drop, Some, None, refl, sym, ap, ◌∙◌, subst, arith, append_assoc, append-nil}
+use Rattle.std.proofs.lemmas.List.{take_all}
+use Rattle.markdown_scanners_tree.specs.line.State.{LineState, space_within, after_space}
+use Rattle.markdown_scanners_tree.specs.scanners.TextLines.{lines_of}
+use Rattle.markdown_blocks.specs.containers.Containers.{Rest, rest_at, behind, begun_at, begun_behind, Opens, settled, settled_last}
+use Rattle.markdown_blocks.specs.declared.blocks.Block.{Block}
+use Rattle.markdown_blocks.specs.declared.containers.Container.{Container}
+use Rattle.markdown_blocks.specs.blocks.Leaves.{IsLeaf}
+use Rattle.markdown_blocks.specs.blocks.Over.{IsOver}
+use Rattle.markdown_blocks.specs.blocks.Pages.{Piece, IsPiece, IsBlockOf, NoneIsOver}
+use Rattle.markdown_blocks.specs.declared.walk.Step.{Step}
+use Rattle.markdown_blocks.specs.walk.Walk.{IsOpening, IsStep, rest_of}
+use Rattle.markdown_blocks.proofs.blocks.OneText.{one_piece}
+
+-- the last container that is left is settled
+pub settled-push : (outer : List Container) (c : Container) → settled_last (outer ++ c ∷ []) ≡ outer ++ settled c ∷ []
+settled-push [] c = refl
+settled-push (a ∷ []) c = refl
+settled-push (a ∷ b ∷ outer) c = ap (λ cs. a ∷ cs) (settled-push (b ∷ outer) c)
+
+-- the containers that the line has begun so far, and the place of the rest of it, behind its space
+pub record Opening (old : List Container) (line : List ℕ) (now : List Container) (count indent : ℕ) (start : LineState) : Type 0 where
+  pub kept : List Container
+  pub begun : List Container
+  pub place : LineState
+  pub open_now : now ≡ kept ++ begun
+  pub counted : count ≡ length kept
+  pub goes_on : kept ≡ settled_last (take (behind old line).kept old)
+  pub columns : indent ≡ space_within 4 place
+  pub state : start ≡ after_space 4 place
+  pub goes : (more : List Container) (after : LineState) → Opens place more after → Opens (behind old line).state (begun ++ more) after
+
+module _ (old : List Container) (line : List ℕ) where
+  pub opening-first : (now : List Container) (count kept indent : ℕ) (s start : LineState) → count ≡ length now → kept ≡ (behind old line).kept
+      → now ≡ settled_last (take kept old) → s ≡ (behind old line).state → indent ≡ space_within 4 s → start ≡ after_space 4 s
+      → Opening old line now count indent start
+  opening-first now count kept indent s start counts keeps left at columns state = record {
+    kept = now;
+    begun = [];
+    place = (behind old line).state;
+    open_now = sym (append-nil now);
+    counted = counts;
+    goes_on = subst (λ n. now ≡ settled_last (take n old)) keeps left;
+    columns = subst (λ z. indent ≡ space_within 4 z) at columns;
+    state = subst (λ z. start ≡ after_space 4 z) at state;
+    goes = λ more after h. h;
+  }
+
+  pub opening-next : (now more_now : List Container) (count indent columns : ℕ) (start next after : LineState) (c : Container)
+      → Opening old line now count indent start → begun_behind indent start ≡ Some (c, next) → more_now ≡ now ++ c ∷ []
+      → columns ≡ space_within 4 next → after ≡ after_space 4 next → Opening old line more_now count columns after
+  opening-next now more_now count indent columns start next after c o found grown space state = record {
+    kept = o.kept;
+    begun = o.begun ++ c ∷ [];
+    place = next;
+    open_now = grown ∙ ap (λ cs. cs ++ c ∷ []) o.open_now ∙ append_assoc o.kept o.begun (c ∷ []);
+    counted = o.counted;
+    goes_on = o.goes_on;
+    columns = space;
+    state = state;
+    goes = λ more last h. rw append_assoc (o.goes (c ∷ more) last (next, here, h));
+  }
+    where
+      here : begun_at o.place ≡ Some (c, next)
+      here = subst (λ n. begun_behind n (after_space 4 o.place) ≡ Some (c, next)) o.columns (subst (λ z. begun_behind indent z ≡ Some
+          (c, next)) o.state found)
+
+  pub opening-done : (now : List Container) (count indent : ℕ) (start : LineState) (words : Rest) → Opening old line now count indent start
+      → begun_behind indent start ≡ None → ((s : LineState) → indent ≡ space_within 4 s → start ≡ after_space 4 s → words ≡ rest_at s)
+      → IsOpening old line now count words
+  opening-done now count indent start words o none rest = record {
+    kept = o.kept;
+    begun = o.begun;
+    open_now = o.open_now;
+    counted = o.counted;
+    opened = record {
+      goes_on = o.goes_on;
+      place = o.place;
+      begins = rw append-nil at (o.goes [] o.place (here, refl));
+      is_rest = rest o.place o.columns o.state;
+    };
+  }
+    where
+      here : begun_at o.place ≡ None
+      here = subst (λ n. begun_behind n (after_space 4 o.place) ≡ None) o.columns (subst (λ z. begun_behind indent z ≡ None) o.state none)
+
+-- a block has a byte, and no more than the text
+pub some_bytes : (text : List ℕ) (outer : List Container) (line : List ℕ) (words : Rest) (block : Block) → IsBlockOf text outer line words block
+    → (0 < block.taken.bytes) × (block.taken.bytes ≤ length text) × (block.taken.lines ≤ block.taken.bytes)
+some_bytes text outer line words block h =
+    let counted = h.taken.counted in let few = block.taken.few in let within = h.taken.within in (omega arith, within, few)
+
+pub kept_settled : (old now popped after : List Container) (kept : ℕ) (last c : Container) → length now ≤ kept → take kept now ≡ take kept old
+    → now ≡ popped ++ last ∷ []
+    → c ≡ settled last → after ≡ popped ++ c ∷ [] → after ≡ settled_last (take kept old)
+kept_settled old now popped after kept last c short same is settles grown =
+    grown ∙ ap (λ x. popped ++ x ∷ []) settles ∙ sym (settled-push popped last) ∙ ap settled_last (sym is ∙ sym (take_all kept now short) ∙ same)
+
+-- the block at the front of the lines is a step
+pub step_here : (old inner : List Container) (line lines : List ℕ) (more : List (List ℕ)) (step : Step) → IsOpening old line inner step.kept (rest_of step)
+    → (b : IsBlockOf lines inner line (rest_of step) step.block)
+    → IsLeaf inner step.block.kind (rest_of step) b.later (lines_of (drop step.block.taken.bytes lines) ++ more) → IsStep old lines more step inner
+step_here old inner line lines more step o b leaf = record {
+  piece = record { kept = o.kept; begun = o.begun; words = rest_of step; kind = step.block.kind; first = line; later = b.later };
+  is_piece = record {
+    opened = o.opened;
+    leaf = subst (λ cs. IsLeaf cs step.block.kind (rest_of step) b.later (lines_of (drop step.block.taken.bytes lines) ++ more)) o.open_now leaf;
+  };
+  taken = b.taken;
+  open_now = o.open_now;
+  counted = o.counted;
+  kind = refl;
+  words = refl;
+}
+
+-- it is not over, so that no block at the front is
+pub none_over : (old inner : List Container) (line lines : List ℕ) (has_ended : Bool) (count : ℕ) (words : Rest) (block : Block)
+    → IsOpening old line inner count words → IsBlockOf lines inner line words block
+    → ¬ IsOver inner block.kind has_ended (lines_of (drop block.taken.bytes lines)) → NoneIsOver old lines has_ended
+none_over old inner line lines has_ended count words block o b open_yet piece rest parts is over =
+    let here : Piece = record { kept = o.kept; begun = o.begun; words = words; kind = block.kind; first = line; later = b.later } in
+    let left : List (List ℕ) = lines_of (drop block.taken.bytes lines) in
+    let here_is : IsPiece old here left = record { opened = o.opened; leaf = subst (λ cs. IsLeaf cs block.kind words b.later left) o.open_now b.leaf } in
+    let one = one_piece old here piece left rest (sym b.taken.parts ∙ parts) here_is is in
+    let over_here : IsOver (o.kept ++ o.begun) block.kind has_ended rest =
+    subst (λ p. IsOver (p.kept ++ p.begun) p.kind has_ended rest) (sym one.0) over in
+    open_yet (subst (λ cs. IsOver cs block.kind has_ended left) (sym o.open_now)
+    (subst (λ ls. IsOver (o.kept ++ o.begun) block.kind has_ended ls) (sym one.1) over_here))
+
+pub none_left : (old : List Container) (lines : List ℕ) (has_ended : Bool) → lines_of lines ≡ [] → NoneIsOver old lines has_ended
+none_left old lines has_ended none piece rest parts is over =
+    let both : ◌≡◌ {A = List (List ℕ)} [] ((piece.first ∷ piece.later) ++ rest) = sym none ∙ parts in cc

@@ -1,0 +1,11 @@
+use Rattle.std.proofs.Common.{◌-◌, ◌≤◌, ◌≡◌, length}
+use Rattle.markdown_blocks.proofs.walk.WalkLemmas.{Opening}
+use Rattle.markdown_blocks.proofs.walk.open_containers.Given as goal
+
+-- the containers that are begun so far are open
+abbrev pub invariant-loop-container : goal.invariant-loop-container
+invariant-loop-container l =
+    (l.start.bytes ≡ l.line) × (l.indent ≤ 4) × Opening l.fn.outer.items l.line l.outer.items l.count l.indent l.start
+
+abbrev pub decreases-loop-container : goal.decreases-loop-container
+decreases-loop-container l = length l.line - l.start.place

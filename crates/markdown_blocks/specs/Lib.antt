@@ -1,0 +1,5 @@
+pub mod blocks
+pub mod containers
+pub mod info
+pub mod taken
+pub mod walk

@@ -1,0 +1,19 @@
+-- What a scan for the end of a block looks for in a line.
+use Rattle.std.specs.Prelude.{ℕ, List}
+use Rattle.markdown_blocks.specs.containers.Containers.{Rest}
+use Rattle.markdown_blocks.specs.declared.blocks.Ending.{Ending}
+use Rattle.markdown_blocks.specs.declared.blocks.Ending.TheVariants.{Text, Paragraph, Fence, Html}
+use Rattle.markdown_blocks.specs.declared.containers.Container.{Container}
+use Rattle.markdown_blocks.specs.blocks.Leaves.{IsBlank, EndsParagraph, ClosesFence, EndsHtml, OutOr, LeavesParagraph}
+
+-- what a line has in the open containers where it ends the block
+abbrev pub Ends : Ending → Rest → Type 0
+Ends Text rest = ¬ IsBlank rest
+Ends Paragraph rest = EndsParagraph rest
+Ends (Fence count byte) rest = ClosesFence count byte rest
+Ends (Html kind) rest = EndsHtml kind rest
+
+-- the line ends it: by that, or since it does not stand in them and is no lazy line of a paragraph
+abbrev pub IsEnd : List Container → Ending → List ℕ → Type 0
+IsEnd outer Paragraph line = LeavesParagraph outer line
+IsEnd outer ending line = OutOr outer (Ends ending) line

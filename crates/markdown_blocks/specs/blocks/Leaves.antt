@@ -1,0 +1,163 @@
+-- Where the blocks of a page begin and end, line by line, in their containers. (CommonMark 0.31.2, chapter 4)
+use Rattle.std.specs.Prelude.{ℕ, List, [], ◌∷◌, ◌++◌, ◌≡◌, ◌⊎◌, ⊤, None, IsTrue, MatchBool}
+use Rattle.std.specs.List.{AllByRecursion}
+use Rattle.markdown_values.specs.declared.values.HeadingLevel.{HeadingLevel}
+use Rattle.markdown_scanners_tree.specs.Bytes.{is_blank}
+use Rattle.markdown_scanners_tree.specs.declared.scanners.html_kinds.HtmlBlockKind.{HtmlBlockKind}
+use Rattle.markdown_scanners_tree.specs.line.State.{LineState}
+use Rattle.markdown_scanners_tree.specs.scanners.Breaks.{IsThematicBreak}
+use Rattle.markdown_scanners_tree.specs.scanners.Fences.{IsCodeFence, IsClosingCodeFence}
+use Rattle.markdown_scanners_tree.specs.scanners.Headings.{IsAtxHeading, IsSetextUnderline}
+use Rattle.markdown_scanners_tree.specs.scanners.Interrupts.{InterruptsParagraph}
+use Rattle.markdown_scanners_tree.specs.scanners.html_kinds.HtmlKinds.{IsHtmlBlockStart, ends_before_blank, is_html_end}
+use Rattle.markdown_blocks.specs.containers.Containers.{Rest, rest_at, begun_at, behind, IsInside, rest_in}
+use Rattle.markdown_blocks.specs.declared.blocks.BlockKind.{BlockKind}
+use Rattle.markdown_blocks.specs.declared.blocks.BlockKind.TheVariants.{Blank, Break, Heading, Setext, Indented, Fenced, Html, Table, Paragraph}
+use Rattle.markdown_blocks.specs.declared.containers.Container.{Container}
+use Rattle.markdown_blocks.specs.blocks.Tables.{cells, IsDelimiter}
+
+-- the rest of a line is blank (4.9)
+abbrev pub IsBlank : Rest → Type 0
+IsBlank rest = IsTrue (is_blank rest.text)
+
+-- four columns of space stand before its text (4.4)
+abbrev pub HasIndent : Rest → Type 0
+HasIndent rest = rest.indent ≡ 4
+
+-- The rest of a line is the first of a block of this kind, if this is its text behind its indent and it begins no container.
+-- A paragraph is what is nothing else.
+abbrev pub BeginsAt : BlockKind → List ℕ → Type 0
+BeginsAt Blank text = ⊥
+BeginsAt Indented text = ⊥
+BeginsAt (Setext level) text = ⊥
+BeginsAt (Table columns) text = ⊥
+BeginsAt Break text = IsThematicBreak text
+BeginsAt (Heading level) text = IsAtxHeading text level
+BeginsAt (Fenced count byte) text = IsCodeFence text count byte
+BeginsAt (Html kind) text = IsHtmlBlockStart text kind
+BeginsAt Paragraph text =
+    (¬ IsThematicBreak text) × ((level : HeadingLevel) → ¬ IsAtxHeading text level)
+    × ((fence : ℕ × ℕ) → ¬ IsCodeFence text fence.0 fence.1) × ((kind : HtmlBlockKind) → ¬ IsHtmlBlockStart text kind)
+
+-- the rest of a line is the first of a block of this kind
+abbrev pub Begins : BlockKind → Rest → Type 0
+Begins Blank rest = IsBlank rest
+Begins Indented rest = (¬ IsBlank rest) × HasIndent rest
+Begins kind rest = (¬ IsBlank rest) × (¬ HasIndent rest) × BeginsAt kind rest.text
+
+-- it is the underline of a setext heading of this level (4.3)
+abbrev pub IsUnderline : HeadingLevel → Rest → Type 0
+IsUnderline level rest = (¬ HasIndent rest) × (n : ℕ) × IsSetextUnderline rest.text n level
+
+-- it goes on with no paragraph: it is blank, an underline, or interrupts it (4.8)
+abbrev pub EndsParagraph : Rest → Type 0
+EndsParagraph rest =
+    IsBlank rest ⊎ (((level : HeadingLevel) × IsUnderline level rest) ⊎ ((¬ HasIndent rest) × InterruptsParagraph rest.text))
+
+-- it closes fenced code with this fence (4.5)
+abbrev pub ClosesFence : ℕ → ℕ → Rest → Type 0
+ClosesFence count byte rest = (¬ HasIndent rest) × (n : ℕ) × IsClosingCodeFence rest.text byte count n
+
+-- it meets the end condition of an HTML block (4.6)
+abbrev pub EndsHtml : HtmlBlockKind → Rest → Type 0
+EndsHtml kind rest = IsTrue (is_html_end kind rest.text)
+
+-- The line is lazy, with this rest behind fewer containers than the paragraph before it stands in: the rest begins no container,
+-- and it is text that does not interrupt a paragraph. (5.1, laziness; 5.2, rule 5; "Parsing strategy", phase 1)
+abbrev pub IsLazy : LineState → Type 0
+IsLazy s =
+    (begun_at s ≡ None) × (¬ IsBlank (rest_at s)) × (HasIndent (rest_at s) ⊎ (¬ InterruptsParagraph (rest_at s).text))
+
+-- the line stands in the open containers, and what it has behind them has the property
+abbrev pub In : List Container → (Rest → Type 0) → List ℕ → Type 0
+In outer P line = IsInside outer line × P (rest_in outer line)
+
+-- the line doesn't stand in them, or what it has behind them has the property
+abbrev pub OutOr : List Container → (Rest → Type 0) → List ℕ → Type 0
+OutOr outer P line = (¬ IsInside outer line) ⊎ In outer P line
+
+-- the line goes on with no paragraph in them
+abbrev pub LeavesParagraph : List Container → List ℕ → Type 0
+LeavesParagraph outer line =
+    ((¬ IsInside outer line) × (¬ IsLazy (behind outer line).state)) ⊎ In outer EndsParagraph line
+
+-- In them the line is the delimiter row of a table of so many columns, behind a line with this text: that has as many cells, and
+-- it would go on with a paragraph of that. (GitHub Flavored Markdown 0.29, section 4.10)
+abbrev pub IsHead : List Container → List ℕ → ℕ → List ℕ → Type 0
+IsHead outer text columns line =
+    (¬ LeavesParagraph outer line) × In outer (IsDelimiter columns) line × (cells text ≡ columns)
+
+-- a row of a table: it stands in the containers, is not blank, and begins no container and no other block (the same section)
+abbrev pub IsRow : List Container → List ℕ → Type 0
+IsRow outer line = (begun_at (behind outer line).state ≡ None) × In outer (Begins Paragraph) line
+
+-- the first of the lines, if there is one
+abbrev pub OnFirst : (List ℕ → Type 0) → List (List ℕ) → Type 0
+OnFirst P [] = ⊤
+OnFirst P (line ∷ lines) = P line
+
+-- the first of the lines is the delimiter row of no table behind a line with this rest
+abbrev pub BeginsNoTable : List Container → Rest → List (List ℕ) → Type 0
+BeginsNoTable outer first = OnFirst (λ line. (columns : ℕ) → ¬ IsHead outer first.text columns line)
+
+-- the lines are all up to the first that has the property, or to the last line
+pub record StopsBefore (P : List ℕ → Type 0) (lines rest : List (List ℕ)) : Type 0 where
+  pub none : AllByRecursion (λ line. ¬ P line) lines
+  pub stopped : OnFirst P rest
+
+-- the last of the lines is the first that has the property, and stands in the containers; or no such line does
+abbrev pub StopsBehind : List Container → (List ℕ → Type 0) → List (List ℕ) → List (List ℕ) → Type 0
+StopsBehind outer P lines rest =
+    ((before : List (List ℕ)) × (last : List ℕ) × (lines ≡ before ++ last ∷ []) × StopsBefore P before (last ∷ rest)
+    × IsInside outer last)
+    ⊎ (StopsBefore P lines rest × OnFirst (λ line. ¬ IsInside outer line) rest)
+
+-- the line is blank in the containers, or no part of indented code in them
+abbrev pub IsBlankIn : List Container → List ℕ → Type 0
+IsBlankIn outer line = In outer IsBlank line
+
+abbrev pub EndsIndented : List Container → List ℕ → Type 0
+EndsIndented outer line = OutOr outer (λ rest. (¬ IsBlank rest) × (¬ HasIndent rest)) line
+
+-- behind blank lines, if there are any, comes a line that is no part of indented code, or nothing
+abbrev pub NoMoreIndented : List Container → List (List ℕ) → Type 0
+NoMoreIndented outer [] = ⊤
+NoMoreIndented outer (line ∷ lines) = (IsBlankIn outer line × NoMoreIndented outer lines) ⊎ EndsIndented outer line
+
+-- the last of the lines, if there is one, is not blank
+abbrev pub LastHasText : List Container → List (List ℕ) → Type 0
+LastHasText outer [] = ⊤
+LastHasText outer (line ∷ []) = ¬ IsBlankIn outer line
+LastHasText outer (line ∷ next ∷ lines) = LastHasText outer (next ∷ lines)
+
+-- the lines of indented code behind its first
+pub record GoesOnIndented (outer : List Container) (later rest : List (List ℕ)) : Type 0 where
+  pub inside : AllByRecursion (λ line. ¬ EndsIndented outer line) later
+  pub last : LastHasText outer later
+  pub stopped : NoMoreIndented outer rest
+
+-- the lines of an HTML block of this kind behind its first: none where the first meets the end condition
+abbrev pub EndsAsHtml : List Container → HtmlBlockKind → Rest → List (List ℕ) → List (List ℕ) → Type 0
+EndsAsHtml outer kind first later rest =
+    MatchBool (ends_before_blank kind) (StopsBefore (OutOr outer (EndsHtml kind)) later rest)
+    ((EndsHtml kind first × (later ≡ [])) ⊎ ((¬ EndsHtml kind first) × StopsBehind outer (OutOr outer (EndsHtml kind)) later rest))
+
+-- In these containers a line with this rest and the later lines are a block of this kind, and this rest of the page follows.
+abbrev pub IsLeaf : List Container → BlockKind → Rest → List (List ℕ) → List (List ℕ) → Type 0
+IsLeaf outer Blank first later rest = Begins Blank first × StopsBefore (OutOr outer (λ r. ¬ IsBlank r)) later rest
+IsLeaf outer Indented first later rest = Begins Indented first × GoesOnIndented outer later rest
+IsLeaf outer (Fenced count byte) first later rest =
+    Begins (Fenced count byte) first × StopsBehind outer (OutOr outer (ClosesFence count byte)) later rest
+IsLeaf outer (Html kind) first later rest = Begins (Html kind) first × EndsAsHtml outer kind first later rest
+IsLeaf outer (Table columns) first later rest =
+    Begins Paragraph first
+    × (head : List ℕ) × (rows : List (List ℕ)) × (later ≡ head ∷ rows)
+    × IsHead outer first.text columns head × StopsBefore (λ line. ¬ IsRow outer line) rows rest
+IsLeaf outer Paragraph first later rest =
+    Begins Paragraph first × BeginsNoTable outer first later × StopsBefore (LeavesParagraph outer) later rest
+    × OnFirst (λ line. (level : HeadingLevel) → ¬ In outer (IsUnderline level) line) rest
+IsLeaf outer (Setext level) first later rest =
+    Begins Paragraph first
+    × (middle : List (List ℕ)) × (last : List ℕ) × (later ≡ middle ++ last ∷ []) × BeginsNoTable outer first middle
+    × StopsBefore (LeavesParagraph outer) middle (last ∷ rest) × In outer (IsUnderline level) last
+IsLeaf outer kind first later rest = Begins kind first × (later ≡ [])

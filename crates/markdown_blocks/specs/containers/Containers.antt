@@ -1,0 +1,98 @@
+-- Block quotes and list items, line by line. (CommonMark 0.31.2, sections 5.1 and 5.2, and "Parsing strategy", phase 1)
+use Rattle.std.specs.Prelude.{ℕ, suc, Bool, true, false, not, ◌==◌, ◌≡◌, List, [], ◌∷◌, length, Option, Some, None, if◌then◌else◌}
+use Rattle.std.specs.Option.{option_map}
+use Rattle.markdown_scanners_tree.specs.Ascii.{greater_than_sign}
+use Rattle.markdown_scanners_tree.specs.Bytes.{begins_with, is_blank}
+use Rattle.markdown_scanners_tree.specs.line.ItemRules.{start_of}
+use Rattle.markdown_scanners_tree.specs.line.Outcome.{Outcome, after_quote, item_outcome}
+use Rattle.markdown_scanners_tree.specs.line.State.{LineState, unscanned, space_within, after_space}
+use Rattle.markdown_blocks.specs.declared.containers.Container.{Container}
+use Rattle.markdown_blocks.specs.declared.containers.Container.TheVariants.{Quote, Item}
+
+-- what a line has behind its containers: at most four columns of space, and the text behind them
+pub record Rest : Type 0 where
+  pub indent : ℕ
+  pub text : List ℕ
+
+abbrev pub rest_at : LineState → Rest
+rest_at s = record { indent = space_within 4 s; text = unscanned (after_space 4 s) }
+
+-- the block quote marker here, behind so much space: what is left behind it, if it stands here and the space is no indented code (5.1)
+abbrev pub behind_quote : ℕ → LineState → Option LineState
+behind_quote indent s =
+    if indent == 4 then None
+    else if begins_with (λ b. b == greater_than_sign) (unscanned s) then Some (after_quote s)
+    else None
+
+-- what an item's marker begins, and what is left of the line behind it
+abbrev pub item_of : Outcome (ℕ × ℕ × ℕ) → Option (Container × LineState)
+item_of found =
+    option_map (λ r. (Item (record { delimiter = r.0; start = r.1; width = r.2; begun = is_blank (unscanned found.state) }), found.state)) found.answer
+
+-- the container whose marker stands here, behind so much space, and what is left of the line behind it (5.1, 5.2)
+abbrev pub begun_behind : ℕ → LineState → Option (Container × LineState)
+begun_behind indent s =
+    if indent == 4 then None
+    else if begins_with (λ b. b == greater_than_sign) (unscanned s) then Some (Quote, after_quote s)
+    else item_of (item_outcome indent s)
+
+-- the container that the rest of a line begins
+abbrev pub begun_at : LineState → Option (Container × LineState)
+begun_at s = begun_behind (space_within 4 s) (after_space 4 s)
+
+-- The rest of a line goes on with a container: with a block quote where its marker stands, with an item where the rest is
+-- indented as the item's text is, or blank. An item that begins with a blank line does not go on with a second one. What is
+-- left of the line then, and whether that is blank.
+abbrev pub within_quote : Option LineState → Option (Bool × LineState)
+within_quote behind = option_map (λ s. (is_blank (unscanned s), s)) behind
+
+abbrev pub within : Container → Bool → LineState → Option (Bool × LineState)
+within Quote blank s = within_quote (behind_quote (space_within 4 s) (after_space 4 s))
+within (Item item) true s = if item.begun then None else Some (true, s)
+within (Item item) false s =
+    if space_within item.width s == item.width then Some (false, after_space item.width s) else None
+
+-- a blank line goes on with the container, whatever space it has
+abbrev pub goes_on_blank : Container → Bool
+goes_on_blank Quote = false
+goes_on_blank (Item item) = not item.begun
+
+-- how many of the containers a line goes on with, the outermost first, and what is left of it behind them
+pub record Behind : Type 0 where
+  pub kept : ℕ
+  pub state : LineState
+
+abbrev pub go_on : Bool → List Container → LineState → Behind
+go_on blank [] s = record { kept = 0; state = s }
+go_on blank (c ∷ inner) s =
+    elim (within c blank s) [
+      | Some r ↦ (let more = go_on r.0 inner r.1 in record { kept = suc more.kept; state = more.state })
+      | None ↦ record { kept = 0; state = s }
+    ]
+
+-- the line, as far as it goes on with the open containers
+abbrev pub behind : List Container → List ℕ → Behind
+behind outer line = go_on (is_blank line) outer (start_of line)
+
+-- the line goes on with all of them
+abbrev pub IsInside : List Container → List ℕ → Type 0
+IsInside outer line = (behind outer line).kept ≡ length outer
+
+-- what the line has behind those that it goes on with
+abbrev pub rest_in : List Container → List ℕ → Rest
+rest_in outer line = rest_at (behind outer line).state
+
+-- the rest of a line begins these containers, one in the other, and no further one
+abbrev pub Opens : LineState → List Container → LineState → Type 0
+Opens s [] after = (begun_at s ≡ None) × (after ≡ s)
+Opens s (c ∷ inner) after = (next : LineState) × (begun_at s ≡ Some (c, next)) × Opens next inner after
+
+-- An item of which a second line is read, and the last of open containers so.
+abbrev pub settled : Container → Container
+settled Quote = Quote
+settled (Item item) = Item (record item { begun = false })
+
+abbrev pub settled_last : List Container → List Container
+settled_last [] = []
+settled_last (c ∷ []) = settled c ∷ []
+settled_last (c ∷ d ∷ inner) = c ∷ settled_last (d ∷ inner)

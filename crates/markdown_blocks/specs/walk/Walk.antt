@@ -1,0 +1,31 @@
+-- One step of a walk over a page: the next block, and the containers that are open then.
+use Rattle.std.specs.Prelude.{ℕ, ◌≡◌, List, ◌∷◌, ◌++◌, drop, length}
+use Rattle.markdown_scanners_tree.specs.scanners.TextLines.{lines_of}
+use Rattle.markdown_blocks.specs.blocks.Pages.{Piece, AreOpened, IsPiece}
+use Rattle.markdown_blocks.specs.containers.Containers.{Rest}
+use Rattle.markdown_blocks.specs.declared.containers.Container.{Container}
+use Rattle.markdown_blocks.specs.declared.walk.Step.{Step}
+use Rattle.markdown_blocks.specs.taken.Lines.{IsTaken}
+
+-- where these containers are open, the line opens new ones, so many of which were open before, and what is left of it is this
+pub record IsOpening (old : List Container) (line : List ℕ) (new : List Container) (count : ℕ) (words : Rest) : Type 0 where
+  pub kept : List Container
+  pub begun : List Container
+  pub open_now : new ≡ kept ++ begun
+  pub counted : count ≡ length kept
+  pub opened : AreOpened old line kept begun words
+
+-- what the first line of the step's block has behind its containers
+abbrev pub rest_of : Step → Rest
+rest_of step = record { indent = step.indent; text = step.text.now }
+
+-- Where these containers are open, the step is the block at the front of the lines, if these further lines stand behind them;
+-- then the new ones are open.
+pub record IsStep (old : List Container) (lines : List ℕ) (more : List (List ℕ)) (step : Step) (new : List Container) : Type 0 where
+  pub piece : Piece
+  pub is_piece : IsPiece old piece (lines_of (drop step.block.taken.bytes lines) ++ more)
+  pub taken : IsTaken lines step.block.taken (piece.first ∷ piece.later)
+  pub open_now : new ≡ piece.kept ++ piece.begun
+  pub counted : step.kept ≡ length piece.kept
+  pub kind : piece.kind ≡ step.block.kind
+  pub words : piece.words ≡ rest_of step

@@ -1,0 +1,183 @@
+//! Block quotes and list items: how far a line goes on with those that are open, and what it begins.
+//! (CommonMark 0.31.2, sections 5.1 and 5.2)
+ghost use Rattle.std.specs.Prelude.{◌≡◌, ◌<◌, ◌≤◌, length, drop, false, true, Some, None, IfSome, IfNone};
+ghost use Rattle.std.specs.List.{list_all};
+ghost use Rattle.markdown_scanners_tree.specs.line.State.{space_within, after_space};
+ghost use Rattle.markdown_blocks.specs.containers.Containers.{begun_behind, behind, behind_quote, goes_on_blank, rest_at, within, within_quote};
+
+use crate::kinds::is_blank;
+use markdown_scanners_tree::line::LineStart;
+
+/// A list item: its bullet or delimiter, the number that it starts at, the indent of its text in
+/// columns, and whether only its first line is read, which is blank behind the marker.
+#[derive(Clone, Copy)]
+pub struct ListItem {
+    pub delimiter: u8,
+    pub start: u64,
+    pub width: usize,
+    pub begun: bool,
+}
+
+/// A container.
+#[derive(Clone, Copy)]
+pub enum Container {
+    /// A block quote.
+    Quote,
+    /// A list item.
+    Item(ListItem),
+}
+
+/// The open containers, the outermost first; from a place on they are items that go on with blank
+/// lines, so that such a line is not tried for each of them.
+#[derive(Clone, Copy)]
+pub(crate) struct Outer<'a> {
+    pub(crate) containers: &'a [Container],
+    plain: usize,
+    ghost all_plain: { list_all goes_on_blank (drop plain containers.now) ≡ true },
+}
+
+impl<'a> Outer<'a> {
+    ghost use Rattle.std.specs.Prelude.{◌≡◌};
+
+    /// These containers.
+    pub(crate) fn new(containers: &'a [Container]) -> Outer<'a>
+        ensures { result.containers.now ≡ containers.now }
+    {
+        let mut plain = containers.len();
+        while plain > 0 {
+            if !goes_on_blank(containers[plain - 1]) {
+                break;
+            }
+            plain -= 1;
+        }
+        Outer { containers, plain }
+    }
+}
+
+// Whether a blank line goes on with the container.
+fn goes_on_blank(container: Container) -> bool
+    ensures { result ≡ goes_on_blank container }
+{
+    match container {
+        Container::Quote => false,
+        Container::Item(item) => !item.begun,
+    }
+}
+
+/// How many of the open containers the line goes on with, and its place behind them.
+pub(crate) fn go_on<'a>(line: &'a [u8], outer: Outer) -> (usize, LineStart<'a>)
+    ensures kept { result.0 ≡ (behind outer.entry.containers.now line.now).kept }
+    ensures few { result.0 ≤ length outer.entry.containers.now }
+    ensures state { result.1 ≡ (behind outer.entry.containers.now line.now).state }
+    ensures bytes { result.1.bytes ≡ line.now }
+{
+    let mut start = LineStart::new(line);
+    let mut blank = is_blank(line);
+    let mut rest = outer.containers;
+    let mut kept = 0;
+    while let [container, inner @ ..] = rest {
+        if blank && kept >= outer.plain {
+            return (outer.containers.len(), start);
+        }
+        match pass(line, &mut start, blank, *container) {
+            Some(more) => blank = more,
+            None => return (kept, start),
+        }
+        kept += 1;
+        rest = inner;
+    }
+    (kept, start)
+}
+
+// Passes what the line has of the container, if it goes on with it. Answers whether what is left is
+// blank, as it was before or not.
+fn pass(line: &[u8], start: &mut LineStart, blank: bool, container: Container) -> Option<bool>
+    requires { start.old.bytes ≡ line.now }
+    ensures passed { IfSome result (λ more.
+        within container blank start.old ≡ Some (more, start.new)) }
+    ensures none { IfNone result (within container blank start.old ≡ None) }
+    ensures unchanged { IfNone result (start.new ≡ start.old) }
+    ensures bytes { start.new.bytes ≡ line.now }
+{
+    match container {
+        Container::Item(item) if blank => { if item.begun { None } else { Some(true) } }
+        Container::Item(item) => pass_indent(start, item.width),
+        Container::Quote => pass_quote(line, start),
+    }
+}
+
+// Passes so many columns of space, if they are there, before text.
+fn pass_indent(start: &mut LineStart, width: usize) -> Option<bool>
+    ensures passed { IfSome result (λ more. (more ≡ false) × (space_within width start.old ≡ width)
+        × (start.new ≡ after_space width start.old)) }
+    ensures none { IfNone result (¬ (space_within width start.old ≡ width)) }
+    ensures unchanged { IfNone result (start.new ≡ start.old) }
+    ensures bytes { start.new.bytes ≡ start.old.bytes }
+{
+    let Ok(before) = start.clone() else {
+        return None;
+    };
+    if start.scan_space(width) {
+        return Some(false);
+    }
+    *start = before;
+    None
+}
+
+// Passes a block quote marker behind at most three columns of space, if one stands there.
+fn pass_quote(line: &[u8], start: &mut LineStart) -> Option<bool>
+    requires { start.old.bytes ≡ line.now }
+    ensures passed { IfSome result (λ more.
+        within_quote (behind_quote (space_within 4 start.old) (after_space 4 start.old))
+        ≡ Some (more, start.new)) }
+    ensures none { IfNone result
+        (behind_quote (space_within 4 start.old) (after_space 4 start.old) ≡ None) }
+    ensures unchanged { IfNone result (start.new ≡ start.old) }
+    ensures bytes { start.new.bytes ≡ line.now }
+{
+    let Ok(before) = start.clone() else {
+        return None;
+    };
+    if start.scan_space_upto(4) < 4 && start.scan_blockquote_marker() {
+        return Some(is_blank(&line[start.bytes_scanned()..]));
+    }
+    *start = before;
+    None
+}
+
+/// At most four columns of space at the place of a line, and the text behind them.
+pub(crate) fn rest_behind<'a>(line: &'a [u8], mut start: LineStart) -> (usize, &'a [u8])
+    requires { start.bytes ≡ line.now }
+    ensures indent { result.0 ≡ (rest_at start.entry).indent }
+    ensures text { result.1.now ≡ (rest_at start.entry).text }
+{
+    let indent = start.scan_space_upto(4);
+    (indent, &line[start.bytes_scanned()..])
+}
+
+/// Passes the marker of the container that begins at the place, behind so many columns of space, if
+/// one does.
+pub(crate) fn scan_container(line: &[u8], start: &mut LineStart, indent: usize) -> Option<Container>
+    requires bytes { start.old.bytes ≡ line.now }
+    requires near { indent ≤ 4 }
+    ensures found { IfSome result (λ container.
+        begun_behind indent start.old ≡ Some (container, start.new)) }
+    ensures none { IfNone result (begun_behind indent start.old ≡ None) }
+    ensures unchanged { IfNone result (start.new ≡ start.old) }
+    ensures bytes { start.new.bytes ≡ line.now }
+    ensures rises { IfSome result (λ _. start.old.place < start.new.place) }
+{
+    if indent == 4 {
+        return None;
+    }
+    if start.scan_blockquote_marker() {
+        return Some(Container::Quote);
+    }
+    let (delimiter, number, width) = start.scan_list_marker_with_indent(indent)?;
+    Some(Container::Item(ListItem {
+        delimiter,
+        start: number,
+        width,
+        begun: is_blank(&line[start.bytes_scanned()..]),
+    }))
+}

@@ -1,0 +1,12 @@
+//! The blocks of a page of Markdown: the block structure of CommonMark 0.31.2, chapters 3, 4 and 5, and tables of GitHub Flavored
+//! Markdown 0.29.
+#![tactic(auto)]
+
+pub mod blocks;
+pub mod containers;
+pub mod info;
+mod kinds;
+mod tables;
+pub mod taken;
+pub mod walk;
+pub mod whole;

@@ -1,4 +1,0 @@
-pub mod BlockLemmas
-pub mod IndentedLemmas
-pub mod OverLemmas
-pub mod RestLemmas

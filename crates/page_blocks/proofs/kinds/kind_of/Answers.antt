@@ -1,8 +1,0 @@
-use Rattle.std.proofs.Common.{◌∙◌}
-use Rattle.page_blocks.proofs.kinds.KindLemmas.{begins_behind, not_told}
-use Rattle.page_blocks.proofs.kinds.kind_of.Goals as goal
-
-pub returns : goal.returns
-returns c =
-    begins_behind c.kind_at.result (record { indent = c.args.indent; text = c.args.text.now })
-    (not_told c.if-is_blank.false (λ t. c.is_blank.ensures ∙ t)) c.if-indent-eq4.false c.kind_at.ensures
