@@ -262,7 +262,8 @@ class Reader:
             self.close_beyond(depth)
         if self.fence:
             indented = self.at.upto(4) == 4
-            if not indented and mds.scan_closing_code_fence(self.page, *self.fence, self.at.place, self.end) is not None:
+            byte, count = self.fence
+            if not indented and mds.scan_closing_code_fence(self.page, self.at.place, self.end, byte=byte, count=count) is not None:
                 self.fence = None
         elif self.html is None:
             while self.opens_container(depth):
