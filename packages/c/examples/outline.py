@@ -5,7 +5,9 @@ installed, else that of the tree, over the shared library that packages/c/build 
     packages/c/build && packages/c/examples/outline.py README.md
 """
 import os
+import re
 import sys
+from bisect import bisect_left
 from pathlib import Path
 
 sys.dont_write_bytecode = True
@@ -15,11 +17,11 @@ Prints the outline of a Markdown file, or of standard input: a line for each ATX
 link reference definition with its normalised label, and for each full reference, as [text][label], whose label
 no definition has, those in block quotes and lists too. Each line begins with the number of a line of the file.
 
-It is no full CommonMark parser: an HTML block of `<script>`, `<pre>`, `<style>` or `<textarea>` ends at a blank
-line, as of other tags; and all brackets before a label make a full reference, those with a link in them too.
+It is no full CommonMark parser: all brackets before a label make a full reference, those with a link in them too.
 The status is 0; 1 where a label has no definition; 2 where the outline can't be had.
 """
 SPACE = b" \t\v\f"
+BACKTICKS = re.compile(b"`+")
 
 
 def fail(what, why):
@@ -45,6 +47,27 @@ def find(text, place, closers):
     return place
 
 
+class BacktickRuns:
+    """Where the runs of backticks of a text begin, by their lengths; they are looked for once, at the first."""
+
+    def __init__(self, text):
+        self.text, self.begins = text, None
+
+    def look(self):
+        self.begins = {}
+        for run in BACKTICKS.finditer(self.text):
+            self.begins.setdefault(len(run[0]), []).append(run.start())
+
+    def span_length(self, place):
+        """How many bytes the code span at the place takes, or its backticks where no run as long closes it. (6.1)"""
+        if self.begins is None:
+            self.look()
+        end = BACKTICKS.match(self.text, place).end()
+        closers = self.begins.get(end - place, [])
+        closer = bisect_left(closers, end)
+        return closers[closer] + end - 2 * place if closer < len(closers) else end - place
+
+
 class Outline:
     """What is found: headings are printed, and definitions and references kept, each with its line, label and key."""
 
@@ -56,7 +79,7 @@ class Outline:
         end = find(text, place + 1, b"[]")
         if text[place : place + 1] != b"[" or end >= len(text):
             return b"", b"", 0
-        label = mds.scan_link_label(text, at=place + 1, end=end + 1)  # it goes through all that it is given
+        label = mds.scan_link_label(text, place + 1, end + 1)
         return (label.text, mds.label_key(label.text), label.end - place) if label else (b"", b"", 0)
 
     def space_end(self, text, place):
@@ -81,27 +104,16 @@ class Outline:
         part = mds.scan_link_dest(text, start)
         end = self.definition_end(text, part.end) if part and part.end > start else 0
         if end:
-            self.definitions.append((line, label, key, mds.unescape(text, at=part.start, end=part.stop)))
+            self.definitions.append((line, label, key, mds.unescape(text, part.start, part.stop)))
         return end
 
-    def code_length(self, text, place):
-        """How many bytes the code span at the place takes, or its backticks where nothing closes it. (6.1)"""
-        end = place
-        while text[end : end + 1] == b"`":
-            end += 1
-        run, count, begin = end - place, 0, end
-        while end < len(text) and (count != run or text[end] == ord("`")):
-            count = count + 1 if text[end] == ord("`") else 0
-            end += 1
-        return end - place if count == run else begin - place
-
-    def inline_length(self, text, place, guard):
+    def inline_length(self, text, place, guard, runs):
         """How many bytes the escape, code span, autolink or HTML at the place takes; else 1. (2.4, 6.1, 6.5, 6.6)"""
         if text[place] == ord("\\"):
             return 2 if text[place + 1 : place + 2] and text[place + 1] in b"!\"#$%&'()*+,-./:;<=>?@[\\]^_`{|}~" else 1
         if text[place] != ord("<"):
-            return self.code_length(text, place) if text[place] == ord("`") else 1
-        found = mds.scan_autolink(text, place + 1) or mds.scan_html_tag_over_lines(text, at=place)
+            return runs.span_length(place) if text[place] == ord("`") else 1
+        found = mds.scan_autolink(text, place + 1) or mds.scan_html_tag_over_lines(text, place)
         if found:
             return found.end - place
         html = guard.scan(place + 2) if text[place + 1 : place + 2] in (b"!", b"?") else None
@@ -111,14 +123,14 @@ class Outline:
         """Adds the full references of a text that begins in this line; where a level is given it is a heading. (6.3)"""
         if level:
             self.output.append(b"%d: %b %b\n" % (line, b"#" * level, text.replace(b"\n", b" ")))
-        guard = mds.HtmlScanGuard(text)
+        guard, runs = mds.HtmlScanGuard(text), BacktickRuns(text)
         place = depth = 0
         while place < len(text):
             closes = text[place] == ord("]") and depth > 0
             label, key, taken = self.read_label(text, place + 1) if closes else (b"", b"", 0)
             if taken:
                 self.references.append((line, label, key))
-            taken += self.inline_length(text, place, guard) if text[place] in b"\\`<" else 1
+            taken += self.inline_length(text, place, guard, runs) if text[place] in b"\\`<" else 1
             depth += (text[place] == ord("[")) - closes
             line += text.count(b"\n", place, place + taken)
             place += taken
@@ -136,8 +148,8 @@ class Outline:
 class Reader:
     """Goes through a page line by line: `open` has the columns by which the lines of each open list item are indented,
     0 of a block quote; `paragraph` the lines of the open paragraph, without markers and indent; `fence` is that of the
-    open code block, and `html` what ends the open HTML block, b"" for a blank line; or None. Where the innermost item
-    has only a marker, the line `blank_end` ends it if that is blank."""
+    open code block, and `html` the kind of the open HTML block, or None. Where the innermost item has only a marker, the
+    line `blank_end` ends it if that is blank."""
 
     def __init__(self, page):
         self.page, self.outline, self.at, self.end = page, Outline(), mds.LineStart(page), 0
@@ -210,39 +222,35 @@ class Reader:
         front = text.rstrip(b"#")
         return front.rstrip(SPACE) if not front or front[-1] in SPACE else text
 
-    def html_end(self):
-        """What ends the HTML block that begins at the place, b"" for a blank line; None where none begins. (4.6)"""
-        place = self.at.place
-        for begins, ends in ((b"<!--", b"-->"), (b"<?", b"?>"), (b"<![CDATA[", b"]]>")):
-            if self.page.startswith(begins, place, self.end):
-                return ends
-        if self.page.startswith(b"<!", place, self.end) and self.page[place + 2 : place + 3].isalpha():
-            return b">"
-        is_tag = self.page.startswith(b"<", place, self.end)
-        named = is_tag and mds.starts_html_block_type_6(self.page, place + 1, self.end)
-        alone = is_tag and not self.paragraph and mds.scan_html_type_7(self.page, place, self.end)
-        return b"" if named or alone else None
+    def html_kind(self):
+        """The kind of the HTML block that begins at the place, or None. A tag alone can't interrupt a paragraph. (4.6)"""
+        kind = mds.scan_html_block_start(self.page, self.at.place, self.end)
+        return None if self.paragraph and kind == mds.HtmlBlockKind.TAG_ALONE else kind
 
     def read_html(self):
-        """A line of the open HTML block, which it may end."""
-        if self.page.find(self.html, self.at.place, self.end) >= 0 if self.html else self.is_blank():
+        """A line of the open HTML block, which it may end. (4.6)"""
+        if mds.ends_html_block(self.page, self.at.place, self.end, kind=self.html):
             self.html = None
 
     def read_block(self, depth):
         """Whether the rest of a line makes a heading, is a thematic break, or begins code or HTML. (4.1 to 4.6)"""
         rest = self.page, self.at.place, self.end
         level, underline = mds.scan_atx_heading(*rest), mds.scan_setext_heading(*rest)
-        fence, html = mds.scan_code_fence(*rest), self.html_end()
+        fence, html = mds.scan_code_fence(*rest), self.html_kind()
         underlines = underline and self.paragraph and depth == len(self.open)
         if underlines and self.end_paragraph(underline.level):
             return True
-        if not level and not fence and html is None and not mds.scan_hrule(*rest):
+        if not level and not fence and not html and not mds.scan_hrule(*rest):
             return False
         self.close_beyond(depth)
         self.fence, self.html = fence and (fence.byte, fence.end - self.at.place), html
         if level:
             self.outline.read_text(self.number, level, self.atx_text(level))
         return True
+
+    def closes_fence(self):
+        byte, count = self.fence
+        return mds.scan_closing_code_fence(self.page, self.at.place, self.end, byte=byte, count=count) is not None
 
     def read_leaf(self, depth):
         """What stands behind a line's containers. A paragraph goes on without those that are not there. (4.8, 5.1)"""
@@ -258,18 +266,17 @@ class Reader:
         depth = 0
         while depth < len(self.open) and self.goes_on(depth):
             depth += 1
-        if depth < len(self.open) and (self.html is not None or self.fence):
+        if depth < len(self.open) and (self.html or self.fence):
             self.close_beyond(depth)
         if self.fence:
             indented = self.at.upto(4) == 4
-            byte, count = self.fence
-            if not indented and mds.scan_closing_code_fence(self.page, self.at.place, self.end, byte=byte, count=count) is not None:
+            if not indented and self.closes_fence():
                 self.fence = None
-        elif self.html is None:
+        elif not self.html:
             while self.opens_container(depth):
                 depth = len(self.open)
             self.read_leaf(depth)
-        if self.html is not None:
+        if self.html:
             self.read_html()
 
 
