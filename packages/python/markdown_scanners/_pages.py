@@ -11,8 +11,8 @@ from mmap import mmap
 from operator import index
 from typing import Any, Callable, Optional, TypeVar, Union
 
-from ._c import NONE, OK, TOO_SHORT
-from .errors import LoneSurrogateError, stated
+from ._c import NONE, NOTHING, OK, TOO_SHORT
+from .errors import LoneSurrogateError, refusal
 
 Buffer = Union[bytes, bytearray, memoryview, mmap]
 #: What can be scanned. Other buffers of single bytes are taken too.
@@ -85,19 +85,24 @@ def _marks(text: str) -> array[int]:
 
 def byte_of(text: str, place: int) -> int:
     """The place in UTF-8 of a place in the str; behind the str a byte is counted for each."""
-    size = len(text)
+    size, marks = len(text), _marks(text)
     if place >= size:
-        return _marks(text)[-1] + place - size
-    front = place - place % STEP
-    return _marks(text)[front // STEP] + len(text[front:place].encode())
+        return marks[-1] + place - size
+    block = place // STEP
+    front, first = block * STEP, marks[block]
+    if marks[block + 1] - first == min(STEP, size - front):  # all of the block is ASCII
+        return first + place - front
+    return first + len(text[front:place].encode())
 
 
 def _index_of(text: str, byte: int) -> int:
     """The place in the str of a place in its UTF-8; of one inside of a character, that of the character."""
     marks = _marks(text)
-    front = min(bisect_right(marks, byte), len(marks) - 1) - 1
-    block = text[front * STEP : (front + 1) * STEP].encode()
-    return front * STEP + len(block[: byte - marks[front]].decode("utf-8", "ignore"))
+    block = min(bisect_right(marks, byte), len(marks) - 1) - 1
+    front, first = block * STEP, marks[block]
+    if marks[block + 1] - first == min(STEP, len(text) - front):
+        return front + byte - first
+    return front + len(text[front : front + STEP].encode()[: byte - first].decode("utf-8", "ignore"))
 
 
 def _named(given: object) -> str:
@@ -254,12 +259,14 @@ def written(function: Callable[..., Any], size: int, *given: Any) -> tuple[Any, 
     for so many bytes is too short it is asked once more."""
     room = address, view = _free_room() if size <= ROOM else _room(size)
     found = function(*given, address, size)
-    made = view[: found.length].tobytes() if found.status == OK else b""
+    status = found.status
+    made = view[: found.length].tobytes() if status == OK else b""
     if size <= ROOM:
         _rooms.append(room)
-    if found.status == TOO_SHORT:
+    if status == TOO_SHORT:
         return written(function, found.length, *given)
-    stated(found.status)
+    if status > NOTHING:
+        raise refusal(status)
     return found, made
 
 

@@ -10,9 +10,11 @@ import tempfile
 import unittest
 
 import markdown_scanners as mds
+from markdown_scanners import _pages
 
-# Of one byte, two, three and four, so that blocks of characters begin at many places.
-LONG = "aé€🍔\n# b\r\n" * 50
+# Of one byte, two, three and four, so that blocks of 64 characters begin at many places; then a block of ASCII, and at last half a
+# block that has 64 bytes as well.
+LONG = "aé€🍔\n# b\r\n" * 50 + "c" * 139 + "\n" + "é" * 32
 
 
 class Arguments(unittest.TestCase):
@@ -90,6 +92,7 @@ class Pages(unittest.TestCase):
 
     def test_places_of_str(self):
         """Each place, counted by Python."""
+        self.assertEqual(len(LONG) % _pages.STEP, 32)
         at = [it.end() for it in re.finditer(r"\r\n|\n|$", LONG)]
         for place in range(len(LONG) + 1):
             self.assertEqual(mds.scan_line(LONG, place), min(it for it in at if it > place or it == len(LONG)))
