@@ -41,11 +41,11 @@ class Part(NamedTuple):
     stop: int  #: the place behind these
 
 
-def _part(found: _c.Part, front: int) -> Optional[Part]:
+def _part(found: _c.Part, origin: int) -> Optional[Part]:
     if not stated(found.status):
         return None
     start = found.start
-    return Part(front + found.end, front + start, front + (start + found.length))
+    return Part(origin + found.end, origin + start, origin + (start + found.length))
 
 
 def scan_link_dest(data: Page, at: int = 0, end: Optional[int] = None, *, max_next: int = 31) -> Optional[Part]:
@@ -55,8 +55,8 @@ def scan_link_dest(data: Page, at: int = 0, end: Optional[int] = None, *, max_ne
     >>> scan_link_dest(b"[a](<b c>)", 4)
     Part(end=9, start=5, stop=8)
     """
-    address, length, first, front = whole(data, at, end)
-    return _part(_scan_link_dest(address, length, first, number("max_next", max_next)), front)
+    address, length, first, origin = whole(data, at, end)
+    return _part(_scan_link_dest(address, length, first, number("max_next", max_next)), origin)
 
 
 def scan_link_title(data: Page, at: int = 0, end: Optional[int] = None) -> Optional[Part]:
@@ -66,8 +66,8 @@ def scan_link_title(data: Page, at: int = 0, end: Optional[int] = None) -> Optio
     >>> scan_link_title(b"[a](/b 'c d')", 7), scan_link_title(b"'c\n\n d'")
     (Part(end=12, start=8, stop=11), None)
     """
-    address, length, first, front = whole(data, at, end)
-    return _part(_scan_link_title(address, length, first), front)
+    address, length, first, origin = whole(data, at, end)
+    return _part(_scan_link_title(address, length, first), origin)
 
 
 def scan_autolink(data: Page, at: int = 0, end: Optional[int] = None) -> Optional[Part]:
@@ -76,8 +76,8 @@ def scan_autolink(data: Page, at: int = 0, end: Optional[int] = None) -> Optiona
     >>> scan_autolink(b"<https://a.b>", 1)
     Part(end=13, start=1, stop=12)
     """
-    address, length, first, front = whole(data, at, end)
-    return _part(_scan_autolink(address, length, first), front)
+    address, length, first, origin = whole(data, at, end)
+    return _part(_scan_autolink(address, length, first), origin)
 
 
 def scan_wikilink_pipe(data: Page, at: int = 0, end: Optional[int] = None, *, count: int) -> Optional[Part]:
@@ -87,9 +87,9 @@ def scan_wikilink_pipe(data: Page, at: int = 0, end: Optional[int] = None, *, co
     >>> scan_wikilink_pipe(b"[[a|b]]", 2, count=3)
     Part(end=4, start=2, stop=3)
     """
-    address, length, first, front = whole(data, at, end)
+    address, length, first, origin = whole(data, at, end)
     among = min(place_in(data, at + number("count", count)) - first, _c.NONE)
-    return _part(_scan_wikilink_pipe(address, length, first, among), front)
+    return _part(_scan_wikilink_pipe(address, length, first, among), origin)
 
 
 def starts_html_block_type_6(data: Page, at: int = 0, end: Optional[int] = None) -> bool:
@@ -177,9 +177,9 @@ def scan_html_tag_over_lines(data: Page, at: int = 0, end: Optional[int] = None,
     >>> scan_html_tag_over_lines(page, 2, skips=Skips(page, [(0, 2), (7, 2)]))
     Tag(end=13, text=b'<foo\nbar>')
     """
-    address, length, first, front = whole(data, at, end)
+    address, length, first, origin = whole(data, at, end)
     found, text = written(_scan_html_tag_over_lines, ROOM, address, length, first, *table(skips, data))
-    return Tag(front + found.end, text_for(data, text) if text else None) if found.status == _c.OK else None
+    return Tag(origin + found.end, text_for(data, text) if text else None) if found.status == _c.OK else None
 
 
 class HtmlScanGuard:
@@ -199,11 +199,11 @@ class HtmlScanGuard:
         >>> guard.scan(2), guard.scan(13)
         (10, None)
         """
-        address, length, _, front = whole(self.data, 0, self.end)
+        address, length, _, origin = whole(self.data, 0, self.end)
         first = min(place_in(self.data, number("at", at)), _c.NONE)
         found = _scan_inline_html(address, length, first, ctypes.byref(self._numbers))
         self.passed += found.passed
-        return front + found.end if stated(found.status) else None
+        return origin + found.end if stated(found.status) else None
 
 
 class Entity(NamedTuple, Generic[Made]):
@@ -270,14 +270,14 @@ def scan_link_label(
     >>> scan_link_label(b"[a\n b]: c", 1)
     Label(end=6, text=b'a b', start=None)
     """
-    address, length, first, front = whole(data, at, end)
+    address, length, first, origin = whole(data, at, end)
     room = min(length - first, LABEL_ROOM)
     found, text = written(
         _scan_link_label, room, address, length, first, flag("in_table", in_table), *table(skips, data)
     )
     if found.status != _c.OK:
         return None
-    return Label(front + found.end, text_for(data, text), behind(front, found.start))
+    return Label(origin + found.end, text_for(data, text), behind(origin, found.start))
 
 
 def labels_match(one: Page, other: Page) -> bool:
@@ -287,8 +287,8 @@ def labels_match(one: Page, other: Page) -> bool:
     True
     """
     address, length, _one = front(one, 0, None)
-    behind, count, _other = front(other, 0, None)
-    return stated(_labels_match(address, length, behind, count))
+    second, count, _other = front(other, 0, None)
+    return stated(_labels_match(address, length, second, count))
 
 
 @overload

@@ -84,11 +84,11 @@ def run_inline_html(data: Page, places: Iterable[int], end: Optional[int] = None
     >>> run_inline_html(b"<!a> <? <!-- b -->", [2, 7, 10])
     (4, None, 18)
     """
-    address, length, _, front = whole(data, 0, end)
+    address, length, _, origin = whole(data, 0, end)
     listed = [min(place_in(data, number("a place", it)), _c.NONE) for it in places]
     given, ends = (ctypes.c_size_t * len(listed))(*listed), (ctypes.c_size_t * len(listed))()
     found = _run_inline_html(address, length, given, len(listed), ends, len(listed))
-    return _ended(found.status, tuple(behind(front, it) for it in ends[: found.count]))
+    return _ended(found.status, tuple(behind(origin, it) for it in ends[: found.count]))
 
 
 def _ended(status: int, run: tuple[Answer, ...]) -> tuple[Answer, ...]:
