@@ -7,7 +7,7 @@ installed, else that of the tree, over the shared library that packages/c/build 
 import os
 import re
 import sys
-from bisect import bisect_right
+from bisect import bisect_left
 from pathlib import Path
 
 sys.dont_write_bytecode = True
@@ -21,7 +21,7 @@ It is no full CommonMark parser: all brackets before a label make a full referen
 The status is 0; 1 where a label has no definition; 2 where the outline can't be had.
 """
 SPACE = b" \t\v\f"
-RUN = re.compile(b"`+")
+BACKTICKS = re.compile(b"`+")
 
 
 def fail(what, why):
@@ -47,6 +47,27 @@ def find(text, place, closers):
     return place
 
 
+class BacktickRuns:
+    """Where the runs of backticks of a text begin, by their lengths; they are looked for once, at the first."""
+
+    def __init__(self, text):
+        self.text, self.begins = text, None
+
+    def look(self):
+        self.begins = {}
+        for run in BACKTICKS.finditer(self.text):
+            self.begins.setdefault(len(run[0]), []).append(run.start())
+
+    def span_length(self, place):
+        """How many bytes the code span at the place takes, or its backticks where no run as long closes it. (6.1)"""
+        if self.begins is None:
+            self.look()
+        end = BACKTICKS.match(self.text, place).end()
+        closers = self.begins.get(end - place, [])
+        closer = bisect_left(closers, end)
+        return closers[closer] + end - 2 * place if closer < len(closers) else end - place
+
+
 class Outline:
     """What is found: headings are printed, and definitions and references kept, each with its line, label and key."""
 
@@ -58,7 +79,7 @@ class Outline:
         end = find(text, place + 1, b"[]")
         if text[place : place + 1] != b"[" or end >= len(text):
             return b"", b"", 0
-        label = mds.scan_link_label(text, at=place + 1, end=end + 1)  # it goes through all that it is given
+        label = mds.scan_link_label(text, place + 1, end + 1)
         return (label.text, mds.label_key(label.text), label.end - place) if label else (b"", b"", 0)
 
     def space_end(self, text, place):
@@ -83,24 +104,16 @@ class Outline:
         part = mds.scan_link_dest(text, start)
         end = self.definition_end(text, part.end) if part and part.end > start else 0
         if end:
-            self.definitions.append((line, label, key, mds.unescape(text, at=part.start, end=part.stop)))
+            self.definitions.append((line, label, key, mds.unescape(text, part.start, part.stop)))
         return end
-
-    def code_length(self, text, place, runs):
-        """How many bytes the code span at the place takes, or its backticks where nothing closes it; `runs` has the places of
-        all runs of backticks, by their lengths. (6.1)"""
-        run = RUN.match(text, place).end() - place
-        places = runs.get(run, [])
-        behind = bisect_right(places, place)
-        return places[behind] + run - place if behind < len(places) else run
 
     def inline_length(self, text, place, guard, runs):
         """How many bytes the escape, code span, autolink or HTML at the place takes; else 1. (2.4, 6.1, 6.5, 6.6)"""
         if text[place] == ord("\\"):
             return 2 if text[place + 1 : place + 2] and text[place + 1] in b"!\"#$%&'()*+,-./:;<=>?@[\\]^_`{|}~" else 1
         if text[place] != ord("<"):
-            return self.code_length(text, place, runs) if text[place] == ord("`") else 1
-        found = mds.scan_autolink(text, place + 1) or mds.scan_html_tag_over_lines(text, at=place)
+            return runs.span_length(place) if text[place] == ord("`") else 1
+        found = mds.scan_autolink(text, place + 1) or mds.scan_html_tag_over_lines(text, place)
         if found:
             return found.end - place
         html = guard.scan(place + 2) if text[place + 1 : place + 2] in (b"!", b"?") else None
@@ -110,9 +123,7 @@ class Outline:
         """Adds the full references of a text that begins in this line; where a level is given it is a heading. (6.3)"""
         if level:
             self.output.append(b"%d: %b %b\n" % (line, b"#" * level, text.replace(b"\n", b" ")))
-        guard, runs = mds.HtmlScanGuard(text), {}
-        for run in RUN.finditer(text):
-            runs.setdefault(len(run[0]), []).append(run.start())
+        guard, runs = mds.HtmlScanGuard(text), BacktickRuns(text)
         place = depth = 0
         while place < len(text):
             closes = text[place] == ord("]") and depth > 0
@@ -137,8 +148,8 @@ class Outline:
 class Reader:
     """Goes through a page line by line: `open` has the columns by which the lines of each open list item are indented,
     0 of a block quote; `paragraph` the lines of the open paragraph, without markers and indent; `fence` is that of the
-    open code block, and `html` the kind of the open HTML block; or None. Where the innermost item
-    has only a marker, the line `blank_end` ends it if that is blank."""
+    open code block, and `html` the kind of the open HTML block, or None. Where the innermost item has only a marker, the
+    line `blank_end` ends it if that is blank."""
 
     def __init__(self, page):
         self.page, self.outline, self.at, self.end = page, Outline(), mds.LineStart(page), 0
@@ -212,13 +223,13 @@ class Reader:
         return front.rstrip(SPACE) if not front or front[-1] in SPACE else text
 
     def html_kind(self):
-        """The kind of the HTML block that begins at the place, or None. (4.6)"""
-        kind = mds.scan_html_block_start(self.page, at=self.at.place, end=self.end)
-        return None if kind == mds.HtmlBlockKind.TAG_ALONE and self.paragraph else kind
+        """The kind of the HTML block that begins at the place, or None. A tag alone can't interrupt a paragraph. (4.6)"""
+        kind = mds.scan_html_block_start(self.page, self.at.place, self.end)
+        return None if self.paragraph and kind == mds.HtmlBlockKind.TAG_ALONE else kind
 
     def read_html(self):
-        """A line of the open HTML block, which it may end."""
-        if mds.ends_html_block(self.page, self.html, at=self.at.place, end=self.end):
+        """A line of the open HTML block, which it may end. (4.6)"""
+        if mds.ends_html_block(self.page, self.at.place, self.end, kind=self.html):
             self.html = None
 
     def read_block(self, depth):
@@ -229,13 +240,17 @@ class Reader:
         underlines = underline and self.paragraph and depth == len(self.open)
         if underlines and self.end_paragraph(underline.level):
             return True
-        if not level and not fence and html is None and not mds.scan_hrule(*rest):
+        if not level and not fence and not html and not mds.scan_hrule(*rest):
             return False
         self.close_beyond(depth)
         self.fence, self.html = fence and (fence.byte, fence.end - self.at.place), html
         if level:
             self.outline.read_text(self.number, level, self.atx_text(level))
         return True
+
+    def closes_fence(self):
+        byte, count = self.fence
+        return mds.scan_closing_code_fence(self.page, self.at.place, self.end, byte=byte, count=count) is not None
 
     def read_leaf(self, depth):
         """What stands behind a line's containers. A paragraph goes on without those that are not there. (4.8, 5.1)"""
@@ -251,17 +266,17 @@ class Reader:
         depth = 0
         while depth < len(self.open) and self.goes_on(depth):
             depth += 1
-        if depth < len(self.open) and (self.html is not None or self.fence):
+        if depth < len(self.open) and (self.html or self.fence):
             self.close_beyond(depth)
         if self.fence:
             indented = self.at.upto(4) == 4
-            if not indented and mds.scan_closing_code_fence(self.page, *self.fence, self.at.place, self.end) is not None:
+            if not indented and self.closes_fence():
                 self.fence = None
-        elif self.html is None:
+        elif not self.html:
             while self.opens_container(depth):
                 depth = len(self.open)
             self.read_leaf(depth)
-        if self.html is not None:
+        if self.html:
             self.read_html()
 
 

@@ -69,20 +69,30 @@ def record(files, name):
     return "".join(f"{path},sha256={sums[path]},{len(it)}\n" for path, it in files.items()) + f"{name},,\n"
 
 
-def build_wheel(wheel_directory, config_settings=None, metadata_directory=None):
-    made = library()
+def write_wheel(folder, tag, files, pure):
+    """Writes the wheel of these files and what is said about them, and answers its name."""
     about = f"{named()}.dist-info"
-    wheel = f"Wheel-Version: 1.0\nGenerator: {__name__}\nRoot-Is-Purelib: false\nTag: {tag(made)}\n"
-    files = {**sources(), f"{PACKAGE}/{LIBRARY}": made, f"{about}/licenses/LICENSE": licence().encode()}
+    wheel = f"Wheel-Version: 1.0\nGenerator: {__name__}\nRoot-Is-Purelib: {str(pure).lower()}\nTag: {tag}\n"
+    files = {**files, f"{about}/licenses/LICENSE": licence().encode()}
     files |= {f"{about}/METADATA": metadata().encode(), f"{about}/WHEEL": wheel.encode()}
     files[f"{about}/RECORD"] = record(files, f"{about}/RECORD").encode()
-    name = f"{named()}-{tag(made)}.whl"
-    with zipfile.ZipFile(Path(wheel_directory) / name, "w", zipfile.ZIP_DEFLATED) as out:
+    name = f"{named()}-{tag}.whl"
+    with zipfile.ZipFile(Path(folder) / name, "w", zipfile.ZIP_DEFLATED) as out:
         for path, it in files.items():
             entry = zipfile.ZipInfo(path, LATEST)
             entry.external_attr, entry.compress_type = 0o100644 << 16, zipfile.ZIP_DEFLATED
             out.writestr(entry, it)
     return name
+
+
+def build_wheel(wheel_directory, config_settings=None, metadata_directory=None):
+    made = library()
+    return write_wheel(wheel_directory, tag(made), {**sources(), f"{PACKAGE}/{LIBRARY}": made}, False)
+
+
+def build_editable(wheel_directory, config_settings=None, metadata_directory=None):
+    """A wheel that names this folder, for `pip install -e`. The library is found where the package finds it in its tree."""
+    return write_wheel(wheel_directory, "py3-none-any", {f"{PACKAGE}.pth": f"{HERE}\n".encode()}, True)
 
 
 def build_sdist(sdist_directory, config_settings=None):

@@ -1,9 +1,10 @@
 """Scanners of Markdown's lines, blocks and inline text, proved to answer what CommonMark 0.31.2 says.
 
-Each scanner reads `bytes` from the place `at` on, up to the place `end`, and copies none of them. It answers places of the same
-bytes: what stands alone is the place behind what was scanned. None says that nothing of the kind stands there; an exception
-that the call refuses what it is given.
+Each scanner reads a page, `bytes`, another buffer or a `str`, from the place `at` on, up to the place `end`, and copies none of
+it. It answers places of the same page: what stands alone is the place behind what was scanned. None says that nothing of the
+kind stands there; an exception that the call refuses what it is given.
 """
+from ._pages import Page
 from .blocks import (
     Alignment,
     Fence,
@@ -22,15 +23,26 @@ from .blocks import (
 )
 from .errors import (
     BadSkips,
+    BadSkipsError,
     Empty,
+    EmptyError,
     InsideFind,
+    InsideFindError,
+    LoneSurrogateError,
     NoOpener,
+    NoOpenerError,
     NotRising,
+    NotRisingError,
     NotUtf8,
+    NotUtf8Error,
     Refusal,
+    RefusalError,
     SpacePending,
+    SpacePendingError,
     Stopped,
+    StoppedError,
     TooLarge,
+    TooLargeError,
 )
 from .inline import (
     Entity,
@@ -56,14 +68,16 @@ from .inline import (
     unescape,
 )
 from .line_start import AlertKind, LineStart, ListMarker
-from .lines import (
+from .line_scanners import (
     Indent,
+    Line,
     ListItem,
     calc_indent,
     is_punctuation,
     is_utf8,
     is_whitespace,
     is_whitespace_in_line,
+    lines,
     scan_blank_line,
     scan_blockquote_start,
     scan_ch,
@@ -83,31 +97,34 @@ __version__ = "0.1.0"
 __all__ = [
     "AlertKind",
     "Alignment",
-    "BadSkips",
+    "BadSkipsError",
     "CallKind",
-    "Empty",
+    "EmptyError",
     "Entity",
     "Fence",
     "HtmlBlockKind",
     "HtmlScanGuard",
     "Indent",
-    "InsideFind",
+    "InsideFindError",
     "Label",
+    "Line",
     "LineAnswer",
     "LineStart",
     "ListItem",
     "ListMarker",
-    "NoOpener",
-    "NotRising",
-    "NotUtf8",
+    "LoneSurrogateError",
+    "NoOpenerError",
+    "NotRisingError",
+    "NotUtf8Error",
+    "Page",
     "Part",
-    "Refusal",
+    "RefusalError",
     "Skips",
-    "SpacePending",
-    "Stopped",
+    "SpacePendingError",
+    "StoppedError",
     "TableHead",
     "Tag",
-    "TooLarge",
+    "TooLargeError",
     "Underline",
     "calc_indent",
     "ends_html_block",
@@ -119,6 +136,7 @@ __all__ = [
     "label_key",
     "labels_match",
     "line_rest",
+    "lines",
     "no_hrule_before",
     "run_inline_html",
     "run_line",

@@ -1,5 +1,6 @@
 """The structs, functions and numbers of markdown_scanners.h, as packages/c/bindings has written them."""
 from ctypes import POINTER, Structure, c_void_p, c_bool, c_size_t, c_uint32, c_uint64, c_uint8
+from typing import Any
 
 VERSION = 0x000100
 NONE = c_size_t(-1).value
@@ -275,7 +276,7 @@ class Label(Structure):
 
 
 # What each function answers, and what it takes.
-FUNCTIONS = {
+FUNCTIONS: dict[str, tuple[Any, tuple[Any, ...]]] = {
     "is_whitespace": (c_bool, (c_uint8,)),
     "is_whitespace_in_line": (c_bool, (c_uint8,)),
     "is_punctuation": (c_bool, (c_uint8,)),

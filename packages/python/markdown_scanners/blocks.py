@@ -2,38 +2,53 @@
 from __future__ import annotations
 
 from enum import IntEnum
-from typing import NamedTuple, Optional
+from typing import Callable, NamedTuple, Optional
 
 from . import _c
-from ._library import byte as _byte
-from ._library import limits, made, number, place, scan
+from ._library import function
+from ._pages import ROOM, Page, behind, flag, front, number, written
+from ._pages import byte as _byte
+from .line_scanners import Byte
+
+_scan_hrule: Callable[..., _c.Break] = function("scan_hrule")
+_scan_atx_heading: Callable[..., int] = function("scan_atx_heading")
+_scan_setext_heading: Callable[..., _c.Underline] = function("scan_setext_heading")
+_scan_code_fence: Callable[..., _c.Fence] = function("scan_code_fence")
+_scan_closing_code_fence: Callable[..., int] = function("scan_closing_code_fence")
+_scan_metadata_block: Callable[..., _c.Fence] = function("scan_metadata_block")
+_scan_closing_metadata_block: Callable[..., int] = function("scan_closing_metadata_block")
+_interrupts_paragraph: Callable[..., bool] = function("interrupts_paragraph")
+_scan_table_head: Callable[..., _c.Text] = function("scan_table_head")
 
 
-def scan_hrule(data: bytes, at: int = 0, end: Optional[int] = None) -> Optional[int]:
+def scan_hrule(data: Page, at: int = 0, end: Optional[int] = None) -> Optional[int]:
     r"""The place behind a thematic break and its line ending. (4.1)
 
     >>> scan_hrule(b"* * *\na"), scan_hrule(b"* * a")
     (6, None)
     """
-    return place(at, scan("scan_hrule", data, at, end).length)
+    address, length, at = front(data, at, end)
+    return behind(at, _scan_hrule(address, length).length)
 
 
-def no_hrule_before(data: bytes, at: int = 0, end: Optional[int] = None) -> int:
+def no_hrule_before(data: Page, at: int = 0, end: Optional[int] = None) -> int:
     """Where no thematic break begins: one begins at no place from this one on and before the answer. (4.1)
 
     >>> no_hrule_before(b"* * a")
     4
     """
-    return at + scan("scan_hrule", data, at, end).none_before
+    address, length, at = front(data, at, end)
+    return at + _scan_hrule(address, length).none_before
 
 
-def scan_atx_heading(data: bytes, at: int = 0, end: Optional[int] = None) -> Optional[int]:
+def scan_atx_heading(data: Page, at: int = 0, end: Optional[int] = None) -> Optional[int]:
     """The level of an ATX heading, 1 to 6, which has as many `#`. (4.2)
 
     >>> scan_atx_heading(b"## a"), scan_atx_heading(b"##a")
     (2, None)
     """
-    return scan("scan_atx_heading", data, at, end) or None
+    address, length, _held = front(data, at, end)
+    return _scan_atx_heading(address, length) or None
 
 
 class Underline(NamedTuple):
@@ -43,13 +58,14 @@ class Underline(NamedTuple):
     level: int  #: 1 of `=`, 2 of `-`
 
 
-def scan_setext_heading(data: bytes, at: int = 0, end: Optional[int] = None) -> Optional[Underline]:
+def scan_setext_heading(data: Page, at: int = 0, end: Optional[int] = None) -> Optional[Underline]:
     r"""A setext heading's underline. (4.3)
 
     >>> scan_setext_heading(b"a\n---\n", 2)
     Underline(end=6, level=2)
     """
-    found = scan("scan_setext_heading", data, at, end)
+    address, length, at = front(data, at, end)
+    found = _scan_setext_heading(address, length)
     return None if found.length == _c.NONE else Underline(at + found.length, found.level)
 
 
@@ -64,53 +80,60 @@ def _fence(found: _c.Fence, at: int) -> Optional[Fence]:
     return None if found.length == _c.NONE else Fence(at + found.length, found.byte)
 
 
-def scan_code_fence(data: bytes, at: int = 0, end: Optional[int] = None) -> Optional[Fence]:
+def scan_code_fence(data: Page, at: int = 0, end: Optional[int] = None) -> Optional[Fence]:
     """An opening code fence, without its info string. (4.5)
 
     >>> scan_code_fence(b"~~~~ python")
     Fence(end=4, byte=126)
     """
-    return _fence(scan("scan_code_fence", data, at, end), at)
+    address, length, at = front(data, at, end)
+    return _fence(_scan_code_fence(address, length), at)
 
 
-def scan_closing_code_fence(data: bytes, byte: int, count: int, at: int = 0, end: Optional[int] = None) -> Optional[int]:
+def scan_closing_code_fence(
+    data: Page, at: int = 0, end: Optional[int] = None, *, byte: Byte, count: int
+) -> Optional[int]:
     r"""The place behind the fence that closes one of `count` of the byte, with spaces and tabs behind it. At the end of the
     bytes it is that end. (4.5)
 
-    >>> scan_closing_code_fence(b"~~~~ \n", ord("~"), 3), scan_closing_code_fence(b"~~\n", ord("~"), 3)
+    >>> scan_closing_code_fence(b"~~~~ \n", byte="~", count=3), scan_closing_code_fence(b"~~\n", byte="~", count=3)
     (5, None)
     """
-    return place(at, scan("scan_closing_code_fence", data, at, end, _byte(byte), number("the count", count)))
+    address, length, at = front(data, at, end)
+    return behind(at, _scan_closing_code_fence(address, length, _byte(byte), number("count", count)))
 
 
 def scan_metadata_block(
-    data: bytes, yaml: bool, pluses: bool, at: int = 0, end: Optional[int] = None
+    data: Page, at: int = 0, end: Optional[int] = None, *, yaml: bool, pluses: bool
 ) -> Optional[Fence]:
     r"""The opening line of a metadata block, of `---` where `yaml` is true and of `+++` where `pluses` is. (An extension of
     pulldown-cmark)
 
-    >>> scan_metadata_block(b"---\na: b\n---\n", True, False)
+    >>> scan_metadata_block(b"---\na: b\n---\n", yaml=True, pluses=False)
     Fence(end=3, byte=45)
     """
-    return _fence(scan("scan_metadata_block", data, at, end, bool(yaml), bool(pluses)), at)
+    address, length, at = front(data, at, end)
+    return _fence(_scan_metadata_block(address, length, flag("yaml", yaml), flag("pluses", pluses)), at)
 
 
-def scan_closing_metadata_block(data: bytes, byte: int, at: int = 0, end: Optional[int] = None) -> Optional[int]:
+def scan_closing_metadata_block(data: Page, at: int = 0, end: Optional[int] = None, *, byte: Byte) -> Optional[int]:
     r"""The place behind what closes a metadata block that was opened by the byte.
 
-    >>> scan_closing_metadata_block(b"...\n", ord("-"))
+    >>> scan_closing_metadata_block(b"...\n", byte="-")
     3
     """
-    return place(at, scan("scan_closing_metadata_block", data, at, end, _byte(byte)))
+    address, length, at = front(data, at, end)
+    return behind(at, _scan_closing_metadata_block(address, length, _byte(byte)))
 
 
-def interrupts_paragraph(data: bytes, at: int = 0, end: Optional[int] = None) -> bool:
+def interrupts_paragraph(data: Page, at: int = 0, end: Optional[int] = None) -> bool:
     """Whether the line can interrupt a paragraph, behind at most three columns of indent. (4.8)
 
     >>> interrupts_paragraph(b"- a"), interrupts_paragraph(b"2. a")
     (True, False)
     """
-    return bool(scan("interrupts_paragraph", data, at, end))
+    address, length, _held = front(data, at, end)
+    return _interrupts_paragraph(address, length)
 
 
 class Alignment(IntEnum):
@@ -122,6 +145,9 @@ class Alignment(IntEnum):
     RIGHT = _c.ALIGN_RIGHT
 
 
+_ALIGNMENTS = tuple(Alignment)
+
+
 class TableHead(NamedTuple):
     """The delimiter row of a table."""
 
@@ -129,13 +155,12 @@ class TableHead(NamedTuple):
     alignments: tuple[Alignment, ...]  #: of each column
 
 
-def scan_table_head(data: bytes, at: int = 0, end: Optional[int] = None) -> Optional[TableHead]:
+def scan_table_head(data: Page, at: int = 0, end: Optional[int] = None) -> Optional[TableHead]:
     r"""The delimiter row of a table. (GitHub Flavored Markdown 0.29, 4.10)
 
     >>> scan_table_head(b"|-|:-:|\n").alignments
     (<Alignment.NONE: 0>, <Alignment.CENTER: 2>)
     """
-    last = limits(data, at, end)
-    line = at + scan("scan_line", data, at, last)  # a column has a byte of the line, so its bytes are room enough
-    found, alignments = made("scan_table_head", data, at, last, line - at)
-    return None if found.status == _c.NOTHING else TableHead(at + found.taken, tuple(map(Alignment, alignments)))
+    address, length, at = front(data, at, end)
+    found, alignments = written(_scan_table_head, ROOM, address, length)
+    return TableHead(at + found.taken, tuple([_ALIGNMENTS[it] for it in alignments])) if found.status == _c.OK else None

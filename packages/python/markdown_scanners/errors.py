@@ -6,75 +6,107 @@ from typing import Any, Optional
 from . import _c
 
 
-class Refusal(Exception):
+class RefusalError(Exception):
     """A call has refused what it was given."""
 
     status: Optional[int] = None
 
 
-class NotUtf8(Refusal, ValueError):
+class NotUtf8Error(RefusalError, ValueError):
     """The text is not UTF-8."""
 
     status = _c.NOT_UTF8
 
 
-class BadSkips(Refusal, ValueError):
+class LoneSurrogateError(RefusalError, ValueError):
+    """A str has half of a surrogate pair, which UTF-8 has not; `index` is its place."""
+
+    def __init__(self, index: int) -> None:
+        super().__init__(f"the str has half of a surrogate pair at index {index}")
+        self.index = index
+
+    def __reduce__(self) -> tuple[type[LoneSurrogateError], tuple[int]]:
+        return LoneSurrogateError, (self.index,)
+
+
+class BadSkipsError(RefusalError, ValueError):
     """The table of what is left out is none of the text."""
 
     status = _c.BAD_SKIPS
 
 
-class TooLarge(Refusal, ValueError):
+class TooLargeError(RefusalError, ValueError):
     """A limit or an indent is so large that columns can't be added to it."""
 
     status = _c.TOO_LARGE
     run: Any = None  #: of a run: what was found up to there
 
 
-class Empty(Refusal, ValueError):
+class EmptyError(RefusalError, ValueError):
     """There are no bytes."""
 
     status = _c.EMPTY
 
 
-class Stopped(Refusal, ValueError):
+class StoppedError(RefusalError, ValueError):
     """A run has stopped before its end; `run` has what was found up to there."""
 
     run: Any = None
 
 
-class NoOpener(Stopped):
+class NoOpenerError(StoppedError):
     """No `<!` or `<?` ends at the place."""
 
     status = _c.NO_OPENER
 
 
-class NotRising(Stopped):
+class NotRisingError(StoppedError):
     """The place is not above the one before it."""
 
     status = _c.NOT_RISING
 
 
-class InsideFind(Stopped):
+class InsideFindError(StoppedError):
     """The place is inside what was found before it."""
 
     status = _c.INSIDE_FIND
 
 
-class SpacePending(Stopped):
+class SpacePendingError(StoppedError):
     """Columns of a tab are pending, and the call is not one that takes space."""
 
     status = _c.SPACE_PENDING
 
 
-_REFUSALS = (NotUtf8, BadSkips, TooLarge, Empty, NoOpener, NotRising, InsideFind, SpacePending)
+# The names of an earlier form, which the next version leaves out.
+Refusal, NotUtf8, BadSkips, TooLarge, Empty = RefusalError, NotUtf8Error, BadSkipsError, TooLargeError, EmptyError
+Stopped, NoOpener, NotRising, InsideFind = StoppedError, NoOpenerError, NotRisingError, InsideFindError
+SpacePending = SpacePendingError
+
+_REFUSALS: dict[int, type[RefusalError]] = {
+    _c.NOT_UTF8: NotUtf8Error,
+    _c.BAD_SKIPS: BadSkipsError,
+    _c.TOO_LARGE: TooLargeError,
+    _c.EMPTY: EmptyError,
+    _c.NO_OPENER: NoOpenerError,
+    _c.NOT_RISING: NotRisingError,
+    _c.INSIDE_FIND: InsideFindError,
+    _c.SPACE_PENDING: SpacePendingError,
+}
 
 
 def refusal(status: int) -> Exception:
     """What is raised for a status that is neither an answer nor nothing."""
     if status == _c.NO_MEMORY:
         return MemoryError("memory was refused")
-    for it in _REFUSALS:
-        if it.status == status:
-            return it((it.__doc__ or "").splitlines()[0].rstrip("."))
-    return Refusal(f"status {status}")
+    if status not in _REFUSALS:
+        return RefusalError(f"status {status}")
+    kind = _REFUSALS[status]
+    return kind((kind.__doc__ or "").splitlines()[0].rstrip("."))
+
+
+def stated(status: int) -> bool:
+    """Whether there is an answer; a refusal is raised."""
+    if status > _c.NOTHING:
+        raise refusal(status)
+    return status == _c.OK

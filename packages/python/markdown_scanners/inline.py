@@ -3,11 +3,30 @@ from __future__ import annotations
 
 import ctypes
 from enum import IntEnum
-from typing import NamedTuple, Optional
+from typing import Any, Callable, Generic, NamedTuple, Optional, overload
 
 from . import _c
-from ._library import call, front, limits, made, number, place, scan, stated
+from ._library import function
+from ._pages import ROOM, Buffer, Made, Page, behind, flag, front, limits, number, place_in, text_for, whole, written
+from .errors import stated
 from .skips import Skips, table
+
+_scan_link_dest: Callable[..., _c.Part] = function("scan_link_dest")
+_scan_link_title: Callable[..., _c.Part] = function("scan_link_title")
+_scan_autolink: Callable[..., _c.Part] = function("scan_autolink")
+_scan_wikilink_pipe: Callable[..., _c.Part] = function("scan_wikilink_pipe")
+_starts_html_block_type_6: Callable[..., bool] = function("starts_html_block_type_6")
+_scan_html_type_7: Callable[..., int] = function("scan_html_type_7")
+_scan_html_block_start: Callable[..., int] = function("scan_html_block_start")
+_ends_html_block: Callable[..., int] = function("ends_html_block")
+_scan_html_tag: Callable[..., int] = function("scan_html_tag")
+_scan_html_tag_over_lines: Callable[..., _c.Tag] = function("scan_html_tag_over_lines")
+_scan_inline_html: Callable[..., _c.End] = function("scan_inline_html")
+_scan_entity: Callable[..., _c.Text] = function("scan_entity")
+_unescape: Callable[..., _c.Text] = function("unescape")
+_scan_link_label: Callable[..., _c.Label] = function("scan_link_label")
+_labels_match: Callable[..., int] = function("labels_match")
+_label_key: Callable[..., _c.Text] = function("label_key")
 
 REFERENCE_ROOM = 6
 #: A label has at most 999 characters.
@@ -22,66 +41,75 @@ class Part(NamedTuple):
     stop: int  #: the place behind these
 
 
-def _part(name: str, data: bytes, at: int, end: Optional[int], *given: int) -> Optional[Part]:
-    last = limits(data, at, end)
-    found = call(name, *front(data, 0, last), at, *given)
-    return Part(found.end, found.start, found.start + found.length) if stated(found.status) else None
+def _part(found: _c.Part, origin: int) -> Optional[Part]:
+    if not stated(found.status):
+        return None
+    start = found.start
+    return Part(origin + found.end, origin + start, origin + (start + found.length))
 
 
-def scan_link_dest(data: bytes, at: int = 0, max_next: int = 31, end: Optional[int] = None) -> Optional[Part]:
+def scan_link_dest(data: Page, at: int = 0, end: Optional[int] = None, *, max_next: int = 31) -> Optional[Part]:
     """A link destination; angle brackets are not among its own bytes. Parentheses may stand in each other `max_next` + 1
     deep. An empty one without brackets is one too. (6.3)
 
     >>> scan_link_dest(b"[a](<b c>)", 4)
     Part(end=9, start=5, stop=8)
     """
-    return _part("scan_link_dest", data, at, end, number("the depth", max_next))
+    address, length, first, origin = whole(data, at, end)
+    return _part(_scan_link_dest(address, length, first, number("max_next", max_next)), origin)
 
 
-def scan_link_title(data: bytes, at: int = 0, end: Optional[int] = None) -> Optional[Part]:
+def scan_link_title(data: Page, at: int = 0, end: Optional[int] = None) -> Optional[Part]:
     r"""A link title; the quotes or parentheses around it are not among its own bytes. It may go on over lines, of which none
     is blank. (6.3)
 
     >>> scan_link_title(b"[a](/b 'c d')", 7), scan_link_title(b"'c\n\n d'")
     (Part(end=12, start=8, stop=11), None)
     """
-    return _part("scan_link_title", data, at, end)
+    address, length, first, origin = whole(data, at, end)
+    return _part(_scan_link_title(address, length, first), origin)
 
 
-def scan_autolink(data: bytes, at: int = 0, end: Optional[int] = None) -> Optional[Part]:
+def scan_autolink(data: Page, at: int = 0, end: Optional[int] = None) -> Optional[Part]:
     """The absolute URI of the autolink whose `<` stands just before the place. (6.5)
 
     >>> scan_autolink(b"<https://a.b>", 1)
     Part(end=13, start=1, stop=12)
     """
-    return _part("scan_autolink", data, at, end)
+    address, length, first, origin = whole(data, at, end)
+    return _part(_scan_autolink(address, length, first), origin)
 
 
-def scan_wikilink_pipe(data: bytes, count: int, at: int = 0, end: Optional[int] = None) -> Optional[Part]:
-    """What stands before the first pipe of the `count` bytes from the place on. (An extension of pulldown-cmark)
+def scan_wikilink_pipe(data: Page, at: int = 0, end: Optional[int] = None, *, count: int) -> Optional[Part]:
+    """What stands before the first pipe of so many bytes, or characters of a str, from the place on. (An extension of
+    pulldown-cmark)
 
-    >>> scan_wikilink_pipe(b"[[a|b]]", 3, 2)
+    >>> scan_wikilink_pipe(b"[[a|b]]", 2, count=3)
     Part(end=4, start=2, stop=3)
     """
-    return _part("scan_wikilink_pipe", data, at, end, number("the count", count))
+    address, length, first, origin = whole(data, at, end)
+    among = min(place_in(data, at + number("count", count)) - first, _c.NONE)
+    return _part(_scan_wikilink_pipe(address, length, first, among), origin)
 
 
-def starts_html_block_type_6(data: bytes, at: int = 0, end: Optional[int] = None) -> bool:
+def starts_html_block_type_6(data: Page, at: int = 0, end: Optional[int] = None) -> bool:
     """Whether an HTML block that a name of start condition 6 opens begins there, behind the `<`. (4.6)
 
     >>> starts_html_block_type_6(b"<div>", 1), starts_html_block_type_6(b"<b>", 1)
     (True, False)
     """
-    return bool(scan("starts_html_block_type_6", data, at, end))
+    address, length, _held = front(data, at, end)
+    return _starts_html_block_type_6(address, length)
 
 
-def scan_html_type_7(data: bytes, at: int = 0, end: Optional[int] = None) -> Optional[int]:
+def scan_html_type_7(data: Page, at: int = 0, end: Optional[int] = None) -> Optional[int]:
     r"""The place behind the tag that stands alone in the rest of its line. (4.6, start condition 7)
 
     >>> scan_html_type_7(b"<b> \n"), scan_html_type_7(b"<b> a")
     (3, None)
     """
-    return place(at, scan("scan_html_type_7", data, at, end))
+    address, length, at = front(data, at, end)
+    return behind(at, _scan_html_type_7(address, length))
 
 
 class HtmlBlockKind(IntEnum):
@@ -96,146 +124,182 @@ class HtmlBlockKind(IntEnum):
     TAG_ALONE = _c.HTML_TAG_ALONE
 
 
-def scan_html_block_start(data: bytes, at: int = 0, end: Optional[int] = None) -> Optional[HtmlBlockKind]:
+def scan_html_block_start(data: Page, at: int = 0, end: Optional[int] = None) -> Optional[HtmlBlockKind]:
     """The kind of the HTML block that begins there, behind the indent of its line. (4.6)
 
     >>> scan_html_block_start(b"<!-- a"), scan_html_block_start(b"<a> b")
     (<HtmlBlockKind.COMMENT: 2>, None)
     """
-    kind = scan("scan_html_block_start", data, at, end)
+    address, length, _held = front(data, at, end)
+    kind = _scan_html_block_start(address, length)
     return HtmlBlockKind(kind) if kind else None
 
 
-def ends_html_block(data: bytes, kind: HtmlBlockKind, at: int = 0, end: Optional[int] = None) -> bool:
+def ends_html_block(data: Page, at: int = 0, end: Optional[int] = None, *, kind: HtmlBlockKind) -> bool:
     """Whether the line ends an HTML block of this kind: as its last line, or as the blank line behind it. (4.6)
 
-    >>> ends_html_block(b"a -->", HtmlBlockKind.COMMENT), ends_html_block(b"a -->", HtmlBlockKind.BLOCK_NAME)
-    (True, False)
+    >>> [ends_html_block(b"a -->", kind=it) for it in (HtmlBlockKind.COMMENT, HtmlBlockKind.BLOCK_NAME)]
+    [True, False]
     """
-    return stated(scan("ends_html_block", data, at, end, HtmlBlockKind(kind)))
+    address, length, _held = front(data, at, end)
+    return stated(_ends_html_block(address, length, kind if type(kind) is HtmlBlockKind else HtmlBlockKind(kind)))
 
 
-def scan_html_tag(data: bytes, at: int = 0, end: Optional[int] = None) -> Optional[int]:
+def scan_html_tag(data: Page, at: int = 0, end: Optional[int] = None) -> Optional[int]:
     """The place behind an open or closing tag that holds no line ending. (6.6)
 
     >>> scan_html_tag(b"a <b c='d'>", 2)
     11
     """
-    return place(at, scan("scan_html_tag", data, at, end))
+    address, length, at = front(data, at, end)
+    return behind(at, _scan_html_tag(address, length))
 
 
-class Tag(NamedTuple):
+class Tag(NamedTuple, Generic[Made]):
     """A tag that goes on over lines."""
 
     end: int  #: the place behind it
-    text: Optional[bytes]  #: what it is without the bytes that are left out; None where none are
+    text: Optional[Made]  #: what it is without the bytes that are left out; None where none are
 
 
+@overload
 def scan_html_tag_over_lines(
-    data: bytes, skips: Optional[Skips] = None, at: int = 0, end: Optional[int] = None
-) -> Optional[Tag]:
+    data: str, at: int = 0, end: Optional[int] = None, *, skips: Optional[Skips] = None
+) -> Optional[Tag[str]]: ...
+@overload
+def scan_html_tag_over_lines(
+    data: Buffer, at: int = 0, end: Optional[int] = None, *, skips: Optional[Skips] = None
+) -> Optional[Tag[bytes]]: ...
+def scan_html_tag_over_lines(data: Page, at: int = 0, end: Optional[int] = None, *, skips: Optional[Skips] = None) -> Any:
     r"""An open or closing tag, over lines of which the skips of the page are left out. (6.6)
 
     >>> page = b"> <foo\n> bar>\n"
-    >>> scan_html_tag_over_lines(page, Skips(page, [(0, 2), (7, 2)]), 2)
+    >>> scan_html_tag_over_lines(page, 2, skips=Skips(page, [(0, 2), (7, 2)]))
     Tag(end=13, text=b'<foo\nbar>')
     """
-    last = limits(data, at, end)
-    given = (at, *table(skips, data))
-    found = scan("scan_html_tag_over_lines", data, 0, last, *given, None, 0)
-    text = None
-    if found.status == _c.TOO_SHORT:
-        found, text = made("scan_html_tag_over_lines", data, 0, last, found.length, *given)
-    return Tag(found.end, text) if stated(found.status) else None
+    address, length, first, origin = whole(data, at, end)
+    found, text = written(_scan_html_tag_over_lines, ROOM, address, length, first, *table(skips, data))
+    return Tag(origin + found.end, text_for(data, text) if text else None) if found.status == _c.OK else None
 
 
 class HtmlScanGuard:
     """What the scans of one text have searched in vain, so that none of them searches it again: k scans at rising places of n
     bytes, each at or behind the end that was found before, pass over at most 4n + 8k bytes."""
 
-    def __init__(self, data: bytes, end: Optional[int] = None) -> None:
-        self.data, self.end = data, limits(data, 0, end)
-        self.passed = 0  #: how many bytes the scans have passed over
+    def __init__(self, data: Page, *, end: Optional[int] = None) -> None:
+        self.data, self.end = data, limits(data, 0, end)[1]
+        self.passed = 0  #: how many bytes the scans have passed over; of a str those of its UTF-8
         self._numbers = _c.HtmlGuard()
 
     def scan(self, at: int) -> Optional[int]:
         """The place behind the comment, CDATA section, declaration or processing instruction whose `<!` or `<?` ends at the
-        place. NoOpener where none ends there. (6.6)
+        place. NoOpenerError where none ends there. (6.6)
 
         >>> guard = HtmlScanGuard(b"<!-- a --> <?b")
         >>> guard.scan(2), guard.scan(13)
         (10, None)
         """
-        found = scan("scan_inline_html", self.data, 0, self.end, number("the place", at), ctypes.byref(self._numbers))
+        address, length, _, origin = whole(self.data, 0, self.end)
+        first = min(place_in(self.data, number("at", at)), _c.NONE)
+        found = _scan_inline_html(address, length, first, ctypes.byref(self._numbers))
         self.passed += found.passed
-        return found.end if stated(found.status) else None
+        return origin + found.end if stated(found.status) else None
 
 
-class Entity(NamedTuple):
+class Entity(NamedTuple, Generic[Made]):
     """A character reference."""
 
     end: int  #: the place behind its `;`
-    text: bytes  #: what it stands for
+    text: Made  #: what it stands for
 
 
-def scan_entity(data: bytes, at: int = 0, end: Optional[int] = None) -> Optional[Entity]:
-    """A character reference: a number, or an entity of HTML. The first byte is taken for its `&`. Empty where there are no
-    bytes. (2.5)
+@overload
+def scan_entity(data: str, at: int = 0, end: Optional[int] = None) -> Optional[Entity[str]]: ...
+@overload
+def scan_entity(data: Buffer, at: int = 0, end: Optional[int] = None) -> Optional[Entity[bytes]]: ...
+def scan_entity(data: Page, at: int = 0, end: Optional[int] = None) -> Any:
+    """A character reference: a number, or an entity of HTML. The first byte is taken for its `&`. EmptyError where there are
+    no bytes. (2.5)
 
-    >>> scan_entity(b"a&auml;b", 1)
-    Entity(end=7, text=b'\\xc3\\xa4')
+    >>> scan_entity("a&auml;b", 1), scan_entity(b"&auml;").text
+    (Entity(end=7, text='ä'), b'\\xc3\\xa4')
     """
-    found, text = made("scan_entity", data, at, end, REFERENCE_ROOM)
-    return Entity(at + found.taken, text) if found.status == _c.OK else None
+    address, length, at = front(data, at, end)
+    found, text = written(_scan_entity, REFERENCE_ROOM, address, length)
+    return Entity(at + found.taken, text_for(data, text)) if found.status == _c.OK else None
 
 
-def unescape(data: bytes, in_table: bool = False, at: int = 0, end: Optional[int] = None) -> bytes:
+@overload
+def unescape(data: str, at: int = 0, end: Optional[int] = None, *, in_table: bool = False) -> str: ...
+@overload
+def unescape(data: Buffer, at: int = 0, end: Optional[int] = None, *, in_table: bool = False) -> bytes: ...
+def unescape(data: Page, at: int = 0, end: Optional[int] = None, *, in_table: bool = False) -> Any:
     r"""The text with its backslash escapes and character references resolved, and without CR; in a cell of a table two
-    backslashes and a pipe give the pipe. NotUtf8. (2.4, 2.5)
+    backslashes and a pipe give the pipe. NotUtf8Error. (2.4, 2.5)
 
-    >>> unescape(rb"a\*b &amp; c")
-    b'a*b & c'
+    >>> unescape(rb"a\*b &amp; c"), unescape("&amp;x&amp;y", 5, 11)
+    (b'a*b & c', 'x&')
     """
-    length = limits(data, at, end) - at
-    return made("unescape", data, at, end, length + length // 5, bool(in_table))[1]
+    address, length, _held = front(data, at, end)
+    room = length + length // 5
+    return text_for(data, written(_unescape, room, address, length, flag("in_table", in_table))[1])
 
 
-class Label(NamedTuple):
+class Label(NamedTuple, Generic[Made]):
     """A link label."""
 
     end: int  #: the place behind the closing bracket
-    text: bytes  #: its words, joined by one space
+    text: Made  #: its words, joined by one space
     start: Optional[int]  #: the place where that text stands as it is
 
 
+@overload
 def scan_link_label(
-    data: bytes, in_table: bool = False, skips: Optional[Skips] = None, at: int = 0, end: Optional[int] = None
-) -> Optional[Label]:
+    data: str, at: int = 0, end: Optional[int] = None, *, in_table: bool = False, skips: Optional[Skips] = None
+) -> Optional[Label[str]]: ...
+@overload
+def scan_link_label(
+    data: Buffer, at: int = 0, end: Optional[int] = None, *, in_table: bool = False, skips: Optional[Skips] = None
+) -> Optional[Label[bytes]]: ...
+def scan_link_label(
+    data: Page, at: int = 0, end: Optional[int] = None, *, in_table: bool = False, skips: Optional[Skips] = None
+) -> Any:
     r"""The link label whose opening bracket stands just before the place, over lines of which the skips of the page are left out.
     In a cell of a table a pipe loses the backslash before it. Its own bytes are UTF-8. (6.3)
 
-    >>> scan_link_label(b"[a\n b]: c", at=1)
+    >>> scan_link_label(b"[a\n b]: c", 1)
     Label(end=6, text=b'a b', start=None)
     """
-    last = limits(data, at, end)
-    room = min(last - at, LABEL_ROOM)
-    found, text = made("scan_link_label", data, 0, last, room, at, bool(in_table), *table(skips, data))
-    return Label(found.end, text, place(0, found.start)) if found.status == _c.OK else None
+    address, length, first, origin = whole(data, at, end)
+    room = min(length - first, LABEL_ROOM)
+    found, text = written(
+        _scan_link_label, room, address, length, first, flag("in_table", in_table), *table(skips, data)
+    )
+    if found.status != _c.OK:
+        return None
+    return Label(origin + found.end, text_for(data, text), behind(origin, found.start))
 
 
-def labels_match(one: bytes, other: bytes) -> bool:
-    r"""Whether two labels match: their full case foldings are equal. NotUtf8. (6.3)
+def labels_match(one: Page, other: Page) -> bool:
+    r"""Whether two labels match: their full case foldings are equal. NotUtf8Error. (6.3)
 
-    >>> labels_match("ẞ".encode(), b"SS")
+    >>> labels_match("ẞ", b"SS")
     True
     """
-    return stated(call("labels_match", *front(one, 0, None), *front(other, 0, None)))
+    address, length, _one = front(one, 0, None)
+    second, count, _other = front(other, 0, None)
+    return stated(_labels_match(address, length, second, count))
 
 
-def label_key(label: bytes) -> bytes:
-    """The full case folding of a label: two labels match exactly where their keys are equal. NotUtf8. (6.3)
+@overload
+def label_key(label: str) -> str: ...
+@overload
+def label_key(label: Buffer) -> bytes: ...
+def label_key(label: Page) -> Any:
+    """The full case folding of a label: two labels match exactly where their keys are equal. NotUtf8Error. (6.3)
 
-    >>> label_key("Straße".encode())
-    b'strasse'
+    >>> label_key("Straße"), label_key("Straße".encode())
+    ('strasse', b'strasse')
     """
-    return made("label_key", label, 0, None, 3 * len(label))[1]
+    address, length, _held = front(label, 0, None)
+    return text_for(label, written(_label_key, 3 * length, address, length)[1])

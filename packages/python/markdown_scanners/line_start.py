@@ -1,13 +1,25 @@
 """A place in a line that is read column by column. Sections in brackets are those of CommonMark 0.31.2."""
 from __future__ import annotations
 
-import copy
 import ctypes
 from enum import IntEnum
-from typing import Any, NamedTuple, Optional
+from operator import index
+from typing import Any, Callable, Generic, NamedTuple, Optional, overload
 
 from . import _c
-from ._library import limits, number, scan, stated
+from ._library import function
+from ._pages import Buffer, Made, Page, front, number
+from .errors import stated
+
+_line_space: Callable[..., int] = function("line_space")
+_line_upto: Callable[..., _c.Columns] = function("line_upto")
+_line_all_space: Callable[..., int] = function("line_all_space")
+_line_eol: Callable[..., int] = function("line_eol")
+_line_quote: Callable[..., int] = function("line_quote")
+_line_list: Callable[..., _c.LineItem] = function("line_list")
+_line_definition: Callable[..., _c.Columns] = function("line_definition")
+_line_task: Callable[..., _c.Task] = function("line_task")
+_line_alert: Callable[..., _c.Alert] = function("line_alert")
 
 
 class ListMarker(NamedTuple):
@@ -28,25 +40,58 @@ class AlertKind(IntEnum):
     CAUTION = _c.ALERT_CAUTION
 
 
-class LineStart:
+class LineStart(Generic[Made]):
     r"""A place in a line, whose tabs go to stops of four columns. The line begins at the place that is given; the bytes may go on
-    behind it.
+    behind it. A buffer is held as long as this lives: it can't be resized or closed.
 
     >>> start = LineStart(b">\t- item")
-    >>> start.quote(), start.upto(4), start.list_item(2), start.place
-    (True, 2, ListMarker(delimiter=45, start=0, indent=4), 4)
+    >>> start.quote(), start.upto(4), start.list_item(2)
+    (True, 2, ListMarker(delimiter=45, start=0, indent=4))
+    >>> start
+    <LineStart from 0 to 8, at place 4>
     """
 
-    def __init__(self, data: bytes, at: int = 0, end: Optional[int] = None) -> None:
-        self.data, self.begin, self.end = data, at, limits(data, at, end)
-        self._numbers = _c.LineStart()
+    _given: tuple[int, int, Any]  # the bytes, which stay where they are, and the numbers
 
-    def __copy__(self) -> LineStart:
-        made = LineStart(self.data, self.begin, self.end)
-        made._numbers = _c.LineStart.from_buffer_copy(self._numbers)
+    @overload
+    def __init__(self: LineStart[str], data: str, at: int = 0, end: Optional[int] = None) -> None: ...
+    @overload
+    def __init__(self: LineStart[bytes], data: Buffer, at: int = 0, end: Optional[int] = None) -> None: ...
+    def __init__(self, data: Page, at: int = 0, end: Optional[int] = None) -> None:
+        address, length, self._front = front(data, at, end)
+        self.data = self._kept = data
+        self.begin, self.end = index(at), len(data) if end is None else index(end)
+        self._numbers = numbers = _c.LineStart()
+        self._given = address, length, ctypes.byref(numbers)
+
+    def __copy__(self) -> LineStart[Made]:
+        made: LineStart[Made] = object.__new__(type(self))
+        made.__dict__.update(self.__dict__)
+        made._count(_c.LineStart.from_buffer_copy(self._numbers))
         return made
 
-    def copy(self) -> LineStart:
+    def _count(self, numbers: _c.LineStart) -> None:
+        """Goes on from these numbers."""
+        address, length, _ = self._given
+        self._numbers, self._given = numbers, (address, length, ctypes.byref(numbers))
+
+    def __reduce__(self) -> tuple[Any, ...]:
+        numbers = tuple(getattr(self._numbers, name) for name in _NAMES)
+        return _made_again, (type(self), self.data, self.begin, self.end, numbers)
+
+    def __eq__(self, other: object) -> bool:
+        """Whether both are at the same place of the same line, with the same columns before and behind it."""
+        return isinstance(other, LineStart) and self._state() == other._state()
+
+    def _state(self) -> tuple[Any, ...]:
+        numbers = self._numbers
+        return numbers.place, numbers.pending, numbers.phase, self.begin, self.end, type(self.data), self.data
+
+    def __repr__(self) -> str:
+        pending = f", {self.pending} columns pending" if self.pending else ""
+        return f"<LineStart from {self.begin} to {self.end}, at place {self.place}{pending}>"
+
+    def copy(self) -> LineStart[Made]:
         """A copy, which goes on by itself.
 
         >>> start = LineStart(b"> a")
@@ -54,7 +99,7 @@ class LineStart:
         >>> start.quote(), start.place, other.place
         (True, 2, 0)
         """
-        return copy.copy(self)
+        return self.__copy__()
 
     @property
     def place(self) -> int:
@@ -63,7 +108,7 @@ class LineStart:
         >>> LineStart(b"a\nb", 2).place
         2
         """
-        return self.begin + self._numbers.place
+        return self._front + self._numbers.place
 
     @property
     def pending(self) -> int:
@@ -75,16 +120,13 @@ class LineStart:
         """
         return self._numbers.pending
 
-    def _call(self, name: str, *given: int) -> Any:
-        return scan(name, self.data, self.begin, self.end, ctypes.byref(self._numbers), *given)
-
     def space(self, count: int) -> bool:
         """Takes so many columns of space, or fewer where there are fewer: whether there were as many. (2.2)
 
         >>> LineStart(b"  a").space(2), LineStart(b"  a").space(3)
         (True, False)
         """
-        return stated(self._call("line_space", number("the count", count)))
+        return stated(_line_space(*self._given, number("count", count)))
 
     def upto(self, count: int) -> int:
         """Takes at most so many columns of space, and answers how many. (2.2)
@@ -92,7 +134,7 @@ class LineStart:
         >>> LineStart(b"  a").upto(4)
         2
         """
-        found = self._call("line_upto", number("the count", count))
+        found = _line_upto(*self._given, number("count", count))
         stated(found.status)
         return found.columns
 
@@ -104,7 +146,7 @@ class LineStart:
         >>> start.place
         3
         """
-        stated(self._call("line_all_space"))
+        stated(_line_all_space(*self._given))
 
     def eol(self) -> bool:
         r"""Whether the line ends there. Pending columns are looked past.
@@ -112,7 +154,7 @@ class LineStart:
         >>> LineStart(b"\n").eol(), LineStart(b"a").eol()
         (True, False)
         """
-        return stated(self._call("line_eol"))
+        return stated(_line_eol(*self._given))
 
     def quote(self) -> bool:
         """Passes a block quote marker and at most one column of space. (5.1)
@@ -120,27 +162,27 @@ class LineStart:
         >>> LineStart(b"> a").quote(), LineStart(b"a").quote()
         (True, False)
         """
-        return stated(self._call("line_quote"))
+        return stated(_line_quote(*self._given))
 
     def list_item(self, indent: int) -> Optional[ListMarker]:
         """Passes a list item's marker at an indent of so many columns, and the columns that belong to it; None also where a
-        thematic break begins. TooLarge where the indent is. (5.2)
+        thematic break begins. TooLargeError where the indent is. (5.2)
 
         >>> LineStart(b"10) a").list_item(0)
         ListMarker(delimiter=41, start=10, indent=4)
         >>> LineStart(b"* * *").list_item(0)
         """
-        found = self._call("line_list", number("the indent", indent))
+        found = _line_list(*self._given, number("indent", indent))
         return ListMarker(found.delimiter, found.start, found.indent) if stated(found.status) else None
 
     def definition(self, indent: int) -> Optional[int]:
-        """Passes a definition's marker at an indent of so many columns: the indent of what it holds. TooLarge where the indent
+        """Passes a definition's marker at an indent of so many columns: the indent of what it holds. TooLargeError where the indent
         is. (An extension of pulldown-cmark)
 
         >>> LineStart(b": a").definition(0)
         2
         """
-        found = self._call("line_definition", number("the indent", indent))
+        found = _line_definition(*self._given, number("indent", indent))
         return found.columns if stated(found.status) else None
 
     def task(self) -> Optional[bool]:
@@ -149,8 +191,8 @@ class LineStart:
         >>> LineStart(b"[x] a").task(), LineStart(b"[ ] a").task(), LineStart(b"a").task()
         (True, False, None)
         """
-        found = self._call("line_task")
-        return bool(found.checked) if stated(found.status) else None
+        found = _line_task(*self._given)
+        return found.checked if stated(found.status) else None
 
     def alert(self) -> Optional[AlertKind]:
         r"""Passes the line of an alert. (An extension of GitHub)
@@ -158,5 +200,14 @@ class LineStart:
         >>> LineStart(b"[!tip]\n").alert()
         <AlertKind.TIP: 2>
         """
-        found = self._call("line_alert")
+        found = _line_alert(*self._given)
         return AlertKind(found.kind) if stated(found.status) else None
+
+
+_NAMES = tuple(name for name, *_ in _c.LineStart._fields_)
+
+
+def _made_again(kind: type[LineStart[Made]], data: Any, begin: int, end: int, numbers: tuple[int, ...]) -> LineStart[Made]:
+    made = kind(data, begin, end)
+    made._count(_c.LineStart(*numbers))
+    return made

@@ -3,12 +3,17 @@ from __future__ import annotations
 
 import ctypes
 from enum import IntEnum
-from typing import Iterable, Optional, TypeVar, Union
+from typing import Callable, Iterable, Optional, TypeVar, Union
 
 from . import _c
-from ._library import made, number, scan
-from .errors import Stopped, TooLarge, refusal
+from ._library import function
+from ._pages import Made, Page, behind, number, place_in, text_for, whole, written
+from .errors import StoppedError, TooLargeError, refusal
 from .line_start import LineStart, ListMarker
+
+_run_line: Callable[..., _c.LineRun] = function("run_line")
+_line_rest: Callable[..., _c.Text] = function("line_rest")
+_run_inline_html: Callable[..., _c.HtmlRun] = function("run_inline_html")
 
 
 class CallKind(IntEnum):
@@ -36,10 +41,16 @@ def _answer(kind: CallKind, found: _c.LineAnswer) -> LineAnswer:
     return found.number if kind == CallKind.DEFINITION else ListMarker(found.delimiter, found.start, found.number)
 
 
-def run_line(start: LineStart, calls: Iterable[tuple[int, int]]) -> tuple[LineAnswer, ...]:
+def _checked(start: LineStart[Made]) -> LineStart[Made]:
+    if not isinstance(start, LineStart):
+        raise TypeError(f"start is of type {type(start).__name__}, and not LineStart")
+    return start
+
+
+def run_line(start: LineStart[Made], calls: Iterable[tuple[int, int]]) -> tuple[LineAnswer, ...]:
     r"""Makes the calls in turn, each a kind and a number, from the line start on, as on the line with its tabs written out to stops
-    of four, and leaves it where the run stopped. Before a call that is refused the run stops: SpacePending or TooLarge, whose
-    `run` has the answers of the calls before it. (2.2)
+    of four, and leaves it where the run stopped. Before a call that is refused the run stops: SpacePendingError or TooLargeError,
+    whose `run` has the answers of the calls before it. (2.2)
 
     >>> start = LineStart(b">\tx")
     >>> run_line(start, [(CallKind.QUOTE, 0), (CallKind.UPTO, 1)]), start.place, start.pending
@@ -47,34 +58,37 @@ def run_line(start: LineStart, calls: Iterable[tuple[int, int]]) -> tuple[LineAn
     """
     kinds = [(CallKind(kind), number("a number of a call", it)) for kind, it in calls]
     given, answers = (_c.LineCall * len(kinds))(*kinds), (_c.LineAnswer * len(kinds))()
-    numbers = ctypes.byref(start._numbers)
-    found = scan("run_line", start.data, start.begin, start.end, numbers, given, len(kinds), answers, len(kinds))
-    told = tuple(_answer(kind, answer) for (kind, _), answer in zip(kinds, answers[: found.count]))
-    return _ended(found.status, told)
+    found = _run_line(*_checked(start)._given, given, len(kinds), answers, len(kinds))
+    run = tuple(_answer(kind, answer) for (kind, _), answer in zip(kinds, answers[: found.count]))
+    return _ended(found.status, run)
 
 
-def line_rest(start: LineStart) -> bytes:
+def line_rest(start: LineStart[Made]) -> Made:
     r"""What is left of the bytes from the line start on: its pending columns as spaces, then the bytes from its place on, their
     tabs before a line ending written out. (2.2)
 
     >>> line_rest(LineStart(b"a\tb\n\tc"))
     b'a   b\n\tc'
     """
-    room = 4 * (start.end - start.place) + start.pending
-    return made("line_rest", start.data, start.begin, start.end, room, ctypes.byref(start._numbers))[1]
+    address, length, numbers = _checked(start)._given
+    room = 4 * (length - start._numbers.place) + start.pending
+    rest: Made = text_for(start.data, written(_line_rest, room, address, length, numbers)[1])
+    return rest
 
 
-def run_inline_html(data: bytes, places: Iterable[int], end: Optional[int] = None) -> tuple[Optional[int], ...]:
+def run_inline_html(data: Page, places: Iterable[int], end: Optional[int] = None) -> tuple[Optional[int], ...]:
     """The place behind what begins at each of the places in turn, or None, as HtmlScanGuard finds them. Before a place that is
-    refused the run stops: NoOpener, NotRising or InsideFind, whose `run` has the ends that were found before it. (6.6)
+    refused the run stops: NoOpenerError, NotRisingError or InsideFindError, whose `run` has the ends that were found before
+    it. (6.6)
 
     >>> run_inline_html(b"<!a> <? <!-- b -->", [2, 7, 10])
     (4, None, 18)
     """
-    listed = [number("a place", it) for it in places]
+    address, length, _, origin = whole(data, 0, end)
+    listed = [min(place_in(data, number("a place", it)), _c.NONE) for it in places]
     given, ends = (ctypes.c_size_t * len(listed))(*listed), (ctypes.c_size_t * len(listed))()
-    found = scan("run_inline_html", data, 0, end, given, len(listed), ends, len(listed))
-    return _ended(found.status, tuple(None if it == _c.NONE else it for it in ends[: found.count]))
+    found = _run_inline_html(address, length, given, len(listed), ends, len(listed))
+    return _ended(found.status, tuple(behind(origin, it) for it in ends[: found.count]))
 
 
 def _ended(status: int, run: tuple[Answer, ...]) -> tuple[Answer, ...]:
@@ -82,6 +96,6 @@ def _ended(status: int, run: tuple[Answer, ...]) -> tuple[Answer, ...]:
     if status in (_c.OK, _c.NOTHING):
         return run
     why = refusal(status)
-    if isinstance(why, (Stopped, TooLarge)):
+    if isinstance(why, (StoppedError, TooLargeError)):
         why.run = run
     raise why

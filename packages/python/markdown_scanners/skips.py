@@ -1,37 +1,52 @@
 """What is left out of a page: at the fronts of lines, the markers and the indent of their containers."""
 from __future__ import annotations
 
-from typing import Any, Iterable, Optional
+from typing import Any, Callable, Iterable, Optional
 
 from . import _c
-from ._library import number, scan, stated
+from ._library import function
+from ._pages import NUMBERS, Page, number, place_in, whole
+from .errors import stated
+
+_check_skips: Callable[..., int] = function("check_skips")
 
 
 class Skips:
     r"""A table of a page: at each place, that of the first byte of a line, how many bytes are left out, all of them ASCII. It is
-    made once, and BadSkips where it is none: where the places don't rise, or one ends past the page or where the next has begun.
+    made once, and BadSkipsError where it is none: where the places don't rise, or one ends past the page or where the next has
+    begun.
 
     >>> page = b"> <foo\n> bar>\n"
     >>> len(Skips(page, [(0, 2), (7, 2)]))
     2
     >>> Skips(page, [(7, 2), (0, 2)])
     Traceback (most recent call last):
-    markdown_scanners.errors.BadSkips: The table of what is left out is none of the text
+    markdown_scanners.errors.BadSkipsError: The table of what is left out is none of the text
     """
 
-    def __init__(self, data: bytes, rows: Iterable[tuple[int, int]] = ()) -> None:
-        listed = [(number("a place", place), number("a length", length)) for place, length in rows]
+    def __init__(self, data: Page, rows: Iterable[tuple[int, int]] = ()) -> None:
+        address, length, _, held = whole(data, 0, None)
+        listed = [_bytes_of(data, number("a place", place), number("a length", length)) for place, length in rows]
         self.data, self._table = data, (_c.Skip * len(listed))(*listed)
-        stated(scan("check_skips", data, 0, None, *table(self, data)))
+        stated(_check_skips(address, length, self._table, len(listed)))
+        del held  # until here the page has stayed where it is
 
     def __len__(self) -> int:
         return len(self._table)
 
 
-def table(skips: Optional[Skips], data: bytes) -> tuple[Any, int]:
+def _bytes_of(data: Page, place: int, length: int) -> tuple[int, int]:
+    """A row in bytes."""
+    first = place_in(data, place)
+    return min(first, NUMBERS - 1), min(place_in(data, place + length) - first, NUMBERS - 1)
+
+
+def table(skips: Optional[Skips], data: Page) -> tuple[Any, int]:
     """The skips of a page as C has them, and how many they are."""
     if skips is None:
         return None, 0
-    if skips.data is not data:
-        raise ValueError("the skips are of another page")
+    if not isinstance(skips, Skips):
+        raise TypeError(f"skips is of type {type(skips).__name__}, and not Skips")
+    if skips.data is not data and (type(skips.data) is not type(data) or skips.data != data):
+        raise ValueError("skips is of another page")
     return skips._table, len(skips)

@@ -1,46 +1,90 @@
 """Each function of the header, by its name without `mds_`, as the package's calls answer it: what C would answer is made of the
-package's answer. What C gives is given twice, by itself and inside of other bytes, and both must answer alike."""
+package's answer. What C gives is given in four forms, by itself, inside of other bytes, in a buffer and as a str among others,
+and all must answer alike."""
+import itertools
+
 import markdown_scanners as mds
 from c_rows import SIZE_MAX as NONE
 from markdown_scanners import _c
 
+FORMS = ["alone", "inside", "buffer", "str"]
 BEFORE, BEHIND = b"<!>\xff", b"-->]"
+CHARACTERS = "<!>\u20ac", "-->]\U0001f354"
 
 
 class Data:
-    """Bytes inside of others."""
+    """Bytes in one of the forms. As a str those that are no UTF-8 stand by themselves."""
 
-    def __init__(self, data, inside):
-        self.data = BEFORE + data + BEHIND if inside else data
-        self.at = len(BEFORE) if inside else 0
-        self.end = self.at + len(data) if inside else None
+    def __init__(self, data, form):
+        self.raw, self.data, self.at, self.end = data, data, 0, None
+        if form in ("inside", "buffer"):
+            self.data = BEFORE + data + BEHIND if form == "inside" else bytearray(BEFORE + data + BEHIND)
+            self.at, self.end = len(BEFORE), len(BEFORE + data)
+        elif form == "str" and mds.is_utf8(data):
+            text = data.decode()
+            self.data, self.at = text.join(CHARACTERS), len(CHARACTERS[0])
+            self.end = self.at + len(text)
+
+    def beside(self, *places):
+        """The same by itself, where a place is inside of a character."""
+        return self if all(mds.is_utf8(self.raw[:it]) for it in places) else Data(self.raw, "alone")
+
+    def place(self, byte):
+        """The place of a byte, past the end too."""
+        if not isinstance(self.data, str):
+            return self.at + byte
+        return self.at + len(self.raw[:byte].decode()) + max(0, byte - len(self.raw))
+
+    def between(self, start, end):
+        """How many bytes stand there."""
+        return len(self.data[start:end].encode()) if isinstance(self.data, str) else end - start
 
     def length(self, end):
-        return NONE if end is None else end - self.at
+        return NONE if end is None else self.between(self.at, end)
+
+    def count(self, start, count):
+        """So many bytes from a byte on, as the page counts."""
+        return self.place(start + count) - self.place(start)
+
+
+def as_bytes(text):
+    return text.encode() if isinstance(text, str) else text
 
 
 def told(call, *given, **more):
     """The status that C would answer, and the answer or the refusal."""
     try:
         found = call(*given, **more)
-    except mds.Refusal as why:
+    except mds.RefusalError as why:
         return why.status, why
     except IndexError as why:
         return _c.PAST_END, why
     return (_c.NOTHING if found is None else _c.OK), found
 
 
-def ends(name, *between):
-    """A function that answers a length: what it takes stands between the bytes and their place."""
-    return lambda d, *given: d.length(getattr(mds, name)(d.data, *given, at=d.at, end=d.end))
+# What the calls take behind the bytes and their places, in the order of C.
+TAKEN = {
+    "scan_ch": ["byte"], "scan_ch_repeat": ["byte"], "scan_while": ["accepted"], "calc_indent": ["limit"],
+    "scan_closing_code_fence": ["byte", "count"], "scan_closing_metadata_block": ["byte"],
+    "scan_metadata_block": ["yaml", "pluses"], "scan_link_dest": ["max_next"], "scan_wikilink_pipe": ["count"],
+}
+
+
+def named(name, given):
+    return dict(zip(TAKEN.get(name, []), given, strict=True))
+
+
+def ends(name):
+    """A function that answers a length."""
+    return lambda d, *given: d.length(getattr(mds, name)(d.data, d.at, d.end, **named(name, given)))
 
 
 def plain(name):
-    return lambda d, *given: getattr(mds, name)(d.data, *given, at=d.at, end=d.end)
+    return lambda d: getattr(mds, name)(d.data, d.at, d.end)
 
 
 def from_back(d, accepted):
-    return (len(d.data) if d.end is None else d.end) - mds.scan_rev_while(d.data, accepted, d.at, d.end)
+    return d.between(mds.scan_rev_while(d.data, d.at, d.end, accepted=accepted), len(d.data) if d.end is None else d.end)
 
 
 def item(d):
@@ -50,9 +94,9 @@ def item(d):
 
 
 def indent(d, limit):
-    status, found = told(mds.calc_indent, d.data, limit, d.at, d.end)
+    status, found = told(mds.calc_indent, d.data, d.at, d.end, limit=limit)
     ok = status == _c.OK
-    return {"status": status, "place": found.place - d.at if ok else 0, "columns": found.columns if ok else 0}
+    return {"status": status, "place": d.length(found.place) if ok else 0, "columns": found.columns if ok else 0}
 
 
 def hrule(d):
@@ -67,37 +111,41 @@ def underline(d):
 
 def fence(name):
     def fenced(d, *given):
-        found = getattr(mds, name)(d.data, *given, at=d.at, end=d.end)
+        found = getattr(mds, name)(d.data, d.at, d.end, **named(name, given))
         return {"length": d.length(found and found.end), "byte": found.byte if found else 0}
 
     return fenced
 
 
-def part(name, order=lambda data, at, more: (data, at, *more)):
-    def parted(d, start, *more):
-        status, found = told(getattr(mds, name), *order(d.data, d.at + start, more), end=d.end)
+def part(name):
+    def parted(d, start, *given):
+        d = d.beside(start)
+        if name == "scan_wikilink_pipe":
+            given = [d.count(start, it) for it in given]
+        status, found = told(getattr(mds, name), d.data, d.place(start), d.end, **named(name, given))
         ok = status == _c.OK
-        return {"status": status, "end": found.end - d.at if ok else 0, "start": found.start - d.at if ok else 0,
-                "length": found.stop - found.start if ok else 0}
+        return {"status": status, "end": d.length(found.end) if ok else 0, "start": d.length(found.start) if ok else 0,
+                "length": d.between(found.start, found.stop) if ok else 0}
 
     return parted
 
 
-def text(name, *given, of=lambda found: found.text):
-    """A text that is made, as struct mds_text tells it."""
+def text(name, of=lambda found: found.text, **given):
+    """A text that is made, as struct mds_text has it."""
     def made(d):
-        status, found = told(getattr(mds, name), d.data, *given, at=d.at, end=d.end)
+        status, found = told(getattr(mds, name), d.data, d.at, d.end, **given)
         ok = status == _c.OK
         taken = d.length(getattr(found, "end", len(d.data) if d.end is None else d.end)) if ok else 0
-        return {"status": status, "taken": taken, "text": of(found) if ok else b""}
+        return {"status": status, "taken": taken, "text": as_bytes(of(found)) if ok else b""}
 
     return made
 
 
-def over(call, d, start, skips, *given):
+def over(call, d, start, skips, **given):
     """A call over a table of the page, as far as there is one, or its refusal."""
-    rows = [(place + d.at, min(length, len(d.data) - d.at - place)) for place, length in skips if d.at + place <= len(d.data)]
-    return call(d.data, *given, mds.Skips(d.data, rows), d.at + start, d.end)
+    rows = [(d.place(place), min(d.count(place, length), len(d.data) - d.place(place)))
+            for place, length in skips if d.place(place) <= len(d.data)]
+    return call(d.data, d.place(start), d.end, skips=mds.Skips(d.data, rows), **given)
 
 
 def check_skips(data, skips):
@@ -105,15 +153,17 @@ def check_skips(data, skips):
 
 
 def tag(d, skips, start=0):
+    d = d.beside(start, *itertools.chain(*[(place, place + length) for place, length in skips]))
     status, found = told(over, mds.scan_html_tag_over_lines, d, start, skips)
     ok = status == _c.OK
-    return {"status": status, "taken": d.length(found.end) if ok else 0, "text": (found.text or b"") if ok else b""}
+    return {"status": status, "taken": d.length(found.end) if ok else 0, "text": as_bytes(found.text or b"") if ok else b""}
 
 
 def label(d, skips, in_table, start=0):
-    status, found = told(over, mds.scan_link_label, d, start, skips, in_table)
+    d = d.beside(start, *itertools.chain(*[(place, place + length) for place, length in skips]))
+    status, found = told(over, mds.scan_link_label, d, start, skips, in_table=in_table)
     ok = status == _c.OK
-    return {"status": status, "taken": d.length(found.end) if ok else 0, "text": found.text if ok else b"",
+    return {"status": status, "taken": d.length(found.end) if ok else 0, "text": as_bytes(found.text) if ok else b"",
             "start": d.length(found.start) if ok else 0}
 
 
@@ -123,16 +173,17 @@ def html_start(d):
 
 def html_end(d, kind):
     try:
-        found = mds.ends_html_block(d.data, kind, d.at, d.end)
+        found = mds.ends_html_block(d.data, d.at, d.end, kind=kind)
     except ValueError:
         return _c.BAD_KIND
     return _c.OK if found else _c.NOTHING
 
 
 def first_end(d, place):
-    whole = mds.HtmlScanGuard(d.data[d.at : d.end])  # a guard is for a text from its front
-    status, found = told(whole.scan, place)
-    return {"status": status, "end": found if status == _c.OK else 0}
+    front = Data(d.raw, "str") if isinstance(d.data, str) else Data(d.raw, "alone")
+    front.data, front.at = front.data[front.at : front.end], 0  # a guard is for a text from its front
+    status, found = told(mds.HtmlScanGuard(front.data).scan, front.place(place))
+    return {"status": status, "end": front.length(found) if status == _c.OK else 0}
 
 
 CALLS = {
@@ -142,8 +193,7 @@ CALLS = {
         "scan_html_type_7", "scan_html_tag")},
     **{f"mds_{it}": plain(it) for it in ("is_utf8", "starts_html_block_type_6", "interrupts_paragraph")},
     **{f"mds_{it}": fence(it) for it in ("scan_code_fence", "scan_metadata_block")},
-    **{f"mds_{it}": part(it) for it in ("scan_link_dest", "scan_link_title", "scan_autolink")},
-    "mds_scan_wikilink_pipe": part("scan_wikilink_pipe", lambda data, at, more: (data, *more, at)),
+    **{f"mds_{it}": part(it) for it in ("scan_link_dest", "scan_link_title", "scan_autolink", "scan_wikilink_pipe")},
     "mds_scan_rev_while": from_back,
     "mds_scan_atx_heading": lambda d: mds.scan_atx_heading(d.data, d.at, d.end) or 0,
     "mds_scan_listitem": item,
@@ -154,8 +204,8 @@ CALLS = {
     "mds_scan_html_block_start": html_start,
     "mds_ends_html_block": html_end,
     "mds_scan_entity": text("scan_entity"),
-    "unescape": text("unescape", of=bytes),
-    "unescape_cell": text("unescape", True, of=bytes),
+    "unescape": text("unescape", of=lambda found: found),
+    "unescape_cell": text("unescape", of=lambda found: found, in_table=True),
     "label": lambda d: label(d, [], False),
     "label_in_cell": lambda d: label(d, [], True),
     "first_end": first_end,

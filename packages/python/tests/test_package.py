@@ -4,12 +4,11 @@ import doctest
 import html.entities
 import importlib
 import pkgutil
-import re
 import unittest
 from pathlib import Path
 
 import markdown_scanners as mds
-from markdown_scanners import _c, _library, errors
+from markdown_scanners import _c, errors
 from test_rows import hold
 
 FOLDER = Path(mds.__file__).parent
@@ -26,16 +25,20 @@ class Bytes(unittest.TestCase):
     def test_no_bytes(self):
         for it in (-1, 256, 2**64 + 32):
             self.assertRaises(ValueError, mds.is_whitespace, it)
-            self.assertRaises(ValueError, mds.scan_ch, b" ", it)
+            self.assertRaises(ValueError, mds.scan_ch, b" ", byte=it)
+        for it in ("", "ab", "\xe9", b"", b"ab"):
+            self.assertRaises(ValueError, mds.scan_ch, b" ", byte=it)
+        self.assertEqual([mds.scan_ch(b"#", byte=it) for it in (35, "#", b"#", "b")], [1, 1, 1, 0])
 
     def test_numbers(self):
         for it in (-1, 2**64):
-            self.assertRaises(ValueError, mds.calc_indent, b" ", it)
+            self.assertRaises(ValueError, mds.calc_indent, b" ", limit=it)
             self.assertRaises(ValueError, mds.LineStart(b" ").space, it)
             self.assertRaises(ValueError, mds.HtmlScanGuard(b"<!").scan, it)
             self.assertRaises(ValueError, mds.run_inline_html, b"<!", [it])
-            self.assertRaises(ValueError, mds.scan_link_dest, b"", 0, it)
-        self.assertRaises(TypeError, mds.calc_indent, b" ", 1.5)
+            self.assertRaises(ValueError, mds.scan_link_dest, b"", max_next=it)
+            self.assertRaises(ValueError, mds.scan_wikilink_pipe, b"", count=it)
+            self.assertRaises(ValueError, mds.scan_closing_code_fence, b"", byte="~", count=it)
 
     def test_places(self):
         for at, end in ((2, None), (-1, None), (0, 2), (1, 0), (0, -1)):
@@ -45,40 +48,44 @@ class Bytes(unittest.TestCase):
             self.assertRaises(IndexError, mds.unescape, b"a", at=at, end=end)
         self.assertEqual(mds.scan_line(b"a", 1), 1)
 
-    def test_only_bytes(self):
-        for it in ("a", bytearray(b"a"), memoryview(b"a"), None):
-            self.assertRaises(TypeError, mds.scan_line, it)
-
-
 class Refusals(unittest.TestCase):
     def test_statuses(self):
-        for status, kind in ((_c.NOT_UTF8, mds.NotUtf8), (_c.BAD_SKIPS, mds.BadSkips), (_c.NO_MEMORY, MemoryError)):
+        for status, kind in ((_c.NOT_UTF8, mds.NotUtf8Error), (_c.BAD_SKIPS, mds.BadSkipsError), (_c.NO_MEMORY, MemoryError)):
             self.assertIs(type(errors.refusal(status)), kind)
-        self.assertIs(type(errors.refusal(999)), mds.Refusal)
-        self.assertRaises(mds.Refusal, _library.stated, 999)
+        self.assertIs(type(errors.refusal(999)), mds.RefusalError)
+        self.assertRaises(mds.RefusalError, errors.stated, 999)
+
+    def test_earlier_names(self):
+        kinds = [it for name, it in vars(mds).items() if name.endswith("Error")]
+        self.assertEqual(len(kinds), 11)
+        for it in kinds:
+            self.assertTrue(issubclass(it, mds.RefusalError))
+            if it is not mds.LoneSurrogateError:
+                self.assertIs(getattr(mds, it.__name__.removesuffix("Error")), it)
 
     def test_texts(self):
         for call in (mds.unescape, mds.label_key, lambda it: mds.labels_match(it, b"")):
-            self.assertRaises(mds.NotUtf8, call, b"a]\xff")
-        self.assertRaises(mds.Empty, mds.scan_entity, b"")
-        self.assertRaises(mds.TooLarge, mds.calc_indent, b"", 2**64 - 1)
+            self.assertRaises(mds.NotUtf8Error, call, b"a]\xff")
+        self.assertRaises(mds.EmptyError, mds.scan_entity, b"")
+        self.assertRaises(mds.TooLargeError, mds.calc_indent, b"", limit=2**64 - 1)
 
     def test_skips(self):
         page = b"> <a\n> b> c\n\xff> d"
         for rows in ([(12, 1)], [(18, 0)], [(0, 2), (1, 1)], [(5, 2), (0, 2)], [(0, 2**64 - 1)]):
-            self.assertRaises(mds.BadSkips, mds.Skips, page, rows)
+            self.assertRaises(mds.BadSkipsError, mds.Skips, page, rows)
         self.assertRaises(ValueError, mds.Skips, page, [(-1, 1)])
         skips = mds.Skips(page, [(0, 2), (5, 2), (13, 0)])
-        self.assertEqual(mds.scan_html_tag_over_lines(page, skips, 2), mds.Tag(9, b"<a\nb>"))
-        self.assertEqual(mds.scan_html_tag_over_lines(page, skips, 2, 9), mds.Tag(9, b"<a\nb>"))
-        self.assertIsNone(mds.scan_html_tag_over_lines(page, skips, 2, 6))
-        self.assertRaises(ValueError, mds.scan_html_tag_over_lines, b"<a>", skips)
+        self.assertEqual(mds.scan_html_tag_over_lines(page, 2, skips=skips), mds.Tag(9, b"<a\nb>"))
+        self.assertEqual(mds.scan_html_tag_over_lines(page, 2, 9, skips=skips), mds.Tag(9, b"<a\nb>"))
+        self.assertIsNone(mds.scan_html_tag_over_lines(page, 2, 6, skips=skips))
+        self.assertEqual(mds.scan_html_tag_over_lines(bytes(bytearray(page)), 2, skips=skips), mds.Tag(9, b"<a\nb>"))
+        self.assertRaises(ValueError, mds.scan_html_tag_over_lines, b"<a>", skips=skips)
 
     def test_runs(self):
-        with self.assertRaises(mds.NotRising) as why:
+        with self.assertRaises(mds.NotRisingError) as why:
             mds.run_inline_html(b"<!a>", [2, 2])
         self.assertEqual(why.exception.run, (4,))
-        with self.assertRaises(mds.SpacePending) as why:
+        with self.assertRaises(mds.SpacePendingError) as why:
             mds.run_line(start := mds.LineStart(b"\tx"), [(mds.CallKind.UPTO, 3), (mds.CallKind.EOL, 0)])
         self.assertEqual((why.exception.run, start.place, mds.line_rest(start)), ((3,), 1, b" x"))
         self.assertEqual(mds.run_line(start, [(mds.CallKind.UPTO, 3), (mds.CallKind.EOL, 0)]), (1, False))
@@ -111,16 +118,18 @@ class Texts(unittest.TestCase):
 class Package(unittest.TestCase):
     def test_each_function_is_called(self):
         text = "".join(it.read_text() for it in FOLDER.glob("*.py") if it.name != "_c.py")
-        self.assertEqual([it for it in _c.FUNCTIONS if not re.search(rf'"{it}"', text)], [])
+        self.assertEqual([it for it in _c.FUNCTIONS if f'function("{it}")' not in text], [])
 
     def test_public_names(self):
         modules = {it.name for it in pkgutil.iter_modules([str(FOLDER)])}
-        self.assertEqual(set(mds.__all__), {it for it in dir(mds) if not it.startswith("_")} - modules)
+        earlier = {it.removesuffix("Error") for it in mds.__all__ if it.endswith("Error")} - {"LoneSurrogate"}
+        self.assertEqual(set(mds.__all__) | earlier, {it for it in dir(mds) if not it.startswith("_")} - modules)
         self.assertTrue((FOLDER / "py.typed").is_file())
 
     def test_examples(self):
         """Each call has an example, and they are so many."""
         tried = 0
+        self.assertEqual([it for it in mds.__all__ if not hasattr(mds, it)], [])
         for name in [it.name for it in pkgutil.iter_modules([str(FOLDER)])]:
             found = doctest.testmod(importlib.import_module(f"markdown_scanners.{name}"))
             self.assertEqual(found.failed, 0)

@@ -8,7 +8,7 @@ from pathlib import Path
 
 import c_rows
 import markdown_scanners as mds
-from c_calls import BEFORE, BEHIND, CALLS, Data, check_skips, label, tag, told
+from c_calls import BEFORE, BEHIND, CALLS, FORMS, Data, as_bytes, check_skips, label, tag, told
 from c_rows import SIZE_MAX as NONE
 from c_rows import Call, Name
 from markdown_scanners import _c
@@ -36,14 +36,15 @@ def hold(test, name, tried):
 class Lines:
     """The line starts of C, made by the package; what their calls answer, in C's words."""
 
-    def __init__(self, data=b"", inside=False):
-        d = Data(data, inside)
-        self.start = mds.LineStart(d.data, d.at, d.end)
+    def __init__(self, data=b"", form="alone"):
+        self.data, self.form = Data(data, form), form
+        self.start = mds.LineStart(self.data.data, self.data.at, self.data.end)
 
-    def on(self, data, inside):
+    def on(self, data):
         """The same numbers on other bytes."""
-        other = Lines(data, inside)
-        other.start._numbers = self.start.copy()._numbers
+        other = Lines(data, self.form)
+        for name, _ in _c.LineStart._fields_:
+            setattr(other.start._numbers, name, getattr(self.start._numbers, name))
         return other
 
     def call(self, name, given):
@@ -68,22 +69,24 @@ class Rows(unittest.TestCase):
         self.tried, self.variables = Counter(), {}
 
     def found(self, call):
-        """What a call comes to, by itself and inside of other bytes."""
+        """What a call comes to, in all forms."""
         if call.name == "mds_labels_match":
             return {True: _c.OK, False: _c.NOTHING}.get((it := told(mds.labels_match, *call.given))[1], it[0])
         if call.name.startswith("mds_line_"):
             return self.line_call(call)
-        one, other = (CALLS[call.name](Data(call.given[0], inside), *call.given[1:]) for inside in (False, True))
-        self.assertEqual(one, other, call.name)
-        return one
+        return self.alike(call.name, [CALLS[call.name](Data(call.given[0], it), *call.given[1:]) for it in FORMS])
+
+    def alike(self, name, found):
+        """The one answer of all forms."""
+        for it in found[1:]:
+            self.assertEqual(it, found[0], name)
+        return found[0]
 
     def line_call(self, call):
         data, start = call.given[:2]
         if not isinstance(data, Name):
-            self.variables["start"] = [it.on(data, inside) for inside, it in enumerate(self.variables["start"])]
-        one, other = (it.call(call.name, call.given[2:]) for it in self.variables["start"])
-        self.assertEqual(one, other, call.name)
-        return one
+            self.variables["start"] = [it.on(data) for it in self.variables["start"]]
+        return self.alike(call.name, [it.call(call.name, call.given[2:]) for it in self.variables["start"]])
 
     def same(self, row, found, wanted):
         self.assertEqual(found, wanted, str(row))
@@ -109,10 +112,9 @@ class Rows(unittest.TestCase):
         if isinstance(value, list):
             self.variables[name] = value
         elif value == 0:
-            self.variables[name] = [Lines(), Lines(b"", True)]
+            self.variables[name] = [Lines(b"", it) for it in FORMS]
         elif isinstance(value, Name) and isinstance(self.variables.get(value.name), list):
-            self.variables[name] = [it.on(it.start.data[it.start.begin : it.start.end], inside)
-                                    for inside, it in enumerate(self.variables[value.name])]
+            self.variables[name] = [it.on(it.data.raw) for it in self.variables[value.name]]
         elif isinstance(value, Call) and value.name in CALLS and isinstance(value.given[0], bytes):
             self.variables[name] = self.found(value)
 
@@ -130,8 +132,7 @@ class Rows(unittest.TestCase):
         start, wanted = (wanted[0], wanted[1:]) if row.macro.endswith("_AT") else (0, wanted)
         table = self.variables.get(wanted[0].name, []) if isinstance(wanted[0], Name) else wanted[0]
         call = tag if "TAG" in row.macro else lambda d, skips, at: label(d, skips, row.macro == "CELL", at)
-        one, other = (call(Data(data, inside), table, start) for inside in (False, True))
-        self.assertEqual(one, other, str(row))
+        one = self.alike(str(row), [call(Data(data, it), table, start) for it in FORMS])
         if row.macro.startswith("NO_"):
             return self.check_text(row, one, wanted[1] if len(wanted) > 1 else _c.NOTHING, 0, b"")
         self.assertEqual(one.get("start"), wanted[3] if len(wanted) == 4 else None, str(row))
@@ -145,7 +146,7 @@ class Rows(unittest.TestCase):
     def check_front(self, row, data, *wanted):
         """One call at the front of a line."""
         kind = row.macro.removeprefix("FRONT_").removeprefix("NO_").lower()
-        self.variables["start"] = [Lines(data), Lines(data, True)]
+        self.variables["start"] = [Lines(data, it) for it in FORMS]
         calls = {"item": ("mds_line_list", [0]), "definition": ("mds_line_definition", [0]), "task": ("mds_line_task", []),
                  "alert": ("mds_line_alert", [])}
         found = self.line_call(Call(calls[kind][0], [Name("bytes"), Name("start"), *calls[kind][1]]))
@@ -157,33 +158,32 @@ class Rows(unittest.TestCase):
         self.same(row, ([found[it] for it in fields], self.place()), (list(wanted[: len(fields)]), place))
 
     def place(self):
-        one, other = self.variables["start"]
-        self.assertEqual((one.start.place + len(BEFORE), one.start.pending), (other.start.place, other.start.pending))
-        return one.start.place
+        found = [(it.data.length(it.start.place), it.start.pending) for it in self.variables["start"]]
+        return self.alike("place", found)[0]
 
     def check_line_run(self, row, data, calls, status, place, rest, answers):
         if status == _c.BAD_KIND:
             with self.assertRaises(ValueError):
                 mds.run_line(mds.LineStart(data), calls)
             return self.same(row, True, True)
-        for inside, first in itertools.product((False, True), range(len(calls) + 1)):
-            d = Data(data, inside)
+        for form, first in itertools.product(FORMS, range(len(calls) + 1)):
+            d = Data(data, form)
             start = mds.LineStart(d.data, d.at, d.end)
             found, run = told(mds.run_line, start, calls[:first])
             if found == _c.OK:
                 found, more = told(mds.run_line, start, calls[first:])
                 run += getattr(more, "run", more)
             run = getattr(run, "run", run)
-            self.assertEqual((found, start.place - d.at, mds.line_rest(start)), (status, place, rest), str(row))
+            self.assertEqual((found, d.length(start.place), as_bytes(mds.line_rest(start))), (status, place, rest), str(row))
             self.assertEqual([self.answer(kind, it) for (kind, _), it in zip(calls, run)], answers, str(row))
         self.same(row, len(run), len(answers))
 
     def check_line_rest(self, row, data, place, pending, phase, rest):
-        for inside in (False, True):
-            lines = Lines(data, inside)
+        for form in FORMS:
+            lines = Lines(data, form)
             for name, it in (("place", place), ("pending", pending), ("phase", phase)):
                 setattr(lines.start._numbers, name, it)
-            self.assertEqual(mds.line_rest(lines.start), rest, str(row))
+            self.assertEqual(as_bytes(mds.line_rest(lines.start)), rest, str(row))
         self.same(row, True, True)
 
     @staticmethod
@@ -216,7 +216,7 @@ class Rows(unittest.TestCase):
         if macro == "let":
             self.let(row, *given)
         elif macro == "FRONT_OF":
-            self.variables["start"] = [Lines(given[0]), Lines(given[0], True)]
+            self.variables["start"] = [Lines(given[0], it) for it in FORMS]
         elif macro == "SAME":
             found = self.value(given[0])
             if found is not None and not isinstance(given[1], (Call, Name)) and not isinstance(found, dict):
