@@ -5,9 +5,10 @@
  */
 import * as c from "../lib/c.mjs";
 import * as mds from "../markdown_scanners.mjs";
+import { MODULE } from "./module.mjs";
 
 export const NONE = 2n ** 64n - 1n;
-export const scanners = await mds.load();
+export const scanners = await mds.load(MODULE);
 
 const BEFORE = Buffer.from("<!>\xff", "latin1");
 const BEHIND = Buffer.from("-->]");

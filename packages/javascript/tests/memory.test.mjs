@@ -3,9 +3,10 @@ import assert from "node:assert/strict";
 import { test } from "node:test";
 import { Heap } from "../lib/heap.mjs";
 import * as mds from "../markdown_scanners.mjs";
+import { MODULE } from "./module.mjs";
 
 const PAGE = 65536;
-const scanners = await mds.load();
+const scanners = await mds.load(MODULE);
 
 test("the last block grows where it stands, another one moves", () => {
     const heap = new Heap(new WebAssembly.Memory({ initial: 1, maximum: 4 }), 16);

@@ -3,14 +3,20 @@
  * are none.
  */
 import assert from "node:assert/strict";
-import { readFileSync } from "node:fs";
+import { cpSync, mkdtempSync, readFileSync, rmSync, writeFileSync } from "node:fs";
+import { tmpdir } from "node:os";
+import { join } from "node:path";
 import { test } from "node:test";
+import { fileURLToPath, pathToFileURL } from "node:url";
 import { FUNCTIONS, VERSION } from "../lib/c.mjs";
 import * as mds from "../markdown_scanners.mjs";
+import { IS_WIDE, MODULE, naming, ofOtherVersion } from "./module.mjs";
 import { TOP } from "./tree.mjs";
 
-const MODULE = new URL("../markdown_scanners.wasm", import.meta.url);
-const scanners = await mds.load();
+const PACKAGE = fileURLToPath(new URL("..", import.meta.url));
+/** What the specification of WebAssembly 3.0 has as a module with a 64-bit memory. */
+const WIDE_MEMORY = Buffer.from("0061736d010000000503010401", "hex");
+const scanners = await mds.load(MODULE);
 const text = (data, how) => scanners.text(data, how);
 
 test("each byte has its class", () => {
@@ -106,19 +112,38 @@ test("10 MB are scanned, and many texts in turn", () => {
     assert.equal(page.runInlineHtml(Array.from({ length: 100_000 }, (_, it) => it * 30 + 21)).at(-1), 99_999 * 30 + 29);
 });
 
-test("a module that stops begins anew", async () => {
+test("a module that stops begins anew", () => stopping(2 ** 32 - 16));
+
+test("an address of 64 bits is no other one", { skip: !IS_WIDE }, () => stopping(2 ** 40));
+
+/** Scans a line at an address at which there is no memory, and then one that is there. */
+async function stopping(address) {
     const { Engine } = await import("../lib/engine.mjs");
     const engine = new Engine(new WebAssembly.Module(readFileSync(MODULE)));
     const page = { bytes: Buffer.from("ab\nc"), address: 0, turn: 0 };
-    assert.throws(() => engine.calls.scanLine(2 ** 40, 10), mds.ModuleFault);
+    assert.throws(() => engine.calls.scanLine(address, 10), mds.ModuleFault);
     engine.bring(page);
     assert.equal(engine.calls.scanLine(page.address, 4), 3);
+}
+
+test("of two modules the 64-bit one is taken where the engine runs it", async () => {
+    const folder = mkdtempSync(join(tmpdir(), "package-"));
+    for (const it of ["markdown_scanners.mjs", "lib"]) cpSync(join(PACKAGE, it), join(folder, it), { recursive: true });
+    writeFileSync(join(folder, "markdown_scanners.wasm"), naming(readFileSync(MODULE), "wide.wasm"));
+    const { load } = await import(pathToFileURL(join(folder, "markdown_scanners.mjs")));
+    const isRead = async () => (await load()).text("# a").scanAtxHeading() === 1;
+    assert.ok(await isRead()); // where it is not there
+    writeFileSync(join(folder, "wide.wasm"), "none");
+    assert.ok(await isRead());
+    writeFileSync(join(folder, "wide.wasm"), ofOtherVersion(readFileSync(MODULE)));
+    if (WebAssembly.validate(WIDE_MEMORY)) await assert.rejects(isRead, { name: "WrongVersion" });
+    else assert.ok(await isRead());
+    rmSync(folder, { recursive: true });
 });
 
 test("a module that is missing, broken or of another version", async () => {
     const bytes = readFileSync(MODULE);
-    const other = Buffer.from(bytes);
-    other.write("9", other.length - VERSION.length);
+    const other = ofOtherVersion(bytes);
     await assert.rejects(mds.load(new URL("none.wasm", MODULE)), { name: "ModuleMissing" });
     await assert.rejects(mds.load("data:text/plain,none"), { name: "BadModule" });
     await assert.rejects(mds.load(bytes.subarray(0, 1000)), { name: "BadModule" });

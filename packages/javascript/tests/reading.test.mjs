@@ -3,11 +3,12 @@ import assert from "node:assert/strict";
 import { test } from "node:test";
 import { load } from "../markdown_scanners.mjs";
 import { Reading } from "../page/reading.mjs";
+import { MODULE } from "./module.mjs";
 import { madePages } from "./pages.mjs";
 import { hold } from "./totals.mjs";
 import { readWhole } from "./whole.mjs";
 
-const scanners = await load();
+const scanners = await load(MODULE);
 const read = (text) => readWhole(Reading, scanners, text);
 const blocks = (text) => read(text).lines.map((it) => it.block.name);
 const headings = (text) => read(text).headings.map(({ number, level, text: words }) => [number, level, words]);

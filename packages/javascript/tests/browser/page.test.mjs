@@ -1,7 +1,7 @@
 /**
- * The page in a headless Chromium: what is drawn of a text that is typed, and what the C functions answer of it; the keys, both
- * colour schemes, 400 pixels, 1 MB, and bad input. packages/javascript/totals has how many answers are compared. With
- * SCREENSHOT set it is written there.
+ * The page in a headless Chromium, with the module that MODULE names: what is drawn of a text that is typed, and what the C
+ * functions answer of it; the keys, both colour schemes, 400 pixels, 1 MB, and bad input. packages/javascript/totals has how many
+ * answers are compared. With SCREENSHOT set it is written there.
  */
 import assert from "node:assert/strict";
 import { execFileSync } from "node:child_process";
@@ -10,7 +10,7 @@ import { tmpdir } from "node:os";
 import { join } from "node:path";
 import { after, before, test } from "node:test";
 import { fileURLToPath } from "node:url";
-import { VERSION } from "../../lib/c.mjs";
+import { MODULE, naming, ofOtherVersion } from "../module.mjs";
 import { examples, filesOfDisk, madePages } from "../pages.mjs";
 import { hold } from "../totals.mjs";
 import { TOP } from "../tree.mjs";
@@ -26,8 +26,16 @@ const DESK = { width: 1280, height: 820 };
 const room = mkdtempSync(join(tmpdir(), "page-"));
 let served, browser, faults;
 
+/** The package with these bytes as its module, and with no other one; else with that of MODULE. */
+function servedWith(module = readFileSync(MODULE), wide = undefined) {
+    return serve(PACKAGE, (path) => {
+        if (path === "/markdown_scanners64.wasm") return wide;
+        return path === "/markdown_scanners.wasm" ? module : null;
+    });
+}
+
 before(async () => {
-    served = await serve(PACKAGE);
+    served = await servedWith();
     browser = new Browser();
     browser.on("Runtime.exceptionThrown", (it) => faults.push(it.exceptionDetails.exception?.description));
 });
@@ -340,16 +348,25 @@ test("10 MB are read, and another text behind them", async () => {
 });
 
 test("a module that is missing or of another version has a message", async () => {
-    const module = readFileSync(join(PACKAGE, "markdown_scanners.wasm"));
-    const other = Buffer.from(module);
-    other.write("9", other.length - VERSION.length);
-    for (const [bytes, message] of [[undefined, /^ModuleMissing: .*404/], [other, /^WrongVersion: .* 9\./], [Buffer.from("none"), /^BadModule: /]]) {
-        const changed = await serve(PACKAGE, (path) => (path.endsWith(".wasm") ? bytes : null));
+    const other = ofOtherVersion(readFileSync(MODULE));
+    const missing = await serve(PACKAGE, (path) => (path.endsWith(".wasm") ? undefined : null));
+    const broken = await servedWith(Buffer.from("none"));
+    for (const [changed, message] of [[missing, /^ModuleMissing: .*404/], [await servedWith(other), /^WrongVersion: .* 9\./], [broken, /^BadModule: /]]) {
         await open(DESK, changed.url);
         await settled("refused");
         assert.match(await told(), message);
         changed.close();
     }
+});
+
+test("of two modules the 64-bit one is taken where the browser runs it", async () => {
+    const module = readFileSync(MODULE);
+    const changed = await servedWith(naming(module, "markdown_scanners64.wasm"), ofOtherVersion(module));
+    await open(DESK, changed.url);
+    const isWide = await browser.ask(() => WebAssembly.validate(new Uint8Array([0, 97, 115, 109, 1, 0, 0, 0, 5, 3, 1, 4, 1])));
+    await settled(isWide ? "refused" : "drawn");
+    assert.match(await told(), isWide ? /^WrongVersion: / : /^\d+ lines/);
+    changed.close();
 });
 
 test("a picture", async () => {
