@@ -153,6 +153,21 @@ test("a module that is missing, broken or of another version", async () => {
     assert.equal((await mds.load(await WebAssembly.compile(bytes))).text("# a").scanAtxHeading(), 1);
 });
 
+test("a bundle that has no URL can be imported, and given the module", async () => {
+    const folder = mkdtempSync(join(tmpdir(), "bundle-"));
+    cpSync(join(PACKAGE, "lib"), join(folder, "lib"), { recursive: true });
+    const source = readFileSync(join(PACKAGE, "markdown_scanners.mjs"), "utf8");
+    assert.ok(source.includes('new URL("./markdown_scanners.wasm", import.meta.url)')); // as bundlers look for it
+    writeFileSync(join(folder, "bundle.mjs"), source.replaceAll("import.meta", "({})"));
+    const { load } = await import(pathToFileURL(join(folder, "bundle.mjs")));
+    await assert.rejects(load(), { name: "ModuleMissing" });
+    await assert.rejects(load("./none.wasm"), { name: "ModuleMissing" });
+    assert.equal((await load(readFileSync(MODULE))).text("# a").scanAtxHeading(), 1);
+    assert.equal((await load(MODULE)).text("# a").scanAtxHeading(), 1);
+    assert.equal((await load(MODULE.href)).text("# a").scanAtxHeading(), 1);
+    rmSync(folder, { recursive: true });
+});
+
 test("each function is called, and the package tells one version", () => {
     const files = ["source", "blocks", "line_start", "text"].map((it) => new URL(`../lib/${it}.mjs`, import.meta.url));
     const sources = [...files, new URL("../markdown_scanners.mjs", import.meta.url)].map((it) => readFileSync(it, "utf8")).join("");

@@ -369,6 +369,23 @@ test("of two modules the 64-bit one is taken where the browser runs it", async (
     changed.close();
 });
 
+test("a policy needs `wasm-unsafe-eval`, and a URL is one from the page's on", async () => {
+    for (const [policy, wanted] of [["'self'", "BadModule"], ["'self' 'wasm-unsafe-eval'", "1"]]) {
+        const head = `<!doctype html><meta http-equiv="Content-Security-Policy" content="script-src ${policy}">`;
+        const changed = await serve(PACKAGE, (path) => {
+            if (path === "/a/page.html") return Buffer.from(head);
+            return path === "/a/module.wasm" ? readFileSync(MODULE) : null;
+        });
+        await open(DESK, `${changed.url}a/page.html`);
+        const found = await browser.ask(async () => {
+            const { load } = await import("/markdown_scanners.mjs");
+            return load("module.wasm").then((it) => String(it.text("# a").scanAtxHeading()), (why) => why.name);
+        });
+        assert.equal(found, wanted);
+        changed.close();
+    }
+});
+
 test("a picture", async () => {
     await open({ width: 1100, height: 720 });
     await settled("drawn");
