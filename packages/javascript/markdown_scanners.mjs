@@ -13,9 +13,9 @@
  *     page.scanLinkDest(start.place + 4); // { end: 25, start: 21, stop: 24 }
  */
 import { VERSION } from "./lib/c.mjs";
-import { Engine } from "./lib/engine.mjs";
+import { Block, Engine } from "./lib/engine.mjs";
 import { BadModule, isAnswer, ModuleMissing, WrongVersion } from "./lib/errors.mjs";
-import { byteOf, bytesOf } from "./lib/source.mjs";
+import { byteOf, bytesOf, optionsOf, wrongType } from "./lib/given.mjs";
 import { Text } from "./lib/text.mjs";
 
 export * from "./lib/errors.mjs";
@@ -49,10 +49,11 @@ export class Scanners {
      * bytes are not UTF-8 and have UTF-16 places.
      * @template {string | Uint8Array} Made
      * @param {Made} data
-     * @param {{ units?: import("./lib/source.mjs").Units }} how
+     * @param {{ units?: import("./lib/source.mjs").Units }} [options]
      * @returns {Text<Made extends string ? string : Uint8Array>}
      */
-    text(data, { units = "utf-8" } = {}) {
+    text(data, options = {}) {
+        const { units = "utf-8" } = optionsOf(options, "units");
         return new Text(this.#engine, /** @type {any} */ (data), units);
     }
 
@@ -62,7 +63,7 @@ export class Scanners {
      * @returns {boolean}
      */
     isWhitespace(character) {
-        return this.#engine.calls.isWhitespace(byteOf(character));
+        return this.#engine.calls.isWhitespace(byteOf("character", character));
     }
 
     /**
@@ -71,7 +72,7 @@ export class Scanners {
      * @returns {boolean}
      */
     isWhitespaceInLine(character) {
-        return this.#engine.calls.isWhitespaceInLine(byteOf(character));
+        return this.#engine.calls.isWhitespaceInLine(byteOf("character", character));
     }
 
     /**
@@ -80,7 +81,7 @@ export class Scanners {
      * @returns {boolean}
      */
     isPunctuation(character) {
-        return this.#engine.calls.isPunctuation(byteOf(character));
+        return this.#engine.calls.isPunctuation(byteOf("character", character));
     }
 
     /**
@@ -90,7 +91,7 @@ export class Scanners {
      */
     labelsMatch(one, other) {
         const engine = this.#engine;
-        const [first, second] = [one, other].map((it) => ({ bytes: bytesOf(it), address: 0, turn: 0 }));
+        const [first, second] = [new Block(bytesOf("one", one)), new Block(bytesOf("other", other))];
         engine.bring(first, second);
         return isAnswer(engine.calls.labelsMatch(first.address, first.bytes.length, second.address, second.bytes.length));
     }
@@ -129,7 +130,7 @@ async function moduleOf(source) {
     if (source instanceof WebAssembly.Module) return source;
     if (typeof source === "string" || source instanceof URL) return WebAssembly.compile(await fetched(source));
     const isBuffer = ArrayBuffer.isView(source) || Object.prototype.toString.call(source) === "[object ArrayBuffer]";
-    if (!isBuffer) throw new TypeError("`source` is no URL, no bytes and no module");
+    if (!isBuffer) throw wrongType("source", source, "a URL, bytes or a module");
     return WebAssembly.compile(/** @type {any} */ (source));
 }
 

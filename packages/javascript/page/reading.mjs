@@ -292,7 +292,7 @@ export class Reading {
         this.#table.rows.push({ number, cells });
         cells.forEach((it) => this.#keepCell(it));
         const answer = cells.map((it) => it.text);
-        return this.#block(line, `row of ${cells.length}`, "unescape", [true], answer);
+        return this.#block(line, `row of ${cells.length}`, "unescape", [{ inTable: true }], answer);
     }
 
     /** The cells of a row, which pipes part that no backslash stands before. */
@@ -318,6 +318,7 @@ export class Reading {
     }
 
     #cell(from, to) {
-        return { from, to, text: this.page.unescape(true, from, to), call: "unescape", given: [true] };
+        const how = { inTable: true };
+        return { from, to, text: this.page.unescape(from, to, how), call: "unescape", given: [how] };
     }
 }

@@ -51,7 +51,7 @@ CALLS = {
     "endsHtmlBlock": lambda data, at, end, kind: mds.ends_html_block(data, kind, at, end),
     "interruptsParagraph": mds.interrupts_paragraph,
     "scanTableHead": lambda *given: table(mds.scan_table_head(*given)),
-    "unescape": lambda data, at, end, in_table: mds.unescape(data, in_table, at, end).decode(),
+    "unescape": lambda data, at, end, how: mds.unescape(data, in_table=how["inTable"], at=at, end=end).decode(),
     "scanLinkLabel": lambda data, at, end, place: label(mds.scan_link_label(data, at=place)),
     "scanLinkDest": lambda data, at, end, place: part(mds.scan_link_dest(data, place)),
     "scanAutolink": lambda data, at, end, place: part(mds.scan_autolink(data, place)),
