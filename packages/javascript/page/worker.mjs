@@ -27,9 +27,9 @@ function cut(from, to) {
     return decode(page.bytes.subarray(from, Math.min(to, from + SHOWN)));
 }
 
-/** An answer as it is told: without the text that it is of, but with that text's beginning, as with that of a long heading. */
+/** An answer as it is told: of the text that it is of, of a heading and of where a label leads no more than the beginning. */
 function told({ joined, ...answer }) {
-    if (answer.text?.length > SHOWN) answer.text = `${answer.text.slice(0, SHOWN)}…`;
+    for (const name of ["text", "target"]) if (answer[name]?.length > SHOWN) answer[name] = `${answer[name].slice(0, SHOWN)}…`;
     return joined ? { ...answer, joinedText: decode(joined.bytes(reading.page).subarray(0, 4 * SHOWN)) } : answer;
 }
 

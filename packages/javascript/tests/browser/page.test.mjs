@@ -335,6 +335,12 @@ test("of a line of 1 MB the page is sent what it draws", async () => {
         const columns = await browser.ask(() => [...document.querySelectorAll(".row button.strip")].map((it) => it.textContent).join(""));
         assert.equal(columns.length, 200);
     }
+    await fill(`# ${"a".repeat(1_000_000)}\n\n[b]: /${"c".repeat(1_000_000)}\n`);
+    await settled("drawn");
+    for (const [name, wanted] of [["outline", /^a{1000}…$/], ["labels", /^\[b\] → \/c{999}…$/]]) {
+        await choose(name);
+        assert.match(await browser.ask(() => document.querySelector("#view .what").textContent), wanted);
+    }
 });
 
 test("the page says by file: that it has to be served", async () => {
