@@ -94,11 +94,12 @@ def of_parser():
 
 def of_packages():
     made = totals("packages/javascript/totals")["made_pages"]
-    most = number("packages/javascript/test", r"(?m)^most=(\d+)$") // 1000
+    most, most_wide = (number("packages/javascript/test", rf"(?m)^{it}=(\d+)$") // 1000 for it in ("most", "most64"))
     asking = len(re.findall(r":\s+(?:\* )?MDS_NO_MEMORY\.", text_of("packages/c/include/markdown_scanners.h")))
     return [
         ("README.md", "WebAssembly module of at most {} KB", [most]),
         ("packages/javascript/README.md", "WebAssembly module of at most {} KB", [most]),
+        ("packages/javascript/README.md", "64-bit memory and SIMD, and at most {} KB", [most_wide]),
         ("packages/javascript/README.md", "page's reading of {} made pages", [made]),
         ("README.md", "What the {} that ask for memory answer", [WORDS[asking]]),
     ]

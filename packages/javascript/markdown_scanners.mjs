@@ -13,9 +13,9 @@
  *     page.scanLinkDest(start.place + 4); // { end: 25, start: 21, stop: 24 }
  */
 import { VERSION } from "./lib/c.mjs";
-import { Engine } from "./lib/engine.mjs";
+import { Block, Engine } from "./lib/engine.mjs";
 import { BadModule, isAnswer, ModuleMissing, WrongVersion } from "./lib/errors.mjs";
-import { byteOf, bytesOf } from "./lib/source.mjs";
+import { byteOf, bytesOf, optionsOf, wrongType } from "./lib/given.mjs";
 import { Text } from "./lib/text.mjs";
 
 export * from "./lib/errors.mjs";
@@ -23,11 +23,13 @@ export { HtmlScanGuard, Skips, Text } from "./lib/text.mjs";
 export { LineStart } from "./lib/line_start.mjs";
 export { VERSION };
 
-const MODULE = new URL("./markdown_scanners.wasm", import.meta.url);
 /** Node's files, which a browser has not. */
 const FILES = "node:fs/promises";
-/** The section of the module that tells its version. */
-const SECTION = "markdown_scanners";
+/** The section of a module that tells its version, and the one in which the 32-bit module names the 64-bit one beside it. */
+const VERSION_SECTION = "markdown_scanners";
+const WIDE_SECTION = "markdown_scanners64";
+/** A module that has a 64-bit memory and nothing else. */
+const WIDE_MEMORY = new Uint8Array([0, 97, 115, 109, 1, 0, 0, 0, 5, 3, 1, 4, 1]);
 
 /** The scanners of one module. */
 export class Scanners {
@@ -35,8 +37,7 @@ export class Scanners {
 
     /** @param {WebAssembly.Module} module */
     constructor(module) {
-        const [section] = WebAssembly.Module.customSections(module, SECTION);
-        const version = section && new TextDecoder().decode(section);
+        const version = sectionOf(module, VERSION_SECTION);
         if (!version) throw new BadModule("the module is none of markdown_scanners");
         if (version !== VERSION) throw new WrongVersion(`the module is of version ${version}, and this package of ${VERSION}`);
         this.#engine = new Engine(module);
@@ -48,10 +49,11 @@ export class Scanners {
      * bytes are not UTF-8 and have UTF-16 places.
      * @template {string | Uint8Array} Made
      * @param {Made} data
-     * @param {{ units?: import("./lib/source.mjs").Units }} how
+     * @param {{ units?: import("./lib/source.mjs").Units }} [options]
      * @returns {Text<Made extends string ? string : Uint8Array>}
      */
-    text(data, { units = "utf-8" } = {}) {
+    text(data, options = {}) {
+        const { units = "utf-8" } = optionsOf(options, "units");
         return new Text(this.#engine, /** @type {any} */ (data), units);
     }
 
@@ -61,7 +63,7 @@ export class Scanners {
      * @returns {boolean}
      */
     isWhitespace(character) {
-        return this.#engine.calls.isWhitespace(byteOf(character));
+        return this.#engine.calls.isWhitespace(byteOf("character", character));
     }
 
     /**
@@ -70,7 +72,7 @@ export class Scanners {
      * @returns {boolean}
      */
     isWhitespaceInLine(character) {
-        return this.#engine.calls.isWhitespaceInLine(byteOf(character));
+        return this.#engine.calls.isWhitespaceInLine(byteOf("character", character));
     }
 
     /**
@@ -79,7 +81,7 @@ export class Scanners {
      * @returns {boolean}
      */
     isPunctuation(character) {
-        return this.#engine.calls.isPunctuation(byteOf(character));
+        return this.#engine.calls.isPunctuation(byteOf("character", character));
     }
 
     /**
@@ -89,7 +91,7 @@ export class Scanners {
      */
     labelsMatch(one, other) {
         const engine = this.#engine;
-        const [first, second] = [one, other].map((it) => ({ bytes: bytesOf(it), address: 0, turn: 0 }));
+        const [first, second] = [new Block(bytesOf("one", one)), new Block(bytesOf("other", other))];
         engine.bring(first, second);
         return isAnswer(engine.calls.labelsMatch(first.address, first.bytes.length, second.address, second.bytes.length));
     }
@@ -105,15 +107,14 @@ export class Scanners {
 }
 
 /**
- * The scanners of a module: of the one that stands beside this file, or of another by its URL, its bytes, or itself.
- * ModuleMissing where there is none, BadModule where it can't be run here, WrongVersion where it is of another version.
+ * The scanners of a module: of the one that stands beside this file, or of another by its URL, its bytes, or itself. Beside this
+ * file the 64-bit module is taken where the package has both and this engine runs it, and else the 32-bit one. ModuleMissing where
+ * there is none, BadModule where it can't be run here, WrongVersion where it is of another version.
  * @param {URL | string | Uint8Array | ArrayBuffer | WebAssembly.Module} [source]
  */
-export async function load(source = MODULE) {
-    if (source instanceof WebAssembly.Module) return new Scanners(source);
-    const bytes = typeof source === "string" || source instanceof URL ? await fetched(new URL(source, MODULE)) : source;
+export async function load(source) {
     try {
-        return new Scanners(await WebAssembly.compile(/** @type {any} */ (bytes)));
+        return new Scanners(await moduleOf(source));
     } catch (why) {
         if (!(why instanceof WebAssembly.CompileError || why instanceof WebAssembly.LinkError)) throw why;
         throw new BadModule(`the module can't be run, or this engine has no 64-bit memories (${why.message})`, why);
@@ -121,16 +122,74 @@ export async function load(source = MODULE) {
 }
 
 /**
- * The bytes at a URL. Node's fetch knows no files.
+ * @param {URL | string | Uint8Array | ArrayBuffer | WebAssembly.Module} [source]
+ * @returns {Promise<WebAssembly.Module>}
+ */
+async function moduleOf(source) {
+    if (source === undefined) return ownModule();
+    if (source instanceof WebAssembly.Module) return source;
+    if (typeof source === "string" || source instanceof URL) return WebAssembly.compile(await fetched(source));
+    const isBuffer = ArrayBuffer.isView(source) || Object.prototype.toString.call(source) === "[object ArrayBuffer]";
+    if (!isBuffer) throw wrongType("source", source, "a URL, bytes or a module");
+    return WebAssembly.compile(/** @type {any} */ (source));
+}
+
+/** The module of this package: the 64-bit one where the 32-bit one names it, and this engine runs it. */
+async function ownModule() {
+    const url = ownUrl();
+    const module = await WebAssembly.compile(await fetched(url));
+    const name = sectionOf(module, WIDE_SECTION);
+    return (name && (await wideModule(name, url))) || module;
+}
+
+/** Where it stands. Bundlers know a file by this expression. */
+function ownUrl() {
+    try {
+        return new URL("./markdown_scanners.wasm", import.meta.url);
+    } catch (why) {
+        throw new ModuleMissing("this script has no URL, so none of the module: `load` needs that, or the module's bytes", why);
+    }
+}
+
+/**
+ * The module of this name beside the one at the URL, or null where it is not there or can't be run.
+ * @param {string} name
  * @param {URL} url
  */
-async function fetched(url) {
+async function wideModule(name, url) {
+    if (!WebAssembly.validate(WIDE_MEMORY)) return null;
     try {
-        if (url.protocol === "file:") return await (await import(FILES)).readFile(url);
+        const bytes = await fetched(new URL(name, url));
+        return WebAssembly.validate(bytes) ? await WebAssembly.compile(bytes) : null;
+    } catch (why) {
+        if (why instanceof ModuleMissing || why instanceof TypeError) return null; // beside a module that is no file stands none
+        throw why;
+    }
+}
+
+/**
+ * The text of a section of a module, or nothing.
+ * @param {WebAssembly.Module} module
+ * @param {string} name
+ */
+function sectionOf(module, name) {
+    const [section] = WebAssembly.Module.customSections(module, name);
+    return section && new TextDecoder().decode(section);
+}
+
+/**
+ * The bytes at a URL, which may be one from the page's on. Node's fetch knows no files.
+ * @param {URL | string} source
+ * @returns {Promise<BufferSource>}
+ */
+async function fetched(source) {
+    try {
+        const url = new URL(source, globalThis.location?.href);
+        if (url.protocol === "file:") return await (await import(/* webpackIgnore: true */ /* @vite-ignore */ FILES)).readFile(url);
         const response = await fetch(url);
         if (response.ok) return await response.arrayBuffer();
         throw new Error(`${response.status} ${response.statusText}`);
     } catch (why) {
-        throw new ModuleMissing(`there is no module at ${url}: ${/** @type {Error} */ (why).message}`, why);
+        throw new ModuleMissing(`there is no module at ${source}: ${/** @type {Error} */ (why).message}`, why);
     }
 }

@@ -1,11 +1,15 @@
 #!/usr/bin/env python3
-"""packages/javascript/module.py TREE MODULE: compiles the crate markdown_scanners_c of the tree, which is proved, as a
-WebAssembly module.
+"""packages/javascript/module.py TREE FOLDER 32|64 ..: compiles the crate markdown_scanners_c of the tree, which is proved, as
+WebAssembly modules: markdown_scanners.wasm with a 32-bit memory, markdown_scanners64.wasm with a 64-bit one.
 
 The kit compiles for WebAssembly what calls no C. The three functions of the heap, by which the crate asks for memory, are C's,
 and here the host's. So the kit makes its LLVM code for the plainest x86-64, which has the sizes and the layouts of wasm64, and
 hands it to a clang that keeps it; and the kit's own clang and linker make the module of it. The functions of the header are its
-exports, and a section tells the version."""
+exports, and a section tells the version.
+
+The 32-bit module is made by wasm-opt (Debian's binaryen) of one with a 64-bit memory and no SIMD, which wasm-opt can't lower: its
+sizes and layouts stay those of wasm64, and each address is cut to 32 bits where memory is read or written. Where both are made,
+a section of it names the other one."""
 import os
 import re
 import shutil
@@ -24,8 +28,11 @@ from crate_list import libraries, made_of
 CRATE = "markdown_scanners_c"
 LAYOUT = "e-m:e-p:64:64-p10:8:8-p20:8:8-i64:64-i128:128-n32:64-S128-ni:1:10:20"
 TARGET = "wasm64-unknown-unknown"
+NARROW, WIDE = "markdown_scanners.wasm", "markdown_scanners64.wasm"
+FEATURES = ["-mbulk-memory", "-msign-ext"]
 # What engines have that have 64-bit memories.
-FEATURES = ["-msimd128", "-mbulk-memory", "-msign-ext"]
+WIDE_FEATURES = [*FEATURES, "-msimd128"]
+LOWERS = ["--enable-memory64", "--enable-bulk-memory", "--enable-sign-ext", "--memory64-lowering", "-O2"]
 KEEPS = """#!/bin/sh
 for it in "$@"; do case "$it" in *.bc) cp "$it" "{kept}" ;; esac; done
 exec "{clang}" "$@"
@@ -111,19 +118,28 @@ def leb(number):
     return bytes([*made, number])
 
 
-def version_section():
-    name, version = b"markdown_scanners", (TOP / "VERSION").read_text().strip().encode()
-    body = leb(len(name)) + name + version
+def section(name, text):
+    body = leb(len(name)) + name.encode() + text.encode()
     return b"\0" + leb(len(body)) + body
 
 
-def linked(code, toolchain, room):
-    """The module's bytes."""
-    text, made, module = room / "module.ll", room / "module.o", room / "module.wasm"
-    clang = toolchain / "bin/clang"
-    run(clang, "-S", "-emit-llvm", "-Xclang", "-disable-llvm-passes", "-x", "ir", code, "-o", text)
+def version_section():
+    return section("markdown_scanners", (TOP / "VERSION").read_text().strip())
+
+
+def text_of(code, toolchain, room):
+    """The LLVM code for wasm64, as a text."""
+    text = room / "module.ll"
+    run(toolchain / "bin/clang", "-S", "-emit-llvm", "-Xclang", "-disable-llvm-passes", "-x", "ir", code, "-o", text)
     text.write_text(retargeted(text.read_text()))
-    run(clang, f"--target={TARGET}", "-Werror", *FEATURES, "-O3", "-ffunction-sections", "-fdata-sections", "-x", "ir", text, "-c", "-o", made)
+    return text
+
+
+def linked(text, toolchain, room, features):
+    """The bytes of a module with a 64-bit memory."""
+    made, module = room / "module.o", room / "module.wasm"
+    how = [f"--target={TARGET}", "-Werror", *features, "-O3", "-ffunction-sections", "-fdata-sections"]
+    run(toolchain / "bin/clang", *how, "-x", "ir", text, "-c", "-o", made)
     (room / "imports").write_text("rattle_alloc\nrattle_realloc\nrattle_dealloc\n")
     words = ["-flavor", "wasm", "-mwasm64", "--no-entry", "--stack-first", "--gc-sections", "--strip-all", "--fatal-warnings"]
     words += [f"--allow-undefined-file={room / 'imports'}", *[f"--export={it}" for it in ("__heap_base", *functions())]]
@@ -131,14 +147,28 @@ def linked(code, toolchain, room):
     return module.read_bytes()
 
 
-def main(words):
-    if len(words) != 2:
-        sys.exit(__doc__)
-    with tempfile.TemporaryDirectory() as room:
-        code, toolchain = lowered(Path(words[0]), Path(room))
-        made = linked(code, toolchain, Path(room)) + version_section()
-    Path(words[1]).write_bytes(made)
+def narrowed(made, room):
+    """The bytes of the module with a 32-bit memory that wasm-opt makes of this one."""
+    before, after = room / "before.wasm", room / "after.wasm"
+    before.write_bytes(made)
+    run("wasm-opt", *LOWERS, before, "-o", after)
+    return after.read_bytes()
+
+
+def main(tree, folder, *asked):
+    tree, folder = Path(tree).resolve(), Path(folder).resolve()
+    with tempfile.TemporaryDirectory() as name:
+        room = Path(name)
+        code, toolchain = lowered(tree, room)
+        text = text_of(code, toolchain, room)
+        if "64" in asked:
+            (folder / WIDE).write_bytes(linked(text, toolchain, room, WIDE_FEATURES) + version_section())
+        if "32" in asked:
+            beside = section("markdown_scanners64", WIDE) if "64" in asked else b""
+            (folder / NARROW).write_bytes(narrowed(linked(text, toolchain, room, FEATURES), room) + version_section() + beside)
 
 
 if __name__ == "__main__":
-    main([str(Path(it).resolve()) for it in sys.argv[1:]])
+    if len(sys.argv) < 4 or not {*sys.argv[3:]} <= {"32", "64"}:
+        sys.exit(__doc__)
+    main(*sys.argv[1:])

@@ -1,9 +1,10 @@
 /** Lines, and the blocks that begin in them. Sections in brackets are those of CommonMark 0.31.2. */
 import * as c from "./c.mjs";
-import { NONE } from "./engine.mjs";
+import { Block, NONE } from "./engine.mjs";
 import { isAnswer } from "./errors.mjs";
+import { byteOf, bytesOf, flagOf, optionsOf, sizeOf } from "./given.mjs";
 import { LineStart } from "./line_start.mjs";
-import { byteOf, bytesOf, sizeOf, Source } from "./source.mjs";
+import { Source } from "./source.mjs";
 
 /** @typedef {{ end: number, delimiter: string, start: number, indent: number }} ListItem `indent` is that of marker and space */
 /** @typedef {{ end: number, level: number }} Underline */
@@ -15,8 +16,8 @@ import { byteOf, bytesOf, sizeOf, Source } from "./source.mjs";
 const ALIGNMENTS = { [c.ALIGN_NONE]: "none", [c.ALIGN_LEFT]: "left", [c.ALIGN_CENTER]: "center", [c.ALIGN_RIGHT]: "right" };
 
 /**
- * The scanners of lines and blocks. Each begins at the place `at`, and reads up to the place `end` at most. What stands alone
- * in an answer is the place behind what was scanned; null says that nothing of the kind stands there.
+ * The scanners of lines and blocks. Each begins at the place `at`, and reads up to the place `end` at most; options stand behind
+ * these. What stands alone in an answer is the place behind what was scanned; null says that nothing of the kind stands there.
  * @template {string | Uint8Array} Made
  * @extends {Source<Made>}
  */
@@ -31,7 +32,7 @@ export class Blocks extends Source {
      * @param {string | number} character
      */
     scanCh(character, at = 0, end = this.length) {
-        return this.#place("scanCh", at, end, byteOf(character));
+        return this.#place("scanCh", at, end, byteOf("character", character));
     }
 
     /**
@@ -39,7 +40,7 @@ export class Blocks extends Source {
      * @param {string | number} character
      */
     scanChRepeat(character, at = 0, end = this.length) {
-        return this.#place("scanChRepeat", at, end, byteOf(character));
+        return this.#place("scanChRepeat", at, end, byteOf("character", character));
     }
 
     /**
@@ -64,9 +65,9 @@ export class Blocks extends Source {
      * @param {string | Uint8Array} accepted
      */
     #accepted(accepted) {
-        const block = { bytes: bytesOf(accepted), address: 0, turn: 0 };
-        if (this.isString && block.bytes.some((it) => it > 127)) throw new RangeError("of a string ASCII characters are accepted");
-        this.engine.bring(this, block);
+        const block = new Block(bytesOf("accepted", accepted));
+        if (this.isString && block.bytes.some((it) => it > 127)) throw new RangeError("`accepted` has more than ASCII characters, for a string");
+        this.engine.bring(this.block, block);
         return [block.address, block.bytes.length];
     }
 
@@ -111,13 +112,16 @@ export class Blocks extends Source {
     }
 
     /**
-     * The columns of the spaces and tabs, up to a limit, and the place of the last byte that was looked at. TooLarge where the
-     * limit is. (2.2)
-     * @param {number | bigint} limit
+     * The columns of the spaces and tabs, up to a limit where there is one, and the place of the last byte that was looked at.
+     * TooLarge where the limit is. (2.2)
+     * @param {number} [at]
+     * @param {number} [end]
+     * @param {{ limit?: number | bigint }} [options]
      * @returns {{ place: number, columns: number }}
      */
-    calcIndent(limit, at = 0, end = this.length) {
-        const found = this.scan("calcIndent", at, end, sizeOf("the limit", limit));
+    calcIndent(at = 0, end = this.length, options = {}) {
+        const { limit = Number.MAX_SAFE_INTEGER } = optionsOf(options, "limit");
+        const found = this.scan("calcIndent", at, end, sizeOf("limit", limit));
         isAnswer(found.status);
         return { place: this.placeOf(this.inBytes(at) + found.place), columns: found.columns };
     }
@@ -164,17 +168,19 @@ export class Blocks extends Source {
      * @param {number | bigint} count
      */
     scanClosingCodeFence(character, count, at = 0, end = this.length) {
-        return this.behind("scanClosingCodeFence", at, end, byteOf(character), sizeOf("the count", count));
+        return this.behind("scanClosingCodeFence", at, end, byteOf("character", character), sizeOf("count", count));
     }
 
     /**
-     * The opening line of a metadata block, of `---` where `yaml` is true and of `+++` where `pluses` is. (An extension of
-     * pulldown-cmark)
-     * @param {boolean} yaml
-     * @param {boolean} pluses
+     * The opening line of a metadata block, of `---` where `yaml` is true and of `+++` where `pluses` is; each is false where it is
+     * not given. (An extension of pulldown-cmark)
+     * @param {number} [at]
+     * @param {number} [end]
+     * @param {{ yaml?: boolean, pluses?: boolean }} [options]
      */
-    scanMetadataBlock(yaml, pluses, at = 0, end = this.length) {
-        return this.#fence("scanMetadataBlock", at, end, Boolean(yaml), Boolean(pluses));
+    scanMetadataBlock(at = 0, end = this.length, options = {}) {
+        const { yaml = false, pluses = false } = optionsOf(options, "yaml", "pluses");
+        return this.#fence("scanMetadataBlock", at, end, flagOf("yaml", yaml), flagOf("pluses", pluses));
     }
 
     /**
@@ -182,7 +188,7 @@ export class Blocks extends Source {
      * @param {string | number} character
      */
     scanClosingMetadataBlock(character, at = 0, end = this.length) {
-        return this.behind("scanClosingMetadataBlock", at, end, byteOf(character));
+        return this.behind("scanClosingMetadataBlock", at, end, byteOf("character", character));
     }
 
     /** Whether the line can interrupt a paragraph, behind at most three columns of indent. (4.8) */

@@ -12,10 +12,17 @@ const STRUCT_ROOM = 64;
 const TEXT_ROOM = 2 ** 20;
 const HALF = 2 ** 32;
 
-/**
- * Bytes that stay in the module's memory from call to call, as long as there is room.
- * @typedef {{ bytes: Uint8Array, address: number, turn: number }} Resident
- */
+/** Bytes that stay in the module's memory from call to call, as long as there is room. */
+export class Block {
+    /** Where they stand, if they were brought in this turn of the engine. */
+    address = 0;
+    turn = 0;
+
+    /** @param {Uint8Array} bytes */
+    constructor(bytes) {
+        this.bytes = bytes;
+    }
+}
 
 export class Engine {
     #module;
@@ -123,14 +130,14 @@ export class Engine {
 
     /**
      * Brings to memory what is not there. All of it is there at once, and what the calls before have taken is free.
-     * @param {...Resident} blocks
+     * @param {...Block} blocks
      */
     bring(...blocks) {
         if (!blocks.every((it) => it.turn === this.#turn)) this.#copy(blocks);
         this.heap.top = this.#work;
     }
 
-    /** @param {Resident[]} blocks */
+    /** @param {Block[]} blocks */
     #copy(blocks) {
         let missing = blocks.filter((it) => it.turn !== this.#turn);
         if (this.#next + sizeOf(missing) > this.#work) {
@@ -263,7 +270,7 @@ function bound(call, taken) {
     return (...given) => call(...given.map((it, index) => words[index](it)));
 }
 
-/** @param {Resident[]} blocks */
+/** @param {Block[]} blocks */
 function sizeOf(blocks) {
     return blocks.reduce((sum, it) => sum + Math.ceil(it.bytes.length / 16) * 16, 0);
 }

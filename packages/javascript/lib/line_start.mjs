@@ -1,7 +1,7 @@
 /** A place in a line that is read column by column. Sections in brackets are those of CommonMark 0.31.2. */
 import * as c from "./c.mjs";
 import { isAnswer, refusal, Stopped, TooLarge } from "./errors.mjs";
-import { sizeOf } from "./source.mjs";
+import { listOf, sizeOf, written } from "./given.mjs";
 
 /** @typedef {{ delimiter: string, start: number, indent: number }} ListMarker `indent` is that of what the item holds */
 /** @typedef {"note" | "tip" | "important" | "warning" | "caution"} Alert */
@@ -18,6 +18,8 @@ const ALERTS = {
 
 /** @type {Record<string, number>} */
 const KINDS = { space: c.SPACE, upto: c.UPTO, eol: c.EOL, quote: c.QUOTE, list: c.LIST, definition: c.DEFINITION };
+/** The calls that take no number. */
+const ALONE = ["eol", "quote"];
 
 const [PLACE, PENDING] = c.STRUCTS.lineStart.fields;
 const FRONT = { place: 0, pending: 0, phase: 0, noneBefore: 0, behindBreak: 0 };
@@ -30,6 +32,7 @@ export class LineStart {
     #engine;
     #text;
     #limits;
+    #made;
     /**
      * What C keeps of it, in bytes of the line, as it was when it left the module's memory.
      * @type {Record<string, number>}
@@ -46,12 +49,12 @@ export class LineStart {
         this.#engine = engine;
         this.#text = text;
         this.#limits = limits;
-        this.made = made;
+        this.#made = made;
     }
 
     /** A copy, which goes on by itself. */
     copy() {
-        const other = new LineStart(this.#engine, this.#text, this.#limits, this.made);
+        const other = new LineStart(this.#engine, this.#text, this.#limits, this.#made);
         other.#numbers = this.numbers;
         return other;
     }
@@ -101,7 +104,7 @@ export class LineStart {
     /** Brings the text and the numbers to the module's memory. */
     #enter() {
         const engine = this.#engine;
-        engine.bring(this.#text);
+        engine.bring(this.#text.block);
         if (engine.owner === this) return;
         engine.owner?.leave();
         engine.write("lineStart", engine.lineStart, this.#numbers);
@@ -117,7 +120,7 @@ export class LineStart {
         const [from, to] = this.#limits;
         const engine = this.#engine;
         this.#enter();
-        return engine.calls[name](this.#text.address + from, to - from, engine.lineStart, ...given);
+        return engine.calls[name](this.#text.block.address + from, to - from, engine.lineStart, ...given);
     }
 
     /**
@@ -125,7 +128,7 @@ export class LineStart {
      * @param {number | bigint} count
      */
     space(count) {
-        return isAnswer(this.#call("lineSpace", sizeOf("the count", count)));
+        return isAnswer(this.#call("lineSpace", sizeOf("count", count)));
     }
 
     /**
@@ -134,7 +137,7 @@ export class LineStart {
      * @returns {number}
      */
     upto(count) {
-        const found = this.#call("lineUpto", sizeOf("the count", count));
+        const found = this.#call("lineUpto", sizeOf("count", count));
         isAnswer(found.status);
         return found.columns;
     }
@@ -161,7 +164,7 @@ export class LineStart {
      * @returns {ListMarker | null}
      */
     listItem(indent) {
-        const found = this.#call("lineList", sizeOf("the indent", indent));
+        const found = this.#call("lineList", sizeOf("indent", indent));
         return isAnswer(found.status) ? markerOf(found.delimiter, found.start, found.indent) : null;
     }
 
@@ -172,7 +175,7 @@ export class LineStart {
      * @returns {number | null}
      */
     definition(indent) {
-        const found = this.#call("lineDefinition", sizeOf("the indent", indent));
+        const found = this.#call("lineDefinition", sizeOf("indent", indent));
         return isAnswer(found.status) ? found.columns : null;
     }
 
@@ -198,13 +201,13 @@ export class LineStart {
      * @returns {(boolean | number | ListMarker | null)[]}
      */
     run(calls) {
-        const rows = calls.map(callOf);
+        const rows = listOf("calls", calls).map(callOf);
         const engine = this.#engine;
         this.#enter();
         const given = engine.rows("lineCall", rows);
         const room = engine.room(24 * rows.length);
         const [from, to] = this.#limits;
-        const found = engine.calls.runLine(this.#text.address + from, to - from, engine.lineStart, given, rows.length, room, rows.length);
+        const found = engine.calls.runLine(this.#text.block.address + from, to - from, engine.lineStart, given, rows.length, room, rows.length);
         const answers = rows.slice(0, found.count).map((row, index) => answerOf(row.kind, engine.read("lineAnswer", room + 24 * index)));
         return ended(found.status, answers);
     }
@@ -216,9 +219,9 @@ export class LineStart {
         this.#enter();
         const length = 4 * (to - from - this.#number(PLACE)) + this.pending;
         const room = engine.room(length);
-        const found = engine.calls.lineRest(this.#text.address + from, to - from, engine.lineStart, room, length);
+        const found = engine.calls.lineRest(this.#text.block.address + from, to - from, engine.lineStart, room, length);
         isAnswer(found.status);
-        return this.made(engine.heap.bytes.subarray(room, room + found.length));
+        return this.#made(engine.heap.bytes.subarray(room, room + found.length));
     }
 }
 
@@ -236,9 +239,11 @@ function markerOf(delimiter, start, indent) {
  * A call of a run, as C has it.
  * @param {LineCall} call
  */
-function callOf([name, number = 0]) {
-    if (!(name in KINDS)) throw new TypeError(`a run has no call ${name}`);
-    return { kind: KINDS[name], number: sizeOf("a number of a call", number) };
+function callOf(call) {
+    if (!Array.isArray(call)) throw new TypeError(`a call of a run is a list as ["quote"], and not ${written(call)}`);
+    const [name, number] = call;
+    if (typeof name !== "string" || !Object.hasOwn(KINDS, name)) throw new TypeError(`a run has no call ${written(name)}`);
+    return { kind: KINDS[name], number: ALONE.includes(name) ? 0 : sizeOf(`the number of ${name}`, /** @type {number | bigint} */ (number)) };
 }
 
 /**

@@ -1,52 +1,20 @@
 /** A text that is scanned, and the places of it. */
-import { NONE } from "./engine.mjs";
-import { LoneSurrogate, NotUtf8 } from "./errors.mjs";
+import { Block, NONE } from "./engine.mjs";
+import { NotUtf8 } from "./errors.mjs";
+import { bytesOf, sizeOf, wrongType } from "./given.mjs";
 import { isInside, Utf16Places } from "./places.mjs";
 
-const ENCODER = new TextEncoder();
 const DECODER = new TextDecoder("utf-8", { ignoreBOM: true });
 
 /** @typedef {"utf-8" | "utf-16"} Units */
-
-/**
- * The bytes of a string in UTF-8, or a copy of bytes.
- * @param {string | Uint8Array} data
- */
-export function bytesOf(data) {
-    if (data instanceof Uint8Array) return new Uint8Array(data);
-    if (typeof data !== "string") throw new TypeError("a text is a string or a Uint8Array");
-    const isWhole = /** @type {any} */ (data).isWellFormed?.() ?? false; // older engines lack it
-    const lone = isWhole ? -1 : data.search(/\p{Surrogate}/u);
-    if (lone >= 0) throw new LoneSurrogate(lone);
-    return ENCODER.encode(data);
-}
-
-/**
- * A number that C can have as a size.
- * @param {string} what
- * @param {number | bigint} given
- */
-export function sizeOf(what, given) {
-    const fits = typeof given === "bigint" ? BigInt.asUintN(64, given) === given : Number.isSafeInteger(given) && given >= 0;
-    if (!fits) throw new RangeError(`${what} is ${given}, which is no size`);
-    return given;
-}
-
-/**
- * The byte of an ASCII character, or a byte.
- * @param {string | number} given
- */
-export function byteOf(given) {
-    const byte = typeof given === "string" && given.length === 1 ? given.charCodeAt(0) : given;
-    if (typeof byte === "number" && Number.isInteger(byte) && byte >= 0 && byte < (given === byte ? 256 : 128)) return byte;
-    throw new RangeError(`${JSON.stringify(given)} is no byte and no ASCII character`);
-}
 
 /**
  * A text. Its bytes are its own, and stand in the module's memory while it is scanned.
  * @template {string | Uint8Array} Made what texts that are made of it are: strings of a string, and bytes of bytes
  */
 export class Source {
+    #engine;
+    #block;
     #units;
 
     /**
@@ -55,16 +23,31 @@ export class Source {
      * @param {Units} units
      */
     constructor(engine, data, units) {
-        if (units !== "utf-8" && units !== "utf-16") throw new TypeError(`units are "utf-8" or "utf-16", and not ${units}`);
-        /** @protected */
-        this.engine = engine;
-        this.bytes = bytesOf(data);
+        if (units !== "utf-8" && units !== "utf-16") throw wrongType("units", units, '"utf-8" or "utf-16"');
+        this.#engine = engine;
+        this.#block = new Block(bytesOf("data", data));
         this.isString = typeof data === "string";
-        this.address = 0;
-        this.turn = 0;
         this.#units = units === "utf-16" ? this.#utf16(data) : null;
         /** How many bytes the text has, or UTF-16 units where these are its places. */
         this.length = this.#units?.length ?? this.bytes.length;
+    }
+
+    /** The bytes of the text, in UTF-8 where it is a string. They are for looking at, and not to be changed. */
+    get bytes() {
+        return this.#block.bytes;
+    }
+
+    /** @protected */
+    get engine() {
+        return this.#engine;
+    }
+
+    /**
+     * The bytes as the engine brings them to the module's memory.
+     * @package
+     */
+    get block() {
+        return this.#block;
     }
 
     /**
@@ -73,21 +56,23 @@ export class Source {
      */
     #utf16(data) {
         if (data.length === this.bytes.length && this.isString) return null;
-        this.engine.bring(this);
-        if (!this.isString && !this.engine.calls.isUtf8(this.address, this.bytes.length)) throw new NotUtf8("the text is not UTF-8");
+        this.#engine.bring(this.#block);
+        if (!this.isString && !this.#engine.calls.isUtf8(this.#block.address, this.bytes.length)) throw new NotUtf8("the text is not UTF-8");
         return new Utf16Places(this.bytes);
     }
 
     /**
      * The place in bytes of a place of the text.
      * @param {number} place
+     * @param {string} name of the argument
      */
-    inBytes(place) {
+    inBytes(place, name = "at") {
+        if (typeof place !== "number") throw wrongType(name, place, "a number");
         if (!Number.isInteger(place) || place < 0 || place > this.length) {
-            throw new RangeError(`there is no place ${place} in a text of ${this.length}`);
+            throw new RangeError(`\`${name}\` is ${place}, which is no place in a text of ${this.length}`);
         }
         const at = this.#units ? this.#units.toByte(place) : place;
-        if (at === null || (this.isString && isInside(this.bytes[at]))) throw new RangeError(`the place ${place} is inside of a character`);
+        if (at === null || (this.isString && isInside(this.bytes[at]))) throw new RangeError(`\`${name}\` is ${place}, which is inside of a character`);
         return at;
     }
 
@@ -95,9 +80,10 @@ export class Source {
      * The same, or a place in bytes that there is none of where the place is past the end.
      * @protected
      * @param {number | bigint} place
+     * @param {string} name
      */
-    anyInBytes(place) {
-        return sizeOf("a place", place) > this.length ? this.bytes.length + 1 : this.inBytes(Number(place));
+    anyInBytes(place, name) {
+        return sizeOf(name, place) > this.length ? this.bytes.length + 1 : this.inBytes(Number(place), name);
     }
 
     /**
@@ -136,8 +122,8 @@ export class Source {
      */
     limits(at, end) {
         const from = this.inBytes(at);
-        const to = end === this.length ? this.bytes.length : this.inBytes(end);
-        if (from > to) throw new RangeError(`there is nothing from ${at} to ${end}`);
+        const to = end === this.length ? this.bytes.length : this.inBytes(end, "end");
+        if (from > to) throw new RangeError(`\`end\` is ${end}, which is before \`at\`, ${at}`);
         return [from, to];
     }
 
@@ -151,8 +137,8 @@ export class Source {
      */
     scan(name, at, end, ...given) {
         const [from, to] = this.limits(at, end);
-        this.engine.bring(this);
-        return this.engine.calls[name](this.address + from, to - from, ...given);
+        this.#engine.bring(this.#block);
+        return this.#engine.calls[name](this.#block.address + from, to - from, ...given);
     }
 
     /**
@@ -189,9 +175,9 @@ export class Source {
      */
     written(name, at, end, room, ...given) {
         const [from, to] = this.limits(at, end);
-        this.engine.bring(this);
-        const buffer = this.engine.room(room);
-        const found = this.engine.calls[name](this.address + from, to - from, ...given, buffer, room);
-        return [found, this.engine.heap.bytes.subarray(buffer, buffer + found.length)];
+        this.#engine.bring(this.#block);
+        const buffer = this.#engine.room(room);
+        const found = this.#engine.calls[name](this.#block.address + from, to - from, ...given, buffer, room);
+        return [found, this.#engine.heap.bytes.subarray(buffer, buffer + found.length)];
     }
 }

@@ -1,10 +1,10 @@
 /** Inline text, HTML, and texts that are made. Sections in brackets are those of CommonMark 0.31.2. */
 import * as c from "./c.mjs";
 import { Blocks } from "./blocks.mjs";
-import { NONE } from "./engine.mjs";
+import { Block, NONE } from "./engine.mjs";
 import { isAnswer } from "./errors.mjs";
+import { flagOf, listOf, optionsOf, sizeOf, wrongType } from "./given.mjs";
 import { ended } from "./line_start.mjs";
-import { sizeOf } from "./source.mjs";
 
 const REFERENCE_ROOM = 6;
 /** A label has at most 999 characters. */
@@ -20,13 +20,15 @@ const LABEL_ROOM = 4 * 999;
  */
 export class Text extends Blocks {
     /**
-     * A link destination; angle brackets are not among its own bytes. Parentheses may stand in each other `maxNext` + 1 deep.
-     * An empty one without brackets is one too. (6.3)
+     * A link destination; angle brackets are not among its own bytes. Parentheses may stand in each other `maxNext` + 1 deep, 32
+     * where it is not given. An empty one without brackets is one too. (6.3)
      * @param {number} [at]
-     * @param {number | bigint} [maxNext]
+     * @param {number} [end]
+     * @param {{ maxNext?: number | bigint }} [options]
      */
-    scanLinkDest(at = 0, maxNext = 31, end = this.length) {
-        return this.#part("scanLinkDest", at, end, sizeOf("the depth", maxNext));
+    scanLinkDest(at = 0, end = this.length, options = {}) {
+        const { maxNext = 31 } = optionsOf(options, "maxNext");
+        return this.#part("scanLinkDest", at, end, sizeOf("maxNext", maxNext));
     }
 
     /** A link title; the quotes or parentheses around it are not among its own bytes. It may go on over lines, of which none is
@@ -40,12 +42,9 @@ export class Text extends Blocks {
         return this.#part("scanAutolink", at, end);
     }
 
-    /**
-     * What stands before the first pipe from the place on, up to the place `stop`. (An extension of pulldown-cmark)
-     * @param {number} [at]
-     */
-    scanWikilinkPipe(at = 0, stop = this.length, end = this.length) {
-        const [from, to] = this.limits(at, stop);
+    /** What stands before the first pipe from the place on. (An extension of pulldown-cmark) */
+    scanWikilinkPipe(at = 0, end = this.length) {
+        const [from, to] = this.limits(at, end);
         return this.#part("scanWikilinkPipe", at, end, to - from);
     }
 
@@ -72,7 +71,8 @@ export class Text extends Blocks {
      * @param {HtmlBlockKind} kind
      */
     endsHtmlBlock(kind, at = 0, end = this.length) {
-        if (!Number.isInteger(kind) || kind < c.HTML_RAW_TEXT || kind > c.HTML_TAG_ALONE) throw new RangeError(`there is no kind ${kind}`);
+        if (typeof kind !== "number") throw wrongType("kind", kind, "a number");
+        if (!Number.isInteger(kind) || kind < c.HTML_RAW_TEXT || kind > c.HTML_TAG_ALONE) throw new RangeError(`\`kind\` is ${kind}, and not 1 to 7`);
         return isAnswer(this.scan("endsHtmlBlock", at, end, kind));
     }
 
@@ -87,27 +87,34 @@ export class Text extends Blocks {
      * @param {[place: number | bigint, length: number | bigint][]} rows
      */
     skips(rows) {
-        const made = new Skips(this, rows.map(([place, length]) => [this.anyInBytes(place), sizeOf("a length", length)]));
-        this.engine.bring(this, made);
-        isAnswer(this.engine.calls.checkSkips(this.address, this.bytes.length, made.address, made.length));
+        const listed = listOf("rows", rows).map((row) => {
+            const [place, length] = listOf("a row", /** @type {(number | bigint)[]} */ (row));
+            return [this.anyInBytes(place, "place"), sizeOf("length", length)];
+        });
+        const made = new Skips(this, listed);
+        this.engine.bring(this.block, made.block);
+        isAnswer(this.engine.calls.checkSkips(this.block.address, this.bytes.length, made.block.address, made.length));
         return made;
     }
 
     /**
      * An open or closing tag, over lines of which the skips are left out: the place behind it, and what it is without them, or
      * null where none are. (6.6)
-     * @param {Skips | null} [skips]
      * @param {number} [at]
+     * @param {number} [end]
+     * @param {{ skips?: Skips | null }} [options]
      * @returns {{ end: number, text: Made | null } | null}
      */
-    scanHtmlTagOverLines(skips = null, at = 0, end = this.length) {
+    scanHtmlTagOverLines(at = 0, end = this.length, options = {}) {
+        const { skips = null } = optionsOf(options, "skips");
         const [from, to] = this.limits(at, end);
         const given = [from, ...this.#table(skips)];
-        let found = this.engine.calls.scanHtmlTagOverLines(this.address, to, ...given, 0, 0);
+        const { address } = this.block;
+        let found = this.engine.calls.scanHtmlTagOverLines(address, to, ...given, 0, 0);
         let text = null;
         if (found.status === c.TOO_SHORT) {
             const room = this.engine.room(found.length);
-            found = this.engine.calls.scanHtmlTagOverLines(this.address, to, ...given, room, found.length);
+            found = this.engine.calls.scanHtmlTagOverLines(address, to, ...given, room, found.length);
             text = this.made(this.engine.heap.bytes.subarray(room, room + found.length));
         }
         return isAnswer(found.status) ? { end: this.placeOf(found.end), text } : null;
@@ -126,10 +133,10 @@ export class Text extends Blocks {
      */
     #scanInlineHtml(at, to, numbers) {
         const { engine } = this;
-        const place = this.anyInBytes(at);
-        engine.bring(this);
+        const place = this.anyInBytes(at, "at");
+        engine.bring(this.block);
         engine.write("htmlGuard", engine.guard, numbers);
-        const found = engine.calls.scanInlineHtml(this.address, to, place, engine.guard);
+        const found = engine.calls.scanInlineHtml(this.block.address, to, place, engine.guard);
         Object.assign(numbers, engine.read("htmlGuard", engine.guard));
         return { status: found.status, end: this.placeOf(found.end), passed: found.passed };
     }
@@ -142,11 +149,11 @@ export class Text extends Blocks {
     runInlineHtml(places, end = this.length) {
         const { engine } = this;
         const [, to] = this.limits(0, end);
-        const listed = places.map((it) => this.anyInBytes(it));
-        engine.bring(this);
+        const listed = listOf("places", places).map((it) => this.anyInBytes(it, "a place"));
+        engine.bring(this.block);
         const given = engine.numbers(listed);
         const room = engine.room(8 * listed.length);
-        const found = engine.calls.runInlineHtml(this.address, to, given, listed.length, room, listed.length);
+        const found = engine.calls.runInlineHtml(this.block.address, to, given, listed.length, room, listed.length);
         const ends = listed.slice(0, found.count).map((_, index) => engine.size(room + 8 * index));
         return ended(found.status, ends.map((it) => (it === NONE ? null : this.placeOf(it))));
     }
@@ -164,11 +171,15 @@ export class Text extends Blocks {
     /**
      * The text with its backslash escapes and character references resolved, and without CR; in a cell of a table two
      * backslashes and a pipe give the pipe. NotUtf8. (2.4, 2.5)
+     * @param {number} [at]
+     * @param {number} [end]
+     * @param {{ inTable?: boolean }} [options]
      */
-    unescape(inTable = false, at = 0, end = this.length) {
+    unescape(at = 0, end = this.length, options = {}) {
+        const { inTable = false } = optionsOf(options, "inTable");
         const [from, to] = this.limits(at, end);
         const room = to - from + Math.floor((to - from) / 5);
-        const [found, text] = this.written("unescape", at, end, room, Boolean(inTable));
+        const [found, text] = this.written("unescape", at, end, room, flagOf("inTable", inTable));
         isAnswer(found.status);
         return this.made(text);
     }
@@ -177,16 +188,18 @@ export class Text extends Blocks {
      * The link label whose opening bracket stands just before the place, over lines of which the skips of the page are left
      * out: the place behind its closing bracket, its words, joined by one space, and the place where they stand as they are, or
      * null. In a cell of a table a pipe loses the backslash before it. (6.3)
-     * @param {{ inTable?: boolean, skips?: Skips | null }} how
      * @param {number} [at]
+     * @param {number} [end]
+     * @param {{ inTable?: boolean, skips?: Skips | null }} [options]
      * @returns {{ end: number, text: Made, start: number | null } | null}
      */
-    scanLinkLabel({ inTable = false, skips = null } = {}, at = 0, end = this.length) {
+    scanLinkLabel(at = 0, end = this.length, options = {}) {
+        const { inTable = false, skips = null } = optionsOf(options, "inTable", "skips");
         const [from, to] = this.limits(at, end);
-        const table = this.#table(skips);
+        const given = [from, flagOf("inTable", inTable), ...this.#table(skips)];
         const length = Math.min(to - from, LABEL_ROOM);
         const room = this.engine.room(length);
-        const found = this.engine.calls.scanLinkLabel(this.address, to, from, Boolean(inTable), ...table, room, length);
+        const found = this.engine.calls.scanLinkLabel(this.block.address, to, ...given, room, length);
         if (!isAnswer(found.status)) return null;
         const text = this.made(this.engine.heap.bytes.subarray(room, room + found.length));
         return { end: this.placeOf(found.end), text, start: found.start === NONE ? null : this.placeOf(found.start) };
@@ -204,10 +217,14 @@ export class Text extends Blocks {
      * @param {Skips | null} skips
      */
     #table(skips) {
-        if (skips && skips.of !== this) throw new TypeError("the skips are of another text");
-        if (skips) this.engine.bring(this, skips);
-        else this.engine.bring(this);
-        return skips ? [skips.address, skips.length] : [0, 0];
+        if (skips === null) {
+            this.engine.bring(this.block);
+            return [0, 0];
+        }
+        if (!(skips instanceof Skips)) throw wrongType("skips", skips, "what `skips` has made");
+        if (!skips.isOf(this)) throw new TypeError("`skips` are of another text");
+        this.engine.bring(this.block, skips.block);
+        return [skips.block.address, skips.length];
     }
 
     /**
@@ -219,8 +236,8 @@ export class Text extends Blocks {
      */
     #part(name, at, end, ...given) {
         const [from, to] = this.limits(at, end);
-        this.engine.bring(this);
-        const found = this.engine.calls[name](this.address, to, from, ...given);
+        this.engine.bring(this.block);
+        const found = this.engine.calls[name](this.block.address, to, from, ...given);
         if (!isAnswer(found.status)) return null;
         return { end: this.placeOf(found.end), start: this.placeOf(found.start), stop: this.placeOf(found.start + found.length) };
     }
@@ -228,21 +245,38 @@ export class Text extends Blocks {
 
 /** A table of what is left out of a text. */
 export class Skips {
+    #of;
+    #block;
+
     /**
      * @param {import("./source.mjs").Source<any>} of
      * @param {(number | bigint)[][]} rows places and lengths in bytes
      */
     constructor(of, rows) {
-        this.of = of;
+        this.#of = of;
         this.length = rows.length;
-        this.address = 0;
-        this.turn = 0;
-        this.bytes = new Uint8Array(16 * rows.length);
-        const view = new DataView(this.bytes.buffer);
+        this.#block = new Block(new Uint8Array(16 * rows.length));
+        const view = new DataView(this.#block.bytes.buffer);
         rows.forEach(([place, length], index) => {
             view.setBigUint64(16 * index, BigInt(place), true);
             view.setBigUint64(16 * index + 8, BigInt(length), true);
         });
+    }
+
+    /**
+     * Whether it is the table of this text.
+     * @param {import("./source.mjs").Source<any>} text
+     */
+    isOf(text) {
+        return this.#of === text;
+    }
+
+    /**
+     * The table as the engine brings it to the module's memory.
+     * @package
+     */
+    get block() {
+        return this.#block;
     }
 }
 

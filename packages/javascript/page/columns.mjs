@@ -51,14 +51,35 @@ export function columnsOf(text, line) {
     /** @type {Strip[]} */
     const strips = [];
     let from = 0;
-    line.taken.forEach((it, index) => {
+    for (let index = 0; index < line.taken.length && from < shown.length; index++) {
+        const it = line.taken[index];
         let to = from;
         while (to < shown.length && isBefore(shown[to], it)) to++;
         if (to > from) strips.push(strip(it.kind, index, shown, from, to));
         from = to;
-    });
+    }
     if (from < shown.length) strips.push(strip("text", null, shown, from, shown.length));
     return { strips, more: cells.length > shown.length };
+}
+
+/**
+ * A line as it is drawn: its columns, of what was taken no more than what took these, and of a long answer the beginning.
+ * @param {string} text its beginning
+ * @param {any} line
+ */
+export function rowOf(text, { taken, block, ...line }) {
+    const columns = columnsOf(text, { at: line.at, taken });
+    const last = columns.strips.findLast((it) => it.taken !== null);
+    return { ...line, columns, taken: taken.slice(0, last ? last.taken + 1 : 0), block: block && { ...block, answer: shortened(block.answer) } };
+}
+
+/**
+ * An answer, or of a long list its beginning.
+ * @param {any} answer
+ */
+export function shortened(answer) {
+    if (answer?.alignments) return { ...answer, alignments: shortened(answer.alignments) };
+    return Array.isArray(answer) && answer.length > MOST_COLUMNS ? [...answer.slice(0, MOST_COLUMNS), "…"] : answer;
 }
 
 /** @returns {Strip} */

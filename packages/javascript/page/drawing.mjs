@@ -28,8 +28,8 @@ function button(name, text, answer) {
 /** What a container took: the bytes before its place, from where the one before it had come to. */
 function takenAnswer(row, index) {
     const it = row.taken[index];
-    const from = index > 0 ? row.taken[index - 1].place : row.at;
-    return { ...it, from, to: it.place };
+    const before = index > 0 ? row.taken[index - 1] : { place: row.at, pending: 0 };
+    return { ...it, from: before.place, to: it.place, lineStart: before };
 }
 
 function blockAnswer(row) {
@@ -87,7 +87,7 @@ export function drawnTables({ tables }) {
         });
         const [head, ...rows] = it.rows;
         const table = element("table", {}, element("tr", {}, ...cells("th", head)), ...rows.map((row) => element("tr", {}, ...cells("td", row))));
-        const what = element("span", { class: "what" }, `a delimiter row of ${it.alignments.length}: ${it.alignments.join(", ")}`);
+        const what = element("span", { class: "what" }, `a delimiter row of ${it.width}: ${it.alignments.join(", ")}`);
         return element("div", {}, entry(it.number, what, it), table);
     });
 }
@@ -109,6 +109,17 @@ export function drawnHtml({ html, passed, bound, scans }) {
     return [note(budget), ...found];
 }
 
+function answered(answer) {
+    return element("code", { id: "found" }, JSON.stringify(answer));
+}
+
+/** What a call is of: a line start by its place, or a row's cells. */
+function whatOf({ lineStart, isOfCells }) {
+    if (isOfCells) return ", cell by cell,";
+    if (!lineStart) return "";
+    return ` of a line start at ${lineStart.place}${lineStart.pending ? ` with ${lineStart.pending} columns pending` : ""}`;
+}
+
 /** What is told of an answer: the call, its bytes, its section and its contract. */
 export function drawnAnswer(it) {
     const contract = CONTRACTS[it.call];
@@ -117,7 +128,7 @@ export function drawnAnswer(it) {
     const words = contract.words.flatMap((word, index) => [index > 0 ? ", " : "", element("code", {}, word)]);
     const of = it.joinedText === undefined ? [] : [element("p", {}, "Of the text ", element("code", { id: "of" }, it.joinedText))];
     return [
-        element("p", {}, element("code", { id: "call" }, `${it.call}(${given})`), " answers ", element("code", { id: "found" }, JSON.stringify(it.answer))),
+        element("p", {}, element("code", { id: "call" }, `${it.call}(${given})`), `${whatOf(it)} answers `, answered(it.answer)),
         ...of,
         element("p", { id: "bytes" }, `Bytes ${it.from} to ${it.to}`),
         element("p", {}, "CommonMark, ", link),

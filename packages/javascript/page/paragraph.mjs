@@ -95,7 +95,7 @@ export class Inline {
      */
     label(place) {
         if (this.bytes[place] !== OPEN) return null;
-        const found = this.text.scanLinkLabel({}, place + 1);
+        const found = this.text.scanLinkLabel(place + 1);
         return found && { ...found, text: decode(found.text), key: decode(this.scanners.labelKey(found.text)) };
     }
 
@@ -131,7 +131,7 @@ export class Inline {
         const isAlone = space === this.bytes.length || this.bytes[space] === LF;
         const end = (title > part.end ? this.#titleEnd(title) : null) ?? (isAlone ? space : null);
         if (end === null) return false;
-        const target = decode(this.text.unescape(false, part.start, part.stop));
+        const target = decode(this.text.unescape(part.start, part.stop));
         this.note("definition", this.place, end, "scanLinkLabel", [this.place + 1], plain(label), { label: label.text, key: label.key, target });
         this.place = Math.min(end + 1, this.bytes.length);
         return true;
@@ -173,7 +173,7 @@ export class Inline {
         const start = this.#spaceEnd(next + 1);
         const part = this.text.scanLinkDest(start);
         if (!part) return next;
-        const target = decode(this.text.unescape(false, part.start, part.stop));
+        const target = decode(this.text.unescape(part.start, part.stop));
         this.note("link", start, part.end, "scanLinkDest", [start], part, { label: "", target });
         return part.end;
     }
@@ -209,7 +209,7 @@ export class Inline {
             this.note("link", at, link.end, "scanAutolink", [at + 1], link, { label: "", target: decode(this.bytes.subarray(link.start, link.stop)) });
             return link.end - at;
         }
-        const tag = this.text.scanHtmlTagOverLines(null, at);
+        const tag = this.text.scanHtmlTagOverLines(at);
         if (tag) {
             this.note("html", at, tag.end, "scanHtmlTagOverLines", [at], tag.end);
             return tag.end - at;

@@ -88,7 +88,7 @@ export class Reading {
      * @param {Line} line
      * @param {string} name
      * @param {string} call
-     * @param {unknown[]} given
+     * @param {unknown[]} given all that the call is given
      * @param {unknown} answer
      */
     #block(line, name, call, given, answer) {
@@ -106,8 +106,8 @@ export class Reading {
     #inFence(line) {
         const { character, count } = this.#fence;
         const columns = line.take("indent", "upto", 4);
-        const given = [character, count];
-        const end = columns < 4 ? this.page.scanClosingCodeFence(...given, line.start.place, line.end) : null;
+        const given = [character, count, line.start.place, line.end];
+        const end = columns < 4 ? this.page.scanClosingCodeFence(...given) : null;
         if (end === null) return this.#block(line, "code", "scanClosingCodeFence", given, end);
         this.#fence = null;
         return this.#block(line, "fence ends", "scanClosingCodeFence", given, end);
@@ -120,9 +120,10 @@ export class Reading {
      */
     #inHtml(line, block) {
         const { kind } = this.#html;
-        const ends = this.page.endsHtmlBlock(kind, line.start.place, line.end);
+        const given = [kind, line.start.place, line.end];
+        const ends = this.page.endsHtmlBlock(...given);
         if (ends) this.#html = null;
-        return block ?? this.#block(line, ends ? "HTML ends" : `HTML ${kind}`, "endsHtmlBlock", [kind], ends);
+        return block ?? this.#block(line, ends ? "HTML ends" : `HTML ${kind}`, "endsHtmlBlock", given, ends);
     }
 
     /**
@@ -132,18 +133,19 @@ export class Reading {
      * @param {number} number
      */
     #leaf(line, depth, number) {
+        const lineStart = { place: line.start.place, pending: line.start.pending };
         const columns = line.take("indent", "upto", 4);
         const at = line.start.place;
         const blank = this.page.scanBlankLine(at, line.end);
         if (blank !== null) {
             this.#closeBeyond(depth);
-            return this.#block(line, "blank", "scanBlankLine", [], blank);
+            return this.#block(line, "blank", "scanBlankLine", [at, line.end], blank);
         }
         const isIndented = columns === 4;
         const isOn = this.#paragraph && depth === this.#containers.open.length;
         if (isIndented && !this.#paragraph) {
             this.#closeBeyond(depth);
-            return this.#block(line, "indented code", "upto", [4], columns);
+            return { ...this.#block(line, "indented code", "upto", [4], columns), lineStart };
         }
         const block = isIndented ? null : this.#begins(line, depth, number, isOn);
         if (block) return block;
@@ -164,7 +166,7 @@ export class Reading {
         const underline = isOn ? this.page.scanSetextHeading(...given) : null;
         const lines = this.#paragraph?.joined.count;
         if (underline && this.#endParagraph(underline.level, line)) {
-            return this.#block(line, `underline of ${lines}`, "scanSetextHeading", [], underline);
+            return this.#block(line, `underline of ${lines}`, "scanSetextHeading", given, underline);
         }
         // After definitions alone there is nothing to underline: their paragraph is over, and the line begins a block of its own. (4.3, 4.7)
         const table = isOn && this.#paragraph ? this.#tableHead(line) : null;
@@ -197,7 +199,7 @@ export class Reading {
     /** What begins here, behind what it closes. */
     #opened(line, depth, name, call, answer) {
         this.#closeBeyond(depth);
-        return this.#block(line, name, call, [], answer);
+        return this.#block(line, name, call, [line.start.place, line.end], answer);
     }
 
     /** An ATX heading, without its opening and its closing sequence. (4.2) */
@@ -209,15 +211,15 @@ export class Reading {
         if (front < to && (front === from || WHITE.has(this.page.bytes[front - 1]))) [from, to] = this.#trimmed(from, front);
         const joined = new Joined();
         joined.add(from, to);
-        this.#heading(number, level, joined, "scanAtxHeading", line.start.place);
+        this.#heading(number, level, joined, "scanAtxHeading", [line.start.place, line.end]);
         return block;
     }
 
-    #heading(number, level, joined, call, at) {
+    #heading(number, level, joined, call, given) {
         const inline = this.#inline(joined);
         const text = decode(inline.bytes.subarray(inline.place)).replaceAll("\n", " ");
-        const heading = { number, level, text, call, given: [], answer: level, at, from: joined.inPage(inline.place), to: joined.inPage(joined.length) };
-        this.headings.push(heading);
+        const places = { from: joined.inPage(inline.place), to: joined.inPage(joined.length) };
+        this.headings.push({ number, level, text, call, given, answer: level, ...places });
         this.#keep(inline);
     }
 
@@ -253,8 +255,9 @@ export class Reading {
         if (isMore && level) {
             const text = decode(inline.bytes.subarray(inline.place)).replaceAll("\n", " ");
             const before = decode(inline.bytes.subarray(0, inline.place)).split("\n").length - 1;
-            const places = { from: joined.inPage(inline.place), to: joined.inPage(joined.length), at: line.start.place };
-            this.headings.push({ number: number + before, level, text, call: "scanSetextHeading", given: [], answer: level, ...places });
+            const places = { from: joined.inPage(inline.place), to: joined.inPage(joined.length) };
+            const given = [line.start.place, line.end];
+            this.headings.push({ number: number + before, level, text, call: "scanSetextHeading", given, answer: level, ...places });
         }
         this.#keep(inline);
         return isMore;
@@ -266,23 +269,24 @@ export class Reading {
         const goesOn = Boolean(this.#paragraph);
         this.#paragraph ??= { joined: new Joined(), number };
         this.#paragraph.joined.add(from, to);
-        const interrupts = this.page.interruptsParagraph(line.start.place, line.end);
-        return this.#block(line, goesOn ? "goes on" : "paragraph", "interruptsParagraph", [], interrupts);
+        const given = [line.start.place, line.end];
+        return this.#block(line, goesOn ? "goes on" : "paragraph", "interruptsParagraph", given, this.page.interruptsParagraph(...given));
     }
 
     /** The delimiter row of a table, whose header is the only line of the paragraph. (GitHub Flavored Markdown 0.29, 4.10) */
     #tableHead(line) {
         if (this.#paragraph.joined.count !== 1) return null;
-        const head = this.page.scanTableHead(line.start.place, line.end);
+        const given = [line.start.place, line.end];
+        const head = this.page.scanTableHead(...given);
         const { joined, number } = this.#paragraph;
         const header = this.#cells(joined.inPage(0), joined.inPage(joined.length));
         if (!head || header.length !== head.alignments.length) return null;
         this.#paragraph = null;
-        const table = { number, alignments: head.alignments, rows: [{ number, cells: header }], at: line.start.place, to: head.end, answer: head };
-        this.tables.push(Object.assign(table, { call: "scanTableHead", given: [], from: line.start.place }));
+        const table = { number, alignments: head.alignments, rows: [{ number, cells: header }], to: head.end, answer: head };
+        this.tables.push(Object.assign(table, { call: "scanTableHead", given, from: line.start.place }));
         this.#table = table;
         header.forEach((it) => this.#keepCell(it));
-        return this.#block(line, `table of ${header.length}`, "scanTableHead", [], head);
+        return this.#block(line, `table of ${header.length}`, "scanTableHead", given, head);
     }
 
     /** A row of the open table. */
@@ -292,7 +296,7 @@ export class Reading {
         this.#table.rows.push({ number, cells });
         cells.forEach((it) => this.#keepCell(it));
         const answer = cells.map((it) => it.text);
-        return this.#block(line, `row of ${cells.length}`, "unescape", [true], answer);
+        return { ...this.#block(line, `row of ${cells.length}`, "unescape", [from, to, { inTable: true }], answer), isOfCells: true };
     }
 
     /** The cells of a row, which pipes part that no backslash stands before. */
@@ -318,6 +322,7 @@ export class Reading {
     }
 
     #cell(from, to) {
-        return { from, to, text: this.page.unescape(true, from, to), call: "unescape", given: [true] };
+        const given = [from, to, { inTable: true }];
+        return { from, to, text: this.page.unescape(...given), call: "unescape", given };
     }
 }

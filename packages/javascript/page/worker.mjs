@@ -1,6 +1,6 @@
 /** Reads texts beside the page, so that it never waits: answers what is in a text, and the rows that are in sight. */
 import { load, NotUtf8, Refusal } from "../markdown_scanners.mjs";
-import { columnsOf } from "./columns.mjs";
+import { MOST_COLUMNS, rowOf, shortened } from "./columns.mjs";
 import { decode } from "./paragraph.mjs";
 import { Reading } from "./reading.mjs";
 
@@ -27,20 +27,27 @@ function cut(from, to) {
     return decode(page.bytes.subarray(from, Math.min(to, from + SHOWN)));
 }
 
-/** An answer as it is told: without the text that it is of, but with that text's beginning. */
+/** An answer as it is told: of the text that it is of, of a heading and of where a label leads no more than the beginning. */
 function told({ joined, ...answer }) {
+    for (const name of ["text", "target"]) if (answer[name]?.length > SHOWN) answer[name] = `${answer[name].slice(0, SHOWN)}…`;
     return joined ? { ...answer, joinedText: decode(joined.bytes(reading.page).subarray(0, 4 * SHOWN)) } : answer;
+}
+
+/** A table as it is told, without what is long in it. */
+function toldTable(table) {
+    const rows = table.rows.slice(0, MOST).map(({ number, cells }) => ({ number, cells: cells.slice(0, MOST_COLUMNS) }));
+    return { ...table, rows, width: table.alignments.length, alignments: shortened(table.alignments), answer: shortened(table.answer) };
 }
 
 /** What a text has, apart from its lines. */
 function summary() {
     const found = (...kinds) => reading.found.filter((it) => kinds.includes(it.kind));
-    const list = (all) => ({ count: all.length, first: all.slice(0, MOST).map(told) });
+    const list = (all, sent = told) => ({ count: all.length, first: all.slice(0, MOST).map(sent) });
     return {
         lines: reading.lines.length,
         bytes: reading.page.length,
         headings: list(reading.headings),
-        tables: list(reading.tables),
+        tables: list(reading.tables, toldTable),
         labels: list(found("definition", "reference", "shortcut", "link")),
         html: list(found("html")),
         passed: reading.passed,
@@ -71,10 +78,7 @@ async function read(text) {
 
 /** What is drawn of the lines from one on. */
 function rows(first, count) {
-    return reading.lines.slice(first, first + count).map((line) => {
-        const text = cut(line.at, line.end);
-        return { ...line, text, columns: columnsOf(text, line) };
-    });
+    return reading.lines.slice(first, first + count).map((line) => rowOf(cut(line.at, line.end), line));
 }
 
 /** The bytes of a file as a text. */

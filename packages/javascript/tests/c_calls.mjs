@@ -5,9 +5,10 @@
  */
 import * as c from "../lib/c.mjs";
 import * as mds from "../markdown_scanners.mjs";
+import { MODULE } from "./module.mjs";
 
 export const NONE = 2n ** 64n - 1n;
-export const scanners = await mds.load();
+export const scanners = await mds.load(MODULE);
 
 const BEFORE = Buffer.from("<!>\xff", "latin1");
 const BEHIND = Buffer.from("-->]");
@@ -104,7 +105,7 @@ function listItem(d) {
 }
 
 function indent(d, limit) {
-    const [status, found] = told(() => d.text.calcIndent(limit, d.at, d.end));
+    const [status, found] = told(() => d.text.calcIndent(d.at, d.end, { limit }));
     const isOk = status === c.OK;
     return { status, place: isOk ? d.place(found.place) : 0, columns: isOk ? found.columns : 0 };
 }
@@ -119,8 +120,8 @@ function underline(d) {
     return { length: d.length(found && found.end), level: found ? found.level : 0 };
 }
 
-const fence = (name) => (d, ...given) => {
-    const found = d.text[name](...given, d.at, d.end);
+const fence = (call) => (d, ...given) => {
+    const found = call(d, ...given);
     return { length: d.length(found && found.end), byte: found ? code(found.character) : 0 };
 };
 
@@ -149,13 +150,13 @@ export function checkSkips(data, skips) {
 }
 
 export function tag(d, skips, start = 0) {
-    const [status, found] = told(() => d.text.scanHtmlTagOverLines(tableOf(d, skips), d.placeIn(start), d.end));
+    const [status, found] = told(() => d.text.scanHtmlTagOverLines(d.placeIn(start), d.end, { skips: tableOf(d, skips) }));
     const isOk = status === c.OK;
     return { status, taken: isOk ? d.place(found.end) : 0, text: isOk && found.text !== null ? bytesOf(found.text).toString("hex") : "" };
 }
 
 export function label(d, skips, inTable, start = 0) {
-    const [status, found] = told(() => d.text.scanLinkLabel({ inTable, skips: tableOf(d, skips) }, d.placeIn(start), d.end));
+    const [status, found] = told(() => d.text.scanLinkLabel(d.placeIn(start), d.end, { inTable, skips: tableOf(d, skips) }));
     if (status !== c.OK) return { status, taken: 0, text: "", start: 0 };
     return { status, taken: d.place(found.end), text: bytesOf(found.text).toString("hex"), start: d.length(found.start) };
 }
@@ -195,14 +196,14 @@ export const CALLS = {
     mds_is_utf8: whole("isUtf8"),
     mds_starts_html_block_type_6: whole("startsHtmlBlockType6"),
     mds_interrupts_paragraph: whole("interruptsParagraph"),
-    mds_scan_code_fence: fence("scanCodeFence"),
-    mds_scan_metadata_block: fence("scanMetadataBlock"),
-    mds_scan_link_dest: part((d, start, maxNext) => d.text.scanLinkDest(start, maxNext, d.end)),
+    mds_scan_code_fence: fence(whole("scanCodeFence")),
+    mds_scan_metadata_block: fence((d, yaml, pluses) => d.text.scanMetadataBlock(d.at, d.end, { yaml: Boolean(yaml), pluses: Boolean(pluses) })),
+    mds_scan_link_dest: part((d, start, maxNext) => d.text.scanLinkDest(start, d.end, { maxNext })),
     mds_scan_link_title: part((d, start) => d.text.scanLinkTitle(start, d.end)),
     mds_scan_autolink: part((d, start) => d.text.scanAutolink(start, d.end)),
     mds_scan_wikilink_pipe: part((d, start, count) => {
         const stop = d.placeIn(BigInt(d.place(start)) + BigInt(count));
-        return d.text.scanWikilinkPipe(start, stop < d.end ? stop : d.end, d.end);
+        return d.text.scanWikilinkPipe(start, stop < d.end ? stop : d.end);
     }),
     mds_scan_atx_heading: (d) => d.text.scanAtxHeading(d.at, d.end) ?? 0,
     mds_scan_listitem: listItem,
@@ -213,8 +214,8 @@ export const CALLS = {
     mds_scan_html_block_start: (d) => d.text.scanHtmlBlockStart(d.at, d.end) ?? 0,
     mds_ends_html_block: htmlEnd,
     mds_scan_entity: text((d) => d.text.scanEntity(d.at, d.end)),
-    unescape: text((d) => d.text.unescape(false, d.at, d.end), bytesOf),
-    unescape_cell: text((d) => d.text.unescape(true, d.at, d.end), bytesOf),
+    unescape: text((d) => d.text.unescape(d.at, d.end), bytesOf),
+    unescape_cell: text((d) => d.text.unescape(d.at, d.end, { inTable: true }), bytesOf),
     label: (d) => label(d, [], false),
     label_in_cell: (d) => label(d, [], true),
     first_end: firstEnd,

@@ -3,9 +3,10 @@ import assert from "node:assert/strict";
 import { test } from "node:test";
 import { Heap } from "../lib/heap.mjs";
 import * as mds from "../markdown_scanners.mjs";
+import { MODULE } from "./module.mjs";
 
 const PAGE = 65536;
-const scanners = await mds.load();
+const scanners = await mds.load(MODULE);
 
 test("the last block grows where it stands, another one moves", () => {
     const heap = new Heap(new WebAssembly.Memory({ initial: 1, maximum: 4 }), 16);
@@ -41,7 +42,7 @@ test("what a memory has no room for is refused, and less is given", () => {
 test("memory that is refused within a call has an error, and the next call has it", () => {
     const calls = [
         () => scanners.text("a &amp; b").unescape(),
-        () => scanners.text("[a\n b]").scanLinkLabel({}, 1),
+        () => scanners.text("[a\n b]").scanLinkLabel(1),
         () => scanners.labelKey("Straße"),
         () => scanners.text("|-|").scanTableHead(),
         () => scanners.text("<!a>").runInlineHtml([2]),

@@ -3,14 +3,21 @@
  * are none.
  */
 import assert from "node:assert/strict";
-import { readFileSync } from "node:fs";
+import { cpSync, mkdtempSync, readFileSync, rmSync, writeFileSync } from "node:fs";
+import { tmpdir } from "node:os";
+import { join } from "node:path";
 import { test } from "node:test";
+import { fileURLToPath, pathToFileURL } from "node:url";
+import { inspect } from "node:util";
 import { FUNCTIONS, VERSION } from "../lib/c.mjs";
 import * as mds from "../markdown_scanners.mjs";
+import { IS_WIDE, MODULE, naming, ofOtherVersion } from "./module.mjs";
 import { TOP } from "./tree.mjs";
 
-const MODULE = new URL("../markdown_scanners.wasm", import.meta.url);
-const scanners = await mds.load();
+const PACKAGE = fileURLToPath(new URL("..", import.meta.url));
+/** What the specification of WebAssembly 3.0 has as a module with a 64-bit memory. */
+const WIDE_MEMORY = Buffer.from("0061736d010000000503010401", "hex");
+const scanners = await mds.load(MODULE);
 const text = (data, how) => scanners.text(data, how);
 
 test("each byte has its class", () => {
@@ -22,20 +29,97 @@ test("each byte has its class", () => {
 });
 
 test("what is no byte, number, place or text is refused", () => {
-    for (const it of [-1, 256, 1.5, "é", "ab", "", null]) assert.throws(() => scanners.isWhitespace(it), RangeError);
+    for (const it of [-1, 256, 1.5, "é", "ab", ""]) assert.throws(() => scanners.isWhitespace(it), RangeError);
     for (const it of [-1, 2 ** 53, 1.5, -1n, 2n ** 64n]) {
-        assert.throws(() => text(" ").calcIndent(it), RangeError);
+        assert.throws(() => text(" ").calcIndent(0, 1, { limit: it }), RangeError);
         assert.throws(() => text(" ").lineStart().space(it), RangeError);
         assert.throws(() => text("<!").htmlScanGuard().scan(it), RangeError);
-        assert.throws(() => text("").scanLinkDest(0, it), RangeError);
+        assert.throws(() => text("").scanLinkDest(0, 0, { maxNext: it }), RangeError);
     }
-    for (const [at, end] of [[2, 2], [-1, 1], [0, 2], [1, 0], [0.5, 1], ["0", 1]]) assert.throws(() => text("a").scanLine(at, end), RangeError);
-    for (const it of [null, 1, ["a"], new ArrayBuffer(1)]) assert.throws(() => text(it), TypeError);
-    assert.throws(() => text("a", { units: "utf-32" }), TypeError);
+    for (const [at, end] of [[2, 2], [-1, 1], [0, 2], [1, 0], [0.5, 1]]) assert.throws(() => text("a").scanLine(at, end), RangeError);
+    for (const it of [0, 8, 1.5]) assert.throws(() => text("<a>").endsHtmlBlock(it), RangeError);
     assert.throws(() => text("é").scanLine(1), RangeError);
     assert.throws(() => text("é").scanWhile("é"), RangeError);
     assert.throws(() => text("🍔", { units: "utf-16" }).scanLine(1), RangeError);
-    assert.throws(() => text("a").lineStart().run([["quotes"]]), TypeError);
+});
+
+/** Of calls that are given something of another type, or a word that there is none of, what their message has to name. */
+const WRONG = [
+    ["`at` is", [(page) => page.scanLine("0"), (page) => page.scanLinkLabel({}), (page) => page.slice(null), (page) => page.htmlScanGuard().scan("2")]],
+    ["`end` is", [(page) => page.scanLine(0, "1"), (page) => page.scanLinkDest(0, { maxNext: 3 }), (page) => page.unescape(0, true)]],
+    ["`end` is", [(page) => page.scanLinkLabel(0, { inTable: true }), (page) => page.htmlScanGuard(null), (page) => page.runInlineHtml([], "1")]],
+    ["`character` is", [() => scanners.isWhitespace(null), (page) => page.scanCh({}), (page) => page.scanClosingCodeFence(undefined, 3)]],
+    ["`accepted` is", [(page) => page.scanWhile(32)]],
+    ["`count` is", [(page) => page.scanClosingCodeFence("`", "3"), (page) => page.lineStart().upto("4"), (page) => page.lineStart().space(null)]],
+    ["`indent` is", [(page) => page.lineStart().listItem(), (page) => page.lineStart().definition("0")]],
+    ["`kind` is", [(page) => page.endsHtmlBlock("6")]],
+    ["`options` is", [(page) => page.scanLinkDest(0, 1, 6), (page) => page.unescape(0, 1, true), (page) => page.scanLinkLabel(0, 1, null)]],
+    ["`options` is", [(page) => page.scanHtmlTagOverLines(0, 1, page.skips([])), (page) => page.calcIndent(0, 1, 4), () => text("a", "utf-16")]],
+    ["`limit` is", [(page) => page.calcIndent(0, 1, { limit: "4" })]],
+    ["`maxNext` is", [(page) => page.scanLinkDest(0, 1, { maxNext: null })]],
+    ["`inTable` is", [(page) => page.unescape(0, 1, { inTable: 1 }), (page) => page.scanLinkLabel(0, 1, { inTable: "yes" })]],
+    ["`yaml` is", [(page) => page.scanMetadataBlock(0, 1, { yaml: 1 })]],
+    ["`pluses` is", [(page) => page.scanMetadataBlock(0, 1, { pluses: "true" })]],
+    ["`skips` is", [(page) => page.scanLinkLabel(0, 1, { skips: [[0, 1]] }), (page) => page.scanHtmlTagOverLines(0, 1, { skips: {} })]],
+    ["`rows` is", [(page) => page.skips("0"), (page) => page.skips(null)]],
+    ["`a row` is", [(page) => page.skips([0, 1])]],
+    ["`places` is", [(page) => page.runInlineHtml(2)]],
+    ["`data` is", [() => text(null), () => text(1), () => text(["a"]), () => text(new ArrayBuffer(1))]],
+    ["`units` is", [() => text("a", { units: "utf-32" }), () => text("a", { units: null })]],
+    ["`one` is", [() => scanners.labelsMatch(1, "a")]],
+    ["`other` is", [() => scanners.labelsMatch("a", null)]],
+    ["no option unit", [() => text("a", { unit: "utf-16" })]],
+    ["no option intable", [(page) => page.unescape(0, 1, { intable: true }), (page) => page.scanLinkLabel(0, 1, { intable: true })]],
+    ["no option inTable", [(page) => page.scanHtmlTagOverLines(0, 1, { inTable: true }), (page) => page.scanLinkDest(0, 1, { inTable: true })]],
+    ["no option max", [(page) => page.calcIndent(0, 1, { max: 3 })]],
+    ["no option toml", [(page) => page.scanMetadataBlock(0, 1, { toml: true })]],
+    ["`calls` is", [(page) => page.lineStart().run("quote"), (page) => page.lineStart().run({})]],
+    ['"quote"', [(page) => page.lineStart().run(["quote"])]],
+    ['"quotes"', [(page) => page.lineStart().run([["quotes"]])]],
+    ['"toString"', [(page) => page.lineStart().run([["toString"]]), (page) => page.lineStart().run([["eol"], ["toString"]])]],
+    ['"__proto__"', [(page) => page.lineStart().run([["__proto__"]])]],
+    ["the number of upto", [(page) => page.lineStart().run([["upto"]]), (page) => page.lineStart().run([["upto", "3"]])]],
+];
+
+test("what is of another type, and words that there are none of, are refused by their names", () => {
+    for (const [words, calls] of WRONG) {
+        for (const call of calls) {
+            assert.throws(() => call(text("> a")), (why) => why instanceof TypeError && why.message.includes(words), `${words}: ${call}`);
+        }
+    }
+});
+
+test("the end stands behind the place, and options behind both", () => {
+    const page = text("&amp;x&amp;y"); // from 5 to 11 stands `x&amp;`
+    assert.equal(page.unescape(5, 11), "x&");
+    assert.equal(text("\\\\|").unescape(0, 3, { inTable: true }), "|"); // two backslashes and a pipe, in a cell
+    assert.deepEqual(text("xx[a]").scanLinkLabel(3), { end: 5, text: "a", start: 3 });
+    assert.equal(text("xx[a]").scanLinkLabel(3, 4), null);
+    assert.equal(text("[b](c(d)e)").scanLinkDest(4, 6), null); // the parenthesis of `c(` is open (6.3)
+    assert.deepEqual(text("[b](c(d)e)").scanLinkDest(4, 5), { end: 5, start: 4, stop: 5 });
+    assert.deepEqual(text("((a))").scanLinkDest(0, 5, { maxNext: 1 }), { end: 5, start: 0, stop: 5 });
+    assert.equal(text("((a))").scanLinkDest(0, 5, { maxNext: 0 }), null);
+    assert.deepEqual(text("a|b").scanWikilinkPipe(0), { end: 2, start: 0, stop: 1 });
+    assert.equal(text("a|b").scanWikilinkPipe(0, 1), null);
+    assert.equal(text("x<a>").scanHtmlTagOverLines(1).end, 4);
+    assert.equal(text("x<a>").scanHtmlTagOverLines(1, 3), null);
+    assert.equal(text("\t x").calcIndent().columns, 5); // a tab goes to column 4
+    assert.equal(text("      x").calcIndent(0, 7, { limit: 3 }).columns, 3);
+    assert.equal(text("---\na\n---").scanMetadataBlock(), null);
+    assert.equal(text("---\na\n---").scanMetadataBlock(0, 9, { yaml: true }).character, "-");
+    assert.equal(text("+++\na\n+++").scanMetadataBlock(0, 9, { yaml: true }), null);
+});
+
+test("what is written of a text has nothing of the module's memory", () => {
+    const page = text("> a");
+    const row = page.skips([[0, 2]]);
+    for (const it of [page, row, page.lineStart(), page.htmlScanGuard(), scanners]) {
+        assert.ok(JSON.stringify(it).length < 100, JSON.stringify(it).slice(0, 100));
+        assert.ok(inspect(it, { depth: 9 }).length < 100);
+        assert.ok(!Object.keys(it).includes("engine") && !("engine" in { ...it }));
+    }
+    assert.equal(JSON.stringify(page), '{"isString":true,"length":3}');
+    assert.deepEqual([...page.bytes], [0x3e, 0x20, 0x61]);
 });
 
 test("refusals have names", () => {
@@ -44,12 +128,12 @@ test("refusals have names", () => {
     named(() => scanners.labelKey(Buffer.from("\xff", "latin1")), mds.NotUtf8, "NotUtf8");
     named(() => text(Buffer.from("\xff", "latin1"), { units: "utf-16" }), mds.NotUtf8, "NotUtf8");
     named(() => text("").scanEntity(), mds.Empty, "Empty");
-    named(() => text("").calcIndent(2n ** 64n - 1n), mds.TooLarge, "TooLarge");
+    named(() => text("").calcIndent(0, 0, { limit: 2n ** 64n - 1n }), mds.TooLarge, "TooLarge");
     named(() => text("> a").skips([[0, 2], [0, 1]]), mds.BadSkips, "BadSkips");
     named(() => text("a").htmlScanGuard().scan(1), mds.NoOpener, "NoOpener");
     assert.throws(() => text("<!a>").runInlineHtml([2, 2]), (why) => why instanceof mds.NotRising && why.run[0] === 4);
     assert.throws(() => text("\tx").lineStart().run([["upto", 3], ["eol"]]), (why) => why instanceof mds.SpacePending && why.run[0] === 3);
-    assert.throws(() => text("<a>").scanHtmlTagOverLines(text("<a>").skips([])), TypeError);
+    assert.throws(() => text("<a>").scanHtmlTagOverLines(0, 3, { skips: text("<a>").skips([]) }), /of another text/);
 });
 
 test("a lone surrogate is refused, and the next text is scanned", () => {
@@ -106,26 +190,61 @@ test("10 MB are scanned, and many texts in turn", () => {
     assert.equal(page.runInlineHtml(Array.from({ length: 100_000 }, (_, it) => it * 30 + 21)).at(-1), 99_999 * 30 + 29);
 });
 
-test("a module that stops begins anew", async () => {
+test("a module that stops begins anew", () => stopping(2 ** 32 - 16));
+
+test("an address of 64 bits is no other one", { skip: !IS_WIDE }, () => stopping(2 ** 40));
+
+/** Scans a line at an address at which there is no memory, and then one that is there. */
+async function stopping(address) {
     const { Engine } = await import("../lib/engine.mjs");
     const engine = new Engine(new WebAssembly.Module(readFileSync(MODULE)));
     const page = { bytes: Buffer.from("ab\nc"), address: 0, turn: 0 };
-    assert.throws(() => engine.calls.scanLine(2 ** 40, 10), mds.ModuleFault);
+    assert.throws(() => engine.calls.scanLine(address, 10), mds.ModuleFault);
     engine.bring(page);
     assert.equal(engine.calls.scanLine(page.address, 4), 3);
+}
+
+test("of two modules the 64-bit one is taken where the engine runs it", async () => {
+    const folder = mkdtempSync(join(tmpdir(), "package-"));
+    for (const it of ["markdown_scanners.mjs", "lib"]) cpSync(join(PACKAGE, it), join(folder, it), { recursive: true });
+    writeFileSync(join(folder, "markdown_scanners.wasm"), naming(readFileSync(MODULE), "wide.wasm"));
+    const { load } = await import(pathToFileURL(join(folder, "markdown_scanners.mjs")));
+    const isRead = async () => (await load()).text("# a").scanAtxHeading() === 1;
+    assert.ok(await isRead()); // where it is not there
+    writeFileSync(join(folder, "wide.wasm"), "none");
+    assert.ok(await isRead());
+    writeFileSync(join(folder, "wide.wasm"), ofOtherVersion(readFileSync(MODULE)));
+    if (WebAssembly.validate(WIDE_MEMORY)) await assert.rejects(isRead, { name: "WrongVersion" });
+    else assert.ok(await isRead());
+    rmSync(folder, { recursive: true });
 });
 
 test("a module that is missing, broken or of another version", async () => {
     const bytes = readFileSync(MODULE);
-    const other = Buffer.from(bytes);
-    other.write("9", other.length - VERSION.length);
+    const other = ofOtherVersion(bytes);
     await assert.rejects(mds.load(new URL("none.wasm", MODULE)), { name: "ModuleMissing" });
     await assert.rejects(mds.load("data:text/plain,none"), { name: "BadModule" });
+    for (const it of [5, null, {}]) await assert.rejects(mds.load(it), (why) => why instanceof TypeError && why.message.includes("`source` is"));
     await assert.rejects(mds.load(bytes.subarray(0, 1000)), { name: "BadModule" });
     await assert.rejects(mds.load(Buffer.from("0061736d01000000", "hex")), { name: "BadModule" });
     await assert.rejects(mds.load(other), (why) => why.name === "WrongVersion" && why.message.includes(VERSION));
     assert.equal((await mds.load(bytes)).text("# a").scanAtxHeading(), 1);
     assert.equal((await mds.load(await WebAssembly.compile(bytes))).text("# a").scanAtxHeading(), 1);
+});
+
+test("a bundle that has no URL can be imported, and given the module", async () => {
+    const folder = mkdtempSync(join(tmpdir(), "bundle-"));
+    cpSync(join(PACKAGE, "lib"), join(folder, "lib"), { recursive: true });
+    const source = readFileSync(join(PACKAGE, "markdown_scanners.mjs"), "utf8");
+    assert.ok(source.includes('new URL("./markdown_scanners.wasm", import.meta.url)')); // as bundlers look for it
+    writeFileSync(join(folder, "bundle.mjs"), source.replaceAll("import.meta", "({})"));
+    const { load } = await import(pathToFileURL(join(folder, "bundle.mjs")));
+    await assert.rejects(load(), { name: "ModuleMissing" });
+    await assert.rejects(load("./none.wasm"), { name: "ModuleMissing" });
+    assert.equal((await load(readFileSync(MODULE))).text("# a").scanAtxHeading(), 1);
+    assert.equal((await load(MODULE)).text("# a").scanAtxHeading(), 1);
+    assert.equal((await load(MODULE.href)).text("# a").scanAtxHeading(), 1);
+    rmSync(folder, { recursive: true });
 });
 
 test("each function is called, and the package tells one version", () => {

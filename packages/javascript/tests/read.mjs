@@ -7,6 +7,7 @@
  */
 import { load } from "../markdown_scanners.mjs";
 import { Reading } from "../page/reading.mjs";
+import { MODULE } from "./module.mjs";
 import { examples, filesOfDisk } from "./pages.mjs";
 import { hold } from "./totals.mjs";
 import { readWhole } from "./whole.mjs";
@@ -24,7 +25,7 @@ if (pages === null) {
     console.log("packages/javascript/test: the specification's examples are NOT TRIED, as no file has them (Debian: librust-pulldown-cmark-dev)");
     process.exit(0);
 }
-const scanners = await load();
+const scanners = await load(MODULE);
 const texts = pages.filter((it) => it !== null);
 let lines = 0;
 for (const text of texts) lines += readWhole(Reading, scanners, text).lines.length;

@@ -2,12 +2,14 @@
 import assert from "node:assert/strict";
 import { test } from "node:test";
 import { load } from "../markdown_scanners.mjs";
+import { rowOf } from "../page/columns.mjs";
 import { Reading } from "../page/reading.mjs";
+import { MODULE } from "./module.mjs";
 import { madePages } from "./pages.mjs";
 import { hold } from "./totals.mjs";
 import { readWhole } from "./whole.mjs";
 
-const scanners = await load();
+const scanners = await load(MODULE);
 const read = (text) => readWhole(Reading, scanners, text);
 const blocks = (text) => read(text).lines.map((it) => it.block.name);
 const headings = (text) => read(text).headings.map(({ number, level, text: words }) => [number, level, words]);
@@ -37,6 +39,23 @@ test("an underline of more than definitions makes a heading of the rest", () => 
     assert.deepEqual(headings(text), [[2, 1, "bar"]]);
     assert.deepEqual(blocks(text), ["paragraph", "goes on", "underline of 2", "paragraph"]);
     assert.deepEqual(labels(text), [["definition", "foo", "/url"], ["shortcut", "foo", "/url"]]);
+});
+
+test("of a long line no more is sent than what is drawn", () => {
+    for (const [text, taken] of [[">".repeat(20_000), 200], [`${"* ".repeat(10_000)}a`, 100]]) { // a `>` takes a column, and `* ` two
+        const [line] = read(text).lines;
+        assert.ok(line.taken.length >= 10_000);
+        const row = rowOf(text.slice(0, 1000), line);
+        assert.equal(row.taken.length, taken);
+        assert.equal(row.columns.strips.map((it) => it.text).join("").length, 200);
+        assert.ok(JSON.stringify(row).length < 50_000);
+    }
+    const wide = read(`${"|a".repeat(1000)}\n${"|-".repeat(1000)}\n${"|b".repeat(1000)}`).lines.map((it) => rowOf("|", it).block);
+    assert.deepEqual(wide.map((it) => it.name), ["paragraph", "table of 1000", "row of 1000"]);
+    assert.deepEqual([wide[1].answer.alignments, wide[2].answer].map((it) => [it.length, it[200]]), [[201, "…"], [201, "…"]]);
+    const [line] = read("> a\n").lines;
+    const { taken, ...row } = rowOf("> a\n", line);
+    assert.deepEqual([taken, row.at, row.end, row.block.name], [line.taken, 0, 4, "paragraph"]);
 });
 
 test("each kind of line is read after each other", () => {

@@ -3,6 +3,7 @@ import assert from "node:assert/strict";
 import { readFileSync } from "node:fs";
 import { test } from "node:test";
 import { load } from "../markdown_scanners.mjs";
+import { MODULE } from "./module.mjs";
 import { hold } from "./totals.mjs";
 
 const AsyncFunction = (async () => null).constructor;
@@ -12,7 +13,7 @@ test("the example of the README", async () => {
     const lines = example.split("\n").filter((it) => it && !it.startsWith("import"));
     const body = lines.map((it) => it.replace(/^(.*); \/\/ (.*)$/, "told.push([$1, $2]);")).join("\n");
     const told = [];
-    await new AsyncFunction("load", "told", body)(load, told);
+    await new AsyncFunction("load", "told", body)(() => load(MODULE), told);
     told.forEach(([found, wanted]) => assert.deepEqual(found, wanted));
     hold("examples", told.length);
 });

@@ -67,7 +67,7 @@ function part(text, found) {
 
 /** How many bytes are taken is told, and not the place. */
 function linkDest(text, at, maxNext) {
-    const found = text.scanLinkDest(Number(at), BigInt(maxNext));
+    const found = text.scanLinkDest(Number(at), text.length, { maxNext: BigInt(maxNext) });
     return part(text, found && { ...found, end: found.end - Number(at) });
 }
 
@@ -87,13 +87,13 @@ function entity(text) {
 }
 
 function tag(text, bytes, handler) {
-    const found = handler === "none" ? text.scanHtmlTag() : text.scanHtmlTagOverLines(skipsOf(text, bytes, handler));
-    if (handler === "none") return found === null ? "none" : `- ${found}`;
+    if (handler === "none") return text.scanHtmlTag() === null ? "none" : `- ${text.scanHtmlTag()}`;
+    const found = text.scanHtmlTagOverLines(0, text.length, { skips: skipsOf(text, bytes, handler) });
     return found ? `${hexOf(found.text ?? "")} ${found.end}` : "none";
 }
 
 function label(text, bytes, handler, inTable) {
-    const found = text.scanLinkLabel({ inTable: inTable === "1", skips: skipsOf(text, bytes, handler) });
+    const found = text.scanLinkLabel(0, text.length, { inTable: inTable === "1", skips: skipsOf(text, bytes, handler) });
     return found ? `${found.end} ${found.start !== null} ${hexOf(found.text)}` : "none";
 }
 
@@ -151,19 +151,19 @@ const CALLS = {
     wsnonl: (text) => orNone(text.scanWhitespaceInLine()),
     spacestabs: (text) => orNone(text.scanWhile(" \t")),
     chrepeat: (text, _, byte) => orNone(text.scanChRepeat(Number(byte))),
-    indent: (text, _, max) => Object.values(text.calcIndent(BigInt(max))).join("/"),
+    indent: (text, _, max) => Object.values(text.calcIndent(0, text.length, { limit: BigInt(max) })).join("/"),
     bqstart: (text) => orNone(text.scanBlockquoteStart()),
     hrule,
     atx: (text) => level(text.scanAtxHeading()),
     setext,
     fence: (text) => fence(text.scanCodeFence()),
     closefence: (text, _, byte, count) => orNone(text.scanClosingCodeFence(Number(byte), BigInt(count))),
-    meta: (text, _, yaml, pluses) => fence(text.scanMetadataBlock(yaml === "1", pluses === "1")),
+    meta: (text, _, yaml, pluses) => fence(text.scanMetadataBlock(0, text.length, { yaml: yaml === "1", pluses: pluses === "1" })),
     closemeta: (text, _, byte) => orNone(text.scanClosingMetadataBlock(Number(byte))),
     listitem: listItem,
     tablehead: tableHead,
     entity,
-    unescape: (text, _, inTable) => hexOf(text.unescape(inTable === "1")),
+    unescape: (text, _, inTable) => hexOf(text.unescape(0, text.length, { inTable: inTable === "1" })),
     wikilink: (text, _, at, count) => wikilink(text, at, count),
     linkdest: (text, _, at, maxNext) => linkDest(text, at, maxNext),
     linktitle: (text) => orNone(text.scanLinkTitle()?.end ?? null),

@@ -1,6 +1,6 @@
 #!/usr/bin/env python3
 """What the C functions answer, by the package in packages/python/, of the calls that a page has drawn: each line of the input
-is a call as JSON, and so is each answer. Of a line start the calls of a line come in turn."""
+is a call as JSON with all that it is given, and so is each answer. Of a line start the calls of a line come in turn."""
 import json
 import os
 import sys
@@ -39,24 +39,24 @@ def label(found):
     return found and {"end": found.end, "text": found.text.decode(), "start": found.start}
 
 
-# Of each call of the page what it answers of bytes between two places, and what it is given.
+# Of each call of the page what it answers of bytes, and of what it is given beside them.
 CALLS = {
     "scanBlankLine": mds.scan_blank_line,
     "scanHrule": mds.scan_hrule,
     "scanAtxHeading": mds.scan_atx_heading,
     "scanSetextHeading": lambda *given: underline(mds.scan_setext_heading(*given)),
     "scanCodeFence": lambda *given: fence(mds.scan_code_fence(*given)),
-    "scanClosingCodeFence": lambda data, at, end, byte, count: mds.scan_closing_code_fence(data, at, end, byte=byte, count=count),
+    "scanClosingCodeFence": lambda data, byte, count, at, end: mds.scan_closing_code_fence(data, at, end, byte=ord(byte), count=count),
     "scanHtmlBlockStart": mds.scan_html_block_start,
-    "endsHtmlBlock": lambda data, at, end, kind: mds.ends_html_block(data, at, end, kind=kind),
+    "endsHtmlBlock": lambda data, kind, at, end: mds.ends_html_block(data, at, end, kind=kind),
     "interruptsParagraph": mds.interrupts_paragraph,
     "scanTableHead": lambda *given: table(mds.scan_table_head(*given)),
-    "unescape": lambda data, at, end, in_table: mds.unescape(data, at, end, in_table=in_table).decode(),
-    "scanLinkLabel": lambda data, at, end, place: label(mds.scan_link_label(data, at=place)),
-    "scanLinkDest": lambda data, at, end, place: part(mds.scan_link_dest(data, place)),
-    "scanAutolink": lambda data, at, end, place: part(mds.scan_autolink(data, place)),
-    "scanHtmlTagOverLines": lambda data, at, end, place: (found := mds.scan_html_tag_over_lines(data, at=place)) and found.end,
-    "scanInlineHtml": lambda data, at, end, place: mds.HtmlScanGuard(data).scan(place),
+    "unescape": lambda data, at, end, how: mds.unescape(data, at, end, in_table=how["inTable"]).decode(),
+    "scanLinkLabel": lambda data, place: label(mds.scan_link_label(data, place)),
+    "scanLinkDest": lambda data, place: part(mds.scan_link_dest(data, place)),
+    "scanAutolink": lambda data, place: part(mds.scan_autolink(data, place)),
+    "scanHtmlTagOverLines": lambda data, place: (found := mds.scan_html_tag_over_lines(data, place)) and found.end,
+    "scanInlineHtml": lambda data, place: mds.HtmlScanGuard(data).scan(place),
 }
 LINE_CALLS = {
     "upto": lambda start, count: start.upto(count),
@@ -79,7 +79,7 @@ def answered(data, row):
     if "taken" in row:
         return taken(data, row)
     of = row["of"].encode() if "of" in row else data
-    return CALLS[row["call"]](of, row.get("at", 0), row.get("end", len(of)), *row["given"])
+    return CALLS[row["call"]](of, *row["given"])
 
 
 page = json.loads(sys.stdin.readline()).encode()

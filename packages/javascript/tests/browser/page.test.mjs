@@ -1,7 +1,7 @@
 /**
- * The page in a headless Chromium: what is drawn of a text that is typed, and what the C functions answer of it; the keys, both
- * colour schemes, 400 pixels, 1 MB, and bad input. packages/javascript/totals has how many answers are compared. With
- * SCREENSHOT set it is written there.
+ * The page in a headless Chromium, with the module that MODULE names: what is drawn of a text that is typed, and what the C
+ * functions answer of it; the keys, both colour schemes, 400 pixels, 1 MB, and bad input. packages/javascript/totals has how many
+ * answers are compared. With SCREENSHOT set it is written there.
  */
 import assert from "node:assert/strict";
 import { execFileSync } from "node:child_process";
@@ -10,7 +10,7 @@ import { tmpdir } from "node:os";
 import { join } from "node:path";
 import { after, before, test } from "node:test";
 import { fileURLToPath } from "node:url";
-import { VERSION } from "../../lib/c.mjs";
+import { MODULE, naming, ofOtherVersion } from "../module.mjs";
 import { examples, filesOfDisk, madePages } from "../pages.mjs";
 import { hold } from "../totals.mjs";
 import { TOP } from "../tree.mjs";
@@ -26,8 +26,16 @@ const DESK = { width: 1280, height: 820 };
 const room = mkdtempSync(join(tmpdir(), "page-"));
 let served, browser, faults;
 
+/** The package with these bytes as its module, and with no other one; else with that of MODULE. */
+function servedWith(module = readFileSync(MODULE), wide = undefined) {
+    return serve(PACKAGE, (path) => {
+        if (path === "/markdown_scanners64.wasm") return wide;
+        return path === "/markdown_scanners.wasm" ? module : null;
+    });
+}
+
 before(async () => {
-    served = await serve(PACKAGE);
+    served = await servedWith();
     browser = new Browser();
     browser.on("Runtime.exceptionThrown", (it) => faults.push(it.exceptionDetails.exception?.description));
 });
@@ -159,7 +167,8 @@ async function typeAndCompare(text) {
     const taken = rows.map((it) => it.taken.map(({ answer, from, to }) => ({ answer, from, to })));
     compare(text, taken, rows.map((it, index) => ({ ...lines[index], taken: it.taken.map(({ call, given }) => ({ call, given })) })));
     const blocks = rows.map((it) => it.block).filter((it) => it.call !== "upto" && it.call !== "unescape");
-    compare(text, blocks.map((it) => it.answer), blocks.map((it) => ({ call: it.call, given: it.given, at: it.from, end: it.to })));
+    compare(text, blocks.map((it) => it.answer), blocks.map((it) => ({ call: it.call, given: it.given })));
+    blocks.forEach((it) => assert.deepEqual(it.given.slice(-2), [it.from, it.to]));
     return taken.flat().length + blocks.length;
 }
 
@@ -210,7 +219,7 @@ test("labels, links, HTML and cells are what the C functions answer", async () =
     for (const name of ["labels", "html", "tables"]) {
         await choose(name);
         const entries = await browser.ask(drawnEntries);
-        const calls = entries.map(({ call, given, of, from, to }) => (of === null ? { call, given, at: from, end: to } : { call, given, of }));
+        const calls = entries.map(({ call, given, of }) => (of === null ? { call, given } : { call, given, of }));
         tried += compare(TYPED, entries.map((it) => it.answer), calls);
         const bytes = Buffer.from(TYPED);
         assert.deepEqual(entries.map((it) => it.marked), entries.map((it) => bytes.subarray(it.from, it.to).toString().replace(/\n$/, "")));
@@ -228,6 +237,20 @@ test("a click marks the bytes, and names a section and a contract", async () => 
     assert.equal(marked, "[Two  words]");
     const words = await browser.ask(() => document.getElementById("answer").textContent);
     assert.match(words, /6\.3 Links.*mds_scan_link_label.*IsScannedLabel/);
+});
+
+test("a click names the place that the call was given", async () => {
+    await choose("lines");
+    await type("a\n\n## b\n>\t- c\n");
+    const shown = (line, part) => browser.ask((number, it) => {
+        document.querySelector(`[data-line="${number}"]`).querySelectorAll("button")[it].click();
+        return document.querySelector("#answer p").textContent;
+    }, line, part);
+    assert.equal(await shown(1, 0), "interruptsParagraph(0, 2) answers false");
+    assert.equal(await shown(3, 0), "scanAtxHeading(3, 8) answers 2");
+    assert.equal(await shown(4, 1), "quote() of a line start at 8 answers true");
+    assert.equal(await shown(4, 2), "upto(4) of a line start at 10 with 2 columns pending answers 2"); // of a tab from column 1 to 4
+    await type(TYPED);
 });
 
 test("keys go through tabs and answers", async () => {
@@ -261,12 +284,22 @@ test("1 MB is read without a stall", async () => {
     await open();
     await settled("drawn");
     const text = TYPED.slice(0, TYPED.indexOf("<!-- <!--")).repeat(600).slice(0, 1_000_000);
+    const most = await longestWait(text);
+    console.log(`# 1 MB: ${await told()}; the page never waited longer than ${Math.round(most)} ms`);
+    assert.match(await told(), / 1\d{6} bytes/);
+    const [, , milliseconds] = (await told()).match(/\d+/g).map(Number);
+    assert.ok(most < milliseconds / 2, `the page waited ${most} ms`);
+    await overtaken(text, milliseconds);
+});
+
+/** Fills in a text, and answers the longest time that the page waited until it was drawn, in milliseconds. */
+async function longestWait(text) {
     await browser.ask((it) => {
         const area = document.getElementById("text");
         area.value = it;
         area.getBoundingClientRect();
     }, text);
-    const most = await browser.ask(async () => {
+    return browser.ask(async () => {
         await new Promise((resolve) => setTimeout(resolve, 500));
         document.getElementById("text").dispatchEvent(new Event("input"));
         let last = performance.now();
@@ -278,12 +311,7 @@ test("1 MB is read without a stall", async () => {
         }
         return most;
     });
-    console.log(`# 1 MB: ${await told()}; the page never waited longer than ${Math.round(most)} ms`);
-    assert.match(await told(), / 1\d{6} bytes/);
-    const [, , milliseconds] = (await told()).match(/\d+/g).map(Number);
-    assert.ok(most < milliseconds / 2, `the page waited ${most} ms`);
-    await overtaken(text, milliseconds);
-});
+}
 
 /** A text that comes while a longer one is read is what is drawn, also when that one would have been read. */
 async function overtaken(text, milliseconds) {
@@ -295,6 +323,30 @@ async function overtaken(text, milliseconds) {
     await new Promise((resolve) => setTimeout(resolve, 300));
     assert.deepEqual((await browser.ask(drawnRows)).map((it) => it.text), ["# new"]);
 }
+
+test("of a line of 1 MB the page is sent what it draws", async () => {
+    await open();
+    await settled("drawn");
+    for (const [name, text] of [[">", ">".repeat(1_000_000)], ["* ", `${"* ".repeat(500_000)}a`]]) {
+        const most = await longestWait(text);
+        console.log(`# 1 MB of \`${name}\`: ${await told()}; the page never waited longer than ${Math.round(most)} ms`);
+        const milliseconds = Number(/in (\d+) ms/.exec(await told())[1]);
+        assert.ok(most < milliseconds / 2, `the page waited ${most} ms`);
+        const columns = await browser.ask(() => [...document.querySelectorAll(".row button.strip")].map((it) => it.textContent).join(""));
+        assert.equal(columns.length, 200);
+    }
+    await fill(`# ${"a".repeat(1_000_000)}\n\n[b]: /${"c".repeat(1_000_000)}\n`);
+    await settled("drawn");
+    for (const [name, wanted] of [["outline", /^a{1000}…$/], ["labels", /^\[b\] → \/c{999}…$/]]) {
+        await choose(name);
+        assert.match(await browser.ask(() => document.querySelector("#view .what").textContent), wanted);
+    }
+});
+
+test("the page says by file: that it has to be served", async () => {
+    await open(DESK, new URL("../../index.html", import.meta.url).href);
+    assert.match(await told(), /Serve this folder/);
+});
 
 test("bad input has a message, and the page goes on", async () => {
     await open();
@@ -340,14 +392,40 @@ test("10 MB are read, and another text behind them", async () => {
 });
 
 test("a module that is missing or of another version has a message", async () => {
-    const module = readFileSync(join(PACKAGE, "markdown_scanners.wasm"));
-    const other = Buffer.from(module);
-    other.write("9", other.length - VERSION.length);
-    for (const [bytes, message] of [[undefined, /^ModuleMissing: .*404/], [other, /^WrongVersion: .* 9\./], [Buffer.from("none"), /^BadModule: /]]) {
-        const changed = await serve(PACKAGE, (path) => (path.endsWith(".wasm") ? bytes : null));
+    const other = ofOtherVersion(readFileSync(MODULE));
+    const missing = await serve(PACKAGE, (path) => (path.endsWith(".wasm") ? undefined : null));
+    const broken = await servedWith(Buffer.from("none"));
+    for (const [changed, message] of [[missing, /^ModuleMissing: .*404/], [await servedWith(other), /^WrongVersion: .* 9\./], [broken, /^BadModule: /]]) {
         await open(DESK, changed.url);
         await settled("refused");
         assert.match(await told(), message);
+        changed.close();
+    }
+});
+
+test("of two modules the 64-bit one is taken where the browser runs it", async () => {
+    const module = readFileSync(MODULE);
+    const changed = await servedWith(naming(module, "markdown_scanners64.wasm"), ofOtherVersion(module));
+    await open(DESK, changed.url);
+    const isWide = await browser.ask(() => WebAssembly.validate(new Uint8Array([0, 97, 115, 109, 1, 0, 0, 0, 5, 3, 1, 4, 1])));
+    await settled(isWide ? "refused" : "drawn");
+    assert.match(await told(), isWide ? /^WrongVersion: / : /^\d+ lines/);
+    changed.close();
+});
+
+test("a policy needs `wasm-unsafe-eval`, and a URL is one from the page's on", async () => {
+    for (const [policy, wanted] of [["'self'", "BadModule"], ["'self' 'wasm-unsafe-eval'", "1"]]) {
+        const head = `<!doctype html><meta http-equiv="Content-Security-Policy" content="script-src ${policy}">`;
+        const changed = await serve(PACKAGE, (path) => {
+            if (path === "/a/page.html") return Buffer.from(head);
+            return path === "/a/module.wasm" ? readFileSync(MODULE) : null;
+        });
+        await open(DESK, `${changed.url}a/page.html`);
+        const found = await browser.ask(async () => {
+            const { load } = await import("/markdown_scanners.mjs");
+            return load("module.wasm").then((it) => String(it.text("# a").scanAtxHeading()), (why) => why.name);
+        });
+        assert.equal(found, wanted);
         changed.close();
     }
 });

@@ -1,16 +1,19 @@
 #!/usr/bin/env node
 /**
- * How fast a file is read in Chromium, by the page's reading and by markdown-it (Debian's node-markdown-it), where that is there:
- * MB/s, the best of ten runs.
+ * How fast a file is read in Chromium, by the page's reading on each module that is there and by markdown-it (Debian's
+ * node-markdown-it), where that is there: MB/s, the best of ten runs.
  *
  *     packages/javascript/tests/browser/speed.mjs FILE.md
  */
 import { existsSync, readFileSync } from "node:fs";
 import { createRequire } from "node:module";
+import { join } from "node:path";
 import { fileURLToPath } from "node:url";
 import { Browser, serve } from "./chromium.mjs";
 
 const OTHER = "/usr/share/nodejs/markdown-it/index.js";
+const MODULES = ["markdown_scanners.wasm", "markdown_scanners64.wasm"];
+const PACKAGE = fileURLToPath(new URL("../..", import.meta.url));
 const [file] = process.argv.slice(2);
 
 /** A module of Node and all that it requires, as one script that sets a global name. */
@@ -40,17 +43,17 @@ function bundle(name, entry) {
 }
 
 const other = existsSync(OTHER) ? Buffer.from(bundle("markdownit", OTHER)) : Buffer.from("");
-const served = await serve(fileURLToPath(new URL("../..", import.meta.url)), (path) => {
+const served = await serve(PACKAGE, (path) => {
     if (path === "/speed.md") return readFileSync(file);
     if (path === "/speed.html") return Buffer.from("<!doctype html><script src='markdown-it.js'></script>");
     return path === "/markdown-it.js" ? other : null;
 });
 
 /** In the page: the best of ten runs of each. */
-async function measured() {
+async function measured(modules) {
     const { load } = await import("/markdown_scanners.mjs");
     const { Reading } = await import("/page/reading.mjs");
-    const scanners = await load();
+    const all = await Promise.all(modules.map((it) => load(new URL(it, location.href))));
     const text = await (await fetch("/speed.md")).text();
     const best = (call) => {
         const times = Array.from({ length: 10 }, () => {
@@ -60,17 +63,19 @@ async function measured() {
         });
         return new TextEncoder().encode(text).length / Math.min(...times) / 1000;
     };
-    const ours = best(() => {
+    const ours = all.map((scanners) => best(() => {
         const reading = new Reading(scanners, text);
         for (const _ of reading.read());
-    });
+    }));
     const theirs = globalThis.markdownit ? best(() => globalThis.markdownit().parse(text, {})) : null;
     return { ours, theirs, bytes: new TextEncoder().encode(text).length };
 }
 
 const browser = new Browser();
 await browser.open(`${served.url}speed.html`, { width: 800, height: 600 });
-const { ours, theirs, bytes } = await browser.ask(measured);
-console.log(`${bytes} bytes: the page's reading ${ours.toFixed(2)} MB/s, markdown-it ${theirs?.toFixed(2) ?? "is not there"}`);
+const modules = MODULES.filter((it) => existsSync(join(PACKAGE, it)));
+const { ours, theirs, bytes } = await browser.ask(measured, modules);
+const said = modules.map((it, index) => `the page's reading on ${it} ${ours[index].toFixed(2)} MB/s`);
+console.log(`${bytes} bytes: ${said.join(", ")}, markdown-it ${theirs?.toFixed(2) ?? "is not there"}`);
 await browser.close();
 served.close();

@@ -1,0 +1,28 @@
+/** What a user of the package writes in TypeScript; what stands behind `@ts-expect-error` must have an error. */
+import { load, NotUtf8, type LineStart, type Text } from "markdown-scanners";
+
+const scanners = await load();
+const page: Text<string> = scanners.text("# a\n> [b](c) &amp;");
+const bytes: Text<Uint8Array> = scanners.text(new Uint8Array([35]));
+const level: number | null = page.scanAtxHeading(0, 3);
+const start: LineStart<string> = page.lineStart(page.scanLine());
+const isQuote: boolean = start.quote();
+const made: [string, Uint8Array] = [page.unescape(6, undefined, { inTable: false }), bytes.unescape()];
+const label: { end: number; text: string; start: number | null } | null = page.scanLinkLabel(7);
+const name: string = new NotUtf8("none").name;
+console.log(level, isQuote, made[0], made[1].length, label?.text, page.scanLinkDest(10, 11)?.end, name);
+
+// @ts-expect-error a place is a number
+page.scanLine("0");
+// @ts-expect-error options stand behind the end
+page.scanLinkLabel({ inTable: true });
+// @ts-expect-error there is no such option
+page.unescape(0, 3, { intable: true });
+// @ts-expect-error there is no such option
+scanners.text("a", { unit: "utf-16" });
+// @ts-expect-error a call of a run is a list
+start.run(["quote"]);
+// @ts-expect-error what is made of a string is a string
+const wrong: Uint8Array = page.unescape();
+// @ts-expect-error the engine is the package's own
+page.engine;
