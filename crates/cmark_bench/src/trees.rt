@@ -4,18 +4,19 @@ ghost use Rattle.std.specs.Prelude.{◌≡◌};
 use markdown_values::tree::Tree;
 use std::alloc::{AllocError, Global};
 
+// Three words, with nothing to fill up: the bytes behind a narrower last field would be copied too.
 #[derive(Clone, Copy, Default, Drop)]
 struct Item {
     start: usize,
     end: usize,
-    body: u8,
+    body: usize,
 }
 
 fn nth_item(n: usize) -> Item {
     Item {
         start: n,
         end: n,
-        body: (n % 200) as u8,
+        body: n % 200,
     }
 }
 

@@ -33,15 +33,17 @@ pub fn scan_hrule(bytes: &[u8]) -> Result<usize, usize>
     }
 }
 
-// How long the longest prefix of the marker, spaces and tabs is, and how many markers are in it. One
-// loop tells both: one for the length alone takes ten times as long at some alignments.
+// How long the longest prefix of the marker, spaces and tabs is, and how many markers are in it. The
+// first byte is the marker, and is not looked at again. One loop finds both: one for the length alone
+// takes ten times as long at some alignments.
 fn scan_break_bytes(bytes: &[u8], marker: u8) -> (usize, usize)
+    requires { IsTrue (begins_with (λ b. b == marker) bytes.now) }
     ensures run { result.0 ≡ prefix_len (is_break_byte marker) bytes.now }
     ensures markers { result.1 ≡ count_by (λ b. b == marker) (take result.0 bytes.now) }
     ensures within { result.0 ≤ length bytes.now }
 {
-    let mut run = 0;
-    let mut markers = 0;
+    let mut run = 1;
+    let mut markers = 1;
     while run < bytes.len() {
         let byte = bytes[run];
         if byte == marker {
