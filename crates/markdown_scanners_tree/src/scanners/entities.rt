@@ -1,5 +1,5 @@
 //! Character references: entities by name, and characters by number.
-ghost use Rattle.std.specs.Prelude.{◌≡◌, ◌+◌, ◌<◌, ◌≤◌, ◌≢◌, ℕ, slice_index, List, Option, IfNone, IfSome, length, drop};
+ghost use Rattle.std.specs.Prelude.{◌≡◌, ◌+◌, ◌<◌, ◌≤◌, ◌≢◌, ℕ, slice_index, List, Option, IfNone, IfSome, length, drop, take};
 ghost use Rattle.std.specs.Option.{option_copied, option_map};
 ghost use Rattle.std.specs.List.{prefix_len};
 ghost use Rattle.std.specs.Str.Parse.{AllDigits, digits_value};
@@ -10,10 +10,10 @@ ghost use Rattle.markdown_scanners_tree.specs.Bytes.{is_alphanumeric};
 ghost use Rattle.markdown_scanners_tree.specs.SomeExactly.{SomeExactly, IsOnly};
 ghost use Rattle.markdown_scanners_tree.specs.scanners.entities.CharacterReference.{Lookup, referenced_char, marks_hexadecimal};
 ghost use Rattle.markdown_scanners_tree.specs.scanners.entities.CharacterReference.{StartsWithReference, IsReferenceAnswer};
-ghost use Rattle.markdown_scanners_tree.specs.scanners.entities.private.Digits.{StartsWithNumber};
+ghost use Rattle.markdown_scanners_tree.specs.scanners.entities.private.Digits.{StartsWithNumber, IsNumberAnswer};
 ghost use Rattle.markdown_scanners_tree.specs.scanners.entities.private.Name.{IsNameAnswer};
 
-use crate::scanners::numbers::number_of;
+use crate::scanners::numbers::digit_of;
 use crate::scanners::runs::{first_bytes, scan_alphanumerics};
 use markdown_values::strings::CowStr;
 
@@ -60,16 +60,32 @@ pub(in crate::scanners) fn scan_numbered(bytes: &[u8]) -> (usize, Option<CowStr<
     ensures found { (known : Lookup) → IsReferenceAnswer known bytes.now result.0 result.1 }
     ensures empty { IfNone result.1 (result.0 ≡ 0) }
 {
+    match numbered_char(bytes) {
+        Some((n, c)) => (n, Some(CowStr::from(c))),
+        None => (0, None),
+    }
+}
+
+// The length of the reference by number at the front, where `#` follows the first byte, and its
+// character.
+#[inline(always)]
+pub(in crate::scanners) fn numbered_char(bytes: &[u8]) -> Option<(usize, char)>
+    requires long { 1 < length bytes.now }
+    requires number { slice_index bytes.now 1 ≡ number_sign }
+    ensures found { (known : Lookup) → IsNumberAnswer known bytes.now result }
+    ensures some { IfSome result (λ r. 2 ≤ r.0) }
+    ensures within { IfSome result (λ r. r.0 ≤ length bytes.now) }
+{
     if bytes.len() > 2 && is_hexadecimal_mark(bytes[2]) {
         let Some((n, number)) = scan_number(&bytes[3..], 16, 6) else {
-            return (0, None);
+            return None;
         };
-        return (n + 4, Some(CowStr::from(referenced(number))));
+        return Some((n + 4, referenced(number)));
     }
     let Some((n, number)) = scan_number(&bytes[2..], 10, 7) else {
-        return (0, None);
+        return None;
     };
-    (n + 3, Some(CowStr::from(referenced(number))))
+    Some((n + 3, referenced(number)))
 }
 
 // The reference by name at the front, where no `#` follows the first byte.
@@ -135,22 +151,31 @@ fn scan_number(bytes: &[u8], radix: u32, limit: usize) -> Option<(usize, u32)>
     requires at_most_seven { limit ≤ 7 }
     ensures { SomeExactly (λ r. StartsWithNumber radix limit bytes.now r.0 r.1) result }
 {
-    let n = digit_prefix_len(first_bytes(bytes, limit + 1), radix);
-    if n == 0 || n > limit || n == bytes.len() || bytes[n] != b';' {
+    let (n, number) = leading_number(first_bytes(bytes, limit), radix);
+    if n == 0 || n == bytes.len() || bytes[n] != b';' {
         return None;
     }
-    Some((n, number_of(&bytes[..n], radix)))
+    Some((n, number))
 }
 
-// How many digits stand at the front.
-fn digit_prefix_len(bytes: &[u8], radix: u32) -> usize
+// How many digits stand at the front, and the number that they stand for.
+fn leading_number(bytes: &[u8], radix: u32) -> (usize, u32)
     requires base { 2 ≤ radix }
-    requires letters { radix ≤ 36 }
-    ensures count { result ≡ prefix_len (λ b. is_digit b radix) bytes.now }
-    ensures within { result ≤ length bytes.now }
+    requires hexadecimal { radix ≤ 16 }
+    requires at_most_seven { length bytes.now ≤ 7 }
+    ensures count { result.0 ≡ prefix_len (λ b. is_digit b radix) bytes.now }
+    ensures within { result.0 ≤ length bytes.now }
+    ensures value { result.1 ≡ digits_value radix (take result.0 bytes.now) }
 {
-    bytes
-        .iter()
-        .take_while(|b| char::from(**b).is_digit(radix))
-        .count()
+    let mut number = 0;
+    let mut n = 0;
+    while n < bytes.len() {
+        let digit = digit_of(bytes[n]);
+        if digit >= radix {
+            return (n, number);
+        }
+        number = number * radix + digit;
+        n += 1;
+    }
+    (n, number)
 }

@@ -20,12 +20,14 @@ impl Entities for EntityTable {
     ghost known = { λ table name.
         text_of_name (map (λ row. (row.0.now, row.1.now)) table.rows.now) name };
 
+    #[inline(always)]
     fn get(&self, name: &[u8]) -> Option<&'static str> {
         text_of(self.rows, name)
     }
 }
 
 // The text in the first row with the name.
+#[inline(always)]
 fn text_of(rows: &[(&[u8], &'static str)], name: &[u8]) -> Option<&'static str>
     ensures { option_copied result
         ≡ option_map (λ row. row.1.now) (find (λ row. bytes_eq row.0.now name.now) rows.now) }

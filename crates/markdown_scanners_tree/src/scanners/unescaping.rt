@@ -1,16 +1,17 @@
 //! Backslash escapes and character references in a text.
-ghost use Rattle.std.specs.Prelude.{Bool, ◌∷◌, ◌≡◌, ◌+◌, ◌-◌, ◌<◌, ◌≤◌, ◌^◌, ◌++◌, ℕ, [], Ok, IfOk, IfSome, IsOk, OnOk, false, length, min, slice_index};
+ghost use Rattle.std.specs.Prelude.{Bool, ◌∷◌, ◌≡◌, ◌+◌, ◌-◌, ◌<◌, ◌≤◌, ◌^◌, ◌++◌, ℕ};
+ghost use Rattle.std.specs.Prelude.{[], Ok, IfOk, IfSome, IsOk, OnOk, false, length, min, slice_index, encode_utf8};
 ghost use Rattle.std.specs.Str.{IsCharBoundary};
 ghost use Rattle.std.specs.String.{string_bytes, string_len, string_capacity};
 ghost use Rattle.markdown_values.specs.strings.Text.{cow_text, IsBoxed};
 ghost use Rattle.markdown_scanners_tree.specs.Ascii.{ampersand, backslash, number_sign};
-ghost use Rattle.markdown_scanners_tree.specs.SomeExactly.{SomeExactly};
 ghost use Rattle.markdown_scanners_tree.specs.scanners.entities.CharacterReference.{Lookup};
+ghost use Rattle.markdown_scanners_tree.specs.scanners.entities.private.Digits.{IsNumberAnswer};
 ghost use Rattle.markdown_scanners_tree.specs.scanners.unescaping.Unescaping.{HasPieces, ForPieces, joined_meanings, AreThemselves};
-ghost use Rattle.markdown_scanners_tree.specs.scanners.unescaping.private.FirstPiece.{IsFirstPiece, IsFirstSize, IsPushed, HasRoom, StartsWithAmpersandReference};
+ghost use Rattle.markdown_scanners_tree.specs.scanners.unescaping.private.FirstPiece.{IsFirstPiece, IsFirstSize, IsPushed, HasRoom};
 ghost use Rattle.markdown_scanners_tree.specs.scanners.unescaping.private.FirstPiece.{begins_change, starts_pipe as starts_pipe_at};
 
-use crate::scanners::entities::{Entities, scan_name, scan_numbered};
+use crate::scanners::entities::{Entities, numbered_char, scan_name};
 use crate::scanners::escapes::starts_escape;
 use crate::texts::push_part;
 use markdown_values::strings::CowStr;
@@ -134,7 +135,7 @@ fn push_first<E: Entities>(
         b'\\' => {
             let dropped = escape_len(bytes, is_in_table);
             if dropped == 0 {
-                return Ok((run, place + 1));
+                return Ok((run, place + lone_len(bytes)));
             }
             push_with_byte(out, &text[run..place], bytes[dropped])?;
             let length = dropped + 1;
@@ -168,9 +169,9 @@ fn push_ampersand<E: Entities>(
     let bytes = &text.as_bytes()[place..];
     if bytes.len() > 1 && bytes[1] == b'#' {
         let Some((length, meaning)) = number_reference(bytes) else {
-            return Ok((run, place + 1));
+            return Ok((run, place + 2));
         };
-        push_both(out, &text[run..place], meaning.as_str())?;
+        push_with_char(out, &text[run..place], meaning)?;
         return Ok((place + length, place + length));
     }
     let (name, meaning) = scan_name(bytes, entities);
@@ -201,7 +202,23 @@ fn push_with_byte(out: &mut String, first: &str, byte: u8) -> Result<(), AllocEr
     out.push(char::from(byte))
 }
 
-// Appends two texts. With room for both no growth is refused.
+// Appends a text and a character. With room for both no growth is refused.
+fn push_with_char(out: &mut String, first: &str, c: char) -> Result<(), AllocError>
+    ensures bytes { OnOk result
+        (string_bytes out.new ≡ string_bytes out.old ++ (first.now ++ encode_utf8 c)) }
+    ensures len { OnOk result (string_len out.new
+        ≡ string_len out.old + (length first.now + length (encode_utf8 c))) }
+    ensures capacity { string_capacity out.old ≤ string_capacity out.new }
+    ensures succeeds { string_len out.old + (length first.now + length (encode_utf8 c))
+        ≤ string_capacity out.old → IsOk result }
+{
+    push_part(out, first)?;
+    out.push(c)
+}
+
+// Appends two texts. With room for both no growth is refused. Most entities mean one ASCII
+// character, which costs no call.
+#[inline(always)]
 fn push_both(out: &mut String, first: &str, second: &str) -> Result<(), AllocError>
     ensures bytes { OnOk result
         (string_bytes out.new ≡ string_bytes out.old ++ (first.now ++ second.now)) }
@@ -211,6 +228,10 @@ fn push_both(out: &mut String, first: &str, second: &str) -> Result<(), AllocErr
     ensures succeeds { string_len out.old + (length first.now + length second.now)
         ≤ string_capacity out.old → IsOk result }
 {
+    let bytes = second.as_bytes();
+    if bytes.len() == 1 && bytes[0] < 128 {
+        return push_with_byte(out, first, bytes[0]);
+    }
     push_part(out, first)?;
     out.push_str(second)
 }
@@ -234,13 +255,26 @@ fn first_size<E: Entities>(bytes: &[u8], is_in_table: bool, entities: &E) -> Pie
 {
     match bytes[0] {
         b'\r' => piece_size(1, 1, 0),
-        b'\\' => {
-            let dropped = escape_len(bytes, is_in_table);
-            piece_size(dropped + 1, dropped, 0)
-        }
+        b'\\' => backslash_size(bytes, is_in_table),
         b'&' => ampersand_size(bytes, entities),
         _ => piece_size(plain_len(bytes), 0, 0),
     }
+}
+
+// The same at a backslash.
+fn backslash_size(bytes: &[u8], is_in_table: bool) -> PieceSize
+    requires some { 0 < length bytes.now }
+    requires begins { slice_index bytes.now 0 ≡ backslash }
+    ensures some { 0 < result.source }
+    ensures within { result.source ≤ length bytes.now }
+    ensures size { (known : Lookup) → IsFirstSize is_in_table known bytes.now
+        result.source result.dropped result.inserted }
+{
+    let dropped = escape_len(bytes, is_in_table);
+    if dropped == 0 {
+        return piece_size(lone_len(bytes), 0, 0);
+    }
+    piece_size(dropped + 1, dropped, 0)
 }
 
 // The same at an ampersand. Where no reference stands there, the letters and digits behind it mean
@@ -274,8 +308,8 @@ fn number_size(bytes: &[u8]) -> PieceSize
         result.source result.dropped result.inserted }
 {
     match number_reference(bytes) {
-        Some((source, text)) => piece_size(source, source, text.as_str().len()),
-        None => piece_size(1, 0, 0),
+        Some((source, meaning)) => piece_size(source, source, meaning.len_utf8()),
+        None => piece_size(2, 0, 0),
     }
 }
 
@@ -304,6 +338,21 @@ fn plain_len(bytes: &[u8]) -> usize
     match bytes {
         [_, b'\\' | b'&' | b'\r', ..] => 1,
         _ => memchr3(b'\\', b'&', b'\r', bytes).unwrap_or(bytes.len()),
+    }
+}
+
+// How many bytes at the front mean themselves where the first one does: one, and the second too
+// where no changed piece may begin with it.
+fn lone_len(bytes: &[u8]) -> usize
+    requires { 0 < length bytes.now }
+    ensures plain { 1 < result → begins_change (slice_index bytes.now 1) ≡ false }
+    ensures within { result ≤ length bytes.now }
+    ensures some { 0 < result }
+    ensures at_most_two { result ≤ 2 }
+{
+    match bytes {
+        [_] | [_, b'\\' | b'&' | b'\r', ..] => 1,
+        _ => 2,
     }
 }
 
@@ -336,15 +385,12 @@ fn starts_pipe(bytes: &[u8]) -> bool
 // The character reference by number at the front, from `&` and `#` on. It is called, so that the
 // loops over pieces stay short.
 #[inline(never)]
-fn number_reference(bytes: &[u8]) -> Option<(usize, CowStr<'static>)>
+fn number_reference(bytes: &[u8]) -> Option<(usize, char)>
     requires long { 1 < length bytes.now }
-    requires begins { slice_index bytes.now 0 ≡ ampersand }
     requires number { slice_index bytes.now 1 ≡ number_sign }
-    ensures reference { (known : Lookup) → SomeExactly (λ r.
-        StartsWithAmpersandReference known bytes.now r.0 (cow_text r.1)) result }
+    ensures reference { (known : Lookup) → IsNumberAnswer known bytes.now result }
     ensures some { IfSome result (λ r. 0 < r.0) }
     ensures within { IfSome result (λ r. r.0 ≤ length bytes.now) }
 {
-    let (length, text) = scan_numbered(bytes);
-    Some((length, text?))
+    numbered_char(bytes)
 }

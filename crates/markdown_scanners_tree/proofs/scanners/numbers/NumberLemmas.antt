@@ -6,13 +6,6 @@ use Rattle.std.proofs.lemmas.Int.Digits.{digits_value-lt, digits_value_more}
 use Rattle.std.proofs.lemmas.List.{length-take-le}
 use Rattle.std.proofs.Math.Nat.{pow-le-pow_right}
 
--- a digit at each place
-pub digit_at : (radix : ℕ) (ds : List ℕ) (i : ℕ) → AllDigits radix ds → i < length ds
-    → digit_value (get_or ds i 0) < radix
-digit_at radix [] i a l = absurd (omega (arith, l))
-digit_at radix (d ∷ ds) zero a l = a.0
-digit_at radix (d ∷ ds) (suc i) a l = digit_at radix ds i a.1 (omega (arith, l))
-
 AllDigits-take : (radix : ℕ) (ds : List ℕ) (i : ℕ) → AllDigits radix ds → AllDigits radix (take i ds)
 AllDigits-take radix ds zero a = tt
 AllDigits-take radix [] (suc i) a = tt

@@ -297,6 +297,15 @@ are_plain t known text n within plain k in' =
     plain_piece t known (drop k text) (omega (arith, length-drop k text, within, in'))
     (ap begins_change (get_or-drop k text 0 0 ∙ ap (λ m. get_or text m 0) at) ∙ plain k in')
 
+-- one byte that means itself, and maybe one that begins no change
+pub pair_plain : (t : Bool) (known : Lookup) (text : List ℕ) (n : ℕ) → n ≤ length text → n ≤ 2
+    → IsFirstPiece t known text 1 0 [] → (1 < n → begins_change (get_or text 1 0) ≡ false) → ArePlain t known text n
+pair_plain t known text n within few first second zero in' = first
+pair_plain t known text n within few first second (suc zero) in' =
+    plain_piece t known (drop 1 text) (omega (arith, length-drop 1 text, within, in'))
+    (ap begins_change (get_or-drop 1 text 0 0) ∙ second (omega (arith, in')))
+pair_plain t known text n within few first second (suc (suc k)) in' = absurd (omega (arith, in', few))
+
 -- no letter and no digit begins a change
 plain_alphanumeric : (b : ℕ) → is_alphanumeric b ≡ true → begins_change b ≡ false
 plain_alphanumeric b made =

@@ -1,11 +1,7 @@
 use Rattle.std.proofs.Common.{arith, sym}
 use Rattle.std.proofs.lemmas.Int.Digits.{digits_value_more}
-use Rattle.markdown_scanners_tree.proofs.scanners.numbers.NumberLemmas.{below_power, digit_at}
+use Rattle.markdown_scanners_tree.proofs.scanners.numbers.NumberLemmas.{below_power}
 use Rattle.markdown_scanners_tree.proofs.scanners.numbers.number_of.Goals as goal
-
-pub digit_of-requires-clause-digit : goal.digit_of-requires-clause-digit
-digit_of-requires-clause-digit c =
-    digit_at c.args.radix c.args.digits.now c.loop-b.b-index c.requires.digits_only c.loop-b-test.true
 
 pub overflow_mul-number : goal.overflow_mul-number
 overflow_mul-number c =

@@ -1,5 +1,5 @@
 use Rattle.std.proofs.Common.{refl, [], inl, inr}
-use Rattle.markdown_scanners_tree.proofs.scanners.unescaping.FirstPieceLemmas.{return_changed, are_plain, escape_size}
+use Rattle.markdown_scanners_tree.proofs.scanners.unescaping.FirstPieceLemmas.{return_changed, are_plain}
 use Rattle.markdown_scanners_tree.proofs.scanners.unescaping.first_size.Goals as goal
 
 pub returns-in-13-clause-size : goal.returns-in-13-clause-size
@@ -12,10 +12,7 @@ returns-in-13-clause-size g c =
     ))
 
 pub returns-in-92-clause-size : goal.returns-in-92-clause-size
-returns-in-92-clause-size g c =
-    rw c.piece_size-in-92.ensures
-    (escape_size c.args.is_in_table (g.E.Entities.known c.args.entities.now) c.args.bytes.now
-    c.escape_len-dropped.result (c.escape_len-dropped.ensures.piece (g.E.Entities.known c.args.entities.now)))
+returns-in-92-clause-size g c = c.backslash_size.ensures.size (g.E.Entities.known c.args.entities.now)
 
 pub returns-in-38-clause-size : goal.returns-in-38-clause-size
 returns-in-38-clause-size g c = c.ampersand_size.ensures.size c.args.is_in_table

@@ -1,11 +1,11 @@
-use Rattle.std.proofs.Common.{◌∷◌, ◌≡◌, ◌+◌, ◌-◌, ◌<◌, ap, ◌∙◌, subst, Bool, [], ℕ, List, take, drop, length, get_or, refl, arith}
+use Rattle.std.proofs.Common.{◌∷◌, ◌≡◌, ◌+◌, ◌-◌, ◌<◌, ◌≤◌, false, ap, ◌∙◌, subst, Bool, [], ℕ, List, take, drop, length, get_or, refl, arith}
 use Rattle.std.proofs.lemmas.Bool.{false≢true}
 use Rattle.std.proofs.lemmas.List.{take_rest}
 use Rattle.std.proofs.lemmas.Grind.{common_steps, not_there}
 use Rattle.markdown_scanners_tree.specs.Ascii.{carriage_return}
 use Rattle.markdown_scanners_tree.specs.scanners.entities.CharacterReference.{Lookup}
-use Rattle.markdown_scanners_tree.specs.scanners.unescaping.private.FirstPiece.{IsFirstPiece, IsChanged, ArePlain}
-use Rattle.markdown_scanners_tree.proofs.scanners.unescaping.FirstPieceLemmas.{return_changed, escape_changed, lone_plain, are_plain}
+use Rattle.markdown_scanners_tree.specs.scanners.unescaping.private.FirstPiece.{IsFirstPiece, IsChanged, ArePlain, begins_change}
+use Rattle.markdown_scanners_tree.proofs.scanners.unescaping.FirstPieceLemmas.{return_changed, escape_changed, pair_plain, are_plain}
 use Rattle.markdown_scanners_tree.proofs.scanners.unescaping.PieceLemmas.{pushed_change, pushed_drop, pushed_nothing}
 use Rattle.markdown_scanners_tree.proofs.scanners.unescaping.push_first.Goals as goal
 
@@ -27,8 +27,10 @@ module _ (text bytes : List ℕ) (place : ℕ) (same : bytes ≡ text) where
       subst (λ bs. IsChanged t known bs (d + 1) (d + 1) (get_or rest d 0 ∷ [])) at
       (escape_changed t known rest d is some ascii)
 
-  lone_at : (t : Bool) (known : Lookup) → IsFirstPiece t known rest 1 0 [] → ArePlain t known (drop place text) 1
-  lone_at t known is = subst (λ bs. ArePlain t known bs 1) at (lone_plain t known rest is)
+  pair_at : (t : Bool) (known : Lookup) (n : ℕ) → n ≤ length rest → n ≤ 2 → IsFirstPiece t known rest 1 0 []
+      → (1 < n → begins_change (get_or rest 1 0) ≡ false) → ArePlain t known (drop place text) n
+  pair_at t known n within few first second =
+      subst (λ bs. ArePlain t known bs n) at (pair_plain t known rest n within few first second)
 
 pub returns-in_ok-push_part-in-13-clause-pushed : goal.returns-in_ok-push_part-in-13-clause-pushed
 returns-in_ok-push_part-in-13-clause-pushed g c =
@@ -83,8 +85,10 @@ returns-then-dropped-eq0-clause-pushed g c =
     subst (λ d. IsFirstPiece c.args.is_in_table known
     (rest c.args.text.now bytes c.args.place c.as_bytes.ensures.value) (d + 1) d []) c.if-dropped-eq0.true
     (c.escape_len-dropped.ensures.piece known) in
-    pushed_nothing c.args.is_in_table known c.args.text.now c.args.run c.args.place 1 c.args.out.now
-    (lone_at c.args.text.now bytes c.args.place c.as_bytes.ensures.value c.args.is_in_table known is)
+    let n = c.lone_len.result in
+    pushed_nothing c.args.is_in_table known c.args.text.now c.args.run c.args.place n c.args.out.now
+    (pair_at c.args.text.now bytes c.args.place c.as_bytes.ensures.value c.args.is_in_table known n
+    c.lone_len.ensures.within c.lone_len.ensures.at_most_two is c.lone_len.ensures.plain)
 
 pub returns-in-38-clause-pushed : goal.returns-in-38-clause-pushed
 returns-in-38-clause-pushed g c = c.push_ampersand.ensures.pushed c.args.is_in_table
