@@ -261,6 +261,12 @@ pub fn hostile() -> Vec<Hostile> {
             pieces: label("\\[".repeat(499)),
             at: |text| (1..text.len()).step_by(1000).collect(),
         },
+        Hostile {
+            name: "200 labels of 1000 'é'",
+            call: "label",
+            pieces: label("é".repeat(1000)),
+            at: |text| after(text, b'['),
+        },
         Hostile { name: "200 labels of 999 letters", call: "label_hash", pieces: label("A".repeat(999)), at: labels },
         Hostile { name: "200 labels of 333 'ẞ'", call: "label_hash", pieces: label("ẞ".repeat(333)), at: labels },
         made("50000 x '['", "label", &[("[", 50000)], |text| after(text, b'[')),

@@ -4,8 +4,8 @@ ghost use Rattle.std.specs.String.{string_bytes, string_capacity, string_len};
 
 use std::alloc::AllocError;
 
-// Appends a part of a text. Often it is empty, as between two bytes of white space or two changed
-// pieces that touch, and then no call is made.
+// Appends a part of a text. Often it is empty, as between two changed pieces that touch, and then no
+// call is made.
 pub(crate) fn push_part(out: &mut String, part: &str) -> Result<(), AllocError>
     // Where memory is refused the text stays as it was.
     ensures bytes { string_bytes out.new

@@ -1,6 +1,7 @@
 -- What a kept byte adds to the text that is still to be written of a label: white space adds
 -- nothing, a byte of a word adds itself, and a backslash that a cell of a table drops adds nothing.
-use Rattle.std.proofs.Common.{ℕ, Bool, true, false, ◌||◌, ◌&&◌, ◌==◌, List, [], ◌∷◌, ◌++◌, ◌≡◌, ◌+◌, refl, sym, ◌∙◌, ap, subst, cond, append_assoc, true≢false, eqb-true, eq-eqb}
+use Rattle.std.proofs.Common.{ℕ, Bool, true, false, ◌||◌, ◌&&◌, ◌==◌, List, [], ◌∷◌, ◌++◌, ◌≡◌, ◌+◌, refl, sym, ◌∙◌, ap, subst, cond, append_assoc}
+use Rattle.std.proofs.Common.{true≢false, eqb-true, eq-eqb}
 use Rattle.std.proofs.Math.Bool.{and-true, and-false, and-or_distrib_left}
 use Rattle.std.proofs.lemmas.Bool.{and_parts}
 use Rattle.markdown_scanners_tree.specs.Bytes.{begins_with, is_line_ending, is_white_space}

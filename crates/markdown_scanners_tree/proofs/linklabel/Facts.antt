@@ -66,7 +66,7 @@ pub record Tells (y : Tally) (ix : ℕ) (f : Facts) : Type 0 where
   pub ending_is : (y.in_run && y.has_ending) ≡ f.has_ending
   pub plain_is : y.is_plain ≡ (f.is_spaced && not f.is_rewritten)
 
-pub tells_none : Tells (tally_after_words 0) 0 no_facts
+pub tells_none : Tells (tally_after_words 0 0) 0 no_facts
 tells_none = record {
   characters_are = refl;
   length_is = refl;

@@ -1,9 +1,11 @@
 -- A text that is the front of bytes has their bytes, up to its end.
-use Rattle.std.proofs.Common.{ℕ, suc, Bool, true, false, ◌||◌, ◌==◌, List, ◌∷◌, ◌≡◌, ◌≤◌, ◌<◌, ◌+◌, ◌-◌, cond, refl, sym, ◌∙◌, ap, arith, drop, take, get_or, length}
-use Rattle.std.specs.Str.{IsCharBoundary}
-use Rattle.std.proofs.lemmas.List.{drop_more, drop-take, get_or-take, length-take, take-take}
-use Rattle.std.proofs.lemmas.Str.{IsCharBoundary-before_ascii}
-use Rattle.markdown_scanners_tree.specs.Bytes.{is_line_ending}
+use Rattle.std.proofs.Common.{ℕ, suc, Bool, true, false, ◌||◌, ◌==◌, List, ◌∷◌, ◌≡◌, ◌≤◌, ◌<◌, ◌+◌, ◌-◌, cond, refl, sym, ◌∙◌}
+use Rattle.std.proofs.Common.{ap, subst, arith, drop, take, get_or, length}
+use Rattle.std.specs.Str.{IsCharBoundary, IsUtf8}
+use Rattle.std.proofs.lemmas.Bool.Decides.{nat_tests}
+use Rattle.std.proofs.lemmas.List.{drop_more, drop-take, get_or-drop, get_or-take, length-take, take-take}
+use Rattle.std.proofs.lemmas.Str.{IsCharBoundary-before_ascii, IsCharBoundary-after_ascii}
+use Rattle.markdown_scanners_tree.specs.Bytes.{is_line_ending, is_white_space_in_line}
 use Rattle.markdown_scanners_tree.specs.Kept.{line_len}
 use Rattle.markdown_scanners_tree.specs.linklabel.private.NextPart.{IsEnding}
 use Rattle.markdown_scanners_tree.specs.linklabel.private.Pass.{starts_dropped}
@@ -20,6 +22,9 @@ same_line_len b c cs ds ends = by (b == 10) (b == 13) ends
     by true cr h = refl
     by false true h = refl
     by false false h = cc
+
+white_ascii : (b : ℕ) → is_white_space_in_line b ≡ true → b < 128
+white_ascii b white = grind (arith, nat_tests, white)
 
 module _ (text bytes : List ℕ) (front : text ≡ take (length text) bytes) where
   pub front_fits : length text ≤ length bytes
@@ -40,6 +45,22 @@ module _ (text bytes : List ℕ) (front : text ≡ take (length text) bytes) whe
   front_cut ix b bs parts inside ascii =
       let same : get_or text ix 0 ≡ b = same_byte ix inside ∙ (byte_at bytes ix b bs parts).1 in
       IsCharBoundary-before_ascii text ix inside (rw same ascii)
+
+  -- a run of white space may be cut off the text at both its ends
+  pub white_cuts : IsUtf8 text → (end n : ℕ) → 0 < n → end + n ≤ length text
+      → ((k : ℕ) → k < n → is_white_space_in_line (get_or (drop end bytes) k 0) ≡ true)
+      → IsCharBoundary text end × IsCharBoundary text (end + n)
+  white_cuts utf8 end n some fits white =
+      let byte : (k : ℕ) → k < n → get_or text (end + k) 0 < 128 = λ k below.
+      (let is = white_ascii (get_or (drop end bytes) k 0) (white k below) in
+      let same = get_or-drop end bytes k 0 ∙ sym (same_byte (end + k) (omega (arith, fits, below))) in
+      subst (λ b. b < 128) same is) in
+      let first : end + 0 ≡ end = omega arith in
+      let last : end + (n - 1) + 1 ≡ end + n = omega (arith, some) in (
+        subst (IsCharBoundary text) first (IsCharBoundary-before_ascii text (end + 0) (omega (arith, fits, some)) (byte 0 some)),
+        subst (IsCharBoundary text) last
+            (IsCharBoundary-after_ascii text (end + (n - 1)) utf8 (omega (arith, fits, some)) (byte (n - 1) (omega (arith, some)))),
+      )
 
   -- the bytes between two places
   pub front_slice : (m n : ℕ) → m + n ≤ length text → take n (drop m text) ≡ take n (drop m bytes)

@@ -1,6 +1,7 @@
 -- The words of a content joined by one space are what is written of it from the left (`text_from`).
 -- Where each run of white space is one space, that is the content without a space at its ends.
-use Rattle.std.proofs.Common.{ℕ, Bool, true, false, ◌&&◌, ◌==◌, not, List, [], ◌∷◌, ◌++◌, ◌≡◌, refl, sym, ◌∙◌, ap, cond, map, append-nil, true≢false, eqb-true, if◌then◌else◌}
+use Rattle.std.proofs.Common.{ℕ, Bool, true, false, ◌&&◌, ◌==◌, not, List, [], ◌∷◌, ◌++◌, ◌≡◌, refl, sym, ◌∙◌, ap, cond, map, append-nil, true≢false}
+use Rattle.std.proofs.Common.{eqb-true, if◌then◌else◌}
 use Rattle.std.proofs.lemmas.Bool.{and_parts}
 use Rattle.std.specs.List.{join_with_byte}
 use Rattle.markdown_scanners_tree.specs.Bytes.{begins_with, is_white_space}

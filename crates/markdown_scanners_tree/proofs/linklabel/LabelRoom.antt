@@ -5,7 +5,8 @@ use Rattle.std.proofs.lemmas.Bool.{cases_Bool}
 use Rattle.markdown_scanners_tree.specs.Bytes.{is_punctuation}
 use Rattle.markdown_scanners_tree.specs.Ascii.{left_bracket, right_bracket, backslash}
 use Rattle.markdown_scanners_tree.specs.Kept.{KeptByte, kept_from, kept_text}
-use Rattle.markdown_scanners_tree.specs.linklabel.Label.{Label, IsLabel, Bracketed, preceded, bracketed, kept_units, label_between, is_label_content, is_white, in_cell, pipe_at, without_pipe_backslashes}
+use Rattle.markdown_scanners_tree.specs.linklabel.Label.{Label, IsLabel, Bracketed, preceded, bracketed, kept_units, label_between, is_label_content}
+use Rattle.markdown_scanners_tree.specs.linklabel.Label.{is_white, in_cell, pipe_at, without_pipe_backslashes}
 use Rattle.markdown_scanners_tree.proofs.RisingBytes.{Rises, kept_rises}
 use Rattle.markdown_scanners_tree.proofs.linklabel.JoinedWords.{text_from, joined_words-from}
 use Rattle.markdown_scanners_tree.proofs.linklabel.KeptTextSteps.{bracketed_after}

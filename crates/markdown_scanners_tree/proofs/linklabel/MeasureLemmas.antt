@@ -1,5 +1,6 @@
 -- What the first pass over a label has found at the closing bracket.
-use Rattle.std.proofs.Common.{ℕ, Bool, true, false, ◌&&◌, ◌==◌, not, nat_le, List, [], ◌∷◌, ◌++◌, ◌≡◌, ◌+◌, ◌-◌, ◌≤◌, ◌<◌, Some, refl, sym, ◌∙◌, ap, subst, arith, inl, inr}
+use Rattle.std.proofs.Common.{ℕ, Bool, true, false, ◌&&◌, ◌==◌, not, nat_le, List, [], ◌∷◌, ◌++◌, ◌≡◌, ◌+◌, ◌-◌, ◌≤◌, ◌<◌, Some, refl, sym, ◌∙◌, ap}
+use Rattle.std.proofs.Common.{subst, arith, inl, inr}
 use Rattle.std.proofs.Common.{drop, take, get_or, length, length-append, length-drop, true≢false}
 use Rattle.std.proofs.Math.Bool.{and-false, not-not}
 use Rattle.std.proofs.Math.Seq.{take-append_seam}
@@ -19,7 +20,8 @@ use Rattle.markdown_scanners_tree.specs.declared.linklabel.tally.Tally.{Tally}
 use Rattle.markdown_scanners_tree.proofs.linklabel.Facts.{Facts, facts_past_ending, facts_past_space, facts_past_word}
 use Rattle.markdown_scanners_tree.proofs.linklabel.Facts.{Tells, tells_ending, tells_space, tells_word, tells_length}
 use Rattle.markdown_scanners_tree.proofs.linklabel.SourceSteps.{IsAt, IsOnlySkip, at_closing, from_closing, none_at_closing, byte_at}
-use Rattle.markdown_scanners_tree.proofs.linklabel.SourceSteps.{after_word, after_space, after_ending, byte_rest, byte_fits, ending_fits, told_word, told_space, told_ending}
+use Rattle.markdown_scanners_tree.proofs.linklabel.SourceSteps.{after_word, after_space, after_ending, byte_rest, byte_fits, ending_fits, told_word}
+use Rattle.markdown_scanners_tree.proofs.linklabel.SourceSteps.{told_space, told_ending}
 use Rattle.markdown_scanners_tree.proofs.linklabel.SeenBytes.{Seen, content_of_seen, plain_of_seen, length_of_seen, stands_in_source}
 
 -- what holds at a place of the source, where this tally was kept of the bytes before it

@@ -8,7 +8,8 @@ use Rattle.std.proofs.lemmas.List.Sums.{sum_by-cons}
 use Rattle.std.specs.List.{list_all}
 use Rattle.markdown_scanners_tree.specs.Bytes.{is_line_ending, is_white_space, is_punctuation}
 use Rattle.markdown_scanners_tree.specs.Kept.{KeptByte, in_line, bytes_of, kept_head, kept_text}
-use Rattle.markdown_scanners_tree.specs.linklabel.Label.{Label, IsLabel, kept_units, Bracketed, preceded, bracketed, is_white, white_runs, characters, is_one_space}
+use Rattle.markdown_scanners_tree.specs.linklabel.Label.{Label, IsLabel, kept_units, Bracketed, preceded, bracketed, is_white, white_runs, characters}
+use Rattle.markdown_scanners_tree.specs.linklabel.Label.{is_one_space}
 use Rattle.markdown_scanners_tree.specs.linklabel.Label.{is_label_content, joined_words, label_between, label_of, ends_in_backslash, ReadsBack}
 use Rattle.markdown_scanners_tree.specs.linklabel.private.Pass.{begun, space_len}
 use Rattle.markdown_scanners_tree.proofs.linklabel.WhiteRuns.{few, few-white_runs, lone, lone_runs}
@@ -375,7 +376,8 @@ reads_back kept label h e = of (bracketed (kept_units kept)) (clean_units kept).
     made : (b : Bracketed) (v : Bool) → is_label_content b.content ≡ v → clean false (bytes_of b.content) ≡ true
         → cond v
         (Some (record
-        { len = b.close + 1; text = joined_words b.content; plain = list_all is_one_space (white_runs b.content) && true })) None ≡ Some label → ReadsBack label.text
+        { len = b.close + 1; text = joined_words b.content; plain = list_all is_one_space (white_runs b.content) && true }))
+        None ≡ Some label → ReadsBack label.text
     made b true c k g =
         (let t : joined_words b.content ≡ label.text = cc in
         subst ReadsBack t (content_reads_back b.content c k (ap ends_in_backslash t ∙ e)))

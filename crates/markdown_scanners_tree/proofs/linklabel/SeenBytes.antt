@@ -13,13 +13,15 @@ use Rattle.markdown_scanners_tree.specs.Bytes.{is_line_ending, is_white_space}
 use Rattle.markdown_scanners_tree.specs.Ascii.{right_bracket}
 use Rattle.markdown_scanners_tree.specs.Kept.{KeptByte, in_line, at_line_end, kept_line, kept_return, return_len, line_len, line_endings, bytes_of}
 use Rattle.markdown_scanners_tree.specs.linklabel.Answer.{without_first_space, without_last_space}
-use Rattle.markdown_scanners_tree.specs.linklabel.Label.{is_white, white_runs, characters, is_label_content, has_pipe_backslash, in_cell, joined_words, is_plain}
+use Rattle.markdown_scanners_tree.specs.linklabel.Label.{is_white, white_runs, characters, is_label_content, has_pipe_backslash, in_cell}
+use Rattle.markdown_scanners_tree.specs.linklabel.Label.{joined_words, is_plain}
 use Rattle.markdown_scanners_tree.specs.linklabel.private.Pass.{begun, due_len, starts_dropped, word_text}
 use Rattle.markdown_scanners_tree.proofs.linklabel.Facts.{Facts, no_facts, facts_past_ending, facts_past_space, facts_past_word}
 use Rattle.markdown_scanners_tree.proofs.linklabel.WhiteRuns.{few, few-white_runs, few_at_ending, lone, lone_runs}
 use Rattle.markdown_scanners_tree.specs.scanners.tables.DelimiterRow.{is_pipe}
 use Rattle.markdown_scanners_tree.proofs.linklabel.JoinedWords.{text_from, joined_words-from, lone_outer}
-use Rattle.markdown_scanners_tree.proofs.linklabel.CellText.{Follows, follows_byte, space_of, text_from-white, text_from-word, has_dropped-byte, not_dropped-white, gap_of_line, in_cell-same}
+use Rattle.markdown_scanners_tree.proofs.linklabel.CellText.{Follows, follows_byte, space_of, text_from-white, text_from-word, has_dropped-byte}
+use Rattle.markdown_scanners_tree.proofs.linklabel.CellText.{not_dropped-white, gap_of_line, in_cell-same}
 
 -- what was written of the text, and what is still to be written of it, whatever comes
 pub record Written (t : Bool) (seen : List KeptByte) (ix : ℕ) (rest : List ℕ) (has_word in_run : Bool)

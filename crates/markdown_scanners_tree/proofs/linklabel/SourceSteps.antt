@@ -24,7 +24,8 @@ use Rattle.markdown_scanners_tree.specs.linklabel.private.Pass.{starts_dropped}
 use Rattle.markdown_scanners_tree.specs.declared.linklabel.write.NextPart.{NextPart}
 use Rattle.markdown_scanners_tree.proofs.linklabel.Facts.{Facts, facts_past_ending, facts_past_space, facts_past_word}
 use Rattle.markdown_scanners_tree.proofs.linklabel.CellText.{white_no_backslash}
-use Rattle.markdown_scanners_tree.proofs.linklabel.KeptTextSteps.{Goes, past_byte, at_byte, no_label_at_end, no_label_at_opening, label_at_closing, closing_label}
+use Rattle.markdown_scanners_tree.proofs.linklabel.KeptTextSteps.{Goes, past_byte, at_byte, no_label_at_end, no_label_at_opening, label_at_closing}
+use Rattle.markdown_scanners_tree.proofs.linklabel.KeptTextSteps.{closing_label}
 use Rattle.markdown_scanners_tree.proofs.linklabel.KeptTextSteps.{past_ending, at_ending, no_label_at_ending, ending_seen, bracketed_after, label_from}
 use Rattle.markdown_scanners_tree.proofs.linklabel.SeenBytes.{Seen, Seen-word, Seen-space, Seen-ending, two_endings, many_with_ending, many_seen}
 
@@ -60,10 +61,17 @@ dark_no_ending b h = grind (arith, nat_tests, h)
 module _ (a : List ℕ → ℕ → Type 0) (source : List ℕ) where
   pub at_start : IsAt a source false [] 0 source
   at_start = record {
-    ahead = λ t label h.
-        record { skips = h.skips; answered = h.answered; label_is = ap (label_between t) (preceded-nil (bracketed (kept_units (kept_text source h.skips)))) ∙ h.label_is };
-    back = λ t label h.
-        record { skips = h.skips; answered = h.answered; label_is = sym (ap (label_between t) (preceded-nil (bracketed (kept_units (kept_text source h.skips))))) ∙ h.label_is };
+    ahead = λ t label h. record {
+      skips = h.skips;
+      answered = h.answered;
+      label_is = ap (label_between t) (preceded-nil (bracketed (kept_units (kept_text source h.skips)))) ∙ h.label_is;
+    };
+    back = λ t label h. record {
+      skips = h.skips;
+      answered = h.answered;
+      label_is = sym (ap (label_between t) (preceded-nil (bracketed (kept_units (kept_text source h.skips)))))
+          ∙ h.label_is;
+    };
     escapes = λ h. absurd (true≢false (sym h));
   }
 

@@ -1,5 +1,6 @@
 -- What the conditions of a label's handler come to after line endings.
-use Rattle.std.proofs.Common.{ℕ, zero, suc, Bool, true, false, ◌||◌, ◌==◌, ◌≡◌, ◌+◌, ◌<◌, ◌≤◌, ◌∙◌, cond, List, [], ◌∷◌, length, take, drop, get_or, refl, sym, ap, subst, arith, Option, Some, None}
+use Rattle.std.proofs.Common.{ℕ, zero, suc, Bool, true, false, ◌||◌, ◌==◌, ◌≡◌, ◌+◌, ◌<◌, ◌≤◌, ◌∙◌, cond, List, [], ◌∷◌, length, take, drop, get_or}
+use Rattle.std.proofs.Common.{refl, sym, ap, subst, arith, Option, Some, None}
 use Rattle.std.specs.Fn.{Shared}
 use Rattle.std.specs.Str.{IsUtf8, IsCharBoundary}
 use Rattle.std.proofs.lemmas.List.{get_or-drop, get_or-take}

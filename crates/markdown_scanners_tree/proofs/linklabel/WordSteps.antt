@@ -1,28 +1,36 @@
 -- Words with one space between, as the first pass has them that reads byte by byte.
-use Rattle.std.proofs.Common.{ℕ, Bool, true, false, List, [], ◌∷◌, ◌≡◌, ◌==◌, ◌+◌, ◌≤◌, ◌<◌, refl, sym, ◌∙◌, ap, subst, arith}
-use Rattle.std.proofs.Common.{drop, take, get_or, length, IsAscii}
+use Rattle.std.proofs.Common.{ℕ, Bool, true, false, ◌||◌, ◌&&◌, not, List, [], ◌∷◌, ◌≡◌, ◌==◌, ◌+◌, ◌≤◌, ◌<◌, refl, sym, ◌∙◌, ap, subst, arith}
+use Rattle.std.proofs.Common.{drop, take, get_or, length}
 use Rattle.std.proofs.lemmas.Bool.{and_parts, eqb-true, lt-ltb}
 use Rattle.std.proofs.lemmas.Bool.Decides.{nat_tests}
-use Rattle.std.proofs.lemmas.List.{get_or-take, length-take}
-use Rattle.markdown_scanners_tree.specs.Ascii.{right_bracket}
-use Rattle.markdown_scanners_tree.specs.Bytes.{begins_with}
+use Rattle.std.proofs.lemmas.List.{drop_more, get_or-take, length-take, take_more}
+use Rattle.std.proofs.lemmas.List.Sums.{sum_by-append}
+use Rattle.std.specs.List.{sum_by}
+use Rattle.markdown_scanners_tree.specs.Ascii.{backslash, right_bracket, vertical_line}
+use Rattle.markdown_scanners_tree.specs.Bytes.{begins_with, is_punctuation}
 use Rattle.markdown_scanners_tree.specs.linklabel.private.NextPart.{IsBracket}
-use Rattle.markdown_scanners_tree.specs.linklabel.private.Pass.{IsMeasure, continued, tally_after_words}
+use Rattle.markdown_scanners_tree.specs.linklabel.private.Pass.{IsMeasure, continued, backslash_len, starts_dropped}
+use Rattle.markdown_scanners_tree.specs.linklabel.private.Pass.{tally_after_words, tally_past_backslash, tally_past_word}
 use Rattle.markdown_scanners_tree.specs.linklabel.private.Run.{is_ordinary}
-use Rattle.markdown_scanners_tree.specs.linklabel.private.Words.{AreWords, joins_words, none, byte, gap}
+use Rattle.markdown_scanners_tree.specs.linklabel.private.Words.{AreWords, is_kept_escape, joins_words, stays_escaped, none, byte, gap, escape}
 use Rattle.markdown_scanners_tree.specs.declared.linklabel.tally.Tally.{Tally}
 use Rattle.markdown_scanners_tree.proofs.linklabel.Facts.{no_facts, tells_none}
-use Rattle.markdown_scanners_tree.proofs.linklabel.MeasureLemmas.{IsTallied, measured_by, past_ordinary, past_white}
+use Rattle.markdown_scanners_tree.proofs.linklabel.MeasureLemmas.{IsTallied, measured_by, past_ordinary, past_slash, past_white}
 use Rattle.markdown_scanners_tree.proofs.linklabel.SeenBytes.{Seen-none}
 use Rattle.markdown_scanners_tree.proofs.linklabel.SourceSteps.{at_start, byte_at, byte_rest}
 
+pub bracket_first : (bracket : ℕ) (rest : List ℕ) → begins_with (λ b. b == bracket) rest ≡ true
+    → (others : List ℕ) × (rest ≡ bracket ∷ others)
+bracket_first bracket [] is = cc
+bracket_first bracket (b ∷ bs) is = (bs, ap (λ c. c ∷ bs) (eqb-true b bracket is))
+
 -- words of which one more space joins a word
-pub joined_here : (source : List ℕ) (n : ℕ) → AreWords source n → 0 < n → joins_words (drop n source) ≡ true
-    → (n + 2 ≤ length source) × AreWords source (n + 2)
-joined_here source n words some joins = by (drop n source) refl joins
+pub joined_here : (t : Bool) (source : List ℕ) (n : ℕ) → AreWords t source n → 0 < n
+    → joins_words (drop n source) ≡ true → (n + 2 ≤ length source) × AreWords t source (n + 2)
+joined_here t source n words some joins = by (drop n source) refl joins
   where
     by : (rest : List ℕ) → drop n source ≡ rest → joins_words rest ≡ true
-        → (n + 2 ≤ length source) × AreWords source (n + 2)
+        → (n + 2 ≤ length source) × AreWords t source (n + 2)
     by [] e j = cc
     by (b ∷ []) e j = cc
     by (b ∷ c ∷ cs) e j =
@@ -32,25 +40,72 @@ joined_here source n words some joins = by (drop n source) refl joins
         let fits : n + 2 ≤ length source = omega (arith, second.0) in
         (fits, gap n words some fits (first.1 ∙ eqb-true b 32 parts.0) (ap is_ordinary second.1 ∙ parts.1))
 
+-- words that an escape follows
+pub escaped_here : (t : Bool) (source : List ℕ) (n : ℕ) → AreWords t source n
+    → is_kept_escape t (drop n source) ≡ true → (n + 2 ≤ length source) × AreWords t source (n + 2)
+escaped_here t source n words escapes = by (drop n source) refl escapes
+  where
+    by : (rest : List ℕ) → drop n source ≡ rest → is_kept_escape t rest ≡ true
+        → (n + 2 ≤ length source) × AreWords t source (n + 2)
+    by [] e j = cc
+    by (b ∷ []) e j = cc
+    by (b ∷ c ∷ cs) e j =
+        let parts = and_parts (b == 92) (stays_escaped t c) j in
+        let first = byte_at source n b (c ∷ cs) e in
+        let second = byte_at source (n + 1) c cs (byte_rest source n b (c ∷ cs) e) in
+        let fits : n + 2 ≤ length source = omega (arith, second.0) in
+        (fits, escape n words fits (first.1 ∙ eqb-true b 92 parts.0) (ap (stays_escaped t) second.1 ∙ parts.1))
+
 -- words at the front of a front of the source
-pub words_of_front : (source : List ℕ) (m n : ℕ) → AreWords (take m source) n → AreWords source n
-words_of_front source m n none = none
-words_of_front source m n (byte k before inside word) =
+pub words_of_front : (t : Bool) (source : List ℕ) (m n : ℕ) → AreWords t (take m source) n → AreWords t source n
+words_of_front t source m n none = none
+words_of_front t source m n (byte k before inside word) =
     let size = length-take m source in
-    byte k (words_of_front source m k before) (omega (arith, inside, size))
+    byte k (words_of_front t source m k before) (omega (arith, inside, size))
     (ap is_ordinary (sym (get_or-take m source k 0 (omega (arith, inside, size)))) ∙ word)
-words_of_front source m n (gap k before some fits space word) =
+words_of_front t source m n (escape k before fits slash stays) =
     let size = length-take m source in
-    gap k (words_of_front source m k before) some (omega (arith, fits, size))
+    escape k (words_of_front t source m k before) (omega (arith, fits, size))
+    (sym (get_or-take m source k 0 (omega (arith, fits, size))) ∙ slash)
+    (ap (stays_escaped t) (sym (get_or-take m source (k + 1) 0 (omega (arith, fits, size)))) ∙ stays)
+words_of_front t source m n (gap k before some fits space word) =
+    let size = length-take m source in
+    gap k (words_of_front t source m k before) some (omega (arith, fits, size))
     (sym (get_or-take m source k 0 (omega (arith, fits, size))) ∙ space)
     (ap is_ordinary (sym (get_or-take m source (k + 1) 0 (omega (arith, fits, size)))) ∙ word)
 
-ascii_begins : (b : ℕ) → b < 128 → continued b ≡ 0
-ascii_begins b ascii = grind (arith, nat_tests, ascii)
+-- one byte more of which it is counted whether it begins a character
+continued_more : (source : List ℕ) (n : ℕ) → n < length source
+    → sum_by continued (take (n + 1) source) ≡ sum_by continued (take n source) + continued (get_or source n 0)
+continued_more source n inside =
+    ap (sum_by continued) (take_more source n 0 inside)
+    ∙ sum_by-append continued (take n source) (get_or source n 0 ∷ []) ∙ omega arith
+
+-- the escape of a byte that stays changes the tally as two bytes of a word do
+first_stays : (t : Bool) (c : ℕ) → not (t && (c == backslash || c == vertical_line)) ≡ true
+    → (t && c == vertical_line) ≡ false
+first_stays true c stays = grind (arith, nat_tests, stays)
+first_stays false c stays = refl
+
+second_stays : (t v : Bool) (c : ℕ) → not (t && (c == backslash || c == vertical_line)) ≡ true
+    → (t && (c == backslash && v)) ≡ false
+second_stays true v c stays =
+    let other : (c == backslash) ≡ false = grind (arith, nat_tests, stays) in ap (λ x. x && v) other
+second_stays false v c stays = refl
+
+past_escape : (t : Bool) (y : Tally) (c : ℕ) (cs : List ℕ) → stays_escaped t c ≡ true
+    → (backslash_len (backslash ∷ c ∷ cs) ≡ 2)
+    × (tally_past_backslash t y (backslash ∷ c ∷ cs) ≡ tally_past_word (tally_past_word y backslash false) c false)
+past_escape t y c cs stays =
+    let parts = and_parts (is_punctuation c) _ stays in
+    let first : starts_dropped t (92 ∷ c ∷ cs) ≡ false = first_stays t c parts.1 in
+    let second : starts_dropped t (c ∷ cs) ≡ false =
+    second_stays t (begins_with (λ d. d == vertical_line) cs) c parts.1 in
+    (rw parts.0 refl, rw parts.0 (λ i. tally_past_word (tally_past_word y 92 (first i)) c (second i)))
 
 -- the tally of words, of which so many bytes begin no character
 abbrev words_tally : ℕ → ℕ → Tally
-words_tally skipped n = record (tally_after_words n) { skipped = skipped }
+words_tally skipped n = tally_after_words n skipped
 
 -- the same where there is a word
 abbrev word_tally : ℕ → Tally
@@ -73,9 +128,9 @@ module _ (a : List ℕ → ℕ → Type 0) (t : Bool) (source : List ℕ) where
   record AfterWords (n : ℕ) : Type 0 where
     pub skipped : ℕ
     pub tallied : TalliedAt n (words_tally skipped n)
-    pub ascii : ((i : ℕ) → i < n → get_or source i 0 < 128) → skipped ≡ 0
+    pub counted : skipped ≡ sum_by continued (take n source)
 
-  after_words : (n : ℕ) → AreWords source n → AfterWords n
+  after_words : (n : ℕ) → AreWords t source n → AfterWords n
   after_words n none = record {
     skipped = 0;
     tallied = record {
@@ -88,7 +143,7 @@ module _ (a : List ℕ → ℕ → Type 0) (t : Bool) (source : List ℕ) where
       at = at_start _ _;
       told = Seen-none _ _;
     };
-    ascii = λ low. refl;
+    counted = refl;
   }
   after_words n (byte m before inside word) =
       let w = after_words m before in
@@ -98,11 +153,7 @@ module _ (a : List ℕ → ℕ → Type 0) (t : Bool) (source : List ℕ) where
       record {
         skipped = w.skipped + continued b;
         tallied = subst (TalliedAt (m + 1)) (sym (some_words (w.skipped + continued b) (m + 1) (omega arith))) next;
-        ascii = λ low. omega (
-          arith,
-          w.ascii (λ i below. low i (omega (arith, below))),
-          ascii_begins b (low m (omega arith)),
-        );
+        counted = omega (arith, w.counted, continued_more source m inside);
       }
   after_words n (gap m before some fits space word) =
       let w = after_words m before in
@@ -116,34 +167,57 @@ module _ (a : List ℕ → ℕ → Type 0) (t : Bool) (source : List ℕ) where
       record {
         skipped = s;
         tallied = subst (λ x. x) (λ i. TalliedAt (place i) (sym (some_words s (m + 2) (omega arith)) i)) next;
-        ascii = λ low. omega (
+        counted = omega (
           arith,
-          w.ascii (λ i below. low i (omega (arith, below))),
-          ascii_begins b (low (m + 1) (omega arith)),
+          w.counted,
+          continued_more source m (omega (arith, fits)),
+          ap continued space,
+          continued_more source (m + 1) (omega (arith, fits)),
+          ap (λ k. sum_by continued (take k source)) place,
+        );
+      }
+  after_words n (escape m before fits slash stays) =
+      let w = after_words m before in
+      let c = get_or source (m + 1) 0 in
+      let s = (w.skipped + continued 92) + continued c in
+      let parts : drop m source ≡ 92 ∷ c ∷ drop (m + 1 + 1) source =
+      drop_more source m 0 (omega (arith, fits)) ∙ ap (λ b. b ∷ drop (m + 1) source) slash
+      ∙ ap (λ z. 92 ∷ z) (drop_more source (m + 1) 0 (omega (arith, fits))) in
+      let past = past_escape t (words_tally w.skipped m) c (drop (m + 1 + 1) source) stays in
+      let place : m + backslash_len (drop m source) ≡ m + 2 = ap (λ k. m + k) (ap backslash_len parts ∙ past.0) in
+      let tally = ap (tally_past_backslash t (words_tally w.skipped m)) parts ∙ past.1 in
+      let next : TalliedAt (m + 2) (word_tally s) = subst (λ x. x) (λ i. TalliedAt (place i) (tally i))
+      (past_slash a t source m (words_tally w.skipped m) 92 w.tallied (omega (arith, fits)) slash refl) in
+      let end : m + 1 + 1 ≡ m + 2 = omega arith in
+      record {
+        skipped = s;
+        tallied = subst (TalliedAt (m + 2)) (sym (some_words s (m + 2) (omega arith))) next;
+        counted = omega (
+          arith,
+          w.counted,
+          continued_more source m (omega (arith, fits)),
+          ap continued slash,
+          continued_more source (m + 1) (omega (arith, fits)),
+          ap (λ k. sum_by continued (take k source)) end,
         );
       }
 
-  -- after words of ASCII
-  pub tallied_after_ascii : (n : ℕ) → AreWords source n → IsAscii (take n source) → TalliedAt n (tally_after_words n)
-  tallied_after_ascii n words ascii =
-      let w = after_words n words in
-      let none : w.skipped ≡ 0 =
-      w.ascii (λ i below. subst (λ c. c < 128) (get_or-take n source i 0 below) (ascii i)) in
-      subst (λ s. TalliedAt n (words_tally s n)) none w.tallied
+  -- after words of which those bytes are counted that begin no character
+  pub tallied_after_words : (n skipped : ℕ) → AreWords t source n → skipped ≡ sum_by continued (take n source)
+      → TalliedAt n (tally_after_words n skipped)
+  tallied_after_words n skipped words counted =
+      (let w = after_words n words in
+      subst (λ s. TalliedAt n (words_tally s n)) (w.counted ∙ sym counted) w.tallied)
 
   -- words before a closing bracket are a label that stands in the source as it is
-  pub measured_words : (n : ℕ) → AreWords source n → 0 < n → n ≤ 999
+  pub measured_words : (n : ℕ) → AreWords t source n → 0 < n → n ≤ 999
       → begins_with (λ b. b == right_bracket) (drop n source) ≡ true
       → IsMeasure a source t (record { close = n; length = n; is_plain = true })
   measured_words n words some few closes =
       let w = after_words n words in
       let here : TalliedAt n (word_tally w.skipped) = subst (TalliedAt n) (some_words w.skipped n some) w.tallied in
-      let bracket : IsBracket false (drop n source) right_bracket = (refl, closed (drop n source) closes) in
+      let bracket : IsBracket false (drop n source) right_bracket =
+      (refl, bracket_first right_bracket (drop n source) closes) in
       subst (λ m. IsMeasure a source t (record { close = n; length = m; is_plain = true })) (omega arith)
       (measured_by a source t false here.seen n here.facts here.at bracket here.told (word_tally w.skipped) here.tells
       here.within refl (omega (arith, few)))
-    where
-      closed : (rest : List ℕ) → begins_with (λ b. b == right_bracket) rest ≡ true
-          → (others : List ℕ) × (rest ≡ right_bracket ∷ others)
-      closed [] ends = cc
-      closed (b ∷ bs) is = (bs, ap (λ c. c ∷ bs) (eqb-true b right_bracket is))

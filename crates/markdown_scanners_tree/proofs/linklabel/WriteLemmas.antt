@@ -1,12 +1,11 @@
 -- What the second pass over a label has written after each step, and all of it at the closing
 -- bracket.
 use Rattle.std.proofs.Common.{ℕ, suc, Bool, true, false, ◌==◌, List, [], ◌∷◌, ◌++◌, ◌≡◌, ◌≤◌, ◌<◌, ◌+◌, ◌-◌, Some, None, Result, Ok, Err, is_ok, OnOk}
-use Rattle.std.proofs.Common.{refl, sym, ◌∙◌, ap, subst, cond, arith, append_assoc, append-nil, drop, take, get_or, length, length-drop, eqb-true}
+use Rattle.std.proofs.Common.{sym, ◌∙◌, ap, subst, cond, arith, append_assoc, drop, take, get_or, length, length-drop, eqb-true}
 use Rattle.std.proofs.Math.Seq.{take-suc}
 use Rattle.std.proofs.lemmas.Bool.{and_parts}
 use Rattle.std.proofs.lemmas.List.{get_or-drop}
 use Rattle.std.specs.Str.{IsUtf8, IsCharBoundary}
-use Rattle.markdown_scanners_tree.specs.Ascii.{space}
 use Rattle.markdown_scanners_tree.specs.Kept.{KeptByte, in_line, kept_line}
 use Rattle.markdown_scanners_tree.specs.linklabel.Label.{Label, IsLabel, Bracketed, label_between, is_label_content, in_cell, joined_words, is_plain}
 use Rattle.markdown_scanners_tree.specs.linklabel.private.NextPart.{IsBracket, IsEnding, IsSpace, IsWord}
@@ -60,16 +59,6 @@ pub word_written : (old pushed out new slice slice' more : List ℕ) → old ++ 
 word_written old pushed out new slice slice' more e f =
     sym (append_assoc old pushed more) ∙ ap (λ z. z ++ more) e ∙ sym f
 
--- the text is flushed where white space was read, so a space may follow
-pub space_after : (out new slice : List ℕ) (due : Bool) → new ≡ out ++ cond due (space ∷ []) []
-    → (due ≡ true → slice ≡ []) → new ++ slice ≡ (out ++ slice) ++ cond due (space ∷ []) []
-space_after out new slice due e f = ap (λ z. z ++ slice) e ∙ by due f
-  where
-    by : (v : Bool) → (v ≡ true → slice ≡ [])
-        → (out ++ cond v (32 ∷ []) []) ++ slice ≡ (out ++ slice) ++ cond v (32 ∷ []) []
-    by true f = rw (f refl) (append-nil (out ++ 32 ∷ []) ∙ sym (ap (λ z. z ++ 32 ∷ []) (append-nil out)))
-    by false f = ap (λ z. z ++ slice) (append-nil out) ∙ sym (append-nil (out ++ slice))
-
 pub appended : {E : Type 0} (old out slice new pushed text : List ℕ) (r : Result (Unit {0}) E)
     → old ++ pushed ≡ out ++ slice → new ≡ cond (is_ok r) (out ++ slice) out → text ≡ pushed
     → OnOk r (new ≡ old ++ text)
@@ -108,8 +97,3 @@ module _ (t : Bool) (seen : List KeptByte) (ix : ℕ) (rest rest' : List ℕ) (w
       subst (λ x. x) (λ i. Written t (seen ++ in_line b ix ∷ []) (ix + 1) (sym e i) true false
       (pushed ++ (space_of w r ++ cond (starts_dropped t (sym h.parts i)) [] (b ∷ []))))
       (Written-word t seen ix b h.others w r pushed h.not_white (subst (λ z. Written t seen ix z w r pushed) h.parts s))
-
--- all is flushed
-pub flushed_out : (text out slice new : List ℕ) (jx : ℕ) → new ≡ out ++ slice
-    → out ++ slice ≡ new ++ take (jx - jx) (drop jx text)
-flushed_out text out slice new jx e = sym e ∙ sym (append-nil new) ∙ ap (λ z. new ++ z) (sym (no_slice text jx jx refl))

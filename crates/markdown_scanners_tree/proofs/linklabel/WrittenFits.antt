@@ -1,6 +1,5 @@
--- What was written of a label is no longer than the label, so room for the label is room for each
--- part.
-use Rattle.std.proofs.Common.{ℕ, Bool, true, false, ◌&&◌, ◌==◌, List, [], ◌∷◌, ◌++◌, ◌≡◌, ◌≤◌, ◌<◌, ◌+◌, Option, Some, None}
+-- What was written of a label is no longer than the label.
+use Rattle.std.proofs.Common.{ℕ, Bool, true, false, ◌&&◌, ◌==◌, List, [], ◌∷◌, ◌++◌, ◌≡◌, ◌≤◌, ◌+◌, Option, Some, None}
 use Rattle.std.proofs.Common.{refl, sym, ◌∙◌, ap, cond, arith, drop, length, length-append, true≢false, eqb-true}
 use Rattle.markdown_scanners_tree.specs.Bytes.{is_line_ending, is_punctuation}
 use Rattle.markdown_scanners_tree.specs.Kept.{KeptByte, in_line, kept_head, line_len, kept_from, AreSkips}
@@ -88,8 +87,3 @@ pushed_fits a source t e seen ix rest w r pushed here s label l =
         text_of_label t (record { content = seen ++ b.content; close = b.close }) label g
         ∙ joined_words-from (in_cell t (seen ++ b.content)) ∙ s.left b.content (f b refl) in
         omega (arith, ap length text ∙ length-append pushed (text_from w r (in_cell t b.content)))
-
--- room for the label is room for each part of it
-pub no_room : (len0 cap0 len cap pushed text part : ℕ) → len0 + text ≤ cap0 → cap0 ≤ cap → pushed ≤ text
-    → len + part ≤ len0 + pushed → cap < len + part → ⊥
-no_room len0 cap0 len cap pushed text part a b c d e = omega arith

@@ -1,7 +1,7 @@
 //! The first pass over a label, which finds its end, and what memory it wants.
-ghost use Rattle.std.specs.Prelude.{◌≡◌, ◌≤◌, ◌<◌, ◌+◌, ◌-◌, ◌==◌, true, false, length, take, drop};
-ghost use Rattle.std.specs.Prelude.{IfSome, IfNone, IsTrue, IsAscii};
-ghost use Rattle.markdown_scanners_tree.specs.Ascii.{right_bracket};
+ghost use Rattle.std.specs.Prelude.{◌≡◌, ◌≤◌, ◌<◌, ◌+◌, ◌-◌, ◌==◌, true, false, length, drop};
+ghost use Rattle.std.specs.Prelude.{IfSome, IfNone, IsTrue};
+ghost use Rattle.markdown_scanners_tree.specs.Ascii.{left_bracket, right_bracket};
 ghost use Rattle.markdown_scanners_tree.specs.Bytes.{begins_with, is_line_ending, is_punctuation};
 ghost use Rattle.markdown_scanners_tree.specs.Handler.{Skips, IsCallableAfterLineEndings};
 ghost use Rattle.markdown_scanners_tree.specs.Kept.{line_len};
@@ -12,7 +12,7 @@ ghost use Rattle.markdown_scanners_tree.specs.linklabel.private.Words.{AreWords}
 
 use crate::linklabel::MOST_CHARACTERS;
 use crate::linklabel::steps::{is_dropped, skip_at};
-use crate::linklabel::tally::Tally;
+use crate::linklabel::tally::{Tally, continued_count};
 use crate::linklabel::word::is_ordinary;
 use crate::linklabel::words::leading_words;
 use crate::scanners::is_ascii_punctuation;
@@ -38,7 +38,10 @@ pub(crate) fn measure_label<F: Fn(&[u8]) -> Option<usize>>(
     ensures found { IfSome result (IsMeasure (Skips F.Fn handler.now) bytes.now is_in_table) }
     ensures none { IfNone result (HasNoLabel (Skips F.Fn handler.now) bytes.now is_in_table) }
 {
-    let words = leading_words(bytes);
+    if is_opened(bytes) {
+        return None;
+    }
+    let words = leading_words(bytes, is_in_table);
     if words > 0 && words <= MOST_CHARACTERS && is_closed(&bytes[words..]) {
         return Some(Measure {
             close: words,
@@ -46,7 +49,14 @@ pub(crate) fn measure_label<F: Fn(&[u8]) -> Option<usize>>(
             is_plain: true,
         });
     }
-    measure_from(bytes, ascii_len(bytes, words), handler, is_in_table)
+    measure_from(bytes, words, handler, is_in_table)
+}
+
+// Whether an opening bracket stands there.
+fn is_opened(rest: &[u8]) -> bool
+    ensures { result ≡ begins_with (λ b. b == left_bracket) rest.now }
+{
+    matches!(rest, [b'[', ..])
 }
 
 // Whether a closing bracket stands there.
@@ -56,24 +66,9 @@ fn is_closed(rest: &[u8]) -> bool
     matches!(rest, [b']', ..])
 }
 
-// As many bytes where they are ASCII, else none.
-fn ascii_len(bytes: &[u8], words: usize) -> usize
-    requires within { words ≤ length bytes.now }
-    requires words { AreWords bytes.now words }
-    ensures within { result ≤ length bytes.now }
-    ensures words { AreWords bytes.now result }
-    ensures ascii { IsAscii (take result bytes.now) }
-{
-    if words > 0 && bytes[..words].is_ascii() {
-        words
-    } else {
-        0
-    }
-}
-
-// The first pass after words of ASCII, with one space between, that were read.
-// Each byte is matched by itself: told in parts, as the second pass has them, it would take about
-// twice as long.
+// The first pass after words with one space between, that were read.
+// Each byte is matched by itself: in parts, as the second pass has them, it would take about twice as
+// long.
 fn measure_from<F: Fn(&[u8]) -> Option<usize>>(
     bytes: &[u8],
     words: usize,
@@ -83,13 +78,12 @@ fn measure_from<F: Fn(&[u8]) -> Option<usize>>(
     requires callable { IsCallableAfterLineEndings F.Fn handler.now bytes.now }
     requires steady { IsSteadyAfterLines F.Fn handler.now bytes.now }
     requires within { words ≤ length bytes.now }
-    requires words { AreWords bytes.now words }
-    requires ascii { IsAscii (take words bytes.now) }
+    requires words { AreWords is_in_table bytes.now words }
     ensures found { IfSome result (IsMeasure (Skips F.Fn handler.now) bytes.now is_in_table) }
     ensures none { IfNone result (HasNoLabel (Skips F.Fn handler.now) bytes.now is_in_table) }
 {
     let mut ix = words;
-    let mut tally = Tally::after_words(words);
+    let mut tally = Tally::after_words(words, continued_count(&bytes[..words]));
     while ix < bytes.len() && tally.characters(ix) <= MOST_CHARACTERS {
         let byte = bytes[ix];
         if is_ordinary(byte) {

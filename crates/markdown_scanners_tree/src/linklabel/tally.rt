@@ -1,5 +1,7 @@
 //! What the first pass over a label keeps of the bytes that it has read.
 ghost use Rattle.std.specs.Prelude.{◌≡◌, ◌≤◌, ◌+◌, ◌-◌, ◌&&◌, not};
+ghost use Rattle.std.specs.List.{sum_by};
+ghost use Rattle.markdown_scanners_tree.specs.Bytes.{is_between};
 ghost use Rattle.markdown_scanners_tree.specs.linklabel.private.Pass.{continued, due_len, gap_len, tally_after_words, tally_past_ending, tally_past_space, tally_past_word};
 
 // What is known of the bytes of a label that were read: how many of them begin none of its
@@ -18,12 +20,12 @@ pub(crate) struct Tally {
 }
 
 impl Tally {
-    // After so many bytes that are words of ASCII, with one space between.
-    pub(crate) fn after_words(count: usize) -> Tally
-        ensures { result ≡ tally_after_words count }
+    // After so many bytes that are words with one space between, of which these begin no character.
+    pub(crate) fn after_words(count: usize, continued: usize) -> Tally
+        ensures { result ≡ tally_after_words count continued }
     {
         Tally {
-            skipped: 0,
+            skipped: continued,
             left_out: 0,
             has_word: count > 0,
             in_run: false,
@@ -114,5 +116,23 @@ impl Tally {
 fn continued(byte: u8) -> usize
     ensures { result ≡ continued byte }
 {
-    if byte < 128 || byte > 191 { 0 } else { 1 }
+    if begins(byte) { 0 } else { 1 }
+}
+
+// How many of the bytes begin no character.
+pub(crate) fn continued_count(bytes: &[u8]) -> usize
+    ensures { result ≡ sum_by continued bytes.now }
+{
+    if bytes.is_ascii() {
+        0
+    } else {
+        bytes.iter().filter(|byte| !begins(**byte)).count()
+    }
+}
+
+// Whether a character begins at the byte.
+fn begins(byte: u8) -> bool
+    ensures { result ≡ not (is_between 128 191 byte) }
+{
+    byte < 128 || byte > 191
 }

@@ -1,21 +1,22 @@
-//! Words with one space between at the front of a label. Most labels are such, and are told by one
-//! look at each of their bytes.
+//! Words with one space between at the front of a label, and escapes in them. Most labels are such,
+//! and are found by one look at each of their bytes.
 ghost use Rattle.std.specs.Prelude.{◌≡◌, ◌≤◌, length};
-ghost use Rattle.markdown_scanners_tree.specs.linklabel.private.Words.{AreWords, joins_words};
+ghost use Rattle.markdown_scanners_tree.specs.linklabel.private.Words.{AreWords, is_kept_escape, joins_words};
 
 use crate::linklabel::MOST_CHARACTERS;
 use crate::linklabel::word::is_ordinary;
+use crate::scanners::is_ascii_punctuation;
 
 // How many bytes the words at the front take, with one space between: of so many as a label may have
 // and one.
 #[inline(always)]
-pub(crate) fn leading_words(bytes: &[u8]) -> usize
-    ensures words { AreWords bytes.now result }
+pub(crate) fn leading_words(bytes: &[u8], is_in_table: bool) -> usize
+    ensures words { AreWords is_in_table bytes.now result }
     ensures within { result ≤ length bytes.now }
 {
     match bytes {
-        [first, ..] if is_ordinary(*first) => {
-            words_len(&bytes[..bytes.len().min(MOST_CHARACTERS + 1)])
+        [first, ..] if is_ordinary(*first) || *first == b'\\' => {
+            words_len(&bytes[..bytes.len().min(MOST_CHARACTERS + 1)], is_in_table)
         }
         _ => 0,
     }
@@ -23,8 +24,8 @@ pub(crate) fn leading_words(bytes: &[u8]) -> usize
 
 // How many bytes words with one space between them take at the front.
 #[inline(always)]
-fn words_len(bytes: &[u8]) -> usize
-    ensures words { AreWords bytes.now result }
+fn words_len(bytes: &[u8], is_in_table: bool) -> usize
+    ensures words { AreWords is_in_table bytes.now result }
     ensures within { result ≤ length bytes.now }
 {
     let mut place = 0;
@@ -32,6 +33,8 @@ fn words_len(bytes: &[u8]) -> usize
         if is_ordinary(bytes[place]) {
             place += 1;
         } else if place > 0 && joins_words(&bytes[place..]) {
+            place += 2;
+        } else if is_kept_escape(&bytes[place..], is_in_table) {
             place += 2;
         } else {
             return place;
@@ -46,6 +49,18 @@ fn joins_words(rest: &[u8]) -> bool
 {
     match rest {
         [b' ', next, ..] => is_ordinary(*next),
+        _ => false,
+    }
+}
+
+// Whether a backslash stands there with a byte that it escapes, and no cell of a table drops either:
+// for that the byte is no pipe there, and no backslash, which a pipe may follow.
+fn is_kept_escape(rest: &[u8], is_in_table: bool) -> bool
+    ensures { result ≡ is_kept_escape is_in_table rest.now }
+{
+    match rest {
+        [b'\\', b'\\' | b'|', ..] if is_in_table => false,
+        [b'\\', next, ..] => is_ascii_punctuation(*next),
         _ => false,
     }
 }

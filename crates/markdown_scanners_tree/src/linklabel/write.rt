@@ -1,17 +1,17 @@
 //! The second pass over a label, which writes its text.
-ghost use Rattle.std.specs.Prelude.{◌≡◌, ◌≤◌, ◌<◌, ◌+◌, ◌-◌, ◌++◌, true, length, take};
+ghost use Rattle.std.specs.Prelude.{◌≡◌, ◌≤◌, ◌<◌, ◌+◌, ◌-◌, ◌++◌, ◌∷◌, [], length, slice_range, take};
 ghost use Rattle.std.specs.Prelude.{IfOk, OnOk, IsOk, string_bytes, IsCharBoundary};
 ghost use Rattle.std.specs.String.{string_len, string_capacity};
+ghost use Rattle.markdown_scanners_tree.specs.Ascii.{space};
 ghost use Rattle.markdown_scanners_tree.specs.Handler.{Skips, IsCallableAfterLineEndings};
 ghost use Rattle.markdown_scanners_tree.specs.linklabel.Label.{Label, IsLabel};
 ghost use Rattle.markdown_scanners_tree.specs.linklabel.private.NextPart.{IsNextPart};
-ghost use Rattle.markdown_scanners_tree.specs.linklabel.private.Pass.{due_len, HasLabelWithin, IsWordWritten};
+ghost use Rattle.markdown_scanners_tree.specs.linklabel.private.Pass.{due_after, due_len, due_text, HasLabelWithin, IsWordWritten};
 ghost use Rattle.markdown_scanners_tree.specs.linklabel.private.Steady.{IsSteadyAfterLines, EndsAtChars};
 
 use crate::linklabel::steps::{is_dropped, skip_at};
 use crate::linklabel::word::{is_ordinary, word_run};
-use crate::scanners::is_ascii_punctuation;
-use crate::texts::push_part;
+use crate::scanners::{is_ascii_punctuation, scan_whitespace_no_nl};
 use std::alloc::AllocError;
 
 // What stands next in a label; of a word's byte also whether it escapes the next one.
@@ -47,7 +47,8 @@ fn next_part(rest: &[u8], escaped: bool) -> NextPart
 }
 
 // The second pass: appends the label's text. Where there is room for it no memory is taken. The label
-// stands in the text, which is the front of the bytes; the handler is asked of the bytes.
+// stands in the text, which is the front of the bytes; the handler is asked of the bytes. What stands
+// from `mark` up to `end`, where the last word ends, is still to be appended.
 pub(crate) fn write_label<F: Fn(&[u8]) -> Option<usize>>(
     out: &mut String,
     text: &str,
@@ -67,68 +68,118 @@ pub(crate) fn write_label<F: Fn(&[u8]) -> Option<usize>>(
         → IsLabel (Skips F.Fn handler.now) bytes.now is_in_table label
         → string_len out.old + length label.text ≤ string_capacity out.old → IsOk result }
 {
-    let (mut ix, mut mark) = (0, 0);
+    let (mut ix, mut mark, mut end) = (0, 0, 0);
     let mut escaped = false;
-    let (mut has_word, mut in_run) = (false, false);
     loop {
         match next_part(&bytes[ix..], escaped) {
             NextPart::End | NextPart::Open | NextPart::Close => {
-                return out.push_str(&text[mark..ix]);
+                return out.push_str(&text[mark..end]);
             }
             NextPart::Ending(len) => {
                 let Some(skip) = skip_at(bytes, ix + len, handler) else {
                     return Ok(());
                 };
-                out.push_str(&text[mark..ix])?;
                 ix += len + skip;
-                mark = ix;
-                in_run = true;
             }
-            NextPart::Space(_) => {
-                push_part(out, &text[mark..ix])?;
-                ix += 1;
-                mark = ix;
-                in_run = true;
-            }
+            NextPart::Space(_) => ix += 1,
             NextPart::Word(_, escapes) => {
-                mark = write_word(out, text, mark, ix, has_word && in_run, is_in_table)?;
+                mark = write_word(out, text, mark, end, ix, is_in_table)?;
                 let run = word_run(&bytes[ix + 1..], escapes, is_in_table);
-                has_word = true;
-                in_run = false;
                 escaped = run.escapes;
-                ix += 1 + run.len;
+                end = ix + 1 + run.len;
+                ix = end + scan_whitespace_no_nl(&bytes[end..]);
             }
         }
     }
 }
 
-// At a byte of a word: appends the space that is due before it, and where the byte is a backslash
-// that a cell of a table drops, the text from `mark` up to it. Answers from where on the text is
-// still to be appended.
+// At a byte of a word, where the text from `mark` up to `end` is still to be appended: appends it and
+// a space where white space stands before the byte, and where the byte is a backslash that a cell of a
+// table drops, the text up to it. Answers from where on the text is still to be appended. It is inlined,
+// or there would be a call for each word.
+#[inline(always)]
 fn write_word(
     out: &mut String,
     text: &str,
     mark: usize,
+    end: usize,
     place: usize,
-    is_space_due: bool,
     is_in_table: bool,
 ) -> Result<usize, AllocError>
-    requires ordered { mark ≤ place }
+    requires ordered { mark ≤ end }
+    requires behind { end ≤ place }
     requires within { place < length text.now }
     requires start { IsCharBoundary text.now mark }
-    requires none_before { is_space_due ≡ true → mark ≡ place }
-    ensures written { IfOk result (λ next. IsWordWritten is_in_table is_space_due text.now
-        mark place out.old out.new next) }
+    requires ends { end < place → IsCharBoundary text.now end }
+    requires begins { end < place → IsCharBoundary text.now place }
+    ensures written { IfOk result (λ next. IsWordWritten is_in_table text.now
+        mark end place out.old out.new next) }
     ensures capacity { string_capacity out.old ≤ string_capacity out.new }
-    ensures succeeds { string_len out.old + due_len is_space_due + (place - mark)
+    ensures succeeds { string_len out.old + due_len (due_after end place) + (end - mark)
         ≤ string_capacity out.old → IsOk result }
 {
-    if is_space_due {
-        out.push_str(" ")?;
-    }
+    let mark = write_gap(out, text, mark, end, place)?;
     if !is_dropped(&text.as_bytes()[place..], is_in_table) {
         return Ok(mark);
     }
     out.push_str(&text[mark..place])?;
     Ok(place + 1)
+}
+
+// Where white space stands before a word, appends the text from `mark` up to `end`, where it begins,
+// and a space if there is a word before. Answers from where on the text is still to be appended.
+#[inline(always)]
+fn write_gap(
+    out: &mut String,
+    text: &str,
+    mark: usize,
+    end: usize,
+    place: usize,
+) -> Result<usize, AllocError>
+    requires ordered { mark ≤ end }
+    requires behind { end ≤ place }
+    requires within { place < length text.now }
+    requires start { IsCharBoundary text.now mark }
+    requires ends { end < place → IsCharBoundary text.now end }
+    requires begins { end < place → IsCharBoundary text.now place }
+    ensures order { IfOk result (λ next. next ≤ place) }
+    ensures start { IfOk result (λ next. IsCharBoundary text.now next) }
+    ensures bytes { IfOk result (λ next. string_bytes out.new ++ slice_range text.now next place
+        ≡ (string_bytes out.old ++ slice_range text.now mark end)
+        ++ due_text (due_after end place)) }
+    ensures len { IfOk result (λ next. string_len out.new + (place - next)
+        ≡ string_len out.old + (end - mark) + due_len (due_after end place)) }
+    ensures capacity { string_capacity out.old ≤ string_capacity out.new }
+    ensures succeeds { string_len out.old + due_len (due_after end place) + (end - mark)
+        ≤ string_capacity out.old → IsOk result }
+{
+    if end == place {
+        return Ok(mark);
+    }
+    if end == 0 {
+        return Ok(place);
+    }
+    push_with_space(out, text, mark, end)?;
+    Ok(place)
+}
+
+// Appends the text from `mark` up to `end`, and a space: in one part where a space stands there.
+#[inline(always)]
+fn push_with_space(out: &mut String, text: &str, mark: usize, end: usize) -> Result<(), AllocError>
+    requires ordered { mark ≤ end }
+    requires within { end < length text.now }
+    requires start { IsCharBoundary text.now mark }
+    requires ends { IsCharBoundary text.now end }
+    ensures bytes { IfOk result (λ _. string_bytes out.new
+        ≡ (string_bytes out.old ++ slice_range text.now mark end) ++ (space ∷ [])) }
+    ensures len { IfOk result (λ _. string_len out.new ≡ string_len out.old + (end - mark) + 1) }
+    ensures capacity { string_capacity out.old ≤ string_capacity out.new }
+    ensures succeeds { string_len out.old + (end - mark) + 1 ≤ string_capacity out.old
+        → IsOk result }
+{
+    if text.as_bytes()[end] == b' ' {
+        return out.push_str(&text[mark..end + 1]);
+    }
+    out.push_str(&text[mark..end])?;
+    out.push_str(" ")
 }

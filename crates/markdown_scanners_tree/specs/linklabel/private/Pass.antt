@@ -21,6 +21,14 @@ continued byte = if is_between 128 191 byte then 1 else 0
 abbrev pub due_len : Bool → ℕ
 due_len is_due = if is_due then 1 else 0
 
+-- a word ends, and a word begins behind it, with white space between
+abbrev pub due_after : ℕ → ℕ → Bool
+due_after end place = nat_lt 0 end && nat_lt end place
+
+-- the space that is due, if one is
+abbrev pub due_text : Bool → List ℕ
+due_text is_due = if is_due then space ∷ [] else []
+
 -- how many the space between a word that was read and the next one takes
 abbrev pub space_len : Bool → Bool → ℕ
 space_len has_word in_run = due_len (has_word && in_run)
@@ -35,10 +43,10 @@ starts_dropped is_in_table [] = false
 starts_dropped is_in_table (b ∷ bs) =
     is_in_table && (b == backslash && begins_with (λ c. c == vertical_line) bs)
 
--- after so many bytes that are words of ASCII, with one space between
-abbrev pub tally_after_words : ℕ → Tally
-tally_after_words count = record {
-  skipped = 0;
+-- after so many bytes that are words with one space between, of which these begin no character
+abbrev pub tally_after_words : ℕ → ℕ → Tally
+tally_after_words count continued = record {
+  skipped = continued;
   left_out = 0;
   has_word = nat_lt 0 count;
   in_run = false;
@@ -108,16 +116,17 @@ pub record HasLabelWithin (answers : List ℕ → ℕ → Type 0) (source : List
 -- what a byte of a word adds to a text: the space that is due before it, and itself, or nothing for
 -- a backslash that a cell drops
 abbrev pub word_text : Bool → Bool → ℕ → List ℕ
-word_text is_due drops byte = (if is_due then space ∷ [] else []) ++ (if drops then [] else byte ∷ [])
+word_text is_due drops byte = due_text is_due ++ (if drops then [] else byte ∷ [])
 
 -- A byte of a word was written: what is appended then, and the text from `next` up to behind the
--- byte, are what was appended before, the text from `mark` up to the byte, and what the byte adds.
-pub record IsWordWritten {Z : Type 0} (is_in_table is_due : Bool) (text : List ℕ) (mark place : ℕ) (old new : String Z)
+-- byte, are what was appended before, the text from `mark` up to `end`, where the last word ends, and
+-- what the byte adds.
+pub record IsWordWritten {Z : Type 0} (is_in_table : Bool) (text : List ℕ) (mark end place : ℕ) (old new : String Z)
     (next : ℕ) : Type 0 where
   pub within : next ≤ place + 1
   pub start : IsCharBoundary text next
   pub text_is : string_bytes new ++ slice_range text next (place + 1)
-      ≡ (string_bytes old ++ slice_range text mark place)
-      ++ word_text is_due (starts_dropped is_in_table (drop place text)) (slice_index text place)
-  pub len_is : string_len new + (place + 1 - next) ≡ string_len old + (place - mark)
-      + length (word_text is_due (starts_dropped is_in_table (drop place text)) (slice_index text place))
+      ≡ (string_bytes old ++ slice_range text mark end)
+      ++ word_text (due_after end place) (starts_dropped is_in_table (drop place text)) (slice_index text place)
+  pub len_is : string_len new + (place + 1 - next) ≡ string_len old + (end - mark)
+      + length (word_text (due_after end place) (starts_dropped is_in_table (drop place text)) (slice_index text place))

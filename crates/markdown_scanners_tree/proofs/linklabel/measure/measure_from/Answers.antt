@@ -1,5 +1,6 @@
 -- The first pass over a label.
-use Rattle.std.proofs.Common.{ℕ, ◌≡◌, ◌+◌, Some, None, true, false, refl, sym, ◌∙◌, ap, subst, drop, get_or, length, arith, nat_le, ◌&&◌, IfSome, IfNone, Option}
+use Rattle.std.proofs.Common.{ℕ, ◌≡◌, ◌+◌, Some, None, true, false, refl, sym, ◌∙◌, ap, subst, drop, get_or, length, arith, nat_le, ◌&&◌, IfSome}
+use Rattle.std.proofs.Common.{IfNone, Option}
 use Rattle.std.proofs.lemmas.Bool.Decides.{nat_tests}
 use Rattle.std.proofs.lemmas.List.{drop-drop, drop_all}
 use Rattle.std.proofs.lemmas.Grind.{common_steps}
@@ -10,12 +11,14 @@ use Rattle.markdown_scanners_tree.specs.linklabel.private.NextPart.{IsBracket, I
 use Rattle.markdown_scanners_tree.specs.linklabel.private.Pass.{IsMeasure, backslash_len, tally_past_backslash}
 use Rattle.markdown_scanners_tree.specs.linklabel.private.Run.{is_ordinary}
 use Rattle.markdown_scanners_tree.proofs.HandlerLemmas.{after_label_line}
-use Rattle.markdown_scanners_tree.proofs.linklabel.MeasureLemmas.{IsTallied, measured_by, not_measured, starts, past_ordinary, past_slash, past_white, past_line, ending_here}
+use Rattle.markdown_scanners_tree.proofs.linklabel.MeasureLemmas.{IsTallied, measured_by, not_measured, starts, past_ordinary, past_slash, past_white}
+use Rattle.markdown_scanners_tree.proofs.linklabel.MeasureLemmas.{past_line, ending_here}
 use Rattle.markdown_scanners_tree.proofs.linklabel.SourceSteps.{IsOnlySkip, none_at_end, none_at_opening, none_at_ending}
 use Rattle.markdown_scanners_tree.proofs.linklabel.SourceSteps.{none_at_second_ending, none_at_late_ending, none_so_late, rest_is, ending_fits}
-use Rattle.markdown_scanners_tree.proofs.linklabel.WordSteps.{tallied_after_ascii}
+use Rattle.markdown_scanners_tree.proofs.linklabel.WordSteps.{tallied_after_words}
 use Rattle.markdown_scanners_tree.proofs.linklabel.measure.measure_from.Goals as goal
-use Rattle.markdown_scanners_tree.proofs.linklabel.measure.measure_from.Goals.{then-ends_line-via-then-ends_line, then-ends_line-via-else-ends_line+then-characters-len-gt-MOST_CHARACTERS}
+use Rattle.markdown_scanners_tree.proofs.linklabel.measure.measure_from.Goals.{then-ends_line-via-then-ends_line}
+use Rattle.markdown_scanners_tree.proofs.linklabel.measure.measure_from.Goals.{then-ends_line-via-else-ends_line+then-characters-len-gt-MOST_CHARACTERS}
 
 if_none : {A : Type 0} (P : Type 0) (r : Option A) → P → IfNone r P
 if_none P None p = p
@@ -34,7 +37,8 @@ pub loop-ix-init : goal.loop-ix-init
 loop-ix-init g c =
     subst (IsTallied (Skips g.F.Fn c.args.handler.now) c.args.is_in_table c.args.bytes.now (length c.args.bytes.now) false
     c.args.words) (sym c.after_words-tally.ensures)
-    (tallied_after_ascii _ c.args.is_in_table c.args.bytes.now c.args.words c.requires.words c.requires.ascii)
+    (tallied_after_words _ c.args.is_in_table c.args.bytes.now c.args.words _ c.requires.words
+    c.continued_count.ensures)
 
 pub loop-ix-preserved-then-is_ordinary : goal.loop-ix-preserved-then-is_ordinary
 loop-ix-preserved-then-is_ordinary g c =

@@ -1,10 +1,15 @@
--- Words before a closing bracket are told at once.
-use Rattle.std.proofs.Common.{◌≡◌, ◌∙◌, ◌==◌, sym, ap, true, drop}
-use Rattle.markdown_scanners_tree.specs.Ascii.{right_bracket}
+-- A bracket at the front leaves no label; words before a closing bracket are one.
+use Rattle.std.proofs.Common.{◌≡◌, ◌∙◌, ◌==◌, refl, sym, ap, true, drop}
+use Rattle.markdown_scanners_tree.specs.Ascii.{left_bracket, right_bracket}
 use Rattle.markdown_scanners_tree.specs.Bytes.{begins_with}
-use Rattle.markdown_scanners_tree.proofs.linklabel.SourceSteps.{rest_is}
-use Rattle.markdown_scanners_tree.proofs.linklabel.WordSteps.{measured_words}
+use Rattle.markdown_scanners_tree.proofs.linklabel.SourceSteps.{at_start, none_at_opening, rest_is}
+use Rattle.markdown_scanners_tree.proofs.linklabel.WordSteps.{bracket_first, measured_words}
 use Rattle.markdown_scanners_tree.proofs.linklabel.measure.measure_label.Goals as goal
+
+pub returns-then-is_opened-clause-none : goal.returns-then-is_opened-clause-none
+returns-then-is_opened-clause-none g c =
+    none_at_opening _ _ _ _ _ _ (at_start _ _)
+    (refl, bracket_first left_bracket c.args.bytes.now (sym c.is_opened.ensures ∙ c.if-is_opened.true)) _
 
 pub returns-then-is_closed-clause-found : goal.returns-then-is_closed-clause-found
 returns-then-is_closed-clause-found g c =

@@ -1,37 +1,55 @@
 -- The second pass over a label.
-use Rattle.std.proofs.Common.{append_assoc, length-append, length-take-le, ◌≤◌, ◌<◌, ℕ, ◌≡◌, ◌+◌, ◌-◌, ◌∷◌, ◌++◌, ◌&&◌, [], refl, sym}
-use Rattle.std.proofs.Common.{◌∙◌, ap, subst, cond, drop, take, length, arith, inl, inr, is_ok, true, false, true≢false, get_or}
-use Rattle.std.proofs.lemmas.Bool.{false≢true}
+use Rattle.std.proofs.Common.{append_assoc, length-append, length-take-le, ◌≤◌, ◌<◌, ℕ, zero, suc, List, ◌≡◌, ◌+◌, ◌-◌, ◌∷◌, ◌++◌}
+use Rattle.std.proofs.Common.{[], refl, sym, ◌∙◌, ap, subst, cond, drop, take, length, arith, inl, inr, is_ok, true, false, get_or, nat_lt}
+use Rattle.std.proofs.lemmas.Bool.{cases_Bool, false≢true, lt-ltb, le-ltb, ltb-true, ltb-false}
 use Rattle.std.specs.Prelude.{slice_range}
-use Rattle.std.proofs.lemmas.List.{drop-drop, length-drop}
+use Rattle.std.proofs.lemmas.List.{drop-drop}
+use Rattle.std.proofs.lemmas.List.Sums.{prefix_len-le-length, prefix_len_passes}
 use Rattle.std.proofs.lemmas.Str.{IsCharBoundary-start}
 use Rattle.std.proofs.lemmas.Grind.{common_steps}
+use Rattle.std.specs.List.{prefix_len}
 use Rattle.std.specs.Str.{IsCharBoundary}
-use Rattle.std.specs.String.{string_bytes, string_len, string_capacity}
+use Rattle.std.specs.String.{string_bytes}
+use Rattle.markdown_scanners_tree.specs.Bytes.{is_white_space_in_line}
 use Rattle.markdown_scanners_tree.specs.Handler.{Skips}
 use Rattle.markdown_scanners_tree.specs.Kept.{in_line, kept_line}
 use Rattle.markdown_scanners_tree.specs.linklabel.private.NextPart.{IsNextPart}
-use Rattle.markdown_scanners_tree.specs.linklabel.private.Pass.{due_len, starts_dropped, word_text, IsWordWritten}
+use Rattle.markdown_scanners_tree.specs.linklabel.private.Pass.{due_after, starts_dropped, word_text, IsWordWritten}
 use Rattle.markdown_scanners_tree.specs.linklabel.private.Run.{IsRun}
 use Rattle.markdown_scanners_tree.specs.declared.linklabel.write.NextPart.TheVariants.{End, Open, Close, Ending, Space, Word}
-use Rattle.markdown_scanners_tree.proofs.linklabel.FrontLemmas.{front_byte, front_cut, front_dropped, front_ending, front_slice}
+use Rattle.markdown_scanners_tree.proofs.linklabel.FrontLemmas.{front_byte, front_cut, front_dropped, front_ending, front_fits, front_slice, white_cuts}
 use Rattle.markdown_scanners_tree.proofs.linklabel.LabelRoom.{before_end}
-use Rattle.markdown_scanners_tree.proofs.linklabel.WrittenFits.{pushed_fits, no_room}
-use Rattle.markdown_scanners_tree.proofs.linklabel.SourceSteps.{IsAt, IsOnlySkip, at_start, none_at_end, none_at_opening, none_at_ending, after_word, after_space, after_ending}
-use Rattle.markdown_scanners_tree.proofs.linklabel.SourceSteps.{next_part_at, byte_fits, byte_rest, cut_after, cut_after_ending, ending_fits, ending_white, white_small, byte_at, rest_is}
+use Rattle.markdown_scanners_tree.proofs.linklabel.WrittenFits.{pushed_fits}
+use Rattle.markdown_scanners_tree.proofs.linklabel.SourceSteps.{IsAt, IsOnlySkip, at_start, none_at_end, none_at_opening, none_at_ending, after_word}
+use Rattle.markdown_scanners_tree.proofs.linklabel.SourceSteps.{after_space, after_ending}
+use Rattle.markdown_scanners_tree.proofs.linklabel.SourceSteps.{next_part_at, byte_fits, byte_rest, cut_after, cut_after_ending, ending_fits}
+use Rattle.markdown_scanners_tree.proofs.linklabel.SourceSteps.{ending_white, white_small, byte_at, rest_is}
 use Rattle.markdown_scanners_tree.proofs.linklabel.SeenBytes.{Written, Written-none, word_text-length}
-use Rattle.markdown_scanners_tree.proofs.linklabel.WriteLemmas.{label_written, word_written, appended, ending_written, space_written, word_follows, flushed_out}
-use Rattle.markdown_scanners_tree.proofs.linklabel.WrittenRuns.{past_run, slice_run}
+use Rattle.markdown_scanners_tree.proofs.linklabel.WriteLemmas.{label_written, word_written, appended, ending_written, space_written, word_follows}
+use Rattle.markdown_scanners_tree.proofs.linklabel.WrittenRuns.{past_run, past_spaces, run_after, slice_run}
 use Rattle.markdown_scanners_tree.proofs.linklabel.write.write_label.Goals as goal
-use Rattle.markdown_scanners_tree.proofs.linklabel.write.write_label.Goals.{then-has_word, else-has_word}
+
+-- where white space begins the text may be cut, if it may be cut where the scan is
+end_cut : (text : List ℕ) (end ix : ℕ) → end ≤ ix
+    → (end < ix → IsCharBoundary text end × IsCharBoundary text ix) → IsCharBoundary text ix → IsCharBoundary text end
+end_cut text end ix behind gap here = elim (cases_Bool (nat_lt end ix)) [
+  | inl less ↦ (gap (ltb-true end ix less)).0
+  | inr not ↦ (let same : ix ≡ end = omega (arith, behind, ltb-false end ix not) in subst (IsCharBoundary text) same here)
+]
+
+-- white space behind a word is a run of it
+run_behind : (end n : ℕ) → run_after false n ≡ nat_lt end (end + n)
+run_behind end zero = sym (le-ltb end (end + zero) (omega arith))
+run_behind end (suc n) = sym (lt-ltb end (end + suc n) (omega arith))
 
 pub loop-out-init : goal.loop-out-init
 loop-out-init g c = record {
   within = omega arith;
   in_text = omega arith;
   after = omega arith;
+  behind = omega arith;
   cut = IsCharBoundary-start c.args.text.now c.utf8.text;
-  flushed = λ h. refl;
+  gap = λ less. absurd (omega (arith, less));
   seen = [];
   at = at_start _ _;
   pushed = [];
@@ -60,7 +78,7 @@ returns-in-End g c = record {
     ]
   ] in
       appended (string_bytes c.args.out.now) (string_bytes c.loop-out.out)
-      (take (c.loop-out.ix - c.loop-out.mark) (drop c.loop-out.mark c.args.text.now))
+      (take (c.loop-out.end - c.loop-out.mark) (drop c.loop-out.mark c.args.text.now))
       (string_bytes c.push_str.new.self) c.loop-out.invariant.pushed label.text c.push_str.result
       c.loop-out.invariant.same
       (c.push_str.ensures.bytes
@@ -87,6 +105,10 @@ returns-in_default g c =
 
 pub loop-out-preserved-in-Ending : goal.loop-out-preserved-in-Ending
 loop-out-preserved-in-Ending g c =
+    let text = c.args.text.now in
+    let bytes = c.args.bytes.now in
+    let ix = c.loop-out.ix in
+    let inv = c.loop-out.invariant in
     let o : IsNextPart c.loop-out.escaped (drop c.loop-out.ix c.args.bytes.now) (Ending c.in-Ending.len) =
     next_part_at c.args.bytes.now c.loop-out.ix _ _ _ c.next_part.ensures c.in-Ending.is in
     let jx = c.loop-out.ix + (c.in-Ending.len + c.in-Some.skip) in
@@ -107,31 +129,34 @@ loop-out-preserved-in-Ending g c =
     let line = cut_after_ending c.args.text.now c.loop-out.ix c.in-Ending.len c.utf8.text
     (front_ending c.args.text.now c.args.bytes.now c.requires.front c.loop-out.ix (omega (arith, inside, some)) c.in-Ending.len o) in
     let place : c.loop-out.ix + c.in-Ending.len + c.in-Some.skip ≡ jx = omega arith in
+    let here : IsCharBoundary text ix = front_cut text bytes c.requires.front ix o.byte o.others o.parts
+    (omega (arith, inside, some)) (white_small o.byte (ending_white o.byte o.ends)) in
+    let there : IsCharBoundary text jx = subst (IsCharBoundary text) place
+    (c.requires.cuts.at (ix + c.in-Ending.len) c.in-Some.skip line c.in-Some.ensures.found (omega (arith, inside))) in
+    let in_run : true ≡ nat_lt c.loop-out.end jx = sym (lt-ltb c.loop-out.end jx (omega (arith, inv.behind, some))) in
     record {
       within = omega (arith, c.in-Some.ensures.within);
       in_text = omega (arith, inside);
-      after = omega arith;
-      cut = subst (IsCharBoundary c.args.text.now) place
-          (c.requires.cuts.at (c.loop-out.ix + c.in-Ending.len) c.in-Some.skip line c.in-Some.ensures.found
-          (omega (arith, inside)));
-      flushed = λ h. refl;
-      seen = c.loop-out.invariant.seen ++ kept_line c.loop-out.ix (drop c.loop-out.ix c.args.bytes.now);
+      after = inv.after;
+      behind = omega (arith, inv.behind);
+      cut = inv.cut;
+      gap = λ less. (end_cut text c.loop-out.end ix inv.behind inv.gap here, there);
+      seen = inv.seen ++ kept_line ix (drop ix bytes);
       at = next;
-      pushed = c.loop-out.invariant.pushed;
-      written = ending_written _ _ _ jx _ _ _ _ _ _ o c.loop-out.invariant.written;
-      same = c.loop-out.invariant.same
-          ∙ flushed_out c.args.text.now (string_bytes c.loop-out.out)
-          (take (c.loop-out.ix - c.loop-out.mark) (drop c.loop-out.mark c.args.text.now))
-          (string_bytes c.push_str-in-Ending.new.self) jx
-          (c.in_ok-push_str-in-Ending.ensures.bytes
-          ∙ ap (λ z. string_bytes c.loop-out.out ++ z) c.range-in-Ending.ensures.value);
-      counts =
-          omega (arith, c.loop-out.invariant.counts, c.in_ok-push_str-in-Ending.ensures.len, c.range-in-Ending.ensures.len, c.loop-out.invariant.after);
-      room = omega (arith, c.loop-out.invariant.room, c.in_ok-push_str-in-Ending.ensures.capacity);
+      pushed = inv.pushed;
+      written = subst (λ v. Written c.args.is_in_table (inv.seen ++ kept_line ix (drop ix bytes)) jx (drop jx bytes)
+          (nat_lt 0 c.loop-out.end) v inv.pushed) in_run (ending_written _ _ _ jx _ _ _ _ _ _ o inv.written);
+      same = inv.same;
+      counts = inv.counts;
+      room = inv.room;
     }
 
 pub loop-out-preserved-in-Space : goal.loop-out-preserved-in-Space
 loop-out-preserved-in-Space g c =
+    let text = c.args.text.now in
+    let bytes = c.args.bytes.now in
+    let ix = c.loop-out.ix in
+    let inv = c.loop-out.invariant in
     let o : IsNextPart c.loop-out.escaped (drop c.loop-out.ix c.args.bytes.now) (Space c.in-Space.field-0) =
     next_part_at c.args.bytes.now c.loop-out.ix _ _ _ c.next_part.ensures c.in-Space.is in
     let next = byte_rest c.args.bytes.now c.loop-out.ix c.in-Space.field-0 o.others o.parts in
@@ -145,26 +170,29 @@ loop-out-preserved-in-Space g c =
     ) in
     let parts = front_byte c.args.text.now c.args.bytes.now c.requires.front c.loop-out.ix c.in-Space.field-0 o.others o.parts
     (omega (arith, inside)) in
+    let small = white_small c.in-Space.field-0 o.white in
+    let here : IsCharBoundary text ix = front_cut text bytes c.requires.front ix c.in-Space.field-0 o.others o.parts
+    (omega (arith, inside)) small in
+    let in_run : true ≡ nat_lt c.loop-out.end (ix + 1) = sym (lt-ltb c.loop-out.end (ix + 1) (omega (arith, inv.behind))) in
     record {
       within = omega (arith, fits);
       in_text = omega (arith, inside);
-      after = omega arith;
-      cut = cut_after c.args.text.now c.loop-out.ix c.in-Space.field-0 _ c.utf8.text parts
-          (white_small c.in-Space.field-0 o.white);
-      flushed = λ h. refl;
-      seen = c.loop-out.invariant.seen ++ in_line c.in-Space.field-0 c.loop-out.ix ∷ [];
+      after = inv.after;
+      behind = omega (arith, inv.behind);
+      cut = inv.cut;
+      gap = λ less. (
+        end_cut text c.loop-out.end ix inv.behind inv.gap here,
+        cut_after text ix c.in-Space.field-0 _ c.utf8.text parts small,
+      );
+      seen = inv.seen ++ in_line c.in-Space.field-0 ix ∷ [];
       at = at;
-      pushed = c.loop-out.invariant.pushed;
-      written = space_written _ _ _ _ _ _ _ _ _ o next c.loop-out.invariant.written;
-      same = c.loop-out.invariant.same
-          ∙ flushed_out c.args.text.now (string_bytes c.loop-out.out)
-          (take (c.loop-out.ix - c.loop-out.mark) (drop c.loop-out.mark c.args.text.now))
-          (string_bytes c.push_part.new.out) (c.loop-out.ix + 1)
-          (c.in_ok-push_part-in-Space.ensures.bytes
-          ∙ ap (λ z. string_bytes c.loop-out.out ++ z) c.range-in-Space.ensures.value);
-      counts =
-          omega (arith, c.loop-out.invariant.counts, c.in_ok-push_part-in-Space.ensures.len, c.range-in-Space.ensures.len, c.loop-out.invariant.after);
-      room = omega (arith, c.loop-out.invariant.room, c.in_ok-push_part-in-Space.ensures.capacity);
+      pushed = inv.pushed;
+      written = subst (λ v. Written c.args.is_in_table (inv.seen ++ in_line c.in-Space.field-0 ix ∷ []) (ix + 1)
+          (drop (ix + 1) bytes) (nat_lt 0 c.loop-out.end) v inv.pushed) in_run
+          (space_written _ _ _ _ _ _ _ _ _ o next inv.written);
+      same = inv.same;
+      counts = inv.counts;
+      room = inv.room;
     }
 
 pub loop-out-preserved : goal.loop-out-preserved
@@ -175,23 +203,18 @@ loop-out-preserved g c =
     let ix = c.loop-out.ix in
     let b = c.in-Word.field-0 in
     let inv = c.loop-out.invariant in
+    let mark = c.in_ok-mark-in-Word.mark in
     let len = c.word_run-run.result.len in
     let rest = drop (ix + 1) bytes in
+    let end = ix + 1 + len in
+    let n = c.scan_whitespace_no_nl.result in
     let o : IsNextPart c.loop-out.escaped (drop c.loop-out.ix c.args.bytes.now)
     (Word c.in-Word.field-0 c.in-Word.escapes) =
     next_part_at c.args.bytes.now c.loop-out.ix _ _ _ c.next_part.ensures c.in-Word.is in
     let next = byte_rest bytes ix b o.others o.parts in
-    let due : c.if-has_word.write_word ≡ (c.loop-out.has_word && c.loop-out.in_run) = elim c.if-has_word.branch [
-      | then-has_word w ↦ w.write_word-is ∙ ap (λ v. v && c.loop-out.in_run) (sym w.if-has_word.true)
-      | else-has_word w ↦ w.write_word-is ∙ w.if-has_word.false
-          ∙ ap (λ v. v && c.loop-out.in_run) (sym w.if-has_word.false)
-    ] in
-    let word : IsWordWritten t (c.loop-out.has_word && c.loop-out.in_run) text c.loop-out.mark ix c.loop-out.out
-    c.write_word.new.out c.in_ok-mark-in-Word.mark =
-    subst (λ v. IsWordWritten t v text c.loop-out.mark ix c.loop-out.out c.write_word.new.out c.in_ok-mark-in-Word.mark)
-    due
+    let word : IsWordWritten t text c.loop-out.mark c.loop-out.end ix c.loop-out.out c.write_word.new.out mark =
     c.in_ok-mark-in-Word.ensures.written in
-    let is_due = c.loop-out.has_word && c.loop-out.in_run in
+    let is_due = due_after c.loop-out.end ix in
     let more = word_text is_due (starts_dropped t (drop ix bytes)) in
     let label = c.requires.closed in
     let begun = after_word _ _ _ _ _ _ inv.at _ _ _ o next in
@@ -211,46 +234,53 @@ loop-out-preserved g c =
     let inside : len ≤ length rest = omega (arith, c.word_run-run.ensures.within, ap length sliced) in
     let p = past_run _ _ t _ _ (ix + 1) _ _ begun
     (word_follows _ _ _ _ _ _ _ _ _ _ _ o next inv.written) _ _ run in
-    let place : ix + 1 + len ≡ ix + (1 + len) = omega arith in
-    let later : drop len rest ≡ drop (ix + (1 + len)) bytes =
-    drop-drop len (ix + 1) bytes ∙ ap (λ n. drop n bytes) place in
-    let run_in : ix + 1 + len < length text = omega (
+    let pushed = (inv.pushed ++ more b) ++ take len rest in
+    let later : drop len rest ≡ drop end bytes = drop-drop len (ix + 1) bytes in
+    let run_in : end < length text = omega (
       arith,
       before_end _ _ _ _ _ _ p.at t label.label label.is_label,
       label.within,
     ) in
+    let spaces : n ≡ prefix_len is_white_space_in_line (drop end bytes) =
+    c.scan_whitespace_no_nl.ensures.run ∙ ap (prefix_len is_white_space_in_line) (rest_is bytes end) in
+    let short : n ≤ length (drop end bytes) =
+    omega (arith, spaces, prefix_len-le-length is_white_space_in_line (drop end bytes)) in
+    let white : (k : ℕ) → k < n → is_white_space_in_line (get_or (drop end bytes) k 0) ≡ true =
+    λ k below. prefix_len_passes is_white_space_in_line (drop end bytes) k 0 (omega (arith, below, spaces)) in
+    let q = past_spaces _ _ t c.word_run-run.result.escapes p.seen end (drop end bytes) pushed true false
+    (subst (IsAt _ _ _ _ end) later p.at) (subst (λ z. Written t p.seen end z true false pushed) later p.written) n short white in
+    let behind : drop n (drop end bytes) ≡ drop (end + n) bytes = drop-drop n end bytes in
+    let at = subst (IsAt (Skips g.F.Fn c.args.handler.now) bytes c.word_run-run.result.escapes q.seen (end + n)) behind q.at in
+    let spaces_in : end + n < length text = omega (
+      arith,
+      before_end _ _ _ _ _ _ at t label.label label.is_label,
+      label.within,
+    ) in
+    let has_word : true ≡ nat_lt 0 end = sym (lt-ltb 0 end (omega arith)) in
     let same_run : take len rest ≡ take len (drop (ix + 1) text) =
     sym (front_slice text bytes c.requires.front (ix + 1) len (omega (arith, run_in))) in
     let first = word_written (string_bytes c.args.out.now) inv.pushed (string_bytes c.loop-out.out)
-    (string_bytes c.write_word.new.out) (slice_range text c.loop-out.mark ix)
-    (slice_range text c.in_ok-mark-in-Word.mark (ix + 1)) (more b) inv.same
-    (word.text_is ∙ ap (λ z. (string_bytes c.loop-out.out ++ slice_range text c.loop-out.mark ix) ++ z) adds) in
+    (string_bytes c.write_word.new.out) (slice_range text c.loop-out.mark c.loop-out.end)
+    (slice_range text mark (ix + 1)) (more b) inv.same
+    (word.text_is ∙ ap (λ z. (string_bytes c.loop-out.out ++ slice_range text c.loop-out.mark c.loop-out.end) ++ z) adds) in
     let old = string_bytes c.args.out.now in
     let new = string_bytes c.write_word.new.out in
     record {
-      within =
-          omega (
-            arith,
-            byte_fits bytes ix b o.others o.parts,
-            inside,
-            length-drop (ix + 1) bytes,
-          );
-      in_text = omega (arith, run_in);
+      within = omega (arith, spaces_in, front_fits text bytes c.requires.front);
+      in_text = omega (arith, spaces_in);
       after = omega (arith, word.within);
+      behind = omega arith;
       cut = word.start;
-      flushed = λ h. absurd (true≢false (sym h));
-      seen = p.seen;
-      at = subst (λ z. z) (λ i. IsAt (Skips g.F.Fn c.args.handler.now) bytes c.word_run-run.result.escapes p.seen
-          (place i) (later i)) p.at;
-      pushed = (inv.pushed ++ more b) ++ take len rest;
-      written = subst (λ z. z) (λ i. Written t p.seen (place i) (later i) true false
-          ((inv.pushed ++ more b) ++ take len rest)) p.written;
+      gap = λ less. white_cuts text bytes c.requires.front c.utf8.text end n (omega (arith, less)) (omega (arith, spaces_in)) white;
+      seen = q.seen;
+      at = at;
+      pushed = pushed;
+      written = subst (λ z. z) (λ i. Written t q.seen (end + n) (behind i) (has_word i) (run_behind end n i) pushed) q.written;
       same = sym (append_assoc old (inv.pushed ++ more b) (take len rest))
           ∙ ap (λ z. z ++ take len rest) first
-          ∙ append_assoc new (slice_range text c.in_ok-mark-in-Word.mark (ix + 1)) (take len rest)
-          ∙ ap (λ z. new ++ (slice_range text c.in_ok-mark-in-Word.mark (ix + 1) ++ z)) same_run
-          ∙ ap (λ z. new ++ z) (slice_run text c.in_ok-mark-in-Word.mark (ix + 1) (ix + (1 + len)) len word.within
-          (sym place));
+          ∙ append_assoc new (slice_range text mark (ix + 1)) (take len rest)
+          ∙ ap (λ z. new ++ (slice_range text mark (ix + 1) ++ z)) same_run
+          ∙ ap (λ z. new ++ z) (slice_run text mark (ix + 1) end len word.within refl);
       counts =
           omega (
             arith,
@@ -265,28 +295,6 @@ loop-out-preserved g c =
       room = omega (arith, inv.room, c.in_ok-mark-in-Word.ensures.capacity);
     }
 
-pub returns-in_err-push_str-in-Ending-clause-fits : goal.returns-in_err-push_str-in-Ending-clause-fits
-returns-in_err-push_str-in-Ending-clause-fits g c =
-    λ label l enough. absurd
-    (no_room (string_len c.args.out.now) (string_capacity c.args.out.now) (string_len c.loop-out.out)
-    (string_capacity c.loop-out.out) (length c.loop-out.invariant.pushed) (length label.text)
-    (length c.range-in-Ending.result.now)
-    enough c.loop-out.invariant.room
-    (pushed_fits _ _ _ _ _ _ _ _ _ _ c.loop-out.invariant.at c.loop-out.invariant.written label l)
-    (omega (arith, c.loop-out.invariant.counts, c.range-in-Ending.ensures.len, c.loop-out.invariant.after))
-    c.in_err-push_str-in-Ending.ensures.full)
-
-pub returns-in_err-push_part-in-Space-clause-fits : goal.returns-in_err-push_part-in-Space-clause-fits
-returns-in_err-push_part-in-Space-clause-fits g c =
-    λ label l enough. absurd
-    (no_room (string_len c.args.out.now) (string_capacity c.args.out.now) (string_len c.loop-out.out)
-    (string_capacity c.loop-out.out) (length c.loop-out.invariant.pushed) (length label.text)
-    (length c.range-in-Space.result.now)
-    enough c.loop-out.invariant.room
-    (pushed_fits _ _ _ _ _ _ _ _ _ _ c.loop-out.invariant.at c.loop-out.invariant.written label l)
-    (omega (arith, c.loop-out.invariant.counts, c.range-in-Space.ensures.len, c.loop-out.invariant.after))
-    c.in_err-push_part-in-Space.ensures.full)
-
 pub returns-in_err-mark-in-Word-clause-fits : goal.returns-in_err-mark-in-Word-clause-fits
 returns-in_err-mark-in-Word-clause-fits g c = λ label l enough.
     let t = c.args.is_in_table in
@@ -298,15 +306,11 @@ returns-in_err-mark-in-Word-clause-fits g c = λ label l enough.
     (Word c.in-Word.field-0 c.in-Word.escapes) =
     next_part_at c.args.bytes.now c.loop-out.ix _ _ _ c.next_part.ensures c.in-Word.is in
     let next = byte_rest bytes ix b o.others o.parts in
-    let due : c.if-has_word.write_word ≡ (c.loop-out.has_word && c.loop-out.in_run) = elim c.if-has_word.branch [
-      | then-has_word w ↦ w.write_word-is ∙ ap (λ v. v && c.loop-out.in_run) (sym w.if-has_word.true)
-      | else-has_word w ↦ w.write_word-is ∙ w.if-has_word.false
-          ∙ ap (λ v. v && c.loop-out.in_run) (sym w.if-has_word.false)
-    ] in
-    let more = word_text (c.loop-out.has_word && c.loop-out.in_run) (starts_dropped t (drop ix bytes)) b in
+    let is_due = due_after c.loop-out.end ix in
+    let more = word_text is_due (starts_dropped t (drop ix bytes)) b in
     let bound : length (inv.pushed ++ more) ≤ length label.text = pushed_fits _ _ _ _ _ _ _ _ _ _
     (after_word _ _ _ _ _ _ inv.at _ _ _ o next) (word_follows _ _ _ _ _ _ _ _ _ _ _ o next inv.written) label l in
-    let size = word_text-length (c.loop-out.has_word && c.loop-out.in_run) (starts_dropped t (drop ix bytes)) b in
+    let size = word_text-length is_due (starts_dropped t (drop ix bytes)) b in
     absurd (false≢true (c.in_err-mark-in-Word.ensures.succeeds
     (omega (
       arith,
@@ -317,20 +321,20 @@ returns-in_err-mark-in-Word-clause-fits g c = λ label l enough.
       bound,
       length-append inv.pushed more,
       size,
-      ap due_len due,
     ))))
 
--- The text may be cut before what ends a part of it.
+-- The text may be cut where the last word ends.
 pub range-requires-clause-end_boundary : goal.range-requires-clause-end_boundary
 range-requires-clause-end_boundary g c =
     let label = c.requires.closed in
-    let at = c.loop-out.invariant.at in
+    let inv = c.loop-out.invariant in
+    let at = inv.at in
     let inside : c.loop-out.ix < length c.args.text.now = omega (
       arith,
       before_end _ _ _ _ _ _ at c.args.is_in_table label.label label.is_label,
       label.within,
     ) in
-    elim c.in-End.is [
+    end_cut c.args.text.now c.loop-out.end c.loop-out.ix inv.behind inv.gap (elim c.in-End.is [
       | inl e ↦
           (let f : IsNextPart c.loop-out.escaped (drop c.loop-out.ix c.args.bytes.now) End =
           next_part_at c.args.bytes.now c.loop-out.ix _ _ _ c.next_part.ensures e in
@@ -345,31 +349,7 @@ range-requires-clause-end_boundary g c =
             next_part_at c.args.bytes.now c.loop-out.ix _ _ _ c.next_part.ensures e in
             front_cut c.args.text.now c.args.bytes.now c.requires.front c.loop-out.ix 93 _ f.1.1 inside (omega arith))
       ]
-    ]
-
-pub range-requires-in-Ending-clause-end_boundary : goal.range-requires-in-Ending-clause-end_boundary
-range-requires-in-Ending-clause-end_boundary g c =
-    let label = c.requires.closed in
-    let o : IsNextPart c.loop-out.escaped (drop c.loop-out.ix c.args.bytes.now) (Ending c.in-Ending.len) =
-    next_part_at c.args.bytes.now c.loop-out.ix _ _ _ c.next_part.ensures c.in-Ending.is in
-    front_cut c.args.text.now c.args.bytes.now c.requires.front c.loop-out.ix o.byte o.others o.parts
-    (omega (
-      arith,
-      before_end _ _ _ _ _ _ c.loop-out.invariant.at c.args.is_in_table label.label label.is_label,
-      label.within,
-    )) (white_small o.byte (ending_white o.byte o.ends))
-
-pub range-requires-in-Space-clause-end_boundary : goal.range-requires-in-Space-clause-end_boundary
-range-requires-in-Space-clause-end_boundary g c =
-    let label = c.requires.closed in
-    let o : IsNextPart c.loop-out.escaped (drop c.loop-out.ix c.args.bytes.now) (Space c.in-Space.field-0) =
-    next_part_at c.args.bytes.now c.loop-out.ix _ _ _ c.next_part.ensures c.in-Space.is in
-    front_cut c.args.text.now c.args.bytes.now c.requires.front c.loop-out.ix c.in-Space.field-0 o.others o.parts
-    (omega (
-      arith,
-      before_end _ _ _ _ _ _ c.loop-out.invariant.at c.args.is_in_table label.label label.is_label,
-      label.within,
-    )) (white_small c.in-Space.field-0 o.white)
+    ])
 
 pub write_word-requires-clause-within : goal.write_word-requires-clause-within
 write_word-requires-clause-within g c =
@@ -380,8 +360,11 @@ write_word-requires-clause-within g c =
       label.within,
     )
 
-pub write_word-requires-clause-none_before : goal.write_word-requires-clause-none_before
-write_word-requires-clause-none_before g c = grind (arith, common_steps)
+pub write_word-requires-clause-ends : goal.write_word-requires-clause-ends
+write_word-requires-clause-ends g c = λ less. (c.loop-out.invariant.gap less).0
+
+pub write_word-requires-clause-begins : goal.write_word-requires-clause-begins
+write_word-requires-clause-begins g c = λ less. (c.loop-out.invariant.gap less).1
 
 pub slice_bounds-word_run-count : goal.slice_bounds-word_run-count
 slice_bounds-word_run-count g c = grind (arith, common_steps)
