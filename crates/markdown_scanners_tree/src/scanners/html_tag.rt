@@ -7,6 +7,7 @@ ghost use Rattle.markdown_scanners_tree.specs.scanners.html_tag.HtmlTag.{IsTagAl
 ghost use Rattle.markdown_scanners_tree.specs.scanners.html_tag.KeptTag.{IsKeptPrefix, HasTag, OnEachTag, HasNoTag, AreTextAndLength, AreLengths, tag_buffer};
 ghost use Rattle.markdown_scanners_tree.specs.scanners.tag_state.private.TagMachine.{ends_source_line};
 
+use crate::scanners::classes::is_line_ending;
 use crate::scanners::lines::scan_blank_line;
 use crate::scanners::tag_state::TagState;
 use std::alloc::{AllocError, Global};
@@ -47,22 +48,22 @@ fn measure_tag<F: Fn(&[u8]) -> usize>(bytes: &[u8], handler: Option<&F>) -> Opti
     let (mut state, mut place) = TagState::after_first(bytes);
     let mut kept = place;
     let mut endings = 0;
-    while !state.is_final() {
-        let (after, passed) = state.read_in_line(&bytes[place..]);
-        state = after;
-        place += passed;
-        kept += passed;
-        if place >= bytes.len() || state.is_final() {
-            break;
-        }
-        let is_last = ends_source_line(&bytes[place..]);
-        state = state.after_line_ending(bytes[place]);
-        place += 1;
-        kept += 1;
-        if is_last {
-            let skips = handler?;
-            place += skips(&bytes[place..]);
-            endings += 1;
+    while place < bytes.len() && !state.is_final() {
+        if is_line_ending(bytes[place]) {
+            let is_last = ends_source_line(&bytes[place..]);
+            state = state.after_line_ending(bytes[place]);
+            place += 1;
+            kept += 1;
+            if is_last {
+                let skips = handler?;
+                place += skips(&bytes[place..]);
+                endings += 1;
+            }
+        } else {
+            let (after, passed) = state.read_in_line(&bytes[place..]);
+            state = after;
+            place += passed;
+            kept += passed;
         }
     }
     if state.is_tag_end(endings) {
