@@ -1,6 +1,7 @@
 //! Open and closing tags, over the lines of containers or alone in a line.
-ghost use Rattle.std.specs.Prelude.{IsOk, ◌≡◌, ◌≢◌, ◌≤◌, [], IfOk, OnErr, List, IfSome, IfNone, length};
+ghost use Rattle.std.specs.Prelude.{IsOk, ◌≡◌, ◌≢◌, ◌≤◌, true, [], ◌∷◌, IfOk, OnErr, List, IfSome, IfNone, length};
 ghost use Rattle.markdown_scanners_tree.specs.SomeExactly.{SomeExactly, IsOnly};
+ghost use Rattle.markdown_scanners_tree.specs.Bytes.{is_line_ending};
 ghost use Rattle.markdown_scanners_tree.specs.Handler.{Answers, IsCallableAfterLineEndings, IsSteady};
 ghost use Rattle.markdown_scanners_tree.specs.Kept.{KeptByte, bytes_of};
 ghost use Rattle.markdown_scanners_tree.specs.scanners.html_tag.HtmlTag.{IsTagAloneInLine};
@@ -31,6 +32,14 @@ fn ends_source_line(rest: &[u8]) -> bool
     }
 }
 
+// The same of a byte that is LF or CR, before these bytes.
+fn ends_line_before(byte: u8, rest: &[u8]) -> bool
+    requires { is_line_ending byte ≡ true }
+    ensures { result ≡ ends_source_line (byte ∷ rest.now) }
+{
+    byte == b'\n' || !matches!(rest, [b'\n', ..])
+}
+
 // How long the tag is that the bytes begin with.
 fn measure_tag<F: Fn(&[u8]) -> usize>(bytes: &[u8], handler: Option<&F>) -> Option<TagLength>
     requires callable { IfSome handler (λ f. IsCallableAfterLineEndings F.Fn f.now bytes.now) }
@@ -49,12 +58,12 @@ fn measure_tag<F: Fn(&[u8]) -> usize>(bytes: &[u8], handler: Option<&F>) -> Opti
     let mut kept = place;
     let mut endings = 0;
     while place < bytes.len() && !state.is_final() {
-        if is_line_ending(bytes[place]) {
-            let is_last = ends_source_line(&bytes[place..]);
-            state = state.after_line_ending(bytes[place]);
+        let byte = bytes[place];
+        if is_line_ending(byte) {
+            state = state.after_line_ending(byte);
             place += 1;
             kept += 1;
-            if is_last {
+            if ends_line_before(byte, &bytes[place..]) {
                 let skips = handler?;
                 place += skips(&bytes[place..]);
                 endings += 1;

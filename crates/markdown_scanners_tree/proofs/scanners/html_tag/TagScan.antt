@@ -379,6 +379,14 @@ scan_reads_on answers source place kept endings n from to s low inside l =
     scan_reads answers source endings n place kept from to s (omega arith)
     (subst (λ z. LeadsTo from (take n z) to) (from_place source place) l)
 
+-- a line ends with the byte at the place, by what stands behind it
+pub ends_at : (source : List ℕ) (place : ℕ) → place < length source
+    → ends_source_line (take (length source - place) (drop place source))
+    ≡ ends_source_line (get_or source place 0 ∷ take (length source - (place + 1)) (drop (place + 1) source))
+ends_at source place low =
+    ap ends_source_line (from_place source place ∙ drop_more source place 0 low)
+    ∙ ap (λ rest. ends_source_line (get_or source place 0 ∷ rest)) (sym (from_place source (place + 1)))
+
 -- where no line ends, a byte at least is read
 reads_some : (bytes : List ℕ) (n : ℕ) (from to : TagState) → is_at_line_end bytes ≡ false → is_final from ≡ false
     → LeadsTo from (take n bytes) to → (is_final to ≡ true) ⊎ (is_at_line_end (drop n bytes) ≡ true) → 0 < n

@@ -1,10 +1,10 @@
-use Rattle.std.proofs.Common.{rules, of_calls, ◌≡◌, ◌≤◌, ◌<◌, ◌+◌, ◌-◌, ◌⊎◌, inl, inr, length, take, drop, refl, sym, ap, true, arith}
+use Rattle.std.proofs.Common.{rules, of_calls, ◌≡◌, ◌≤◌, ◌<◌, ◌+◌, ◌-◌, ◌⊎◌, inl, inr, length, take, drop, refl, sym, ap, ◌∙◌, true, arith}
 use Rattle.std.proofs.lemmas.Grind.{common_steps}
 use Rattle.markdown_scanners_tree.specs.Handler.{Answers}
 use Rattle.markdown_scanners_tree.specs.scanners.tag_state.private.TagMachine.{is_final}
 use Rattle.markdown_scanners_tree.proofs.scanners.html_tag.TagBuffer.{if_none, none_given}
 use Rattle.markdown_scanners_tree.proofs.scanners.html_tag.TagScan.{turn_with_skip, turn_without, skip_inside, scan_begins, scan_reads_on}
-use Rattle.markdown_scanners_tree.proofs.scanners.html_tag.TagScan.{scan_goes_on, scan_finds, scan_only, scan_ends, no_handler_stops, text_rises}
+use Rattle.markdown_scanners_tree.proofs.scanners.html_tag.TagScan.{scan_goes_on, scan_finds, scan_only, scan_ends, no_handler_stops, ends_at, text_rises}
 use Rattle.markdown_scanners_tree.proofs.scanners.html_tag.measure_tag.Goals.{then-loop-place-test+else-not-is_final, else-loop-place-test}
 use Rattle.markdown_scanners_tree.proofs.scanners.html_tag.measure_tag.Goals as goal
 
@@ -22,10 +22,10 @@ returns-in_err-skips-clause-none g c =
     rw c.from_residual.ensures
     (no_handler_stops g.F.Fn c.args.handler c.args.bytes.now _ _ _ _ c.loop-place.invariant.0
     (sym (c.if-not-is_final.ensures {u = tt})) c.loop-place-test.true (c.in_err-skips.was {u = tt})
-    (sym (c.if-is_last.ensures {u = tt})))
+    (ends_at _ _ c.loop-place-test.true ∙ sym (c.if-ends_line_before.ensures {u = tt})))
 
-pub overflow_add-place-then-is_last : goal.overflow_add-place-then-is_last
-overflow_add-place-then-is_last g c =
+pub overflow_add-place-then-ends_line_before : goal.overflow_add-place-then-ends_line_before
+overflow_add-place-then-ends_line_before g c =
     let answer : Answers g.F.Fn c.in_ok-skips.skips.now
     (take (length c.args.bytes.now - (c.loop-place.place + 1)) (drop (c.loop-place.place + 1) c.args.bytes.now))
     c.skips-place.result =
@@ -35,8 +35,8 @@ overflow_add-place-then-is_last g c =
     c.skips-place.result (c.in_ok-skips.was {u = tt}) c.requires.steady answer in
     omega (arith, inside)
 
-pub loop-place-preserved-then-is_last : goal.loop-place-preserved-then-is_last
-loop-place-preserved-then-is_last g c =
+pub loop-place-preserved-then-ends_line_before : goal.loop-place-preserved-then-ends_line_before
+loop-place-preserved-then-ends_line_before g c =
     let answer : Answers g.F.Fn c.in_ok-skips.skips.now
     (take (length c.args.bytes.now - (c.loop-place.place + 1)) (drop (c.loop-place.place + 1) c.args.bytes.now))
     c.skips-place.result =
@@ -44,7 +44,7 @@ loop-place-preserved-then-is_last g c =
     let turn =
     turn_with_skip g.F.Fn c.args.handler c.args.bytes.now _ c.loop-place-test.true c.loop-place.endings
     c.in_ok-skips.skips c.skips-place.result (c.in_ok-skips.was {u = tt}) c.requires.steady
-    (sym (c.if-is_last.ensures {u = tt})) answer in (
+    (ends_at _ _ c.loop-place-test.true ∙ sym (c.if-ends_line_before.ensures {u = tt})) answer in (
       rw c.after_line_ending-state.ensures
           (scan_goes_on _ _ _ _ _ _ c.loop-place.invariant.0 (sym (c.if-not-is_final.ensures {u = tt})) _ _ turn),
       turn.inside,
@@ -53,11 +53,11 @@ loop-place-preserved-then-is_last g c =
       if_none c.args.handler _ _ (λ e. absurd (let some = c.in_ok-skips.was {u = tt} in cc)),
     )
 
-pub loop-place-preserved-else-is_last : goal.loop-place-preserved-else-is_last
-loop-place-preserved-else-is_last g c =
+pub loop-place-preserved-else-ends_line_before : goal.loop-place-preserved-else-ends_line_before
+loop-place-preserved-else-ends_line_before g c =
     let turn =
     turn_without g.F.Fn c.args.handler c.args.bytes.now _ c.loop-place-test.true c.loop-place.endings
-    (sym (c.if-is_last.ensures {u = tt})) in (
+    (ends_at _ _ c.loop-place-test.true ∙ sym (c.if-ends_line_before.ensures {u = tt})) in (
       rw c.after_line_ending-state.ensures
           (scan_goes_on _ _ _ _ _ _ c.loop-place.invariant.0 (sym (c.if-not-is_final.ensures {u = tt})) _ _ turn),
       turn.inside,
