@@ -225,6 +225,7 @@ pub fn hostile() -> Vec<Hostile> {
         made("5000 x '<?'", "inline_html", &[("<?", 5000)], openers),
         made("5000 x '<!--', 20000 hyphens", "inline_html", &[("<!--", 5000), ("-", 20000)], openers),
         made("5000 x '<?', 20000 x '?'", "inline_html", &[("<?", 5000), ("?", 20000)], openers),
+        made("'<?', 100000 letters", "inline_html", &[("<?", 1), ("a", 100000)], openers),
         made("10000 x '- '", "line_containers", &[("- ", 10000)], start),
         made("10000 x '* '", "line_containers", &[("* ", 10000)], start),
         made("10000 x '- ', 'x'", "line_containers", &[("- ", 10000), ("x", 1)], start),
@@ -243,6 +244,7 @@ pub fn hostile() -> Vec<Hostile> {
         made("100000 tabs", "indent_deep", &[("\t", 100000)], start),
         made("100000 spaces", "line_upto", &[(" ", 100000)], start),
         made("100000 spaces", "indent_deep", &[(" ", 100000)], start),
+        made("100000 letters", "nextline", &[("a", 100000)], start),
         Hostile {
             name: "200 labels of 999 letters",
             call: "label",
@@ -290,6 +292,7 @@ pub fn hostile() -> Vec<Hostile> {
         made("10000 attributes", "tag", &[("<a", 1), (" b='c'", 10000), (">", 1)], start),
         made("10000 attributes, no end", "type_7", &[("<a", 1), (" b='c'", 10000)], start),
         made("10000 lines of '> b'", "tag_lines", &[("<a", 1), ("\n> b", 10000), (">", 1)], start),
+        made("50000 x LF", "tag_lines", &[("<a", 1), ("\n", 50000), (">", 1)], start),
         made("50000 spaces", "tag", &[("<a", 1), (" b                   ", 2500), (">", 1)], start),
         made("10000 x '<a '", "tag", &[("<a ", 10000)], |text| each(text, b'<')),
         made("1000 x '<a b=' and a quote", "tag", &[("<a b='", 1000)], |text| each(text, b'<')),

@@ -1,1 +1,2 @@
 pub mod ContainerLemmas
+pub mod StartLemmas

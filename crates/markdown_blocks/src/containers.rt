@@ -8,14 +8,15 @@ ghost use Rattle.markdown_blocks.specs.containers.Containers.{begun_behind, behi
 use crate::kinds::is_blank;
 use markdown_scanners_tree::line::LineStart;
 
-/// A list item: its bullet or delimiter, the number that it starts at, the indent of its text in
-/// columns, and whether only its first line is read, which is blank behind the marker.
+/// A list item: its bullet or delimiter, whether only its first line is read, which is blank behind
+/// the marker, the indent of its text in columns, and the number that it starts at. A page may open
+/// a container with each byte, so the fields are no wider than their numbers, and the widest is last.
 #[derive(Clone, Copy)]
 pub struct ListItem {
     pub delimiter: u8,
-    pub start: u64,
-    pub width: usize,
     pub begun: bool,
+    pub width: u8,
+    pub start: u32,
 }
 
 /// A container.
@@ -26,6 +27,8 @@ pub enum Container {
     /// A list item.
     Item(ListItem),
 }
+
+const _: () = prove!(size_of::<Container>() <= 16);
 
 /// The open containers, the outermost first; from a place on they are items that go on with blank
 /// lines, so that such a line is not tried for each of them.
@@ -101,7 +104,7 @@ fn pass(line: &[u8], start: &mut LineStart, blank: bool, container: Container) -
 {
     match container {
         Container::Item(item) if blank => { if item.begun { None } else { Some(true) } }
-        Container::Item(item) => pass_indent(start, item.width),
+        Container::Item(item) => pass_indent(start, item.width as usize),
         Container::Quote => pass_quote(line, start),
     }
 }
@@ -176,8 +179,8 @@ pub(crate) fn scan_container(line: &[u8], start: &mut LineStart, indent: usize) 
     let (delimiter, number, width) = start.scan_list_marker_with_indent(indent)?;
     Some(Container::Item(ListItem {
         delimiter,
-        start: number,
-        width,
         begun: is_blank(&line[start.bytes_scanned()..]),
+        width: width as u8,
+        start: number as u32,
     }))
 }

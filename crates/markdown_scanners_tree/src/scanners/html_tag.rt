@@ -1,12 +1,14 @@
 //! Open and closing tags, over the lines of containers or alone in a line.
-ghost use Rattle.std.specs.Prelude.{IsOk, ◌≡◌, ◌≢◌, ◌≤◌, [], IfOk, OnErr, List, IfSome, IfNone, length};
+ghost use Rattle.std.specs.Prelude.{IsOk, ◌≡◌, ◌≢◌, ◌≤◌, true, [], ◌∷◌, IfOk, OnErr, List, IfSome, IfNone, length};
 ghost use Rattle.markdown_scanners_tree.specs.SomeExactly.{SomeExactly, IsOnly};
+ghost use Rattle.markdown_scanners_tree.specs.Bytes.{is_line_ending};
 ghost use Rattle.markdown_scanners_tree.specs.Handler.{Answers, IsCallableAfterLineEndings, IsSteady};
 ghost use Rattle.markdown_scanners_tree.specs.Kept.{KeptByte, bytes_of};
 ghost use Rattle.markdown_scanners_tree.specs.scanners.html_tag.HtmlTag.{IsTagAloneInLine};
 ghost use Rattle.markdown_scanners_tree.specs.scanners.html_tag.KeptTag.{IsKeptPrefix, HasTag, OnEachTag, HasNoTag, AreTextAndLength, AreLengths, tag_buffer};
 ghost use Rattle.markdown_scanners_tree.specs.scanners.tag_state.private.TagMachine.{ends_source_line};
 
+use crate::scanners::classes::is_line_ending;
 use crate::scanners::lines::scan_blank_line;
 use crate::scanners::tag_state::TagState;
 use std::alloc::{AllocError, Global};
@@ -30,6 +32,14 @@ fn ends_source_line(rest: &[u8]) -> bool
     }
 }
 
+// The same of a byte that is LF or CR, before these bytes.
+fn ends_line_before(byte: u8, rest: &[u8]) -> bool
+    requires { is_line_ending byte ≡ true }
+    ensures { result ≡ ends_source_line (byte ∷ rest.now) }
+{
+    byte == b'\n' || !matches!(rest, [b'\n', ..])
+}
+
 // How long the tag is that the bytes begin with.
 fn measure_tag<F: Fn(&[u8]) -> usize>(bytes: &[u8], handler: Option<&F>) -> Option<TagLength>
     requires callable { IfSome handler (λ f. IsCallableAfterLineEndings F.Fn f.now bytes.now) }
@@ -47,22 +57,22 @@ fn measure_tag<F: Fn(&[u8]) -> usize>(bytes: &[u8], handler: Option<&F>) -> Opti
     let (mut state, mut place) = TagState::after_first(bytes);
     let mut kept = place;
     let mut endings = 0;
-    while !state.is_final() {
-        let (after, passed) = state.read_in_line(&bytes[place..]);
-        state = after;
-        place += passed;
-        kept += passed;
-        if place >= bytes.len() || state.is_final() {
-            break;
-        }
-        let is_last = ends_source_line(&bytes[place..]);
-        state = state.after_line_ending(bytes[place]);
-        place += 1;
-        kept += 1;
-        if is_last {
-            let skips = handler?;
-            place += skips(&bytes[place..]);
-            endings += 1;
+    while place < bytes.len() && !state.is_final() {
+        let byte = bytes[place];
+        if is_line_ending(byte) {
+            state = state.after_line_ending(byte);
+            place += 1;
+            kept += 1;
+            if ends_line_before(byte, &bytes[place..]) {
+                let skips = handler?;
+                place += skips(&bytes[place..]);
+                endings += 1;
+            }
+        } else {
+            let (after, passed) = state.read_in_line(&bytes[place..]);
+            state = after;
+            place += passed;
+            kept += passed;
         }
     }
     if state.is_tag_end(endings) {

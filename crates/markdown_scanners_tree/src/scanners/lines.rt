@@ -12,6 +12,9 @@ use std::simd::prelude::*;
 // How many bytes a vector holds.
 const LANES: usize = 32;
 
+// Where a line is so long that a search has paid for its beginning.
+const FAR: usize = 256;
+
 /// The length in bytes of the line ending at the front: LF, CR LF, or a CR alone.
 ///
 /// The end of the bytes counts as a line ending of length 0. (CommonMark 0.31.2, section 2.1.)
@@ -90,7 +93,7 @@ pub fn scan_nextline(bytes: &[u8]) -> usize
 {
     // Most lines are short, and a search takes longer to begin than a few vectors.
     let mut from = 0;
-    while bytes.len() - from >= LANES {
+    while bytes.len() - from >= LANES && from < FAR {
         let before = count_before(b'\n', &bytes[from..]);
         from += before;
         if before < LANES {

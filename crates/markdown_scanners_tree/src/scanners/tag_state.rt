@@ -13,6 +13,11 @@ use crate::scanners::classes::{
 // What the bytes of a tag end in, as far as they are read.
 #[derive(Clone, Copy, Drop)]
 pub(crate) enum TagState {
+    // The final ones, a whole open tag and a whole closing tag among them, stand first: then one
+    // comparison tells them from the others.
+    Open,
+    Closed,
+    Refused,
     Start,
     // After `<`.
     Opened,
@@ -27,17 +32,12 @@ pub(crate) enum TagState {
     Quoted(u8),
     AfterValue,
     Slashed,
-    // A whole open tag.
-    Open,
     // A closing tag, after `</`: its name, and the white space and the line ending after it.
     Closing,
     ClosingName,
     ClosingSpaced,
     ClosingReturned,
     ClosingEnded,
-    // A whole closing tag.
-    Closed,
-    Refused,
 }
 
 // Whether the byte may stand in a tag name behind its first.
@@ -198,9 +198,21 @@ impl TagState {
         (state, place)
     }
 
-    // After a byte of a line ending. Not inlined, so that the loop over lines stays small.
-    #[inline(never)]
+    // After a byte of a line ending. A line with nothing in it calls nothing.
+    #[inline(always)]
     pub(crate) fn after_line_ending(self, byte: u8) -> TagState
+        requires { is_line_ending byte ≡ true }
+        ensures { result ≡ next_state self byte }
+    {
+        match self {
+            TagState::Spaced => TagState::Spaced,
+            _ => self.after_end_of_line(byte),
+        }
+    }
+
+    // The same from any state. Not inlined, so that the loop over lines stays small.
+    #[inline(never)]
+    fn after_end_of_line(self, byte: u8) -> TagState
         requires { is_line_ending byte ≡ true }
         ensures { result ≡ next_state self byte }
     {

@@ -1,5 +1,6 @@
 use Rattle.std.proofs.Common.{◌∙◌, arith}
 use Rattle.markdown_blocks.proofs.containers.ContainerLemmas.{item_here, no_marker, no_quote, blank_at}
+use Rattle.markdown_blocks.proofs.containers.StartLemmas.{start_small}
 use Rattle.markdown_blocks.proofs.containers.scan_container.Goals as goal
 
 pub returns-clause-found : goal.returns-clause-found
@@ -11,3 +12,8 @@ returns-clause-found c =
     same c.in_ok-delimiter.ensures.answer c.in_ok-delimiter.ensures.state
     (blank_at c.args.line.now c.scan_list_marker_with_indent.new.self c.bytes_scanned.result c.is_blank.result
     (c.in_ok-delimiter.ensures.bytes ∙ c.scan_blockquote_marker.ensures.bytes ∙ c.requires.bytes) c.bytes_scanned.ensures.place c.is_blank.ensures)
+
+pub overflow_cast-result-2 : goal.overflow_cast-result-2
+overflow_cast-result-2 c =
+    let small = start_small c.args.indent c.scan_blockquote_marker.new.self _ _ _ c.in_ok-delimiter.ensures.answer in
+    omega (arith, small)

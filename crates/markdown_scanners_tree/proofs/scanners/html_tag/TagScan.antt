@@ -11,7 +11,7 @@ use Rattle.std.proofs.lemmas.List.{drop_more, drop-drop, drop_all, length-drop, 
 use Rattle.std.proofs.lemmas.List.Sums.{sum_by-append}
 use Rattle.std.specs.Fn.{Shared}
 use denote.Ref.{Bor}
-use Rattle.markdown_scanners_tree.specs.Bytes.{is_line_ending}
+use Rattle.markdown_scanners_tree.specs.Bytes.{is_at_line_end, is_line_ending}
 use Rattle.markdown_scanners_tree.specs.Kept.{KeptByte, in_line, at_line_end, bytes_of, line_endings}
 use Rattle.markdown_scanners_tree.specs.Handler.{Answers, IsSteady}
 use Rattle.markdown_scanners_tree.specs.scanners.html_tag.KeptTag.{AnswersIfAny, AreLengths, place_after, IsKeptTag}
@@ -378,6 +378,30 @@ scan_reads_on answers source place kept endings n from to s low inside l =
     ap length (from_place source place) ∙ length-drop place source in
     scan_reads answers source endings n place kept from to s (omega arith)
     (subst (λ z. LeadsTo from (take n z) to) (from_place source place) l)
+
+-- a line ends with the byte at the place, by what stands behind it
+pub ends_at : (source : List ℕ) (place : ℕ) → place < length source
+    → ends_source_line (take (length source - place) (drop place source))
+    ≡ ends_source_line (get_or source place 0 ∷ take (length source - (place + 1)) (drop (place + 1) source))
+ends_at source place low =
+    ap ends_source_line (from_place source place ∙ drop_more source place 0 low)
+    ∙ ap (λ rest. ends_source_line (get_or source place 0 ∷ rest)) (sym (from_place source (place + 1)))
+
+-- where no line ends, a byte at least is read
+reads_some : (bytes : List ℕ) (n : ℕ) (from to : TagState) → is_at_line_end bytes ≡ false → is_final from ≡ false
+    → LeadsTo from (take n bytes) to → (is_final to ≡ true) ⊎ (is_at_line_end (drop n bytes) ≡ true) → 0 < n
+reads_some bytes zero from to text unfinished same (inl final) =
+    absurd (let other : is_final from ≡ true = ap is_final same ∙ final in cc)
+reads_some bytes zero from to text unfinished same (inr ends) = absurd (let other : is_at_line_end bytes ≡ true = ends in cc)
+reads_some bytes (suc n) from to text unfinished leads end = omega arith
+
+pub text_rises : (source : List ℕ) (place n : ℕ) (from to : TagState) → place < length source
+    → is_line_ending (get_or source place 0) ≡ false → is_final from ≡ false
+    → LeadsTo from (take n (take (length source - place) (drop place source))) to
+    → (is_final to ≡ true) ⊎ (is_at_line_end (drop n (take (length source - place) (drop place source))) ≡ true) → 0 < n
+text_rises source place n from to low plain =
+    reads_some (take (length source - place) (drop place source)) n from to
+    (rw (from_place source place, drop_more source place 0 low) plain)
 
 -- without a handler no line end is kept
 pub no_handler_stops : {F : Type 0} (g : Shared F (Bor (List ℕ) × Unit {0}) ℕ) (handler : Option (Bor F))

@@ -1,6 +1,6 @@
 use Rattle.std.proofs.Common.{arith}
 use Rattle.std.proofs.lemmas.Grind.{common_steps}
-use Rattle.markdown_scanners_tree.proofs.scanners.tag_state.TagState.after_line_ending.Goals as goal
+use Rattle.markdown_scanners_tree.proofs.scanners.tag_state.TagState.after_end_of_line.Goals as goal
 
 pub returns-in-Name : goal.returns-in-Name
 returns-in-Name c = grind (arith, common_steps)
