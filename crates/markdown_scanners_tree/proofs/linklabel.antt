@@ -5,6 +5,7 @@ pub mod FrontLemmas
 pub mod JoinedWords
 pub mod KeptTextSteps
 pub mod KeyBlocks
+pub mod LabelLengths
 pub mod LabelRoom
 pub mod MeasureLemmas
 pub mod OneLabel

@@ -15,6 +15,7 @@ pub mod html_kinds
 pub mod html_tag
 pub mod links
 pub mod list_items
+pub mod reference_definitions
 pub mod tables
 pub mod tag_state
 pub mod titles

@@ -18,6 +18,7 @@ ghost use Rattle.markdown_scanners_tree.specs.linklabel.private.Steady.{IsSteady
 
 mod key;
 mod key_block;
+mod length;
 mod measure;
 mod steps;
 mod tally;
@@ -27,6 +28,7 @@ mod write;
 
 use caseless::default_caseless_match_str;
 use key::{eq_ascii, hash_ascii, hash_folded};
+pub(crate) use length::label_len;
 use markdown_values::strings::CowStr;
 use measure::{Measure, measure_label};
 use std::alloc::{AllocError, Global};

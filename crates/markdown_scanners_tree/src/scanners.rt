@@ -16,6 +16,7 @@ mod links;
 mod list_items;
 mod metadata;
 mod numbers;
+mod reference_definitions;
 mod runs;
 mod tables;
 mod tag_state;
@@ -45,6 +46,7 @@ pub use links::{
 pub use list_items::scan_listitem;
 pub(crate) use list_items::scan_marker;
 pub use metadata::{scan_closing_metadata_block, scan_metadata_block};
+pub use reference_definitions::{ReferenceDefinition, scan_reference_definition};
 pub use runs::{
     scan_ch, scan_ch_repeat, scan_rev_while, scan_spaces_and_tabs, scan_while,
     scan_whitespace_no_nl,

@@ -69,7 +69,7 @@ label_stays t ks more label is = elim (brackets_stay ks more) [
   | inr same ↦ ap (label_between t) same ∙ is
 ]
 
-same_label : (t : Bool) (ks ls : List KeptByte) (label other : Label) → Extends ls ks ⊎ Extends ks ls
+pub same_label : (t : Bool) (ks ls : List KeptByte) (label other : Label) → Extends ls ks ⊎ Extends ks ls
     → label_of t ks ≡ Some label → label_of t ls ≡ Some other → label ≡ other
 same_label t ks ls label other (inl more) is is' =
     let both : Some label ≡ Some other =

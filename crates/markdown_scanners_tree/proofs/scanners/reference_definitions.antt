@@ -1,0 +1,4 @@
+pub mod DefinitionLemmas
+pub mod GapLemmas
+pub mod OneDefinition
+pub mod Rows

@@ -1,0 +1,36 @@
+use Rattle.std.proofs.Common.{◌+◌, subst}
+use Rattle.markdown_scanners_tree.specs.scanners.reference_definitions.ReferenceDefinition.{IsEnd}
+use Rattle.markdown_scanners_tree.proofs.SomeExactlyLemmas.{SomeExactly-from_none}
+use Rattle.markdown_scanners_tree.proofs.scanners.reference_definitions.DefinitionLemmas.{title_cut}
+use Rattle.markdown_scanners_tree.proofs.scanners.reference_definitions.OneDefinition.{one_target, one_reference_definition}
+use Rattle.markdown_scanners_tree.proofs.scanners.reference_definitions.scan_reference_definition.Goals as goal
+
+pub returns-in_err-target-clause-found : goal.returns-in_err-target-clause-found
+returns-in_err-target-clause-found c =
+    SomeExactly-from_none _ c.from_residual.ensures (λ d is.
+    c.in_err-target.ensures.found (record { label = d.label; destination = d.destination; place = is.place }) is.target)
+
+pub returns-in_err-title-clause-found : goal.returns-in_err-title-clause-found
+returns-in_err-title-clause-found c =
+    let bytes = c.args.bytes.now in
+    SomeExactly-from_none _ c.from_residual-in_err-title.ensures (λ d is.
+    (let same =
+    one_target (c.args.max_next + 1) bytes d.label d.destination is.place c.in_ok-target.target.label
+    c.in_ok-target.target.destination c.in_ok-target.target.place is.target c.in_ok-target.ensures.found in
+    c.in_err-title.ensures.found (d.title, d.len) (subst (λ p. IsEnd bytes p d.title d.len) same.2 is.ends)))
+
+pub returns-clause-only : goal.returns-clause-only
+returns-clause-only c = λ other is.
+    one_reference_definition (c.args.max_next + 1) c.args.bytes.now other _ is (record {
+      place = c.in_ok-target.target.place;
+      target = c.in_ok-target.ensures.found;
+      ends = c.in_ok-title.ensures.found;
+    })
+
+pub returns-clause-title_cut : goal.returns-clause-title_cut
+returns-clause-title_cut c =
+    title_cut c.args.bytes.now c.in_ok-target.target.place c.in_ok-title.title c.in_ok-title.ensures.title_cut
+    c.in_ok-target.ensures.behind
+
+pub returns-clause-behind : goal.returns-clause-behind
+returns-clause-behind c = λ utf8. c.in_ok-title.ensures.behind utf8 (c.in_ok-target.ensures.behind utf8)

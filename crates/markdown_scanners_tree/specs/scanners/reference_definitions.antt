@@ -1,0 +1,2 @@
+pub mod ReferenceDefinition
+pub mod private

@@ -1,0 +1,192 @@
+//! Link reference definitions.
+ghost use Rattle.std.specs.Prelude.{◌≡◌, ◌==◌, ◌+◌, ◌-◌, ◌<◌, ◌≤◌, IfSome, length};
+ghost use Rattle.markdown_scanners_tree.specs.Ascii.{colon};
+ghost use Rattle.markdown_scanners_tree.specs.Bytes.{begins_with};
+ghost use Rattle.std.specs.Str.{IsUtf8, IsCharBoundary};
+ghost use Rattle.markdown_scanners_tree.specs.SomeExactly.{SomeExactly, IsOnly};
+ghost use Rattle.markdown_scanners_tree.specs.scanners.reference_definitions.ReferenceDefinition.{IsReferenceDefinition, IsLabelWithColon, IsTarget, IsTitleLine, IsEnd, IsRestOfLine, IsCutAt};
+ghost use Rattle.markdown_scanners_tree.specs.scanners.reference_definitions.private.GapLength.{gap_length};
+
+use crate::linklabel::label_len;
+use crate::scanners::lines::scan_eol;
+use crate::scanners::links::scan_link_dest_bytes;
+use crate::scanners::runs::scan_spaces_and_tabs;
+use crate::scanners::titles::scan_link_title;
+use std::ops::Range;
+
+/// Where the parts of a link reference definition stand, by their places in the text that it begins.
+#[derive(Debug, Drop, PartialEq)]
+pub struct ReferenceDefinition {
+    /// What stands between the brackets of its label.
+    pub label: Range<usize>,
+    /// The raw text of its destination, without angle brackets.
+    pub destination: Range<usize>,
+    /// The raw text of its title, without the two bytes around it, if it has one.
+    pub title: Option<Range<usize>>,
+    /// How many bytes it takes, its line ending among them.
+    pub len: usize,
+}
+
+/// The link reference definition at the front of a paragraph's content, of which the markers of
+/// containers and the indents of lines are no part. Parentheses in its destination nest at most
+/// `max_next + 1` deep, as in `scan_link_dest`.
+///
+/// A title that something follows in its line is none. Where it began in a line of its own, the
+/// definition ends with the line of its destination, and else there is no definition. No memory is
+/// asked for; what `scan_link_label_rest` reads from `label.start` on is the label. (CommonMark
+/// 0.31.2, section 4.7)
+pub fn scan_reference_definition(bytes: &[u8], max_next: usize) -> Option<ReferenceDefinition>
+    // The one definition that stands there is answered.
+    ensures found { SomeExactly (IsReferenceDefinition (max_next + 1) bytes.now) result }
+    ensures only { IsOnly (IsReferenceDefinition (max_next + 1) bytes.now) result }
+
+    // Its parts stand one after another in what it takes.
+    ensures within { IfSome result (λ d. d.len ≤ length bytes.now) }
+    ensures label { IfSome result (λ d. (0 < d.label.start) × (d.label.start ≤ d.label.end)
+        × (d.label.end < d.destination.start)) }
+    ensures destination { IfSome result (λ d. (d.destination.start ≤ d.destination.end)
+        × (d.destination.end ≤ d.len)) }
+    ensures title { IfSome result (λ d. IfSome d.title (λ title. (d.destination.end < title.start)
+        × (title.start ≤ title.end) × (title.end < d.len))) }
+
+    // A text may be cut where each of them begins and ends, and behind all that it takes.
+    ensures label_cut { IfSome result (λ d. IsUtf8 bytes.now → IsCutAt bytes.now d.label) }
+    ensures destination_cut { IfSome result (λ d. IsUtf8 bytes.now
+        → IsCutAt bytes.now d.destination) }
+    ensures title_cut { IfSome result (λ d. IfSome d.title (λ title. IsUtf8 bytes.now
+        → IsCutAt bytes.now title)) }
+    ensures behind { IfSome result (λ d. IsUtf8 bytes.now → IsCharBoundary bytes.now d.len) }
+{
+    let target = scan_target(bytes, max_next)?;
+    let (title, len) = scan_end(bytes, target.place)?;
+    Some(ReferenceDefinition {
+        label: target.label,
+        destination: target.destination,
+        title,
+        len,
+    })
+}
+
+// The label and the destination of a definition, and the place behind them.
+#[derive(Drop)]
+struct Target {
+    label: Range<usize>,
+    destination: Range<usize>,
+    place: usize,
+}
+
+// What a definition begins with.
+fn scan_target(bytes: &[u8], max_next: usize) -> Option<Target>
+    ensures found { SomeExactly
+        (λ t. IsTarget (max_next + 1) bytes.now t.label t.destination t.place) result }
+    ensures within { IfSome result (λ t. t.place ≤ length bytes.now) }
+    ensures label { IfSome result (λ t. (0 < t.label.start) × (t.label.start ≤ t.label.end)
+        × (t.label.end < t.destination.start)) }
+    ensures destination { IfSome result (λ t. (t.destination.start ≤ t.destination.end)
+        × (t.destination.end ≤ t.place)) }
+    ensures label_cut { IfSome result (λ t. IsUtf8 bytes.now → IsCutAt bytes.now t.label) }
+    ensures destination_cut { IfSome result (λ t. IsUtf8 bytes.now
+        → IsCutAt bytes.now t.destination) }
+    ensures behind { IfSome result (λ t. IsUtf8 bytes.now → IsCharBoundary bytes.now t.place) }
+{
+    let named = scan_label_and_colon(bytes)?;
+    let start = named + gap_len(&bytes[named..]);
+    let (taken, raw) = scan_link_dest_bytes(&bytes[start..], max_next)?;
+    if taken == 0 {
+        return None;
+    }
+    Some(Target {
+        label: 1..named - 2,
+        destination: start + raw.start..start + raw.end,
+        place: start + taken,
+    })
+}
+
+// The length of the label at the front, with its brackets and the colon behind them.
+fn scan_label_and_colon(bytes: &[u8]) -> Option<usize>
+    ensures found { SomeExactly (IsLabelWithColon bytes.now) result }
+    ensures within { IfSome result (λ n. (3 ≤ n) × (n ≤ length bytes.now)) }
+    ensures begins { IfSome result (λ n. IsUtf8 bytes.now → IsCharBoundary bytes.now 1) }
+    ensures ends { IfSome result (λ n. IsUtf8 bytes.now → IsCharBoundary bytes.now (n - 2)) }
+    ensures behind { IfSome result (λ n. IsUtf8 bytes.now → IsCharBoundary bytes.now n) }
+{
+    let inside = bytes.strip_prefix(b"[")?;
+    let length = label_len(inside)?;
+    if begins_with_colon(&inside[length..]) {
+        Some(length + 2)
+    } else {
+        None
+    }
+}
+
+// Whether a colon stands at the front.
+fn begins_with_colon(rest: &[u8]) -> bool
+    ensures { result ≡ begins_with (λ b. b == colon) rest.now }
+{
+    matches!(rest, [b':', ..])
+}
+
+// How a definition ends whose destination ends at the place: the title, if it has one, and the place
+// behind its last line.
+fn scan_end(bytes: &[u8], place: usize) -> Option<(Option<Range<usize>>, usize)>
+    requires { place ≤ length bytes.now }
+    ensures found { SomeExactly (λ r. IsEnd bytes.now place r.0 r.1) result }
+    ensures within { IfSome result (λ r. (place ≤ r.1) × (r.1 ≤ length bytes.now)) }
+    ensures title { IfSome result (λ r. IfSome r.0 (λ title. (place < title.start)
+        × (title.start ≤ title.end) × (title.end < r.1))) }
+    ensures title_cut { IfSome result (λ r. IfSome r.0 (λ title. IsUtf8 bytes.now
+        → IsCharBoundary bytes.now place → IsCutAt bytes.now title)) }
+    ensures behind { IfSome result (λ r. IsUtf8 bytes.now → IsCharBoundary bytes.now place
+        → IsCharBoundary bytes.now r.1) }
+{
+    match scan_title_line(bytes, place) {
+        Some((title, end)) => Some((Some(title), end)),
+        None => {
+            let ending = scan_rest_of_line(&bytes[place..])?;
+            Some((None, place + ending))
+        }
+    }
+}
+
+// The title behind the destination that ends at the place, and the place behind its line.
+fn scan_title_line(bytes: &[u8], place: usize) -> Option<(Range<usize>, usize)>
+    requires { place ≤ length bytes.now }
+    ensures found { SomeExactly (λ r. IsTitleLine bytes.now place r.0 r.1) result }
+    ensures within { IfSome result (λ r. r.1 ≤ length bytes.now) }
+    ensures title { IfSome result (λ r. (place < r.0.start) × (r.0.start ≤ r.0.end)
+        × (r.0.end < r.1)) }
+    ensures title_cut { IfSome result (λ r. IsUtf8 bytes.now → IsCharBoundary bytes.now place
+        → IsCutAt bytes.now r.0) }
+    ensures behind { IfSome result (λ r. IsUtf8 bytes.now → IsCharBoundary bytes.now place
+        → IsCharBoundary bytes.now r.1) }
+{
+    let start = place + gap_len(&bytes[place..]);
+    if start == place {
+        return None;
+    }
+    let end = start + scan_link_title(&bytes[start..])?;
+    let ending = scan_rest_of_line(&bytes[end..])?;
+    Some((start + 1..end - 1, end + ending))
+}
+
+// The length of the spaces and tabs at the front, including up to one line ending.
+fn gap_len(bytes: &[u8]) -> usize
+    ensures gap { result ≡ gap_length bytes.now }
+    ensures within { result ≤ length bytes.now }
+    ensures behind { IsUtf8 bytes.now → IsCharBoundary bytes.now result }
+{
+    let spaces = scan_spaces_and_tabs(bytes);
+    let first = spaces + scan_eol(&bytes[spaces..]).unwrap_or(0);
+    first + scan_spaces_and_tabs(&bytes[first..])
+}
+
+// The length of the rest of a line in which no further character occurs, with its line ending.
+fn scan_rest_of_line(bytes: &[u8]) -> Option<usize>
+    ensures found { SomeExactly (IsRestOfLine bytes.now) result }
+    ensures within { IfSome result (λ n. n ≤ length bytes.now) }
+    ensures behind { IfSome result (λ n. IsUtf8 bytes.now → IsCharBoundary bytes.now n) }
+{
+    let spaces = scan_spaces_and_tabs(bytes);
+    let ending = scan_eol(&bytes[spaces..])?;
+    Some(spaces + ending)
+}
