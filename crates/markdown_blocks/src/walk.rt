@@ -1,5 +1,5 @@
 //! A page cut into blocks, from the first to the last.
-ghost use Rattle.std.specs.Prelude.{◌≡◌, ◌<◌, ◌≤◌, [], List, ℕ, length, take, drop, IsTrue, IfOk, IfErr, IfSome, IfNone, OnOk};
+ghost use Rattle.std.specs.Prelude.{◌≡◌, ◌<◌, ◌≤◌, ◌+◌, [], List, ℕ, length, take, drop, IsTrue, IfOk, IfErr, IfSome, IfNone, OnOk};
 ghost use Rattle.markdown_blocks.specs.blocks.Pages.{NoneIsOver};
 ghost use Rattle.markdown_blocks.specs.containers.Containers.{settled, settled_last};
 ghost use Rattle.markdown_blocks.specs.declared.containers.Container.{Container};
@@ -75,6 +75,8 @@ impl Walk {
         ensures some { IfOk result (λ found. IfSome found (λ step. 0 < step.block.taken.bytes)) }
         ensures within { IfOk result (λ found. IfSome found (λ step.
             step.block.taken.bytes ≤ length lines.now)) }
+        ensures few { IfOk result (λ found. IfSome found (λ step.
+            length self.new ≤ step.kept + step.block.taken.bytes)) }
         ensures none { IfOk result (λ found.
             IfNone found (NoneIsOver self.old lines.now has_ended)) }
         ensures all { IfOk result (λ found. IfNone found (IsTrue has_ended → lines.now ≡ [])) }
@@ -107,8 +109,9 @@ fn open_containers<'a>(
     outer: &mut Vec<Container>,
     line: &'a [u8],
 ) -> Result<(usize, usize, &'a [u8]), AllocError>
-    ensures { IfOk result (λ r. IsOpening outer.old.items line.now outer.new.items r.0
+    ensures opening { IfOk result (λ r. IsOpening outer.old.items line.now outer.new.items r.0
         (record { indent = r.1; text = r.2.now })) }
+    ensures few { IfOk result (λ r. length outer.new.items ≤ r.0 + length line.now) }
 {
     let (kept, mut start) = go_on(line, Outer::new(outer));
     keep(outer, kept)?;

@@ -19,7 +19,7 @@ pub use Rattle.markdown_scanners_tree.proofs.scanners.Scanned.{one_tag, one_tag_
 pub use Rattle.markdown_scanners_tree.proofs.scanners.breaks.BreakLemmas.{is_thematic_break-found}
 pub use Rattle.markdown_scanners_tree.proofs.scanners.html_kinds.StartLemmas.{none_unopened}
 pub use Rattle.markdown_scanners_tree.proofs.scanners.runs.CallableLemmas.{callable_in_turn}
-pub use Rattle.markdown_scanners_tree.proofs.scanners.text_lines.LineSteps.{first_line-taken}
+pub use Rattle.markdown_scanners_tree.proofs.scanners.text_lines.LineSteps.{first_line-taken, lines_joined}
 
 -- A text has one answer: two that meet a definition there are equal.
 pub ruleset only_answers = (

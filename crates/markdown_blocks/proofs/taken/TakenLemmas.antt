@@ -2,8 +2,9 @@
 use Rattle.std.proofs.Common.{ℕ, List, [], ◌∷◌, ◌++◌, ◌≡◌, inl, inr, length, drop, refl, sym, ap, ◌∙◌, append_assoc, append-nil, length-append}
 use Rattle.std.proofs.Common.{◌+◌, ◌-◌, ◌<◌, ◌≤◌, take, arith}
 use Rattle.std.proofs.lemmas.List.{drop-drop, length-drop, take_all}
-use Rattle.std.specs.List.{AllByRecursion}
-use Rattle.markdown_scanners_tree.proofs.ForCallers.{first_line-taken}
+use Rattle.std.specs.List.{AllByRecursion, concat}
+use Rattle.std.proofs.lemmas.List.Folds.{concat-append}
+use Rattle.markdown_scanners_tree.proofs.ForCallers.{first_line-taken, lines_joined}
 use Rattle.markdown_scanners_tree.specs.Bytes.{line_length}
 use Rattle.markdown_scanners_tree.specs.scanners.TextLines.{lines_of}
 use Rattle.markdown_blocks.specs.declared.taken.Taken.{Taken}
@@ -91,3 +92,21 @@ module _ (P : List ℕ → Type 0) (text : List ℕ) where
       (drop taken.bytes text)) → Through outer first taken
   through-end outer first taken u end lines h =
       let before = u lines h in (before.0, before.1, inr (before.2, end))
+
+-- so many bytes are those of the lines that are taken
+pub lines_bytes : (text : List ℕ) (bytes : ℕ) (lines : List (List ℕ)) → bytes ≤ length text → lines_of text ≡ lines ++ lines_of (drop bytes text)
+    → bytes ≡ length (concat lines)
+lines_bytes text bytes lines within parts =
+    let whole : length text ≡ length (concat lines) + length (drop bytes text) =
+    ap length (sym (lines_joined text) ∙ ap concat parts ∙ concat-append lines (lines_of (drop bytes text))
+    ∙ ap (λ rest. concat lines ++ rest) (lines_joined (drop bytes text))) ∙ length-append (concat lines) (drop bytes text) in
+    omega (arith, within, whole, length-drop bytes text)
+
+-- the first of them has no more
+pub first_within : (text : List ℕ) (taken : Taken) (line : List ℕ) (later : List (List ℕ)) → IsTaken text taken (line ∷ later)
+    → length line ≤ taken.bytes
+first_within text taken line later h =
+    let bytes = lines_bytes text taken.bytes (line ∷ later) h.within h.parts in
+    let parts = ap length (concat-append (line ∷ []) later) ∙ length-append (concat (line ∷ [])) (concat later) in
+    let one = ap length (append-nil line) in
+    omega (arith, bytes, parts, one)

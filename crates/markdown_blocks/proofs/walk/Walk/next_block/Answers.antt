@@ -1,7 +1,7 @@
-use Rattle.std.proofs.Common.{◌≡◌, ◌∷◌, ℕ, List, [], IsTrue, inl, sym, ◌∙◌}
+use Rattle.std.proofs.Common.{◌≡◌, ◌∷◌, ℕ, List, [], IsTrue, inl, sym, ◌∙◌, arith}
 use Rattle.markdown_blocks.proofs.kinds.KindLemmas.{not_told}
 use Rattle.markdown_blocks.proofs.blocks.OverLemmas.{leaf-more}
-use Rattle.markdown_blocks.proofs.taken.TakenLemmas.{taken-next}
+use Rattle.markdown_blocks.proofs.taken.TakenLemmas.{taken-next, first_within}
 use Rattle.markdown_blocks.proofs.whole.WholeLemmas.{some_lines}
 use Rattle.markdown_blocks.proofs.walk.WalkLemmas.{some_bytes, step_here, none_over}
 use Rattle.markdown_blocks.proofs.walk.Walk.next_block.Goals as goal
@@ -22,7 +22,7 @@ returns-then-not-is_over-clause-none c =
     let one = taken-next c.args.lines.now c.nothing.result c.in-Some.first [] c.in-Some.line.now (c.nothing.ensures c.args.lines.now) c.in-Some.ensures.line in
     let block = rw (c.new.ensures ∙ c.deref-2.ensures.value) at (c.in_ok-block.ensures c.in-Some.line.now one) in
     let over = rw (c.new-2.ensures ∙ c.deref-3.ensures.value) at (c.is_over.ensures (c.in-Some.line.now ∷ block.later) block.taken) in
-    let opening = rw (c.in_ok-extend_from_slice.ensures.items, c.clear.ensures.items, c.deref.ensures.value) at c.in_ok-kept.ensures in
+    let opening = rw (c.in_ok-extend_from_slice.ensures.items, c.clear.ensures.items, c.deref.ensures.value) at c.in_ok-kept.ensures.opening in
     rw (← c.self.view_is) (none_over c.self.inside.open.items c.open_containers.new.outer.items c.in-Some.line.now
     c.args.lines.now c.args.has_ended c.in_ok-kept.kept _ c.in_ok-block.block opening block (not_told c.if-not-is_over.true over.1))
 
@@ -41,8 +41,15 @@ returns-clause-step c = λ more none.
     let one = taken-next c.args.lines.now c.nothing.result c.in-Some.first [] c.in-Some.line.now (c.nothing.ensures c.args.lines.now) c.in-Some.ensures.line in
     let block = rw (c.new.ensures ∙ c.deref-2.ensures.value) at (c.in_ok-block.ensures c.in-Some.line.now one) in
     let over = rw (c.new-2.ensures ∙ c.deref-3.ensures.value) at (c.is_over.ensures (c.in-Some.line.now ∷ block.later) block.taken) in
-    let opening = rw (c.in_ok-extend_from_slice.ensures.items, c.clear.ensures.items, c.deref.ensures.value) at c.in_ok-kept.ensures in
+    let opening = rw (c.in_ok-extend_from_slice.ensures.items, c.clear.ensures.items, c.deref.ensures.value) at c.in_ok-kept.ensures.opening in
     let leaf = leaf-more c.open_containers.new.outer.items more c.in_ok-block.block.kind _ block.later _ c.args.has_ended
     (over.0 c.if-not-is_over.false) none block.leaf in
     rw (← c.self.view_is, c.swap.ensures.x_after) (step_here c.self.inside.open.items c.open_containers.new.outer.items
     c.in-Some.line.now c.args.lines.now more _ opening block leaf)
+
+pub returns-clause-few : goal.returns-clause-few
+returns-clause-few c =
+    let one = taken-next c.args.lines.now c.nothing.result c.in-Some.first [] c.in-Some.line.now (c.nothing.ensures c.args.lines.now) c.in-Some.ensures.line in
+    let block = c.in_ok-block.ensures c.in-Some.line.now one in
+    let line = first_within c.args.lines.now c.in_ok-block.block.taken c.in-Some.line.now block.later block.taken in
+    rw c.swap.ensures.x_after (omega (arith, line, c.in_ok-kept.ensures.few))
