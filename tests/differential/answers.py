@@ -365,6 +365,35 @@ def link_title(text):
     return length if length and all(blank_line(it) is None for it in lines(text[:length])) else None
 
 
+GAP = rb"[ \t]*(?:\r\n|\r|\n)?[ \t]*"
+
+
+def link_destination(text, start, max_next):
+    """A destination without escapes, in angle brackets or bare and not empty: where it stands, and where it ends."""
+    pointed = re.compile(rb"<([^<>\n\r]*)>").match(text, start)
+    bare = None if text[start:start + 1] == b"<" else destination(text[start:], max_next)
+    return pointed.span(1) + (pointed.end(),) if pointed else bare and (start, start + bare, start + bare)
+
+
+def reference_definition(text, max_next):
+    """A link reference definition (4.7) whose label and destination have no escapes: where its label, its destination and its
+    title stand, and its length."""
+    rest_of_line = re.compile(rb"[ \t]*" + ENDING)
+    name = label(text[1:], lambda rest: 0) if text[:1] == b"[" else None
+    colon = name and re.compile(b":" + GAP).match(text, 1 + name[0])
+    target = colon and link_destination(text, colon.end(), max_next)
+    if not target:
+        return None
+    begun = ((1, name[0]), target[:2])
+    start = re.compile(GAP).match(text, target[2]).end()
+    title = link_title(text[start:]) if start > target[2] else None
+    titled = title and rest_of_line.match(text, start + title)
+    if titled:
+        return (*begun, (start + 1, start + title - 1), titled.end())
+    untitled = rest_of_line.match(text, target[2])
+    return untitled and (*begun, None, untitled.end())
+
+
 def wikilink(text, start, length):
     """The first pipe in so many bytes: the place behind it, and what stands before it."""
     hit = text.find(b"|", start, start + length)

@@ -148,6 +148,14 @@ def told_title(text):
     return some(answers.link_title(text))
 
 
+def told_definition(text, max_next):
+    found = answers.reference_definition(text, max_next)
+    if not found:
+        return some(None)
+    label, destination, title = (it and Plain(f"{it[0]}..{it[1]}") for it in found[:3])
+    return some(Value("ReferenceDefinition", label=label, destination=destination, title=some(title), len=found[3]))
+
+
 HTML_LINES = (b"<PRE>", b"a --> b", b"</td/>", b"<b c> \n")
 
 
@@ -168,6 +176,7 @@ def inline():
         some(answers.wikilink(b"a|b]]", 0, 3)), told_destination(b"((a))", 1), told_destination(b"(((a)))", 1),
         some((end, borrowed(address), Value("Autolink"))), some(answers.wikilink(b"a|b]]", 0, 3)[0] - 1),
         some((bare, Plain(f"0..{bare}"))), some(len(address)), *map(told_title, (b"'a\n\\'b' c", b"(a\n\nb)")),
+        told_definition(b"[a]: <b>\n'c'\n", 1), told_definition(b"[a]: b 'c' d", 1),
         answers.is_block_name(b"DIV>"),
         some(answers.tag_alone(b"<a b=\t'c'>  \n")), *map(told_html, HTML_LINES),
         *(answers.ends_html(b"", it) for it in ("Comment", "TagAlone")), told_tag(b"<foo bar>", None), told_tag(b"</a\n>", None),

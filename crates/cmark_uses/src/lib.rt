@@ -10,3 +10,4 @@ pub mod links;
 pub mod options;
 pub mod outline;
 pub mod pass;
+pub mod walk;

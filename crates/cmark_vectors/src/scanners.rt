@@ -5,6 +5,7 @@ mod html_kinds;
 mod html_tag;
 mod links;
 mod list_items;
+mod reference_definitions;
 mod runs;
 mod text_lines;
 mod unescaping;

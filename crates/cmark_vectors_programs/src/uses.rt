@@ -8,3 +8,4 @@ mod links;
 mod options;
 mod outline;
 mod pass;
+mod walk;

@@ -1,2 +1,3 @@
 -- Lemmas that other crates cite.
 pub use Rattle.markdown_blocks.proofs.blocks.OneText.{one_piece, one_page}
+pub use Rattle.markdown_blocks.proofs.events.EventLemmas.{one_list_of_events}

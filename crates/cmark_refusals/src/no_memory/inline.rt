@@ -10,7 +10,8 @@ use crate::unescaping::{AMPERSAND, unescaped};
 use markdown_scanners_tree::scanners::{
     HtmlBlockKind, ends_html_block, scan_autolink, scan_autolink_bytes, scan_entity,
     scan_html_block_start, scan_html_type_7, scan_link_dest, scan_link_dest_bytes, scan_link_title,
-    scan_table_head, scan_wikilink_pipe, scan_wikilink_pipe_bytes, starts_html_block_type_6,
+    scan_reference_definition, scan_table_head, scan_wikilink_pipe, scan_wikilink_pipe_bytes,
+    starts_html_block_type_6,
 };
 use std::alloc::Global;
 use std::io::Stdout;
@@ -20,6 +21,7 @@ pub(crate) fn run(alloc: Global, output: Stdout) -> Result<(), Stop> {
     references(output)?;
     links(output)?;
     links_of_bytes(output)?;
+    reference_definitions(output)?;
     html_blocks(output)?;
     tags(alloc, output)?;
     unchanged(alloc, output)?;
@@ -63,6 +65,14 @@ fn links_of_bytes(output: Stdout) -> Result<(), Stop> {
         output,
         scan_link_title(b"'a\n\\'b' c"),
         scan_link_title(b"(a\n\nb)"),
+    )
+}
+
+fn reference_definitions(output: Stdout) -> Result<(), Stop> {
+    tell_two(
+        output,
+        scan_reference_definition(b"[a]: <b>\n'c'\n", 1),
+        scan_reference_definition(b"[a]: b 'c' d", 1),
     )
 }
 

@@ -6,6 +6,7 @@ use Rattle.std.specs.List.{concat}
 use Rattle.std.specs.Option.{option_map}
 use Rattle.std.proofs.lemmas.List.{drop_at, length-take}
 use Rattle.markdown_scanners_tree.specs.scanners.TextLines.{lines_of}
+use Rattle.markdown_blocks.proofs.blocks.OneText.{one_page}
 use Rattle.markdown_blocks.proofs.taken.TakenLemmas.{lines_bytes}
 use Rattle.markdown_blocks.specs.containers.Containers.{Rest, behind, settled_last}
 use Rattle.markdown_blocks.specs.declared.blocks.BlockKind.{BlockKind}
@@ -13,7 +14,7 @@ use Rattle.markdown_blocks.specs.declared.containers.Container.{Container}
 use Rattle.markdown_blocks.specs.declared.walk.Step.{Step}
 use Rattle.markdown_blocks.specs.blocks.Pages.{Piece, IsPiece, AreBlocks, lines_in}
 use Rattle.markdown_blocks.specs.events.Events.{Event, starts, leaf, ends, LeafBlock, leaf_of, events_from}
-use Rattle.markdown_blocks.specs.events.Events.{seen_leaf, Left, pending, Gives}
+use Rattle.markdown_blocks.specs.events.Events.{seen_leaf, Left, pending, Gives, IsEventsOf}
 use Rattle.markdown_blocks.specs.declared.events.Leaf.{Leaf}
 use Rattle.markdown_blocks.specs.taken.Lines.{IsTaken}
 use Rattle.markdown_blocks.specs.walk.Walk.{IsStep, rest_of}
@@ -174,3 +175,8 @@ pub kept_begun : (begun kept open_now bytes : ℕ) (rest : List ℕ) → (begun 
     → kept ≤ begun
 kept_begun begun kept open_now bytes rest (inl all) few some within = omega (arith, all, few)
 kept_begun begun kept open_now bytes rest (inr none) few some within = absurd (omega (arith, some, within, ap length none))
+
+-- a page has one list of events
+pub one_list_of_events : (page : List ℕ) (events others : List Event) → IsEventsOf page events → IsEventsOf page others → events ≡ others
+one_list_of_events page events others h h' =
+    h.2 ∙ ap (events_from 0 0 0) (one_page [] h.0 h'.0 (h.1.joined ∙ sym h'.1.joined) h.1.each h'.1.each) ∙ sym h'.2

@@ -1,4 +1,4 @@
-use Rattle.std.proofs.Common.{◌∙◌, ◌+◌, ◌-◌, ◌≡◌, ◌<◌, ◌≢◌, arith, refl, sym, subst, ℕ, inl, inr, get_or, ap, ◌≤◌}
+use Rattle.std.proofs.Common.{◌∙◌, ◌+◌, ◌-◌, ◌<◌, ◌≢◌, arith, refl, sym, subst, inl, inr, get_or, ap}
 use Rattle.std.specs.List.{prefix_len}
 use Rattle.markdown_scanners_tree.specs.scanners.classes.private.InDestination.{is_in_destination}
 use Rattle.markdown_scanners_tree.proofs.PrefixLemmas.{from_place}

@@ -1,0 +1,20 @@
+//! Tests of `cmark_uses::walk`.
+use crate::asserts::{assert_elements, assert_made};
+use cmark_uses::walk::{has_code, paragraph_heads};
+
+const PAGE: &[u8] = b"# a\n\nb\nc\n> d\ne\n- f\n\n  g\n\n      h\n\n```` rust\ni\n````\n1. ~~~ c\n";
+
+const HEADS: &[&[u8]] = &[b"b\n", b"d\n", b"f\n", b"g\n"];
+
+#[test]
+fn paragraphs_are_found_in_their_containers(rt: HostRuntime) {
+    assert_elements(&rt, paragraph_heads(rt.alloc(), PAGE), HEADS);
+}
+
+#[test]
+fn code_is_found_by_its_info_string(rt: HostRuntime) {
+    assert_made(&rt, has_code(rt.alloc(), PAGE, b"rust"), true);
+    assert_made(&rt, has_code(rt.alloc(), PAGE, b"c"), true);
+    assert_made(&rt, has_code(rt.alloc(), PAGE, b"i"), false);
+    assert_made(&rt, has_code(rt.alloc(), PAGE, b""), false);
+}
