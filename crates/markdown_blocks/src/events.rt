@@ -109,7 +109,8 @@ impl<'a> Blocks<'a> {
     // Reads the next block of the page, if there is one.
     fn read_block(&mut self, alloc: Global) -> Result<(), AllocError>
         requires { self.old.next ≡ None }
-        ensures same { OnOk result ((events : List Event) → Gives self.new events → Gives self.old events) }
+        ensures same { OnOk result ((events : List Event)
+            → Gives self.new events → Gives self.old events) }
         ensures no_more { OnOk result (events_left self.new ≤ events_left self.old) }
         ensures ended { OnOk result (self.new.next ≡ None
             → (self.new.text ≡ []) × (self.new.kept ≡ 0)) }

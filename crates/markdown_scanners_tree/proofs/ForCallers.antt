@@ -14,7 +14,8 @@ pub use Rattle.markdown_scanners_tree.proofs.line.run.StateRunLemmas.{run_at_fro
 pub use Rattle.markdown_scanners_tree.proofs.linklabel.OneLabel.{one_label, one_label_in_bytes}
 pub use Rattle.markdown_scanners_tree.proofs.scanners.Scanned.{same_pieces, thematic_breaks, blank_lines, place_of_rest}
 pub use Rattle.markdown_scanners_tree.proofs.scanners.Scanned.{one_atx_heading, one_blank_line, one_closing_fence, one_closing_metadata, one_code_fence, one_destination}
-pub use Rattle.markdown_scanners_tree.proofs.scanners.Scanned.{one_html_block_start, one_html_kind, one_indent, one_item, one_metadata_block, one_quote_start, one_reference, one_reference_definition, one_row}
+pub use Rattle.markdown_scanners_tree.proofs.scanners.Scanned.{one_html_block_start, one_html_kind, one_indent, one_item}
+pub use Rattle.markdown_scanners_tree.proofs.scanners.Scanned.{one_metadata_block, one_quote_start, one_reference, one_reference_definition, one_row}
 pub use Rattle.markdown_scanners_tree.proofs.scanners.Scanned.{one_tag, one_tag_alone, one_title, one_underline, one_uri}
 pub use Rattle.markdown_scanners_tree.proofs.scanners.breaks.BreakLemmas.{is_thematic_break-found}
 pub use Rattle.markdown_scanners_tree.proofs.scanners.html_kinds.StartLemmas.{none_unopened}

@@ -109,7 +109,7 @@ html_family bytes kind is = rw (html_front bytes kind is) refl
 differ : {P : Type 0} (b m n : ℕ) → family b ≡ m → family b ≡ n → ¬ (m ≡ n) → P
 differ b m n first second other = absurd (other (sym first ∙ second))
 
--- behind the indent
+-- after the indent
 one_at : (kind other : BlockKind) (text : List ℕ) → BeginsAt kind text → BeginsAt other text → kind ≡ other
 one_at Blank other text h h' = absurd h
 one_at Indented other text h h' = absurd h
@@ -149,7 +149,7 @@ one_at Paragraph (Fenced n byte) text h h' = absurd (h.2 (n, byte) h')
 one_at Paragraph (Html html) text h h' = absurd (h.3 html h')
 one_at Paragraph Paragraph text h h' = refl
 
--- what a block begins with: a blank line, an indent, or something behind no indent
+-- what a block begins with: a blank line, an indent, or something after no indent
 seen : (kind : BlockKind) (rest : Rest) → Begins kind rest
     → (IsBlank rest × (kind ≡ Blank)) ⊎ (((¬ IsBlank rest) × HasIndent rest × (kind ≡ Indented))
     ⊎ ((¬ IsBlank rest) × (¬ HasIndent rest) × BeginsAt kind rest.text))

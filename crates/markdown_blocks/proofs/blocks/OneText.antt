@@ -92,7 +92,7 @@ module _ (outer : List Container) (first : Rest) where
         let rows = (one_stop (λ line. ¬ IsRow outer line) leaf.2 leaf'.2 rest rest' tails leaf.5 leaf'.5).0 in
         (ap Table (sym leaf.4.2 ∙ leaf'.4.2), leaf.3 ∙ ap (λ l. l ∷ leaf.2) heads ∙ ap (λ ls. leaf'.1 ∷ ls) rows ∙ sym leaf'.3)
 
-    -- the lines behind the first line of a block, and the block's kind
+    -- the lines after the first line of a block, and the block's kind
     pub one_leaf : (kind other : BlockKind) → IsLeaf outer kind first a rest → IsLeaf outer other first b rest' → (kind ≡ other) × (a ≡ b)
     one_leaf kind other leaf leaf' =
         let bases = one_first (base kind) (base other) first (begins outer first kind a rest leaf) (begins outer first other b rest' leaf') in

@@ -85,14 +85,14 @@ outcome_small indent s (Some m) d n content small is = by (space_or_end_follows 
   where
     by : (t : Bool) → space_or_end_follows (bytes_further m.width s) ≡ t → n < few_digits
     by false other =
-        let told : ℕ × ℕ × ℕ = (d, n, content) in
-        absurd (let none : None ≡ Some told = rw other at is in cc)
+        let answered : ℕ × ℕ × ℕ = (d, n, content) in
+        absurd (let none : None ≡ Some answered = rw other at is in cc)
     by true here =
-        let told : ℕ × ℕ × ℕ = (d, n, content) in
+        let answered : ℕ × ℕ × ℕ = (d, n, content) in
         let marked : ℕ × ℕ × ℕ =
         (m.delimiter, m.start, indent + m.width + 1 + further_spaces (after_space 1 (bytes_further m.width s))) in
-        let some : Some marked ≡ Some told = rw here at is in
-        let same : m.start ≡ n = by_parts marked told some in
+        let some : Some marked ≡ Some answered = rw here at is in
+        let same : m.start ≡ n = by_parts marked answered some in
         omega (arith, same, small m refl)
 
 -- the number of an item fits 32 bits
