@@ -88,7 +88,7 @@ impl<'a> Blocks<'a> {
         }
     }
 
-    /// The next event of the page, or None behind the last.
+    /// The next event of the page, or None after the last.
     ///
     /// Memory is asked for as by `Walk::next_block`. After a refusal the same event may be asked for
     /// again.

@@ -32,7 +32,7 @@ pub struct Step<'a> {
     /// How many of the containers that were open the first line goes on with. The walk has the
     /// others, which it begins, behind them.
     pub kept: usize,
-    /// How many columns of space stand behind the containers, at most four.
+    /// How many columns of space stand after the containers, at most four.
     pub indent: usize,
     /// The text behind that space, with its line ending.
     pub text: &'a [u8],
@@ -89,8 +89,9 @@ impl Walk {
         self.closed.clear();
         self.closed.extend_from_slice(&self.open)?;
         let (kept, indent, text) = open_containers(&mut self.closed, line)?;
-        let block = scan_block(alloc, lines, first, Outer::new(&self.closed), indent, text)?;
-        if !is_over(lines, block, Outer::new(&self.closed), has_ended) {
+        let outer = Outer::new(&self.closed);
+        let block = scan_block(alloc, lines, first, outer, indent, text)?;
+        if !is_over(lines, block, outer, has_ended) {
             return Ok(None);
         }
         swap(&mut self.open, &mut self.closed);

@@ -1,19 +1,15 @@
 -- Lines begin with one block.
-use Rattle.std.proofs.Common.{ℕ, Bool, true, false, IsTrue, ◌≡◌, ◌⊎◌, List, [], ◌∷◌, ◌++◌, refl, sym, ap, ◌∙◌, subst, inl, inr, append_assoc}
+use Rattle.std.proofs.Common.{ℕ, Bool, true, false, ◌≡◌, ◌⊎◌, List, [], ◌∷◌, ◌++◌, refl, sym, ap, ◌∙◌, subst, inl, inr, append_assoc}
 use Rattle.std.specs.Prelude.{MatchBool}
 use Rattle.std.specs.List.{AllByRecursion}
-use Rattle.std.proofs.lemmas.Bool.{cases_Bool}
-use Rattle.markdown_values.specs.declared.values.HeadingLevel.{HeadingLevel}
 use Rattle.markdown_scanners_tree.specs.declared.scanners.html_kinds.HtmlBlockKind.{HtmlBlockKind}
 use Rattle.markdown_scanners_tree.specs.scanners.html_kinds.HtmlKinds.{ends_before_blank}
-use Rattle.markdown_scanners_tree.proofs.ForCallers.{one_underline}
-use Rattle.markdown_blocks.specs.containers.Containers.{Rest, IsInside, rest_in}
+use Rattle.markdown_blocks.specs.containers.Containers.{Rest, IsInside}
 use Rattle.markdown_blocks.specs.declared.blocks.BlockKind.{BlockKind}
 use Rattle.markdown_blocks.specs.declared.blocks.BlockKind.TheVariants.{Blank, Break, Heading, Setext, Indented, Fenced, Html, Table, Paragraph}
 use Rattle.markdown_blocks.specs.declared.containers.Container.{Container}
-use Rattle.markdown_blocks.specs.blocks.Leaves.{Begins, IsBlankIn, EndsIndented, NoMoreIndented, LastHasText, GoesOnIndented}
-use Rattle.markdown_blocks.specs.blocks.Leaves.{OnFirst, StopsBefore, StopsBehind, EndsAsHtml, EndsHtml, OutOr, LeavesParagraph, IsRow, IsLeaf}
-use Rattle.markdown_blocks.proofs.blocks.OneFirst.{one_first}
+use Rattle.markdown_blocks.specs.blocks.Leaves.{Begins, EndsIndented, NoMoreIndented, LastHasText, GoesOnIndented}
+use Rattle.markdown_blocks.specs.blocks.Leaves.{OnFirst, StopsBefore, StopsBehind, EndsAsHtml, EndsHtml, OutOr, IsLeaf}
 
 -- all lines up to the first that has a property
 pub one_stop : (P : List ℕ → Type 0) (a b rest rest' : List (List ℕ)) → a ++ rest ≡ b ++ rest' → StopsBefore P a rest → StopsBefore P b rest'

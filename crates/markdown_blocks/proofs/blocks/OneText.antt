@@ -1,17 +1,17 @@
 -- Lines begin with one paragraph, setext heading or table, and with one block; a page has one list of pieces.
-use Rattle.std.proofs.Common.{ℕ, Bool, true, false, ◌≡◌, ◌⊎◌, List, [], ◌∷◌, ◌++◌, Option}
+use Rattle.std.proofs.Common.{ℕ, true, false, ◌≡◌, List, [], ◌∷◌, ◌++◌, Option}
 use Rattle.std.proofs.Common.{Some, None, refl, sym, ap, ◌∙◌, subst, inl, inr, take, append_assoc, append-nil}
 use Rattle.std.proofs.lemmas.Bool.{cases_Bool}
 use Rattle.std.proofs.lemmas.List.{append_cancel_left}
 use Rattle.markdown_values.specs.declared.values.HeadingLevel.{HeadingLevel}
 use Rattle.markdown_scanners_tree.specs.line.State.{LineState}
 use Rattle.markdown_scanners_tree.proofs.ForCallers.{one_underline}
-use Rattle.markdown_blocks.specs.containers.Containers.{Rest, rest_at, rest_in, behind, begun_at, Opens, settled_last}
+use Rattle.markdown_blocks.specs.containers.Containers.{Rest, rest_at, rest_in, behind, Opens, settled_last}
 use Rattle.markdown_blocks.specs.declared.blocks.BlockKind.{BlockKind}
 use Rattle.markdown_blocks.specs.declared.blocks.BlockKind.TheVariants.{Blank, Break, Heading, Setext, Indented, Fenced, Html, Table, Paragraph}
 use Rattle.markdown_blocks.specs.declared.containers.Container.{Container}
 use Rattle.markdown_blocks.specs.blocks.Leaves.{In, IsUnderline, IsHead, IsRow, BeginsNoTable, OnFirst, StopsBefore, LeavesParagraph, IsLeaf}
-use Rattle.markdown_blocks.specs.blocks.Pages.{Piece, lines_in, AreOpened, IsPiece, AreBlocks}
+use Rattle.markdown_blocks.specs.blocks.Pages.{Piece, lines_in, IsPiece, AreBlocks}
 use Rattle.markdown_blocks.proofs.blocks.OneFirst.{one_first}
 use Rattle.markdown_blocks.proofs.blocks.OneLeaf.{one_stop, is_text, base, base_text, base_other, begins, one_other}
 

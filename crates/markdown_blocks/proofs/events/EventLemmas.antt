@@ -1,7 +1,7 @@
 -- Each event that is given goes before those that the walk gives from there.
 use Rattle.std.proofs.Common.{ℕ, suc, List, [], ◌∷◌, ◌++◌, ◌+◌, ◌-◌, ◌<◌, ◌≤◌, ◌≡◌, ◌⊎◌, inl, inr, Option, Some, None, length, take, drop}
-use Rattle.std.proofs.Common.{refl, sym, ap, ◌∙◌, subst, arith, append_assoc, append-nil, length-append}
-use Rattle.std.specs.Prelude.{map, replicate, IfSome}
+use Rattle.std.proofs.Common.{refl, sym, ap, ◌∙◌, subst, arith, append_assoc, length-append}
+use Rattle.std.specs.Prelude.{map, replicate}
 use Rattle.std.specs.List.{concat}
 use Rattle.std.specs.Option.{option_map}
 use Rattle.std.proofs.lemmas.List.{drop_at, length-take}
@@ -13,10 +13,9 @@ use Rattle.markdown_blocks.specs.declared.blocks.BlockKind.{BlockKind}
 use Rattle.markdown_blocks.specs.declared.containers.Container.{Container}
 use Rattle.markdown_blocks.specs.declared.walk.Step.{Step}
 use Rattle.markdown_blocks.specs.blocks.Pages.{Piece, IsPiece, AreBlocks, lines_in}
-use Rattle.markdown_blocks.specs.events.Events.{Event, starts, leaf, ends, LeafBlock, leaf_of, events_from}
+use Rattle.markdown_blocks.specs.events.Events.{Event, starts, leaf, ends, LeafBlock, events_from}
 use Rattle.markdown_blocks.specs.events.Events.{seen_leaf, Left, pending, Gives, IsEventsOf}
 use Rattle.markdown_blocks.specs.declared.events.Leaf.{Leaf}
-use Rattle.markdown_blocks.specs.taken.Lines.{IsTaken}
 use Rattle.markdown_blocks.specs.walk.Walk.{IsStep, rest_of}
 
 -- no piece is left where no line is
@@ -160,10 +159,6 @@ module _ (old new : List Container) (lines : List ℕ) (step : Step) (s : IsStep
           (length (s.piece.first ∷ s.piece.later)) n (rest_of step) pieces) bytes_are
           ∙ ap (λ w. given_as (length s.piece.kept) (s.piece.kept ++ s.piece.begun) s.piece.begun s.piece.kind
           (length (s.piece.first ∷ s.piece.later)) (length (concat (s.piece.first ∷ s.piece.later))) w pieces) (sym s.words)
-
-pub some_mapped : {A : Type 0} {P Q : A → Type 0} (found : Option A) → ((a : A) → P a → Q a) → IfSome found P → IfSome found Q
-some_mapped (Some a) f h = f a h
-some_mapped None f h = tt
 
 -- no leaf block is read
 pub none_read : (next : Option Leaf) → option_map seen_leaf next ≡ None → next ≡ None

@@ -1,7 +1,6 @@
 -- The events of a page: its containers and leaf blocks, in order. (CommonMark 0.31.2, chapter 3, "Blocks and inlines")
 use Rattle.std.specs.Prelude.{ℕ, ◌+◌, ◌-◌, ◌*◌, ◌≡◌, List, [], ◌∷◌, ◌++◌, length, drop, map, replicate, Option, Some, None}
 use Rattle.std.specs.List.{concat}
-use Rattle.std.specs.Option.{option_map}
 use Rattle.markdown_scanners_tree.specs.scanners.TextLines.{lines_of}
 use Rattle.markdown_blocks.specs.blocks.Pages.{Piece, IsPage, AreBlocks, lines_in}
 use Rattle.markdown_blocks.specs.declared.blocks.BlockKind.{BlockKind}
@@ -40,7 +39,7 @@ leaf_of line start piece = record {
 }
 
 -- The events of pieces, before which so many containers are open and so many lines and bytes stand: the containers that a
--- piece's first line does not go on with end, those that it begins start, and behind the last piece all end.
+-- piece's first line does not go on with end, those that it begins start, and after the last piece all end.
 abbrev pub events_from : ℕ → ℕ → ℕ → List Piece → List Event
 events_from depth line start [] = replicate depth ends
 events_from depth line start (piece ∷ later) =

@@ -1,4 +1,4 @@
-use Rattle.std.proofs.Common.{[], ◌≡◌, ◌≤◌, drop, length, refl, sym, ap, ◌∙◌, arith}
+use Rattle.std.proofs.Common.{[], refl, sym, ap, ◌∙◌, arith}
 use Rattle.std.proofs.lemmas.List.{drop-drop, length-drop}
 use Rattle.markdown_blocks.proofs.taken.TakenLemmas.{slice_behind}
 use Rattle.markdown_blocks.proofs.events.EventLemmas.{step_kept, block_read, none_read, kept_begun}

@@ -1,4 +1,4 @@
-use Rattle.std.proofs.Common.{◌≡◌, ◌∷◌, ℕ, List, [], IsTrue, inl, sym, ◌∙◌, arith}
+use Rattle.std.proofs.Common.{◌∷◌, [], IsTrue, inl, ◌∙◌, arith}
 use Rattle.markdown_blocks.proofs.kinds.KindLemmas.{not_told}
 use Rattle.markdown_blocks.proofs.blocks.OverLemmas.{leaf-more}
 use Rattle.markdown_blocks.proofs.taken.TakenLemmas.{taken-next, first_within}
@@ -20,8 +20,8 @@ returns-then-not-is_over-clause-all c = λ ended.
 pub returns-then-not-is_over-clause-none : goal.returns-then-not-is_over-clause-none
 returns-then-not-is_over-clause-none c =
     let one = taken-next c.args.lines.now c.nothing.result c.in-Some.first [] c.in-Some.line.now (c.nothing.ensures c.args.lines.now) c.in-Some.ensures.line in
-    let block = rw (c.new.ensures ∙ c.deref-2.ensures.value) at (c.in_ok-block.ensures c.in-Some.line.now one) in
-    let over = rw (c.new-2.ensures ∙ c.deref-3.ensures.value) at (c.is_over.ensures (c.in-Some.line.now ∷ block.later) block.taken) in
+    let block = rw (c.new-outer.ensures ∙ c.deref-2.ensures.value) at (c.in_ok-block.ensures c.in-Some.line.now one) in
+    let over = rw (c.new-outer.ensures ∙ c.deref-2.ensures.value) at (c.is_over.ensures (c.in-Some.line.now ∷ block.later) block.taken) in
     let opening = rw (c.in_ok-extend_from_slice.ensures.items, c.clear.ensures.items, c.deref.ensures.value) at c.in_ok-kept.ensures.opening in
     rw (← c.self.view_is) (none_over c.self.inside.open.items c.open_containers.new.outer.items c.in-Some.line.now
     c.args.lines.now c.args.has_ended c.in_ok-kept.kept _ c.in_ok-block.block opening block (not_told c.if-not-is_over.true over.1))
@@ -39,8 +39,8 @@ returns-clause-within c =
 pub returns-clause-step : goal.returns-clause-step
 returns-clause-step c = λ more none.
     let one = taken-next c.args.lines.now c.nothing.result c.in-Some.first [] c.in-Some.line.now (c.nothing.ensures c.args.lines.now) c.in-Some.ensures.line in
-    let block = rw (c.new.ensures ∙ c.deref-2.ensures.value) at (c.in_ok-block.ensures c.in-Some.line.now one) in
-    let over = rw (c.new-2.ensures ∙ c.deref-3.ensures.value) at (c.is_over.ensures (c.in-Some.line.now ∷ block.later) block.taken) in
+    let block = rw (c.new-outer.ensures ∙ c.deref-2.ensures.value) at (c.in_ok-block.ensures c.in-Some.line.now one) in
+    let over = rw (c.new-outer.ensures ∙ c.deref-2.ensures.value) at (c.is_over.ensures (c.in-Some.line.now ∷ block.later) block.taken) in
     let opening = rw (c.in_ok-extend_from_slice.ensures.items, c.clear.ensures.items, c.deref.ensures.value) at c.in_ok-kept.ensures.opening in
     let leaf = leaf-more c.open_containers.new.outer.items more c.in_ok-block.block.kind _ block.later _ c.args.has_ended
     (over.0 c.if-not-is_over.false) none block.leaf in
