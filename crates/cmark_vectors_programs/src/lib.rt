@@ -1,10 +1,12 @@
-//! Tests of `page_blocks`, and of the uses of the library, through their public calls.
+//! Tests of `page_blocks`, of `markdown_inlines`, and of the uses of the library, through their public calls.
 #![tactic(auto)]
 
 #[cfg(test)]
 mod asserts;
 #[cfg(test)]
 mod blocks;
+#[cfg(test)]
+mod inlines;
 #[cfg(test)]
 mod runs;
 #[cfg(test)]

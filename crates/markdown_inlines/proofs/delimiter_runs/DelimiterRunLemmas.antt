@@ -1,0 +1,104 @@
+-- The characters beside a run of delimiters, and where it ends.
+use Rattle.std.proofs.Common.{◌≡◌, ℕ, ◌+◌, ◌-◌, ◌<◌, ◌≤◌, ◌==◌, Bool, List, [], ◌∷◌, ◌++◌, length}
+use Rattle.std.proofs.Common.{drop, get_or, refl, sym, ap, ◌∙◌, subst, arith, inl, inr, Option, Some, None, append-nil}
+use Rattle.std.specs.Prelude.{encode_utf8, MatchOption}
+use Rattle.std.specs.List.{prefix_len, last_or}
+use Rattle.std.specs.Str.{chars, IsUtf8, IsCharBoundary}
+use Rattle.std.proofs.lemmas.Bool.{cases_lt, lt-ltb, le-ltb, eqb-true, eq-eqb}
+use Rattle.std.proofs.lemmas.List.{get_or-drop, length-append, nil_from_length}
+use Rattle.std.proofs.lemmas.List.Sums.{prefix_len_passes, prefix_len-drop_yes}
+use Rattle.std.proofs.lemmas.Str.{chars-append, chars-nil, chars_past_char, IsUtf8-take, IsUtf8-drop, IsCharBoundary-after_ascii}
+use Rattle.std.proofs.Math.Utf8.{encode}
+use Rattle.std.proofs.Math.Seq.{take-append_seam, drop-append_seam}
+use Rattle.markdown_inlines.specs.declared.delimiter_runs.DelimiterRun.{DelimiterRun}
+use Rattle.markdown_inlines.specs.DelimiterRuns.{IsDelimiterRun, can_open, can_close, char_before, char_after}
+
+-- a character begins with no continuation byte
+leads : (c : ℕ) (rest : List ℕ) → 128 ≤ get_or (encode_utf8 c ++ rest) 0 0 → 192 ≤ get_or (encode_utf8 c ++ rest) 0 0
+unfolding encode
+leads c rest = elim (cases_lt c 128) [
+  | inl low ↦ rw (lt-ltb c 128 low) (λ high. absurd (omega (arith, low, high)))
+  | inr a ↦ elim (cases_lt c 2048) [
+    | inl low ↦ rw (le-ltb c 128 a, lt-ltb c 2048 low) (λ high. omega arith)
+    | inr b ↦ elim (cases_lt c 65536) [
+      | inl low ↦ rw (le-ltb c 128 a, le-ltb c 2048 b, lt-ltb c 65536 low) (λ high. omega arith)
+      | inr more ↦ rw (le-ltb c 128 a, le-ltb c 2048 b, le-ltb c 65536 more) (λ high. omega arith)
+    ]
+  ]
+]
+
+-- before the last character of a text a character begins
+boundary_before : (front : List ℕ) (c : ℕ) → IsCharBoundary (front ++ encode_utf8 c) (length front)
+boundary_before front c = (
+  omega (arith, length-append front (encode_utf8 c)),
+  λ inside high.
+      let here : get_or (front ++ encode_utf8 c) (length front) 0 ≡ get_or (encode_utf8 c ++ []) 0 0 =
+      subst (λ k. get_or (front ++ encode_utf8 c) k 0 ≡ get_or (encode_utf8 c ++ []) 0 0) (omega arith)
+      (sym (get_or-drop (length front) (front ++ encode_utf8 c) 0 0)
+      ∙ ap (λ t. get_or t 0 0) (drop-append_seam front (encode_utf8 c) ∙ sym (append-nil (encode_utf8 c)))) in
+      omega (arith, here, leads c [] (omega (arith, here, high))),
+)
+
+utf8_before : (front : List ℕ) (c : ℕ) → IsUtf8 (front ++ encode_utf8 c) → IsUtf8 front
+utf8_before front c utf8 =
+    subst IsUtf8 (take-append_seam front (encode_utf8 c)) (IsUtf8-take (front ++ encode_utf8 c) (length front) utf8 (boundary_before front c))
+
+last_of_one : (cs : List ℕ) (o : Option ℕ) (c : ℕ) → last_or o (cs ++ c ∷ []) ≡ Some c
+last_of_one [] o c = refl
+last_of_one (d ∷ cs) o c = last_of_one cs (Some d) c
+
+-- the last character of a text, as its characters read backwards give it
+pub last_is : (text front : List ℕ) (c : ℕ) → IsUtf8 text → text ≡ front ++ encode_utf8 c → last_or None (chars text) ≡ Some c
+last_is text front c utf8 is =
+    let whole = subst IsUtf8 is utf8 in
+    let before = utf8_before front c whole in
+    let alone = subst IsUtf8 (drop-append_seam front (encode_utf8 c)) (IsUtf8-drop (front ++ encode_utf8 c) (length front) whole (boundary_before front c)) in
+    ap (λ t. last_or None (chars t)) is
+    ∙ ap (last_or None) (chars-append front (encode_utf8 c) before
+    ∙ ap (λ cs. chars front ++ cs) (chars_past_char (encode_utf8 c) [] c alone (sym (append-nil (encode_utf8 c))) ∙ ap (λ cs. c ∷ cs) chars-nil))
+    ∙ last_of_one (chars front) None c
+
+pub none_is : (text : List ℕ) → length text ≡ 0 → last_or None (chars text) ≡ None
+none_is text empty = ap (λ t. last_or None (chars t)) (nil_from_length text empty) ∙ ap (last_or None) chars-nil
+
+pub last_from_steps : (text : List ℕ) (last : Option ℕ) (front : List ℕ) (T : Type 0) → IsUtf8 text
+    → MatchOption last ((length text ≡ 0) × T) (λ c. text ≡ front ++ encode_utf8 c) → last_or None (chars text) ≡ last
+last_from_steps text None front T utf8 steps = none_is text steps.0
+last_from_steps text (Some c) front T utf8 steps = last_is text front c utf8 steps
+
+-- a run of one of the bytes there
+module _ (text : List ℕ) (place count byte : ℕ) (counted : count ≡ prefix_len (λ b. b == byte) (drop place text)) where
+  pub some_counted : place < length text → get_or text place 0 ≡ byte → 0 < count
+  some_counted inside here = omega (arith, counted, prefix_len-drop_yes (λ b. b == byte) text place 0 inside (eq-eqb (get_or text place 0) byte here))
+
+  pub run_ends : 0 < count → byte < 128 → place + count ≤ length text → IsUtf8 text → IsCharBoundary text (place + count)
+  run_ends some ascii fits utf8 =
+      let last : get_or text (place + (count - 1)) 0 ≡ byte =
+      sym (get_or-drop place text (count - 1) 0)
+      ∙ eqb-true (get_or (drop place text) (count - 1) 0) byte
+      (prefix_len_passes (λ b. b == byte) (drop place text) (count - 1) 0 (omega (arith, counted, some))) in
+      subst (IsCharBoundary text) (omega (arith, some))
+      (IsCharBoundary-after_ascii text (place + (count - 1)) utf8 (omega (arith, some, fits)) (omega (arith, last, ascii)))
+
+same_run : {byte byte' count count' : ℕ} {opens opens' closes closes' : Bool} → byte ≡ byte' → count ≡ count' → opens ≡ opens' → closes ≡ closes'
+    → ◌≡◌ {A = DelimiterRun} (record { byte = byte; count = count; can_open = opens; can_close = closes })
+    (record { byte = byte'; count = count'; can_open = opens'; can_close = closes' })
+same_run b n o c = λ i. record { byte = b i; count = n i; can_open = o i; can_close = c i }
+
+byte_at : (text : List ℕ) (place : ℕ) (run : DelimiterRun) → IsDelimiterRun text place run → run.byte ≡ get_or text place 0
+byte_at text place run is =
+    subst (λ k. run.byte ≡ get_or text k 0) (omega arith)
+    (sym (eqb-true (get_or (drop place text) 0 0) run.byte
+    (prefix_len_passes (λ b. b == run.byte) (drop place text) 0 0 (omega (arith, is.longest, is.some))))
+    ∙ get_or-drop place text 0 0)
+
+-- one run begins at a place
+pub one_delimiter_run : (text : List ℕ) (place : ℕ) (a b : DelimiterRun) → IsDelimiterRun text place a → IsDelimiterRun text place b → a ≡ b
+one_delimiter_run text place a b is_a is_b =
+    let byte : a.byte ≡ b.byte = byte_at text place a is_a ∙ sym (byte_at text place b is_b) in
+    let count : a.count ≡ b.count = is_a.longest ∙ ap (λ c. prefix_len (λ x. x == c) (drop place text)) byte ∙ sym is_b.longest in
+    same_run byte count
+    (is_a.opens ∙ ap (λ c. can_open c (char_before text place) (char_after text (place + a.count))) byte
+    ∙ ap (λ n. can_open b.byte (char_before text place) (char_after text (place + n))) count ∙ sym is_b.opens)
+    (is_a.closes ∙ ap (λ c. can_close c (char_before text place) (char_after text (place + a.count))) byte
+    ∙ ap (λ n. can_close b.byte (char_before text place) (char_after text (place + n))) count ∙ sym is_b.closes)

@@ -1,0 +1,3 @@
+pub mod CodeSpans
+pub mod DelimiterRuns
+pub mod Emails

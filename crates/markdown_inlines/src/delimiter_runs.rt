@@ -1,0 +1,120 @@
+//! Delimiter runs. (CommonMark 0.31.2, section 6.2)
+ghost use Rattle.std.specs.Prelude.{◌≡◌, ◌↔◌, ◌⊎◌, ◌==◌, ◌<◌, ◌≤◌, ◌+◌, Option, ℕ, length, drop, IsTrue, IfSome};
+ghost use Rattle.markdown_scanners_tree.specs.Ascii.{asterisk, underscore};
+ghost use Rattle.std.specs.List.{prefix_len};
+ghost use Rattle.std.specs.Str.{IsCharBoundary};
+ghost use Rattle.markdown_scanners_tree.specs.SomeExactly.{SomeExactly, IsOnly};
+ghost use Rattle.markdown_inlines.specs.DelimiterRuns.{IsDelimiterRun, can_open, is_left_flanking};
+ghost use Rattle.markdown_inlines.specs.DelimiterRuns.{is_white_space, is_punctuation, is_white_side, is_punctuation_side};
+
+use ucd_category::{GeneralCategory, GeneralCategoryGroup};
+
+/// A delimiter run.
+#[derive(Clone, Copy, Debug, PartialEq, Eq)]
+pub struct DelimiterRun {
+    /// The byte that it is made of: `*` or `_`.
+    pub byte: u8,
+    /// How many bytes it has.
+    pub count: usize,
+    /// Whether it can open emphasis, by the characters on its sides.
+    pub can_open: bool,
+    /// Whether it can close emphasis.
+    pub can_close: bool,
+}
+
+/// The delimiter run that begins at a place of the text between two characters, before which no
+/// unescaped byte of the same kind stands.
+pub fn scan_delimiter_run(text: &str, place: usize) -> Option<DelimiterRun>
+    requires { 0 < place → IsCharBoundary text.now place }
+
+    // The one run that begins there is answered.
+    ensures found { SomeExactly (IsDelimiterRun text.now place) result }
+    ensures only { IsOnly (IsDelimiterRun text.now place) result }
+
+    // Behind it a text may be cut.
+    ensures within { IfSome result (λ run. place + run.count ≤ length text.now) }
+    ensures boundary { IfSome result (λ run. IsCharBoundary text.now (place + run.count)) }
+{
+    let bytes = text.as_bytes();
+    if place == bytes.len() || !is_delimiter(bytes[place]) {
+        return None;
+    }
+    let byte = bytes[place];
+    let count = count_of(&bytes[place..], byte);
+    let before = text[..place].chars().next_back();
+    let after = text[place + count..].chars().next();
+    Some(DelimiterRun {
+        byte,
+        count,
+        can_open: can_open(byte, before, after),
+        can_close: can_open(byte, after, before),
+    })
+}
+
+// Whether emphasis is made of the byte.
+fn is_delimiter(byte: u8) -> bool
+    ensures { IsTrue result ↔ ((byte ≡ asterisk) ⊎ (byte ≡ underscore)) }
+{
+    byte == b'*' || byte == b'_'
+}
+
+// How many of the bytes stand at the front.
+fn count_of(bytes: &[u8], byte: u8) -> usize
+    ensures count { result ≡ prefix_len (λ b. b == byte) bytes.now }
+    ensures within { result ≤ length bytes.now }
+{
+    bytes.iter().take_while(|b| **b == byte).count()
+}
+
+// Whether a run of the byte between these characters can open emphasis.
+fn can_open(byte: u8, before: Option<char>, after: Option<char>) -> bool
+    ensures { result ≡ can_open byte before after }
+{
+    is_left_flanking(before, after)
+        && (byte == b'*' || !is_left_flanking(after, before) || is_punctuation_side(before))
+}
+
+// Whether a run between these characters is left-flanking.
+fn is_left_flanking(before: Option<char>, after: Option<char>) -> bool
+    ensures { result ≡ is_left_flanking before after }
+{
+    !is_white_side(after)
+        && (!is_punctuation_side(after) || is_white_side(before) || is_punctuation_side(before))
+}
+
+// Whether white space stands there, or an end of the text.
+fn is_white_side(side: Option<char>) -> bool
+    ensures { result ≡ is_white_side side }
+{
+    match side {
+        Some(c) => is_white_space(c),
+        None => true,
+    }
+}
+
+// Whether punctuation stands there.
+fn is_punctuation_side(side: Option<char>) -> bool
+    ensures { result ≡ is_punctuation_side side }
+{
+    match side {
+        Some(c) => is_punctuation(c),
+        None => false,
+    }
+}
+
+/// Whether it is a Unicode white space character of CommonMark (section 2.1).
+pub fn is_white_space(c: char) -> bool
+    ensures { result ≡ is_white_space c }
+{
+    matches!(c, '\t' | '\n' | '\x0c' | '\r')
+        || GeneralCategory::for_char(c) == GeneralCategory::SpaceSeparator
+}
+
+/// Whether it is a Unicode punctuation character of CommonMark (section 2.1).
+pub fn is_punctuation(c: char) -> bool
+    ensures { result ≡ is_punctuation c }
+{
+    let category = GeneralCategory::for_char(c);
+    GeneralCategoryGroup::Punctuation.contains(category)
+        || GeneralCategoryGroup::Symbol.contains(category)
+}
