@@ -134,8 +134,11 @@ import { load } from "$1/javascript/markdown_scanners.mjs";
 console.log((await load()).text("## A heading").scanAtxHeading());
 END
     [ "$(node "${flags[@]}" "$room/level.mjs")" = 2 ] || stop "the JavaScript package that is packed prints something else"
+    (cd "$1" && prints_outline node "${flags[@]}" javascript/examples/headings.mjs README.md)
+    diff -r packages/javascript/page "$1/javascript/page" && cmp packages/javascript/index.html "$1/javascript/index.html" ||
+        stop "another page is packed"
     cmp LICENSE "$1/javascript/LICENSE" || stop "the JavaScript package has another licence"
-    passed packed_javascript 1
+    passed packed_javascript 2
 }
 
 # The crate, and its example, with the archive that is packed.
@@ -143,7 +146,8 @@ check_packed_rust() {
     command -v cargo >/dev/null || { leave packed_rust cargo; return; }
     (
         cd "$1/rust"
-        export MARKDOWN_SCANNERS_LIB_DIR=$1/lib CARGO_TARGET_DIR=$room/packed
+        unset MARKDOWN_SCANNERS_LIB_DIR PKG_CONFIG_PATH
+        export CARGO_TARGET_DIR=$room/packed
         prints_outline cargo run -q --offline --example headings ../README.md
     )
     passed packed_rust 1
