@@ -41,6 +41,7 @@ def metadata():
     about = project()
     lines = ["Metadata-Version: 2.4", f"Name: {about['name']}", f"Version: {about['version']}", f"Summary: {about['description']}"]
     lines += [f"Requires-Python: {about['requires-python']}", f"License-Expression: {about['license']}", "License-File: LICENSE"]
+    lines += [f"Author: {', '.join(it['name'] for it in about['authors'])}", f"Keywords: {','.join(about['keywords'])}"]
     lines += [*[f"Classifier: {it}" for it in about["classifiers"]], "Description-Content-Type: text/markdown", ""]
     return "\n".join([*lines, (HERE / about["readme"]).read_text()])
 
