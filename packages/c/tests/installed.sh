@@ -48,6 +48,8 @@ check_installed() {
     DESTDIR=$room/stage packages/c/install /usr
     has_files "$room/stage/usr"
     grep -qx 'prefix=/usr' "$room/stage/usr/lib/pkgconfig/markdown_scanners.pc" || stop "DESTDIR stands in what is installed"
+    DESTDIR=$room/stage packages/c/install --remove /usr
+    [ -z "$(find "$room/stage" ! -type d)" ] && [ -d "$room/stage/usr/lib" ] || stop "what is installed is not removed"
     ! (packages/c/install relative 2>"$room/faults") && grep -q absolute "$room/faults" || stop "a relative PREFIX is not refused"
     printf 'void %s(void);\nvoid %s(void) {}\n' rattle_{alloc,alloc,realloc,realloc,dealloc,dealloc} >"$room/other.c"
     cc "-I$prefix/include" "$room/level.c" "$room/other.c" -Wl,--whole-archive "$archive" -Wl,--no-whole-archive -o "$room/level"
