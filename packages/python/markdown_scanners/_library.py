@@ -10,6 +10,7 @@ from pathlib import Path
 from typing import Any, Callable
 
 from . import _c
+from ._c import OK, TOO_SHORT
 
 NAME = "libmarkdown_scanners.so.0"
 ROOM = 4096  #: for so many bytes rooms are kept, and taken by one call at a time
@@ -117,14 +118,15 @@ def _room(size: int) -> tuple[int, memoryview]:
     return _address_of(view), view
 
 
-def _written(function: Callable[..., Any], *given: Any) -> tuple[Any, bytes]:
+def _written(function: Callable[..., Any], *taken: Any) -> tuple[Any, bytes]:
     """As `writer` says."""
-    size = given[-1]
+    *given, size = taken
     room = address, view = _rooms.pop() if size <= ROOM and _rooms else _room(max(size, ROOM))
-    found = function(*given[:-1], address, size)
-    made = view[: found.length].tobytes() if found.status == _c.OK else b""
+    found = function(*given, address, size)
+    status = found.status
+    made = view[: found.length].tobytes() if status == OK else b""
     if size <= ROOM:
         _rooms.append(room)
-    if found.status == _c.TOO_SHORT:
-        return _written(function, *given[:-1], found.length)
+    if status == TOO_SHORT:
+        return _written(function, *given, found.length)
     return found, made
