@@ -1,5 +1,6 @@
-//! Finds the library: in the folder that `MARKDOWN_SCANNERS_LIB_DIR` names, else by pkg-config. The archive is linked where it is
-//! there; the shared library where it is not, or where `MARKDOWN_SCANNERS_STATIC` is 0.
+//! Finds the library: in the folder that `MARKDOWN_SCANNERS_LIB_DIR` names, else in `lib` beside the crate's folder, where the
+//! packing for those without the toolchain has it, else by pkg-config. The archive is linked where it is there; the shared library
+//! where it is not, or where `MARKDOWN_SCANNERS_STATIC` is 0.
 
 use std::env;
 use std::path::PathBuf;
@@ -16,7 +17,7 @@ fn main() {
     }
     let folder = match env::var_os("MARKDOWN_SCANNERS_LIB_DIR") {
         Some(named) => PathBuf::from(named),
-        None => known_to_pkg_config(),
+        None => packed_beside().unwrap_or_else(known_to_pkg_config),
     };
     let folder = folder.canonicalize().unwrap_or_else(|why| panic!("{}: {why}", folder.display()));
     let archive = folder.join("libmarkdown_scanners.a");
@@ -27,6 +28,12 @@ fn main() {
     println!("cargo:rerun-if-changed={}", file.display());
     println!("cargo:rustc-link-search=native={}", folder.display());
     println!("cargo:rustc-link-lib={kind}=markdown_scanners");
+}
+
+fn packed_beside() -> Option<PathBuf> {
+    let crate_folder = PathBuf::from(env::var_os("CARGO_MANIFEST_DIR")?);
+    let folder = crate_folder.parent()?.join("lib");
+    folder.join("libmarkdown_scanners.a").exists().then_some(folder)
 }
 
 fn known_to_pkg_config() -> PathBuf {

@@ -7,7 +7,7 @@ readme_program() {
 
 # prints_level PROGRAM KIND: the program prints what the README says; it wants the shared library where it is built with it.
 prints_level() {
-    [ "$(LD_LIBRARY_PATH="$prefix/lib" "$1")" = 2 ] || stop "the README's program prints something else"
+    [ "$(LD_LIBRARY_PATH="$prefix/$libdir" "$1")" = 2 ] || stop "the README's program prints something else"
     local wants
     wants=$(readelf -dW "$1" | grep -c "NEEDED.*\[$shared_name\]" || true)
     [ "$wants" = "$([ "$2" = shared ] && echo 1 || echo 0)" ] || stop "the README's program is not built with the $2 library"
@@ -24,10 +24,10 @@ has_files() {
     runs=$((runs + 1))
 }
 
-# by_pkg_config PREFIX: the program, with each library.
+# by_pkg_config PREFIX [LIBDIR]: the program, with each library.
 by_pkg_config() {
-    local prefix=$1 kind flags links
-    export PKG_CONFIG_PATH=$prefix/lib/pkgconfig
+    local prefix=$1 libdir=${2:-lib} kind flags links
+    export PKG_CONFIG_PATH=$prefix/$libdir/pkgconfig
     [ "$(pkg-config --modversion markdown_scanners)" = "$version" ] || stop "pkg-config has another version"
     flags=$(pkg-config --cflags markdown_scanners)
     for kind in shared static; do
@@ -40,14 +40,19 @@ by_pkg_config() {
 
 # In a fresh prefix, and below DESTDIR as for /usr. Another archive of the kit may stand in the same program.
 check_installed() {
-    local prefix=$room/prefix runs=0
+    local prefix=$room/prefix libdir=lib runs=0
     readme_program
     packages/c/install "$prefix"
     has_files "$prefix"
     by_pkg_config "$prefix"
     DESTDIR=$room/stage packages/c/install /usr
     has_files "$room/stage/usr"
+    LIBDIR=lib/machine packages/c/install "$room/machine"
+    by_pkg_config "$room/machine" lib/machine
     grep -qx 'prefix=/usr' "$room/stage/usr/lib/pkgconfig/markdown_scanners.pc" || stop "DESTDIR stands in what is installed"
+    DESTDIR=$room/stage packages/c/install --remove /usr
+    [ -z "$(find "$room/stage" ! -type d)" ] && [ -d "$room/stage/usr/lib" ] || stop "what is installed is not removed"
+    ! (LIBDIR=a/../.. packages/c/install "$prefix" 2>"$room/faults") && grep -q LIBDIR "$room/faults" || stop "a LIBDIR outside is not refused"
     ! (packages/c/install relative 2>"$room/faults") && grep -q absolute "$room/faults" || stop "a relative PREFIX is not refused"
     printf 'void %s(void);\nvoid %s(void) {}\n' rattle_{alloc,alloc,realloc,realloc,dealloc,dealloc} >"$room/other.c"
     cc "-I$prefix/include" "$room/level.c" "$room/other.c" -Wl,--whole-archive "$archive" -Wl,--no-whole-archive -o "$room/level"
@@ -56,7 +61,7 @@ check_installed() {
 }
 
 check_cmake() {
-    local prefix=$room/prefix runs=0 kind
+    local prefix=$room/prefix libdir=lib runs=0 kind
     command -v cmake >/dev/null || { leave cmake cmake; return; }
     cat >"$room/CMakeLists.txt" <<'END'
 cmake_minimum_required(VERSION 3.13)
@@ -70,6 +75,11 @@ END
     cmake -S "$room" -B "$room/cmake" "-DCMAKE_PREFIX_PATH=$prefix" "-DWANTED=$version" >"$room/said" 2>&1 &&
         cmake --build "$room/cmake" >>"$room/said" 2>&1 || { cat "$room/said" >&2; stop "CMake fails"; }
     for kind in shared static; do prints_level "$room/cmake/level_$kind" $kind; done
+    cmake -S "$room" -B "$room/machine/cmake" "-Dmarkdown_scanners_DIR=$room/machine/lib/machine/cmake/markdown_scanners" "-DWANTED=$version" \
+        >"$room/said" 2>&1 && cmake --build "$room/machine/cmake" >>"$room/said" 2>&1 || { cat "$room/said" >&2; stop "CMake fails"; }
+    prefix=$room/machine libdir=lib/machine
+    for kind in shared static; do prints_level "$room/machine/cmake/level_$kind" $kind; done
+    prefix=$room/prefix
     ! cmake -S "$room" -B "$room/later" "-DCMAKE_PREFIX_PATH=$prefix" -DWANTED=$((${version%%.*} + 1)).0 >"$room/said" 2>&1 &&
         grep -q markdown_scanners-config.cmake "$room/said" || stop "CMake takes this version for another"
     runs=$((runs + 1))
@@ -134,8 +144,11 @@ import { load } from "$1/javascript/markdown_scanners.mjs";
 console.log((await load()).text("## A heading").scanAtxHeading());
 END
     [ "$(node "${flags[@]}" "$room/level.mjs")" = 2 ] || stop "the JavaScript package that is packed prints something else"
+    (cd "$1" && prints_outline node "${flags[@]}" javascript/examples/headings.mjs README.md)
+    diff -r packages/javascript/page "$1/javascript/page" && cmp packages/javascript/index.html "$1/javascript/index.html" ||
+        stop "another page is packed"
     cmp LICENSE "$1/javascript/LICENSE" || stop "the JavaScript package has another licence"
-    passed packed_javascript 1
+    passed packed_javascript 2
 }
 
 # The crate, and its example, with the archive that is packed.
@@ -143,7 +156,8 @@ check_packed_rust() {
     command -v cargo >/dev/null || { leave packed_rust cargo; return; }
     (
         cd "$1/rust"
-        export MARKDOWN_SCANNERS_LIB_DIR=$1/lib CARGO_TARGET_DIR=$room/packed
+        unset MARKDOWN_SCANNERS_LIB_DIR PKG_CONFIG_PATH
+        export CARGO_TARGET_DIR=$room/packed
         prints_outline cargo run -q --offline --example headings ../README.md
     )
     passed packed_rust 1

@@ -1,13 +1,18 @@
 """Builds the wheel and the source package, by Python's own library alone (3.11 or later). The wheel holds the shared library:
 the one that MARKDOWN_SCANNERS_LIBRARY names, else that of the tree, which packages/c/build makes, else the one that
-pkg-config knows."""
+pkg-config knows. It holds the extension, which calls that library, where a C compiler, `cc` or the one that CC names, and
+Python's headers are there; without it the package calls by ctypes."""
 import base64
 import hashlib
 import io
 import os
 import re
+import shlex
 import subprocess
+import sys
+import sysconfig
 import tarfile
+import tempfile
 import tomllib
 import zipfile
 from pathlib import Path
@@ -16,6 +21,7 @@ HERE = Path(__file__).resolve().parent.parent
 TOP = HERE.parent.parent
 PACKAGE = "markdown_scanners"
 LIBRARY = "libmarkdown_scanners.so.0"
+EXTENSION = "_fast.abi3.so"
 LATEST = (1980, 1, 1, 0, 0, 0)  # of all files, so that the same files make the same wheel
 
 
@@ -35,6 +41,7 @@ def metadata():
     about = project()
     lines = ["Metadata-Version: 2.4", f"Name: {about['name']}", f"Version: {about['version']}", f"Summary: {about['description']}"]
     lines += [f"Requires-Python: {about['requires-python']}", f"License-Expression: {about['license']}", "License-File: LICENSE"]
+    lines += [f"Author: {', '.join(it['name'] for it in about['authors'])}", f"Keywords: {','.join(about['keywords'])}"]
     lines += [*[f"Classifier: {it}" for it in about["classifiers"]], "Description-Content-Type: text/markdown", ""]
     return "\n".join([*lines, (HERE / about["readme"]).read_text()])
 
@@ -53,10 +60,35 @@ def library():
     return Path(found[0]).read_bytes()
 
 
-def tag(made):
-    """Of the system that the library asks for: the highest version of the C library that it names."""
-    versions = [int(it) for it in re.findall(rb"GLIBC_2\.(\d+)", made)]
-    return f"py3-none-manylinux_2_{max([17, *versions])}_x86_64"
+def extension_sources():
+    """The files of which the extension is made. In the tree the header is that of the C functions."""
+    known = [HERE / "extension/markdown_scanners.h", TOP / "packages/c/include/markdown_scanners.h"]
+    files = [*sorted((HERE / "extension").glob("*.[ch]")), *[it for it in known if it.is_file()][:1]]
+    return {it.name: it.read_bytes() for it in files}
+
+
+def extension():
+    """The extension in the package, or nothing where it can't be built. It is for each CPython from 3.11 on but those without
+    a lock of the interpreter."""
+    if sys.implementation.name != "cpython" or sysconfig.get_config_var("Py_GIL_DISABLED"):
+        return {}
+    flags = ["-O2", "-fPIC", "-shared", "-s", "-Wl,--build-id=none", f"-I{sysconfig.get_path('include')}"]
+    with tempfile.TemporaryDirectory() as room:
+        for name, it in extension_sources().items():
+            (Path(room) / name).write_bytes(it)
+        try:
+            words = [*shlex.split(os.environ.get("CC", "cc")), *flags, "fast.c", "-o", EXTENSION]
+            subprocess.run(words, cwd=room, capture_output=True, text=True, check=True)
+        except (OSError, subprocess.CalledProcessError) as why:
+            print(f"the extension is not built, and the package calls by ctypes: {why}\n{getattr(why, 'stderr', '')}", file=sys.stderr)
+            return {}
+        return {f"{PACKAGE}/{EXTENSION}": (Path(room) / EXTENSION).read_bytes()}
+
+
+def tag(made, extended):
+    """Of the system that these files ask for: the highest version of the C library that they name."""
+    versions = [int(it) for it in re.findall(rb"GLIBC_2\.(\d+)", b"".join([made, *extended.values()]))]
+    return f"{'cp311-abi3' if extended else 'py3-none'}-manylinux_2_{max([17, *versions])}_x86_64"
 
 
 def sources():
@@ -86,12 +118,13 @@ def write_wheel(folder, tag, files, pure):
 
 
 def build_wheel(wheel_directory, config_settings=None, metadata_directory=None):
-    made = library()
-    return write_wheel(wheel_directory, tag(made), {**sources(), f"{PACKAGE}/{LIBRARY}": made}, False)
+    made, extended = library(), extension()
+    return write_wheel(wheel_directory, tag(made, extended), {**sources(), **extended, f"{PACKAGE}/{LIBRARY}": made}, False)
 
 
 def build_editable(wheel_directory, config_settings=None, metadata_directory=None):
-    """A wheel that names this folder, for `pip install -e`. The library is found where the package finds it in its tree."""
+    """A wheel that names this folder, for `pip install -e`. The library is found where the package finds it in its tree, and called
+    by ctypes."""
     return write_wheel(wheel_directory, "py3-none-any", {f"{PACKAGE}.pth": f"{HERE}\n".encode()}, True)
 
 
@@ -100,6 +133,7 @@ def build_sdist(sdist_directory, config_settings=None):
     files = {**sources(), "PKG-INFO": metadata().encode(), "LICENSE": licence().encode()}
     for path in ("pyproject.toml", "README.md", "backend/markdown_scanners_build.py"):
         files[path] = (HERE / path).read_bytes()
+    files |= {f"extension/{name}": it for name, it in extension_sources().items()}
     name = f"{named()}.tar.gz"
     with tarfile.open(Path(sdist_directory) / name, "w:gz", format=tarfile.PAX_FORMAT) as out:
         for path, it in files.items():

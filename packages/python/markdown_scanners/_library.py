@@ -1,14 +1,19 @@
-"""The shared library: where it is found, and its functions."""
+"""The shared library: where it is found, and its functions. They are called by the extension `_fast` where the package has one, as
+it has where a compiler stood when it was built; else by ctypes. Both take the same and answer the same."""
 from __future__ import annotations
 
 import ctypes
 import os
+from functools import partial
+from importlib import import_module
 from pathlib import Path
-from typing import Any
+from typing import Any, Callable
 
 from . import _c
+from ._c import OK, TOO_SHORT
 
 NAME = "libmarkdown_scanners.so.0"
+ROOM = 4096  #: for so many bytes rooms are kept, and taken by one call at a time
 
 
 def _path() -> str:
@@ -30,24 +35,98 @@ def _check_version(path: str, library: ctypes.PyDLL) -> None:
         raise ImportError(f"the package is of version {_c.VERSION:#08x}, and {path} of {found:#08x}")
 
 
-def _load() -> ctypes.PyDLL:
-    """The library with the types of its functions. Its calls keep the lock of the interpreter, as most take less time than
+def _load() -> dict[str, Any]:
+    """The functions of the library with their types. Its calls keep the lock of the interpreter, as most take less time than
     giving it up would."""
     path = _path()
+    found: dict[str, Any] = {}
     try:
         library = ctypes.PyDLL(path)
         _check_version(path, library)
         for name, (answer, taken) in _c.FUNCTIONS.items():
-            function = getattr(library, f"mds_{name}")
-            function.restype, function.argtypes = answer, taken
+            found[name] = getattr(library, f"mds_{name}")
+            found[name].restype, found[name].argtypes = answer, taken
     except (OSError, AttributeError) as why:
         raise ImportError(f"{why}: install {NAME}, or name it in MARKDOWN_SCANNERS_LIBRARY") from why
-    return library
+    return found
 
 
-_LIBRARY = _load()
+def _extension() -> Any:
+    """The extension, which calls the functions of the library, or None where there is none."""
+    try:
+        made: Any = import_module(f"{__package__}._fast")
+    except ImportError:
+        return None
+    made.bind({name: ctypes.cast(it, ctypes.c_void_p).value for name, it in _FUNCTIONS.items()})
+    return made
+
+
+_FUNCTIONS = _load()
+#: The extension, or None.
+FAST = _extension()
 
 
 def function(name: str) -> Any:
     """The function that stands in C under this name behind `mds_`."""
-    return getattr(_LIBRARY, f"mds_{name}")
+    return getattr(FAST, name) if FAST else _FUNCTIONS[name]
+
+
+def writer(name: str) -> Callable[..., tuple[Any, bytes]]:
+    """The function that writes into a buffer. In place of that it takes a size, and where that is too short it is called once
+    more; it answers what it found, and the bytes that it wrote."""
+    found: Callable[..., tuple[Any, bytes]] = getattr(FAST, name) if FAST else partial(_written, _FUNCTIONS[name])
+    return found
+
+
+class _BufferInfo(ctypes.Structure):
+    """Py_buffer, of which only the address is read."""
+
+    _fields_ = [("address", ctypes.c_void_p), ("others", ctypes.c_void_p * 11)]
+
+
+_python = ctypes.PyDLL(None)  # functions of Python's own, with types that are no one else's
+_utf8 = _python.PyUnicode_AsUTF8AndSize
+_utf8.restype, _utf8.argtypes = ctypes.c_void_p, (ctypes.py_object, ctypes.c_void_p)
+_get_buffer, _release = _python.PyObject_GetBuffer, _python.PyBuffer_Release
+_get_buffer.restype, _get_buffer.argtypes = ctypes.c_int, (ctypes.py_object, ctypes.POINTER(_BufferInfo), ctypes.c_int)
+_release.restype, _release.argtypes = None, (ctypes.POINTER(_BufferInfo),)
+
+
+def _address_of(buffer: Any) -> int:
+    info = _BufferInfo()
+    _get_buffer(buffer, ctypes.byref(info), 0)
+    address: int = info.address or 0
+    _release(ctypes.byref(info))
+    return address
+
+
+def _address_of_text(text: str) -> int:
+    return int(_utf8(text, None))
+
+
+#: The address of the bytes of a buffer, which the caller holds.
+address_of: Callable[[Any], int] = FAST.address_of if FAST else _address_of
+#: The address of the UTF-8 of a str, which Python keeps with it. UnicodeEncodeError.
+address_of_text: Callable[[str], int] = FAST.address_of_text if FAST else _address_of_text
+
+_rooms: list[tuple[int, memoryview]] = []
+
+
+def _room(size: int) -> tuple[int, memoryview]:
+    """Room for so many bytes: its address, and a view that holds it."""
+    view = memoryview(bytearray(size))
+    return _address_of(view), view
+
+
+def _written(function: Callable[..., Any], *taken: Any) -> tuple[Any, bytes]:
+    """As `writer` says."""
+    *given, size = taken
+    room = address, view = _rooms.pop() if size <= ROOM and _rooms else _room(max(size, ROOM))
+    found = function(*given, address, size)
+    status = found.status
+    made = view[: found.length].tobytes() if status == OK else b""
+    if size <= ROOM:
+        _rooms.append(room)
+    if status == TOO_SHORT:
+        return _written(function, *given, found.length)
+    return found, made

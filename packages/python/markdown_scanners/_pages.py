@@ -9,10 +9,11 @@ from bisect import bisect_right
 from functools import lru_cache
 from mmap import mmap
 from operator import index
-from typing import Any, Callable, Optional, TypeVar, Union
+from typing import Any, Optional, TypeVar, Union
 
-from ._c import NONE, NOTHING, OK, TOO_SHORT
-from .errors import LoneSurrogateError, refusal
+from ._c import NONE
+from ._library import FAST, address_of, address_of_text
+from .errors import LoneSurrogateError
 
 Buffer = Union[bytes, bytearray, memoryview, mmap]
 #: What can be scanned. Other buffers of single bytes are taken too.
@@ -21,13 +22,7 @@ Page = Union[str, Buffer]
 Made = TypeVar("Made", str, bytes)
 
 NUMBERS = NONE + 1
-ROOM = 4096  #: for so many bytes rooms are kept, and taken by one call at a time
-_rooms: list[tuple[int, memoryview]] = []
-STEP = 64  #: of so many characters each, the place of their UTF-8 is kept
-
-_python = ctypes.PyDLL(None)  # functions of Python's own, with types that are no one else's
-_utf8 = _python.PyUnicode_AsUTF8AndSize
-_utf8.restype, _utf8.argtypes = ctypes.c_void_p, (ctypes.py_object, ctypes.c_void_p)
+STEP = 64  #: of so many characters each, the place of their UTF-8 is kept; the extension too has this number
 
 _BYTES = bytes.__basicsize__ - 1  #: where in the object its bytes begin
 _PROBE = b"\x00 a page"
@@ -35,59 +30,55 @@ if ctypes.cast(ctypes.c_char_p(_PROBE), ctypes.c_void_p).value != id(_PROBE) + _
     raise ImportError("this is no CPython: bytes stand elsewhere")
 
 
-class _BufferInfo(ctypes.Structure):
-    """Py_buffer, of which only the address is read."""
+class _InBuffer:
+    """A byte of a buffer, which stays where it is as long as this lives."""
 
-    _fields_ = [("address", ctypes.c_void_p), ("others", ctypes.c_void_p * 11)]
+    __slots__ = ("view", "byte")
 
-
-_get_buffer, _release = _python.PyObject_GetBuffer, _python.PyBuffer_Release
-_get_buffer.restype, _get_buffer.argtypes = ctypes.c_int, (ctypes.py_object, ctypes.POINTER(_BufferInfo), ctypes.c_int)
-_release.restype, _release.argtypes = None, (ctypes.POINTER(_BufferInfo),)
-
-
-class _InBuffer(int):
-    """A place in a buffer, which stays where it is as long as this lives."""
-
-    view: memoryview
-
-
-def _in_buffer(place: int, view: memoryview) -> int:
-    made = _InBuffer(place)
-    made.view = view
-    return made
-
-
-class _InText(int):
-    """A place in the UTF-8 of a str. Where a length is added to it, the place in the str is answered."""
-
-    text: str
+    def __init__(self, view: memoryview, byte: int) -> None:
+        self.view, self.byte = view, byte
 
     def __add__(self, length: int) -> int:
-        return _index_of(self.text, int(self) + length)
+        return self.byte + length
 
 
-def _in_text(place: int, text: str) -> int:
-    made = _InText(place)
-    made.text = text
-    return made
+class _InText:
+    """A byte in the UTF-8 of a str. Where a length is added to it, the place in the str is answered."""
+
+    __slots__ = ("text", "byte")
+
+    def __init__(self, text: str, byte: int) -> None:
+        self.text, self.byte = text, byte
+
+    def __add__(self, length: int) -> int:
+        return _index_of(self.text, self.byte + length)
+
+
+def _origin(held: Any, byte: int) -> Any:
+    """What lengths are added to: the byte itself, or in what is held."""
+    if held is None:
+        return byte
+    return _InText(held, byte) if isinstance(held, str) else _InBuffer(held, byte)
 
 
 @lru_cache(maxsize=8)
-def _marks(text: str) -> array[int]:
-    """The places in UTF-8 of every STEP-th character, and of the end."""
+def _marks(text: str) -> tuple[array[int], int]:
+    """The places in UTF-8 of every STEP-th character, and of the end; and the address where they stand."""
     found, place = array("Q", [0]), 0
     for at in range(0, len(text), STEP):
         place += len(text[at : at + STEP].encode())
         found.append(place)
-    return found
+    return found, found.buffer_info()[0]
 
 
 def byte_of(text: str, place: int) -> int:
     """The place in UTF-8 of a place in the str; behind the str a byte is counted for each."""
-    size, marks = len(text), _marks(text)
+    size, (marks, address) = len(text), _marks(text)
     if place >= size:
         return marks[-1] + place - size
+    if FAST:
+        found: int = FAST.span(text, address, 0, place)[2]
+        return found
     block = place // STEP
     front, first = block * STEP, marks[block]
     if marks[block + 1] - first == min(STEP, size - front):  # all of the block is ASCII
@@ -97,7 +88,10 @@ def byte_of(text: str, place: int) -> int:
 
 def _index_of(text: str, byte: int) -> int:
     """The place in the str of a place in its UTF-8; of one inside of a character, that of the character."""
-    marks = _marks(text)
+    marks, address = _marks(text)
+    if FAST:
+        found: int = FAST.index_of(text, address, len(marks), byte)
+        return found
     block = min(bisect_right(marks, byte), len(marks) - 1) - 1
     front, first = block * STEP, marks[block]
     if marks[block + 1] - first == min(STEP, len(text) - front):
@@ -156,17 +150,14 @@ def _view(data: Any) -> memoryview:
     return view
 
 
-def _address_of(view: memoryview) -> int:
-    info = _BufferInfo()
-    _get_buffer(view, ctypes.byref(info), 0)
-    address: int = info.address or 0
-    _release(ctypes.byref(info))
-    return address
-
-
-def _address_of_text(text: str) -> int:
+def _span(text: str, first: int, last: int) -> tuple[int, int, int]:
+    """The address of the UTF-8 of a str, the byte of the first place, and how many bytes stand there up to the last."""
     try:
-        return int(_utf8(text, None))
+        if FAST:
+            found: tuple[int, int, int] = FAST.span(text, _marks(text)[1], first, last)
+            return found
+        byte = byte_of(text, first)
+        return address_of_text(text), byte, byte_of(text, last) - byte
     except UnicodeEncodeError as why:
         raise LoneSurrogateError(why.start) from None
 
@@ -185,19 +176,18 @@ def limits(data: Page, at: int, end: Optional[int]) -> tuple[int, int]:
     return _limits(len(data if isinstance(data, (str, bytes)) else _view(data)), at, end)
 
 
-def _front(data: Page, at: int, end: Optional[int]) -> tuple[int, int, int]:
-    """As `front`, of any page."""
+def _spot(data: Page, at: int, end: Optional[int]) -> tuple[int, int, int, Any]:
+    """The address of any page, the byte at the place, how many stand there up to the end, and what is held: the str whose places
+    are not those of its UTF-8, the view of a buffer, or None."""
     if isinstance(data, str):
         text = data if type(data) is str else str.__str__(data)  # a class of one's own may count otherwise
         first, last = _limits(len(text), at, end)
-        address = _address_of_text(text)
         if text is data and text.isascii():
-            return address + first, last - first, first
-        byte = byte_of(text, first)
-        return address + byte, byte_of(text, last) - byte, _in_text(byte, text)
+            return address_of_text(text), first, last - first, None
+        return *_span(text, first, last), text
     view = _view(data)
     first, last = _limits(len(view), at, end)
-    return _address_of(view) + first, last - first, _in_buffer(first, view)
+    return address_of(view), first, last - first, view
 
 
 def front(data: Page, at: int, end: Optional[int]) -> tuple[int, int, int]:
@@ -208,16 +198,8 @@ def front(data: Page, at: int, end: Optional[int]) -> tuple[int, int, int]:
         last = size if end is None else end
         if type(last) is int and 0 <= at <= last <= size:
             return id(data) + _BYTES + at, last - at, at
-    return _front(data, at, end)
-
-
-def _whole(data: Page, at: int, end: Optional[int]) -> tuple[int, int, int, int]:
-    """As `whole`, of any page."""
-    address, length, place = _front(data, at, end)
-    first = int(place)
-    if isinstance(place, _InText):
-        return address - first, first + length, first, _in_text(0, place.text)
-    return address - first, first + length, first, _in_buffer(0, place.view) if isinstance(place, _InBuffer) else 0
+    address, first, length, held = _spot(data, at, end)
+    return address + first, length, _origin(held, first)
 
 
 def whole(data: Page, at: int, end: Optional[int]) -> tuple[int, int, int, int]:
@@ -228,7 +210,8 @@ def whole(data: Page, at: int, end: Optional[int]) -> tuple[int, int, int, int]:
         last = size if end is None else end
         if type(last) is int and 0 <= at <= last <= size:
             return id(data) + _BYTES, last, at, 0
-    return _whole(data, at, end)
+    address, first, length, held = _spot(data, at, end)
+    return address, first + length, first, _origin(held, 0)
 
 
 def place_in(data: Page, place: int) -> int:
@@ -239,35 +222,6 @@ def place_in(data: Page, place: int) -> int:
 def behind(at: int, length: int) -> Optional[int]:
     """The place behind so many bytes, or None where C has answered that there is none."""
     return None if length == NONE else at + length
-
-
-def _room(size: int) -> tuple[int, memoryview]:
-    """Room for so many bytes: its address, and a view that holds it."""
-    view = memoryview(bytearray(size))
-    return _address_of(view), view
-
-
-def _free_room() -> tuple[int, memoryview]:
-    try:
-        return _rooms.pop()
-    except IndexError:
-        return _room(ROOM)
-
-
-def written(function: Callable[..., Any], size: int, *given: Any) -> tuple[Any, bytes]:
-    """What a function answers that writes into a buffer, which it takes behind what is given, and what it wrote. Where room
-    for so many bytes is too short it is asked once more."""
-    room = address, view = _free_room() if size <= ROOM else _room(size)
-    found = function(*given, address, size)
-    status = found.status
-    made = view[: found.length].tobytes() if status == OK else b""
-    if size <= ROOM:
-        _rooms.append(room)
-    if status == TOO_SHORT:
-        return written(function, found.length, *given)
-    if status > NOTHING:
-        raise refusal(status)
-    return found, made
 
 
 def text_for(data: Page, made: bytes) -> Any:

@@ -2,12 +2,13 @@
 from __future__ import annotations
 
 from enum import IntEnum
-from typing import Callable, NamedTuple, Optional
+from typing import Any, Callable, NamedTuple, Optional
 
 from . import _c
-from ._library import function
-from ._pages import ROOM, Page, behind, flag, front, number, written
+from ._library import ROOM, function, writer
+from ._pages import Page, behind, flag, front, number
 from ._pages import byte as _byte
+from .errors import stated
 from .line_scanners import Byte
 
 _scan_hrule: Callable[..., _c.Break] = function("scan_hrule")
@@ -18,7 +19,7 @@ _scan_closing_code_fence: Callable[..., int] = function("scan_closing_code_fence
 _scan_metadata_block: Callable[..., _c.Fence] = function("scan_metadata_block")
 _scan_closing_metadata_block: Callable[..., int] = function("scan_closing_metadata_block")
 _interrupts_paragraph: Callable[..., bool] = function("interrupts_paragraph")
-_scan_table_head: Callable[..., _c.Text] = function("scan_table_head")
+_scan_table_head: Callable[..., tuple[Any, bytes]] = writer("scan_table_head")
 
 
 def scan_hrule(data: Page, at: int = 0, end: Optional[int] = None) -> Optional[int]:
@@ -162,5 +163,5 @@ def scan_table_head(data: Page, at: int = 0, end: Optional[int] = None) -> Optio
     (<Alignment.NONE: 0>, <Alignment.CENTER: 2>)
     """
     address, length, at = front(data, at, end)
-    found, alignments = written(_scan_table_head, ROOM, address, length)
-    return TableHead(at + found.taken, tuple([_ALIGNMENTS[it] for it in alignments])) if found.status == _c.OK else None
+    found, alignments = _scan_table_head(address, length, ROOM)
+    return TableHead(at + found.taken, tuple([_ALIGNMENTS[it] for it in alignments])) if stated(found.status) else None

@@ -6,8 +6,8 @@ from enum import IntEnum
 from typing import Any, Callable, Generic, NamedTuple, Optional, overload
 
 from . import _c
-from ._library import function
-from ._pages import ROOM, Buffer, Made, Page, behind, flag, front, limits, number, place_in, text_for, whole, written
+from ._library import ROOM, function, writer
+from ._pages import Buffer, Made, Page, behind, flag, front, limits, number, place_in, text_for, whole
 from .errors import stated
 from .skips import Skips, table
 
@@ -20,13 +20,13 @@ _scan_html_type_7: Callable[..., int] = function("scan_html_type_7")
 _scan_html_block_start: Callable[..., int] = function("scan_html_block_start")
 _ends_html_block: Callable[..., int] = function("ends_html_block")
 _scan_html_tag: Callable[..., int] = function("scan_html_tag")
-_scan_html_tag_over_lines: Callable[..., _c.Tag] = function("scan_html_tag_over_lines")
+_scan_html_tag_over_lines: Callable[..., tuple[Any, bytes]] = writer("scan_html_tag_over_lines")
 _scan_inline_html: Callable[..., _c.End] = function("scan_inline_html")
-_scan_entity: Callable[..., _c.Text] = function("scan_entity")
-_unescape: Callable[..., _c.Text] = function("unescape")
-_scan_link_label: Callable[..., _c.Label] = function("scan_link_label")
+_scan_entity: Callable[..., tuple[Any, bytes]] = writer("scan_entity")
+_unescape: Callable[..., tuple[Any, bytes]] = writer("unescape")
+_scan_link_label: Callable[..., tuple[Any, bytes]] = writer("scan_link_label")
 _labels_match: Callable[..., int] = function("labels_match")
-_label_key: Callable[..., _c.Text] = function("label_key")
+_label_key: Callable[..., tuple[Any, bytes]] = writer("label_key")
 
 REFERENCE_ROOM = 6
 #: A label has at most 999 characters.
@@ -178,8 +178,8 @@ def scan_html_tag_over_lines(data: Page, at: int = 0, end: Optional[int] = None,
     Tag(end=13, text=b'<foo\nbar>')
     """
     address, length, first, origin = whole(data, at, end)
-    found, text = written(_scan_html_tag_over_lines, ROOM, address, length, first, *table(skips, data))
-    return Tag(origin + found.end, text_for(data, text) if text else None) if found.status == _c.OK else None
+    found, text = _scan_html_tag_over_lines(address, length, first, *table(skips, data), ROOM)
+    return Tag(origin + found.end, text_for(data, text) if text else None) if stated(found.status) else None
 
 
 class HtmlScanGuard:
@@ -201,7 +201,7 @@ class HtmlScanGuard:
         """
         address, length, _, origin = whole(self.data, 0, self.end)
         first = min(place_in(self.data, number("at", at)), _c.NONE)
-        found = _scan_inline_html(address, length, first, ctypes.byref(self._numbers))
+        found = _scan_inline_html(address, length, first, ctypes.addressof(self._numbers))
         self.passed += found.passed
         return origin + found.end if stated(found.status) else None
 
@@ -225,8 +225,8 @@ def scan_entity(data: Page, at: int = 0, end: Optional[int] = None) -> Any:
     (Entity(end=7, text='ä'), b'\\xc3\\xa4')
     """
     address, length, at = front(data, at, end)
-    found, text = written(_scan_entity, REFERENCE_ROOM, address, length)
-    return Entity(at + found.taken, text_for(data, text)) if found.status == _c.OK else None
+    found, text = _scan_entity(address, length, REFERENCE_ROOM)
+    return Entity(at + found.taken, text_for(data, text)) if stated(found.status) else None
 
 
 @overload
@@ -241,8 +241,9 @@ def unescape(data: Page, at: int = 0, end: Optional[int] = None, *, in_table: bo
     (b'a*b & c', 'x&')
     """
     address, length, _held = front(data, at, end)
-    room = length + length // 5
-    return text_for(data, written(_unescape, room, address, length, flag("in_table", in_table))[1])
+    found, text = _unescape(address, length, flag("in_table", in_table), length + length // 5)
+    stated(found.status)
+    return text_for(data, text)
 
 
 class Label(NamedTuple, Generic[Made]):
@@ -272,10 +273,8 @@ def scan_link_label(
     """
     address, length, first, origin = whole(data, at, end)
     room = min(length - first, LABEL_ROOM)
-    found, text = written(
-        _scan_link_label, room, address, length, first, flag("in_table", in_table), *table(skips, data)
-    )
-    if found.status != _c.OK:
+    found, text = _scan_link_label(address, length, first, flag("in_table", in_table), *table(skips, data), room)
+    if not stated(found.status):
         return None
     return Label(origin + found.end, text_for(data, text), behind(origin, found.start))
 
@@ -302,4 +301,6 @@ def label_key(label: Page) -> Any:
     ('strasse', b'strasse')
     """
     address, length, _held = front(label, 0, None)
-    return text_for(label, written(_label_key, 3 * length, address, length)[1])
+    found, text = _label_key(address, length, 3 * length)
+    stated(found.status)
+    return text_for(label, text)

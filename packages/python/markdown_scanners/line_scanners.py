@@ -164,7 +164,7 @@ def _ending(data: Union[str, bytes, bytearray, memoryview], line: int, behind: i
     """How long the ending of a line is, of which `behind` is the place behind it."""
     tail = data[max(line, behind - 2) : behind]
     text = tail if isinstance(tail, str) else bytes(tail).decode("latin-1")
-    return _ENDINGS.get(text) or _ENDINGS.get(text[-1:], 0)
+    return _ENDINGS.get(text, 0) or _ENDINGS.get(text[-1:], 0)
 
 
 def _lines(data: Union[str, bytes, bytearray, memoryview], at: int, end: int) -> Iterator[Line]:

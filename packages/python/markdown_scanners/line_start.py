@@ -1,7 +1,7 @@
 """A place in a line that is read column by column. Sections in brackets are those of CommonMark 0.31.2."""
 from __future__ import annotations
 
-import ctypes
+from ctypes import addressof
 from enum import IntEnum
 from operator import index
 from typing import Any, Callable, Generic, NamedTuple, Optional, overload
@@ -51,7 +51,7 @@ class LineStart(Generic[Made]):
     <LineStart from 0 to 8, at place 4>
     """
 
-    _given: tuple[int, int, Any]  # the bytes, which stay where they are, and the numbers
+    _given: tuple[int, int, int]  # the bytes, which stay where they are, and the address of the numbers
 
     @overload
     def __init__(self: LineStart[str], data: str, at: int = 0, end: Optional[int] = None) -> None: ...
@@ -62,7 +62,7 @@ class LineStart(Generic[Made]):
         self.data = self._kept = data
         self.begin, self.end = index(at), len(data) if end is None else index(end)
         self._numbers = numbers = _c.LineStart()
-        self._given = address, length, ctypes.byref(numbers)
+        self._given = address, length, addressof(numbers)
 
     def __copy__(self) -> LineStart[Made]:
         made: LineStart[Made] = object.__new__(type(self))
@@ -73,7 +73,7 @@ class LineStart(Generic[Made]):
     def _count(self, numbers: _c.LineStart) -> None:
         """Goes on from these numbers."""
         address, length, _ = self._given
-        self._numbers, self._given = numbers, (address, length, ctypes.byref(numbers))
+        self._numbers, self._given = numbers, (address, length, addressof(numbers))
 
     def __reduce__(self) -> tuple[Any, ...]:
         numbers = tuple(getattr(self._numbers, name) for name in _NAMES)
@@ -192,7 +192,7 @@ class LineStart(Generic[Made]):
         (True, False, None)
         """
         found = _line_task(*self._given)
-        return found.checked if stated(found.status) else None
+        return bool(found.checked) if stated(found.status) else None
 
     def alert(self) -> Optional[AlertKind]:
         r"""Passes the line of an alert. (An extension of GitHub)

@@ -1,18 +1,18 @@
 """Many calls in one: on a line start, and of inline HTML. Sections in brackets are those of CommonMark 0.31.2."""
 from __future__ import annotations
 
-import ctypes
+from ctypes import addressof, c_size_t
 from enum import IntEnum
-from typing import Callable, Iterable, Optional, TypeVar, Union
+from typing import Any, Callable, Iterable, Optional, TypeVar, Union
 
 from . import _c
-from ._library import function
-from ._pages import Made, Page, behind, number, place_in, text_for, whole, written
-from .errors import StoppedError, TooLargeError, refusal
+from ._library import function, writer
+from ._pages import Made, Page, behind, number, place_in, text_for, whole
+from .errors import StoppedError, TooLargeError, refusal, stated
 from .line_start import LineStart, ListMarker
 
 _run_line: Callable[..., _c.LineRun] = function("run_line")
-_line_rest: Callable[..., _c.Text] = function("line_rest")
+_line_rest: Callable[..., tuple[Any, bytes]] = writer("line_rest")
 _run_inline_html: Callable[..., _c.HtmlRun] = function("run_inline_html")
 
 
@@ -56,9 +56,9 @@ def run_line(start: LineStart[Made], calls: Iterable[tuple[int, int]]) -> tuple[
     >>> run_line(start, [(CallKind.QUOTE, 0), (CallKind.UPTO, 1)]), start.place, start.pending
     ((True, 1), 2, 1)
     """
-    kinds = [(CallKind(kind), number("a number of a call", it)) for kind, it in calls]
+    kinds: list[Any] = [(CallKind(kind), number("a number of a call", it)) for kind, it in calls]
     given, answers = (_c.LineCall * len(kinds))(*kinds), (_c.LineAnswer * len(kinds))()
-    found = _run_line(*_checked(start)._given, given, len(kinds), answers, len(kinds))
+    found = _run_line(*_checked(start)._given, addressof(given), len(kinds), addressof(answers), len(kinds))
     run = tuple(_answer(kind, answer) for (kind, _), answer in zip(kinds, answers[: found.count]))
     return _ended(found.status, run)
 
@@ -72,7 +72,9 @@ def line_rest(start: LineStart[Made]) -> Made:
     """
     address, length, numbers = _checked(start)._given
     room = 4 * (length - start._numbers.place) + start.pending
-    rest: Made = text_for(start.data, written(_line_rest, room, address, length, numbers)[1])
+    found, text = _line_rest(address, length, numbers, room)
+    stated(found.status)
+    rest: Made = text_for(start.data, text)
     return rest
 
 
@@ -86,8 +88,8 @@ def run_inline_html(data: Page, places: Iterable[int], end: Optional[int] = None
     """
     address, length, _, origin = whole(data, 0, end)
     listed = [min(place_in(data, number("a place", it)), _c.NONE) for it in places]
-    given, ends = (ctypes.c_size_t * len(listed))(*listed), (ctypes.c_size_t * len(listed))()
-    found = _run_inline_html(address, length, given, len(listed), ends, len(listed))
+    given, ends = (c_size_t * len(listed))(*listed), (c_size_t * len(listed))()
+    found = _run_inline_html(address, length, addressof(given), len(listed), addressof(ends), len(listed))
     return _ended(found.status, tuple(behind(origin, it) for it in ends[: found.count]))
 
 

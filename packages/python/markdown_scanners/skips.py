@@ -1,6 +1,7 @@
 """What is left out of a page: at the fronts of lines, the markers and the indent of their containers."""
 from __future__ import annotations
 
+from ctypes import addressof
 from typing import Any, Callable, Iterable, Optional
 
 from . import _c
@@ -26,9 +27,9 @@ class Skips:
 
     def __init__(self, data: Page, rows: Iterable[tuple[int, int]] = ()) -> None:
         address, length, _, held = whole(data, 0, None)
-        listed = [_bytes_of(data, number("a place", place), number("a length", length)) for place, length in rows]
+        listed: list[Any] = [_bytes_of(data, number("a place", place), number("a length", length)) for place, length in rows]
         self.data, self._table = data, (_c.Skip * len(listed))(*listed)
-        stated(_check_skips(address, length, self._table, len(listed)))
+        stated(_check_skips(address, length, addressof(self._table), len(listed)))
         del held  # until here the page has stayed where it is
 
     def __len__(self) -> int:
@@ -41,12 +42,12 @@ def _bytes_of(data: Page, place: int, length: int) -> tuple[int, int]:
     return min(first, NUMBERS - 1), min(place_in(data, place + length) - first, NUMBERS - 1)
 
 
-def table(skips: Optional[Skips], data: Page) -> tuple[Any, int]:
-    """The skips of a page as C has them, and how many they are."""
+def table(skips: Optional[Skips], data: Page) -> tuple[Optional[int], int]:
+    """The address of the skips of a page as C has them, and how many they are."""
     if skips is None:
         return None, 0
     if not isinstance(skips, Skips):
         raise TypeError(f"skips is of type {type(skips).__name__}, and not Skips")
     if skips.data is not data and (type(skips.data) is not type(data) or skips.data != data):
         raise ValueError("skips is of another page")
-    return skips._table, len(skips)
+    return addressof(skips._table), len(skips)

@@ -114,11 +114,20 @@ class Texts(unittest.TestCase):
         self.assertEqual(mds.scan_link_label("\U0001f354".encode() * 999 + b"]").text, "\U0001f354".encode() * 999)
         self.assertIsNone(mds.scan_link_label(b"a" * 1000 + b"]"))
 
+    def test_rooms_that_are_too_short(self):
+        """The call is made once more."""
+        row = b"|-" * 5000 + b"|\n"
+        self.assertEqual(mds.scan_table_head(row), mds.TableHead(len(row), (mds.Alignment.NONE,) * 5000))
+        tag = b"<a\n> b='" + b"c" * 5000 + b"'>"
+        self.assertEqual(mds.scan_html_tag_over_lines(tag, skips=mds.Skips(tag, [(3, 2)])), mds.Tag(len(tag), tag.replace(b"> ", b"")))
+        self.assertEqual(mds.unescape(b"&amp;" * 5000), b"&" * 5000)
+        self.assertEqual(mds.label_key("\u0390" * 2000), "\u03b9\u0308\u0301" * 2000)
+
 
 class Package(unittest.TestCase):
     def test_each_function_is_called(self):
         text = "".join(it.read_text() for it in FOLDER.glob("*.py") if it.name != "_c.py")
-        self.assertEqual([it for it in _c.FUNCTIONS if f'function("{it}")' not in text], [])
+        self.assertEqual([it for it in _c.FUNCTIONS if f'("{it}")' not in text], [])
 
     def test_public_names(self):
         modules = {it.name for it in pkgutil.iter_modules([str(FOLDER)])}

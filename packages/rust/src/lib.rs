@@ -22,4 +22,6 @@ pub use labels::*;
 pub use line::LineStart;
 pub use raw::Skip;
 pub use runs::{line_rest, run_inline_html, run_line, HtmlRun, HtmlStop, LineAnswer, LineCall, LineRun, LineStop};
-pub use values::{Alignment, BadSkips, BlockQuoteKind, HeadingLevel, HtmlBlockKind, LinkType, ListItem};
+pub use values::{
+    Alignment, BadSkips, BlockQuoteKind, HeadingLevel, HtmlBlockKind, InvalidHeadingLevel, LinkType, ListItem,
+};

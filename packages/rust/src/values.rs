@@ -32,6 +32,43 @@ impl HeadingLevel {
     }
 }
 
+/// ```
+/// use markdown_scanners::{HeadingLevel, InvalidHeadingLevel};
+///
+/// assert_eq!(HeadingLevel::try_from(2), Ok(HeadingLevel::H2));
+/// assert_eq!(HeadingLevel::try_from(7), Err(InvalidHeadingLevel(7)));
+/// ```
+impl TryFrom<usize> for HeadingLevel {
+    type Error = InvalidHeadingLevel;
+
+    fn try_from(number: usize) -> Result<Self, InvalidHeadingLevel> {
+        u32::try_from(number).ok().and_then(HeadingLevel::of).ok_or(InvalidHeadingLevel(number))
+    }
+}
+
+/// The name of its element in HTML.
+///
+/// ```
+/// assert_eq!(markdown_scanners::HeadingLevel::H2.to_string(), "h2");
+/// ```
+impl fmt::Display for HeadingLevel {
+    fn fmt(&self, f: &mut fmt::Formatter<'_>) -> fmt::Result {
+        f.pad(["h1", "h2", "h3", "h4", "h5", "h6"][*self as usize - 1])
+    }
+}
+
+/// A number that is no level of a heading: 0, or above 6.
+#[derive(Clone, Copy, Debug, PartialEq, Eq, PartialOrd, Ord, Hash)]
+pub struct InvalidHeadingLevel(pub usize);
+
+impl fmt::Display for InvalidHeadingLevel {
+    fn fmt(&self, f: &mut fmt::Formatter<'_>) -> fmt::Result {
+        write!(f, "no heading has the level {}", self.0)
+    }
+}
+
+impl Error for InvalidHeadingLevel {}
+
 /// How a column of a table is aligned.
 #[derive(Clone, Copy, Debug, PartialEq, Eq, Hash)]
 #[allow(missing_docs)]

@@ -31,7 +31,17 @@ fn levels() {
     use HeadingLevel::*;
     for (level, wanted) in [H1, H2, H3, H4, H5, H6].into_iter().enumerate() {
         assert_eq!(scan_atx_heading(&b"###### a"[5 - level..]), Some(wanted));
+        assert_eq!(HeadingLevel::try_from(level + 1), Ok(wanted));
+        assert_eq!(format!("{wanted:>3}"), format!(" h{}", level + 1));
     }
+}
+
+#[test]
+fn no_levels() {
+    for number in [0, 7, 1 << 32 | 1, usize::MAX] {
+        assert_eq!(HeadingLevel::try_from(number), Err(InvalidHeadingLevel(number)));
+    }
+    assert_eq!(InvalidHeadingLevel(7).to_string(), "no heading has the level 7");
 }
 
 #[test]

@@ -1,0 +1,40 @@
+"""What a type checker says of calls: packages/python/test has mypy read this, and Python run it."""
+from mmap import mmap
+from typing import Iterator, Optional, assert_type
+
+import markdown_scanners as mds
+
+
+def of_str(page: str) -> None:
+    assert_type(mds.unescape(page), str)
+    assert_type(mds.label_key(page), str)
+    assert_type(mds.scan_entity(page), Optional[mds.Entity[str]])
+    assert_type(mds.scan_link_label(page), Optional[mds.Label[str]])
+    assert_type(mds.line_rest(mds.LineStart(page)), str)
+
+
+def of_bytes(page: bytes) -> None:
+    assert_type(mds.unescape(page), bytes)
+    assert_type(mds.scan_entity(page), Optional[mds.Entity[bytes]])
+    assert_type(mds.scan_html_tag_over_lines(page, skips=mds.Skips(page)), Optional[mds.Tag[bytes]])
+    assert_type(mds.line_rest(mds.LineStart(page)), bytes)
+
+
+def of_buffers(array: bytearray, view: memoryview, mapped: mmap) -> None:
+    assert_type(mds.unescape(array), bytes)
+    assert_type(mds.label_key(view), bytes)
+    assert_type(mds.lines(mapped), Iterator[mds.Line])
+
+
+def of_places(page: mds.Page) -> None:
+    assert_type(mds.scan_line(page), int)
+    assert_type(mds.scan_eol(page), Optional[int])
+    assert_type(mds.scan_link_dest(page), Optional[mds.Part])
+    assert_type(mds.interrupts_paragraph(page), bool)
+    assert_type(mds.scan_html_block_start(page), Optional[mds.HtmlBlockKind])
+    assert_type([it.next for it in mds.lines(page)], list[int])
+
+
+of_str("&amp;")
+of_bytes(b"&amp;")
+of_places("a")
