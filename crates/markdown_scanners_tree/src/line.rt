@@ -34,8 +34,9 @@ use std::marker::Model;
 #[derive(Drop)]
 pub struct LineStart<'a> {
     bytes: &'a [u8],
-    // Four columns a byte may be more than a `usize` holds.
-    column: u128,
+    // It wraps, since four columns a byte may be more than a `usize` holds: a tab asks for it modulo
+    // four alone.
+    column: usize,
     place: usize,
     pending: usize,
     breaks: KnownBreaks,
@@ -49,7 +50,6 @@ impl<'a> Model for LineStart<'a> {
 
     ghost invariant = { λ s.
         (s.place ≤ length s.bytes.now)
-        × (s.column ≤ 4 * s.place + 3)
         × (s.pending < 4)
         × AreTrueBreaks s.bytes.now s.breaks s.place };
 }
@@ -98,7 +98,7 @@ impl<'a> LineStart<'a> {
         }
         Some(LineStart {
             bytes,
-            column: phase as u128,
+            column: phase,
             place,
             pending,
             breaks: KnownBreaks::new(),
@@ -126,7 +126,7 @@ impl<'a> LineStart<'a> {
         ensures phase { result ≡ self.now.phase }
         ensures within { result < 4 }
     {
-        (self.column % 4) as usize
+        self.column % 4
     }
 
     // The same place again.
@@ -166,7 +166,7 @@ impl<'a> LineStart<'a> {
         ensures { self.new ≡ bytes_further count self.old }
     {
         self.place += count;
-        self.column += count as u128;
+        self.column = self.column.wrapping_add(count);
     }
 
     // Passes the byte at the place as one column.
@@ -175,7 +175,7 @@ impl<'a> LineStart<'a> {
         ensures { self.new ≡ bytes_further 1 self.old }
     {
         self.place += 1;
-        self.column += 1;
+        self.column = self.column.wrapping_add(1);
     }
 
     /// Whether a line ending, or the end of the bytes, stands at the place. Pending columns are
@@ -207,13 +207,13 @@ impl<'a> LineStart<'a> {
             match self.bytes[self.place] {
                 b' ' => {
                     self.place += 1;
-                    self.column += 1;
+                    self.column = self.column.wrapping_add(1);
                     left -= 1;
                 }
                 b'\t' => {
-                    let width = tab_width(self.column);
+                    let width = tab_width(self.column as u128);
                     self.place += 1;
-                    self.column += width as u128;
+                    self.column = self.column.wrapping_add(width);
                     let taken = left.min(width);
                     self.pending = width - taken;
                     left -= taken;
@@ -252,13 +252,13 @@ impl<'a> LineStart<'a> {
         match self.bytes[self.place] {
             b' ' => {
                 self.place += 1;
-                self.column += 1;
+                self.column = self.column.wrapping_add(1);
                 true
             }
             b'\t' => {
-                let width = tab_width(self.column);
+                let width = tab_width(self.column as u128);
                 self.place += 1;
-                self.column += width as u128;
+                self.column = self.column.wrapping_add(width);
                 self.pending = width - 1;
                 true
             }

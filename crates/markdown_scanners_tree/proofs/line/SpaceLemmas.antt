@@ -215,6 +215,33 @@ taking_next {bytes} {place₀} {c₀} {p₀} {n} {place} {c} {p} {left} b {c'} {
       whole = omega arith;
     }
 
+-- the same, where the column of the next place is known modulo four
+pub record IsTakingAt (bytes : List ℕ) (place₀ c₀ p₀ n place column p left : ℕ) : Type 0 where
+  pub c : ℕ
+  pub phase : column % 4 ≡ c % 4
+  pub taking : IsTaking bytes place₀ c₀ p₀ n place c p left
+
+-- a space or tab more, of this width
+pub taking_more : {bytes : List ℕ} {place₀ c₀ p₀ n place column p left : ℕ} (b width : ℕ) {column' p' left' : ℕ}
+    → IsTakingAt bytes place₀ c₀ p₀ n place column p left
+    → 0 < left → place < length bytes → get_or bytes place 0 ≡ b
+    → ((b ≡ 32) × (width ≡ 1)) ⊎ ((b ≡ 9) × (width ≡ 4 - column % 4)) → column' % 4 ≡ (column + width) % 4
+    → p' ≡ width - min left width → left' ≡ left - min left width
+    → IsTakingAt bytes place₀ c₀ p₀ n (place + 1) column' p' left'
+taking_more {bytes} {place₀} {c₀} {p₀} {n} {place} {column} {p} {left} b width {column'} {p'} {left'} t some inside
+    read kind next pending left_over =
+    let is : (b ≡ 32) ⊎ (b ≡ 9) = elim kind as (λ _. (b ≡ 32) ⊎ (b ≡ 9)) [ inl e ↦ inl e.0 | inr e ↦ inr e.0 ] in
+    let wide : t.c + width ≡ column_after t.c b = elim kind as (λ _. t.c + width ≡ column_after t.c b) [
+      | inl e ↦ rw (e.0, e.1) refl
+      | inr e ↦ rw e.0 (omega (arith, e.1, t.phase))
+    ] in
+    let grown : t.c + width - t.c ≡ width = omega arith in
+    record {
+      c = t.c + width;
+      phase = omega (arith, next, t.phase);
+      taking = taking_next b t.taking some inside read is wide (rw grown pending) (rw grown left_over);
+    }
+
 -- none are taken yet
 taking_none : (bytes : List ℕ) (place c p n : ℕ) → place ≤ length bytes → p < 4 → min p n ≡ 0
     → IsTaking bytes place c p n place c p n
@@ -254,6 +281,14 @@ taken_from {bytes} {place₀} {c₀} {p₁} {n₁} {place} {c} {p} {left} p₀ n
       rest = rw count at (rest_dropped bytes place₀ c₀ p₀ n place c p left t.reach t.on t.further within kept);
     }
 
+-- the same, where the column of the place is known modulo four
+pub taken_at : {bytes : List ℕ} {place₀ c₀ p₁ n₁ place column p left : ℕ} (p₀ n taken : ℕ)
+    → (t : IsTakingAt bytes place₀ c₀ p₁ n₁ place column p left) → n₁ ≤ n → n₁ + p₀ ≡ n + p₁ → taken + left ≡ n
+    → (left ≡ 0) ⊎ ((p ≡ 0) × (leading_spaces (written_out t.c (drop place bytes)) ≡ 0))
+    → IsTaken n taken (state_of bytes place₀ p₀ c₀) (state_of bytes place p column)
+taken_at p₀ n taken t fewer from_pending sum ended =
+    rw t.phase (taken_from p₀ n taken t.taking fewer from_pending sum ended)
+
 -- one column: a pending one, one of a byte, and none
 pub one_pending : (bytes : List ℕ) (place c p : ℕ) → place ≤ length bytes → p < 4 → 0 < p
     → IsTaken 1 1 (state_of bytes place p c) (state_of bytes place (p - 1) c)
@@ -262,16 +297,19 @@ one_pending bytes place c p inside small some =
     taking_none bytes place c (p - 1) 0 inside (omega arith) (omega arith) in
     taken_from p 1 1 left (omega arith) (omega arith) refl (inl refl)
 
-pub one_of_byte : (bytes : List ℕ) (place c p b width p' : ℕ) → p ≡ 0 → place < length bytes
-    → get_or bytes place 0 ≡ b → (b ≡ 32) ⊎ (b ≡ 9) → c + width ≡ column_after c b → p' + 1 ≡ width
-    → IsTaken 1 1 (state_of bytes place p c) (state_of bytes (place + 1) p' (c + width))
-one_of_byte bytes place c p b width p' none inside read kind next others =
-    let more : c < column_after c b = after-more c b in
-    let before : IsTaking bytes place c p 1 place c p 1 =
-    taking_none bytes place c p 1 (omega arith) (omega arith) (omega arith) in
-    let after : IsTaking bytes place c p 1 (place + 1) (c + width) p' 0 =
-    taking_next b before (omega arith) inside read kind next (omega arith) (omega arith) in
-    taken_from p 1 1 after (omega arith) refl refl (inl refl)
+pub one_of_byte : (bytes : List ℕ) (place c p b width c' p' : ℕ) → p ≡ 0 → place < length bytes
+    → get_or bytes place 0 ≡ b → ((b ≡ 32) × (width ≡ 1)) ⊎ ((b ≡ 9) × (width ≡ 4 - c % 4))
+    → c' % 4 ≡ (c + width) % 4 → p' + 1 ≡ width
+    → IsTaken 1 1 (state_of bytes place p c) (state_of bytes (place + 1) p' c')
+one_of_byte bytes place c p b width c' p' none inside read kind next others =
+    let before : IsTakingAt bytes place c p 1 place c p 1 = record {
+      c = c;
+      phase = refl;
+      taking = taking_none bytes place c p 1 (omega arith) (omega arith) (omega arith);
+    } in
+    let after : IsTakingAt bytes place c p 1 (place + 1) c' p' 0 =
+    taking_more b width before (omega arith) inside read kind next (omega arith) (omega arith) in
+    taken_at p 1 1 after (omega arith) refl refl (inl refl)
 
 pub none_of_byte : (bytes : List ℕ) (place c p n : ℕ) → p ≡ 0 → place ≤ length bytes
     → leading_spaces (written_out c (drop place bytes)) ≡ 0

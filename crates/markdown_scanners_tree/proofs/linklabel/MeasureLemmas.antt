@@ -4,7 +4,7 @@ use Rattle.std.proofs.Common.{subst, arith, inl, inr}
 use Rattle.std.proofs.Common.{drop, take, get_or, length, length-append, length-drop, true≢false}
 use Rattle.std.proofs.Math.Bool.{and-false, not-not}
 use Rattle.std.proofs.Math.Seq.{take-append_seam}
-use Rattle.std.proofs.lemmas.Bool.{cases_Bool, and_parts}
+use Rattle.std.proofs.lemmas.Bool.{cases_Bool, and_parts, eqb-true}
 use Rattle.std.proofs.lemmas.Bool.Decides.{nat_tests}
 use Rattle.std.proofs.lemmas.List.{drop-drop, drop_more}
 use Rattle.markdown_scanners_tree.specs.Ascii.{right_bracket}
@@ -13,8 +13,8 @@ use Rattle.markdown_scanners_tree.specs.Kept.{KeptByte, bytes_of, in_line, kept_
 use Rattle.markdown_scanners_tree.specs.linklabel.Answer.{without_first_space, without_last_space}
 use Rattle.markdown_scanners_tree.specs.linklabel.Label.{Label, IsLabel, label_between, is_label_content, in_cell, joined_words, is_plain}
 use Rattle.markdown_scanners_tree.specs.linklabel.private.NextPart.{IsBracket, IsEnding, IsSpace, IsWord}
-use Rattle.markdown_scanners_tree.specs.linklabel.private.Pass.{IsMeasure, due_len, starts_dropped, backslash_len}
-use Rattle.markdown_scanners_tree.specs.linklabel.private.Pass.{tally_past_backslash, tally_past_ending, tally_past_space, tally_past_word}
+use Rattle.markdown_scanners_tree.specs.linklabel.private.Pass.{IsMeasure, due_len, starts_dropped, backslash_len, spaces_len}
+use Rattle.markdown_scanners_tree.specs.linklabel.private.Pass.{tally_past_backslash, tally_past_ending, tally_past_space, tally_past_spaces, tally_past_word}
 use Rattle.markdown_scanners_tree.specs.linklabel.private.Run.{is_ordinary}
 use Rattle.markdown_scanners_tree.specs.declared.linklabel.tally.Tally.{Tally}
 use Rattle.markdown_scanners_tree.proofs.linklabel.Facts.{Facts, facts_past_ending, facts_past_space, facts_past_word}
@@ -223,3 +223,25 @@ module _ (a : List ℕ → ℕ → Type 0) (t : Bool) (source : List ℕ) where
             at = subst (IsAt _ _ _ _ jx) (drop-drop (len + skip) ix source) (after_ending _ _ _ _ _ _ here.at _ o _ only);
             told = told_ending _ _ _ _ _ _ _ here.told jx _ o (sym here.tells.ending_is ∙ first);
           }
+
+  -- past a space, and one more where it stands behind it
+  module _ (ix : ℕ) (y : Tally) (here : IsTallied a t source (length source) false ix y)
+      (inside : ix < length source) (is : get_or source ix 0 ≡ 32) where
+    first : IsTallied a t source (length source) false (ix + 1) (tally_past_space y 32)
+    first = past_white ix y 32 here inside is refl refl
+
+    second : (rest : List ℕ) → drop (ix + 1) source ≡ rest → begins_with (λ b. b == 32) rest ≡ true
+        → IsTallied a t source (length source) false (ix + 2) (tally_past_space (tally_past_space y 32) 32)
+    second [] same does = cc
+    second (c ∷ cs) same does =
+        let at = byte_at source (ix + 1) c cs same in
+        let place : ix + 1 + 1 ≡ ix + 2 = omega arith in
+        subst (λ k. IsTallied a t source (length source) false k (tally_past_space (tally_past_space y 32) 32)) place
+        (past_white (ix + 1) (tally_past_space y 32) 32 first at.0 (at.1 ∙ eqb-true c 32 does) refl refl)
+
+    pub past_some_spaces : IsTallied a t source (length source) false (ix + spaces_len (drop (ix + 1) source))
+        (tally_past_spaces y (drop (ix + 1) source))
+    past_some_spaces = elim (cases_Bool (begins_with (λ b. b == 32) (drop (ix + 1) source))) [
+      | inl does ↦ rw does (second (drop (ix + 1) source) refl does)
+      | inr not ↦ rw not first
+    ]

@@ -6,7 +6,7 @@ ghost use Rattle.markdown_scanners_tree.specs.Bytes.{begins_with, is_line_ending
 ghost use Rattle.markdown_scanners_tree.specs.Handler.{Skips, IsCallableAfterLineEndings};
 ghost use Rattle.markdown_scanners_tree.specs.Kept.{line_len};
 ghost use Rattle.markdown_scanners_tree.specs.linklabel.Label.{HasNoLabel};
-ghost use Rattle.markdown_scanners_tree.specs.linklabel.private.Pass.{due_len, backslash_len, tally_past_backslash, IsMeasure};
+ghost use Rattle.markdown_scanners_tree.specs.linklabel.private.Pass.{due_len, backslash_len, spaces_len, tally_past_backslash, tally_past_spaces, IsMeasure};
 ghost use Rattle.markdown_scanners_tree.specs.linklabel.private.Steady.{IsSteadyAfterLines};
 ghost use Rattle.markdown_scanners_tree.specs.linklabel.private.Words.{AreWords};
 
@@ -107,6 +107,10 @@ fn measure_from<F: Fn(&[u8]) -> Option<usize>>(
                 tally = tally.past_ending(len, skip);
                 ix += len + skip;
             }
+            b' ' => {
+                tally = past_spaces(tally, &bytes[ix + 1..]);
+                ix += spaces_len(&bytes[ix + 1..]);
+            }
             _ => {
                 tally = tally.past_space(byte);
                 ix += 1;
@@ -146,6 +150,28 @@ fn ending_len(rest: &[u8]) -> usize
     match rest {
         [b'\r', b'\n', ..] => 2,
         _ => 1,
+    }
+}
+
+// How many spaces are read at once: a space, and one more where it stands behind it.
+fn spaces_len(behind: &[u8]) -> usize
+    ensures { result ≡ spaces_len behind.now }
+{
+    match behind {
+        [b' ', ..] => 2,
+        _ => 1,
+    }
+}
+
+// The tally after a space, and one more where it stands behind it.
+fn past_spaces(tally: Tally, behind: &[u8]) -> Tally
+    requires { tally.left_out + 2 ≤ usize.MAX }
+    ensures { result ≡ tally_past_spaces tally behind.now }
+{
+    let tally = tally.past_space(b' ');
+    match behind {
+        [b' ', ..] => tally.past_space(b' '),
+        _ => tally,
     }
 }
 

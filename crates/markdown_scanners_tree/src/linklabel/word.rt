@@ -41,6 +41,8 @@ fn kept_byte(byte: u8, behind: &[u8], escaped: bool, is_in_table: bool) -> Optio
 {
     match (byte, behind) {
         (_, _) if is_ordinary(byte) => Some(false),
+        // White space, as most words are followed by: one comparison tells it from the others.
+        (_, _) if byte < b'[' => None,
         (b'\\', [b'|', ..]) if is_in_table => None,
         (b'\\', [next, ..]) => Some(!escaped && is_ascii_punctuation(*next)),
         (b'[' | b']', _) if escaped => Some(false),

@@ -51,9 +51,8 @@ pub fn scan_entity<E: Entities>(bytes: &[u8], entities: &E) -> (usize, Option<Co
     scan_numbered(bytes)
 }
 
-// The reference by number at the front, where `#` follows the first byte. It is called, so that a
-// scan that finds none has no registers to save.
-#[inline(never)]
+// The reference by number at the front, where `#` follows the first byte.
+#[inline(always)]
 pub(in crate::scanners) fn scan_numbered(bytes: &[u8]) -> (usize, Option<CowStr<'static>>)
     requires long { 1 < length bytes.now }
     requires number { slice_index bytes.now 1 ≡ number_sign }
@@ -67,8 +66,8 @@ pub(in crate::scanners) fn scan_numbered(bytes: &[u8]) -> (usize, Option<CowStr<
 }
 
 // The length of the reference by number at the front, where `#` follows the first byte, and its
-// character.
-#[inline(always)]
+// character. It is called, so that a scan and the loops over pieces stay short.
+#[inline(never)]
 pub(in crate::scanners) fn numbered_char(bytes: &[u8]) -> Option<(usize, char)>
     requires long { 1 < length bytes.now }
     requires number { slice_index bytes.now 1 ≡ number_sign }

@@ -169,7 +169,8 @@ fn push_ampersand<E: Entities>(
     let bytes = &text.as_bytes()[place..];
     if bytes.len() > 1 && bytes[1] == b'#' {
         let Some((length, meaning)) = number_reference(bytes) else {
-            return Ok((run, place + 2));
+            let plain = 1 + lone_len(&bytes[1..]);
+            return Ok((run, place + plain));
         };
         push_with_char(out, &text[run..place], meaning)?;
         return Ok((place + length, place + length));
@@ -309,7 +310,7 @@ fn number_size(bytes: &[u8]) -> PieceSize
 {
     match number_reference(bytes) {
         Some((source, meaning)) => piece_size(source, source, meaning.len_utf8()),
-        None => piece_size(2, 0, 0),
+        None => piece_size(1 + lone_len(&bytes[1..]), 0, 0),
     }
 }
 

@@ -1,7 +1,7 @@
 -- The first piece of a text, by what stands at the front.
-use Rattle.std.proofs.Common.{◌≡◌, ◌≢◌, ℕ, zero, suc, ◌+◌, ◌-◌, ◌<◌, ◌≤◌, Bool, true, false, List, [], ◌∷◌, ◌++◌, length, drop, get_or, refl, ap, ◌∙◌, sym, subst, arith, inl, inr, ◌⊎◌, eqb}
+use Rattle.std.proofs.Common.{◌≡◌, ◌≢◌, ℕ, zero, suc, ◌+◌, ◌-◌, ◌<◌, ◌≤◌, Bool, true, false, List, [], ◌∷◌, ◌++◌, length, take, drop, get_or, refl, ap, ◌∙◌, sym, subst, arith, inl, inr, ◌⊎◌, eqb}
 use Rattle.std.specs.Prelude.{◌&&◌, ◌||◌}
-use Rattle.std.proofs.lemmas.List.{append-nil, drop_all, drop_more, length-append, length-drop, get_or-drop, get_or_append_left, get_or_at}
+use Rattle.std.proofs.lemmas.List.{take_rest, append-nil, drop_all, drop_more, length-append, length-drop, get_or-drop, get_or_append_left, get_or_at}
 use Rattle.std.proofs.lemmas.Bool.Decides.{nat_tests}
 use Rattle.std.proofs.lemmas.Bool.{false≢true, and_parts, and_from, and_left, and_right, or_parts, eqb-true, eq-eqb, ne_eqb, false_from_ne_true}
 use Rattle.std.proofs.lemmas.List.Sums.{prefix_len_passes, prefix_len-le-length}
@@ -305,6 +305,30 @@ pair_plain t known text n within few first second (suc zero) in' =
     plain_piece t known (drop 1 text) (omega (arith, length-drop 1 text, within, in'))
     (ap begins_change (get_or-drop 1 text 0 0) ∙ second (omega (arith, in')))
 pair_plain t known text n within few first second (suc (suc k)) in' = absurd (omega (arith, in', few))
+
+-- the bytes from `#` on, of which one may be behind it
+number_byte : (text : List ℕ) (n : ℕ) → get_or text 1 0 ≡ number_sign → n ≤ 2
+    → (1 < n → begins_change (get_or (drop 1 text) 1 0) ≡ false) → (k : ℕ) → k < n
+    → begins_change (get_or text (suc k) 0) ≡ false
+number_byte text n number few third zero in' = ap begins_change number
+number_byte text n number few third (suc zero) in' =
+    sym (ap begins_change (get_or-drop 1 text 1 0)) ∙ third (omega (arith, in'))
+number_byte text n number few third (suc (suc k)) in' = absurd (omega (arith, in', few))
+
+-- a byte that means itself, `#` behind it, and maybe one more that begins no change
+pub number_plain : (t : Bool) (known : Lookup) (text : List ℕ) (n : ℕ) → IsFirstPiece t known text 1 0 []
+    → get_or text 1 0 ≡ number_sign
+    → n ≤ length (take (length text - 1) (drop 1 text)) → n ≤ 2
+    → (1 < n → begins_change (get_or (take (length text - 1) (drop 1 text)) 1 0) ≡ false)
+    → ArePlain t known text (1 + n)
+number_plain t known text n first number within few third zero in' = first
+number_plain t known text n first number within few third (suc k) in' =
+    let inside : n ≤ length text - 1 = rw (take_rest text 1, length-drop 1 text) at within in
+    let last = rw (take_rest text 1) at third in
+    let at : suc k + 0 ≡ suc k = omega arith in
+    plain_piece t known (drop (suc k) text) (omega (arith, length-drop (suc k) text, inside, in'))
+    (ap begins_change (get_or-drop (suc k) text 0 0 ∙ ap (λ m. get_or text m 0) at)
+    ∙ number_byte text n number few last k (omega (arith, in')))
 
 -- no letter and no digit begins a change
 plain_alphanumeric : (b : ℕ) → is_alphanumeric b ≡ true → begins_change b ≡ false

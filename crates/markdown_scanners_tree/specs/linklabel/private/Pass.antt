@@ -73,6 +73,16 @@ tally_past_space y byte = record y {
   is_plain = y.is_plain && (byte == space && not y.in_run);
 }
 
+-- how many spaces are read at once: a space, and one more where it stands behind it
+abbrev pub spaces_len : List ℕ → ℕ
+spaces_len behind = if begins_with (λ b. b == space) behind then 2 else 1
+
+-- after a space, and one more where it stands behind it
+abbrev pub tally_past_spaces : Tally → List ℕ → Tally
+tally_past_spaces y behind =
+    let after = tally_past_space y space in
+    if begins_with (λ b. b == space) behind then tally_past_space after space else after
+
 -- after a byte of a word, which is or is not dropped
 abbrev pub tally_past_word : Tally → ℕ → Bool → Tally
 tally_past_word y byte dropped = record y {

@@ -1,5 +1,5 @@
-use Rattle.std.proofs.Common.{◌≡◌, ◌≤◌, ◌+◌, ◌*◌}
-use Rattle.markdown_scanners_tree.proofs.line.SpaceLemmas.{IsTaking}
+use Rattle.std.proofs.Common.{◌≡◌}
+use Rattle.markdown_scanners_tree.proofs.line.SpaceLemmas.{IsTakingAt}
 use Rattle.markdown_scanners_tree.proofs.line.LineStart.scan_space_upto.Given as goal
 
 abbrev pub invariant-loop-left : goal.invariant-loop-left
@@ -10,8 +10,7 @@ invariant-loop-left l =
       same : now.bytes ≡ old.bytes;
       none_before : now.breaks.none_before ≡ old.breaks.none_before;
       behind_break : now.breaks.behind_break ≡ old.breaks.behind_break;
-      bound : now.column ≤ 4 * now.place + 3;
-      taking : IsTaking old.bytes.now old.place old.column old.pending l.initial.left now.place
+      taking : IsTakingAt old.bytes.now old.place old.column old.pending l.initial.left now.place
           now.column now.pending l.left;
     }
 

@@ -8,10 +8,10 @@ use Rattle.markdown_scanners_tree.specs.Bytes.{is_line_ending, is_white_space}
 use Rattle.markdown_scanners_tree.specs.Handler.{Skips}
 use Rattle.markdown_scanners_tree.specs.Kept.{line_len}
 use Rattle.markdown_scanners_tree.specs.linklabel.private.NextPart.{IsBracket, IsEnding}
-use Rattle.markdown_scanners_tree.specs.linklabel.private.Pass.{IsMeasure, backslash_len, tally_past_backslash}
+use Rattle.markdown_scanners_tree.specs.linklabel.private.Pass.{IsMeasure, backslash_len, spaces_len, tally_past_backslash, tally_past_spaces}
 use Rattle.markdown_scanners_tree.specs.linklabel.private.Run.{is_ordinary}
 use Rattle.markdown_scanners_tree.proofs.HandlerLemmas.{after_label_line}
-use Rattle.markdown_scanners_tree.proofs.linklabel.MeasureLemmas.{IsTallied, measured_by, not_measured, starts, past_ordinary, past_slash, past_white}
+use Rattle.markdown_scanners_tree.proofs.linklabel.MeasureLemmas.{IsTallied, measured_by, not_measured, starts, past_ordinary, past_slash, past_white, past_some_spaces}
 use Rattle.markdown_scanners_tree.proofs.linklabel.MeasureLemmas.{past_line, ending_here}
 use Rattle.markdown_scanners_tree.proofs.linklabel.SourceSteps.{IsOnlySkip, none_at_end, none_at_opening, none_at_ending}
 use Rattle.markdown_scanners_tree.proofs.linklabel.SourceSteps.{none_at_second_ending, none_at_late_ending, none_so_late, rest_is, ending_fits}
@@ -190,6 +190,19 @@ loop-ix-preserved-in-10 g c =
     (past_line _ c.args.is_in_table text ix c.loop-ix.tally _ c.loop-ix.invariant
     c.loop-ix-test.true refl ends n skip len
     (sym c.ends_line.ensures ∙ c.if-ends_line.false) only c.in_ok-skip-in-10.ensures.within)
+
+pub loop-ix-preserved-in-32 : goal.loop-ix-preserved-in-32
+loop-ix-preserved-in-32 g c =
+    let ix = c.loop-ix.ix in
+    let text = c.args.bytes.now in
+    let rest = rest_is text (ix + 1) in
+    let len : c.spaces_len-ix.result ≡ spaces_len (drop (ix + 1) text) = c.spaces_len-ix.ensures ∙ ap spaces_len rest in
+    let tally : c.past_spaces-tally.result ≡ tally_past_spaces c.loop-ix.tally (drop (ix + 1) text) =
+    c.past_spaces-tally.ensures ∙ ap (tally_past_spaces c.loop-ix.tally) rest in
+    subst (λ z. z)
+    (λ i. IsTallied (Skips g.F.Fn c.args.handler.now) c.args.is_in_table text (length text) false
+    (ix + sym len i) (sym tally i))
+    (past_some_spaces _ c.args.is_in_table text ix c.loop-ix.tally c.loop-ix.invariant c.loop-ix-test.true c.in-32.is)
 
 pub loop-ix-preserved : goal.loop-ix-preserved
 loop-ix-preserved g c =

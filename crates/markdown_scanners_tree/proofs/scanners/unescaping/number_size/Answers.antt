@@ -1,6 +1,5 @@
-use Rattle.std.proofs.Common.{refl, ap, arith, inl, inr, encode_utf8}
-use Rattle.markdown_scanners_tree.specs.scanners.unescaping.private.FirstPiece.{begins_change}
-use Rattle.markdown_scanners_tree.proofs.scanners.unescaping.FirstPieceLemmas.{reference_changed, pair_plain, lone_piece}
+use Rattle.std.proofs.Common.{refl, arith, inl, inr, encode_utf8}
+use Rattle.markdown_scanners_tree.proofs.scanners.unescaping.FirstPieceLemmas.{reference_changed, number_plain, lone_piece}
 use Rattle.markdown_scanners_tree.proofs.scanners.unescaping.number_size.Goals as goal
 
 pub returns-in-Some-clause-size : goal.returns-in-Some-clause-size
@@ -22,6 +21,6 @@ returns-in-None-clause-size c in_table known =
     rw c.piece_size-in-None.ensures (inl (
       refl,
       refl,
-      pair_plain in_table known c.args.bytes.now 2 (omega (arith, c.requires.long)) (omega arith) first
-          (λ _. ap begins_change c.requires.number),
+      number_plain in_table known c.args.bytes.now c.lone_len.result first c.requires.number
+          c.lone_len.ensures.within c.lone_len.ensures.at_most_two c.lone_len.ensures.plain,
     ))

@@ -4,8 +4,8 @@ use Rattle.std.proofs.lemmas.List.{take_rest, get_or-drop}
 use Rattle.std.specs.Option.{option_copied}
 use Rattle.markdown_scanners_tree.specs.Ascii.{ampersand}
 use Rattle.markdown_scanners_tree.specs.scanners.entities.private.Name.{IsNameAnswer}
-use Rattle.markdown_scanners_tree.specs.scanners.unescaping.private.FirstPiece.{IsChanged, ArePlain, begins_change}
-use Rattle.markdown_scanners_tree.proofs.scanners.unescaping.FirstPieceLemmas.{reference_changed, pair_plain, lone_piece, name_plain}
+use Rattle.markdown_scanners_tree.specs.scanners.unescaping.private.FirstPiece.{IsChanged, ArePlain}
+use Rattle.markdown_scanners_tree.proofs.scanners.unescaping.FirstPieceLemmas.{reference_changed, number_plain, lone_piece, name_plain}
 use Rattle.markdown_scanners_tree.proofs.scanners.unescaping.PieceLemmas.{pushed_change, pushed_nothing}
 use Rattle.markdown_scanners_tree.proofs.scanners.unescaping.push_ampersand.Goals as goal
 
@@ -31,10 +31,11 @@ returns-in_default-clause-pushed g c in_table =
     lone_piece in_table known rest (omega (arith, c.if-bytes-gt1.true))
     (λ b. absurd (omega (arith, b, begins))) (λ b. absurd (omega (arith, b, begins)))
     (λ n meaning starts. c.in_default.ensures.reference known n meaning starts.1) in
-    pushed_nothing in_table known c.args.text.now c.args.run place 2 c.args.out.now
-    (subst (λ bs. ArePlain in_table known bs 2) same
-    (pair_plain in_table known rest 2 (omega (arith, c.if-bytes-gt1.true)) (omega arith) first
-    (λ _. ap begins_change c.if-bytes-eq35.true)))
+    let n = c.lone_len-plain.result in
+    pushed_nothing in_table known c.args.text.now c.args.run place (1 + n) c.args.out.now
+    (subst (λ bs. ArePlain in_table known bs (1 + n)) same
+    (number_plain in_table known rest n first c.if-bytes-eq35.true c.lone_len-plain.ensures.within
+    c.lone_len-plain.ensures.at_most_two c.lone_len-plain.ensures.plain))
 
 pub returns-in_err-push_with_char-clause-room : goal.returns-in_err-push_with_char-clause-room
 returns-in_err-push_with_char-clause-room g c in_table room =
