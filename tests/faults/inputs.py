@@ -3,15 +3,17 @@ from running import Scan
 
 # How many reads and writes a run on a long input makes at least.
 MANY = 100
+# How many reads are made at most.
+READS = 1_048_576
 
 USAGE = b"usage: cmark_scan line CALL.. | html | label | unescape\n"
 # Words that are answered, and as many that are not.
 KNOWN, OTHER = ["html"], ["htmk"]
-# What is told on standard error: by which words, under what, and with which status.
+# What is told on standard error: by which words, under what, with which status, and in which writes.
 COMPLAINTS = [
-    ("other words", OTHER, {}, 2),
-    ("no text", ["label"], {"given": b"\xff"}, 1),
-    ("a read fault", ["html"], {"read_fail": 1}, 3),
+    ("other words", OTHER, {}, 2, [USAGE]),
+    ("no text", ["label"], {"given": b"\xff"}, 1, [b"not UTF-8\n"]),
+    ("a read fault", ["html"], {"read_fail": 1}, 3, [b"read fault\n"]),
 ]
 
 LIST_LINES = b"quote true\nupto 2\nlist - 0 4\nscanned 4\nrest 78\n"

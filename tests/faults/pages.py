@@ -1,4 +1,6 @@
 """What cmark_blocks is run on: its words, its input, and what it then prints and answers with ample memory."""
+import errno
+
 from running import TOP, Scan
 
 # How many reads and writes a run on a long input makes at least.
@@ -10,16 +12,51 @@ SMALL_MEMORY = 1 << 23
 # So many containers in each other take more memory than the first request gives room.
 DEEP = 40
 
-USAGE = b"usage: cmark_blocks [--json | --help] < PAGE\n"
+# Reads are made as long as there are bytes.
+READS = None
+
+# What is said of an option that is not known.
+USAGE = (
+    b"cmark_blocks: unknown option --hepl\n"
+    b"usage: cmark_blocks [--json] [--] [FILE ..]\n       cmark_blocks -h | --help | --version\n"
+)
 HELP = (TOP / "crates/cmark_blocks/help.txt").read_bytes()
+VERSION = b"cmark_blocks " + (TOP / "VERSION").read_bytes()
 # Words that are answered, and as many that are not.
-KNOWN, OTHER = ["--json"], ["--jsom"]
-# What is told on standard error: by which words, under what, and with which status.
-COMPLAINTS = [("other words", OTHER, {}, 2), ("a read fault", [], {"read_fail": 1}, 3)]
+KNOWN, OTHER = ["--help"], ["--hepl"]
+# What is told on standard error: by which words, under what, with which status, and in which writes.
+COMPLAINTS = [
+    ("other words", OTHER, {}, 2, USAGE.replace(b"--hepl", b"|--hepl|").split(b"|")),
+    ("a read fault", [], {"read_fail": 1}, 3, [b"cmark_blocks: ", b"standard input", b": Input/output error\n"]),
+]
+# What is said of a fault, by its number; of any other, that it is an error of input or output.
+REASONS = {
+    errno.EINTR: b"Interrupted system call",
+    errno.EAGAIN: b"Resource temporarily unavailable",
+    errno.EISDIR: b"Is a directory",
+    errno.ENOSPC: b"No space left on device",
+}
+
+
+def reason(number):
+    return REASONS.get(number, b"Input/output error")
 
 
 class Page(Scan):
     """A page whose blocks are written while it is read, by one write for each part of it."""
+
+    def no_memory(self):
+        return b"cmark_blocks: out of memory\n"
+
+    def no_words(self):
+        return [self.no_memory()]
+
+    def read_fault(self, number):
+        return b"cmark_blocks: standard input: %s\n" % reason(number)
+
+    def write_fault(self, number):
+        """Nothing where nobody reads the output."""
+        return b"" if number == errno.EPIPE else b"cmark_blocks: write error: %s\n" % reason(number)
 
     def is_front(self, out):
         """The lines of its first blocks."""
@@ -43,7 +80,7 @@ OBJECTS = Page(
 PLAIN = [A_PAGE, OBJECTS]
 
 # Words whose answer wants no input.
-UNREAD = [Scan("help", "--help", b"", HELP)]
+UNREAD = [Page("help", "--help", b"", HELP), Page("version", "--version", b"", VERSION)]
 
 SMALL = [
     *PLAIN,

@@ -45,6 +45,22 @@ class Scan:
     def is_answered(self, run):
         return run.same_as(self)
 
+    def no_memory(self):
+        """What is said on standard error where memory is refused."""
+        return b"out of memory\n"
+
+    def no_words(self):
+        """And where it is refused to the words of the command line."""
+        return [b"out of memory\n", b"read fault\n"]
+
+    def read_fault(self, number):
+        """What is said where a read fails with this number."""
+        return b"read fault\n"
+
+    def write_fault(self, number):
+        """What is said where a write fails with this number, or takes no byte, at 0."""
+        return b"write fault\n"
+
     def is_front(self, out):
         """Whether so much of the output may be there where input or memory is refused: nothing."""
         return not out

@@ -3,8 +3,6 @@
 import errno
 import os
 
-NO_MEMORY, READ_FAULT, WRITE_FAULT = b"out of memory\n", b"read fault\n", b"write fault\n"
-READS = 1_048_576
 # How many bytes a read of a long input gives.
 PAGE = 4_096
 HALF_GIBIBYTE = 1 << 29
@@ -41,8 +39,7 @@ def refused_memory(program, scan, tally):
     tally.check(f"{program.name} {scan.name}, with ample memory", scan.is_answered(ample) and ample.told, ample)
 
     def is_well(run, n):
-        # the words of the command line that can't be had are a read fault
-        says = (NO_MEMORY, READ_FAULT) if n <= ample.count("at_first_read") else (NO_MEMORY,)
+        says = scan.no_words() if n <= ample.count("at_first_read") else [scan.no_memory()]
         is_refused = any(is_stopped(scan, run, word) for word in says)
         return (is_refused or scan.is_answered(run)) and run.count("live") == ample.count("live")
 
@@ -70,7 +67,8 @@ def other_words(program, inputs, tally):
 def failing_reads(program, scan, least, tally, **more):
     """Each read fails in turn."""
     for number in FAILING_READS:
-        what, is_well = f"read with {errno.errorcode[number]}", lambda run, _: is_stopped(scan, run, READ_FAULT)
+        what, word = f"read with {errno.errorcode[number]}", scan.read_fault(number)
+        is_well = lambda run, _: is_stopped(scan, run, word)
         failed = in_turn(program, scan, what, ("read_fail", "reads"), is_well, tally, errno=number, **more)
         tally.check(f"{program.name} {scan.name}, {what}: reads that failed", failed >= least, why=f"{failed}")
 
@@ -97,7 +95,8 @@ def failing_writes(program, scan, size, numbers, tally):
     rows += [("interrupted write", "write_fail", {"errno": errno.EINTR}), ("short write", "write_short", {})]
     for what, word, more in rows:
         is_fault = what.startswith("write")
-        is_ended_at = lambda run, n: (run.err, run.status) == (WRITE_FAULT, 3) and scan.is_written(run.out, n - 1, size)
+        said = scan.write_fault(more.get("errno"))
+        is_ended_at = lambda run, n: (run.err, run.status) == (said, 3) and scan.is_written(run.out, n - 1, size)
         is_well = lambda run, n: is_ended_at(run, n) if is_fault else scan.is_answered(run)
         made = in_turn(program, scan, what, (word, "writes"), is_well, tally, write_size=size, **more)
         tally.check(f"{program.name} {scan.name}, {what}: writes", made >= writes, why=f"{made} of {writes}")
@@ -111,9 +110,9 @@ def writes_of(program, scan, sizes, tally):
 
 def failing_errors(program, inputs, tally):
     """What becomes of the words on standard error changes no status."""
-    for name, words, asked, status in inputs.COMPLAINTS:
+    for name, words, asked, status, parts in inputs.COMPLAINTS:
         run = program.run(words, error_fail=1, errno=errno.EIO, **asked)
-        well = (run.out, run.err, run.status) == (b"", b"", status) and run.count("errors") == 1
+        well = (run.out, run.err, run.status) == (b"", b"".join(parts[1:]), status) and run.count("errors") == len(parts)
         tally.check(f"{program.name}, {name} that can't be told", well, run)
         run = program.run(words, closed=[2], errno=errno.EIO, **asked)
         tally.check(f"{program.name}, {name} with no standard error", (run.out, run.status) == (b"", status), run)
@@ -122,29 +121,30 @@ def failing_errors(program, inputs, tally):
 def real_faults(program, scan, tally):
     """Descriptors that the system itself refuses."""
     run = program.run(scan.words, closed=[0])
-    tally.check(f"{program.name} {scan.name}, input closed", is_ended(run, READ_FAULT), run)
+    tally.check(f"{program.name} {scan.name}, input closed", is_ended(run, scan.read_fault(errno.EBADF)), run)
     folder = os.open("/", os.O_RDONLY)
     run = program.run(scan.words, stdin=folder)
     os.close(folder)
-    tally.check(f"{program.name} {scan.name}, a folder as input", is_ended(run, READ_FAULT), run)
+    tally.check(f"{program.name} {scan.name}, a folder as input", is_ended(run, scan.read_fault(errno.EISDIR)), run)
     run = program.run(scan.words, scan.given, closed=[1])
-    tally.check(f"{program.name} {scan.name}, output closed", is_ended(run, WRITE_FAULT), run)
+    tally.check(f"{program.name} {scan.name}, output closed", is_ended(run, scan.write_fault(errno.EBADF)), run)
     with open("/dev/full", "wb") as full:
         run = program.run(scan.words, scan.given, stdout=full)
-    tally.check(f"{program.name} {scan.name}, a full device as output", is_ended(run, WRITE_FAULT), run)
+    tally.check(f"{program.name} {scan.name}, a full device as output", is_ended(run, scan.write_fault(errno.ENOSPC)), run)
     unread, pipe = os.pipe()
     os.close(unread)
     run = program.run(scan.words, scan.given, stdout=pipe)
     os.close(pipe)
-    tally.check(f"{program.name} {scan.name}, a pipe that nobody reads", is_ended(run, WRITE_FAULT), run)
+    tally.check(f"{program.name} {scan.name}, a pipe that nobody reads", is_ended(run, scan.write_fault(errno.EPIPE)), run)
 
 
-def endless_input(program, scan, tally):
-    run = program.run(scan.words, endless=1)
-    well = is_ended(run, READ_FAULT) and run.count("reads") == READS
-    tally.check(f"{program.name} {scan.name}, endless input a byte a read", well, run)
+def endless_input(program, inputs, scan, tally):
+    if inputs.READS:
+        run = program.run(scan.words, endless=1)
+        well = is_ended(run, scan.read_fault(0)) and run.count("reads") == inputs.READS
+        tally.check(f"{program.name} {scan.name}, endless input a byte a read", well, run)
     run = program.run(scan.words, endless=4096, memory=HALF_GIBIBYTE)
-    well = is_ended(run, NO_MEMORY) and 0 < run.count("reads") <= READS
+    well = is_ended(run, scan.no_memory()) and run.count("reads") > 0
     tally.check(f"{program.name} {scan.name}, endless input in half a gibibyte", well, run)
 
 
@@ -187,4 +187,4 @@ def run_scans(program, inputs, tally):
     failing_errors(program, inputs, tally)
     for scan in inputs.PLAIN:
         real_faults(program, scan, tally)
-        endless_input(program, scan, tally)
+        endless_input(program, inputs, scan, tally)

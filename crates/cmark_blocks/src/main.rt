@@ -1,30 +1,68 @@
-//! Tells the blocks of a page of Markdown.
+//! Tells the blocks of pages of Markdown.
 #![tactic(auto)]
 
+use page_blocks::files::OpensFiles;
 use page_blocks::program::run_program;
-use program_faults::{Fault, report_fault};
+use program_faults::{Reason, complain, reason_of};
 use std::env;
+use std::fs::File;
+use std::io::{self, ErrorKind};
 use std::process::ExitCode;
+
+// The files of the system.
+#[derive(Drop)]
+struct SystemFiles<'a>(&'a HostRuntime);
+
+impl OpensFiles for SystemFiles<'_> {
+    ghost use Rattle.std.specs.Prelude.{⊤};
+
+    type File = File;
+
+    // No clause says what a file holds.
+    ghost opens = { λ _ _ _ _. ⊤ };
+
+    fn open_named(&mut self, name: &str) -> Result<File, Reason> {
+        match File::open(self.0, name) {
+            Ok(file) => Ok(file),
+            Err(error) => Err(reason_of(error.kind())),
+        }
+    }
+}
+
+// What is said where the words can't be had.
+fn words_fault(error: io::Error) -> &'static str {
+    match error.kind() {
+        ErrorKind::OutOfMemory => "cmark_blocks: out of memory\n",
+        _ => "cmark_blocks: a word of the command line is not UTF-8\n",
+    }
+}
 
 fn main(rt: HostRuntime) -> ExitCode {
     let mut faults = rt.stderr();
-    let Ok(arguments) = env::args(&rt) else {
-        return ExitCode::from(report_fault(&mut faults, Fault::Read));
+    let arguments = match env::args(&rt) {
+        Ok(arguments) => arguments,
+        Err(error) => {
+            complain(&mut faults, words_fault(error));
+            return ExitCode::from(3u8);
+        }
     };
     let Ok(texts) = arguments.skip(1).collect::<Vec<String>>(rt.alloc()) else {
-        return ExitCode::from(report_fault(&mut faults, Fault::Memory));
+        complain(&mut faults, "cmark_blocks: out of memory\n");
+        return ExitCode::from(3u8);
     };
     let Ok(words) = texts
         .iter()
         .map(|text| text.as_str())
         .collect::<Vec<&str>>(rt.alloc())
     else {
-        return ExitCode::from(report_fault(&mut faults, Fault::Memory));
+        complain(&mut faults, "cmark_blocks: out of memory\n");
+        return ExitCode::from(3u8);
     };
     ExitCode::from(run_program(
         rt.alloc(),
         &words,
         &mut rt.stdin(),
+        &mut SystemFiles(&rt),
         &mut rt.stdout(),
         &mut faults,
     ))

@@ -1,9 +1,11 @@
 //! Runs of the program over arrays, and over a reader and a writer that fail.
+mod files;
 mod help;
 mod reading;
 mod tables;
 
 use crate::runs::{DONE, FailingWriter, Parts, Program, assert_end, assert_run};
+use files::Shelf;
 use page_blocks::program::run_program;
 use std::alloc::Global;
 use std::io::{Read, Write};
@@ -19,7 +21,7 @@ impl Program for Blocks {
         output: &mut W,
         faults: &mut V,
     ) -> u8 {
-        run_program(alloc, words, input, output, faults)
+        run_program(alloc, words, input, &mut Shelf, output, faults)
     }
 }
 
@@ -320,10 +322,10 @@ fn items_hold_blocks(rt: HostRuntime) {
 
 #[test]
 fn faults_end_with_status_3(rt: HostRuntime) {
-    let read_fault = b"read fault\n".as_slice();
+    let read_fault = b"cmark_blocks: standard input: Input/output error\n".as_slice();
     let mut input = Parts::failing(b"");
     assert_run::<Blocks, _>(&rt, rt.alloc(), &[], &mut input, "", (3, read_fault));
-    let write_fault = b"write fault\n".as_slice();
+    let write_fault = b"cmark_blocks: write error: Input/output error\n".as_slice();
     let mut input = b"a".as_slice();
     let mut output = FailingWriter { writes: 0 };
     assert_end::<Blocks, _, _>(

@@ -1,1 +1,2 @@
+pub mod PageRuns
 pub mod ProgramLemmas

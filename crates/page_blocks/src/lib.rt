@@ -1,10 +1,13 @@
 //! What `cmark_blocks` prints of the blocks of a page of Markdown, reads and writes.
 #![tactic(auto)]
 
+pub mod files;
+pub mod help;
 mod info;
 mod json;
 mod page;
 mod printing;
 pub mod program;
 mod reading;
+mod stops;
 mod words;

@@ -1,182 +1,243 @@
 //! What the program does with its words, its input and its output.
-ghost use Rattle.std.specs.Prelude.{◌≡◌, ◌≢◌, ◌⊎◌, ◌≤◌, ℕ, IfOk, IfSome, IfErr, IsNone, Some};
+ghost use Rattle.std.specs.Prelude.{◌≡◌, ◌≢◌, ◌⊎◌, ◌∷◌, [], ℕ, List, IfOk, IfSome, IfErr, IsSome, Some, None, codes};
 ghost use Rattle.std.specs.Io.KnownBytes.{IsAtEnd, Appends};
-ghost use Rattle.page_blocks.specs.words.Words.{request_of};
+ghost use Rattle.program_faults.specs.Steps.{AreReads, HasEnded, HasFailed, HasRefused, AreGiven};
+ghost use Rattle.program_faults.specs.declared.reasons.Reason.{Reason};
+ghost use Rattle.page_blocks.specs.words.Words.{pages_of, request_of, texts, unknown_of};
 ghost use Rattle.page_blocks.specs.declared.words.Form.{Form};
-ghost use Rattle.page_blocks.specs.declared.words.Request.TheVariants.{Page, Help};
+ghost use Rattle.page_blocks.specs.declared.words.Request.TheVariants.{Pages, Help, Version};
+ghost use Rattle.page_blocks.specs.declared.stops.Stop.{Stop};
 ghost use Rattle.page_blocks.specs.page.Told.{IsToldTo, IsBegunTo};
-ghost use Rattle.program_faults.specs.Faults.{TellsFault, AppendsPrefix, fault_line};
-ghost use Rattle.program_faults.specs.Steps.{AreReads, HasEnded, HasFailed, IsGiven};
+ghost use Rattle.page_blocks.specs.program.Runs.{AreTold, IsTold, TellsBlocks, stop_of};
+ghost use Rattle.page_blocks.specs.stops.Stops.{IfWrite, IsWrite, stop_parts};
 
+use crate::files::OpensFiles;
+use crate::help::{HELP, UNKNOWN, USAGE, VERSION};
 use crate::page::Telling;
 use crate::reading::Unread;
-use crate::words::{Form, Request, parse_request};
-use program_faults::{Fault, StepReader, StepWriter, complain, report_fault};
+use crate::stops::{Stop, report_stop};
+use crate::words::{Form, Request, name_pages, parse_request, unknown_option};
+use program_faults::{Reason, StepReader, StepWriter, complain, write_whole};
 use std::alloc::Global;
-use std::io::Write;
-
-/// What is written on standard error where the words are other ones.
-pub const USAGE: &str = "usage: cmark_blocks [--json | --help] < PAGE\n";
-
-/// What `--help` prints.
-pub const HELP: &str = "\
-usage: cmark_blocks [--json | --help] < PAGE
-
-Prints a line for each block of a page of Markdown: the number of its first line, the number of
-its last line, how many containers it is in, and its kind. Before it comes a line for each
-container that begins in its first line, outermost first, with the number of that line twice.
-
-  blank            blank lines in a row
-  break            a thematic break
-  heading LEVEL    an ATX heading
-  setext LEVEL     a setext heading
-  indented         indented code
-  fenced COUNT C INFO
-                   fenced code: the length of its fence, the byte that the fence is made of, and
-                   the info string, unless it is empty; each byte of the info string that is a
-                   quotation mark, a backslash or not printable ASCII is printed as \\u00 and two
-                   hexadecimal digits
-  html NUMBER      an HTML block, by the number of its start condition
-  table COLUMNS    a table of GitHub Flavored Markdown
-  paragraph        a paragraph, with its lazy continuation lines
-  quote            a block quote
-  item C START     a list item: its bullet or delimiter, and the number that it starts at
-
-With --json each line is an object with the members first, last, depth and kind; level of a
-heading; count, fence and info of fenced code; condition of an HTML block; columns of a table;
-delimiter and start of an item.
-
-Together the blocks contain every line of the page. Nothing is printed about where a container
-ends, or about which items make up a list, tight or loose.
-
-Some pages are not read as CommonMark and GitHub Flavored Markdown read them:
-
-  - Link reference definitions are read as whatever their lines look like, so the blocks that
-    follow them may begin and end elsewhere.
-  - A header row that follows other lines of its paragraph doesn't begin a table.
-  - A table's delimiter row needs a pipe: \"a\" and then \":-\" is not a table.
-  - Vertical tabs and form feeds count as white space.
-
-Lines are printed while the page is read. If the page can't be read to its end, or memory is
-refused, the lines of its first blocks are printed, and the status is 3. At most 1,048,576 reads
-are made, of at most 65,536 bytes each.
-";
 
 /// Runs the program on its words, without its name, and answers its status.
 ///
-/// 0: done. 2: other words, and the input is not read. 3: a fault of the reader, of memory or of
-/// the writer. Blocks are written while the page is read, so those at its front may be written
-/// before a fault.
-pub fn run_program<R: StepReader, W: Write, V: StepWriter>(
+/// 0: done. 2: an option that is not known, and nothing is read. 3: a page that can't be opened or
+/// read, memory that is refused, or output that can't be written; there it stops. Blocks are
+/// written while a page is read, so those at its front may be written before it stops.
+pub fn run_program<R: StepReader, F: OpensFiles, W: StepWriter, V: StepWriter>(
     alloc: Global,
     words: &[&str],
     input: &mut R,
+    files: &mut F,
     output: &mut W,
     faults: &mut V,
 ) -> u8
     ensures status { (result ≡ 0) ⊎ ((result ≡ 2) ⊎ (result ≡ 3)) }
-    ensures only_other { result ≡ 2 → IsNone (request_of words.now) }
 
-    // Other words.
-    ensures other { IsNone (request_of words.now) →
-        (result ≡ 2) × (input.new ≡ input.old) × (output.new ≡ output.old) }
-    ensures usage { IsNone (request_of words.now) →
-        IsGiven V.writes faults.old USAGE.now faults.new
-        × AppendsPrefix (V.contents faults.old) (V.contents faults.new) USAGE.now }
+    // An option that is not known.
+    ensures only_unknown { result ≡ 2 → IsSome (unknown_of words.now) }
+    ensures unknown { IfSome (unknown_of words.now) (λ word. (result ≡ 2)
+        × AreGiven V.writes faults.old (UNKNOWN.now ∷ word.now ∷ USAGE.now ∷ []) faults.new) }
+    ensures untouched { IsSome (unknown_of words.now) →
+        (input.new ≡ input.old) × (files.new ≡ files.old) × (output.new ≡ output.old) }
 
-    // The help.
-    ensures help { result ≡ 0 → request_of words.now ≡ Some Help →
+    // The help, and the version.
+    ensures help { result ≡ 0 → request_of words.now ≡ Help →
         Appends (W.contents output.old) (W.contents output.new) HELP.now }
-    ensures unread_help { request_of words.now ≡ Some Help → input.new ≡ input.old }
+    ensures version { result ≡ 0 → request_of words.now ≡ Version →
+        Appends (W.contents output.old) (W.contents output.new) VERSION.now }
+    ensures unread { (request_of words.now ≡ Help) ⊎ (request_of words.now ≡ Version) →
+        (input.new ≡ input.old) × (files.new ≡ files.old) }
 
-    // A page.
-    ensures told { (form : Form) → result ≡ 0 → request_of words.now ≡ Some (Page form) →
-        IfSome (R.remaining input.old) (λ bytes.
-        IsToldTo form bytes (W.contents output.old) (W.contents output.new)) }
-    ensures read { (form : Form) → result ≡ 0 → request_of words.now ≡ Some (Page form) →
-        IsAtEnd (R.remaining input.new) }
-    ensures ended { (form : Form) → result ≡ 0 → request_of words.now ≡ Some (Page form) →
-        HasEnded R.reads input.new }
+    // Pages.
+    ensures told { (form : Form) → result ≡ 0 → request_of words.now ≡ Pages form →
+        AreTold (TellsBlocks form R.remaining R.reads) F.opens
+        (TellsBlocks form F.File.remaining F.File.reads) (pages_of words.now)
+        input.old files.old (W.contents output.old)
+        input.new files.new (W.contents output.new) None }
 
-    // At status 0 nothing is written to the faults; at 3 a fault's line is, as far as they take it.
+    // At status 0 nothing is written to the faults; at 3 it is told why, as far as they take it.
     ensures done { result ≡ 0 → faults.new ≡ faults.old }
-    ensures fault { result ≡ 3 → (fault : Fault)
-        × IsGiven V.writes faults.old (fault_line fault) faults.new
-        × AppendsPrefix (V.contents faults.old) (V.contents faults.new) (fault_line fault) }
-
-    // After a read fault, or out of memory, the lines of blocks at the front of what was read, and
-    // nothing else, were written.
-    ensures unread { (form : Form) → request_of words.now ≡ Some (Page form) →
-        TellsFault Fault.Read (V.contents faults.old) (V.contents faults.new) →
-        IsBegunTo form (R.remaining input.old) (R.remaining input.new)
-        (W.contents output.old) (W.contents output.new) }
-    ensures no_memory { (form : Form) → request_of words.now ≡ Some (Page form) →
-        TellsFault Fault.Memory (V.contents faults.old) (V.contents faults.new) →
-        IsBegunTo form (R.remaining input.old) (R.remaining input.new)
-        (W.contents output.old) (W.contents output.new) }
-
-    // At most 1,048,576 reads are made, and no fewer before a read fault, unless one failed.
-    ensures reads { (count : ℕ) × (count ≤ 1048576) × AreReads R.reads count input.old input.new }
-    ensures failed { TellsFault Fault.Read (V.contents faults.old) (V.contents faults.new) →
-        HasFailed R.reads input.new ⊎ AreReads R.reads 1048576 input.old input.new }
+    ensures stopped { result ≡ 3 → (name : List ℕ) × (stop : Stop)
+        × AreGiven V.writes faults.old (stop_parts name stop) faults.new
+        × IfWrite stop (λ why. why ≢ Reason.Interrupted → HasRefused W.writes why output.new)
+        × ((request_of words.now ≡ Help) ⊎ (request_of words.now ≡ Version) → IsWrite stop)
+        × ((form : Form) → request_of words.now ≡ Pages form →
+        AreTold (TellsBlocks form R.remaining R.reads) F.opens
+        (TellsBlocks form F.File.remaining F.File.reads) (pages_of words.now)
+        input.old files.old (W.contents output.old)
+        input.new files.new (W.contents output.new) (Some (name, stop))) }
 {
-    let Some(request) = parse_request(words) else {
+    if let Some(word) = unknown_option(words) {
+        complain(faults, UNKNOWN);
+        complain(faults, word);
         complain(faults, USAGE);
         return 2;
-    };
-    match answer(alloc, request, input, output) {
+    }
+    match answer(alloc, words, input, files, output) {
         Ok(()) => 0,
-        Err(fault) => report_fault(faults, fault),
+        Err((name, stop)) => {
+            report_stop(faults, name, stop);
+            3
+        }
     }
 }
 
-// Writes what is asked for.
-fn answer<R: StepReader, W: Write>(
+// Writes what is asked for, or answers at the page of which name it stops, and why.
+fn answer<'a, R: StepReader, F: OpensFiles, W: StepWriter>(
     alloc: Global,
-    request: Request,
+    words: &[&'a str],
     input: &mut R,
+    files: &mut F,
     output: &mut W,
-) -> Result<(), Fault>
-    ensures help { IfOk result (λ _. request ≡ Help →
+) -> Result<(), (&'a str, Stop)>
+    ensures help { IfOk result (λ _. request_of words.now ≡ Help →
         Appends (W.contents output.old) (W.contents output.new) HELP.now) }
-    ensures unread_help { request ≡ Help → input.new ≡ input.old }
-    ensures told { IfOk result (λ _. (form : Form) → request ≡ Page form →
-        IfSome (R.remaining input.old) (λ bytes.
-        IsToldTo form bytes (W.contents output.old) (W.contents output.new))) }
-    ensures read { IfOk result (λ _. (form : Form) → request ≡ Page form →
-        IsAtEnd (R.remaining input.new)) }
-    ensures ended { IfOk result (λ _. (form : Form) → request ≡ Page form →
-        HasEnded R.reads input.new) }
-    ensures begun { IfErr result (λ fault. fault ≢ Fault.Write → (form : Form) →
-        request ≡ Page form → IsBegunTo form (R.remaining input.old) (R.remaining input.new)
-        (W.contents output.old) (W.contents output.new)) }
-    ensures reads { (count : ℕ) × (count ≤ 1048576) × AreReads R.reads count input.old input.new }
-    ensures failed { IfErr result (λ fault. fault ≡ Fault.Read →
-        HasFailed R.reads input.new ⊎ AreReads R.reads 1048576 input.old input.new) }
+    ensures version { IfOk result (λ _. request_of words.now ≡ Version →
+        Appends (W.contents output.old) (W.contents output.new) VERSION.now) }
+    ensures unread { (request_of words.now ≡ Help) ⊎ (request_of words.now ≡ Version) →
+        (input.new ≡ input.old) × (files.new ≡ files.old) }
+    ensures write { IfErr result (λ stop.
+        (request_of words.now ≡ Help) ⊎ (request_of words.now ≡ Version) → IsWrite stop.1) }
+    ensures refused { IfErr result (λ stop.
+        IfWrite stop.1 (λ why. why ≢ Reason.Interrupted → HasRefused W.writes why output.new)) }
+    ensures told { IfOk result (λ _. (form : Form) → request_of words.now ≡ Pages form →
+        AreTold (TellsBlocks form R.remaining R.reads) F.opens
+        (TellsBlocks form F.File.remaining F.File.reads) (pages_of words.now)
+        input.old files.old (W.contents output.old)
+        input.new files.new (W.contents output.new) None) }
+    ensures stopped { IfErr result (λ stop. (form : Form) → request_of words.now ≡ Pages form →
+        AreTold (TellsBlocks form R.remaining R.reads) F.opens
+        (TellsBlocks form F.File.remaining F.File.reads) (pages_of words.now)
+        input.old files.old (W.contents output.old)
+        input.new files.new (W.contents output.new) (Some (stop.0.now, stop.1))) }
 {
-    match request {
-        Request::Page(form) => tell_page(alloc, form, input, output),
-        Request::Help => write_text(output, HELP),
+    match parse_request(words) {
+        Request::Pages(form) => tell_operands(alloc, form, words, input, files, output),
+        Request::Help => write_words(output, HELP),
+        Request::Version => write_words(output, VERSION),
     }
+}
+
+// Writes a text that is no page's.
+fn write_words<'a, W: StepWriter>(output: &mut W, text: &str) -> Result<(), (&'a str, Stop)>
+    ensures written { IfOk result (λ _.
+        Appends (W.contents output.old) (W.contents output.new) text.now) }
+    ensures write { IfErr result (λ stop. IsWrite stop.1) }
+    ensures refused { IfErr result (λ stop.
+        IfWrite stop.1 (λ why. why ≢ Reason.Interrupted → HasRefused W.writes why output.new)) }
+{
+    match write_text(output, text) {
+        Ok(()) => Ok(()),
+        Err(stop) => Err(("", stop)),
+    }
+}
+
+// Writes a line for each block of each page that the words name.
+fn tell_operands<'a, R: StepReader, F: OpensFiles, W: StepWriter>(
+    alloc: Global,
+    form: Form,
+    words: &[&'a str],
+    input: &mut R,
+    files: &mut F,
+    output: &mut W,
+) -> Result<(), (&'a str, Stop)>
+    ensures told { IfOk result (λ _.
+        AreTold (TellsBlocks form R.remaining R.reads) F.opens
+        (TellsBlocks form F.File.remaining F.File.reads) (pages_of words.now)
+        input.old files.old (W.contents output.old)
+        input.new files.new (W.contents output.new) None) }
+    ensures stopped { IfErr result (λ stop.
+        AreTold (TellsBlocks form R.remaining R.reads) F.opens
+        (TellsBlocks form F.File.remaining F.File.reads) (pages_of words.now)
+        input.old files.old (W.contents output.old)
+        input.new files.new (W.contents output.new) (Some (stop.0.now, stop.1))) }
+    ensures refused { IfErr result (λ stop.
+        IfWrite stop.1 (λ why. why ≢ Reason.Interrupted → HasRefused W.writes why output.new)) }
+{
+    let names = match name_pages(alloc, words) {
+        Ok(names) => names,
+        Err(_) => return Err(("", Stop::Memory)),
+    };
+    tell_pages(alloc, form, &names, input, files, output)
+}
+
+// Writes a line for each block of each page of these names.
+fn tell_pages<'a, R: StepReader, F: OpensFiles, W: StepWriter>(
+    alloc: Global,
+    form: Form,
+    names: &[&'a str],
+    input: &mut R,
+    files: &mut F,
+    output: &mut W,
+) -> Result<(), (&'a str, Stop)>
+    ensures told { IfOk result (λ _.
+        AreTold (TellsBlocks form R.remaining R.reads) F.opens
+        (TellsBlocks form F.File.remaining F.File.reads) (texts names.now)
+        input.old files.old (W.contents output.old)
+        input.new files.new (W.contents output.new) None) }
+    ensures stopped { IfErr result (λ stop.
+        AreTold (TellsBlocks form R.remaining R.reads) F.opens
+        (TellsBlocks form F.File.remaining F.File.reads) (texts names.now)
+        input.old files.old (W.contents output.old)
+        input.new files.new (W.contents output.new) (Some (stop.0.now, stop.1))) }
+    ensures refused { IfErr result (λ stop.
+        IfWrite stop.1 (λ why. why ≢ Reason.Interrupted → HasRefused W.writes why output.new)) }
+{
+    for name in names {
+        if let Err(stop) = tell_named(alloc, form, name, input, files, output) {
+            return Err((*name, stop));
+        }
+    }
+    Ok(())
+}
+
+// Writes a line for each block of the page of this name.
+fn tell_named<R: StepReader, F: OpensFiles, W: StepWriter>(
+    alloc: Global,
+    form: Form,
+    name: &str,
+    input: &mut R,
+    files: &mut F,
+    output: &mut W,
+) -> Result<(), Stop>
+    ensures told { IsTold (TellsBlocks form R.remaining R.reads) F.opens
+        (TellsBlocks form F.File.remaining F.File.reads) name.now
+        input.old files.old (W.contents output.old)
+        input.new files.new (W.contents output.new) (stop_of result) }
+    ensures refused { IfErr result (λ stop.
+        IfWrite stop (λ why. why ≢ Reason.Interrupted → HasRefused W.writes why output.new)) }
+{
+    if name == "-" {
+        return tell_page(alloc, form, input, output);
+    }
+    let mut file = match files.open_named(name) {
+        Ok(file) => file,
+        Err(reason) => return Err(Stop::Read(reason)),
+    };
+    tell_page(alloc, form, &mut file, output)
 }
 
 // Writes a line for each block of the input, in this form.
-fn tell_page<R: StepReader, W: Write>(
+fn tell_page<R: StepReader, W: StepWriter>(
     alloc: Global,
     form: Form,
     input: &mut R,
     output: &mut W,
-) -> Result<(), Fault>
+) -> Result<(), Stop>
     ensures told { IfOk result (λ _. IfSome (R.remaining input.old) (λ bytes.
         IsToldTo form bytes (W.contents output.old) (W.contents output.new))) }
     ensures read { IfOk result (λ _. IsAtEnd (R.remaining input.new)) }
     ensures ended { IfOk result (λ _. HasEnded R.reads input.new) }
-    ensures begun { IfErr result (λ fault. fault ≢ Fault.Write →
+    ensures begun { IfErr result (λ stop. ¬ IsWrite stop →
         IsBegunTo form (R.remaining input.old) (R.remaining input.new)
         (W.contents output.old) (W.contents output.new)) }
-    ensures reads { (count : ℕ) × (count ≤ 1048576) × AreReads R.reads count input.old input.new }
-    ensures failed { IfErr result (λ fault. fault ≡ Fault.Read →
-        HasFailed R.reads input.new ⊎ AreReads R.reads 1048576 input.old input.new) }
+    ensures reads { (count : ℕ) × AreReads R.reads count input.old input.new }
+    ensures failed { IfErr result (λ stop. (why : Reason) → stop ≡ Stop.Read why →
+        HasFailed R.reads why input.new ⊎ AreReads R.reads 281474976710655 input.old input.new) }
+    ensures refused { IfErr result (λ stop.
+        IfWrite stop (λ why. why ≢ Reason.Interrupted → HasRefused W.writes why output.new)) }
 {
     let mut unread = Unread::new(alloc);
     let mut telling = Telling::new(alloc, form);
@@ -193,13 +254,15 @@ fn tell_page<R: StepReader, W: Write>(
 }
 
 // Writes a text.
-fn write_text<W: Write>(output: &mut W, text: &str) -> Result<(), Fault>
+fn write_text<W: StepWriter>(output: &mut W, text: &str) -> Result<(), Stop>
     ensures written { IfOk result (λ _.
         Appends (W.contents output.old) (W.contents output.new) text.now) }
-    ensures fault { IfErr result (λ fault. fault ≡ Fault.Write) }
+    ensures write { IfErr result IsWrite }
+    ensures refused { IfErr result (λ stop.
+        IfWrite stop (λ why. why ≢ Reason.Interrupted → HasRefused W.writes why output.new)) }
 {
-    if output.write_all(text.as_bytes()).is_err() {
-        return Err(Fault::Write);
+    match write_whole(output, text) {
+        Ok(()) => Ok(()),
+        Err(reason) => Err(Stop::Write(reason)),
     }
-    Ok(())
 }

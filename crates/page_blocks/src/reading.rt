@@ -2,12 +2,14 @@
 ghost use Rattle.std.specs.Prelude.{◌≡◌, ◌≢◌, ◌⊎◌, ◌<◌, ◌≤◌, ◌+◌, ◌*◌, ◌++◌, [], List, ℕ, length, drop, IsTrue, IfOk, IfErr, OnOk};
 ghost use Rattle.std.specs.Io.KnownBytes.{Consumes, IsAtEnd};
 ghost use Rattle.program_faults.specs.Steps.{AreReads, HasEnded, HasFailed};
+ghost use Rattle.program_faults.specs.declared.reasons.Reason.{Reason};
 
-use program_faults::{Fault, StepReader};
+use crate::stops::Stop;
+use program_faults::{Reason, StepReader};
 use std::alloc::Global;
 
-/// How many reads are made at most; the last of them gives no byte.
-pub(crate) const READS: usize = 1_048_576;
+/// How many reads are made at most: more than a page can have, and the last of them gives no byte.
+pub(crate) const READS: usize = 281_474_976_710_655;
 
 // How many bytes a read gives at most.
 const READ_SIZE: usize = 65_536;
@@ -33,7 +35,7 @@ impl Unread {
 
     /// Reads until there is at least a byte more and twice the text, or the input has ended.
     /// Answers whether it has.
-    pub(crate) fn read_more<R: StepReader>(&mut self, input: &mut R) -> Result<bool, Fault>
+    pub(crate) fn read_more<R: StepReader>(&mut self, input: &mut R) -> Result<bool, Stop>
         ensures read { (bytes : List ℕ)
             × Consumes (R.remaining input.old) (R.remaining input.new) bytes
             × OnOk result (self.new.text.items ≡ self.old.text.items ++ bytes) }
@@ -45,20 +47,21 @@ impl Unread {
         ensures fewer { OnOk result (self.new.reads < self.old.reads) }
         ensures room { OnOk result (length self.new.text.items + READ_SIZE * self.new.reads
             ≤ length self.old.text.items + READ_SIZE * self.old.reads) }
-        ensures fault { IfErr result (λ fault. fault ≢ Fault.Write) }
+        ensures unwritten { IfErr result (λ stop. (why : Reason) → stop ≢ Stop.Write why) }
         ensures reads { (count : ℕ) × (self.new.reads + count ≡ self.old.reads)
             × AreReads R.reads count input.old input.new }
         ensures ended { IfOk result (λ has_ended. IsTrue has_ended →
             HasEnded R.reads input.new) }
-        ensures failed { IfErr result (λ fault. fault ≡ Fault.Read →
-            HasFailed R.reads input.new ⊎ (self.new.reads ≡ 0)) }
+        ensures failed { IfErr result (λ stop. (why : Reason) → stop ≡ Stop.Read why →
+            HasFailed R.reads why input.new ⊎ (self.new.reads ≡ 0)) }
     {
         let mut buffer = [0u8; READ_SIZE];
         let before = self.text.len();
         while self.reads > 0 {
             self.reads -= 1;
-            let Some(count) = input.read_once(&mut buffer) else {
-                return Err(Fault::Read);
+            let count = match input.read_once(&mut buffer) {
+                Ok(count) => count,
+                Err(reason) => return Err(Stop::Read(reason)),
             };
             if count == 0 {
                 return Ok(true);
@@ -68,7 +71,7 @@ impl Unread {
                 return Ok(false);
             }
         }
-        Err(Fault::Read)
+        Err(Stop::Read(Reason::Other))
     }
 
     /// Takes bytes off the front, which are told.

@@ -1,11 +1,13 @@
 -- What is left of a line after a write, and reads one after another.
 use Rattle.std.proofs.Common.{◌≡◌, ℕ, suc, ◌+◌, ◌-◌, ◌<◌, ◌==◌, true, false, List, [], ◌∷◌, ◌++◌, length, take, drop, Option, Some, None}
-use Rattle.std.proofs.Common.{sym, ap, subst, ◌∙◌, arith, append_assoc}
-use Rattle.std.specs.Io.KnownBytes.{Appends}
+use Rattle.std.proofs.Common.{refl, sym, ap, subst, ◌∙◌, arith, append_assoc, append-nil}
+use Rattle.std.specs.Io.KnownBytes.{Appends, Keeps}
 use Rattle.std.proofs.lemmas.Bool.{eqb-true}
 use Rattle.std.proofs.lemmas.List.{length-drop, take_all, take-append-drop}
 use Rattle.program_faults.specs.Faults.{AppendsBefore}
-use Rattle.program_faults.specs.Steps.{AreReads, no_read, read, IsGiven, nothing_left, refused, taken}
+use Rattle.std.specs.Prelude.{Result, Ok, Err}
+use Rattle.program_faults.specs.declared.reasons.Reason.{Reason}
+use Rattle.program_faults.specs.Steps.{AreReads, no_read, read, IsGiven, nothing_left, refused, failed, taken}
 
 -- what a slice takes from a place on is all that is behind it
 whole_rest : (bytes : List ℕ) (i : ℕ) → take (length bytes - i) (drop i bytes) ≡ drop i bytes
@@ -24,7 +26,26 @@ told-more (Some xs) (Some ys) (Some zs) line rest count (prefix, all, grown) mor
   more ∙ ap (λ l. l ++ take count rest) grown ∙ append_assoc xs prefix (take count rest),
 )
 
-module _ {W : Type 0} (writes : W → List ℕ → ℕ → W → Type 0) where
+-- all of a line is left at the start
+pub told-none : (at : Option (List ℕ)) (line : List ℕ) → AppendsBefore at at line line
+told-none None line = tt
+told-none (Some xs) line = ([], refl, sym (append-nil xs))
+
+-- a write took none of it
+pub told-kept : (old middle new : Option (List ℕ)) (line rest : List ℕ) → AppendsBefore old middle line rest → Keeps middle new → AppendsBefore old new line rest
+told-kept None middle new line rest before keeps = tt
+told-kept (Some xs) None new line rest before keeps = absurd before
+told-kept (Some xs) (Some ys) None line rest before keeps = absurd keeps
+told-kept (Some xs) (Some ys) (Some zs) line rest (prefix, all, grown) keeps = (prefix, all, keeps ∙ grown)
+
+-- nothing is left of it
+pub told-whole : (old new : Option (List ℕ)) (line rest : List ℕ) → (length rest == 0) ≡ true → AppendsBefore old new line rest → Appends old new line
+told-whole old new line (b ∷ rest) empty before = absurd (omega (arith, eqb-true (length (b ∷ rest)) 0 empty))
+told-whole None new line [] empty before = tt
+told-whole (Some xs) None line [] empty before = absurd before
+told-whole (Some xs) (Some ys) line [] empty (prefix, all, grown) = grown ∙ ap (λ l. xs ++ l) (sym (all ∙ append-nil prefix))
+
+module _ {W : Type 0} (writes : W → List ℕ → Result ℕ Reason → W → Type 0) where
   pub given-nothing : (at : W) (rest : List ℕ) → (length rest == 0) ≡ true → IsGiven writes at rest at
   given-nothing at [] empty = nothing_left at
   given-nothing at (b ∷ rest) empty = absurd (omega (arith, eqb-true (length (b ∷ rest)) 0 empty))
@@ -33,17 +54,20 @@ module _ {W : Type 0} (writes : W → List ℕ → ℕ → W → Type 0) where
   not_empty [] some = cc
   not_empty (b ∷ rest) some = omega arith
 
-  pub given-refused : (old new : W) (rest : List ℕ) (count : ℕ) → (length rest == 0) ≡ false → count ≡ 0 → writes old rest count new → IsGiven writes old rest new
-  given-refused old new rest count some none step = refused old new rest (not_empty rest some) (subst (λ n. writes old rest n new) none step)
+  pub given-refused : (old new : W) (rest : List ℕ) (count : ℕ) → (length rest == 0) ≡ false → count ≡ 0 → writes old rest (Ok count) new → IsGiven writes old rest new
+  given-refused old new rest count some none step = refused old new rest (not_empty rest some) (subst (λ n. writes old rest (Ok n) new) none step)
 
-  pub given-taken : (old middle new : W) (rest : List ℕ) (count : ℕ) → (count ≡ 0 → ⊥) → writes old rest count middle
+  pub given-failed : (old new : W) (rest : List ℕ) (reason : Reason) → (length rest == 0) ≡ false → writes old rest (Err reason) new → IsGiven writes old rest new
+  given-failed old new rest reason some step = failed old new rest reason (not_empty rest some) step
+
+  pub given-taken : (old middle new : W) (rest : List ℕ) (count : ℕ) → (count ≡ 0 → ⊥) → writes old rest (Ok count) middle
       → IsGiven writes middle (take (length rest - count) (drop count rest)) new → IsGiven writes old rest new
   given-taken old middle new rest count some step more =
       taken old middle new rest count (omega (arith, some)) step (subst (λ r. IsGiven writes middle r new) (whole_rest rest count) more)
 
-module _ {R : Type 0} (reads : R → Option (List ℕ) → R → Type 0) where
+module _ {R : Type 0} (reads : R → Result (List ℕ) Reason → R → Type 0) where
   -- a read more
-  pub reads-read : (count : ℕ) (old middle new : R) (given : Option (List ℕ)) → AreReads reads count old middle → reads middle given new → AreReads reads (suc count) old new
+  pub reads-read : (count : ℕ) (old middle new : R) (given : Result (List ℕ) Reason) → AreReads reads count old middle → reads middle given new → AreReads reads (suc count) old new
   reads-read count old middle new given (no_read at) step = read 0 old new new given step (no_read new)
   reads-read count old middle new given (read n first second last g step more) later =
       read count first second new g step (reads-read n second middle new given more later)

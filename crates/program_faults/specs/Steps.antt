@@ -1,28 +1,41 @@
 -- Reads and writes, one after another.
-use Rattle.std.specs.Prelude.{ℕ, suc, ◌<◌, List, [], length, take, drop, Option, None, Some}
+use Rattle.std.specs.Prelude.{ℕ, suc, ◌≡◌, ◌⊎◌, ◌<◌, List, [], ◌∷◌, length, take, drop, Result, Ok, Err}
+use Rattle.program_faults.specs.declared.reasons.Reason.{Reason}
+use Rattle.program_faults.specs.declared.reasons.Reason.TheVariants.{Other}
 
--- the bytes that a read gave at the front of its buffer, or None where it failed
-abbrev pub bytes_read : Option ℕ → List ℕ → Option (List ℕ)
-bytes_read None buffer = None
-bytes_read (Some count) buffer = Some (take count buffer)
+-- the bytes that a read gave at the front of its buffer, or why it failed
+abbrev pub bytes_read : Result ℕ Reason → List ℕ → Result (List ℕ) Reason
+bytes_read (Err reason) buffer = Err reason
+bytes_read (Ok count) buffer = Ok (take count buffer)
 
-module _ {R : Type 0} (reads : R → Option (List ℕ) → R → Type 0) where
+module _ {R : Type 0} (reads : R → Result (List ℕ) Reason → R → Type 0) where
   -- from one state to the other by so many reads
   pub data AreReads : ℕ → R → R → Type 0 where
     no_read : (at : R) → AreReads 0 at at
-    read : (count : ℕ) (old middle new : R) (given : Option (List ℕ)) → reads old given middle → AreReads count middle new → AreReads (suc count) old new
+    read : (count : ℕ) (old middle new : R) (given : Result (List ℕ) Reason) → reads old given middle → AreReads count middle new → AreReads (suc count) old new
 
   -- the last read gave no byte
   abbrev pub HasEnded : R → Type 0
-  HasEnded new = (old : R) × reads old (Some []) new
+  HasEnded new = (old : R) × reads old (Ok []) new
 
-  -- the last read failed
-  abbrev pub HasFailed : R → Type 0
-  HasFailed new = (old : R) × reads old None new
+  -- the last read failed for this reason
+  abbrev pub HasFailed : Reason → R → Type 0
+  HasFailed reason new = (old : R) × reads old (Err reason) new
 
-module _ {W : Type 0} (writes : W → List ℕ → ℕ → W → Type 0) where
-  -- The bytes are given to the writer, and what it has not taken is given to it again, until nothing is left or it takes nothing.
+module _ {W : Type 0} (writes : W → List ℕ → Result ℕ Reason → W → Type 0) where
+  -- The bytes are given to the writer, and what it has not taken is given to it again, until nothing is left, or it takes nothing or fails.
   pub data IsGiven : W → List ℕ → W → Type 0 where
     nothing_left : (at : W) → IsGiven at [] at
-    refused : (old new : W) (bytes : List ℕ) → 0 < length bytes → writes old bytes 0 new → IsGiven old bytes new
-    taken : (old middle new : W) (bytes : List ℕ) (count : ℕ) → 0 < count → writes old bytes count middle → IsGiven middle (drop count bytes) new → IsGiven old bytes new
+    refused : (old new : W) (bytes : List ℕ) → 0 < length bytes → writes old bytes (Ok 0) new → IsGiven old bytes new
+    failed : (old new : W) (bytes : List ℕ) (reason : Reason) → 0 < length bytes → writes old bytes (Err reason) new → IsGiven old bytes new
+    taken : (old middle new : W) (bytes : List ℕ) (count : ℕ) → 0 < count → writes old bytes (Ok count) middle → IsGiven middle (drop count bytes) new →
+        IsGiven old bytes new
+
+  -- parts of a line are given to it in this way, one after another
+  pub data AreGiven : W → List (List ℕ) → W → Type 0 where
+    no_part : (at : W) → AreGiven at [] at
+    part : (old middle new : W) (bytes : List ℕ) (parts : List (List ℕ)) → IsGiven old bytes middle → AreGiven middle parts new → AreGiven old (bytes ∷ parts) new
+
+  -- The last write failed for this reason, or it took nothing.
+  abbrev pub HasRefused : Reason → W → Type 0
+  HasRefused reason new = (old : W) × (bytes : List ℕ) × (writes old bytes (Err reason) new ⊎ (0 < length bytes × (reason ≡ Other) × writes old bytes (Ok 0) new))

@@ -5,10 +5,14 @@ ghost use Rattle.std.specs.Prelude.{◌≡◌, codes};
 ghost use Rattle.program_faults.specs.Faults.{fault_line, AppendsPrefix};
 ghost use Rattle.program_faults.specs.Steps.{IsGiven};
 
+mod reasons;
 mod steps;
+mod writing;
 
+pub use reasons::{Reason, reason_of};
 use std::alloc::AllocError;
 pub use steps::{StepReader, StepWriter};
+pub use writing::write_whole;
 
 /// Why the program printed nothing, or not all of it.
 #[derive(Clone, Copy, Debug, PartialEq, Eq)]
@@ -61,7 +65,9 @@ pub fn complain<V: StepWriter>(faults: &mut V, line: &str)
 {
     let mut rest = line.as_bytes();
     while !rest.is_empty() {
-        let count = faults.write_once(rest);
+        let Ok(count) = faults.write_once(rest) else {
+            return;
+        };
         if count == 0 {
             return;
         }

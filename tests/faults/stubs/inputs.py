@@ -3,12 +3,13 @@ tests of tests/faults/run."""
 from running import Scan
 
 MANY = 5
+READS = 1_048_576
 USAGE = b"usage: cmark_scan line CALL.. | html | label | unescape\n"
 KNOWN, OTHER, UNREAD = ["html"], ["htmk"], []
 COMPLAINTS = [
-    ("other words", OTHER, {}, 2),
-    ("no text", ["label"], {"given": b"\xff"}, 1),
-    ("a read fault", ["html"], {"read_fail": 1}, 3),
+    ("other words", OTHER, {}, 2, [USAGE]),
+    ("no text", ["label"], {"given": b"\xff"}, 1, [b"not UTF-8\n"]),
+    ("a read fault", ["html"], {"read_fail": 1}, 3, [b"read fault\n"]),
 ]
 
 A_TEXT = Scan("a text", "unescape", b"some text", b"some text")

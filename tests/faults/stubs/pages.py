@@ -3,9 +3,10 @@ tests of tests/faults/run."""
 from running import Scan
 
 MANY = 5
+READS = 1_048_576
 USAGE = b"usage: cmark_blocks [--help] < PAGE\n"
 KNOWN, OTHER = ["--help"], ["--hel"]
-COMPLAINTS = [("other words", OTHER, {}, 2), ("a read fault", [], {"read_fail": 1}, 3)]
+COMPLAINTS = [("other words", OTHER, {}, 2, [USAGE]), ("a read fault", [], {"read_fail": 1}, 3, [b"read fault\n"])]
 
 A_PAGE = Scan("a page", "", b"some text", b"some text")
 PLAIN = SMALL = [A_PAGE]

@@ -1,11 +1,14 @@
-//! What `--help` prints, and what other words are answered with.
+//! What `--help` and `--version` print, and what options that are not known are answered with.
 use super::Blocks;
-use crate::asserts::assert_same;
+use crate::asserts::{assert_same, made};
 use crate::runs::{DONE, assert_run};
+use std::alloc::Global;
+use std::process::Abort;
 
 // As `help.txt` of `cmark_blocks` has it.
 const HELP: &str = "\
-usage: cmark_blocks [--json | --help] < PAGE
+usage: cmark_blocks [--json] [--] [FILE ..]
+       cmark_blocks -h | --help | --version
 
 Prints a line for each block of a page of Markdown: the number of its first line, the number of
 its last line, how many containers it is in, and its kind. Before it comes a line for each
@@ -27,6 +30,9 @@ container that begins in its first line, outermost first, with the number of tha
   quote            a block quote
   item C START     a list item: its bullet or delimiter, and the number that it starts at
 
+FILE is a page; - is standard input, and so is no FILE. The lines of the pages follow one another,
+and the lines of each page are counted from 1. Behind the word -- all words are files.
+
 With --json each line is an object with the members first, last, depth and kind; level of a
 heading; count, fence and info of fenced code; condition of an HTML block; columns of a table;
 delimiter and start of an item.
@@ -42,22 +48,57 @@ Some pages are not read as CommonMark and GitHub Flavored Markdown read them:
   - A table's delimiter row needs a pipe: \"a\" and then \":-\" is not a table.
   - Vertical tabs and form feeds count as white space.
 
-Lines are printed while the page is read. If the page can't be read to its end, or memory is
-refused, the lines of its first blocks are printed, and the status is 3. At most 1,048,576 reads
-are made, of at most 65,536 bytes each.
+Lines are printed while a page is read. Where a page can't be read, memory is refused or the output
+can't be written, the program stops and says why on standard error, unless the reader of the output
+has left. Then the lines of the first blocks may be printed.
+
+The status is 0 where all is printed, 2 for an option that is not known, and 3 where the program
+stopped.
 ";
 
-#[test]
-fn help_is_printed_whole(rt: HostRuntime) {
+// Words that are answered with no page: nothing is read.
+fn assert_unread(rt: &impl Abort, alloc: Global, words: &[&str], printed: &str, end: (u8, &[u8])) {
     let mut input = b"a".as_slice();
-    assert_run::<Blocks, _>(&rt, rt.alloc(), &["--help"], &mut input, HELP, DONE);
-    assert_same(&rt, input, b"a".as_slice());
+    assert_run::<Blocks, _>(rt, alloc, words, &mut input, printed, end);
+    assert_same(rt, input, b"a".as_slice());
 }
 
 #[test]
-fn other_words_are_refused(rt: HostRuntime) {
-    let usage = b"usage: cmark_blocks [--json | --help] < PAGE\n".as_slice();
-    let mut input = b"a".as_slice();
-    assert_run::<Blocks, _>(&rt, rt.alloc(), &["--hel"], &mut input, "", (2, usage));
-    assert_same(&rt, input, b"a".as_slice());
+fn help_is_printed_whole(rt: HostRuntime) {
+    assert_unread(&rt, rt.alloc(), &["--help"], HELP, DONE);
+    assert_unread(&rt, rt.alloc(), &["-h"], HELP, DONE);
+    assert_unread(&rt, rt.alloc(), &["--json", "a", "-h"], HELP, DONE);
+}
+
+#[test]
+fn the_version_is_that_of_the_repository(rt: HostRuntime) {
+    let version = "cmark_blocks 0.1.0\n";
+    assert_unread(&rt, rt.alloc(), &["--version"], version, DONE);
+    assert_unread(&rt, rt.alloc(), &["--version", "--help"], version, DONE);
+}
+
+// What is said of an option that is not known.
+const USAGE: &str =
+    "\nusage: cmark_blocks [--json] [--] [FILE ..]\n       cmark_blocks -h | --help | --version\n";
+
+#[test]
+fn an_option_that_is_not_known_is_named(rt: HostRuntime) {
+    let rows: [(&[&str], &str); 4] = [
+        (&["--hel"], "--hel"),
+        (&["-x", "-y"], "-x"),
+        (&["--help", "--no"], "--no"),
+        (&["a", "--jsonl", "--", "-z"], "--jsonl"),
+    ];
+    for (words, named) in rows {
+        let line = unknown_line(&rt, rt.alloc(), named);
+        assert_unread(&rt, rt.alloc(), words, "", (2, line.as_bytes()));
+    }
+}
+
+// The line that names it.
+fn unknown_line(rt: &impl Abort, alloc: Global, named: &str) -> String {
+    made(
+        rt,
+        format!(in alloc; "cmark_blocks: unknown option {named}{USAGE}"),
+    )
 }

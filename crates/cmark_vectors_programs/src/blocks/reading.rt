@@ -1,9 +1,8 @@
 //! Runs of the program over readers that give a page in parts, or fail behind a part of it.
 use super::{Blocks, PAGE, Row, TOLD};
-use crate::asserts::{assert_same, made};
+use crate::asserts::made;
 use crate::runs::{DONE, Parts, assert_run};
 use std::alloc::{AllocError, Global};
-use std::io::{self, Read};
 use std::process::Abort;
 
 // What is told of a page that is read in parts: at most so many bytes at the first read, and at
@@ -89,7 +88,10 @@ fn assert_told_before_a_fault(rt: &impl Abort, alloc: Global, page: &[u8], told:
         later: 0,
         fails: true,
     };
-    let end = (3, b"read fault\n".as_slice());
+    let end = (
+        3,
+        b"cmark_blocks: standard input: Input/output error\n".as_slice(),
+    );
     assert_run::<Blocks, _>(rt, alloc, &[], &mut input, told, end);
 }
 
@@ -112,29 +114,4 @@ fn a_block_is_longer_than_many_reads(rt: HostRuntime) {
     let page = made(&rt, long_page(rt.alloc()));
     let told = "1 100000 0 paragraph\n100001 100001 0 blank\n100002 100002 0 heading 1\n";
     assert_told(&rt, rt.alloc(), &page, (1, 999), told);
-}
-
-// Gives one `x` a read, and counts the reads.
-#[derive(Drop)]
-struct Endless {
-    reads: u64,
-}
-
-impl Read for Endless {
-    fn read(&mut self, buf: &mut [u8]) -> io::Result<usize> {
-        self.reads = self.reads.saturating_add(1);
-        if buf.is_empty() {
-            return Ok(0);
-        }
-        buf[0] = b'x';
-        Ok(1)
-    }
-}
-
-#[test]
-fn an_endless_page_is_a_read_fault(rt: HostRuntime) {
-    let mut input = Endless { reads: 0 };
-    let end = (3, b"read fault\n".as_slice());
-    assert_run::<Blocks, _>(&rt, rt.alloc(), &[], &mut input, "", end);
-    assert_same(&rt, input.reads, 1_048_576);
 }

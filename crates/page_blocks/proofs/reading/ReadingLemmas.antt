@@ -1,7 +1,9 @@
 -- Bytes that are read and written in turn.
 use Rattle.std.proofs.Common.{ℕ, suc, ◌+◌, ◌-◌, ◌<◌, ◌≤◌, ◌≡◌, ◌⊎◌, inl, inr, List, [], ◌++◌, Option, Some, None, refl, sym, ap, subst, ◌∙◌, arith, append_assoc, append-nil}
 use Rattle.std.specs.Io.KnownBytes.{Consumes, Appends}
+use Rattle.std.specs.Prelude.{Result}
 use Rattle.program_faults.specs.Steps.{AreReads, HasFailed}
+use Rattle.program_faults.specs.declared.reasons.Reason.{Reason}
 use Rattle.program_faults.proofs.StepLemmas.{reads-read, reads-append}
 
 pub consumes-none : (a : Option (List ℕ)) → Consumes a a []
@@ -24,9 +26,9 @@ appends-more (Some a) None c xs ys first next = absurd first
 appends-more (Some a) (Some b) None xs ys first next = absurd next
 appends-more (Some a) (Some b) (Some c) xs ys first next = next ∙ ap (λ l. l ++ ys) first ∙ append_assoc a xs ys
 
-module _ {R : Type 0} (reads : R → Option (List ℕ) → R → Type 0) where
+module _ {R : Type 0} (reads : R → Result (List ℕ) Reason → R → Type 0) where
   -- one of the reads that were left is made
-  pub reads_less : (left start : ℕ) (old middle new : R) (given : Option (List ℕ)) → 0 < left
+  pub reads_less : (left start : ℕ) (old middle new : R) (given : Result (List ℕ) Reason) → 0 < left
       → (count : ℕ) × (left + count ≡ start) × AreReads reads count old middle → reads middle given new
       → (count : ℕ) × ((left - 1) + count ≡ start) × AreReads reads count old new
   reads_less left start old middle new given some made step =
@@ -39,18 +41,17 @@ module _ {R : Type 0} (reads : R → Option (List ℕ) → R → Type 0) where
   reads_on left less start old middle new made more =
       (made.0 + more.0, omega (arith, made.1, more.1), reads-append reads made.0 more.0 old middle new made.2 more.2)
 
-  -- all together, there are no more than were left at the start
-  pub reads_most : (left less start : ℕ) (old middle new : R) → (count : ℕ) × (left + count ≡ start) × AreReads reads count old middle
-      → (count : ℕ) × (less + count ≡ left) × AreReads reads count middle new
-      → (count : ℕ) × (count ≤ start) × AreReads reads count old new
-  reads_most left less start old middle new made more =
-      let all = reads_on left less start old middle new made more in (all.0, omega (arith, all.1), all.2)
+  -- all together
+  pub reads_made : (left less start : ℕ) (old middle new : R) → (count : ℕ) × (left + count ≡ start) × AreReads reads count old middle
+      → (count : ℕ) × (less + count ≡ left) × AreReads reads count middle new → (count : ℕ) × AreReads reads count old new
+  reads_made left less start old middle new made more =
+      let all = reads_on left less start old middle new made more in (all.0, all.2)
 
-  -- and as many, where none is left
-  pub reads_all : (left less start : ℕ) (old middle new : R) → (count : ℕ) × (left + count ≡ start) × AreReads reads count old middle
+  -- there are as many as were left at the start, where none is left
+  pub reads_all : (why : Reason) (left less start : ℕ) (old middle new : R) → (count : ℕ) × (left + count ≡ start) × AreReads reads count old middle
       → (count : ℕ) × (less + count ≡ left) × AreReads reads count middle new
-      → HasFailed reads new ⊎ (less ≡ 0) → HasFailed reads new ⊎ AreReads reads start old new
-  reads_all left less start old middle new made more (inl failed) = inl failed
-  reads_all left less start old middle new made more (inr none) =
+      → HasFailed reads why new ⊎ (less ≡ 0) → HasFailed reads why new ⊎ AreReads reads start old new
+  reads_all why left less start old middle new made more (inl failed) = inl failed
+  reads_all why left less start old middle new made more (inr none) =
       let all = reads_on left less start old middle new made more in
       let whole : all.0 ≡ start = omega (arith, all.1, none) in inr (subst (λ n. AreReads reads n old new) whole all.2)

@@ -3,7 +3,7 @@ use Rattle.std.specs.Result.{IsErrAnd}
 use Rattle.std.proofs.lemmas.List.{length-drop}
 use Rattle.program_faults.specs.Steps.{AreReads, no_read}
 use Rattle.page_blocks.specs.declared.reading.TheConstants.{READS}
-use Rattle.page_blocks.proofs.reading.ReadingLemmas.{reads_on, reads_most, reads_all}
+use Rattle.page_blocks.proofs.reading.ReadingLemmas.{reads_on, reads_made, reads_all}
 use Rattle.page_blocks.proofs.program.ProgramLemmas.{begun-first, begun-read, begun-written, begun-stopped, begun-done}
 use Rattle.page_blocks.proofs.program.tell_page.Goals as goal
 
@@ -12,9 +12,10 @@ if_err P (Ok t) x = tt
 if_err P (Err e) x = λ p. x
 
 -- an error that is handed on is the one that it was
-by_err : {T E X : Type 0} {wanted : E} (r : Result T E) (error : E) → IsErrAnd r (λ e. e ≡ error) → (error ≡ wanted → X) → IfErr r (λ e. e ≡ wanted → X)
+by_err : {T E : Type 0} {A : Type 0} {X : A → Type 0} {wanted : A → E} (r : Result T E) (error : E) → IsErrAnd r (λ e. e ≡ error)
+    → ((why : A) → error ≡ wanted why → X why) → IfErr r (λ e. (why : A) → e ≡ wanted why → X why)
 by_err (Ok t) error is h = tt
-by_err (Err e) error is h = λ same. h (sym is ∙ same)
+by_err (Err e) error is h = λ why same. h why (sym is ∙ same)
 
 pub loop-telling-init : goal.loop-telling-init
 loop-telling-init g c = record {
@@ -94,26 +95,26 @@ loop-telling-preserved g c =
 
 pub returns-in_err-has_ended-clause-reads : goal.returns-in_err-has_ended-clause-reads
 returns-in_err-has_ended-clause-reads g c =
-    reads_most g.R.StepReader.reads c.loop-telling.unread.reads c.read_more.new.self.reads READS c.args.input.now c.loop-telling.input c.read_more.new.input
+    reads_made g.R.StepReader.reads c.loop-telling.unread.reads c.read_more.new.self.reads READS c.args.input.now c.loop-telling.input c.read_more.new.input
     c.loop-telling.invariant.reads c.read_more.ensures.reads
 
 pub returns-in_err-count-clause-reads : goal.returns-in_err-count-clause-reads
 returns-in_err-count-clause-reads g c =
-    reads_most g.R.StepReader.reads c.loop-telling.unread.reads c.read_more.new.self.reads READS c.args.input.now c.loop-telling.input c.read_more.new.input
+    reads_made g.R.StepReader.reads c.loop-telling.unread.reads c.read_more.new.self.reads READS c.args.input.now c.loop-telling.input c.read_more.new.input
     c.loop-telling.invariant.reads c.read_more.ensures.reads
 
 pub returns-in_err-write_text-clause-reads : goal.returns-in_err-write_text-clause-reads
 returns-in_err-write_text-clause-reads g c =
-    reads_most g.R.StepReader.reads c.loop-telling.unread.reads c.read_more.new.self.reads READS c.args.input.now c.loop-telling.input c.read_more.new.input
+    reads_made g.R.StepReader.reads c.loop-telling.unread.reads c.read_more.new.self.reads READS c.args.input.now c.loop-telling.input c.read_more.new.input
     c.loop-telling.invariant.reads c.read_more.ensures.reads
 
 pub returns-then-has_ended-clause-reads : goal.returns-then-has_ended-clause-reads
 returns-then-has_ended-clause-reads g c =
-    reads_most g.R.StepReader.reads c.loop-telling.unread.reads c.read_more.new.self.reads READS c.args.input.now c.loop-telling.input c.read_more.new.input
+    reads_made g.R.StepReader.reads c.loop-telling.unread.reads c.read_more.new.self.reads READS c.args.input.now c.loop-telling.input c.read_more.new.input
     c.loop-telling.invariant.reads c.read_more.ensures.reads
 
 pub returns-in_err-has_ended-clause-failed : goal.returns-in_err-has_ended-clause-failed
 returns-in_err-has_ended-clause-failed g c =
     by_err c.from_residual.result c.in_err-has_ended.field-0.0 c.from_residual.ensures.1
-    (λ is. reads_all g.R.StepReader.reads c.loop-telling.unread.reads c.read_more.new.self.reads READS c.args.input.now c.loop-telling.input
-    c.read_more.new.input c.loop-telling.invariant.reads c.read_more.ensures.reads (c.in_err-has_ended.ensures.failed is))
+    (λ why is. reads_all g.R.StepReader.reads why c.loop-telling.unread.reads c.read_more.new.self.reads READS c.args.input.now c.loop-telling.input
+    c.read_more.new.input c.loop-telling.invariant.reads c.read_more.ensures.reads (c.in_err-has_ended.ensures.failed why is))

@@ -1,0 +1,62 @@
+//! What the program says of itself.
+
+/// What is written on standard error behind the name of an option that is not known.
+pub const USAGE: &str =
+    "\nusage: cmark_blocks [--json] [--] [FILE ..]\n       cmark_blocks -h | --help | --version\n";
+
+/// What is written before it.
+pub const UNKNOWN: &str = "cmark_blocks: unknown option ";
+
+/// What `--version` prints.
+pub const VERSION: &str = "cmark_blocks 0.1.0\n";
+
+/// What `--help` prints.
+pub const HELP: &str = "\
+usage: cmark_blocks [--json] [--] [FILE ..]
+       cmark_blocks -h | --help | --version
+
+Prints a line for each block of a page of Markdown: the number of its first line, the number of
+its last line, how many containers it is in, and its kind. Before it comes a line for each
+container that begins in its first line, outermost first, with the number of that line twice.
+
+  blank            blank lines in a row
+  break            a thematic break
+  heading LEVEL    an ATX heading
+  setext LEVEL     a setext heading
+  indented         indented code
+  fenced COUNT C INFO
+                   fenced code: the length of its fence, the byte that the fence is made of, and
+                   the info string, unless it is empty; each byte of the info string that is a
+                   quotation mark, a backslash or not printable ASCII is printed as \\u00 and two
+                   hexadecimal digits
+  html NUMBER      an HTML block, by the number of its start condition
+  table COLUMNS    a table of GitHub Flavored Markdown
+  paragraph        a paragraph, with its lazy continuation lines
+  quote            a block quote
+  item C START     a list item: its bullet or delimiter, and the number that it starts at
+
+FILE is a page; - is standard input, and so is no FILE. The lines of the pages follow one another,
+and the lines of each page are counted from 1. Behind the word -- all words are files.
+
+With --json each line is an object with the members first, last, depth and kind; level of a
+heading; count, fence and info of fenced code; condition of an HTML block; columns of a table;
+delimiter and start of an item.
+
+Together the blocks contain every line of the page. Nothing is printed about where a container
+ends, or about which items make up a list, tight or loose.
+
+Some pages are not read as CommonMark and GitHub Flavored Markdown read them:
+
+  - Link reference definitions are read as whatever their lines look like, so the blocks that
+    follow them may begin and end elsewhere.
+  - A header row that follows other lines of its paragraph doesn't begin a table.
+  - A table's delimiter row needs a pipe: \"a\" and then \":-\" is not a table.
+  - Vertical tabs and form feeds count as white space.
+
+Lines are printed while a page is read. Where a page can't be read, memory is refused or the output
+can't be written, the program stops and says why on standard error, unless the reader of the output
+has left. Then the lines of the first blocks may be printed.
+
+The status is 0 where all is printed, 2 for an option that is not known, and 3 where the program
+stopped.
+";

@@ -1,0 +1,41 @@
+-- Why a call on a file, a reader or a writer fails, and how a program says so.
+use Rattle.std.specs.Prelude.{ℕ, List, ◌∷◌, [], ◌++◌, codes}
+use Rattle.std.specs.declared.io.ErrorKind.{ErrorKind}
+use Rattle.std.specs.declared.io.ErrorKind.TheVariants as kind
+use Rattle.program_faults.specs.declared.reasons.Reason.{Reason}
+use Rattle.program_faults.specs.declared.reasons.Reason.TheVariants.{NotFound, Denied, Folder, NotFolder, Links, LongName, Interrupted, Waits, Full, NotRead, Invalid, Memory, Other}
+
+-- the reason of an error of this kind
+abbrev pub reason_of : ErrorKind → Reason
+reason_of kind.NotFound = NotFound
+reason_of kind.PermissionDenied = Denied
+reason_of kind.IsADirectory = Folder
+reason_of kind.NotADirectory = NotFolder
+reason_of kind.FilesystemLoop = Links
+reason_of kind.InvalidFilename = LongName
+reason_of kind.Interrupted = Interrupted
+reason_of kind.WouldBlock = Waits
+reason_of kind.StorageFull = Full
+reason_of kind.BrokenPipe = NotRead
+reason_of kind.InvalidInput = Invalid
+reason_of kind.OutOfMemory = Memory
+reason_of _ = Other
+
+-- what is said of it behind a name, in the words of POSIX
+abbrev pub reason_text : Reason → List ℕ
+reason_text NotFound = codes "No such file or directory"
+reason_text Denied = codes "Permission denied"
+reason_text Folder = codes "Is a directory"
+reason_text NotFolder = codes "Not a directory"
+reason_text Links = codes "Too many levels of symbolic links"
+reason_text LongName = codes "File name too long"
+reason_text Interrupted = codes "Interrupted system call"
+reason_text Waits = codes "Resource temporarily unavailable"
+reason_text Full = codes "No space left on device"
+reason_text NotRead = codes "Broken pipe"
+reason_text Invalid = codes "Invalid argument"
+reason_text Memory = codes "Cannot allocate memory"
+reason_text Other = codes "Input/output error"
+
+abbrev pub reason_line : Reason → List ℕ
+reason_line reason = codes ": " ++ reason_text reason ++ 10 ∷ []
