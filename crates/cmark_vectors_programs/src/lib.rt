@@ -6,6 +6,8 @@ mod asserts;
 #[cfg(test)]
 mod blocks;
 #[cfg(test)]
+mod lists;
+#[cfg(test)]
 mod runs;
 #[cfg(test)]
 mod uses;

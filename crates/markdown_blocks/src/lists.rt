@@ -141,18 +141,15 @@ impl Lists {
         ensures state { IfOk result (λ _. self.new ≡ (read self.old (starts container)).state) }
         ensures refused { IfErr result (λ _. self.new ≡ self.old) }
     {
+        let goes_on = joins(self.level.list, container);
+        let ended = self.current();
         let outer = begun(self.level, container, self.is_blank, self.line);
-        let ended = if joins(self.level.list, container) {
-            None
-        } else {
-            self.current()
-        };
         self.outer.push(outer)?;
         self.level = level_within(container);
         self.end = self.line;
         self.is_blank = false;
         self.is_fresh = true;
-        Ok(ended)
+        Ok(if goes_on { None } else { ended })
     }
 
     // A leaf block.
