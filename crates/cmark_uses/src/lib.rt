@@ -7,6 +7,7 @@ pub mod html;
 pub mod labels;
 pub mod lines;
 pub mod links;
+pub mod lists;
 pub mod options;
 pub mod outline;
 pub mod pass;

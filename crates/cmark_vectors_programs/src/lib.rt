@@ -8,6 +8,8 @@ mod blocks;
 #[cfg(test)]
 mod inlines;
 #[cfg(test)]
+mod lists;
+#[cfg(test)]
 mod runs;
 #[cfg(test)]
 mod uses;

@@ -3,30 +3,11 @@ ghost use Rattle.std.specs.Prelude.{◌≡◌, ◌⊎◌, ◌<◌, ◌≤◌, []
 ghost use Rattle.std.specs.Option.{option_map};
 ghost use Rattle.markdown_blocks.specs.events.Events.{Event, Left, Gives, IsEventsOf, events_left, seen_event, seen_leaf};
 
-use crate::blocks::BlockKind;
 use crate::containers::Container;
+pub use crate::leaf::Leaf;
 use crate::walk::Walk;
 use std::alloc::{AllocError, Global};
 use std::marker::Model;
-
-/// A leaf block of a page.
-#[derive(Clone, Copy)]
-pub struct Leaf<'a> {
-    /// Its kind.
-    pub kind: BlockKind,
-    /// How many lines of the page stand before it.
-    pub line: usize,
-    /// How many lines it has.
-    pub lines: usize,
-    /// How many bytes of the page stand before its first line.
-    pub start: usize,
-    /// How many bytes its lines have.
-    pub bytes: usize,
-    /// How many columns of space its first line has behind its containers, at most four.
-    pub indent: usize,
-    /// The text behind that space, with its line ending.
-    pub text: &'a [u8],
-}
 
 /// What a page has next.
 #[derive(Clone, Copy)]

@@ -7,6 +7,8 @@ pub mod containers;
 pub mod events;
 pub mod info;
 mod kinds;
+mod leaf;
+pub mod lists;
 mod tables;
 pub mod taken;
 pub mod walk;

@@ -15,7 +15,7 @@ use Rattle.markdown_blocks.specs.declared.walk.Step.{Step}
 use Rattle.markdown_blocks.specs.blocks.Pages.{Piece, IsPiece, AreBlocks, lines_in}
 use Rattle.markdown_blocks.specs.events.Events.{Event, starts, leaf, ends, LeafBlock, events_from}
 use Rattle.markdown_blocks.specs.events.Events.{seen_leaf, Left, pending, Gives, IsEventsOf}
-use Rattle.markdown_blocks.specs.declared.events.Leaf.{Leaf}
+use Rattle.markdown_blocks.specs.declared.leaf.Leaf.{Leaf}
 use Rattle.markdown_blocks.specs.walk.Walk.{IsStep, rest_of}
 
 -- no piece is left where no line is
@@ -67,7 +67,8 @@ module _ (text : List ℕ) (containers : List Container) (kept line start : ℕ)
 regroup : (x y : List Event) (l : Event) (es : List Event) → (x ++ y ++ l ∷ []) ++ es ≡ x ++ y ++ l ∷ es
 regroup x y l es = append_assoc (x ++ y) (l ∷ []) es
 
-kept_fewer : (outer : List Container) → length (settled_last outer) ≡ length outer
+-- settling takes no container away
+pub kept_fewer : (outer : List Container) → length (settled_last outer) ≡ length outer
 kept_fewer [] = refl
 kept_fewer (c ∷ []) = refl
 kept_fewer (c ∷ d ∷ outer) = ap suc (kept_fewer (d ∷ outer))

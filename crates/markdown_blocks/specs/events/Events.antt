@@ -7,7 +7,7 @@ use Rattle.markdown_blocks.specs.declared.blocks.BlockKind.{BlockKind}
 use Rattle.markdown_blocks.specs.declared.containers.Container.{Container}
 use Rattle.markdown_blocks.specs.declared.events.BlockEvent.{BlockEvent}
 use Rattle.markdown_blocks.specs.declared.events.BlockEvent.TheVariants.{Start, Block, End}
-use Rattle.markdown_blocks.specs.declared.events.Leaf.{Leaf}
+use Rattle.markdown_blocks.specs.declared.leaf.Leaf.{Leaf}
 
 -- a leaf block: its kind, how many lines and bytes stand before it, how many it has, and what its first line has behind its
 -- containers

@@ -4,8 +4,8 @@ use Rattle.markdown_blocks.proofs.taken.TakenLemmas.{slice_behind}
 use Rattle.markdown_blocks.proofs.events.EventLemmas.{step_kept, block_read, none_read, kept_begun}
 use Rattle.markdown_blocks.proofs.events.Blocks.read_block.Goals as goal
 
-pub invariant_of-self-2 : goal.invariant_of-self-2
-invariant_of-self-2 c =
+pub invariant_of-self-3 : goal.invariant_of-self-3
+invariant_of-self-3 c =
     let rest = slice_behind c.self.inside.page.now c.self.inside.place in
     let s = (rw c.in-Some.is at c.in_ok-step.ensures.step) [] (λ t. refl) in
     let some = rw c.in-Some.is at c.in_ok-step.ensures.some in

@@ -1,0 +1,116 @@
+-- A page's lists as they are followed, event by event.
+use Rattle.std.specs.Prelude.{ℕ, Bool, true, false, not, ◌&&◌, ◌||◌, ◌==◌, List, [], ◌∷◌, ◌++◌, length, Option, Some, None, if◌then◌else◌}
+use Rattle.std.specs.Option.{option_map, option_to_list}
+use Rattle.markdown_blocks.specs.declared.containers.Container.{Container}
+use Rattle.markdown_blocks.specs.declared.containers.Container.TheVariants.{Quote, Item}
+use Rattle.markdown_blocks.specs.declared.lists.Level.{Level}
+use Rattle.markdown_blocks.specs.declared.lists.ListBlock.{ListBlock}
+use Rattle.markdown_blocks.specs.declared.lists.OpenList.{OpenList}
+use Rattle.markdown_blocks.specs.events.Events.{Event, starts, leaf, ends, LeafBlock}
+use Rattle.markdown_blocks.specs.lists.Lists.{is_blank_kind, line_behind}
+
+-- How far the events are followed: the lines before what comes next, and before what follows the last block; whether a blank line
+-- stands behind that block; whether the innermost container has no block yet; what is known of it, and of those around it.
+pub record Tracked : Type 0 where
+  pub line : ℕ
+  pub end : ℕ
+  pub is_blank : Bool
+  pub is_fresh : Bool
+  pub level : Level
+  pub outer : List Level
+
+-- the list of the last block, as it is where no item follows
+abbrev pub list_now : ℕ → ℕ → OpenList → ListBlock
+list_now depth end list = record {
+  delimiter = list.delimiter;
+  is_loose = list.is_loose;
+  start = list.start;
+  depth = depth;
+  line = list.line;
+  end = end;
+}
+
+abbrev pub closed : Tracked → Option ListBlock
+closed s = option_map (list_now (length s.outer) s.end) s.level.list
+
+-- the container is an item of the list
+abbrev pub joins : Option OpenList → Container → Bool
+joins list Quote = false
+joins None (Item item) = false
+joins (Some list) (Item item) = list.delimiter == item.delimiter
+
+abbrev pub loosened : Option OpenList → Bool → Option OpenList
+loosened None loose = None
+loosened (Some list) loose = Some (record list { is_loose = list.is_loose || loose })
+
+abbrev pub list_begun : Container → ℕ → Option OpenList
+list_begun Quote line = None
+list_begun (Item item) line = Some (record { delimiter = item.delimiter; is_loose = false; start = item.start; line = line })
+
+-- a container in which this one begins, behind a blank line or not and so many lines
+abbrev pub begun : Level → Container → Bool → ℕ → Level
+begun outer container blank line = record outer {
+  is_parted = outer.is_parted || (blank && not (joins outer.list container));
+  list = if joins outer.list container then loosened outer.list blank else list_begun container line;
+}
+
+-- the container itself
+abbrev pub is_item : Container → Bool
+is_item Quote = false
+is_item (Item item) = true
+
+abbrev pub level_within : Container → Level
+level_within container = record { is_item = is_item container; is_parted = false; list = None }
+
+-- what an event shows to have ended, and the state behind it
+pub record Read : Type 0 where
+  pub list : Option ListBlock
+  pub state : Tracked
+
+abbrev pub leaf_read : Bool → LeafBlock → Tracked → Read
+leaf_read true block s = record { list = None; state = record s { line = line_behind block; is_blank = true } }
+leaf_read false block s = record {
+  list = closed s;
+  state = record {
+    line = line_behind block;
+    end = line_behind block;
+    is_blank = false;
+    is_fresh = false;
+    level = record { is_item = s.level.is_item; is_parted = s.level.is_parted || s.is_blank; list = None };
+    outer = s.outer;
+  };
+}
+
+abbrev pub end_read : List Level → Tracked → Read
+end_read [] s = record { list = None; state = s }
+end_read (level ∷ outer) s = record {
+  list = closed s;
+  state = record {
+    line = s.line;
+    end = if s.level.is_item then s.end else s.line;
+    is_blank = s.level.is_item && s.is_blank;
+    is_fresh = false;
+    level = record level { list = loosened level.list s.level.is_parted };
+    outer = outer;
+  };
+}
+
+abbrev pub read : Tracked → Event → Read
+read s (starts container) = record {
+  list = if joins s.level.list container then None else closed s;
+  state = record {
+    line = s.line;
+    end = s.line;
+    is_blank = false;
+    is_fresh = true;
+    level = level_within container;
+    outer = begun s.level container s.is_blank s.line ∷ s.outer;
+  };
+}
+read s (leaf block) = leaf_read (is_blank_kind block.kind && not s.is_fresh) block s
+read s ends = end_read s.outer s
+
+-- the lists that end in these events, and at their end
+abbrev pub lists_behind : Tracked → List Event → List ListBlock
+lists_behind s [] = option_to_list (closed s)
+lists_behind s (event ∷ later) = option_to_list (read s event).list ++ lists_behind (read s event).state later
