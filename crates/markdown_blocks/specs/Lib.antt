@@ -2,5 +2,6 @@ pub mod blocks
 pub mod containers
 pub mod events
 pub mod info
+pub mod laws
 pub mod taken
 pub mod walk

@@ -1,0 +1,5 @@
+pub mod AlikeLemmas
+pub mod LeafMoves
+pub mod QuoteLaw
+pub mod QuotePlaces
+pub mod SameContainers
