@@ -1,5 +1,9 @@
 pub mod AlikeLemmas
+pub mod HeldLaw
+pub mod ItemLaw
+pub mod ItemPlaces
 pub mod LeafMoves
+pub mod Places
 pub mod QuoteLaw
 pub mod QuotePlaces
 pub mod SameContainers

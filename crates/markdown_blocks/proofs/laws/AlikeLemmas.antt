@@ -14,7 +14,7 @@ use Rattle.markdown_scanners_tree.specs.line.State.{bytes_further, bytes_for, co
 use Rattle.markdown_scanners_tree.proofs.PrefixLemmas.{both_true, list_all-drop}
 use Rattle.markdown_scanners_tree.proofs.line.ColumnLemmas.{bool_cases, below-cons, none_below, written-cons, written-end}
 use Rattle.markdown_blocks.specs.containers.Containers.{Rest, rest_at}
-use Rattle.markdown_blocks.specs.laws.Quotes.{has_no_tab}
+use Rattle.markdown_blocks.specs.laws.Held.{has_no_tab}
 
 -- bytes with no tab are written out as they are, each of one column
 no_tab_here : (b : ℕ) (bs : List ℕ) → has_no_tab (b ∷ bs) ≡ true → ((b == 9) ≡ false) × (has_no_tab bs ≡ true)
