@@ -1,8 +1,10 @@
 pub mod AlikeLemmas
+pub mod BlankItem
 pub mod HeldLaw
 pub mod ItemLaw
 pub mod ItemPlaces
 pub mod LeafMoves
+pub mod MarkerPlaces
 pub mod Places
 pub mod QuoteLaw
 pub mod QuotePlaces

@@ -8,7 +8,7 @@ use Rattle.markdown_blocks.specs.declared.blocks.BlockKind.{BlockKind}
 use Rattle.markdown_blocks.specs.declared.blocks.BlockKind.TheVariants.{Paragraph}
 use Rattle.markdown_blocks.specs.declared.containers.Container.{Container}
 use Rattle.markdown_blocks.specs.blocks.Leaves.{IsLazy, IsLeaf}
-use Rattle.markdown_blocks.specs.blocks.Pages.{Piece, lines_in, IsPiece, AreBlocks}
+use Rattle.markdown_blocks.specs.blocks.Pages.{Piece, lines_in, AreOpened, IsPiece, AreBlocks}
 use Rattle.markdown_blocks.specs.laws.Held.{Change, IsHeldIn, AreIn}
 use Rattle.markdown_blocks.proofs.laws.AlikeLemmas.{Alike, alike_back, same_rest}
 use Rattle.markdown_blocks.proofs.laws.SameContainers.{alike_none, same_begun, same_opens}
@@ -54,6 +54,18 @@ moves c line moved on outer =
 settled_cons : (c : Container) (cs : List Container) → settled c ≡ c → settled_last (c ∷ cs) ≡ c ∷ settled_last cs
 settled_cons c [] steady = ap (λ d. d ∷ []) steady
 settled_cons c (d ∷ cs) steady = refl
+
+-- the first line begins the container
+pub first_opened : (c : Container) (First Later Lazy : Change) (p q : Piece) → Begins c p.first q.first
+    → IsHeldIn First Later Lazy [] (c ∷ p.begun) p q → AreOpened [] p.first p.kept p.begun p.words → AreOpened [] q.first q.kept q.begun q.words
+first_opened c First Later Lazy p q here i h =
+    let opens = same_opens p.begun (start_of p.first) here.0 h.place here.2 h.begins in
+    record {
+      goes_on = i.kept_are;
+      place = opens.0;
+      begins = subst (λ cs. Opens (start_of q.first) cs opens.0) (sym i.begun_are) (here.0, here.1, opens.1);
+      is_rest = i.words ∙ h.is_rest ∙ same_rest h.place opens.0 opens.2;
+    }
 
 module _ (c : Container) (First Later Lazy : Change) (steady : settled c ≡ c) (begins : (line moved : List ℕ) → First line moved → Begins c line moved)
     (on : (line moved : List ℕ) → Later line moved → GoesOn c line moved) (out : (line moved : List ℕ) → Lazy line moved → StaysOut c moved) where
@@ -136,21 +148,13 @@ module _ (c : Container) (First Later Lazy : Change) (steady : settled c ≡ c) 
         }
 
     first_piece : IsHeldIn First Later Lazy [] (c ∷ p.begun) p q → IsPiece [] p (lines_in pieces ++ []) → IsPiece [] q (lines_in others ++ [])
-    first_piece i h =
-        let here = begins p.first q.first i.first in
-        let opens = same_opens p.begun (start_of p.first) here.0 h.opened.place here.2 h.opened.begins in
-        record {
-          opened = record {
-            goes_on = i.kept_are;
-            place = opens.0;
-            begins = subst (λ cs. Opens (start_of q.first) cs opens.0) (sym i.begun_are) (here.0, here.1, opens.1);
-            is_rest = i.words ∙ h.opened.is_rest ∙ same_rest h.opened.place opens.0 opens.2;
-          };
-          leaf = leaf_in First [] (c ∷ p.begun) i (ap (λ cs. c ∷ (cs ++ p.begun)) (sym h.opened.goes_on)) h.leaf;
-        }
+    first_piece i h = record {
+      opened = first_opened c First Later Lazy p q (begins p.first q.first i.first) i h.opened;
+      leaf = leaf_in First [] (c ∷ p.begun) i (ap (λ cs. c ∷ (cs ++ p.begun)) (sym h.opened.goes_on)) h.leaf;
+    }
 
   -- the blocks in the container
-  next_blocks : (outer : List Container) (pieces others : List Piece) → AllZip IsNext pieces others → AreBlocks outer pieces []
+  pub next_blocks : (outer : List Container) (pieces others : List Piece) → AllZip IsNext pieces others → AreBlocks outer pieces []
       → AreBlocks (c ∷ outer) others []
   next_blocks outer [] [] z h = tt
   next_blocks outer [] (q ∷ others) z h = absurd z

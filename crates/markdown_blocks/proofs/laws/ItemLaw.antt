@@ -2,8 +2,9 @@
 use Rattle.std.proofs.Common.{ℕ, ◌≡◌, List, [], refl, sym, ◌∙◌}
 use Rattle.markdown_scanners_tree.specs.scanners.TextLines.{lines_of}
 use Rattle.markdown_blocks.specs.blocks.Pages.{Piece, lines_in, AreBlocks, IsPage}
-use Rattle.markdown_blocks.specs.laws.Items.{Lead, IsLead, width_of, item_by, IsItemLine, IsIndentedLine, IsLessIndented, AreInItem}
+use Rattle.markdown_blocks.specs.laws.Items.{Lead, IsLead, width_of, item_by, IsItemLine, IsIndentedLine, IsLessIndented, AreInItem, AreInBlankItem}
 use Rattle.markdown_blocks.proofs.blocks.OneText.{one_page}
+use Rattle.markdown_blocks.proofs.laws.BlankItem.{blank_item_blocks}
 use Rattle.markdown_blocks.proofs.laws.HeldLaw.{held_blocks}
 use Rattle.markdown_blocks.proofs.laws.ItemPlaces.{item_begins, item_goes_on, item_stays_out}
 
@@ -21,3 +22,14 @@ pub one_list_item : (lead : Lead) (text item : List ℕ) (pieces others found : 
     → AreInItem lead pieces others → lines_in others ≡ lines_of item → IsPage item found → found ≡ others
 one_list_item lead text item pieces others found is page z joined at =
     one_page [] found others (at.joined ∙ sym joined) at.each (held_in_item lead is pieces others z page.each)
+
+-- Rule 3: the same where these blocks begin with a single blank line, before which the marker stands.
+pub blank_list_item : (lead : Lead) (text item : List ℕ) (pieces others : List Piece) → IsLead lead → IsPage text pieces
+    → AreInBlankItem lead pieces others → lines_in others ≡ lines_of item → IsPage item others
+blank_list_item lead text item pieces others is page z joined =
+    record { joined = joined; each = blank_item_blocks lead is pieces others z page.each }
+
+pub one_blank_list_item : (lead : Lead) (text item : List ℕ) (pieces others found : List Piece) → IsLead lead → IsPage text pieces
+    → AreInBlankItem lead pieces others → lines_in others ≡ lines_of item → IsPage item found → found ≡ others
+one_blank_list_item lead text item pieces others found is page z joined at =
+    one_page [] found others (at.joined ∙ sym joined) at.each (blank_item_blocks lead is pieces others z page.each)

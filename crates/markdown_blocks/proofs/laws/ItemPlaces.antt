@@ -1,52 +1,27 @@
--- The places of a line behind a list marker, and of one that is indented as its text.
-use Rattle.std.proofs.Common.{ℕ, suc, true, false, not, ◌==◌, ◌+◌, ◌-◌, ◌≡◌, ◌≤◌, ◌<◌, ◌⊎◌, List, [], ◌∷◌, ◌++◌, length}
+-- The places of a line behind a list marker and spaces, and of one that is indented as its text.
+use Rattle.std.proofs.Common.{ℕ, suc, true, false, not, ◌==◌, ◌+◌, ◌-◌, ◌≡◌, ◌≤◌, ◌<◌, ◌⊎◌, List, ◌∷◌, ◌++◌, length}
 use Rattle.std.proofs.Common.{Some, None, refl, sym, ap, ◌∙◌, subst, arith, inl, inr, eq-eqb}
-use Rattle.std.specs.Prelude.{if◌then◌else◌, nat_lt}
-use Rattle.std.specs.List.{list_all}
+use Rattle.std.specs.Prelude.{nat_lt}
 use Rattle.std.proofs.lemmas.Bool.{lt-ltb, le-ltb}
 use Rattle.std.proofs.lemmas.Bool.Decides.{nat_tests}
-use Rattle.markdown_scanners_tree.specs.Ascii.{greater_than_sign}
-use Rattle.markdown_scanners_tree.specs.Bytes.{begins_with, is_blank, is_digit, is_space_or_tab}
+use Rattle.markdown_scanners_tree.specs.Bytes.{begins_with, is_blank, is_space_or_tab}
 use Rattle.markdown_scanners_tree.specs.line.ItemRules.{start_of}
-use Rattle.markdown_scanners_tree.specs.line.Outcome.{further_spaces, item_outcome, item_outcome_by, space_or_end_follows}
+use Rattle.markdown_scanners_tree.specs.line.Outcome.{further_spaces, space_or_end_follows}
 use Rattle.markdown_scanners_tree.specs.line.PlainStep.{marker_spaces}
-use Rattle.markdown_scanners_tree.specs.line.State.{LineState, unscanned, rest_of, leading_spaces, bytes_further, space_within, after_space}
-use Rattle.markdown_scanners_tree.specs.scanners.list_items.ListItem.{IsListMarker, bullet, ordered}
-use Rattle.markdown_scanners_tree.specs.scanners.list_items.ListMarker.{Marker, list_marker}
-use Rattle.markdown_scanners_tree.proofs.PrefixLemmas.{both_true}
-use Rattle.markdown_scanners_tree.proofs.line.ItemLemmas.{marker-is}
+use Rattle.markdown_scanners_tree.specs.line.State.{LineState, unscanned, rest_of, leading_spaces, space_within, after_space}
+use Rattle.markdown_scanners_tree.specs.scanners.Breaks.{is_thematic_break}
 use Rattle.markdown_scanners_tree.proofs.line.SpaceLemmas.{none_at_front}
-use Rattle.markdown_blocks.specs.containers.Containers.{begun_behind, within, behind, item_of, rest_at}
-use Rattle.markdown_blocks.specs.declared.containers.Container.TheVariants.{Item}
+use Rattle.markdown_blocks.specs.containers.Containers.{within, behind, rest_at}
+use Rattle.markdown_blocks.specs.declared.containers.Container.{Container}
 use Rattle.markdown_blocks.specs.blocks.Leaves.{HasIndent, IsLazy}
 use Rattle.markdown_blocks.specs.laws.Held.{KeepsTabs}
-use Rattle.markdown_blocks.specs.laws.Items.{Lead, IsLead, width_of, item_by, marked_line, IsItemLine, IsIndentedLine, IsLessIndented}
-use Rattle.markdown_blocks.proofs.containers.ContainerLemmas.{near}
+use Rattle.markdown_blocks.specs.laws.Items.{Lead, IsLead, width_of, item_by, begun_by, marked_line, IsItemLine, IsIndentedLine, IsLessIndented}
 use Rattle.markdown_blocks.proofs.laws.AlikeLemmas.{Alike, same_left}
 use Rattle.markdown_blocks.proofs.laws.SameContainers.{same_on, step_on}
 use Rattle.markdown_blocks.proofs.laws.HeldLaw.{Begins, GoesOn, StaysOut}
-use Rattle.markdown_blocks.proofs.laws.Places.{spaces, IsAt, at_start, at_bytes, at_space}
-use Rattle.markdown_blocks.proofs.laws.Places.{alike_at, blank_spaces, found_there, leading_more, left_there, not_true}
-
--- a list marker begins with no space, no tab and no `>`
-abbrev begins_plainly : List ℕ → Type 0
-begins_plainly bs = (begins_with is_space_or_tab bs ≡ false) × (begins_with (λ b. b == greater_than_sign) bs ≡ false)
-
-digit_front : (digits : List ℕ) (d : ℕ) (rest : List ℕ) → 1 ≤ length digits → list_all is_digit digits ≡ true
-    → begins_plainly ((digits ++ d ∷ []) ++ rest)
-digit_front [] d rest some all = absurd (omega (arith, some))
-digit_front (b ∷ digits) d rest some all =
-    let digit : is_digit b ≡ true = (both_true (is_digit b) (list_all is_digit digits) all).0 in
-    let plain : is_space_or_tab b ≡ false = grind (arith, nat_tests) in
-    let other : (b == greater_than_sign) ≡ false = grind (arith, nat_tests) in
-    (plain, other)
-
-marker_front : (marker : List ℕ) (delimiter start : ℕ) (rest : List ℕ) → IsListMarker marker delimiter start → begins_plainly (marker ++ rest)
-marker_front marker delimiter start rest (bullet b is) =
-    let plain : is_space_or_tab b ≡ false = grind (arith, nat_tests) in
-    let other : (b == greater_than_sign) ≡ false = grind (arith, nat_tests) in
-    (plain, other)
-marker_front marker delimiter start rest (ordered digits d some few all is) = digit_front digits d rest some all
+use Rattle.markdown_blocks.proofs.laws.MarkerPlaces.{behind_marker, at_tail, begun_there}
+use Rattle.markdown_blocks.proofs.laws.Places.{spaces, IsAt, at_start, at_space, alike_at, blank_spaces}
+use Rattle.markdown_blocks.proofs.laws.Places.{found_there, leading_more, left_there, not_true}
 
 few_spaces : (g : ℕ) → g < 4 → marker_spaces g ≡ g
 few_spaces g few = let test : nat_lt g 4 ≡ true = lt-ltb g 4 few in rw test refl
@@ -54,18 +29,12 @@ few_spaces g few = let test : nat_lt g 4 ≡ true = lt-ltb g 4 few in rw test re
 many_spaces : (g : ℕ) → 4 ≤ g → marker_spaces g ≡ 0
 many_spaces g many = let test : nat_lt g 4 ≡ false = le-ltb g 4 many in rw test refl
 
-abbrev further_by : List ℕ → List ℕ → ℕ
-further_by bs rest = if is_blank bs then 0 else marker_spaces (leading_spaces rest)
-
 module _ (lead : Lead) (is : IsLead lead) (line changed : List ℕ) (i : IsItemLine lead line changed) where
   abbrev g : ℕ
   g = lead.gap - 1
 
-  abbrev s : LineState
-  s = after_space 4 (start_of changed)
-
   abbrev marked : LineState
-  marked = bytes_further (length lead.marker) s
+  marked = behind_marker lead is changed (spaces lead.gap ++ line) i.parts
 
   abbrev after : LineState
   after = after_space 1 marked
@@ -76,22 +45,10 @@ module _ (lead : Lead) (is : IsLead lead) (line changed : List ℕ) (i : IsItemL
   abbrev passed : ℕ
   passed = 0 + lead.indent + length lead.marker
 
-  plain : begins_plainly (marked_line lead line)
-  plain = marker_front lead.marker lead.delimiter lead.start (spaces lead.gap ++ line) is.is_marker
-
-  at_front : IsAt (start_of changed) (spaces lead.indent ++ marked_line lead line) 0
-  at_front = subst (λ bs. IsAt (start_of changed) bs 0) i.parts (at_start changed)
-
-  indent_there : space_within 4 (start_of changed) ≡ lead.indent
-  indent_there = found_there (start_of changed) lead.indent (marked_line lead line) 0 at_front 4 (omega (arith, is.few)) (inr plain.0)
-
-  at_marker : IsAt s (marked_line lead line) (0 + lead.indent)
-  at_marker = at_space (start_of changed) lead.indent (marked_line lead line) 0 at_front 4 (omega (arith, is.few)) (inr plain.0)
-
   at_gap : IsAt marked (spaces (suc g) ++ line) passed
   at_gap =
       let all : lead.gap ≡ suc g = omega (arith, is.some) in
-      subst (λ n. IsAt marked (spaces n ++ line) passed) all (at_bytes s lead.marker (spaces lead.gap ++ line) (0 + lead.indent) at_marker)
+      subst (λ n. IsAt marked (spaces n ++ line) passed) all (at_tail lead is changed (spaces lead.gap ++ line) i.parts)
 
   at_further : IsAt after (spaces g ++ line) (passed + 1)
   at_further = at_space marked 1 (spaces g ++ line) passed at_gap 1 (omega arith) (inl refl)
@@ -139,25 +96,15 @@ module _ (lead : Lead) (is : IsLead lead) (line changed : List ℕ) (i : IsItemL
       let bytes : is_blank (unscanned after) ≡ false = ap is_blank at_further.text ∙ blank_spaces g line ∙ has_text in
       rw bytes spaces_are
 
-  found_here : item_outcome lead.indent s ≡ record { answer = Some (lead.delimiter, lead.start, width_of lead); state = next }
-  found_here =
-      let m : Marker = record { width = length lead.marker; delimiter = lead.delimiter; start = lead.start } in
-      let here : list_marker (unscanned s) ≡ Some m = ap list_marker at_marker.text
-      ∙ marker-is lead.marker (spaces lead.gap ++ line) lead.delimiter lead.start is.is_marker (λ one. not_true _ i.no_break) in
-      let width : lead.indent + length lead.marker + 1 + g ≡ width_of lead = omega (arith, is.some) in
-      ap (item_outcome_by lead.indent s) here ∙ rw (space_follows, further_are, width) refl
-
-  begun_here : begun_behind lead.indent s ≡ Some (item_by lead, next)
-  begun_here =
-      let far : (lead.indent == 4) ≡ false = near lead.indent (omega (arith, is.few)) in
-      let other : begins_with (λ b. b == greater_than_sign) (unscanned s) ≡ false =
-      ap (begins_with (λ b. b == greater_than_sign)) at_marker.text ∙ plain.1 in
-      let text : is_blank (unscanned next) ≡ false = ap is_blank at_text.text ∙ has_text in
-      rw (far, other) (ap item_of found_here
-      ∙ ap (λ b. Some (Item (record { delimiter = lead.delimiter; begun = b; width = width_of lead; start = lead.start }), next)) text)
-
   pub item_begins : Begins (item_by lead) line changed
-  item_begins = (next, ap (λ n. begun_behind n s) indent_there ∙ begun_here, line_alike)
+  item_begins =
+      let width : lead.indent + length lead.marker + 1 + g ≡ width_of lead = omega (arith, is.some) in
+      let text : is_blank (unscanned next) ≡ false = ap is_blank at_text.text ∙ has_text in (
+        next,
+        begun_there lead is changed (spaces lead.gap ++ line) i.parts next g (width_of lead) false
+            (not_true (is_thematic_break (marked_line lead line)) i.no_break) space_follows further_are refl width text,
+        line_alike,
+      )
 
 -- the other lines
 module _ (lead : Lead) where
@@ -207,3 +154,13 @@ module _ (lead : Lead) where
       let there : behind (item_by lead ∷ outer) bare ≡ record { kept = 0; state = start_of bare } = ap (step_on outer (start_of bare)) none in
       let kept : (behind (item_by lead ∷ outer) bare).kept ≡ 0 = ap (λ b. b.kept) there in
       (λ inside. omega (arith, kept, inside), subst (λ b. IsLazy b.state) (sym there) q.goes_on)
+
+  -- a line with text stands in the item as in one of which the first line alone is read
+  pub begun_same : (outer : List Container) (line : List ℕ) → is_blank line ≡ false
+      → behind (begun_by lead ∷ outer) line ≡ behind (item_by lead ∷ outer) line
+  begun_same outer line text = ap (λ b. step_on outer (start_of line) (within (begun_by lead) b (start_of line))) text
+      ∙ sym (ap (λ b. step_on outer (start_of line) (within (item_by lead) b (start_of line))) text)
+
+  pub still_text : (line changed : List ℕ) → is_blank line ≡ false → IsIndentedLine (width_of lead) line changed → is_blank changed ≡ false
+  still_text line changed text (inl h) = ap is_blank h.1 ∙ blank_spaces (width_of lead) line ∙ text
+  still_text line changed text (inr h) = ap is_blank h.1 ∙ text
