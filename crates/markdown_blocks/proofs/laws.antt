@@ -1,0 +1,11 @@
+pub mod AlikeLemmas
+pub mod BlankItem
+pub mod HeldLaw
+pub mod ItemLaw
+pub mod ItemPlaces
+pub mod LeafMoves
+pub mod MarkerPlaces
+pub mod Places
+pub mod QuoteLaw
+pub mod QuotePlaces
+pub mod SameContainers

@@ -1,0 +1,189 @@
+-- A list item that begins with a blank line.
+use Rattle.std.proofs.Common.{ℕ, suc, zero, true, false, not, ◌||◌, ◌==◌, ◌+◌, ◌≡◌, List, [], ◌∷◌, ◌++◌, length}
+use Rattle.std.proofs.Common.{take, refl, sym, ap, ◌∙◌, subst, arith, inl, inr}
+use Rattle.std.specs.Prelude.{nat_lt, IsTrue}
+use Rattle.std.specs.List.{list_all, AllZip}
+use Rattle.std.proofs.lemmas.Bool.Decides.{nat_tests}
+use Rattle.markdown_scanners_tree.specs.Bytes.{begins_with, is_at_line_end, is_blank, is_line_ending, is_space_or_tab}
+use Rattle.markdown_scanners_tree.specs.line.Outcome.{further_spaces, space_or_end_follows}
+use Rattle.markdown_scanners_tree.specs.line.State.{LineState, unscanned, rest_of, leading_spaces, after_space}
+use Rattle.markdown_scanners_tree.specs.scanners.Breaks.{is_thematic_break}
+use Rattle.markdown_scanners_tree.proofs.PrefixLemmas.{both_true, list_all-implies}
+use Rattle.markdown_scanners_tree.proofs.line.ItemSpaces.{end-blank, or_true}
+use Rattle.markdown_blocks.specs.containers.Containers.{Rest, behind, Opens, rest_at, rest_in, settled_last}
+use Rattle.markdown_blocks.specs.declared.blocks.BlockKind.TheVariants.{Blank}
+use Rattle.markdown_blocks.specs.declared.containers.Container.{Container}
+use Rattle.markdown_blocks.specs.blocks.Leaves.{IsBlank, OutOr, OnFirst, IsLeaf}
+use Rattle.markdown_blocks.specs.blocks.Pages.{Piece, lines_in, AreOpened, AreBlocks}
+use Rattle.markdown_blocks.specs.laws.Held.{has_no_tab, IsHeldIn}
+use Rattle.markdown_blocks.specs.laws.Items.{Lead, IsLead, width_of, item_by, begun_by, IsItemLine, IsMarkerAlone, IsIndentedLine, IsLessIndented}
+use Rattle.markdown_blocks.specs.laws.Items.{AreInBlankItem}
+use Rattle.markdown_blocks.proofs.laws.AlikeLemmas.{same_rest}
+use Rattle.markdown_blocks.proofs.laws.HeldLaw.{Begins, first_opened, next_blocks}
+use Rattle.markdown_blocks.proofs.laws.ItemPlaces.{item_begins, item_goes_on, item_stays_out, begun_same, still_text}
+use Rattle.markdown_blocks.proofs.laws.MarkerPlaces.{behind_marker, at_tail, begun_there}
+use Rattle.markdown_blocks.proofs.laws.Places.{IsAt, at_space, alike_at, not_true}
+
+-- nothing but a line ending
+record IsEmptyLine (line : List ℕ) : Type 0 where
+  ends : is_at_line_end line ≡ true
+  plain : begins_with is_space_or_tab line ≡ false
+  blank : is_blank line ≡ true
+  no_tab : has_no_tab line ≡ true
+
+no_tab_ends : (b : ℕ) → is_line_ending b ≡ true → not (b == 9) ≡ true
+no_tab_ends b ends = grind (arith, nat_tests)
+
+empty_line : (line : List ℕ) → list_all is_line_ending line ≡ true → IsEmptyLine line
+empty_line [] all = record { ends = refl; plain = refl; blank = refl; no_tab = refl }
+empty_line (b ∷ bs) all =
+    let here : is_line_ending b ≡ true = (both_true (is_line_ending b) (list_all is_line_ending bs) all).0 in
+    let other : is_space_or_tab b ≡ false = grind (arith, nat_tests) in
+    record {
+      ends = here;
+      plain = other;
+      blank = end-blank (b ∷ bs) here;
+      no_tab = list_all-implies is_line_ending (λ c. not (c == 9)) no_tab_ends (b ∷ bs) all;
+    }
+
+-- the first line
+module _ (lead : Lead) (is : IsLead lead) (one : lead.gap ≡ 1) (line changed : List ℕ) (i : IsMarkerAlone lead line changed) where
+  abbrev marked : LineState
+  marked = behind_marker lead is changed line i.parts
+
+  abbrev after : LineState
+  after = after_space 1 marked
+
+  abbrev next : LineState
+  next = after_space 0 after
+
+  abbrev passed : ℕ
+  passed = 0 + lead.indent + length lead.marker
+
+  empty : IsEmptyLine line
+  empty = empty_line line i.empty
+
+  at_end : IsAt marked line passed
+  at_end = at_tail lead is changed line i.parts
+
+  at_after : IsAt after line (passed + 0)
+  at_after = at_space marked 0 line passed at_end 1 (omega arith) (inr empty.plain)
+
+  at_next : IsAt next line (passed + 0 + 0)
+  at_next = at_space after 0 line (passed + 0) at_after 0 (omega arith) (inl refl)
+
+  end_follows : space_or_end_follows marked ≡ true
+  end_follows =
+      let here : is_at_line_end (unscanned marked) ≡ true = ap is_at_line_end at_end.text ∙ empty.ends in
+      ap (λ b. nat_lt 0 (leading_spaces (rest_of marked)) || b) here ∙ or_true (nat_lt 0 (leading_spaces (rest_of marked)))
+
+  none_further : further_spaces after ≡ 0
+  none_further = let here : is_blank (unscanned after) ≡ true = ap is_blank at_after.text ∙ empty.blank in rw here refl
+
+  pub blank_begins : Begins (begun_by lead) line changed
+  blank_begins =
+      let width : lead.indent + length lead.marker + 1 + 0 ≡ width_of lead = omega (arith, one) in
+      let blank : is_blank (unscanned next) ≡ true = ap is_blank at_next.text ∙ empty.blank in (
+        next,
+        begun_there lead is changed line i.parts next 0 (width_of lead) true (not_true (is_thematic_break (lead.marker ++ line)) i.no_break)
+            end_follows none_further refl width blank,
+        alike_at line next (passed + 0 + 0) at_next (inl empty.no_tab),
+      )
+
+module _ (lead : Lead) where
+  abbrev IsNext : Piece → Piece → Type 0
+  IsNext p q = IsHeldIn (IsIndentedLine (width_of lead)) (IsIndentedLine (width_of lead)) (IsLessIndented (width_of lead)) (item_by lead ∷ p.kept) p.begun p q
+
+  abbrev Text : List ℕ → Type 0
+  Text line = IsTrue (not (is_blank line))
+
+  -- behind the first line
+  same_settled : (n : ℕ) → settled_last (take n (item_by lead ∷ [])) ≡ settled_last (take n (begun_by lead ∷ []))
+  same_settled zero = refl
+  same_settled (suc zero) = refl
+  same_settled (suc (suc n)) = refl
+
+  begun_opened : (line : List ℕ) (kept begun : List Container) (rest : Rest) → is_blank line ≡ false
+      → AreOpened (item_by lead ∷ []) line kept begun rest → AreOpened (begun_by lead ∷ []) line kept begun rest
+  begun_opened line kept begun rest text o =
+      let same = begun_same lead [] line text in
+      record {
+        goes_on = o.goes_on ∙ ap (λ b. settled_last (take b.kept (item_by lead ∷ []))) (sym same)
+            ∙ same_settled (behind (begun_by lead ∷ []) line).kept;
+        place = o.place;
+        begins = subst (λ b. Opens b.state begun o.place) (sym same) o.begins;
+        is_rest = o.is_rest;
+      }
+
+  begun_blocks : (pieces others : List Piece) → AllZip IsNext pieces others → OnFirst Text (lines_in pieces)
+      → AreBlocks (item_by lead ∷ []) others [] → AreBlocks (begun_by lead ∷ []) others []
+  begun_blocks [] [] z text h = tt
+  begun_blocks [] (q ∷ others) z text h = absurd z
+  begun_blocks (p ∷ pieces) [] z text h = absurd z
+  begun_blocks (p ∷ pieces) (q ∷ others) z text h =
+      let full = still_text lead p.first q.first (not_true (is_blank p.first) text) z.0.first in
+      (record { opened = begun_opened q.first q.kept q.begun q.words full h.0.opened; leaf = h.0.leaf }, h.1)
+
+  -- the blank line ends before text
+  abbrev Ends : List Container → List ℕ → Type 0
+  Ends outer = OutOr outer (λ r. ¬ IsBlank r)
+
+  ends_there : (line changed : List ℕ) → is_blank line ≡ false → IsIndentedLine (width_of lead) line changed → Ends [] line
+      → Ends (begun_by lead ∷ []) changed
+  ends_there line changed text i (inl out) = absurd (out refl)
+  ends_there line changed text i (inr here) =
+      let on = item_goes_on lead line changed i [] in
+      let same = begun_same lead [] changed (still_text lead line changed text i) in
+      let kept : (behind (begun_by lead ∷ []) changed).kept ≡ 1 = ap (λ b. b.kept) same ∙ on.0 in
+      let rest : rest_in [] line ≡ rest_in (item_by lead ∷ []) changed = same_rest _ _ on.1 in
+      let rest' : rest_in [] line ≡ rest_in (begun_by lead ∷ []) changed = rest ∙ ap (λ b. rest_at b.state) (sym same) in
+      inr (kept, subst (λ (r : Rest). ¬ IsBlank r) rest' here.1)
+
+  first_ends : (pieces others : List Piece) → AllZip IsNext pieces others → OnFirst Text (lines_in pieces)
+      → OnFirst (Ends []) (lines_in pieces ++ []) → OnFirst (Ends (begun_by lead ∷ [])) (lines_in others ++ [])
+  first_ends [] [] z text h = tt
+  first_ends [] (q ∷ others) z text h = absurd z
+  first_ends (p ∷ pieces) [] z text h = absurd z
+  first_ends (p ∷ pieces) (q ∷ others) z text h = ends_there p.first q.first (not_true (is_blank p.first) text) z.0.first h
+
+  blank_leaf : (pieces others : List Piece) (words : Rest) (later : List (List ℕ)) → AllZip IsNext pieces others → OnFirst Text (lines_in pieces)
+      → IsLeaf [] Blank words later (lines_in pieces ++ []) → later ≡ [] → IsLeaf (begun_by lead ∷ []) Blank words [] (lines_in others ++ [])
+  blank_leaf pieces others words later z text leaf none =
+      (leaf.0, record { none = tt; stopped = first_ends pieces others z text leaf.1.stopped })
+
+no_lines : (R : List ℕ → List ℕ → Type 0) (lines others : List (List ℕ)) → lines ≡ [] → AllZip R lines others → others ≡ []
+no_lines R [] [] none z = refl
+no_lines R [] (line ∷ others) none z = absurd z
+no_lines R (line ∷ lines) others none z = cc
+
+-- the blocks in the item
+pub blank_item_blocks : (lead : Lead) → IsLead lead → (pieces others : List Piece) → AreInBlankItem lead pieces others → AreBlocks [] pieces []
+    → AreBlocks [] others []
+blank_item_blocks lead is [] others z h = absurd z
+blank_item_blocks lead is (p ∷ pieces) [] z h = absurd z
+blank_item_blocks lead is (p ∷ pieces) (q ∷ others) (one, single, i, z) h =
+    let w = width_of lead in
+    let outside : p.kept ++ p.begun ≡ [] = ap (λ cs. cs ++ p.begun) h.0.opened.goes_on ∙ single.outside in
+    let leaf : IsLeaf [] Blank p.words p.later (lines_in pieces ++ []) =
+    subst (λ k. IsLeaf [] k p.words p.later (lines_in pieces ++ [])) single.kind
+    (subst (λ cs. IsLeaf cs p.kind p.words p.later (lines_in pieces ++ [])) outside h.0.leaf) in
+    let there : begun_by lead ∷ [] ≡ q.kept ++ q.begun =
+    ap (λ cs. begun_by lead ∷ cs) (sym single.outside) ∙ ap (λ cs. cs ++ begun_by lead ∷ p.begun) (sym i.kept_are)
+    ∙ ap (λ cs. q.kept ++ cs) (sym i.begun_are) in
+    let none : [] ≡ q.later = sym (no_lines _ p.later q.later single.alone i.later) in
+    let kind : Blank ≡ q.kind = sym (i.kind ∙ single.kind) in
+    let held : IsLeaf (begun_by lead ∷ []) Blank p.words [] (lines_in others ++ []) =
+    blank_leaf lead pieces others p.words p.later z single.text_follows leaf single.alone in
+    let next : AreBlocks (item_by lead ∷ []) others [] =
+    next_blocks (item_by lead) (IsItemLine lead) (IsIndentedLine w) (IsLessIndented w) refl (item_begins lead is) (item_goes_on lead)
+    (item_stays_out lead) [] pieces others z (subst (λ cs. AreBlocks cs pieces []) outside h.1) in (
+      record {
+        opened = first_opened (begun_by lead) (IsMarkerAlone lead) (IsIndentedLine w) (IsLessIndented w) p q
+            (blank_begins lead is one p.first q.first i.first) i h.0.opened;
+        leaf = subst (λ cs. IsLeaf cs q.kind q.words q.later (lines_in others ++ [])) there
+            (subst (λ k. IsLeaf (begun_by lead ∷ []) k q.words q.later (lines_in others ++ [])) kind
+            (subst (λ ls. IsLeaf (begun_by lead ∷ []) Blank q.words ls (lines_in others ++ [])) none
+            (subst (λ r. IsLeaf (begun_by lead ∷ []) Blank r [] (lines_in others ++ [])) (sym i.words) held)));
+      },
+      subst (λ cs. AreBlocks cs others []) there (begun_blocks lead pieces others z single.text_follows next),
+    )

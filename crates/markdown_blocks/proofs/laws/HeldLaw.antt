@@ -1,0 +1,179 @@
+-- Blocks that are put into a container, their lines changed so that each stands there as it did: they are one container of these blocks.
+use Rattle.std.proofs.Common.{ℕ, suc, ◌≡◌, ◌⊎◌, List, [], ◌∷◌, ◌++◌, take, Some, refl, sym, ap, ◌∙◌, subst, inl, inr, append_assoc, arith}
+use Rattle.std.specs.List.{AllZip}
+use Rattle.markdown_scanners_tree.specs.line.ItemRules.{start_of}
+use Rattle.markdown_scanners_tree.specs.line.State.{LineState}
+use Rattle.markdown_blocks.specs.containers.Containers.{begun_at, behind, IsInside, Opens, settled, settled_last}
+use Rattle.markdown_blocks.specs.declared.blocks.BlockKind.{BlockKind}
+use Rattle.markdown_blocks.specs.declared.blocks.BlockKind.TheVariants.{Paragraph}
+use Rattle.markdown_blocks.specs.declared.containers.Container.{Container}
+use Rattle.markdown_blocks.specs.blocks.Leaves.{IsLazy, IsLeaf}
+use Rattle.markdown_blocks.specs.blocks.Pages.{Piece, lines_in, AreOpened, IsPiece, AreBlocks}
+use Rattle.markdown_blocks.specs.laws.Held.{Change, IsHeldIn, AreIn}
+use Rattle.markdown_blocks.proofs.laws.AlikeLemmas.{Alike, alike_back, same_rest}
+use Rattle.markdown_blocks.proofs.laws.SameContainers.{alike_none, same_begun, same_opens}
+use Rattle.markdown_blocks.proofs.laws.LeafMoves.{Moves, FirstTwo, Follows, LaterMoves, leaf_moves}
+
+zip_map : (R S : Change) → ((line moved : List ℕ) → R line moved → S line moved) → (lines others : List (List ℕ))
+    → AllZip R lines others → AllZip S lines others
+zip_map R S to [] [] z = tt
+zip_map R S to [] (moved ∷ others) z = absurd z
+zip_map R S to (line ∷ lines) [] z = absurd z
+zip_map R S to (line ∷ lines) (moved ∷ others) z = (to line moved z.0, zip_map R S to lines others z.1)
+
+zip_append : (R : Change) (lines others lines' others' : List (List ℕ)) → AllZip R lines others → AllZip R lines' others'
+    → AllZip R (lines ++ lines') (others ++ others')
+zip_append R [] [] lines' others' z z' = z'
+zip_append R [] (moved ∷ others) lines' others' z z' = absurd z
+zip_append R (line ∷ lines) [] lines' others' z z' = absurd z
+zip_append R (line ∷ lines) (moved ∷ others) lines' others' z z' = (z.0, zip_append R lines others lines' others' z.1 z')
+
+-- the first line of the container, where the line stands behind its marker
+abbrev pub Begins : Container → List ℕ → List ℕ → Type 0
+Begins c line moved = (next : LineState) × (begun_at (start_of moved) ≡ Some (c, next)) × Alike (start_of line) next
+
+-- another line, which stands in the container as the line does without
+abbrev pub GoesOn : Container → List ℕ → List ℕ → Type 0
+GoesOn c line moved = (outer : List Container) → ((behind (c ∷ outer) moved).kept ≡ suc (behind outer line).kept)
+    × Alike (behind outer line).state (behind (c ∷ outer) moved).state
+
+-- a line of a paragraph, which stands outside as a lazy one
+abbrev pub StaysOut : Container → List ℕ → Type 0
+StaysOut c moved = (outer : List Container) → (¬ IsInside (c ∷ outer) moved) × IsLazy (behind (c ∷ outer) moved).state
+
+moves : (c : Container) (line moved : List ℕ) → GoesOn c line moved → (outer : List Container) → Moves outer (c ∷ outer) line moved
+moves c line moved on outer =
+    let kept = (on outer).0 in
+    let state = (on outer).1 in
+    record {
+      inside = (λ i. omega (arith, kept, i), λ i. omega (arith, kept, i));
+      rest = same_rest _ _ state;
+      begins = (alike_none _ _ (same_begun _ _ state), alike_none _ _ (same_begun _ _ (alike_back _ _ state)));
+    }
+
+settled_cons : (c : Container) (cs : List Container) → settled c ≡ c → settled_last (c ∷ cs) ≡ c ∷ settled_last cs
+settled_cons c [] steady = ap (λ d. d ∷ []) steady
+settled_cons c (d ∷ cs) steady = refl
+
+-- the first line begins the container
+pub first_opened : (c : Container) (First Later Lazy : Change) (p q : Piece) → Begins c p.first q.first
+    → IsHeldIn First Later Lazy [] (c ∷ p.begun) p q → AreOpened [] p.first p.kept p.begun p.words → AreOpened [] q.first q.kept q.begun q.words
+first_opened c First Later Lazy p q here i h =
+    let opens = same_opens p.begun (start_of p.first) here.0 h.place here.2 h.begins in
+    record {
+      goes_on = i.kept_are;
+      place = opens.0;
+      begins = subst (λ cs. Opens (start_of q.first) cs opens.0) (sym i.begun_are) (here.0, here.1, opens.1);
+      is_rest = i.words ∙ h.is_rest ∙ same_rest h.place opens.0 opens.2;
+    }
+
+module _ (c : Container) (First Later Lazy : Change) (steady : settled c ≡ c) (begins : (line moved : List ℕ) → First line moved → Begins c line moved)
+    (on : (line moved : List ℕ) → Later line moved → GoesOn c line moved) (out : (line moved : List ℕ) → Lazy line moved → StaysOut c moved) where
+  -- a block behind the first in the container, and a line behind the first of a block
+  abbrev IsNext : Piece → Piece → Type 0
+  IsNext p q = IsHeldIn Later Later Lazy (c ∷ p.kept) p.begun p q
+
+  abbrev IsLater : BlockKind → Change
+  IsLater kind line changed = Later line changed ⊎ ((kind ≡ Paragraph) × Lazy line changed)
+
+  module _ (outer : List Container) where
+    later_moves : (kind : BlockKind) (line moved : List ℕ) → IsLater kind line moved → LaterMoves outer (c ∷ outer) kind line moved
+    later_moves kind line moved (inl h) = inl (moves c line moved (on line moved h) outer)
+    later_moves kind line moved (inr h) = inr (h.0, (out line moved h.1 outer).0, (out line moved h.1 outer).1)
+
+    abbrev MovesOrOut : Change
+    MovesOrOut line moved = Moves outer (c ∷ outer) line moved ⊎ (¬ IsInside (c ∷ outer) moved)
+
+    each_moves : (kind : BlockKind) (line moved : List ℕ) → IsLater kind line moved → MovesOrOut line moved
+    each_moves kind line moved (inl h) = inl (moves c line moved (on line moved h) outer)
+    each_moves kind line moved (inr h) = inr (out line moved h.1 outer).0
+
+    follow_each : (pieces others : List Piece) → AllZip IsNext pieces others → AllZip MovesOrOut (lines_in pieces ++ []) (lines_in others ++ [])
+    follow_each [] [] z = tt
+    follow_each [] (q ∷ others) z = absurd z
+    follow_each (p ∷ pieces) [] z = absurd z
+    follow_each (p ∷ pieces) (q ∷ others) z =
+        let lines : AllZip MovesOrOut (p.first ∷ p.later) (q.first ∷ q.later) = (
+          inl (moves c p.first q.first (on p.first q.first z.0.first) outer),
+          zip_map (IsLater p.kind) MovesOrOut (each_moves p.kind) p.later q.later z.0.later,
+        ) in
+        let more = follow_each pieces others z.1 in
+        subst (λ ls. AllZip MovesOrOut (lines_in (p ∷ pieces) ++ []) ls) (sym (joined q others))
+        (subst (λ ls. AllZip MovesOrOut ls ((q.first ∷ q.later) ++ (lines_in others ++ []))) (sym (joined p pieces))
+        (zip_append MovesOrOut (p.first ∷ p.later) (q.first ∷ q.later) (lines_in pieces ++ []) (lines_in others ++ []) lines more))
+      where
+        joined : (r : Piece) (rs : List Piece) → lines_in (r ∷ rs) ++ [] ≡ (r.first ∷ r.later) ++ (lines_in rs ++ [])
+        joined r rs = append_assoc (r.first ∷ r.later) (lines_in rs) []
+
+    follow_first : (pieces others : List Piece) → AllZip IsNext pieces others
+        → FirstTwo (Moves outer (c ∷ outer)) (lines_in pieces ++ []) (lines_in others ++ [])
+    follow_first [] [] z = tt
+    follow_first [] (q ∷ others) z = absurd z
+    follow_first (p ∷ pieces) [] z = absurd z
+    follow_first (p ∷ pieces) (q ∷ others) z = moves c p.first q.first (on p.first q.first z.0.first) outer
+
+    follow : (pieces others : List Piece) → AllZip IsNext pieces others
+        → Follows outer (c ∷ outer) (lines_in pieces ++ []) (lines_in others ++ [])
+    follow pieces others z = record { first = follow_first pieces others z; each = follow_each pieces others z }
+
+  -- the block in the container
+  module _ (p q : Piece) (pieces others : List Piece) (z : AllZip IsNext pieces others) where
+    leaf_in : (Start : Change) (kept begun : List Container) → IsHeldIn Start Later Lazy kept begun p q → kept ++ begun ≡ c ∷ (p.kept ++ p.begun)
+        → IsLeaf (p.kept ++ p.begun) p.kind p.words p.later (lines_in pieces ++ [])
+        → IsLeaf (q.kept ++ q.begun) q.kind q.words q.later (lines_in others ++ [])
+    leaf_in Start kept begun i open_now leaf =
+        let outer = p.kept ++ p.begun in
+        let moved : IsLeaf (c ∷ outer) p.kind p.words q.later (lines_in others ++ []) =
+        leaf_moves outer (c ∷ outer) p.words p.later q.later (lines_in pieces ++ []) (lines_in others ++ []) (follow outer pieces others z) p.kind
+        (zip_map (IsLater p.kind) (LaterMoves outer (c ∷ outer) p.kind) (later_moves outer p.kind) p.later q.later i.later) leaf in
+        let there : c ∷ outer ≡ q.kept ++ q.begun =
+        sym open_now ∙ ap (λ cs. cs ++ begun) (sym i.kept_are) ∙ ap (λ cs. q.kept ++ cs) (sym i.begun_are) in
+        subst (λ cs. IsLeaf cs q.kind q.words q.later (lines_in others ++ [])) there
+        (subst (λ w. IsLeaf (c ∷ outer) q.kind w q.later (lines_in others ++ [])) (sym i.words)
+        (subst (λ k. IsLeaf (c ∷ outer) k p.words q.later (lines_in others ++ [])) (sym i.kind) moved))
+
+    next_piece : (outer : List Container) → IsNext p q → IsPiece outer p (lines_in pieces ++ []) → IsPiece (c ∷ outer) q (lines_in others ++ [])
+    next_piece outer i h =
+        let here = on p.first q.first i.first outer in
+        let opens = same_opens p.begun (behind outer p.first).state (behind (c ∷ outer) q.first).state h.opened.place here.1 h.opened.begins in
+        record {
+          opened = record {
+            goes_on = i.kept_are ∙ ap (λ cs. c ∷ cs) h.opened.goes_on ∙ sym (settled_cons c (take (behind outer p.first).kept outer) steady)
+                ∙ ap (λ n. settled_last (take n (c ∷ outer))) (sym here.0);
+            place = opens.0;
+            begins = subst (λ cs. Opens (behind (c ∷ outer) q.first).state cs opens.0) (sym i.begun_are) opens.1;
+            is_rest = i.words ∙ h.opened.is_rest ∙ same_rest h.opened.place opens.0 opens.2;
+          };
+          leaf = leaf_in Later (c ∷ p.kept) p.begun i refl h.leaf;
+        }
+
+    first_piece : IsHeldIn First Later Lazy [] (c ∷ p.begun) p q → IsPiece [] p (lines_in pieces ++ []) → IsPiece [] q (lines_in others ++ [])
+    first_piece i h = record {
+      opened = first_opened c First Later Lazy p q (begins p.first q.first i.first) i h.opened;
+      leaf = leaf_in First [] (c ∷ p.begun) i (ap (λ cs. c ∷ (cs ++ p.begun)) (sym h.opened.goes_on)) h.leaf;
+    }
+
+  -- the blocks in the container
+  pub next_blocks : (outer : List Container) (pieces others : List Piece) → AllZip IsNext pieces others → AreBlocks outer pieces []
+      → AreBlocks (c ∷ outer) others []
+  next_blocks outer [] [] z h = tt
+  next_blocks outer [] (q ∷ others) z h = absurd z
+  next_blocks outer (p ∷ pieces) [] z h = absurd z
+  next_blocks outer (p ∷ pieces) (q ∷ others) z h =
+      let there : c ∷ (p.kept ++ p.begun) ≡ q.kept ++ q.begun =
+      ap (λ cs. cs ++ p.begun) (sym z.0.kept_are) ∙ ap (λ cs. q.kept ++ cs) (sym z.0.begun_are) in (
+        next_piece p q pieces others z.1 outer z.0 h.0,
+        subst (λ cs. AreBlocks cs others []) there (next_blocks (p.kept ++ p.begun) pieces others z.1 h.1),
+      )
+
+  pub held_blocks : (pieces others : List Piece) → AreIn c First Later Lazy pieces others → AreBlocks [] pieces [] → AreBlocks [] others []
+  held_blocks [] [] z h = tt
+  held_blocks [] (q ∷ others) z h = absurd z
+  held_blocks (p ∷ pieces) [] z h = absurd z
+  held_blocks (p ∷ pieces) (q ∷ others) z h =
+      let none : p.kept ≡ [] = h.0.opened.goes_on in
+      let there : c ∷ (p.kept ++ p.begun) ≡ q.kept ++ q.begun =
+      ap (λ cs. c ∷ (cs ++ p.begun)) none ∙ ap (λ cs. cs ++ c ∷ p.begun) (sym z.0.kept_are) ∙ ap (λ cs. q.kept ++ cs) (sym z.0.begun_are) in (
+        first_piece p q pieces others z.1 z.0 h.0,
+        subst (λ cs. AreBlocks cs others []) there (next_blocks (p.kept ++ p.begun) pieces others z.1 h.1),
+      )

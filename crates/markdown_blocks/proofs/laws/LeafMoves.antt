@@ -1,0 +1,303 @@
+-- Where lines have behind their containers what other lines have behind others, they are the same block.
+use Rattle.std.proofs.Common.{ℕ, Bool, true, false, ◌≡◌, ◌⊎◌, ◌↔◌, List, [], ◌∷◌, ◌++◌, None, refl, sym, ap, subst, inl, inr}
+use Rattle.std.specs.Prelude.{⊤, MatchBool}
+use Rattle.std.specs.List.{AllByRecursion, AllZip}
+use Rattle.markdown_values.specs.declared.values.HeadingLevel.{HeadingLevel}
+use Rattle.markdown_scanners_tree.specs.declared.scanners.html_kinds.HtmlBlockKind.{HtmlBlockKind}
+use Rattle.markdown_scanners_tree.specs.scanners.Interrupts.{InterruptsParagraph}
+use Rattle.markdown_scanners_tree.specs.scanners.html_kinds.HtmlKinds.{ends_before_blank}
+use Rattle.markdown_blocks.specs.containers.Containers.{Rest, rest_in, begun_at, behind, IsInside}
+use Rattle.markdown_blocks.specs.declared.blocks.BlockKind.{BlockKind}
+use Rattle.markdown_blocks.specs.declared.blocks.BlockKind.TheVariants.{Blank, Break, Heading, Setext, Indented, Fenced, Html, Table, Paragraph}
+use Rattle.markdown_blocks.specs.declared.containers.Container.{Container}
+use Rattle.markdown_blocks.specs.blocks.Tables.{IsDelimiter}
+use Rattle.markdown_blocks.specs.blocks.Leaves.{IsBlank, HasIndent, Begins, EndsParagraph, ClosesFence, EndsHtml}
+use Rattle.markdown_blocks.specs.blocks.Leaves.{IsUnderline, IsLazy, In, OutOr, LeavesParagraph, IsHead, IsRow}
+use Rattle.markdown_blocks.specs.blocks.Leaves.{OnFirst, BeginsNoTable, StopsBefore, StopsBehind, EndsIndented, NoMoreIndented, LastHasText, EndsAsHtml, IsLeaf}
+
+-- what is read of the second line behind the other containers is what is read of the first behind these
+pub record Moves (outer other : List Container) (line moved : List ℕ) : Type 0 where
+  pub inside : IsInside outer line ↔ IsInside other moved
+  pub rest : rest_in outer line ≡ rest_in other moved
+  pub begins : (begun_at (behind outer line).state ≡ None) ↔ (begun_at (behind other moved).state ≡ None)
+
+pub moves_back : (outer other : List Container) (line moved : List ℕ) → Moves outer other line moved → Moves other outer moved line
+moves_back outer other line moved m =
+    record { inside = (m.inside.1, m.inside.0); rest = sym m.rest; begins = (m.begins.1, m.begins.0) }
+
+-- what is told of one line
+module _ (outer other : List Container) (line moved : List ℕ) (m : Moves outer other line moved) where
+  in_moves : (P : Rest → Type 0) → In outer P line → In other P moved
+  in_moves P h = (m.inside.0 h.0, subst P m.rest h.1)
+
+  out_moves : (P : Rest → Type 0) → OutOr outer P line → OutOr other P moved
+  out_moves P (inl out) = inl (λ i. out (m.inside.1 i))
+  out_moves P (inr here) = inr (in_moves P here)
+
+  lazy_moves : IsLazy (behind outer line).state → IsLazy (behind other moved).state
+  lazy_moves h = (
+    m.begins.0 h.0,
+    subst (λ (r : Rest). ¬ IsBlank r) m.rest h.1,
+    subst (λ (r : Rest). HasIndent r ⊎ (¬ InterruptsParagraph r.text)) m.rest h.2,
+  )
+
+  row_moves : IsRow outer line → IsRow other moved
+  row_moves h = (m.begins.0 h.0, in_moves (Begins Paragraph) h.1)
+
+leaves_moves : (outer other : List Container) (line moved : List ℕ) → Moves outer other line moved → LeavesParagraph outer line → LeavesParagraph other moved
+leaves_moves outer other line moved m (inl h) =
+    inl (λ i. h.0 (m.inside.1 i), λ lazy. h.1 (lazy_moves other outer moved line (moves_back outer other line moved m) lazy))
+leaves_moves outer other line moved m (inr h) = inr (in_moves outer other line moved m EndsParagraph h)
+
+head_moves : (outer other : List Container) (line moved : List ℕ) → Moves outer other line moved → (text : List ℕ) (columns : ℕ)
+    → IsHead outer text columns line → IsHead other text columns moved
+head_moves outer other line moved m text columns h = (
+  λ leaves. h.0 (leaves_moves other outer moved line (moves_back outer other line moved m) leaves),
+  in_moves outer other line moved m (IsDelimiter columns) h.1,
+  h.2,
+)
+
+-- lists of lines, place by place
+module _ (R : List ℕ → List ℕ → Type 0) where
+  all_moves : (P Q : List ℕ → Type 0) → ((line moved : List ℕ) → R line moved → P line → Q moved) → (lines others : List (List ℕ))
+      → AllZip R lines others → AllByRecursion P lines → AllByRecursion Q others
+  all_moves P Q to [] [] z h = tt
+  all_moves P Q to [] (moved ∷ others) z h = absurd z
+  all_moves P Q to (line ∷ lines) [] z h = absurd z
+  all_moves P Q to (line ∷ lines) (moved ∷ others) z h = (to line moved z.0 h.0, all_moves P Q to lines others z.1 h.1)
+
+  -- the first two, if either list has one
+  abbrev pub FirstTwo : List (List ℕ) → List (List ℕ) → Type 0
+  FirstTwo [] [] = ⊤
+  FirstTwo [] (moved ∷ others) = ⊥
+  FirstTwo (line ∷ lines) [] = ⊥
+  FirstTwo (line ∷ lines) (moved ∷ others) = R line moved
+
+  first_moves : (P Q : List ℕ → Type 0) → ((line moved : List ℕ) → R line moved → P line → Q moved) → (lines others : List (List ℕ))
+      → FirstTwo lines others → OnFirst P lines → OnFirst Q others
+  first_moves P Q to [] [] two h = tt
+  first_moves P Q to [] (moved ∷ others) two h = absurd two
+  first_moves P Q to (line ∷ lines) [] two h = absurd two
+  first_moves P Q to (line ∷ lines) (moved ∷ others) two h = to line moved two h
+
+  first_two : (lines others : List (List ℕ)) → AllZip R lines others → FirstTwo lines others
+  first_two [] [] z = tt
+  first_two [] (moved ∷ others) z = z
+  first_two (line ∷ lines) [] z = z
+  first_two (line ∷ lines) (moved ∷ others) z = z.0
+
+  none_moves : (lines others : List (List ℕ)) → lines ≡ [] → AllZip R lines others → others ≡ []
+  none_moves [] [] none z = refl
+  none_moves [] (moved ∷ others) none z = absurd z
+  none_moves (line ∷ lines) others none z = cc
+
+  zip_last : (before : List (List ℕ)) (last : List ℕ) (others : List (List ℕ)) → AllZip R (before ++ last ∷ []) others
+      → (before' : List (List ℕ)) × (last' : List ℕ) × (others ≡ before' ++ last' ∷ []) × AllZip R before before' × R last last'
+  zip_last [] last [] z = absurd z
+  zip_last [] last (moved ∷ []) z = ([], moved, refl, tt, z.0)
+  zip_last [] last (moved ∷ next ∷ others) z = absurd z.1
+  zip_last (line ∷ before) last [] z = absurd z
+  zip_last (line ∷ before) last (moved ∷ others) z =
+      let more = zip_last before last others z.1 in
+      (moved ∷ more.0, more.1, ap (λ ls. moved ∷ ls) more.2, (z.0, more.3), more.4)
+
+stops_moves : (R S : List ℕ → List ℕ → Type 0) (P Q : List ℕ → Type 0) → ((line moved : List ℕ) → R line moved → Q moved → P line)
+    → ((line moved : List ℕ) → S line moved → P line → Q moved) → (lines others rest after : List (List ℕ)) → AllZip R lines others
+    → FirstTwo S rest after → StopsBefore P lines rest → StopsBefore Q others after
+stops_moves R S P Q from to lines others rest after z two stops = record {
+  none = all_moves R (λ line. ¬ P line) (λ moved. ¬ Q moved) (λ line moved r none q. none (from line moved r q)) lines others z stops.none;
+  stopped = first_moves S P Q to rest after two stops.stopped;
+}
+
+module _ (outer other : List Container) where
+  -- the lines behind a block: none but the first needs to be read as before, where it stands outside
+  pub record Follows (rest after : List (List ℕ)) : Type 0 where
+    pub first : FirstTwo (Moves outer other) rest after
+    pub each : AllZip (λ line moved. Moves outer other line moved ⊎ (¬ IsInside other moved)) rest after
+
+  -- a line behind the first of a block of this kind, which may be a lazy one in a paragraph
+  abbrev pub LaterMoves : BlockKind → List ℕ → List ℕ → Type 0
+  LaterMoves kind line moved =
+      Moves outer other line moved ⊎ ((kind ≡ Paragraph) × (¬ IsInside other moved) × IsLazy (behind other moved).state)
+
+  all_move : (kind : BlockKind) → ¬ (kind ≡ Paragraph) → (lines others : List (List ℕ)) → AllZip (LaterMoves kind) lines others
+      → AllZip (Moves outer other) lines others
+  all_move kind plain [] [] z = tt
+  all_move kind plain [] (moved ∷ others) z = absurd z
+  all_move kind plain (line ∷ lines) [] z = absurd z
+  all_move kind plain (line ∷ lines) (moved ∷ others) z = (by z.0, all_move kind plain lines others z.1)
+    where
+      by : LaterMoves kind line moved → Moves outer other line moved
+      by (inl m) = m
+      by (inr lazy) = absurd (plain lazy.0)
+
+  -- back and forth
+  module _ (line moved : List ℕ) (m : Moves outer other line moved) where
+    out_back : (P : Rest → Type 0) → OutOr other P moved → OutOr outer P line
+    out_back P = out_moves other outer moved line (moves_back outer other line moved m) P
+
+    in_back : (P : Rest → Type 0) → In other P moved → In outer P line
+    in_back P = in_moves other outer moved line (moves_back outer other line moved m) P
+
+    leaves_back : LeavesParagraph other moved → LeavesParagraph outer line
+    leaves_back = leaves_moves other outer moved line (moves_back outer other line moved m)
+
+  module _ (P : Rest → Type 0) (lines others rest after : List (List ℕ)) (z : AllZip (Moves outer other) lines others)
+      (two : FirstTwo (Moves outer other) rest after) where
+    out_stops : StopsBefore (OutOr outer P) lines rest → StopsBefore (OutOr other P) others after
+    out_stops = stops_moves (Moves outer other) (Moves outer other) (OutOr outer P) (OutOr other P) (λ l k m h. out_back l k m P h)
+        (λ l k m h. out_moves outer other l k m P h) lines others rest after z two
+
+    out_behind : StopsBehind outer (OutOr outer P) lines rest → StopsBehind other (OutOr other P) others after
+    out_behind (inl h) =
+        let zipped : AllZip (Moves outer other) (h.0 ++ h.1 ∷ []) others = subst (λ ls. AllZip (Moves outer other) ls others) h.2 z in
+        let cut = zip_last (Moves outer other) h.0 h.1 others zipped in
+        inl (
+          cut.0,
+          cut.1,
+          cut.2,
+          stops_here h.0 cut.0 h.1 cut.1 cut.3 cut.4 h.3,
+          cut.4.inside.0 h.4,
+        )
+      where
+        stops_here : (before before' : List (List ℕ)) (last last' : List ℕ) → AllZip (Moves outer other) before before' → Moves outer other last last'
+            → StopsBefore (OutOr outer P) before (last ∷ rest) → StopsBefore (OutOr other P) before' (last' ∷ after)
+        stops_here before before' last last' zs m =
+            stops_moves (Moves outer other) (Moves outer other) (OutOr outer P) (OutOr other P) (λ l k n h. out_back l k n P h)
+            (λ l k n h. out_moves outer other l k n P h) before before' (last ∷ rest) (last' ∷ after) zs m
+    out_behind (inr h) = inr (
+      out_stops h.0,
+      first_moves (Moves outer other) (λ l. ¬ IsInside outer l) (λ l. ¬ IsInside other l) (λ l k m out i. out (m.inside.1 i)) rest after two h.1,
+    )
+
+  -- indented code
+  last_moves : (lines others : List (List ℕ)) → AllZip (Moves outer other) lines others → LastHasText outer lines → LastHasText other others
+  last_moves [] [] z h = tt
+  last_moves [] (moved ∷ others) z h = absurd z
+  last_moves (line ∷ lines) [] z h = absurd z
+  last_moves (line ∷ []) (moved ∷ []) z h = λ blank. h (in_back line moved z.0 IsBlank blank)
+  last_moves (line ∷ []) (moved ∷ next ∷ others) z h = absurd z.1
+  last_moves (line ∷ next ∷ lines) (moved ∷ []) z h = absurd z.1
+  last_moves (line ∷ next ∷ lines) (moved ∷ next' ∷ others) z h = last_moves (next ∷ lines) (next' ∷ others) z.1 h
+
+  more_moves : (rest after : List (List ℕ)) → AllZip (λ line moved. Moves outer other line moved ⊎ (¬ IsInside other moved)) rest after
+      → NoMoreIndented outer rest → NoMoreIndented other after
+  more_moves [] [] z h = tt
+  more_moves [] (moved ∷ after) z h = absurd z
+  more_moves (line ∷ rest) [] z h = absurd z
+  more_moves (line ∷ rest) (moved ∷ after) (inl m, z) (inl h) =
+      inl (in_moves outer other line moved m IsBlank h.0, more_moves rest after z h.1)
+  more_moves (line ∷ rest) (moved ∷ after) (inl m, z) (inr h) = inr (out_moves outer other line moved m (λ r. (¬ IsBlank r) × (¬ HasIndent r)) h)
+  more_moves (line ∷ rest) (moved ∷ after) (inr out, z) h = inr (inl out)
+
+  -- an HTML block
+  match_moves : (b : Bool) {A B C D : Type 0} → (A → C) → (B → D) → MatchBool b A B → MatchBool b C D
+  match_moves true f g h = f h
+  match_moves false f g h = g h
+
+  module _ (kind : HtmlBlockKind) (first : Rest) (lines others rest after : List (List ℕ)) (z : AllZip (Moves outer other) lines others)
+      (two : FirstTwo (Moves outer other) rest after) where
+    html_moves : EndsAsHtml outer kind first lines rest → EndsAsHtml other kind first others after
+    html_moves = match_moves (ends_before_blank kind) (out_stops (EndsHtml kind) lines others rest after z two) by
+      where
+        by : (EndsHtml kind first × (lines ≡ [])) ⊎ ((¬ EndsHtml kind first) × StopsBehind outer (OutOr outer (EndsHtml kind)) lines rest)
+            → (EndsHtml kind first × (others ≡ [])) ⊎ ((¬ EndsHtml kind first) × StopsBehind other (OutOr other (EndsHtml kind)) others after)
+        by (inl h) = inl (h.0, none_moves (Moves outer other) lines others h.1 z)
+        by (inr h) = inr (h.0, out_behind (EndsHtml kind) lines others rest after z two h.1)
+
+  -- a table's head
+  no_head : (first : Rest) (kind : BlockKind) (line moved : List ℕ) → LaterMoves kind line moved
+      → ((columns : ℕ) → ¬ IsHead outer first.text columns line) → (columns : ℕ) → ¬ IsHead other first.text columns moved
+  no_head first kind line moved (inl m) none columns h =
+      none columns (head_moves other outer moved line (moves_back outer other line moved m) first.text columns h)
+  no_head first kind line moved (inr lazy) none columns h = lazy.1 h.1.0
+
+  no_table : (first : Rest) (kind : BlockKind) (lines others : List (List ℕ)) → FirstTwo (LaterMoves kind) lines others
+      → BeginsNoTable outer first lines → BeginsNoTable other first others
+  no_table first kind = first_moves (LaterMoves kind) (λ l. (columns : ℕ) → ¬ IsHead outer first.text columns l)
+      (λ l. (columns : ℕ) → ¬ IsHead other first.text columns l) (no_head first kind)
+
+  later_leaves : (kind : BlockKind) (line moved : List ℕ) → LaterMoves kind line moved → LeavesParagraph other moved → LeavesParagraph outer line
+  later_leaves kind line moved (inl m) h = leaves_back line moved m h
+  later_leaves kind line moved (inr lazy) (inl h) = absurd (h.1 lazy.2)
+  later_leaves kind line moved (inr lazy) (inr h) = absurd (lazy.1 h.0)
+
+  stops_paragraph : (kind : BlockKind) (lines others rest after : List (List ℕ)) → AllZip (LaterMoves kind) lines others
+      → FirstTwo (Moves outer other) rest after → StopsBefore (LeavesParagraph outer) lines rest → StopsBefore (LeavesParagraph other) others after
+  stops_paragraph kind = stops_moves (LaterMoves kind) (Moves outer other) (LeavesParagraph outer) (LeavesParagraph other) (later_leaves kind)
+      (leaves_moves outer other)
+
+  none_under : (line moved : List ℕ) → Moves outer other line moved → ((level : HeadingLevel) → ¬ In outer (IsUnderline level) line)
+      → (level : HeadingLevel) → ¬ In other (IsUnderline level) moved
+  none_under line moved m none level h = none level (in_back line moved m (IsUnderline level) h)
+
+  -- a setext heading: the lines before its underline, and that
+  setext_moves : (level : HeadingLevel) (first : Rest) (lines others rest after : List (List ℕ)) → AllZip (Moves outer other) lines others
+      → IsLeaf outer (Setext level) first lines rest → IsLeaf other (Setext level) first others after
+  setext_moves level first lines others rest after z leaf =
+      let middle = leaf.1 in
+      let last = leaf.2 in
+      let zipped : AllZip (Moves outer other) (middle ++ last ∷ []) others = subst (λ ls. AllZip (Moves outer other) ls others) leaf.3 z in
+      let cut = zip_last (Moves outer other) middle last others zipped in (
+        leaf.0,
+        cut.0,
+        cut.1,
+        cut.2,
+        first_moves (Moves outer other) (λ l. (columns : ℕ) → ¬ IsHead outer first.text columns l) (λ l. (columns : ℕ) → ¬ IsHead other first.text columns l)
+            (λ l k m. no_head first (Setext level) l k (inl m)) middle cut.0 (first_two (Moves outer other) middle cut.0 cut.3) leaf.4,
+        stops_moves (Moves outer other) (Moves outer other) (LeavesParagraph outer) (LeavesParagraph other) (λ l k m h. leaves_back l k m h)
+            (leaves_moves outer other) middle cut.0 (last ∷ rest) (cut.1 ∷ after) cut.3 cut.4 leaf.5,
+        in_moves outer other last cut.1 cut.4 (IsUnderline level) leaf.6,
+      )
+
+  -- a table: its delimiter row, and the rows behind that
+  table_moves : (columns : ℕ) (first : Rest) (lines others rest after : List (List ℕ)) → AllZip (Moves outer other) lines others
+      → FirstTwo (Moves outer other) rest after → IsLeaf outer (Table columns) first lines rest → IsLeaf other (Table columns) first others after
+  table_moves columns first [] others rest after z two leaf = let none = leaf.3 in cc
+  table_moves columns first (line ∷ lines) [] rest after z two leaf = absurd z
+  table_moves columns first (line ∷ lines) (moved ∷ others) rest after z two leaf =
+      let parts = leaf.3 in
+      let is_head : leaf.1 ≡ line = cc in
+      let are_rows : leaf.2 ≡ lines = cc in (
+        leaf.0,
+        moved,
+        others,
+        refl,
+        head_moves outer other line moved z.0 first.text columns (subst (IsHead outer first.text columns) is_head leaf.4),
+        stops_moves (Moves outer other) (Moves outer other) (λ l. ¬ IsRow outer l) (λ l. ¬ IsRow other l)
+            (λ l k m none row. none (row_moves outer other l k m row))
+            (λ l k m none row. none (row_moves other outer k l (moves_back outer other l k m) row)) lines others rest after z.1 two
+            (subst (λ ls. StopsBefore (λ l. ¬ IsRow outer l) ls rest) are_rows leaf.5),
+      )
+
+  -- the block
+  module _ (first : Rest) (lines others rest after : List (List ℕ)) (f : Follows rest after) where
+    pub leaf_moves : (kind : BlockKind) → AllZip (LaterMoves kind) lines others → IsLeaf outer kind first lines rest
+        → IsLeaf other kind first others after
+    leaf_moves Blank z leaf =
+        (leaf.0, out_stops (λ r. ¬ IsBlank r) lines others rest after (all_move Blank (λ e. cc) lines others z) f.first leaf.1)
+    leaf_moves Break z leaf = (leaf.0, none_moves (LaterMoves Break) lines others leaf.1 z)
+    leaf_moves (Heading level) z leaf = (leaf.0, none_moves (LaterMoves (Heading level)) lines others leaf.1 z)
+    leaf_moves (Setext level) z leaf = setext_moves level first lines others rest after (all_move (Setext level) (λ e. cc) lines others z) leaf
+    leaf_moves Indented z leaf =
+        let zipped = all_move Indented (λ e. cc) lines others z in (
+          leaf.0,
+          record {
+            inside = all_moves (Moves outer other) (λ l. ¬ EndsIndented outer l) (λ l. ¬ EndsIndented other l)
+                (λ l k m none ends. none (out_back l k m (λ r. (¬ IsBlank r) × (¬ HasIndent r)) ends)) lines others zipped leaf.1.inside;
+            last = last_moves lines others zipped leaf.1.last;
+            stopped = more_moves rest after f.each leaf.1.stopped;
+          },
+        )
+    leaf_moves (Fenced count byte) z leaf =
+        (leaf.0, out_behind (ClosesFence count byte) lines others rest after (all_move (Fenced count byte) (λ e. cc) lines others z) f.first leaf.1)
+    leaf_moves (Html kind) z leaf = (leaf.0, html_moves kind first lines others rest after (all_move (Html kind) (λ e. cc) lines others z) f.first leaf.1)
+    leaf_moves (Table columns) z leaf =
+        table_moves columns first lines others rest after (all_move (Table columns) (λ e. cc) lines others z) f.first leaf
+    leaf_moves Paragraph z leaf = (
+      leaf.0,
+      no_table first Paragraph lines others (first_two (LaterMoves Paragraph) lines others z) leaf.1,
+      stops_paragraph Paragraph lines others rest after z f.first leaf.2,
+      first_moves (Moves outer other) (λ l. (level : HeadingLevel) → ¬ In outer (IsUnderline level) l)
+          (λ l. (level : HeadingLevel) → ¬ In other (IsUnderline level) l) none_under rest after f.first leaf.3,
+    )

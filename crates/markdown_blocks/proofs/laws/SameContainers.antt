@@ -1,0 +1,176 @@
+-- At two places with the same text behind them a line goes on with the same containers, and begins the same.
+use Rattle.std.proofs.Common.{ℕ, suc, Bool, true, false, ◌==◌, ◌+◌, ◌≡◌, List, [], ◌∷◌, Option, Some, None, refl, sym, ap, ◌∙◌, subst}
+use Rattle.std.specs.Prelude.{if◌then◌else◌, ⊤}
+use Rattle.markdown_scanners_tree.specs.Ascii.{greater_than_sign}
+use Rattle.markdown_scanners_tree.specs.Bytes.{begins_with, is_blank}
+use Rattle.markdown_scanners_tree.specs.line.Outcome.{Outcome, after_quote, further_spaces, item_outcome}
+use Rattle.markdown_scanners_tree.specs.line.Outcome.{item_outcome_after, item_outcome_by, not_found, space_or_end_follows}
+use Rattle.markdown_scanners_tree.specs.line.State.{LineState, unscanned, bytes_further, space_within, after_space}
+use Rattle.markdown_scanners_tree.specs.scanners.list_items.ListMarker.{Marker, list_marker}
+use Rattle.markdown_blocks.specs.containers.Containers.{behind_quote, begun_at, begun_behind, item_of, within, within_quote, go_on, Behind, Opens}
+use Rattle.markdown_blocks.specs.declared.containers.Container.{Container}
+use Rattle.markdown_blocks.specs.declared.containers.Container.TheVariants.{Quote, Item}
+use Rattle.markdown_blocks.proofs.laws.AlikeLemmas.{Alike, space_alike, bytes_alike, same_quote, same_further, same_end, same_space}
+
+either_alike : (b c : Bool) (s t s' t' : LineState) → b ≡ c → Alike s t → Alike s' t' → Alike (if b then s else s') (if c then t else t')
+either_alike true c s t s' t' same a a' = rw (← same) a
+either_alike false c s t s' t' same a a' = rw (← same) a'
+
+pub quote_alike : (s t : LineState) → Alike s t → Alike (after_quote s) (after_quote t)
+quote_alike s t a =
+    either_alike (begins_with (λ b. b == greater_than_sign) (unscanned s)) (begins_with (λ b. b == greater_than_sign) (unscanned t))
+    (after_space 1 (bytes_further 1 s)) (after_space 1 (bytes_further 1 t)) s t (same_quote s t a)
+    (space_alike (bytes_further 1 s) (bytes_further 1 t) (bytes_alike s t a 1) 1) a
+
+-- what is found with the place behind it
+abbrev pub FoundAlike : {A : Type 0} → Option (A × LineState) → Option (A × LineState) → Type 0
+FoundAlike None None = ⊤
+FoundAlike None (Some q) = ⊥
+FoundAlike (Some p) None = ⊥
+FoundAlike (Some p) (Some q) = (p.0 ≡ q.0) × Alike p.1 q.1
+
+abbrev PlaceAlike : Option LineState → Option LineState → Type 0
+PlaceAlike None None = ⊤
+PlaceAlike None (Some q) = ⊥
+PlaceAlike (Some p) None = ⊥
+PlaceAlike (Some p) (Some q) = Alike p q
+
+pub alike_none : {A : Type 0} (f g : Option (A × LineState)) → FoundAlike f g → f ≡ None → g ≡ None
+alike_none None None same is = refl
+alike_none None (Some q) same is = absurd same
+alike_none (Some p) g same is = cc
+
+pub alike_some : {A : Type 0} (f g : Option (A × LineState)) (found : A × LineState) → FoundAlike f g → f ≡ Some found
+    → (next : LineState) × (g ≡ Some (found.0, next)) × Alike found.1 next
+alike_some None g found same is = cc
+alike_some (Some p) None found same is = absurd same
+alike_some (Some p) (Some q) found same is =
+    let parts : p ≡ found = cc in
+    let first : q.0 ≡ found.0 = sym same.0 ∙ ap (λ z. z.0) parts in
+    (q.1, ap (λ x. Some (x, q.1)) first, subst (λ z. Alike z.1 q.1) parts same.1)
+
+-- list items
+record SameOutcome {A : Type 0} (found other : Outcome A) : Type 0 where
+  answers : found.answer ≡ other.answer
+  states : Alike found.state other.state
+
+item_after : (indent : ℕ) (m : Marker) (s t : LineState) → Alike s t → SameOutcome (item_outcome_after indent m s) (item_outcome_after indent m t)
+item_after indent m s t a = record {
+  answers = ap (λ n. Some (m.delimiter, m.start, indent + m.width + 1 + n)) (same_further s t a);
+  states = subst (λ n. Alike (after_space n s) (after_space (further_spaces t) t)) (sym (same_further s t a)) (space_alike s t a (further_spaces t));
+}
+
+either_outcome : (b c : Bool) (o o' p p' : Outcome (ℕ × ℕ × ℕ)) → b ≡ c → SameOutcome o o' → SameOutcome p p'
+    → SameOutcome (if b then o else p) (if c then o' else p')
+either_outcome true c o o' p p' same h h' = rw (← same) h
+either_outcome false c o o' p p' same h h' = rw (← same) h'
+
+item_by : (indent : ℕ) (s t : LineState) (found : Option Marker) → Alike s t → SameOutcome (item_outcome_by indent s found) (item_outcome_by indent t found)
+item_by indent s t None a = record { answers = refl; states = a }
+item_by indent s t (Some m) a =
+    let marked = bytes_alike s t a m.width in
+    let spaced = space_alike (bytes_further m.width s) (bytes_further m.width t) marked 1 in
+    either_outcome (space_or_end_follows (bytes_further m.width s)) (space_or_end_follows (bytes_further m.width t))
+    (item_outcome_after indent m (after_space 1 (bytes_further m.width s))) (item_outcome_after indent m (after_space 1 (bytes_further m.width t)))
+    (not_found s) (not_found t) (same_end (bytes_further m.width s) (bytes_further m.width t) marked)
+    (item_after indent m (after_space 1 (bytes_further m.width s)) (after_space 1 (bytes_further m.width t)) spaced)
+    (record { answers = refl; states = a })
+
+same_item : (indent : ℕ) (s t : LineState) → Alike s t → SameOutcome (item_outcome indent s) (item_outcome indent t)
+same_item indent s t a =
+    subst (λ m. SameOutcome (item_outcome indent s) (item_outcome_by indent t m)) (ap list_marker a.text)
+    (item_by indent s t (list_marker (unscanned s)) a)
+
+item_made : (answer : Option (ℕ × ℕ × ℕ)) (s t : LineState) → Alike s t
+    → FoundAlike (item_of (record { answer = answer; state = s })) (item_of (record { answer = answer; state = t }))
+item_made None s t a = tt
+item_made (Some r) s t a =
+    (ap (λ bs. Item (record { delimiter = r.0; start = r.1; width = r.2; begun = is_blank bs })) a.text, a)
+
+found_item : (found other : Outcome (ℕ × ℕ × ℕ)) → SameOutcome found other → FoundAlike (item_of found) (item_of other)
+found_item found other same =
+    subst (λ answer. FoundAlike (item_of found) (item_of (record { answer = answer; state = other.state }))) same.answers
+    (item_made found.answer found.state other.state same.states)
+
+-- the containers that begin there
+either_found : {A : Type 0} (b c : Bool) (f g f' g' : Option (A × LineState)) → b ≡ c → FoundAlike f g → FoundAlike f' g'
+    → FoundAlike (if b then f else f') (if c then g else g')
+either_found true c f g f' g' same h h' = rw (← same) h
+either_found false c f g f' g' same h h' = rw (← same) h'
+
+begun_alike : (indent : ℕ) (s t : LineState) → Alike s t → FoundAlike (begun_behind indent s) (begun_behind indent t)
+begun_alike indent s t a =
+    either_found (indent == 4) (indent == 4) None None _ _ refl tt
+    (either_found (begins_with (λ b. b == greater_than_sign) (unscanned s)) (begins_with (λ b. b == greater_than_sign) (unscanned t))
+    (Some (Quote, after_quote s)) (Some (Quote, after_quote t)) (item_of (item_outcome indent s)) (item_of (item_outcome indent t))
+    (same_quote s t a) (refl, quote_alike s t a) (found_item (item_outcome indent s) (item_outcome indent t) (same_item indent s t a)))
+
+pub same_begun : (s t : LineState) → Alike s t → FoundAlike (begun_at s) (begun_at t)
+same_begun s t a =
+    subst (λ n. FoundAlike (begun_at s) (begun_behind n (after_space 4 t))) (same_space s t a 4)
+    (begun_alike (space_within 4 s) (after_space 4 s) (after_space 4 t) (space_alike s t a 4))
+
+pub same_opens : (begun : List Container) (s t after : LineState) → Alike s t → Opens s begun after
+    → (other : LineState) × Opens t begun other × Alike after other
+same_opens [] s t after a o =
+    (t, (alike_none (begun_at s) (begun_at t) (same_begun s t a) o.0, refl), subst (λ z. Alike z t) (sym o.1) a)
+same_opens (c ∷ begun) s t after a o =
+    let next = alike_some (begun_at s) (begun_at t) (c, o.0) (same_begun s t a) o.1 in
+    let more = same_opens begun o.0 next.0 after next.2 o.2 in
+    (more.0, (next.0, next.1, more.1), more.2)
+
+-- the containers that the line goes on with there
+either_place : (b c : Bool) (f g f' g' : Option LineState) → b ≡ c → PlaceAlike f g → PlaceAlike f' g'
+    → PlaceAlike (if b then f else f') (if c then g else g')
+either_place true c f g f' g' same h h' = rw (← same) h
+either_place false c f g f' g' same h h' = rw (← same) h'
+
+behind_alike : (indent : ℕ) (s t : LineState) → Alike s t → PlaceAlike (behind_quote indent s) (behind_quote indent t)
+behind_alike indent s t a =
+    either_place (indent == 4) (indent == 4) None None _ _ refl tt
+    (either_place (begins_with (λ b. b == greater_than_sign) (unscanned s)) (begins_with (λ b. b == greater_than_sign) (unscanned t))
+    (Some (after_quote s)) (Some (after_quote t)) None None (same_quote s t a) (quote_alike s t a) tt)
+
+quoted_alike : (f g : Option LineState) → PlaceAlike f g → FoundAlike (within_quote f) (within_quote g)
+quoted_alike None None same = tt
+quoted_alike None (Some q) same = absurd same
+quoted_alike (Some p) None same = absurd same
+quoted_alike (Some p) (Some q) same = (ap is_blank same.text, same)
+
+same_within : (c : Container) (blank : Bool) (s t : LineState) → Alike s t → FoundAlike (within c blank s) (within c blank t)
+same_within Quote blank s t a =
+    subst (λ n. FoundAlike (within Quote blank s) (within_quote (behind_quote n (after_space 4 t)))) (same_space s t a 4)
+    (quoted_alike _ _ (behind_alike (space_within 4 s) (after_space 4 s) (after_space 4 t) (space_alike s t a 4)))
+same_within (Item item) true s t a =
+    either_found item.begun item.begun None None (Some (true, s)) (Some (true, t)) refl tt (refl, a)
+same_within (Item item) false s t a =
+    either_found (space_within item.width s == item.width) (space_within item.width t == item.width)
+    (Some (false, after_space item.width s)) (Some (false, after_space item.width t)) None None
+    (ap (λ n. n == item.width) (same_space s t a item.width)) (refl, space_alike s t a item.width) tt
+
+abbrev Go : List Container → Type 0
+Go inner = (blank : Bool) (s t : LineState) → Alike s t → ((go_on blank inner s).kept ≡ (go_on blank inner t).kept)
+    × Alike (go_on blank inner s).state (go_on blank inner t).state
+
+abbrev pub step_on : List Container → LineState → Option (Bool × LineState) → Behind
+step_on inner s found = elim found [
+  | Some r ↦ (let more = go_on r.0 inner r.1 in record { kept = suc more.kept; state = more.state })
+  | None ↦ record { kept = 0; state = s }
+]
+
+same_step : (inner : List Container) (s t : LineState) (f g : Option (Bool × LineState)) → Go inner → Alike s t → FoundAlike f g
+    → ((step_on inner s f).kept ≡ (step_on inner t g).kept) × Alike (step_on inner s f).state (step_on inner t g).state
+same_step inner s t None None more a same = (refl, a)
+same_step inner s t None (Some q) more a same = absurd same
+same_step inner s t (Some p) None more a same = absurd same
+same_step inner s t (Some p) (Some q) more a same =
+    let on = more p.0 p.1 q.1 same.1 in
+    let here : ((step_on inner s (Some p)).kept ≡ (step_on inner t (Some (p.0, q.1))).kept)
+    × Alike (step_on inner s (Some p)).state (step_on inner t (Some (p.0, q.1))).state = (ap suc on.0, on.1) in
+    subst (λ b. ((step_on inner s (Some p)).kept ≡ (step_on inner t (Some (b, q.1))).kept)
+    × Alike (step_on inner s (Some p)).state (step_on inner t (Some (b, q.1))).state) same.0 here
+
+pub same_on : (inner : List Container) → Go inner
+same_on [] blank s t a = (refl, a)
+same_on (c ∷ inner) blank s t a =
+    same_step inner s t (within c blank s) (within c blank t) (same_on inner) a (same_within c blank s t a)
