@@ -68,13 +68,16 @@ def in_a_table_page(pattern):
 
 
 def defined(page):
-    """The lines of paragraphs of ours that begin with a link reference definition, and of headings that do, whose underline may
-    begin a paragraph for cmark."""
-    lines = set()
-    for block, later in zip(page.ours, [*page.ours[1:], None]):
-        if block.kind in ("paragraph", "heading") and DEFINITION.match(b"".join(page.lines[block.first - 1 : block.last])):
-            goes_on = block.kind == "heading" and later and later.kind == "paragraph" and later.first == block.last + 1
-            lines.update(range(block.first, (later.last if goes_on else block.last) + 1))
+    """The lines of paragraphs and headings of ours that begin with a link reference definition, and those of a thematic break
+    directly behind, which is text for cmark, with the paragraph behind that."""
+    lines, end = set(), 0
+    for block in page.ours:
+        begins = block.kind in ("paragraph", "heading") and DEFINITION.match(b"".join(page.lines[block.first - 1 : block.last]))
+        is_text = block.kind == "paragraph" or (block.kind == "break" and b"-" in page.lines[block.first - 1])
+        goes_on = is_text and block.first == end + 1 and end in lines
+        if begins or goes_on:
+            lines.update(range(block.first, block.last + 1))
+            end = block.last
     return lines
 
 

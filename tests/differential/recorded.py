@@ -108,13 +108,25 @@ f
   </block_quote>
 </document>
 """),
-    Recorded("definition", b"[a]: /b\n===\nc\n", b"""\
-1 2 0 setext 1
+    Recorded("definition", b"[a]: /b\n\nc\n", b"""\
+1 1 0 paragraph
+2 2 0 blank
+3 3 0 paragraph
+""", b"""\
+<document sourcepos="1:1-3:1" xmlns="http://commonmark.org/xml/1.0">
+  <paragraph sourcepos="3:1-3:1">
+    <text sourcepos="3:1-3:1" xml:space="preserve">c</text>
+  </paragraph>
+</document>
+""", None),
+    Recorded("definition", b"[a]: /b\n---\nc\n", b"""\
+1 1 0 paragraph
+2 2 0 break
 3 3 0 paragraph
 """, b"""\
 <document sourcepos="1:1-3:1" xmlns="http://commonmark.org/xml/1.0">
   <paragraph sourcepos="1:1-3:1">
-    <text sourcepos="1:1-1:3" xml:space="preserve">===</text>
+    <text sourcepos="1:1-1:3" xml:space="preserve">---</text>
     <softbreak />
     <text sourcepos="2:1-2:1" xml:space="preserve">c</text>
   </paragraph>

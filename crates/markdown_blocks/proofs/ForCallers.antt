@@ -1,5 +1,6 @@
 -- Lemmas that other crates cite.
 pub use Rattle.markdown_blocks.proofs.blocks.OneText.{one_piece, one_page}
+pub use Rattle.markdown_blocks.proofs.definitions.DefinitionLemmas.{one_list_of_definitions}
 pub use Rattle.markdown_blocks.proofs.events.EventLemmas.{one_list_of_events}
 pub use Rattle.markdown_blocks.proofs.laws.ItemLaw.{list_item, one_list_item, blank_list_item, one_blank_list_item}
 pub use Rattle.markdown_blocks.proofs.laws.QuoteLaw.{block_quote, one_block_quote}

@@ -4,4 +4,5 @@ pub mod OneFirst
 pub mod OneLeaf
 pub mod OneText
 pub mod OverLemmas
+pub mod ParagraphLemmas
 pub mod RestLemmas

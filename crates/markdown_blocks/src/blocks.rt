@@ -1,18 +1,20 @@
 //! Blocks of a page, each as a whole from the front of what is left, in their containers.
 ghost use Rattle.std.specs.Prelude.{◌≡◌, ◌↔◌, ◌++◌, ◌∷◌, [], List, ℕ, drop, IsTrue, IfOk, IfSome, IfNone};
+ghost use Rattle.markdown_values.specs.declared.values.HeadingLevel.{HeadingLevel};
 ghost use Rattle.markdown_scanners_tree.specs.SomeExactly.{SomeExactly};
 ghost use Rattle.markdown_scanners_tree.specs.scanners.TextLines.{lines_of};
 ghost use Rattle.markdown_blocks.specs.blocks.Leaves.{Begins, IsUnderline, EndsParagraph, ClosesFence, HasIndent};
 ghost use Rattle.markdown_blocks.specs.blocks.Leaves.{In, IsLazy, StopsBefore, StopsBehind, EndsAsHtml, GoesOnIndented};
 ghost use Rattle.markdown_blocks.specs.blocks.Leaves.{IsHead, BeginsNoTable};
-ghost use Rattle.markdown_blocks.specs.blocks.Endings.{IsEnd};
+ghost use Rattle.markdown_blocks.specs.blocks.Endings.{IsEnd, IsUnderlineIn};
 ghost use Rattle.markdown_blocks.specs.blocks.Over.{IsOver};
 ghost use Rattle.markdown_blocks.specs.blocks.Pages.{IsBlockOf};
-ghost use Rattle.markdown_blocks.specs.containers.Containers.{IsInside, Rest};
+ghost use Rattle.markdown_blocks.specs.containers.Containers.{IsInside};
 ghost use Rattle.markdown_blocks.specs.declared.blocks.BlockKind.TheVariants.{Paragraph};
 ghost use Rattle.markdown_blocks.specs.taken.Lines.{IsTaken, IsNext};
 
 use crate::containers::{Outer, go_on, rest_behind, scan_container};
+use crate::definitions::has_text;
 use crate::kinds::{is_blank, kind_of};
 use crate::tables::{count_cells, delimiter_columns, take_rows};
 use crate::taken::Taken;
@@ -52,6 +54,13 @@ pub enum BlockKind {
 pub struct Block {
     pub kind: BlockKind,
     pub taken: Taken,
+}
+
+// The underline of a setext heading: its level, and whether it interrupts a paragraph.
+#[derive(Clone, Copy)]
+struct Underline {
+    level: HeadingLevel,
+    interrupts: bool,
 }
 
 // What the lines of a block go on to.
@@ -199,28 +208,47 @@ fn scan_paragraph(
             taken: take_rows(text, more, outer),
         });
     }
-    Ok(scan_lines(text, first, outer))
+    scan_lines(alloc, text, first, outer, words)
 }
 
-// The paragraph or heading whose first line this is, where it begins no table.
-fn scan_lines(text: &[u8], first: Taken, outer: Outer) -> Block
-    ensures { (line : List ℕ) (rest : Rest) → IsTaken text.now first (line ∷ [])
-        → Begins Paragraph rest → BeginsNoTable outer.entry.containers.now rest (lines_of (drop first.bytes text.now))
-        → IsBlockOf text.now outer.entry.containers.now line rest result }
+// The paragraph or heading whose first line this is, with this text, where it begins no table.
+fn scan_lines(
+    alloc: Global,
+    text: &[u8],
+    first: Taken,
+    outer: Outer,
+    words: &[u8],
+) -> Result<Block, AllocError>
+    ensures { IfOk result (λ block. (line : List ℕ) (indent : ℕ) → IsTaken text.now first (line ∷ [])
+        → Begins Paragraph (record { indent = indent; text = words.now })
+        → BeginsNoTable outer.entry.containers.now (record { indent = indent; text = words.now })
+        (lines_of (drop first.bytes text.now))
+        → IsBlockOf text.now outer.entry.containers.now line (record { indent = indent; text = words.now }) block) }
 {
-    let taken = take_until(text, first, outer, Ending::Paragraph);
-    if let Some((line, more)) = taken.next(text) {
-        if let Some(level) = underline_in(line, outer) {
-            return Block {
-                kind: BlockKind::Setext(level),
-                taken: more,
-            };
+    let mut taken = first;
+    while let Some((line, more)) = taken.next(text) {
+        if !ends(line, outer, Ending::Paragraph) {
+            taken = more;
+            continue;
         }
+        let Some(underline) = underline_in(line, outer) else {
+            break;
+        };
+        if has_text(alloc, text, first, taken, outer, words)? {
+            return Ok(Block {
+                kind: BlockKind::Setext(underline.level),
+                taken: more,
+            });
+        }
+        if underline.interrupts {
+            break;
+        }
+        taken = more;
     }
-    Block {
+    Ok(Block {
         kind: BlockKind::Paragraph,
         taken,
-    }
+    })
 }
 
 // Takes the delimiter row behind the first line of a table, which has this text, if one is there.
@@ -352,16 +380,22 @@ fn underline_level(indent: usize, text: &[u8]) -> Option<HeadingLevel>
     Some(level)
 }
 
-// The same of a line in the containers.
-fn underline_in(line: &[u8], outer: Outer) -> Option<HeadingLevel>
-    ensures { SomeExactly (λ level. In outer.entry.containers.now (IsUnderline level) line.now) result }
+// The underline that the line is in the containers.
+fn underline_in(line: &[u8], outer: Outer) -> Option<Underline>
+    ensures found { IfSome result (λ r. IsUnderlineIn outer.entry.containers.now r line.now) }
+    ensures none { IfNone result ((level : HeadingLevel)
+        → ¬ In outer.entry.containers.now (IsUnderline level) line.now) }
 {
     let (kept, start) = go_on(line, outer);
     if kept < outer.containers.len() {
         return None;
     }
     let (indent, text) = rest_behind(line, start);
-    underline_level(indent, text)
+    let level = underline_level(indent, text)?;
+    Some(Underline {
+        level,
+        interrupts: interrupts_paragraph(text),
+    })
 }
 
 // Whether it closes fenced code.

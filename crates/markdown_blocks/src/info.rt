@@ -12,8 +12,8 @@ pub fn info_of(fence: &[u8], byte: u8) -> &[u8]
     without_end(without_front(line_head(behind)))
 }
 
-// The bytes without the spaces and tabs at their front.
-fn without_front(bytes: &[u8]) -> &[u8]
+/// The bytes without the spaces and tabs at their front.
+pub(crate) fn without_front(bytes: &[u8]) -> &[u8]
     ensures { result.now ≡ without_front bytes.now }
 {
     let (_, behind) = bytes.split_at(scan_spaces_and_tabs(bytes));

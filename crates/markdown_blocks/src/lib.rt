@@ -4,6 +4,7 @@
 
 pub mod blocks;
 pub mod containers;
+pub mod definitions;
 pub mod events;
 pub mod info;
 mod kinds;

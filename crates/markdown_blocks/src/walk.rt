@@ -61,8 +61,9 @@ impl Walk {
     /// The block at the front of the lines, if there is one that no line behind them changes: where
     /// the input has ended none stands behind them. Its containers are open then.
     ///
-    /// Memory is asked for where more containers are open than ever before, and by a table's
-    /// delimiter row. After a refusal the walk is as it was, and may go on.
+    /// Memory is asked for where more containers are open than ever before, by a table's delimiter
+    /// row, and by the underline of a paragraph that begins with a bracket: for its content, which
+    /// may be link reference definitions alone. After a refusal the walk is as it was, and may go on.
     pub fn next_block<'a>(
         &mut self,
         alloc: Global,

@@ -47,8 +47,8 @@ ends, or about which items make up a list, tight or loose.
 
 Some pages are not read as CommonMark and GitHub Flavored Markdown read them:
 
-  - Link reference definitions are read as whatever their lines look like, so the blocks that
-    follow them may begin and end elsewhere.
+  - Link reference definitions are no lines of their own: they are printed with the paragraph or
+    heading that they stand in front of, and where nothing follows them as a paragraph.
   - A header row that follows other lines of its paragraph doesn't begin a table.
   - A table's delimiter row needs a pipe: \"a\" and then \":-\" is not a table.
   - Vertical tabs and form feeds count as white space.

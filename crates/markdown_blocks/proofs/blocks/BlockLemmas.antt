@@ -1,5 +1,5 @@
 -- The lines that are taken make a block.
-use Rattle.std.proofs.Common.{ℕ, List, [], ◌∷◌, ◌++◌, ◌≡◌, drop, refl, sym, ◌∙◌}
+use Rattle.std.proofs.Common.{ℕ, List, [], ◌∷◌, ◌++◌, ◌≡◌, drop, inl, inr, refl, sym, ◌∙◌}
 use Rattle.std.proofs.lemmas.List.{append_cancel_left}
 use Rattle.markdown_values.specs.declared.values.HeadingLevel.{HeadingLevel}
 use Rattle.markdown_scanners_tree.specs.declared.scanners.html_kinds.HtmlBlockKind.{HtmlBlockKind}
@@ -10,8 +10,9 @@ use Rattle.markdown_blocks.specs.declared.blocks.BlockKind.TheVariants.{Blank, B
 use Rattle.markdown_blocks.specs.declared.containers.Container.{Container}
 use Rattle.markdown_blocks.specs.declared.taken.Taken.{Taken}
 use Rattle.markdown_blocks.specs.taken.Lines.{IsTaken, IsNext}
-use Rattle.markdown_blocks.specs.blocks.Leaves.{Begins, IsBlank, IsUnderline, In, OutOr, LeavesParagraph, ClosesFence, OnFirst, EndsAsHtml, GoesOnIndented, IsHead, IsRow, BeginsNoTable}
+use Rattle.markdown_blocks.specs.blocks.Leaves.{Begins, IsBlank, Underlines, OutOr, LeavesBehind, ClosesFence, OnFirst, EndsAsHtml, GoesOnIndented, IsHead, IsRow, BeginsNoTable}
 use Rattle.markdown_blocks.specs.blocks.Pages.{IsBlockOf}
+use Rattle.markdown_blocks.proofs.blocks.ParagraphLemmas.{Reached}
 use Rattle.markdown_blocks.proofs.taken.TakenLemmas.{Until, Through, taken-next}
 
 module _ (text : List ℕ) (outer : List Container) (line : List ℕ) (rest : Rest) (first : Taken) (h : IsTaken text first (line ∷ [])) where
@@ -73,28 +74,38 @@ module _ (text : List ℕ) (outer : List Container) (line : List ℕ) (rest : Re
     none_in : (taken : Taken) (more : List (List ℕ)) → IsTaken text taken (line ∷ more) → BeginsNoTable outer rest more
     none_in taken more t = first_of _ more (lines_of (drop taken.bytes text)) (rw (behind_first taken more t) at no_table)
 
-    pub paragraph_block : (taken : Taken) → Until (LeavesParagraph outer) text first taken
-        → OnFirst (λ l. (level : HeadingLevel) → ¬ In outer (IsUnderline level) l) (lines_of (drop taken.bytes text))
+    pub paragraph_block : (taken : Taken) → Reached outer rest.text text first taken
+        → ((later : List (List ℕ)) → IsTaken text taken (line ∷ later)
+        → OnFirst (LeavesBehind outer rest.text later) (lines_of (drop taken.bytes text))
+        × OnFirst (λ l. (level : HeadingLevel) → ¬ Underlines outer rest.text later level l) (lines_of (drop taken.bytes text)))
         → IsBlockOf text outer line rest (record { kind = Paragraph; taken = taken })
-    paragraph_block taken until plain =
-        let u = until (line ∷ []) h in record { later = u.0; taken = u.1; leaf = (begins, none_in taken u.0 u.1, u.2, plain) }
-
-    pub setext_block : (last : List ℕ) (level : HeadingLevel) (taken more : Taken)
-        → Until (LeavesParagraph outer) text first taken → IsNext text taken last more → In outer (IsUnderline level) last
-        → IsBlockOf text outer line rest (record { kind = Setext level; taken = more })
-    setext_block last level taken more until next underlines =
-        let u = until (line ∷ []) h in
+    paragraph_block taken reached stops =
+        let r = reached line h in
+        let s = stops r.0 r.1 in
         record {
-          later = u.0 ++ last ∷ [];
-          taken = taken-next text taken more (line ∷ u.0) last u.1 next;
+          later = r.0;
+          taken = r.1;
+          leaf = (begins, none_in taken r.0 r.1, record { none = r.2; stopped = s.0 }, s.1);
+        }
+
+    pub setext_block : (last : List ℕ) (level : HeadingLevel) (taken more : Taken) → Reached outer rest.text text first taken
+        → IsNext text taken last more
+        → ((later : List (List ℕ)) → IsTaken text taken (line ∷ later) → Underlines outer rest.text later level last)
+        → IsBlockOf text outer line rest (record { kind = Setext level; taken = more })
+    setext_block last level taken more reached next underlines =
+        let r = reached line h in
+        let u = underlines r.0 r.1 in
+        record {
+          later = r.0 ++ last ∷ [];
+          taken = taken-next text taken more (line ∷ r.0) last r.1 next;
           leaf = (
             begins,
-            u.0,
+            r.0,
             last,
             refl,
-            none_in taken u.0 u.1,
-            record { none = u.2.none; stopped = rw next.parts at u.2.stopped },
-            underlines,
+            none_in taken r.0 r.1,
+            record { none = r.2; stopped = inr (u.0.0, inr (inl ((level, u.0.1), u.1))) },
+            u,
           );
         }
 

@@ -1,5 +1,5 @@
 -- Lines begin with one block.
-use Rattle.std.proofs.Common.{ℕ, Bool, true, false, ◌≡◌, ◌⊎◌, List, [], ◌∷◌, ◌++◌, refl, sym, ap, ◌∙◌, subst, inl, inr, append_assoc}
+use Rattle.std.proofs.Common.{ℕ, Bool, true, false, ◌≡◌, ◌⊎◌, List, [], ◌∷◌, ◌++◌, refl, sym, ap, ◌∙◌, subst, inl, inr, append_assoc, append-nil}
 use Rattle.std.specs.Prelude.{MatchBool}
 use Rattle.std.specs.List.{AllByRecursion}
 use Rattle.markdown_scanners_tree.specs.declared.scanners.html_kinds.HtmlBlockKind.{HtmlBlockKind}
@@ -9,7 +9,7 @@ use Rattle.markdown_blocks.specs.declared.blocks.BlockKind.{BlockKind}
 use Rattle.markdown_blocks.specs.declared.blocks.BlockKind.TheVariants.{Blank, Break, Heading, Setext, Indented, Fenced, Html, Table, Paragraph}
 use Rattle.markdown_blocks.specs.declared.containers.Container.{Container}
 use Rattle.markdown_blocks.specs.blocks.Leaves.{Begins, EndsIndented, NoMoreIndented, LastHasText, GoesOnIndented}
-use Rattle.markdown_blocks.specs.blocks.Leaves.{OnFirst, StopsBefore, StopsBehind, EndsAsHtml, EndsHtml, OutOr, IsLeaf}
+use Rattle.markdown_blocks.specs.blocks.Leaves.{NoneBehind, OnFirst, StopsAt, StopsBefore, StopsBehind, EndsAsHtml, EndsHtml, OutOr, IsLeaf}
 
 -- all lines up to the first that has a property
 pub one_stop : (P : List ℕ → Type 0) (a b rest rest' : List (List ℕ)) → a ++ rest ≡ b ++ rest' → StopsBefore P a rest → StopsBefore P b rest'
@@ -25,6 +25,29 @@ one_stop P (x ∷ a) (y ∷ b) rest rest' same s s' =
     let more = one_stop P a b rest rest' tails (record { none = s.none.1; stopped = s.stopped })
     (record { none = s'.none.1; stopped = s'.stopped }) in
     (rw (first, more.0) refl, more.1)
+
+-- all lines up to the first that has a property behind those before it
+one_at : (P : List (List ℕ) → List ℕ → Type 0) (before a b rest rest' : List (List ℕ)) → a ++ rest ≡ b ++ rest' → NoneBehind P before a
+    → OnFirst (P (before ++ a)) rest → NoneBehind P before b → OnFirst (P (before ++ b)) rest' → (a ≡ b) × (rest ≡ rest')
+one_at P before [] [] rest rest' same none stops none' stops' = (refl, same)
+one_at P before [] (y ∷ b) rest rest' same none stops none' stops' =
+    let here : OnFirst (P before) (y ∷ (b ++ rest')) = subst (OnFirst (P before)) same (rw append-nil at stops) in absurd (none'.0 here)
+one_at P before (x ∷ a) [] rest rest' same none stops none' stops' =
+    let here : OnFirst (P before) (x ∷ (a ++ rest)) = subst (OnFirst (P before)) (sym same) (rw append-nil at stops') in absurd (none.0 here)
+one_at P before (x ∷ a) (y ∷ b) rest rest' same none stops none' stops' =
+    let first : x ≡ y = cc in
+    let tails : a ++ rest ≡ b ++ rest' = cc in
+    let behind : (ls : List (List ℕ)) → before ++ x ∷ ls ≡ (before ++ x ∷ []) ++ ls = λ ls. sym (append_assoc before (x ∷ []) ls) in
+    let front : before ++ y ∷ [] ≡ before ++ x ∷ [] = ap (λ l. before ++ l ∷ []) (sym first) in
+    let here : OnFirst (P ((before ++ x ∷ []) ++ b)) rest' =
+    subst (λ ls. OnFirst (P ls) rest') (ap (λ l. before ++ l ∷ b) (sym first) ∙ behind b) stops' in
+    let more = one_at P (before ++ x ∷ []) a b rest rest' tails none.1 (subst (λ ls. OnFirst (P ls) rest) (behind a) stops)
+    (subst (λ ls. NoneBehind P ls b) front none'.1) here in
+    (rw (first, more.0) refl, more.1)
+
+pub one_end : (P : List (List ℕ) → List ℕ → Type 0) (a b rest rest' : List (List ℕ)) → a ++ rest ≡ b ++ rest' → StopsAt P a rest → StopsAt P b rest'
+    → (a ≡ b) × (rest ≡ rest')
+one_end P a b rest rest' same s s' = one_at P [] a b rest rest' same s.none s.stopped s'.none s'.stopped
 
 -- and that line too, where it stands in the containers
 module _ (outer : List Container) where

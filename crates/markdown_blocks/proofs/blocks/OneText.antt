@@ -10,10 +10,11 @@ use Rattle.markdown_blocks.specs.containers.Containers.{Rest, rest_at, rest_in, 
 use Rattle.markdown_blocks.specs.declared.blocks.BlockKind.{BlockKind}
 use Rattle.markdown_blocks.specs.declared.blocks.BlockKind.TheVariants.{Blank, Break, Heading, Setext, Indented, Fenced, Html, Table, Paragraph}
 use Rattle.markdown_blocks.specs.declared.containers.Container.{Container}
-use Rattle.markdown_blocks.specs.blocks.Leaves.{In, IsUnderline, IsHead, IsRow, BeginsNoTable, OnFirst, StopsBefore, LeavesParagraph, IsLeaf}
+use Rattle.markdown_blocks.specs.blocks.Leaves.{In, IsUnderline, IsHead, IsRow, BeginsNoTable, OnFirst, StopsAt, LeavesBehind, Underlines, IsLeaf}
 use Rattle.markdown_blocks.specs.blocks.Pages.{Piece, lines_in, IsPiece, AreBlocks}
 use Rattle.markdown_blocks.proofs.blocks.OneFirst.{one_first}
-use Rattle.markdown_blocks.proofs.blocks.OneLeaf.{one_stop, is_text, base, base_text, base_other, begins, one_other}
+use Rattle.markdown_blocks.proofs.blocks.ParagraphLemmas.{leaves_any}
+use Rattle.markdown_blocks.proofs.blocks.OneLeaf.{one_end, one_stop, is_text, base, base_text, base_other, begins, one_other}
 
 -- what begins as a paragraph does begins as no other
 mixed : (text plain : BlockKind) → is_text text ≡ true → is_text plain ≡ false → base text ≡ base plain → ⊥
@@ -25,9 +26,10 @@ mixed text plain t f bases =
 module _ (outer : List Container) (first : Rest) where
   -- a table is no paragraph, and no setext heading: the line behind its first goes on with a paragraph of that
   head_here : (columns : ℕ) (head : List ℕ) (rows lines rest rest' : List (List ℕ)) → IsHead outer first.text columns head
-      → (head ∷ rows) ++ rest ≡ lines ++ rest' → BeginsNoTable outer first lines → StopsBefore (LeavesParagraph outer) lines rest' → ⊥
+      → (head ∷ rows) ++ rest ≡ lines ++ rest' → BeginsNoTable outer first lines → StopsAt (LeavesBehind outer first.text) lines rest' → ⊥
   head_here columns head rows [] rest rest' is_head same none stops =
-      let here : OnFirst (LeavesParagraph outer) (head ∷ (rows ++ rest)) = subst (OnFirst _) (sym same) stops.stopped in is_head.0 here
+      let here : OnFirst (LeavesBehind outer first.text []) (head ∷ (rows ++ rest)) = subst (OnFirst _) (sym same) stops.stopped in
+      is_head.0 (leaves_any outer first.text [] head here)
   head_here columns head rows (line ∷ lines) rest rest' is_head same none stops =
       let here : head ≡ line = cc in none columns (subst (IsHead outer first.text columns) here is_head)
 
@@ -37,12 +39,12 @@ module _ (outer : List Container) (first : Rest) where
 
   -- a paragraph is no setext heading
   underlined : (level : HeadingLevel) (lines middle rest rest' : List (List ℕ)) (last : List ℕ) → lines ++ rest ≡ middle ++ last ∷ rest'
-      → StopsBefore (LeavesParagraph outer) lines rest → OnFirst (λ l. (n : HeadingLevel) → ¬ In outer (IsUnderline n) l) rest
-      → StopsBefore (LeavesParagraph outer) middle (last ∷ rest') → In outer (IsUnderline level) last → ⊥
+      → StopsAt (LeavesBehind outer first.text) lines rest → OnFirst (λ l. (n : HeadingLevel) → ¬ Underlines outer first.text lines n l) rest
+      → StopsAt (LeavesBehind outer first.text) middle (last ∷ rest') → Underlines outer first.text middle level last → ⊥
   underlined level lines middle rest rest' last same stops plain stops' under =
-      let one = one_stop (LeavesParagraph outer) lines middle rest (last ∷ rest') same stops stops' in
-      let none : OnFirst (λ l. (n : HeadingLevel) → ¬ In outer (IsUnderline n) l) (last ∷ rest') = subst (OnFirst _) one.1 plain in
-      none level under
+      let one = one_end (LeavesBehind outer first.text) lines middle rest (last ∷ rest') same stops stops' in
+      let none : OnFirst (λ l. (n : HeadingLevel) → ¬ Underlines outer first.text lines n l) (last ∷ rest') = subst (OnFirst _) one.1 plain in
+      none level (subst (λ ls. Underlines outer first.text ls level last) (sym one.0) under)
 
   joined : (middle lines rest : List (List ℕ)) (last : List ℕ) → lines ≡ middle ++ last ∷ [] → lines ++ rest ≡ middle ++ last ∷ rest
   joined middle lines rest last is = ap (λ ls. ls ++ rest) is ∙ append_assoc middle (last ∷ []) rest
@@ -63,7 +65,7 @@ module _ (outer : List Container) (first : Rest) where
     one_text kind Indented t t' leaf leaf' = cc
     one_text kind (Fenced n byte) t t' leaf leaf' = cc
     one_text kind (Html html) t t' leaf leaf' = cc
-    one_text Paragraph Paragraph t t' leaf leaf' = (refl, (one_stop _ a b rest rest' same leaf.2 leaf'.2).0)
+    one_text Paragraph Paragraph t t' leaf leaf' = (refl, (one_end _ a b rest rest' same leaf.2 leaf'.2).0)
     one_text Paragraph (Setext level) t t' leaf leaf' =
         absurd (underlined level a leaf'.1 rest rest' leaf'.2 (same ∙ joined leaf'.1 b rest' leaf'.2 leaf'.3) leaf.2 leaf.3 leaf'.5 leaf'.6)
     one_text Paragraph (Table columns) t t' leaf leaf' =
@@ -71,10 +73,10 @@ module _ (outer : List Container) (first : Rest) where
     one_text (Setext level) Paragraph t t' leaf leaf' =
         absurd (underlined level b leaf.1 rest' rest leaf.2 (sym same ∙ joined leaf.1 a rest leaf.2 leaf.3) leaf'.2 leaf'.3 leaf.5 leaf.6)
     one_text (Setext level) (Setext level') t t' leaf leaf' =
-        let one = one_stop (LeavesParagraph outer) leaf.1 leaf'.1 (leaf.2 ∷ rest) (leaf'.2 ∷ rest')
+        let one = one_end (LeavesBehind outer first.text) leaf.1 leaf'.1 (leaf.2 ∷ rest) (leaf'.2 ∷ rest')
         (sym (joined leaf.1 a rest leaf.2 leaf.3) ∙ same ∙ joined leaf'.1 b rest' leaf'.2 leaf'.3) leaf.5 leaf'.5 in
         let last : leaf.2 ≡ leaf'.2 = let rests = one.1 in cc in
-        let level_is : level ≡ level' = same_level level level' leaf'.2 (subst (In outer (IsUnderline level)) last leaf.6) leaf'.6 in
+        let level_is : level ≡ level' = same_level level level' leaf'.2 (subst (In outer (IsUnderline level)) last leaf.6.0) leaf'.6.0 in
         (ap Setext level_is, leaf.3 ∙ ap (λ ls. ls ++ leaf.2 ∷ []) one.0 ∙ ap (λ l. leaf'.1 ++ l ∷ []) last ∙ sym leaf'.3)
     one_text (Setext level) (Table columns) t t' leaf leaf' =
         absurd (head_here columns leaf'.1 leaf'.2 leaf.1 rest' (leaf.2 ∷ rest) leaf'.4

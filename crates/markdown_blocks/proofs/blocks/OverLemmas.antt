@@ -61,7 +61,7 @@ module _ (outer : List Container) (more : List (List ℕ)) where
   leaf-over (Table columns) first later rest some leaf =
       (leaf.0, leaf.1, leaf.2, leaf.3, leaf.4, before-over _ leaf.2 rest some leaf.5)
   leaf-over Paragraph first later rest some leaf =
-      (leaf.0, leaf.1, before-over _ later rest some leaf.2, first-over _ rest some leaf.3)
+      (leaf.0, leaf.1, record { none = leaf.2.none; stopped = first-over _ rest some leaf.2.stopped }, first-over _ rest some leaf.3)
   leaf-over (Setext level) first later rest some leaf =
       (leaf.0, leaf.1, leaf.2, leaf.3, leaf.4, record { none = leaf.5.none; stopped = leaf.5.stopped }, leaf.6)
   leaf-over Break first later rest some leaf = leaf

@@ -2,6 +2,7 @@
 use Rattle.std.specs.Prelude.{IfNone}
 use Rattle.std.proofs.Common.{ℕ, ◌⊎◌, ◌-◌, take, drop, not, is_some, Bool, true, false, List, ◌≡◌, ◌<◌}
 use Rattle.std.proofs.Common.{◌≤◌, length, inl, inr, refl, sym, ap, ◌∙◌, subst, Option, Some, None, IsTrue, arith}
+use Rattle.markdown_values.specs.declared.values.HeadingLevel.{HeadingLevel}
 use Rattle.markdown_scanners_tree.specs.Bytes.{is_blank}
 use Rattle.markdown_scanners_tree.specs.SomeExactly.{SomeExactly}
 use Rattle.markdown_scanners_tree.specs.scanners.Interrupts.{InterruptsParagraph}
@@ -10,8 +11,8 @@ use Rattle.markdown_blocks.specs.containers.Containers.{Rest, rest_at, begun_at,
 use Rattle.markdown_blocks.specs.declared.containers.Container.{Container}
 use Rattle.markdown_blocks.specs.declared.blocks.Ending.{Ending}
 use Rattle.markdown_blocks.specs.declared.blocks.Ending.TheVariants as ending
-use Rattle.markdown_blocks.specs.blocks.Endings.{IsEnd}
-use Rattle.markdown_blocks.specs.blocks.Leaves.{IsBlank, HasIndent, IsLazy, EndsParagraph, LeavesParagraph, In, OutOr}
+use Rattle.markdown_blocks.specs.blocks.Endings.{IsEnd, IsUnderlineIn}
+use Rattle.markdown_blocks.specs.blocks.Leaves.{IsBlank, IsUnderline, HasIndent, IsLazy, EndsParagraph, LeavesParagraph, In, OutOr}
 use Rattle.markdown_blocks.proofs.taken.TakenLemmas.{slice_behind}
 
 abbrev rest_of : ℕ → List ℕ → Rest
@@ -35,6 +36,18 @@ module _ (outer : List Container) (line : List ℕ) (rest : Rest) (is : rest ≡
       → SomeExactly (λ a. In outer (P a) line) found
   some_inside P None none = λ a h. none a (subst (P a) (sym is) h.1)
   some_inside P (Some a) told = (inside, subst (P a) is told)
+
+  -- an underline
+  pub underline_inside : (level : HeadingLevel) (interrupts : Bool) → IsUnderline level rest
+      → (IsTrue interrupts → InterruptsParagraph rest.text) × (InterruptsParagraph rest.text → IsTrue interrupts)
+      → IsUnderlineIn outer (record { level = level; interrupts = interrupts }) line
+  underline_inside level interrupts under tells = record {
+    underlines = (inside, subst (IsUnderline level) is under);
+    interrupts = (
+      λ t. subst (λ (r : Rest). InterruptsParagraph r.text) is (tells.0 t),
+      λ here. tells.1 (subst (λ (r : Rest). InterruptsParagraph r.text) (sym is) here),
+    );
+  }
 
   -- a test of what it has
   pub ends_inside : (P : Rest → Type 0) (Q : Type 0) → (Q → P rest) × (P rest → Q) → (Q → OutOr outer P line) × (OutOr outer P line → Q)

@@ -1,10 +1,12 @@
 -- What a scan for the end of a block looks for in a line.
-use Rattle.std.specs.Prelude.{ℕ, List}
-use Rattle.markdown_blocks.specs.containers.Containers.{Rest}
+use Rattle.std.specs.Prelude.{ℕ, List, IsTrue, ◌↔◌}
+use Rattle.markdown_scanners_tree.specs.scanners.Interrupts.{InterruptsParagraph}
+use Rattle.markdown_blocks.specs.containers.Containers.{Rest, rest_in}
 use Rattle.markdown_blocks.specs.declared.blocks.Ending.{Ending}
 use Rattle.markdown_blocks.specs.declared.blocks.Ending.TheVariants.{Text, Paragraph, Fence, Html}
+use Rattle.markdown_blocks.specs.declared.blocks.Underline.{Underline}
 use Rattle.markdown_blocks.specs.declared.containers.Container.{Container}
-use Rattle.markdown_blocks.specs.blocks.Leaves.{IsBlank, EndsParagraph, ClosesFence, EndsHtml, OutOr, LeavesParagraph}
+use Rattle.markdown_blocks.specs.blocks.Leaves.{IsBlank, EndsParagraph, ClosesFence, EndsHtml, In, OutOr, IsUnderline, LeavesParagraph}
 
 -- what a line has in the open containers where it ends the block
 abbrev pub Ends : Ending → Rest → Type 0
@@ -17,3 +19,8 @@ Ends (Html kind) rest = EndsHtml kind rest
 abbrev pub IsEnd : List Container → Ending → List ℕ → Type 0
 IsEnd outer Paragraph line = LeavesParagraph outer line
 IsEnd outer ending line = OutOr outer (Ends ending) line
+
+-- the line is an underline in the containers, of this level, and interrupts a paragraph where it is said
+pub record IsUnderlineIn (outer : List Container) (underline : Underline) (line : List ℕ) : Type 0 where
+  pub underlines : In outer (IsUnderline underline.level) line
+  pub interrupts : IsTrue underline.interrupts ↔ InterruptsParagraph (rest_in outer line).text

@@ -14,6 +14,8 @@ use Rattle.markdown_blocks.specs.containers.Containers.{Rest, rest_at, begun_at,
 use Rattle.markdown_blocks.specs.declared.blocks.BlockKind.{BlockKind}
 use Rattle.markdown_blocks.specs.declared.blocks.BlockKind.TheVariants.{Blank, Break, Heading, Setext, Indented, Fenced, Html, Table, Paragraph}
 use Rattle.markdown_blocks.specs.declared.containers.Container.{Container}
+use Rattle.markdown_blocks.specs.definitions.Content.{content_of}
+use Rattle.markdown_blocks.specs.definitions.Definitions.{HasText}
 use Rattle.markdown_blocks.specs.blocks.Tables.{cells, IsDelimiter}
 
 -- the rest of a line is blank (4.9)
@@ -54,6 +56,13 @@ abbrev pub EndsParagraph : Rest → Type 0
 EndsParagraph rest =
     IsBlank rest ⊎ (((level : HeadingLevel) × IsUnderline level rest) ⊎ ((¬ HasIndent rest) × InterruptsParagraph rest.text))
 
+-- It goes on with no paragraph that has this content before it: it is blank, an underline behind text, or interrupts it. Behind
+-- definitions alone an underline is text. (4.3, 4.7)
+abbrev pub EndsContent : List ℕ → Rest → Type 0
+EndsContent content rest =
+    IsBlank rest
+    ⊎ ((((level : HeadingLevel) × IsUnderline level rest) × HasText content) ⊎ ((¬ HasIndent rest) × InterruptsParagraph rest.text))
+
 -- it closes fenced code with this fence (4.5)
 abbrev pub ClosesFence : ℕ → ℕ → Rest → Type 0
 ClosesFence count byte rest = (¬ HasIndent rest) × (n : ℕ) × IsClosingCodeFence rest.text byte count n
@@ -76,10 +85,21 @@ In outer P line = IsInside outer line × P (rest_in outer line)
 abbrev pub OutOr : List Container → (Rest → Type 0) → List ℕ → Type 0
 OutOr outer P line = (¬ IsInside outer line) ⊎ In outer P line
 
+-- the line neither stands in them nor is lazy, or what it has behind them has the property
+abbrev pub Leaves : List Container → (Rest → Type 0) → List ℕ → Type 0
+Leaves outer P line = ((¬ IsInside outer line) × (¬ IsLazy (behind outer line).state)) ⊎ In outer P line
+
 -- the line goes on with no paragraph in them
 abbrev pub LeavesParagraph : List Container → List ℕ → Type 0
-LeavesParagraph outer line =
-    ((¬ IsInside outer line) × (¬ IsLazy (behind outer line).state)) ⊎ In outer EndsParagraph line
+LeavesParagraph outer line = Leaves outer EndsParagraph line
+
+-- the line goes on with no paragraph in them whose first line has this text, and which has these later lines before it
+abbrev pub LeavesBehind : List Container → List ℕ → List (List ℕ) → List ℕ → Type 0
+LeavesBehind outer text before line = Leaves outer (EndsContent (content_of outer text before)) line
+
+-- the line makes a heading of this level of that paragraph (4.3)
+abbrev pub Underlines : List Container → List ℕ → List (List ℕ) → HeadingLevel → List ℕ → Type 0
+Underlines outer text before level line = In outer (IsUnderline level) line × HasText (content_of outer text before)
 
 -- In them the line is the delimiter row of a table of so many columns, behind a line with this text: that has as many cells, and
 -- it would go on with a paragraph of that. (GitHub Flavored Markdown 0.29, section 4.10)
@@ -104,6 +124,16 @@ BeginsNoTable outer first = OnFirst (λ line. (columns : ℕ) → ¬ IsHead oute
 pub record StopsBefore (P : List ℕ → Type 0) (lines rest : List (List ℕ)) : Type 0 where
   pub none : AllByRecursion (λ line. ¬ P line) lines
   pub stopped : OnFirst P rest
+
+-- none of the lines has the property behind those before it
+abbrev pub NoneBehind : (List (List ℕ) → List ℕ → Type 0) → List (List ℕ) → List (List ℕ) → Type 0
+NoneBehind P before [] = ⊤
+NoneBehind P before (line ∷ lines) = (¬ P before line) × NoneBehind P (before ++ line ∷ []) lines
+
+-- the lines are all up to the first that has the property behind those before it, or to the last line
+pub record StopsAt (P : List (List ℕ) → List ℕ → Type 0) (lines rest : List (List ℕ)) : Type 0 where
+  pub none : NoneBehind P [] lines
+  pub stopped : OnFirst (P lines) rest
 
 -- the last of the lines is the first that has the property, and stands in the containers; or no such line does
 abbrev pub StopsBehind : List Container → (List ℕ → Type 0) → List (List ℕ) → List (List ℕ) → Type 0
@@ -154,10 +184,10 @@ IsLeaf outer (Table columns) first later rest =
     × (head : List ℕ) × (rows : List (List ℕ)) × (later ≡ head ∷ rows)
     × IsHead outer first.text columns head × StopsBefore (λ line. ¬ IsRow outer line) rows rest
 IsLeaf outer Paragraph first later rest =
-    Begins Paragraph first × BeginsNoTable outer first later × StopsBefore (LeavesParagraph outer) later rest
-    × OnFirst (λ line. (level : HeadingLevel) → ¬ In outer (IsUnderline level) line) rest
+    Begins Paragraph first × BeginsNoTable outer first later × StopsAt (LeavesBehind outer first.text) later rest
+    × OnFirst (λ line. (level : HeadingLevel) → ¬ Underlines outer first.text later level line) rest
 IsLeaf outer (Setext level) first later rest =
     Begins Paragraph first
     × (middle : List (List ℕ)) × (last : List ℕ) × (later ≡ middle ++ last ∷ []) × BeginsNoTable outer first middle
-    × StopsBefore (LeavesParagraph outer) middle (last ∷ rest) × In outer (IsUnderline level) last
+    × StopsAt (LeavesBehind outer first.text) middle (last ∷ rest) × Underlines outer first.text middle level last
 IsLeaf outer kind first later rest = Begins kind first × (later ≡ [])

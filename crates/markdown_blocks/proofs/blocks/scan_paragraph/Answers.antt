@@ -1,3 +1,4 @@
+use Rattle.std.proofs.lemmas.Result.{IfOk-weaker}
 use Rattle.markdown_blocks.proofs.blocks.BlockLemmas.{table_block}
 use Rattle.markdown_blocks.proofs.blocks.scan_paragraph.Goals as goal
 
@@ -8,4 +9,6 @@ returns-in-Some c = λ line indent h begins.
     c.in-Some.columns head.0 c.in-Some.more c.take_rows.result begins head.1 head.2 c.take_rows.ensures
 
 pub returns : goal.returns
-returns c = λ line indent h begins. c.scan_lines.ensures line (record { indent = indent; text = c.args.words.now }) h begins ((rw c.in_default.is at c.in_ok-columns.ensures.none) indent)
+returns c =
+    IfOk-weaker c.scan_lines.result _ _
+    (λ block told line indent h begins. told line indent h begins ((rw c.in_default.is at c.in_ok-columns.ensures.none) indent)) c.scan_lines.ensures

@@ -1,0 +1,119 @@
+//! Link reference definitions in front of a setext heading's underline. (CommonMark 0.31.2, sections 4.3 and 4.7)
+use super::{Blocks, Row, assert_rows};
+use crate::asserts::made;
+use crate::runs::{DONE, assert_run};
+use std::alloc::{AllocError, Global};
+use std::process::Abort;
+
+// An underline behind definitions alone is text, and one behind that makes a heading of it.
+const UNDERLINES: &[Row] = &[
+    (b"[a]: /b\n===\nc\n", "1 3 0 paragraph\n"),
+    (b"[a]: /b\n===\n===\n", "1 3 0 setext 1\n"),
+    (b"[a]: /b\n--\nc\n==\n", "1 4 0 setext 1\n"),
+    (b"[a]: /b\n-\n", "1 2 0 paragraph\n"),
+    (b"[a]: /b\n[c]: /d\n=\ne\n", "1 4 0 paragraph\n"),
+    (b"[a]: /b\nc\n===\n", "1 3 0 setext 1\n"),
+    (b"[a]: /b\r\n===\r\n===\r\n", "1 3 0 setext 1\n"),
+    (b"  [a]: /b\n   [c]:\n      /d\n===\n", "1 4 0 paragraph\n"),
+    (
+        b"[a]: /b\n\n===\n",
+        "1 1 0 paragraph\n2 2 0 blank\n3 3 0 paragraph\n",
+    ),
+];
+
+#[test]
+fn an_underline_needs_text_before_it(rt: HostRuntime) {
+    assert_rows(&rt, rt.alloc(), UNDERLINES);
+}
+
+// Three hyphens are a thematic break too, which interrupts a paragraph.
+const BREAKS: &[Row] = &[
+    (
+        b"[a]: /b\n---\nc\n",
+        "1 1 0 paragraph\n2 2 0 break\n3 3 0 paragraph\n",
+    ),
+    (b"[a]: /b\nc\n---\n", "1 3 0 setext 2\n"),
+];
+
+#[test]
+fn hyphens_behind_definitions_are_a_break(rt: HostRuntime) {
+    assert_rows(&rt, rt.alloc(), BREAKS);
+}
+
+// A title over lines, and what is none: the definition ends a line earlier, or there is none.
+const TITLES: &[Row] = &[
+    (b"[a]: /b\n\"c\nd\"\n===\n", "1 4 0 paragraph\n"),
+    (b"[a]: /b 'c\nd'\n===\n", "1 3 0 paragraph\n"),
+    (b"[a]: /b\n\"c\" d\n===\n", "1 3 0 setext 1\n"),
+    (b"[a]: /b \"c\" d\n===\n", "1 2 0 setext 1\n"),
+    (b"[a]:\n/b\n'c'\n===\nd\n===\n", "1 6 0 setext 1\n"),
+    (b"[a]:\n===\n", "1 2 0 setext 1\n"),
+    (b"[a]: <>\n===\n", "1 2 0 paragraph\n"),
+    (b"[ ]: /b\n===\n", "1 2 0 setext 1\n"),
+    (b"[a] : /b\n===\n", "1 2 0 setext 1\n"),
+];
+
+#[test]
+fn a_title_may_fail(rt: HostRuntime) {
+    assert_rows(&rt, rt.alloc(), TITLES);
+}
+
+// In containers, where the markers are no part of a definition, and with lazy lines.
+const CONTAINERS: &[Row] = &[
+    (
+        b"> [a]: /b\n> ===\n> ===\n",
+        "1 1 0 quote\n1 3 1 setext 1\n",
+    ),
+    (b"> [a]:\n> /b\n> ===\n", "1 1 0 quote\n1 3 1 paragraph\n"),
+    (
+        b"> [a]:\n/b\n> ===\n> ===\n",
+        "1 1 0 quote\n1 4 1 setext 1\n",
+    ),
+    (b"> [a]: /b\nc\n===\n", "1 1 0 quote\n1 3 1 paragraph\n"),
+    (
+        b"- [a]: /b\n  ===\n  ===\n",
+        "1 1 0 item - 0\n1 3 1 setext 1\n",
+    ),
+    (b"- [a]: /b\n===\n", "1 1 0 item - 0\n1 2 1 paragraph\n"),
+];
+
+#[test]
+fn definitions_stand_in_containers(rt: HostRuntime) {
+    assert_rows(&rt, rt.alloc(), CONTAINERS);
+}
+
+// A page of a label of so many letters, a destination of so many pairs of parentheses, and an underline.
+fn with_definition(alloc: Global, letters: usize, pairs: usize) -> Result<Vec<u8>, AllocError> {
+    let mut page = Vec::new(alloc);
+    page.extend_from_slice(b"[")?;
+    for _ in 0..letters {
+        page.extend_from_slice(b"a")?;
+    }
+    page.extend_from_slice(b"]: ")?;
+    for _ in 0..pairs {
+        page.extend_from_slice(b"(")?;
+    }
+    for _ in 0..pairs {
+        page.extend_from_slice(b")")?;
+    }
+    page.extend_from_slice(b"b\n===\n")?;
+    Ok(page)
+}
+
+fn assert_length(rt: &impl Abort, alloc: Global, letters: usize, pairs: usize, told: &str) {
+    let page = made(rt, with_definition(alloc, letters, pairs));
+    assert_run::<Blocks, _>(rt, alloc, &[], &mut page.as_slice(), told, DONE);
+}
+
+#[test]
+fn labels_have_999_characters_at_most(rt: HostRuntime) {
+    assert_length(&rt, rt.alloc(), 999, 1, "1 2 0 paragraph\n");
+    assert_length(&rt, rt.alloc(), 1000, 1, "1 2 0 setext 1\n");
+}
+
+// As cmark 0.30.2 has it.
+#[test]
+fn parentheses_nest_32_deep_at_most(rt: HostRuntime) {
+    assert_length(&rt, rt.alloc(), 1, 32, "1 2 0 paragraph\n");
+    assert_length(&rt, rt.alloc(), 1, 33, "1 2 0 setext 1\n");
+}

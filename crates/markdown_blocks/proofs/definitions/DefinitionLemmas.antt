@@ -1,0 +1,147 @@
+-- The definitions at the front of a text, one behind another.
+use Rattle.std.proofs.Common.{ℕ, List, [], ◌∷◌, ◌++◌, ◌≡◌, ◌<◌, ◌≤◌, ◌-◌, length, drop, refl, sym, ap, ◌∙◌, subst, arith, append-nil, append_assoc, length-append}
+use Rattle.std.proofs.lemmas.List.{append_cancel_left, length-drop}
+use Rattle.std.specs.List.{flat_map}
+use Rattle.std.specs.Prelude.{IsTrue, nat_lt}
+use Rattle.std.proofs.lemmas.Bool.{lt-ltb, ltb-true}
+use Rattle.markdown_scanners_tree.specs.Ascii.{left_bracket}
+use Rattle.markdown_scanners_tree.specs.declared.scanners.reference_definitions.ReferenceDefinition.{ReferenceDefinition}
+use Rattle.markdown_scanners_tree.specs.scanners.TextLines.{lines_of}
+use Rattle.markdown_scanners_tree.proofs.ForCallers.{one_reference_definition}
+use Rattle.markdown_blocks.specs.declared.containers.Container.{Container}
+use Rattle.markdown_blocks.specs.declared.taken.Taken.{Taken}
+use Rattle.markdown_blocks.specs.definitions.Content.{content_of, words_in}
+use Rattle.markdown_blocks.specs.definitions.Definitions.{AreDefinitions, HasText, most_nested}
+use Rattle.markdown_blocks.specs.info.Info.{without_front}
+use Rattle.markdown_blocks.specs.taken.Lines.{IsTaken, IsNext}
+use Rattle.markdown_blocks.proofs.taken.TakenLemmas.{taken-next}
+
+-- a text has one list of definitions at its front
+pub one_list_of_definitions : (text : List ℕ) (definitions others : List ReferenceDefinition) (rest rest' : List ℕ) → AreDefinitions text definitions rest
+    → AreDefinitions text others rest' → (definitions ≡ others) × (rest ≡ rest')
+one_list_of_definitions text [] [] rest rest' is is' = (refl, is.0 ∙ sym is'.0)
+one_list_of_definitions text [] (d ∷ others) rest rest' is is' = absurd (is.1 d is'.0)
+one_list_of_definitions text (d ∷ definitions) [] rest rest' is is' = absurd (is'.1 d is.0)
+one_list_of_definitions text (d ∷ definitions) (d' ∷ others) rest rest' is is' =
+    let first : d ≡ d' = one_reference_definition most_nested text d d' is.0 is'.0 in
+    let more = one_list_of_definitions (drop d'.len text) definitions others rest rest'
+    (subst (λ (e : ReferenceDefinition). AreDefinitions (drop e.len text) definitions rest) first is.1) is'.1 in
+    (ap (λ e. e ∷ definitions) first ∙ ap (λ ds. d' ∷ ds) more.0, more.1)
+
+-- a text that begins with another byte begins with none
+pub plain_text : (b : ℕ) (bytes : List ℕ) → ¬ (b ≡ left_bracket) → HasText (b ∷ bytes)
+plain_text b bytes other = record {
+  definitions = [];
+  rest = b ∷ bytes;
+  behind = (refl, λ d is. other (let opens : b ∷ bytes ≡ left_bracket ∷ is.target.is_named.inside = is.target.is_named.opens in cc));
+  some = λ none. cc;
+}
+
+-- whether they are the whole text
+module _ (content : List ℕ) (taken : ℕ) (definitions : List ReferenceDefinition) (is : AreDefinitions content definitions (drop taken content))
+    (within : taken ≤ length content) where
+  pub more_told : taken < length content → HasText content
+  more_told fewer = record {
+    definitions = definitions;
+    rest = drop taken content;
+    behind = is;
+    some = λ none. let size : length (drop taken content) ≡ 0 = ap length none in omega (arith, size, length-drop taken content, fewer);
+  }
+
+  pub more_tells : HasText content → taken < length content
+  more_tells has =
+      let one = one_list_of_definitions content has.definitions definitions has.rest (drop taken content) has.behind is in
+      by (drop taken content) one.1 (length-drop taken content)
+    where
+      by : (left : List ℕ) → has.rest ≡ left → length left ≡ length content - taken → taken < length content
+      by [] same size = absurd (has.some same)
+      by (b ∷ bs) same size = omega (arith, size)
+
+-- the content of a line more
+pub content-more : (outer : List Container) (words : List ℕ) (before : List (List ℕ)) (line : List ℕ)
+    → content_of outer words before ++ words_in outer line ≡ content_of outer words (before ++ line ∷ [])
+content-more outer words before line =
+    append_assoc (without_front words) (flat_map (words_in outer) before) (words_in outer line)
+    ∙ ap (λ c. without_front words ++ c) (push before)
+  where
+    push : (ls : List (List ℕ)) → flat_map (words_in outer) ls ++ words_in outer line ≡ flat_map (words_in outer) (ls ++ line ∷ [])
+    push [] = sym (append-nil (words_in outer line))
+    push (l ∷ ls) = append_assoc (words_in outer l) (flat_map (words_in outer) ls) (words_in outer line)
+        ∙ ap (λ c. words_in outer l ++ c) (push ls)
+
+-- the content of the lines that are read, behind what stood before it
+pub record Read (outer : List Container) (words text line : List ℕ) (later : List (List ℕ)) (read taken : Taken) (old content : List ℕ) : Type 0 where
+  pub before : List (List ℕ)
+  pub after : List (List ℕ)
+  pub all : later ≡ before ++ after
+  pub is_read : IsTaken text read (line ∷ before)
+  pub left : lines_of (drop read.bytes text) ≡ after ++ lines_of (drop taken.bytes text)
+  pub gathered : content ≡ old ++ content_of outer words before
+
+module _ (outer : List Container) (words text line : List ℕ) (later : List (List ℕ)) (taken : Taken) (old : List ℕ) where
+  pub read-first : (first : Taken) (content : List ℕ) → IsTaken text first (line ∷ []) → IsTaken text taken (line ∷ later)
+      → content ≡ old ++ without_front words → Read outer words text line later first taken old content
+  read-first first content h all gathered = record {
+    before = [];
+    after = later;
+    all = refl;
+    is_read = h;
+    left = append_cancel_left (line ∷ []) (lines_of (drop first.bytes text)) (later ++ lines_of (drop taken.bytes text)) (sym h.parts ∙ all.parts);
+    gathered = gathered ∙ ap (λ c. old ++ c) (sym (append-nil (without_front words)));
+  }
+
+  -- a line more
+  pub read-more : (read more : Taken) (l content now : List ℕ) → Read outer words text line later read taken old content → read.lines < taken.lines
+      → IsTaken text taken (line ∷ later) → IsNext text read l more → now ≡ content ++ words_in outer l
+      → Read outer words text line later more taken old now
+  read-more read more l content now r fewer all n grown = by r.after refl
+    where
+      by : (after : List (List ℕ)) → r.after ≡ after → Read outer words text line later more taken old now
+      by [] none =
+          let same : later ≡ r.before = r.all ∙ ap (λ ls. r.before ++ ls) none ∙ append-nil r.before in
+          let size = ap length same in absurd (omega (arith, fewer, all.counted, r.is_read.counted, size))
+      by (next ∷ after) some =
+          let lists : l ∷ lines_of (drop more.bytes text) ≡ next ∷ (after ++ lines_of (drop taken.bytes text)) =
+          sym n.parts ∙ r.left ∙ ap (λ ls. ls ++ lines_of (drop taken.bytes text)) some in
+          let here : next ≡ l = cc in
+          record {
+            before = r.before ++ l ∷ [];
+            after = after;
+            all = r.all ∙ ap (λ ls. r.before ++ ls) (some ∙ ap (λ x. x ∷ after) here) ∙ sym (append_assoc r.before (l ∷ []) after);
+            is_read = taken-next text read more (line ∷ r.before) l r.is_read n;
+            left = cc;
+            gathered = grown ∙ ap (λ c. c ++ words_in outer l) r.gathered
+                ∙ append_assoc old (content_of outer words r.before) (words_in outer l)
+                ∙ ap (λ c. old ++ c) (content-more outer words r.before l);
+          }
+
+  -- all lines
+  pub read-all : (read : Taken) (content : List ℕ) → Read outer words text line later read taken old content → IsTaken text taken (line ∷ later)
+      → ¬ (read.lines < taken.lines) → content ≡ old ++ content_of outer words later
+  read-all read content r all done = r.gathered ∙ ap (λ ls. old ++ content_of outer words ls) (by r.after refl)
+    where
+      by : (after : List (List ℕ)) → r.after ≡ after → r.before ≡ later
+      by [] none = sym (r.all ∙ ap (λ ls. r.before ++ ls) none ∙ append-nil r.before)
+      by (next ∷ after) some =
+          let size = ap length (r.all ∙ ap (λ ls. r.before ++ ls) some) ∙ length-append r.before (next ∷ after) in
+          absurd (omega (arith, done, all.counted, r.is_read.counted, size))
+
+  -- no line is left
+  pub read-end : (read : Taken) (content : List ℕ) → Read outer words text line later read taken old content → lines_of (drop read.bytes text) ≡ []
+      → content ≡ old ++ content_of outer words later
+  read-end read content r none = r.gathered ∙ ap (λ ls. old ++ content_of outer words ls) (by r.after refl)
+    where
+      by : (after : List (List ℕ)) → r.after ≡ after → r.before ≡ later
+      by [] empty = sym (r.all ∙ ap (λ ls. r.before ++ ls) empty ∙ append-nil r.before)
+      by (next ∷ after) some =
+          let lists : next ∷ (after ++ lines_of (drop taken.bytes text)) ≡ [] =
+          sym (r.left ∙ ap (λ ls. ls ++ lines_of (drop taken.bytes text)) some) ∙ none in cc
+
+-- whether a content is more than its definitions, by their length and its own
+pub all_told : (items content : List ℕ) (taken size : ℕ) → items ≡ content
+    → (definitions : List ReferenceDefinition) × AreDefinitions items definitions (drop taken items) → taken ≤ length items → size ≡ length items
+    → (IsTrue (nat_lt taken size) → HasText content) × (HasText content → IsTrue (nat_lt taken size))
+all_told items content taken size is found within counted = (
+  λ t. subst HasText is (more_told items taken found.0 found.1 within (omega (arith, ltb-true taken size t, counted))),
+  λ has. lt-ltb taken size (omega (arith, more_tells items taken found.0 found.1 within (subst HasText (sym is) has), counted)),
+)

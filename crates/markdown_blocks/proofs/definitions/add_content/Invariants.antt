@@ -1,0 +1,12 @@
+use Rattle.std.proofs.Common.{ℕ, List, [], ◌∷◌, ◌-◌}
+use Rattle.markdown_blocks.specs.taken.Lines.{IsTaken}
+use Rattle.markdown_blocks.proofs.definitions.DefinitionLemmas.{Read}
+use Rattle.markdown_blocks.proofs.definitions.add_content.Given as goal
+
+abbrev pub invariant-loop-read : goal.invariant-loop-read
+invariant-loop-read l =
+    (line : List ℕ) (later : List (List ℕ)) → IsTaken l.text l.fn.first (line ∷ []) → IsTaken l.text l.taken (line ∷ later)
+    → Read l.outer.containers.now l.words l.text line later l.read l.taken l.fn.content.items l.content.items
+
+abbrev pub decreases-loop-read : goal.decreases-loop-read
+decreases-loop-read l = l.taken.lines - l.read.lines

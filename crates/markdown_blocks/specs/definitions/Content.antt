@@ -1,0 +1,15 @@
+-- The content of a paragraph. (CommonMark 0.31.2, section 4.8, paragraphs)
+use Rattle.std.specs.Prelude.{ℕ, List, ◌++◌}
+use Rattle.std.specs.List.{flat_map}
+use Rattle.markdown_blocks.specs.containers.Containers.{rest_in}
+use Rattle.markdown_blocks.specs.declared.containers.Container.{Container}
+use Rattle.markdown_blocks.specs.info.Info.{without_front}
+
+-- what a line has behind the containers that it goes on with, without the spaces and tabs at its front
+abbrev pub words_in : List Container → List ℕ → List ℕ
+words_in outer line = without_front (rest_in outer line).text
+
+-- The content of a paragraph in these containers, whose first line has this text: that, and what its later lines have, joined,
+-- each with its line ending.
+abbrev pub content_of : List Container → List ℕ → List (List ℕ) → List ℕ
+content_of outer text later = without_front text ++ flat_map (words_in outer) later
