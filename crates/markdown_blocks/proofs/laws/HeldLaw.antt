@@ -9,6 +9,7 @@ use Rattle.markdown_blocks.specs.declared.blocks.BlockKind.TheVariants.{Paragrap
 use Rattle.markdown_blocks.specs.declared.containers.Container.{Container}
 use Rattle.markdown_blocks.specs.blocks.Leaves.{IsLazy, IsLeaf}
 use Rattle.markdown_blocks.specs.blocks.Pages.{Piece, lines_in, AreOpened, IsPiece, AreBlocks}
+use Rattle.markdown_blocks.specs.definitions.Content.{words_in}
 use Rattle.markdown_blocks.specs.laws.Held.{Change, IsHeldIn, AreIn}
 use Rattle.markdown_blocks.proofs.laws.AlikeLemmas.{Alike, alike_back, same_rest}
 use Rattle.markdown_blocks.proofs.laws.SameContainers.{alike_none, same_begun, same_opens}
@@ -73,20 +74,28 @@ module _ (c : Container) (First Later Lazy : Change) (steady : settled c ≡ c) 
   abbrev IsNext : Piece → Piece → Type 0
   IsNext p q = IsHeldIn Later Later Lazy (c ∷ p.kept) p.begun p q
 
-  abbrev IsLater : BlockKind → Change
-  IsLater kind line changed = Later line changed ⊎ ((kind ≡ Paragraph) × Lazy line changed)
+  abbrev IsLater : Piece → Piece → Change
+  IsLater p q line changed =
+      Later line changed
+      ⊎ ((p.kind ≡ Paragraph) × Lazy line changed × (words_in (p.kept ++ p.begun) line ≡ words_in (q.kept ++ q.begun) changed))
 
   module _ (outer : List Container) where
-    later_moves : (kind : BlockKind) (line moved : List ℕ) → IsLater kind line moved → LaterMoves outer (c ∷ outer) kind line moved
-    later_moves kind line moved (inl h) = inl (moves c line moved (on line moved h) outer)
-    later_moves kind line moved (inr h) = inr (h.0, (out line moved h.1 outer).0, (out line moved h.1 outer).1)
+    later_moves : (p q : Piece) → outer ≡ p.kept ++ p.begun → c ∷ outer ≡ q.kept ++ q.begun → (line moved : List ℕ) → IsLater p q line moved
+        → LaterMoves outer (c ∷ outer) p.kind line moved
+    later_moves p q here there line moved (inl h) = inl (moves c line moved (on line moved h) outer)
+    later_moves p q here there line moved (inr h) = inr (
+      h.0,
+      (out line moved h.1 outer).0,
+      (out line moved h.1 outer).1,
+      ap (λ cs. words_in cs line) here ∙ h.2 ∙ ap (λ cs. words_in cs moved) (sym there),
+    )
 
     abbrev MovesOrOut : Change
     MovesOrOut line moved = Moves outer (c ∷ outer) line moved ⊎ (¬ IsInside (c ∷ outer) moved)
 
-    each_moves : (kind : BlockKind) (line moved : List ℕ) → IsLater kind line moved → MovesOrOut line moved
-    each_moves kind line moved (inl h) = inl (moves c line moved (on line moved h) outer)
-    each_moves kind line moved (inr h) = inr (out line moved h.1 outer).0
+    each_moves : (p q : Piece) (line moved : List ℕ) → IsLater p q line moved → MovesOrOut line moved
+    each_moves p q line moved (inl h) = inl (moves c line moved (on line moved h) outer)
+    each_moves p q line moved (inr h) = inr (out line moved h.1 outer).0
 
     follow_each : (pieces others : List Piece) → AllZip IsNext pieces others → AllZip MovesOrOut (lines_in pieces ++ []) (lines_in others ++ [])
     follow_each [] [] z = tt
@@ -95,7 +104,7 @@ module _ (c : Container) (First Later Lazy : Change) (steady : settled c ≡ c) 
     follow_each (p ∷ pieces) (q ∷ others) z =
         let lines : AllZip MovesOrOut (p.first ∷ p.later) (q.first ∷ q.later) = (
           inl (moves c p.first q.first (on p.first q.first z.0.first) outer),
-          zip_map (IsLater p.kind) MovesOrOut (each_moves p.kind) p.later q.later z.0.later,
+          zip_map (IsLater p q) MovesOrOut (each_moves p q) p.later q.later z.0.later,
         ) in
         let more = follow_each pieces others z.1 in
         subst (λ ls. AllZip MovesOrOut (lines_in (p ∷ pieces) ++ []) ls) (sym (joined q others))
@@ -123,11 +132,11 @@ module _ (c : Container) (First Later Lazy : Change) (steady : settled c ≡ c) 
         → IsLeaf (q.kept ++ q.begun) q.kind q.words q.later (lines_in others ++ [])
     leaf_in Start kept begun i open_now leaf =
         let outer = p.kept ++ p.begun in
-        let moved : IsLeaf (c ∷ outer) p.kind p.words q.later (lines_in others ++ []) =
-        leaf_moves outer (c ∷ outer) p.words p.later q.later (lines_in pieces ++ []) (lines_in others ++ []) (follow outer pieces others z) p.kind
-        (zip_map (IsLater p.kind) (LaterMoves outer (c ∷ outer) p.kind) (later_moves outer p.kind) p.later q.later i.later) leaf in
         let there : c ∷ outer ≡ q.kept ++ q.begun =
         sym open_now ∙ ap (λ cs. cs ++ begun) (sym i.kept_are) ∙ ap (λ cs. q.kept ++ cs) (sym i.begun_are) in
+        let moved : IsLeaf (c ∷ outer) p.kind p.words q.later (lines_in others ++ []) =
+        leaf_moves outer (c ∷ outer) p.words p.later q.later (lines_in pieces ++ []) (lines_in others ++ []) (follow outer pieces others z) p.kind
+        (zip_map (IsLater p q) (LaterMoves outer (c ∷ outer) p.kind) (later_moves outer p q refl there) p.later q.later i.later) leaf in
         subst (λ cs. IsLeaf cs q.kind q.words q.later (lines_in others ++ [])) there
         (subst (λ w. IsLeaf (c ∷ outer) q.kind w q.later (lines_in others ++ [])) (sym i.words)
         (subst (λ k. IsLeaf (c ∷ outer) k p.words q.later (lines_in others ++ [])) (sym i.kind) moved))

@@ -1,7 +1,8 @@
 -- Where lines have behind their containers what other lines have behind others, they are the same block.
-use Rattle.std.proofs.Common.{ℕ, Bool, true, false, ◌≡◌, ◌⊎◌, ◌↔◌, List, [], ◌∷◌, ◌++◌, None, refl, sym, ap, subst, inl, inr}
+use Rattle.std.proofs.Common.{ℕ, Bool, true, false, ◌≡◌, ◌⊎◌, ◌↔◌, List, [], ◌∷◌, ◌++◌, None, refl, sym, ap, ◌∙◌, subst, inl, inr, append_assoc, append-nil}
 use Rattle.std.specs.Prelude.{⊤, MatchBool}
-use Rattle.std.specs.List.{AllByRecursion, AllZip}
+use Rattle.std.specs.List.{AllByRecursion, AllZip, flat_map}
+use Rattle.std.proofs.lemmas.List.Concat.{flat_map-append}
 use Rattle.markdown_values.specs.declared.values.HeadingLevel.{HeadingLevel}
 use Rattle.markdown_scanners_tree.specs.declared.scanners.html_kinds.HtmlBlockKind.{HtmlBlockKind}
 use Rattle.markdown_scanners_tree.specs.scanners.Interrupts.{InterruptsParagraph}
@@ -12,8 +13,11 @@ use Rattle.markdown_blocks.specs.declared.blocks.BlockKind.TheVariants.{Blank, B
 use Rattle.markdown_blocks.specs.declared.containers.Container.{Container}
 use Rattle.markdown_blocks.specs.blocks.Tables.{IsDelimiter}
 use Rattle.markdown_blocks.specs.blocks.Leaves.{IsBlank, HasIndent, Begins, EndsParagraph, ClosesFence, EndsHtml}
-use Rattle.markdown_blocks.specs.blocks.Leaves.{IsUnderline, IsLazy, In, OutOr, LeavesParagraph, IsHead, IsRow}
-use Rattle.markdown_blocks.specs.blocks.Leaves.{OnFirst, BeginsNoTable, StopsBefore, StopsBehind, EndsIndented, NoMoreIndented, LastHasText, EndsAsHtml, IsLeaf}
+use Rattle.markdown_blocks.specs.blocks.Leaves.{IsUnderline, IsLazy, In, OutOr, Leaves, EndsContent, LeavesParagraph, LeavesBehind, Underlines, IsHead, IsRow}
+use Rattle.markdown_blocks.specs.info.Info.{without_front}
+use Rattle.markdown_blocks.specs.definitions.Content.{content_of, words_in}
+use Rattle.markdown_blocks.specs.definitions.Definitions.{HasText}
+use Rattle.markdown_blocks.specs.blocks.Leaves.{OnFirst, BeginsNoTable, NoneBehind, StopsAt, StopsBefore, StopsBehind, EndsIndented, NoMoreIndented, LastHasText, EndsAsHtml, IsLeaf}
 
 -- what is read of the second line behind the other containers is what is read of the first behind these
 pub record Moves (outer other : List Container) (line moved : List ℕ) : Type 0 where
@@ -44,10 +48,14 @@ module _ (outer other : List Container) (line moved : List ℕ) (m : Moves outer
   row_moves : IsRow outer line → IsRow other moved
   row_moves h = (m.begins.0 h.0, in_moves (Begins Paragraph) h.1)
 
-leaves_moves : (outer other : List Container) (line moved : List ℕ) → Moves outer other line moved → LeavesParagraph outer line → LeavesParagraph other moved
-leaves_moves outer other line moved m (inl h) =
+leaves_by : (outer other : List Container) (line moved : List ℕ) → Moves outer other line moved → (P : Rest → Type 0)
+    → Leaves outer P line → Leaves other P moved
+leaves_by outer other line moved m P (inl h) =
     inl (λ i. h.0 (m.inside.1 i), λ lazy. h.1 (lazy_moves other outer moved line (moves_back outer other line moved m) lazy))
-leaves_moves outer other line moved m (inr h) = inr (in_moves outer other line moved m EndsParagraph h)
+leaves_by outer other line moved m P (inr h) = inr (in_moves outer other line moved m P h)
+
+leaves_moves : (outer other : List Container) (line moved : List ℕ) → Moves outer other line moved → LeavesParagraph outer line → LeavesParagraph other moved
+leaves_moves outer other line moved m = leaves_by outer other line moved m EndsParagraph
 
 head_moves : (outer other : List Container) (line moved : List ℕ) → Moves outer other line moved → (text : List ℕ) (columns : ℕ)
     → IsHead outer text columns line → IsHead other text columns moved
@@ -118,7 +126,8 @@ module _ (outer other : List Container) where
   -- a line behind the first of a block of this kind, which may be a lazy one in a paragraph
   abbrev pub LaterMoves : BlockKind → List ℕ → List ℕ → Type 0
   LaterMoves kind line moved =
-      Moves outer other line moved ⊎ ((kind ≡ Paragraph) × (¬ IsInside other moved) × IsLazy (behind other moved).state)
+      Moves outer other line moved
+      ⊎ ((kind ≡ Paragraph) × (¬ IsInside other moved) × IsLazy (behind other moved).state × (words_in outer line ≡ words_in other moved))
 
   all_move : (kind : BlockKind) → ¬ (kind ≡ Paragraph) → (lines others : List (List ℕ)) → AllZip (LaterMoves kind) lines others
       → AllZip (Moves outer other) lines others
@@ -217,19 +226,70 @@ module _ (outer other : List Container) where
   no_table first kind = first_moves (LaterMoves kind) (λ l. (columns : ℕ) → ¬ IsHead outer first.text columns l)
       (λ l. (columns : ℕ) → ¬ IsHead other first.text columns l) (no_head first kind)
 
-  later_leaves : (kind : BlockKind) (line moved : List ℕ) → LaterMoves kind line moved → LeavesParagraph other moved → LeavesParagraph outer line
-  later_leaves kind line moved (inl m) h = leaves_back line moved m h
-  later_leaves kind line moved (inr lazy) (inl h) = absurd (h.1 lazy.2)
-  later_leaves kind line moved (inr lazy) (inr h) = absurd (lazy.1 h.0)
+  -- the content of a paragraph
+  words_move : (kind : BlockKind) (line moved : List ℕ) → LaterMoves kind line moved → words_in outer line ≡ words_in other moved
+  words_move kind line moved (inl m) = ap (λ (r : Rest). without_front r.text) m.rest
+  words_move kind line moved (inr lazy) = lazy.3
 
-  stops_paragraph : (kind : BlockKind) (lines others rest after : List (List ℕ)) → AllZip (LaterMoves kind) lines others
-      → FirstTwo (Moves outer other) rest after → StopsBefore (LeavesParagraph outer) lines rest → StopsBefore (LeavesParagraph other) others after
-  stops_paragraph kind = stops_moves (LaterMoves kind) (Moves outer other) (LeavesParagraph outer) (LeavesParagraph other) (later_leaves kind)
-      (leaves_moves outer other)
+  content_moves : (kind : BlockKind) (text : List ℕ) (lines others : List (List ℕ)) → AllZip (LaterMoves kind) lines others
+      → content_of outer text lines ≡ content_of other text others
+  content_moves kind text lines others z = ap (λ t. without_front text ++ t) (joined lines others z)
+    where
+      joined : (lines others : List (List ℕ)) → AllZip (LaterMoves kind) lines others → flat_map (words_in outer) lines ≡ flat_map (words_in other) others
+      joined [] [] z = refl
+      joined [] (moved ∷ others) z = absurd z
+      joined (line ∷ lines) [] z = absurd z
+      joined (line ∷ lines) (moved ∷ others) z =
+          ap (λ t. t ++ flat_map (words_in outer) lines) (words_move kind line moved z.0)
+          ∙ ap (λ t. words_in other moved ++ t) (joined lines others z.1)
 
-  none_under : (line moved : List ℕ) → Moves outer other line moved → ((level : HeadingLevel) → ¬ In outer (IsUnderline level) line)
-      → (level : HeadingLevel) → ¬ In other (IsUnderline level) moved
-  none_under line moved m none level h = none level (in_back line moved m (IsUnderline level) h)
+  content_step : (containers : List Container) (text : List ℕ) (before : List (List ℕ)) (line : List ℕ)
+      → content_of containers text (before ++ line ∷ []) ≡ content_of containers text before ++ words_in containers line
+  content_step containers text before line =
+      ap (λ t. without_front text ++ t) (flat_map-append (words_in containers) before (line ∷ []) ∙ ap (λ t. flat_map (words_in containers) before ++ t) (append-nil (words_in containers line)))
+      ∙ sym (append_assoc (without_front text) (flat_map (words_in containers) before) (words_in containers line))
+
+  -- a line behind this content
+  behind_back : (kind : BlockKind) (line moved content : List ℕ) → LaterMoves kind line moved → Leaves other (EndsContent content) moved
+      → Leaves outer (EndsContent content) line
+  behind_back kind line moved content (inl m) h = leaves_by other outer moved line (moves_back outer other line moved m) (EndsContent content) h
+  behind_back kind line moved content (inr lazy) (inl h) = absurd (h.1 lazy.2)
+  behind_back kind line moved content (inr lazy) (inr h) = absurd (lazy.1 h.0)
+
+  none_behind : (kind : BlockKind) (text : List ℕ) (before before' lines others : List (List ℕ))
+      → content_of outer text before ≡ content_of other text before' → AllZip (LaterMoves kind) lines others
+      → NoneBehind (LeavesBehind outer text) before lines → NoneBehind (LeavesBehind other text) before' others
+  none_behind kind text before before' [] [] same z h = tt
+  none_behind kind text before before' [] (moved ∷ others) same z h = absurd z
+  none_behind kind text before before' (line ∷ lines) [] same z h = absurd z
+  none_behind kind text before before' (line ∷ lines) (moved ∷ others) same z h = (
+    λ leaves. h.0 (subst (λ content. Leaves outer (EndsContent content) line) (sym same)
+        (behind_back kind line moved (content_of other text before') z.0 leaves)),
+    none_behind kind text (before ++ line ∷ []) (before' ++ moved ∷ []) lines others
+        (content_step outer text before line ∙ ap (λ t. t ++ words_in outer line) same
+        ∙ ap (λ t. content_of other text before' ++ t) (words_move kind line moved z.0) ∙ sym (content_step other text before' moved)) z.1 h.1,
+  )
+
+  stops_at : (kind : BlockKind) (text : List ℕ) (lines others rest after : List (List ℕ)) → AllZip (LaterMoves kind) lines others
+      → FirstTwo (Moves outer other) rest after → StopsAt (LeavesBehind outer text) lines rest → StopsAt (LeavesBehind other text) others after
+  stops_at kind text lines others rest after z two h = record {
+    none = none_behind kind text [] [] lines others refl z h.none;
+    stopped = first_moves (Moves outer other) (LeavesBehind outer text lines) (LeavesBehind other text others)
+        (λ l k m leaves. subst (λ content. Leaves other (EndsContent content) k) (content_moves kind text lines others z)
+        (leaves_by outer other l k m (EndsContent (content_of outer text lines)) leaves)) rest after two h.stopped;
+  }
+
+  none_under : (kind : BlockKind) (text : List ℕ) (lines others : List (List ℕ)) → AllZip (LaterMoves kind) lines others
+      → (line moved : List ℕ) → Moves outer other line moved → ((level : HeadingLevel) → ¬ Underlines outer text lines level line)
+      → (level : HeadingLevel) → ¬ Underlines other text others level moved
+  none_under kind text lines others z line moved m none level h =
+      none level (in_back line moved m (IsUnderline level) h.0, subst HasText (sym (content_moves kind text lines others z)) h.1)
+
+  as_later : (kind : BlockKind) (lines others : List (List ℕ)) → AllZip (Moves outer other) lines others → AllZip (LaterMoves kind) lines others
+  as_later kind [] [] z = tt
+  as_later kind [] (moved ∷ others) z = absurd z
+  as_later kind (line ∷ lines) [] z = absurd z
+  as_later kind (line ∷ lines) (moved ∷ others) z = (inl z.0, as_later kind lines others z.1)
 
   -- a setext heading: the lines before its underline, and that
   setext_moves : (level : HeadingLevel) (first : Rest) (lines others rest after : List (List ℕ)) → AllZip (Moves outer other) lines others
@@ -245,9 +305,9 @@ module _ (outer other : List Container) where
         cut.2,
         first_moves (Moves outer other) (λ l. (columns : ℕ) → ¬ IsHead outer first.text columns l) (λ l. (columns : ℕ) → ¬ IsHead other first.text columns l)
             (λ l k m. no_head first (Setext level) l k (inl m)) middle cut.0 (first_two (Moves outer other) middle cut.0 cut.3) leaf.4,
-        stops_moves (Moves outer other) (Moves outer other) (LeavesParagraph outer) (LeavesParagraph other) (λ l k m h. leaves_back l k m h)
-            (leaves_moves outer other) middle cut.0 (last ∷ rest) (cut.1 ∷ after) cut.3 cut.4 leaf.5,
-        in_moves outer other last cut.1 cut.4 (IsUnderline level) leaf.6,
+        stops_at (Setext level) first.text middle cut.0 (last ∷ rest) (cut.1 ∷ after) (as_later (Setext level) middle cut.0 cut.3) cut.4 leaf.5,
+        (in_moves outer other last cut.1 cut.4 (IsUnderline level) leaf.6.0,
+            subst HasText (content_moves (Setext level) first.text middle cut.0 (as_later (Setext level) middle cut.0 cut.3)) leaf.6.1),
       )
 
   -- a table: its delimiter row, and the rows behind that
@@ -297,7 +357,7 @@ module _ (outer other : List Container) where
     leaf_moves Paragraph z leaf = (
       leaf.0,
       no_table first Paragraph lines others (first_two (LaterMoves Paragraph) lines others z) leaf.1,
-      stops_paragraph Paragraph lines others rest after z f.first leaf.2,
-      first_moves (Moves outer other) (λ l. (level : HeadingLevel) → ¬ In outer (IsUnderline level) l)
-          (λ l. (level : HeadingLevel) → ¬ In other (IsUnderline level) l) none_under rest after f.first leaf.3,
+      stops_at Paragraph first.text lines others rest after z f.first leaf.2,
+      first_moves (Moves outer other) (λ l. (level : HeadingLevel) → ¬ Underlines outer first.text lines level l)
+          (λ l. (level : HeadingLevel) → ¬ Underlines other first.text others level l) (none_under Paragraph first.text lines others z) rest after f.first leaf.3,
     )
