@@ -19,8 +19,6 @@ pub fn scan_code_fence(bytes: &[u8]) -> Option<(usize, u8)>
     ensures within { IfSome result (λ r. r.0 ≤ length bytes.now) }
 {
     match bytes {
-        // Most lines begin with a lower byte than both, which one comparison tells.
-        [first, ..] if *first < b'`' => None,
         [b'`', ..] => scan_fence_of(bytes, b'`'),
         [b'~', ..] => scan_fence_of(bytes, b'~'),
         _ => None,
