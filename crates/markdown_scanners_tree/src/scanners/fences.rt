@@ -48,6 +48,10 @@ fn scan_fence_of(bytes: &[u8], byte: u8) -> Option<(usize, u8)>
 fn has_backtick(bytes: &[u8]) -> bool
     ensures { result ≡ has_backtick_in_line bytes.now }
 {
+    // A fence alone in its line is told without a search, which costs more.
+    if let [b'\n', ..] = bytes {
+        return false;
+    }
     match memchr2(b'`', b'\n', bytes) {
         Some(place) => bytes[place] == b'`',
         None => false,
