@@ -1,13 +1,13 @@
 -- Words with one space between, as the first pass has them that reads byte by byte.
 use Rattle.std.proofs.Common.{ℕ, Bool, true, false, ◌||◌, ◌&&◌, not, List, [], ◌∷◌, ◌≡◌, ◌==◌, ◌+◌, ◌≤◌, ◌<◌, refl, sym, ◌∙◌, ap, subst, arith}
-use Rattle.std.proofs.Common.{drop, take, get_or, length}
+use Rattle.std.proofs.Common.{cond, drop, take, take-add, get_or, length}
 use Rattle.std.proofs.lemmas.Bool.{and_parts, eqb-true, lt-ltb}
 use Rattle.std.proofs.lemmas.Bool.Decides.{nat_tests}
-use Rattle.std.proofs.lemmas.List.{drop_more, get_or-take, length-take, take_more}
-use Rattle.std.proofs.lemmas.List.Sums.{sum_by-append}
+use Rattle.std.proofs.lemmas.List.{drop_more, take_more}
+use Rattle.std.proofs.lemmas.List.Sums.{sum_by-append, sum_by-cons}
 use Rattle.std.specs.List.{sum_by}
 use Rattle.markdown_scanners_tree.specs.Ascii.{backslash, right_bracket, vertical_line}
-use Rattle.markdown_scanners_tree.specs.Bytes.{begins_with, is_punctuation}
+use Rattle.markdown_scanners_tree.specs.Bytes.{begins_with, is_between, is_punctuation}
 use Rattle.markdown_scanners_tree.specs.linklabel.private.NextPart.{IsBracket}
 use Rattle.markdown_scanners_tree.specs.linklabel.private.Pass.{IsMeasure, continued, backslash_len, starts_dropped}
 use Rattle.markdown_scanners_tree.specs.linklabel.private.Pass.{tally_after_words, tally_past_backslash, tally_past_word}
@@ -56,30 +56,29 @@ escaped_here t source n words escapes = by (drop n source) refl escapes
         let fits : n + 2 ≤ length source = omega (arith, second.0) in
         (fits, escape n words fits (first.1 ∙ eqb-true b 92 parts.0) (ap (stays_escaped t) second.1 ∙ parts.1))
 
--- words at the front of a front of the source
-pub words_of_front : (t : Bool) (source : List ℕ) (m n : ℕ) → AreWords t (take m source) n → AreWords t source n
-words_of_front t source m n none = none
-words_of_front t source m n (byte k before inside word) =
-    let size = length-take m source in
-    byte k (words_of_front t source m k before) (omega (arith, inside, size))
-    (ap is_ordinary (sym (get_or-take m source k 0 (omega (arith, inside, size)))) ∙ word)
-words_of_front t source m n (escape k before fits slash stays) =
-    let size = length-take m source in
-    escape k (words_of_front t source m k before) (omega (arith, fits, size))
-    (sym (get_or-take m source k 0 (omega (arith, fits, size))) ∙ slash)
-    (ap (stays_escaped t) (sym (get_or-take m source (k + 1) 0 (omega (arith, fits, size)))) ∙ stays)
-words_of_front t source m n (gap k before some fits space word) =
-    let size = length-take m source in
-    gap k (words_of_front t source m k before) some (omega (arith, fits, size))
-    (sym (get_or-take m source k 0 (omega (arith, fits, size))) ∙ space)
-    (ap is_ordinary (sym (get_or-take m source (k + 1) 0 (omega (arith, fits, size)))) ∙ word)
-
 -- one byte more of which it is counted whether it begins a character
-continued_more : (source : List ℕ) (n : ℕ) → n < length source
+pub continued_more : (source : List ℕ) (n : ℕ) → n < length source
     → sum_by continued (take (n + 1) source) ≡ sum_by continued (take n source) + continued (get_or source n 0)
 continued_more source n inside =
     ap (sum_by continued) (take_more source n 0 inside)
     ∙ sum_by-append continued (take n source) (get_or source n 0 ∷ []) ∙ omega arith
+
+-- no more bytes are counted than there are
+one_at_most : (b : ℕ) → continued b ≤ 1
+one_at_most b = elim (is_between 128 191 b) as (λ v. cond v 1 0 ≤ 1) [
+  | true ↦ omega arith
+  | false ↦ omega arith
+]
+
+pub count_within : (bytes : List ℕ) → sum_by continued bytes ≤ length bytes
+count_within [] = omega arith
+count_within (b ∷ bs) = omega (arith, sum_by-cons continued b bs, one_at_most b, count_within bs)
+
+-- some bytes more
+pub counted_more : (source : List ℕ) (m n : ℕ) → sum_by continued (take (m + n) source)
+    ≡ sum_by continued (take m source) + sum_by continued (take n (drop m source))
+counted_more source m n =
+    ap (sum_by continued) (take-add m n source) ∙ sum_by-append continued (take m source) (take n (drop m source))
 
 -- the escape of a byte that stays changes the tally as two bytes of a word do
 first_stays : (t : Bool) (c : ℕ) → not (t && (c == backslash || c == vertical_line)) ≡ true

@@ -1,8 +1,11 @@
 //! What the first pass over a label keeps of the bytes that it has read.
-ghost use Rattle.std.specs.Prelude.{◌≡◌, ◌≤◌, ◌+◌, ◌-◌, ◌&&◌, not};
+ghost use Rattle.std.specs.Prelude.{◌≡◌, ◌≤◌, ◌+◌, ◌-◌, ◌&&◌, not, length};
 ghost use Rattle.std.specs.List.{sum_by};
 ghost use Rattle.markdown_scanners_tree.specs.Bytes.{is_between};
 ghost use Rattle.markdown_scanners_tree.specs.linklabel.private.Pass.{continued, due_len, gap_len, tally_after_words, tally_past_ending, tally_past_space, tally_past_word};
+
+// How many bytes are counted at once.
+const PART: usize = 255;
 
 // What is known of the bytes of a label that were read: how many of them begin none of its
 // characters, how many its text leaves out, where the space between two words counts as soon as white
@@ -72,7 +75,7 @@ impl Tally {
         ensures { result ≡ tally_past_word self byte dropped }
     {
         Tally {
-            skipped: self.skipped + continued(byte),
+            skipped: self.skipped + usize::from(continued(byte)),
             left_out: self.left_out + if dropped { 1 } else { 0 },
             has_word: true,
             in_run: false,
@@ -113,7 +116,7 @@ impl Tally {
 }
 
 // How many bytes this is that begin no character.
-fn continued(byte: u8) -> usize
+fn continued(byte: u8) -> u8
     ensures { result ≡ continued byte }
 {
     if begins(byte) { 0 } else { 1 }
@@ -124,10 +127,29 @@ pub(crate) fn continued_count(bytes: &[u8]) -> usize
     ensures { result ≡ sum_by continued bytes.now }
 {
     if bytes.is_ascii() {
-        0
-    } else {
-        bytes.iter().filter(|byte| !begins(**byte)).count()
+        return 0;
     }
+    let mut count = 0;
+    let mut from = 0;
+    while from < bytes.len() {
+        let end = from + PART.min(bytes.len() - from);
+        let more = continued_in_part(&bytes[from..end]);
+        count += more as usize;
+        from = end;
+    }
+    count
+}
+
+// The same of so few bytes that a byte tells their number: so vectors of bytes count them.
+fn continued_in_part(bytes: &[u8]) -> u8
+    requires { length bytes.now ≤ PART }
+    ensures { result ≡ sum_by continued bytes.now }
+{
+    let mut count = 0;
+    for byte in bytes {
+        count += continued(*byte);
+    }
+    count
 }
 
 // Whether a character begins at the byte.

@@ -4,11 +4,12 @@ ghost use Rattle.std.specs.Prelude.{◌≡◌, ◌≤◌, length};
 ghost use Rattle.markdown_scanners_tree.specs.linklabel.private.Words.{AreWords, is_kept_escape, joins_words};
 
 use crate::linklabel::MOST_CHARACTERS;
+use crate::linklabel::tally::continued_count;
 use crate::linklabel::word::is_ordinary;
 use crate::scanners::is_ascii_punctuation;
 
-// How many bytes the words at the front take, with one space between: of so many as a label may have
-// and one.
+// How many bytes the words at the front take, with one space between: of so many characters as a
+// label may have and one.
 #[inline(always)]
 pub(crate) fn leading_words(bytes: &[u8], is_in_table: bool) -> usize
     ensures words { AreWords is_in_table bytes.now result }
@@ -16,20 +17,45 @@ pub(crate) fn leading_words(bytes: &[u8], is_in_table: bool) -> usize
 {
     match bytes {
         [first, ..] if is_ordinary(*first) || *first == b'\\' => {
-            words_len(&bytes[..bytes.len().min(MOST_CHARACTERS + 1)], is_in_table)
+            words_of_characters(bytes, is_in_table)
         }
         _ => 0,
     }
 }
 
-// How many bytes words with one space between them take at the front.
+// The same, whatever stands at the front. Bytes that begin no character leave room for as many more:
+// so words of other than ASCII characters are read a part at a time, each half as long at most.
 #[inline(always)]
-fn words_len(bytes: &[u8], is_in_table: bool) -> usize
+fn words_of_characters(bytes: &[u8], is_in_table: bool) -> usize
     ensures words { AreWords is_in_table bytes.now result }
     ensures within { result ≤ length bytes.now }
 {
-    let mut place = 0;
-    while place < bytes.len() {
+    let mut words = 0;
+    let mut room = MOST_CHARACTERS + 1;
+    loop {
+        let end = words + room.min(bytes.len() - words);
+        let next = words_up_to(bytes, words, end, is_in_table);
+        if next < end || next == words {
+            return next;
+        }
+        room = continued_count(&bytes[words..next]);
+        words = next;
+    }
+}
+
+// How many bytes words with one space between them take at the front, where so many bytes are such
+// and were read: up to this end, or a byte behind it.
+#[inline(always)]
+fn words_up_to(bytes: &[u8], from: usize, end: usize, is_in_table: bool) -> usize
+    requires words { AreWords is_in_table bytes.now from }
+    requires ordered { from ≤ end }
+    requires end { end ≤ length bytes.now }
+    ensures words { AreWords is_in_table bytes.now result }
+    ensures forward { from ≤ result }
+    ensures within { result ≤ length bytes.now }
+{
+    let mut place = from;
+    while place < end {
         if is_ordinary(bytes[place]) {
             place += 1;
         } else if place > 0 && joins_words(&bytes[place..]) {

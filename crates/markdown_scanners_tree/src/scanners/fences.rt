@@ -19,8 +19,6 @@ pub fn scan_code_fence(bytes: &[u8]) -> Option<(usize, u8)>
     ensures within { IfSome result (λ r. r.0 ≤ length bytes.now) }
 {
     match bytes {
-        // Most lines begin with a lower byte than both, which one comparison tells.
-        [first, ..] if *first < b'`' => None,
         [b'`', ..] => scan_fence_of(bytes, b'`'),
         [b'~', ..] => scan_fence_of(bytes, b'~'),
         _ => None,
@@ -50,6 +48,10 @@ fn scan_fence_of(bytes: &[u8], byte: u8) -> Option<(usize, u8)>
 fn has_backtick(bytes: &[u8]) -> bool
     ensures { result ≡ has_backtick_in_line bytes.now }
 {
+    // A fence alone in its line is told without a search, which costs more.
+    if let [b'\n', ..] = bytes {
+        return false;
+    }
     match memchr2(b'`', b'\n', bytes) {
         Some(place) => bytes[place] == b'`',
         None => false,

@@ -11,8 +11,8 @@ use Rattle.markdown_scanners_tree.specs.linklabel.private.NextPart.{IsBracket, I
 use Rattle.markdown_scanners_tree.specs.linklabel.private.Pass.{IsMeasure, backslash_len, spaces_len, tally_past_backslash, tally_past_spaces}
 use Rattle.markdown_scanners_tree.specs.linklabel.private.Run.{is_ordinary}
 use Rattle.markdown_scanners_tree.proofs.HandlerLemmas.{after_label_line}
-use Rattle.markdown_scanners_tree.proofs.linklabel.MeasureLemmas.{IsTallied, measured_by, not_measured, starts, past_ordinary, past_slash, past_white, past_some_spaces}
-use Rattle.markdown_scanners_tree.proofs.linklabel.MeasureLemmas.{past_line, ending_here}
+use Rattle.markdown_scanners_tree.proofs.linklabel.MeasureLemmas.{IsTallied, measured_by, not_measured, starts, past_ordinary, past_slash, past_white}
+use Rattle.markdown_scanners_tree.proofs.linklabel.MeasureLemmas.{past_line, past_some_spaces, ending_here}
 use Rattle.markdown_scanners_tree.proofs.linklabel.SourceSteps.{IsOnlySkip, none_at_end, none_at_opening, none_at_ending}
 use Rattle.markdown_scanners_tree.proofs.linklabel.SourceSteps.{none_at_second_ending, none_at_late_ending, none_so_late, rest_is, ending_fits}
 use Rattle.markdown_scanners_tree.proofs.linklabel.WordSteps.{tallied_after_words}
