@@ -72,8 +72,8 @@ OBJECTS = Page(
     "objects",
     "--json",
     b"> ~~~ a",
-    b'{"first":1,"last":1,"depth":0,"kind":"quote"}\n'
-    b'{"first":1,"last":1,"depth":1,"kind":"fenced","count":3,"fence":"~","info":"a"}\n',
+    b'{"first":1,"last":1,"depth":0,"offset":0,"kind":"quote"}\n'
+    b'{"first":1,"last":1,"depth":1,"offset":0,"kind":"fenced","count":3,"fence":"~","info":"a","bytes":7}\n',
 )
 
 # One of each form.
@@ -100,7 +100,10 @@ def headings(count):
 
 
 def objects(count):
-    shown = b"".join(b'{"first":%d,"last":%d,"depth":0,"kind":"break"}\n' % (line, line) for line in range(1, count + 1))
+    shown = b"".join(
+        b'{"first":%d,"last":%d,"depth":0,"offset":%d,"kind":"break","bytes":8}\n' % (line, line, 8 * line - 8)
+        for line in range(1, count + 1)
+    )
     return Page("objects of breaks", "--json", b"* * * *\n" * count, shown)
 
 
