@@ -37,6 +37,16 @@ REASONS = {
     errno.ENOSPC: b"No space left on device",
 }
 
+# A file, and what is told of it.
+FILE, TOLD = str(TOP / "crates/cmark_blocks/stdin"), (TOP / "crates/cmark_blocks/stdout").read_bytes()
+# Words that name files, and what is then printed, said on standard error, and answered.
+NAMED = [
+    ("a file", [FILE], TOLD, b"", 0),
+    ("a file between the input and itself", [FILE, "-", "--", FILE], TOLD + b"1 1 0 paragraph\n" + TOLD, b"", 0),
+    ("no such file", [FILE, "none", FILE], TOLD, b"cmark_blocks: none: No such file or directory\n", 3),
+    ("a folder", ["/", FILE], b"", b"cmark_blocks: /: Is a directory\n", 3),
+]
+
 
 def reason(number):
     return REASONS.get(number, b"Input/output error")
