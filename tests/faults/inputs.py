@@ -5,6 +5,8 @@ from running import Scan
 MANY = 100
 # How many reads are made at most.
 READS = 1_048_576
+# It takes no files.
+NAMED = []
 
 USAGE = b"usage: cmark_scan line CALL.. | html | label | unescape\n"
 # Words that are answered, and as many that are not.

@@ -37,6 +37,16 @@ REASONS = {
     errno.ENOSPC: b"No space left on device",
 }
 
+# A file, and what is told of it.
+FILE, TOLD = str(TOP / "crates/cmark_blocks/stdin"), (TOP / "crates/cmark_blocks/stdout").read_bytes()
+# Words that name files, and what is then printed, said on standard error, and answered.
+NAMED = [
+    ("a file", [FILE], TOLD, b"", 0),
+    ("a file between the input and itself", [FILE, "-", "--", FILE], TOLD + b"1 1 0 paragraph\n" + TOLD, b"", 0),
+    ("no such file", [FILE, "none", FILE], TOLD, b"cmark_blocks: none: No such file or directory\n", 3),
+    ("a folder", ["/", FILE], b"", b"cmark_blocks: /: Is a directory\n", 3),
+]
+
 
 def reason(number):
     return REASONS.get(number, b"Input/output error")
@@ -72,8 +82,8 @@ OBJECTS = Page(
     "objects",
     "--json",
     b"> ~~~ a",
-    b'{"first":1,"last":1,"depth":0,"kind":"quote"}\n'
-    b'{"first":1,"last":1,"depth":1,"kind":"fenced","count":3,"fence":"~","info":"a"}\n',
+    b'{"first":1,"last":1,"depth":0,"offset":0,"kind":"quote"}\n'
+    b'{"first":1,"last":1,"depth":1,"offset":0,"kind":"fenced","count":3,"fence":"~","info":"a","bytes":7}\n',
 )
 
 # One of each form.
@@ -100,7 +110,10 @@ def headings(count):
 
 
 def objects(count):
-    shown = b"".join(b'{"first":%d,"last":%d,"depth":0,"kind":"break"}\n' % (line, line) for line in range(1, count + 1))
+    shown = b"".join(
+        b'{"first":%d,"last":%d,"depth":0,"offset":%d,"kind":"break","bytes":8}\n' % (line, line, 8 * line - 8)
+        for line in range(1, count + 1)
+    )
     return Page("objects of breaks", "--json", b"* * * *\n" * count, shown)
 
 

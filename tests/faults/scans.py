@@ -163,6 +163,13 @@ def without_input(program, scan, tally):
     failing_writes(program, scan, 7, FAILING_WRITES, tally)
 
 
+def named_files(program, inputs, tally):
+    """Files that the words name, and `-`, with a page of one paragraph as input."""
+    for name, words, out, err, status in inputs.NAMED:
+        run = program.run(words, b"a")
+        tally.check(f"{program.name}, {name}", (run.out, run.err, run.status) == (out, err, status), run)
+
+
 def run_scans(program, inputs, tally):
     for scan in inputs.SMALL + inputs.large():
         refused_memory(program, scan, tally)
@@ -185,6 +192,7 @@ def run_scans(program, inputs, tally):
         writes_of(program, scan, (4095,), tally)
     other_words(program, inputs, tally)
     failing_errors(program, inputs, tally)
+    named_files(program, inputs, tally)
     for scan in inputs.PLAIN:
         real_faults(program, scan, tally)
         endless_input(program, inputs, scan, tally)

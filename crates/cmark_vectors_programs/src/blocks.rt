@@ -165,24 +165,25 @@ const JSON_OF_BLOCKS: &[Row] = &[
     (b"", ""),
     (
         b"\n# a\nb\n---\n***\n",
-        "{\"first\":1,\"last\":1,\"depth\":0,\"kind\":\"blank\"}\n\
-        {\"first\":2,\"last\":2,\"depth\":0,\"kind\":\"heading\",\"level\":1}\n\
-        {\"first\":3,\"last\":4,\"depth\":0,\"kind\":\"setext\",\"level\":2}\n\
-        {\"first\":5,\"last\":5,\"depth\":0,\"kind\":\"break\"}\n",
+        "{\"first\":1,\"last\":1,\"depth\":0,\"offset\":0,\"kind\":\"blank\",\"bytes\":1}\n\
+        {\"first\":2,\"last\":2,\"depth\":0,\"offset\":1,\"kind\":\"heading\",\"level\":1,\"bytes\":4}\n\
+        {\"first\":3,\"last\":4,\"depth\":0,\"offset\":5,\"kind\":\"setext\",\"level\":2,\"bytes\":6}\n\
+        {\"first\":5,\"last\":5,\"depth\":0,\"offset\":11,\"kind\":\"break\",\"bytes\":4}\n",
     ),
     (
         b"    a\n<p>\n",
-        "{\"first\":1,\"last\":1,\"depth\":0,\"kind\":\"indented\"}\n\
-        {\"first\":2,\"last\":2,\"depth\":0,\"kind\":\"html\",\"condition\":6}\n",
-    ),
-    (
-        b"~~~~ \"a\xff\n",
-        "{\"first\":1,\"last\":1,\"depth\":0,\"kind\":\"fenced\",\"count\":4,\"fence\":\"~\",\
-        \"info\":\"\\u0022a\\u00ff\"}\n",
+        "{\"first\":1,\"last\":1,\"depth\":0,\"offset\":0,\"kind\":\"indented\",\"bytes\":6}\n\
+        {\"first\":2,\"last\":2,\"depth\":0,\"offset\":6,\"kind\":\"html\",\"condition\":6,\"bytes\":4}\n",
     ),
     (
         b"```\n",
-        "{\"first\":1,\"last\":1,\"depth\":0,\"kind\":\"fenced\",\"count\":3,\"fence\":\"`\",\"info\":\"\"}\n",
+        "{\"first\":1,\"last\":1,\"depth\":0,\"offset\":0,\"kind\":\"fenced\",\"count\":3,\"fence\":\"`\",\"info\":\"\",\"bytes\":4}\n",
+    ),
+    (
+        b"a\r\n\r\nb",
+        "{\"first\":1,\"last\":1,\"depth\":0,\"offset\":0,\"kind\":\"paragraph\",\"bytes\":3}\n\
+        {\"first\":2,\"last\":2,\"depth\":0,\"offset\":3,\"kind\":\"blank\",\"bytes\":2}\n\
+        {\"first\":3,\"last\":3,\"depth\":0,\"offset\":5,\"kind\":\"paragraph\",\"bytes\":1}\n",
     ),
 ];
 
@@ -194,31 +195,59 @@ fn json_has_an_object_for_each_block(rt: HostRuntime) {
 const JSON_OF_CONTAINERS: &[Row] = &[
     (
         b"> a\n- b\nc",
-        "{\"first\":1,\"last\":1,\"depth\":0,\"kind\":\"quote\"}\n\
-        {\"first\":1,\"last\":1,\"depth\":1,\"kind\":\"paragraph\"}\n\
-        {\"first\":2,\"last\":2,\"depth\":0,\"kind\":\"item\",\"delimiter\":\"-\",\"start\":0}\n\
-        {\"first\":2,\"last\":3,\"depth\":1,\"kind\":\"paragraph\"}\n",
+        "{\"first\":1,\"last\":1,\"depth\":0,\"offset\":0,\"kind\":\"quote\"}\n\
+        {\"first\":1,\"last\":1,\"depth\":1,\"offset\":0,\"kind\":\"paragraph\",\"bytes\":4}\n\
+        {\"first\":2,\"last\":2,\"depth\":0,\"offset\":4,\"kind\":\"item\",\"delimiter\":\"-\",\"start\":0,\"indent\":2}\n\
+        {\"first\":2,\"last\":3,\"depth\":1,\"offset\":4,\"kind\":\"paragraph\",\"bytes\":5}\n",
     ),
     (
         b"10. > ~~~ \"x\\\n",
-        "{\"first\":1,\"last\":1,\"depth\":0,\"kind\":\"item\",\"delimiter\":\".\",\"start\":10}\n\
-        {\"first\":1,\"last\":1,\"depth\":1,\"kind\":\"quote\"}\n\
-        {\"first\":1,\"last\":1,\"depth\":2,\"kind\":\"fenced\",\"count\":3,\"fence\":\"~\",\
-        \"info\":\"\\u0022x\\u005c\"}\n",
+        "{\"first\":1,\"last\":1,\"depth\":0,\"offset\":0,\"kind\":\"item\",\"delimiter\":\".\",\"start\":10,\"indent\":4}\n\
+        {\"first\":1,\"last\":1,\"depth\":1,\"offset\":0,\"kind\":\"quote\"}\n\
+        {\"first\":1,\"last\":1,\"depth\":2,\"offset\":0,\"kind\":\"fenced\",\"count\":3,\"fence\":\"~\",\"info\":\"\\u0022x\\u005c\",\"bytes\":14}\n",
     ),
     (
         b"+\n\n* # h\n",
-        "{\"first\":1,\"last\":1,\"depth\":0,\"kind\":\"item\",\"delimiter\":\"+\",\"start\":0}\n\
-        {\"first\":1,\"last\":1,\"depth\":1,\"kind\":\"blank\"}\n\
-        {\"first\":2,\"last\":2,\"depth\":0,\"kind\":\"blank\"}\n\
-        {\"first\":3,\"last\":3,\"depth\":0,\"kind\":\"item\",\"delimiter\":\"*\",\"start\":0}\n\
-        {\"first\":3,\"last\":3,\"depth\":1,\"kind\":\"heading\",\"level\":1}\n",
+        "{\"first\":1,\"last\":1,\"depth\":0,\"offset\":0,\"kind\":\"item\",\"delimiter\":\"+\",\"start\":0,\"indent\":2}\n\
+        {\"first\":1,\"last\":1,\"depth\":1,\"offset\":0,\"kind\":\"blank\",\"bytes\":2}\n\
+        {\"first\":2,\"last\":2,\"depth\":0,\"offset\":2,\"kind\":\"blank\",\"bytes\":1}\n\
+        {\"first\":3,\"last\":3,\"depth\":0,\"offset\":3,\"kind\":\"item\",\"delimiter\":\"*\",\"start\":0,\"indent\":2}\n\
+        {\"first\":3,\"last\":3,\"depth\":1,\"offset\":3,\"kind\":\"heading\",\"level\":1,\"bytes\":6}\n",
+    ),
+    (
+        b"  -   a\n",
+        "{\"first\":1,\"last\":1,\"depth\":0,\"offset\":0,\"kind\":\"item\",\"delimiter\":\"-\",\"start\":0,\"indent\":6}\n\
+        {\"first\":1,\"last\":1,\"depth\":1,\"offset\":0,\"kind\":\"paragraph\",\"bytes\":8}\n",
     ),
 ];
 
 #[test]
 fn json_has_an_object_for_each_container(rt: HostRuntime) {
     assert_told(&rt, rt.alloc(), &["--json"], JSON_OF_CONTAINERS);
+}
+
+const JSON_OF_INFO_STRINGS: &[Row] = &[
+    (
+        b"``` gr\xc3\xb6\xc3\x9fe\n",
+        "{\"first\":1,\"last\":1,\"depth\":0,\"offset\":0,\"kind\":\"fenced\",\"count\":3,\"fence\":\"`\",\"info\":\"größe\",\"bytes\":12}\n",
+    ),
+    (
+        b"~~~~ \"a\xff\n",
+        "{\"first\":1,\"last\":1,\"depth\":0,\"offset\":0,\"kind\":\"fenced\",\"count\":4,\"fence\":\"~\",\"info\":\"\\u0022a�\",\"info_bytes\":\"2261ff\",\"bytes\":9}\n",
+    ),
+    (
+        b"~~~ a\x01\x7f\tb\\\n",
+        "{\"first\":1,\"last\":1,\"depth\":0,\"offset\":0,\"kind\":\"fenced\",\"count\":3,\"fence\":\"~\",\"info\":\"a\\u0001\\u007f\\u0009b\\u005c\",\"bytes\":11}\n",
+    ),
+    (
+        b"~~~ \xc3",
+        "{\"first\":1,\"last\":1,\"depth\":0,\"offset\":0,\"kind\":\"fenced\",\"count\":3,\"fence\":\"~\",\"info\":\"�\",\"info_bytes\":\"c3\",\"bytes\":5}\n",
+    ),
+];
+
+#[test]
+fn json_has_info_strings_as_text(rt: HostRuntime) {
+    assert_told(&rt, rt.alloc(), &["--json"], JSON_OF_INFO_STRINGS);
 }
 
 const HTML: &[Row] = &[

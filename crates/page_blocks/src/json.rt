@@ -1,32 +1,42 @@
 //! Blocks and containers as JSON Lines.
 ghost use Rattle.std.specs.Prelude.{◌≡◌, ◌++◌, OnOk, decimal, string_bytes};
-ghost use Rattle.page_blocks.specs.json.Json.{kind_json, container_json, front_json};
+ghost use Rattle.page_blocks.specs.json.Json.{kind_json, container_json, front_json, item_json, size_json};
 ghost use Rattle.markdown_blocks.specs.declared.blocks.BlockKind.TheVariants.{Fenced};
 
-use crate::info::{push_byte, push_bytes};
+use crate::info::{push_byte, push_info_json};
 use markdown_blocks::blocks::BlockKind;
-use markdown_blocks::containers::Container;
+use markdown_blocks::containers::{Container, ListItem};
 use markdown_blocks::info::info_of;
-use std::alloc::AllocError;
+use std::alloc::{AllocError, Global};
 
-/// Adds the front of an object: its lines, how many containers stand around, the name of its kind.
+/// Adds the front of an object: its lines, how many containers stand around, how many bytes of the
+/// page before, the name of its kind.
 pub(crate) fn push_front_json(
     text: &mut String,
     first: u128,
     last: u128,
     depth: usize,
+    offset: usize,
 ) -> Result<(), AllocError>
     ensures { OnOk result (string_bytes text.new
-        ≡ string_bytes text.old ++ front_json first last depth) }
+        ≡ string_bytes text.old ++ front_json first last depth offset) }
 {
     write!(
         text,
-        "{{\"first\":{first},\"last\":{last},\"depth\":{depth},\"kind\":"
+        "{{\"first\":{first},\"last\":{last},\"depth\":{depth},\"offset\":{offset},\"kind\":"
     )
+}
+
+/// Adds how many bytes a block's lines have.
+pub(crate) fn push_size_json(text: &mut String, bytes: usize) -> Result<(), AllocError>
+    ensures { OnOk result (string_bytes text.new ≡ string_bytes text.old ++ size_json bytes) }
+{
+    write!(text, ",\"bytes\":{bytes}")
 }
 
 /// Adds the kind, and what is known of a block whose first line has this text.
 pub(crate) fn push_kind_json(
+    alloc: Global,
     text: &mut String,
     kind: BlockKind,
     words: &[u8],
@@ -40,7 +50,7 @@ pub(crate) fn push_kind_json(
         BlockKind::Heading(level) => push_number(text, "\"heading\",\"level\":", level.number()),
         BlockKind::Setext(level) => push_number(text, "\"setext\",\"level\":", level.number()),
         BlockKind::Indented => text.push_str("\"indented\""),
-        BlockKind::Fenced(count, byte) => push_fenced(text, count, byte, words),
+        BlockKind::Fenced(count, byte) => push_fenced(alloc, text, count, byte, words),
         BlockKind::Html(kind) => {
             push_number(text, "\"html\",\"condition\":", usize::from(kind.number()))
         }
@@ -59,15 +69,20 @@ fn push_number(text: &mut String, before: &str, number: usize) -> Result<(), All
 }
 
 // Adds what is known of fenced code.
-fn push_fenced(text: &mut String, count: usize, byte: u8, words: &[u8]) -> Result<(), AllocError>
+fn push_fenced(
+    alloc: Global,
+    text: &mut String,
+    count: usize,
+    byte: u8,
+    words: &[u8],
+) -> Result<(), AllocError>
     ensures { OnOk result (string_bytes text.new
         ≡ string_bytes text.old ++ kind_json (Fenced count byte) words.now) }
 {
     write!(text, "\"fenced\",\"count\":{count},\"fence\":\"")?;
     push_byte(text, byte)?;
     text.push_str("\",\"info\":\"")?;
-    push_bytes(text, info_of(words, byte))?;
-    text.push_str("\"")
+    push_info_json(alloc, text, info_of(words, byte))
 }
 
 /// Adds the kind of a container, with what is known of its marker.
@@ -77,11 +92,21 @@ pub(crate) fn push_container_json(text: &mut String, container: Container) -> Re
 {
     match container {
         Container::Quote => text.push_str("\"quote\""),
-        Container::Item(item) => write!(
-            text,
-            "\"item\",\"delimiter\":\"{}\",\"start\":{}",
-            char::from(item.delimiter),
-            item.start
-        ),
+        Container::Item(item) => {
+            push_item_json(text, item)?;
+            write!(text, ",\"indent\":{}", item.width)
+        }
     }
+}
+
+// Adds the kind of a list item, with what is known of its marker.
+fn push_item_json(text: &mut String, item: ListItem) -> Result<(), AllocError>
+    ensures { OnOk result (string_bytes text.new ≡ string_bytes text.old ++ item_json item) }
+{
+    write!(
+        text,
+        "\"item\",\"delimiter\":\"{}\",\"start\":{}",
+        char::from(item.delimiter),
+        item.start
+    )
 }

@@ -1,68 +1,89 @@
 //! The printed lines of blocks and containers.
 ghost use Rattle.std.specs.Prelude.{◌≡◌, ◌+◌, ◌++◌, OnOk, string_bytes};
-ghost use Rattle.page_blocks.specs.page.Told.{kind_told, container_told, front_told, end_told, told_line};
+ghost use Rattle.page_blocks.specs.page.Told.{block_told, kind_told, container_told, front_told, size_told, end_told, told_line};
 ghost use Rattle.page_blocks.specs.page.Told.{kind_text, container_text, fence_text, info_text};
 
 use crate::info::push_bytes;
-use crate::json::{push_container_json, push_front_json, push_kind_json};
+use crate::json::{push_container_json, push_front_json, push_kind_json, push_size_json};
 use crate::words::Form;
 use markdown_blocks::blocks::{Block, BlockKind};
 use markdown_blocks::containers::Container;
 use markdown_blocks::info::info_of;
-use std::alloc::AllocError;
+use std::alloc::{AllocError, Global};
 
-/// Adds the line, in this form, of a block in so many containers, which stands behind so many
-/// lines, and whose first line has this text behind its containers.
+/// How much of a page stands before a line.
+#[derive(Clone, Copy)]
+pub(crate) struct Place {
+    pub(crate) lines: usize,
+    pub(crate) bytes: usize,
+}
+
+/// Adds the line, in this form, of a block in so many containers, before which so much of the page
+/// stands, and whose first line has this text behind its containers.
 pub(crate) fn push_block(
+    alloc: Global,
     text: &mut String,
     form: Form,
-    before: usize,
+    at: Place,
     depth: usize,
     block: Block,
     words: &[u8],
 ) -> Result<(), AllocError>
     ensures { OnOk result (string_bytes text.new ≡ string_bytes text.old
-        ++ told_line form (before + 1) (before + block.taken.lines) depth
-        (kind_told form block.kind words.now)) }
+        ++ told_line form (at.lines + 1) (at.lines + block.taken.lines) depth at.bytes
+        (block_told form block.kind words.now block.taken.bytes)) }
 {
-    push_front(text, form, before, block.taken.lines, depth)?;
-    push_kind(text, form, block.kind, words)?;
+    push_front(text, form, at, block.taken.lines, depth)?;
+    push_kind(alloc, text, form, block.kind, words)?;
+    push_size(text, form, block.taken.bytes)?;
     push_end(text, form)
 }
 
-/// Adds the line, in this form, of a container in so many others, which begins behind so many
-/// lines.
+/// Adds the line, in this form, of a container in so many others, before which so much of the page
+/// stands.
 pub(crate) fn push_container(
     text: &mut String,
     form: Form,
-    before: usize,
+    at: Place,
     depth: usize,
     container: Container,
 ) -> Result<(), AllocError>
     ensures { OnOk result (string_bytes text.new ≡ string_bytes text.old
-        ++ told_line form (before + 1) (before + 1) depth (container_told form container)) }
+        ++ told_line form (at.lines + 1) (at.lines + 1) depth at.bytes
+        (container_told form container)) }
 {
-    push_front(text, form, before, 1, depth)?;
+    push_front(text, form, at, 1, depth)?;
     push_marker(text, form, container)?;
     push_end(text, form)
 }
 
-// Adds what a line has before the kind, where so many lines stand behind so many others.
+// Adds what a line has before the kind of what has so many lines, behind so much of the page.
 fn push_front(
     text: &mut String,
     form: Form,
-    before: usize,
+    at: Place,
     count: usize,
     depth: usize,
 ) -> Result<(), AllocError>
     ensures { OnOk result (string_bytes text.new ≡ string_bytes text.old
-        ++ front_told form (before + 1) (before + count) depth) }
+        ++ front_told form (at.lines + 1) (at.lines + count) depth at.bytes) }
 {
-    let first = before as u128 + 1;
-    let last = before as u128 + count as u128;
+    let first = at.lines as u128 + 1;
+    let last = at.lines as u128 + count as u128;
     match form {
         Form::Words => write!(text, "{first} {last} {depth} "),
-        Form::Json => push_front_json(text, first, last, depth),
+        Form::Json => push_front_json(text, first, last, depth, at.bytes),
+    }
+}
+
+// Adds how many bytes a block's lines have.
+fn push_size(text: &mut String, form: Form, bytes: usize) -> Result<(), AllocError>
+    ensures { OnOk result (string_bytes text.new
+        ≡ string_bytes text.old ++ size_told form bytes) }
+{
+    match form {
+        Form::Words => Ok(()),
+        Form::Json => push_size_json(text, bytes),
     }
 }
 
@@ -77,13 +98,19 @@ fn push_end(text: &mut String, form: Form) -> Result<(), AllocError>
 }
 
 // Adds a kind, with what is known of a block whose first line has this text.
-fn push_kind(text: &mut String, form: Form, kind: BlockKind, words: &[u8]) -> Result<(), AllocError>
+fn push_kind(
+    alloc: Global,
+    text: &mut String,
+    form: Form,
+    kind: BlockKind,
+    words: &[u8],
+) -> Result<(), AllocError>
     ensures { OnOk result (string_bytes text.new
         ≡ string_bytes text.old ++ kind_told form kind words.now) }
 {
     match form {
         Form::Words => push_kind_text(text, kind, words),
-        Form::Json => push_kind_json(text, kind, words),
+        Form::Json => push_kind_json(alloc, text, kind, words),
     }
 }
 

@@ -4,6 +4,8 @@ from running import Scan
 
 MANY = 5
 READS = 1_048_576
+# It takes no files.
+NAMED = []
 USAGE = b"usage: cmark_scan line CALL.. | html | label | unescape\n"
 KNOWN, OTHER, UNREAD = ["html"], ["htmk"], []
 COMPLAINTS = [

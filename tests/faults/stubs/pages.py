@@ -4,6 +4,8 @@ from running import Scan
 
 MANY = 5
 READS = 1_048_576
+# It takes no files.
+NAMED = []
 USAGE = b"usage: cmark_blocks [--help] < PAGE\n"
 KNOWN, OTHER = ["--help"], ["--hel"]
 COMPLAINTS = [("other words", OTHER, {}, 2, [USAGE]), ("a read fault", [], {"read_fail": 1}, 3, [b"read fault\n"])]

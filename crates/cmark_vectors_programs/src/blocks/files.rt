@@ -70,8 +70,8 @@ const FILES: &[Row] = &[
     ),
     (
         &["b.md", "--json"],
-        "{\"first\":1,\"last\":1,\"depth\":0,\"kind\":\"item\",\"delimiter\":\"-\",\"start\":0}\n\
-        {\"first\":1,\"last\":1,\"depth\":1,\"kind\":\"paragraph\"}\n",
+        "{\"first\":1,\"last\":1,\"depth\":0,\"offset\":0,\"kind\":\"item\",\"delimiter\":\"-\",\"start\":0,\"indent\":2}\n\
+        {\"first\":1,\"last\":1,\"depth\":1,\"offset\":0,\"kind\":\"paragraph\",\"bytes\":4}\n",
     ),
 ];
 

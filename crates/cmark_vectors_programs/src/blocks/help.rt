@@ -33,9 +33,12 @@ container that begins in its first line, outermost first, with the number of tha
 FILE is a page; - is standard input, and so is no FILE. The lines of the pages follow one another,
 and the lines of each page are counted from 1. Behind the word -- all words are files.
 
-With --json each line is an object with the members first, last, depth and kind; level of a
-heading; count, fence and info of fenced code; condition of an HTML block; columns of a table;
-delimiter and start of an item.
+With --json each line is an object. Its members are first, last, depth and kind, as above; offset,
+how many bytes of the page stand before its first line; of a block bytes, how many bytes its lines
+have; level of a heading; count, fence and info of fenced code; condition of an HTML block; columns
+of a table; delimiter and start of an item, and indent, by how many columns its text is indented
+behind the container around it. Where info is not UTF-8, each part of it that isn't is U+FFFD, and
+info_bytes has two hexadecimal digits for each of its bytes.
 
 Together the blocks contain every line of the page. Nothing is printed about where a container
 ends, or about which items make up a list, tight or loose.

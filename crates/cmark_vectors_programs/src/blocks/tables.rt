@@ -102,7 +102,8 @@ fn a_delimiter_row_goes_on_with_its_header(rt: HostRuntime) {
 
 const JSON: &[Row] = &[(
     b"|a|b|\n|-|-|\n",
-    "{\"first\":1,\"last\":2,\"depth\":0,\"kind\":\"table\",\"columns\":2}\n",
+    "{\"first\":1,\"last\":2,\"depth\":0,\"offset\":0,\"kind\":\"table\",\"columns\":2,\
+        \"bytes\":12}\n",
 )];
 
 #[test]

@@ -50,14 +50,14 @@ module _ (form : Form) (input old : Option (List ℕ)) where
   pub begun-written : (left new longer : Option (List ℕ)) (telling next cleared : Telling) (text rest : List ℕ) (count : ℕ)
       → Begun form input left old new telling text → string_bytes telling.told ≡ []
       → ((more : List ℕ) → Tells telling (lines_of (text ++ more)) next (lines_of (drop count text ++ more))) → next.form ≡ telling.form → Appends new longer (string_bytes next.told)
-      → cleared.form ≡ next.form → cleared.before ≡ next.before → cleared.walk ≡ next.walk → string_bytes cleared.told ≡ []
+      → cleared.form ≡ next.form → cleared.at ≡ next.at → cleared.walk ≡ next.walk → string_bytes cleared.told ≡ []
       → rest ≡ drop count text → Begun form input left old longer cleared rest
-  begun-written left new longer telling next cleared text rest count b empty tells same writes form_is before_is walk_is cleared_is rest_is = record {
+  begun-written left new longer telling next cleared text rest count b empty tells same writes form_is at_is walk_is cleared_is rest_is = record {
     read = b.read;
     written = b.written ++ string_bytes next.told;
     consumed = b.consumed;
     appended = appends-more old new longer b.written (string_bytes next.told) b.appended writes;
-    goes = λ more. rw (form_is, before_is, walk_is, cleared_is, rest_is, append-nil) (tells more (b.read ++ more) b.written (b.goes more));
+    goes = λ more. rw (form_is, at_is, walk_is, cleared_is, rest_is, append-nil) (tells more (b.read ++ more) b.written (b.goes more));
     in_form = form_is ∙ same ∙ b.in_form;
   }
 
@@ -68,7 +68,7 @@ module _ (form : Form) (input old : Option (List ℕ)) where
     where
       front : (more : List ℕ) → TellsFront form (b.read ++ more) b.written
       front more =
-          let whole = telling-front telling.form form (b.read ++ more) (b.written ++ string_bytes telling.told) b.written telling.before telling.walk
+          let whole = telling-front telling.form form (b.read ++ more) (b.written ++ string_bytes telling.told) b.written telling.at telling.walk
           (lines_of (text ++ more)) b.in_form (ap (λ t. b.written ++ t) empty ∙ append-nil b.written) (b.goes more) in
           (whole.0, lines_of (text ++ more), whole.1, whole.2)
 
@@ -77,7 +77,7 @@ module _ (form : Form) (input old : Option (List ℕ)) where
       TellsPage form page (written ++ string_bytes telling.told)
   page_told read page telling written is same told =
       let text : List ℕ = written ++ string_bytes telling.told in
-      let whole = telling-front telling.form form read text text telling.before telling.walk [] same refl told in (
+      let whole = telling-front telling.form form read text text telling.at telling.walk [] same refl told in (
         whole.0,
         record { joined = sym (append-nil _) ∙ whole.1.joined ∙ ap lines_of (sym is); each = whole.1.each },
         whole.2,

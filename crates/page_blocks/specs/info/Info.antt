@@ -1,7 +1,9 @@
 -- How info strings are printed.
-use Rattle.std.specs.Prelude.{ℕ, Bool, not, ◌&&◌, ◌==◌, ◌/◌, ◌%◌, false, List, [], ◌∷◌, ◌++◌, codes, if◌then◌else◌}
+use Rattle.std.specs.Prelude.{ℕ, Bool, not, nat_lt, ◌&&◌, ◌||◌, ◌==◌, ◌/◌, ◌%◌, false, List, [], ◌∷◌, ◌++◌, codes, if◌then◌else◌}
 use Rattle.std.specs.List.{flat_map}
 use Rattle.std.specs.Fmt.{digit_glyph}
+use Rattle.std.specs.Str.{is_utf8}
+use Rattle.std.specs.Str.Lossy.{utf8_lossy}
 use Rattle.markdown_scanners_tree.specs.Ascii.{space, tilde, quotation_mark, backslash}
 use Rattle.markdown_scanners_tree.specs.Bytes.{is_between}
 
@@ -16,3 +18,28 @@ byte_text b = if is_plain b then b ∷ [] else codes "\\u00" ++ digit_glyph fals
 
 abbrev pub bytes_text : List ℕ → List ℕ
 bytes_text bytes = flat_map byte_text bytes
+
+-- In the text of a JSON string a quotation mark, a backslash and the control characters of ASCII are written by their numbers, and each
+-- other character stands for itself. (RFC 8259, section 7)
+abbrev pub escaped_byte : ℕ → List ℕ
+escaped_byte b = if is_plain b || not (nat_lt b 128) then b ∷ [] else byte_text b
+
+-- the text of bytes, with U+FFFD for what is not UTF-8
+abbrev pub json_text : List ℕ → List ℕ
+json_text bytes = utf8_lossy (flat_map escaped_byte bytes)
+
+-- a byte as two hexadecimal digits
+abbrev pub hex_byte : ℕ → List ℕ
+hex_byte b = digit_glyph false (b / 16) ∷ digit_glyph false (b % 16) ∷ []
+
+-- the digits of the bytes of an info string
+abbrev pub digits_json : List ℕ → List ℕ
+digits_json info = codes ",\"info_bytes\":\"" ++ flat_map hex_byte info ++ codes "\""
+
+-- where it is not UTF-8
+abbrev pub bytes_json : List ℕ → List ℕ
+bytes_json info = if is_utf8 info then [] else digits_json info
+
+-- an info string as the text of a JSON string, with what ends it, and these digits
+abbrev pub info_json : List ℕ → List ℕ
+info_json info = json_text info ++ codes "\"" ++ bytes_json info

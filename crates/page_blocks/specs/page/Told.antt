@@ -1,6 +1,7 @@
 -- What the program prints of the blocks of a page.
 use Rattle.std.specs.Prelude.{ℕ, suc, ◌+◌, ◌≡◌, List, [], ◌∷◌, ◌++◌, length, codes, encode_utf8, Option}
 use Rattle.std.specs.Fmt.{decimal}
+use Rattle.std.specs.List.{concat}
 use Rattle.std.specs.Io.KnownBytes.{Appends, Consumes}
 use Rattle.markdown_values.specs.values.Headings.{heading_number}
 use Rattle.markdown_scanners_tree.specs.Ascii.{line_feed}
@@ -14,7 +15,8 @@ use Rattle.page_blocks.specs.declared.words.Form.TheVariants.{Words, Json}
 use Rattle.markdown_blocks.specs.blocks.Pages.{Piece, IsPage, IsFront}
 use Rattle.markdown_blocks.specs.info.Info.{info_of}
 use Rattle.page_blocks.specs.info.Info.{bytes_text}
-use Rattle.page_blocks.specs.json.Json.{kind_json, container_json, front_json}
+use Rattle.page_blocks.specs.json.Json.{kind_json, container_json, front_json, size_json}
+use Rattle.page_blocks.specs.declared.printing.Place.{Place}
 
 -- an info string behind a space, or nothing
 abbrev pub info_text : List ℕ → List ℕ
@@ -52,42 +54,62 @@ abbrev pub container_told : Form → Container → List ℕ
 container_told Words container = container_text container
 container_told Json container = container_json container
 
--- what stands in a line before that: a first line and a last one, and how many containers stand around it
-abbrev pub front_told : Form → ℕ → ℕ → ℕ → List ℕ
-front_told Words first last depth = decimal first ++ codes " " ++ decimal last ++ codes " " ++ decimal depth ++ codes " "
-front_told Json first last depth = front_json first last depth
+-- what stands in a line before that: a first line and a last one, how many containers stand around it, and how many bytes of the
+-- page stand before it
+abbrev pub front_told : Form → ℕ → ℕ → ℕ → ℕ → List ℕ
+front_told Words first last depth offset = decimal first ++ codes " " ++ decimal last ++ codes " " ++ decimal depth ++ codes " "
+front_told Json first last depth offset = front_json first last depth offset
 
--- and behind it
+-- what stands behind it of a block: how many bytes its lines have
+abbrev pub size_told : Form → ℕ → List ℕ
+size_told Words bytes = []
+size_told Json bytes = size_json bytes
+
+-- and at the end
 abbrev pub end_told : Form → List ℕ
 end_told Words = line_feed ∷ []
 end_told Json = codes "}" ++ line_feed ∷ []
 
 -- a line of what is told
-abbrev pub told_line : Form → ℕ → ℕ → ℕ → List ℕ → List ℕ
-told_line form first last depth what = front_told form first last depth ++ what ++ end_told form
+abbrev pub told_line : Form → ℕ → ℕ → ℕ → ℕ → List ℕ → List ℕ
+told_line form first last depth offset what = front_told form first last depth offset ++ what ++ end_told form
+
+-- what a block's line tells of its kind and its bytes
+abbrev pub block_told : Form → BlockKind → List ℕ → ℕ → List ℕ
+block_told form kind first bytes = kind_told form kind first ++ size_told form bytes
 
 -- the lines of containers that begin in a line, behind so many
-abbrev pub told_containers : Form → ℕ → ℕ → List Container → List ℕ
-told_containers form line depth [] = []
-told_containers form line depth (c ∷ inner) =
-    told_line form line line depth (container_told form c) ++ told_containers form line (suc depth) inner
+abbrev pub told_containers : Form → Place → ℕ → List Container → List ℕ
+told_containers form at depth [] = []
+told_containers form at depth (c ∷ inner) =
+    told_line form (at.lines + 1) (at.lines + 1) depth at.bytes (container_told form c) ++ told_containers form at (suc depth) inner
 
--- the lines of a block behind so many lines
-abbrev pub told_piece : Form → ℕ → Piece → List ℕ
-told_piece form before piece =
-    told_containers form (before + 1) (length piece.kept) piece.begun
-    ++ told_line form (before + 1) (before + length (piece.first ∷ piece.later)) (length (piece.kept ++ piece.begun))
-    (kind_told form piece.kind piece.words.text)
+-- the lines of a block behind so much of the page
+abbrev pub told_piece : Form → Place → Piece → List ℕ
+told_piece form at piece =
+    told_containers form at (length piece.kept) piece.begun
+    ++ told_line form (at.lines + 1) (at.lines + length (piece.first ∷ piece.later)) (length (piece.kept ++ piece.begun)) at.bytes
+    (block_told form piece.kind piece.words.text (length (concat (piece.first ∷ piece.later))))
 
--- the lines of blocks behind so many lines
-abbrev pub told_from : Form → ℕ → List Piece → List ℕ
-told_from form before [] = []
-told_from form before (piece ∷ later) =
-    told_piece form before piece ++ told_from form (before + length (piece.first ∷ piece.later)) later
+-- what stands before what follows a piece
+abbrev pub behind_piece : Place → Piece → Place
+behind_piece at piece = record {
+  lines = at.lines + length (piece.first ∷ piece.later);
+  bytes = at.bytes + length (concat (piece.first ∷ piece.later));
+}
+
+-- the lines of blocks behind so much of the page
+abbrev pub told_from : Form → Place → List Piece → List ℕ
+told_from form at [] = []
+told_from form at (piece ∷ later) = told_piece form at piece ++ told_from form (behind_piece at piece) later
+
+-- nothing of the page
+abbrev pub the_front : Place
+the_front = record { lines = 0; bytes = 0 }
 
 -- the text tells the blocks of the page in this form
 abbrev pub TellsPage : Form → List ℕ → List ℕ → Type 0
-TellsPage form input text = (pieces : List Piece) × IsPage input pieces × (text ≡ told_from form 0 pieces)
+TellsPage form input text = (pieces : List Piece) × IsPage input pieces × (text ≡ told_from form the_front pieces)
 
 -- known bytes grow by a text that tells the blocks of the page
 abbrev pub IsToldTo : Form → List ℕ → Option (List ℕ) → Option (List ℕ) → Type 0
@@ -96,7 +118,7 @@ IsToldTo form input old new = (text : List ℕ) × TellsPage form input text × 
 -- it tells blocks at the front of the page
 abbrev pub TellsFront : Form → List ℕ → List ℕ → Type 0
 TellsFront form input text =
-    (pieces : List Piece) × (rest : List (List ℕ)) × IsFront input pieces rest × (text ≡ told_from form 0 pieces)
+    (pieces : List Piece) × (rest : List (List ℕ)) × IsFront input pieces rest × (text ≡ told_from form the_front pieces)
 
 -- Known bytes grow by a text that tells blocks at the front of what was read of the input, whatever bytes follow that.
 abbrev pub IsBegunTo : Form → Option (List ℕ) → Option (List ℕ) → Option (List ℕ) → Option (List ℕ) → Type 0

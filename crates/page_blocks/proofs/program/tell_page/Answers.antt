@@ -2,6 +2,7 @@ use Rattle.std.proofs.Common.{ℕ, ◌+◌, ◌-◌, ◌++◌, ◌≡◌, true, 
 use Rattle.std.specs.Result.{IsErrAnd}
 use Rattle.std.proofs.lemmas.List.{length-drop}
 use Rattle.program_faults.specs.Steps.{AreReads, no_read}
+use Rattle.page_blocks.specs.declared.printing.Place.{Place}
 use Rattle.page_blocks.specs.declared.reading.TheConstants.{READS}
 use Rattle.page_blocks.proofs.reading.ReadingLemmas.{reads_on, reads_made, reads_all}
 use Rattle.page_blocks.proofs.program.ProgramLemmas.{begun-first, begun-read, begun-written, begun-stopped, begun-done}
@@ -23,7 +24,18 @@ loop-telling-init g c = record {
       c.new-unread.result.text.items c.new-unread.ensures.text c.new-telling.ensures.told c.new-telling.ensures.form;
   empty = c.new-telling.ensures.nothing;
   reads = (0, omega (arith, c.new-unread.ensures.reads), no_read c.args.input.now);
-  room = omega (arith, c.new-telling.ensures.before, ap length c.new-unread.ensures.text, c.new-unread.ensures.reads);
+  lines = omega (
+    arith,
+    ap (λ (p : Place). p.lines) c.new-telling.ensures.at,
+    ap length c.new-unread.ensures.text,
+    c.new-unread.ensures.reads,
+  );
+  bytes = omega (
+    arith,
+    ap (λ (p : Place). p.bytes) c.new-telling.ensures.at,
+    ap length c.new-unread.ensures.text,
+    c.new-unread.ensures.reads,
+  );
 }
 
 pub returns-in_err-has_ended-clause-begun : goal.returns-in_err-has_ended-clause-begun
@@ -36,8 +48,11 @@ returns-in_err-has_ended-clause-begun g c =
     (c.loop-telling.unread.text.items ++ read.0) read.0 c.loop-telling.invariant.begun read.1 refl)
     c.loop-telling.invariant.empty)
 
-pub tell-requires : goal.tell-requires
-tell-requires g c = omega (arith, c.loop-telling.invariant.room, c.in_ok-has_ended.ensures.room, ap length c.deref.ensures.value)
+pub tell-requires-clause-lines : goal.tell-requires-clause-lines
+tell-requires-clause-lines g c = omega (arith, c.loop-telling.invariant.lines, c.in_ok-has_ended.ensures.room, ap length c.deref.ensures.value)
+
+pub tell-requires-clause-bytes : goal.tell-requires-clause-bytes
+tell-requires-clause-bytes g c = omega (arith, c.loop-telling.invariant.bytes, c.in_ok-has_ended.ensures.room, ap length c.deref.ensures.value)
 
 pub returns-in_err-count-clause-begun : goal.returns-in_err-count-clause-begun
 returns-in_err-count-clause-begun g c =
@@ -81,14 +96,24 @@ loop-telling-preserved g c =
       reads = subst (λ n. (count : ℕ) × (n + count ≡ READS) × AreReads g.R.StepReader.reads count c.args.input.now c.read_more.new.input)
           (sym c.drop_front.ensures.reads) (reads_on g.R.StepReader.reads c.loop-telling.unread.reads c.read_more.new.self.reads READS c.args.input.now
           c.loop-telling.input c.read_more.new.input c.loop-telling.invariant.reads c.read_more.ensures.reads);
-      room = omega (
+      lines = omega (
         arith,
-        c.loop-telling.invariant.room,
+        c.loop-telling.invariant.lines,
         c.in_ok-has_ended.ensures.room,
         ap length c.deref.ensures.value,
         left,
         c.in_ok-count.ensures.within,
-        c.in_ok-count.ensures.before,
+        c.in_ok-count.ensures.lines,
+        c.drop_front.ensures.reads,
+      );
+      bytes = omega (
+        arith,
+        c.loop-telling.invariant.bytes,
+        c.in_ok-has_ended.ensures.room,
+        ap length c.deref.ensures.value,
+        left,
+        c.in_ok-count.ensures.within,
+        c.in_ok-count.ensures.bytes,
         c.drop_front.ensures.reads,
       );
     }

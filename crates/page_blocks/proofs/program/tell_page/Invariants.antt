@@ -11,7 +11,8 @@ invariant-loop-telling g l = record {
       l.telling l.unread.text.items;
   empty : string_bytes l.telling.told ≡ [];
   reads : (count : ℕ) × (l.unread.reads + count ≡ READS) × AreReads g.R.StepReader.reads count l.fn.input l.input;
-  room : l.telling.before + (length l.unread.text.items + 65536 * l.unread.reads) ≤ 18446744073709486080;
+  lines : l.telling.at.lines + (length l.unread.text.items + 65536 * l.unread.reads) ≤ 18446744073709486080;
+  bytes : l.telling.at.bytes + (length l.unread.text.items + 65536 * l.unread.reads) ≤ 18446744073709486080;
 }
 
 abbrev pub decreases-loop-telling : goal.decreases-loop-telling
