@@ -2,6 +2,7 @@
 #![tactic(auto)]
 
 pub mod blocks;
+pub mod definitions;
 pub mod headings;
 pub mod html;
 pub mod labels;

@@ -1,13 +1,15 @@
 //! Link reference definitions at the front of a paragraph. (CommonMark 0.31.2, section 4.7)
-ghost use Rattle.std.specs.Prelude.{◌≡◌, ◌↔◌, ◌<◌, ◌≤◌, ◌++◌, ◌∷◌, [], List, ℕ, drop, length, IsTrue, IfOk, IfSome, OnOk};
+ghost use Rattle.std.specs.Prelude.{◌≡◌, ◌↔◌, ◌<◌, ◌≤◌, ◌++◌, ◌-◌, ◌∷◌, [], List, ℕ, drop, length, take, IsTrue, IfOk, IfSome, IfNone, OnOk};
 ghost use Rattle.markdown_scanners_tree.specs.SomeExactly.{SomeExactly};
+ghost use Rattle.markdown_scanners_tree.specs.scanners.TextLines.{lines_of};
 ghost use Rattle.markdown_scanners_tree.specs.declared.scanners.reference_definitions.ReferenceDefinition.{ReferenceDefinition};
-ghost use Rattle.markdown_blocks.specs.definitions.Content.{content_of, words_in};
+ghost use Rattle.markdown_blocks.specs.definitions.Content.{content_in, content_of, words_in};
 ghost use Rattle.markdown_blocks.specs.definitions.Definitions.{AreDefinitions, HasText, IsDefinition};
 ghost use Rattle.markdown_blocks.specs.info.Info.{without_front};
 ghost use Rattle.markdown_blocks.specs.taken.Lines.{IsTaken};
 
-use crate::containers::{Outer, go_on, rest_behind};
+use crate::blocks::{Block, BlockKind};
+use crate::containers::{Container, Outer, go_on, rest_behind};
 use crate::info::without_front;
 use crate::taken::Taken;
 use markdown_scanners_tree::scanners::{ReferenceDefinition, scan_reference_definition};
@@ -21,6 +23,34 @@ pub fn scan_definition(content: &[u8]) -> Option<ReferenceDefinition>
     ensures within { IfSome result (λ definition. definition.len ≤ length content.now) }
 {
     scan_reference_definition(content, 31)
+}
+
+/// How many bytes and lines the definition at the front of a paragraph's content takes, if one
+/// stands there. A block has a line for each line of its content, so these are as many lines of the
+/// page: the first of the block, and behind one definition those of the next.
+pub fn take_definition(content: &[u8]) -> Option<Taken>
+    ensures found { IfSome result (λ taken. (definition : ReferenceDefinition)
+        × IsDefinition content.now definition × (taken.bytes ≡ definition.len)
+        × (taken.lines ≡ length (lines_of (take definition.len content.now)))) }
+    ensures none { IfNone result ((definition : ReferenceDefinition)
+        → ¬ IsDefinition content.now definition) }
+    ensures some { IfSome result (λ taken. 0 < taken.bytes) }
+    ensures within { IfSome result (λ taken. taken.bytes ≤ length content.now) }
+{
+    let definition = scan_definition(content)?;
+    Some(count_lines(&content[..definition.len]))
+}
+
+// How many bytes and lines the text has.
+fn count_lines(text: &[u8]) -> Taken
+    ensures lines { result.lines ≡ length (lines_of text.now) }
+    ensures bytes { result.bytes ≡ length text.now }
+{
+    let mut taken = Taken::nothing();
+    while let Some((_, more)) = taken.next(text) {
+        taken = more;
+    }
+    taken
 }
 
 /// How many bytes the definitions take at the front of a paragraph's content, one behind another.
@@ -54,7 +84,7 @@ pub(crate) fn has_text(
         return Ok(true);
     }
     let mut content = Vec::new(alloc);
-    add_content(&mut content, text, first, taken, outer, words)?;
+    add_lines(&mut content, text, first, taken.lines, outer, words)?;
     Ok(definitions_len(&content) < content.len())
 }
 
@@ -68,22 +98,46 @@ fn begins_with_text(words: &[u8]) -> bool
     }
 }
 
-// Adds the content of a paragraph of these lines.
-fn add_content(
+/// Adds the content of a block at the front of these lines: a paragraph's or a setext heading's, and
+/// nothing of other blocks. `text` is what its first line has, as `Step` has it, and `containers` are
+/// those that it stands in.
+pub fn add_content(
+    content: &mut Vec<u8>,
+    lines: &[u8],
+    block: Block,
+    containers: &[Container],
+    text: &[u8],
+) -> Result<(), AllocError>
+    ensures { OnOk result ((line : List ℕ) (later : List (List ℕ)) → IsTaken lines.now block.taken (line ∷ later)
+        → content.new.items ≡ content.old.items ++ content_in block.kind containers.now text.now later) }
+{
+    let count = match block.kind {
+        BlockKind::Paragraph => block.taken.lines,
+        BlockKind::Setext(_) => block.taken.lines.saturating_sub(1),
+        _ => return Ok(()),
+    };
+    let Some((_, first)) = Taken::nothing().next(lines) else {
+        return Ok(());
+    };
+    add_lines(content, lines, first, count, Outer::new(containers), text)
+}
+
+// Adds the content of a paragraph of so many lines, of which the first is taken, and has this text.
+fn add_lines(
     content: &mut Vec<u8>,
     text: &[u8],
     first: Taken,
-    taken: Taken,
+    count: usize,
     outer: Outer,
     words: &[u8],
 ) -> Result<(), AllocError>
-    ensures { OnOk result ((line : List ℕ) (later : List (List ℕ)) → IsTaken text.now first (line ∷ [])
-        → IsTaken text.now taken (line ∷ later)
-        → content.new.items ≡ content.old.items ++ content_of outer.entry.containers.now words.now later) }
+    ensures { OnOk result ((line : List ℕ) → IsTaken text.now first (line ∷ [])
+        → content.new.items ≡ content.old.items ++ content_of outer.entry.containers.now words.now
+        (take (count - 1) (lines_of (drop first.bytes text.now)))) }
 {
     content.extend_from_slice(without_front(words))?;
     let mut read = first;
-    while read.lines < taken.lines {
+    while read.lines < count {
         let Some((line, more)) = read.next(text) else {
             return Ok(());
         };

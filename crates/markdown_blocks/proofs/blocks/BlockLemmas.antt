@@ -10,7 +10,8 @@ use Rattle.markdown_blocks.specs.declared.blocks.BlockKind.TheVariants.{Blank, B
 use Rattle.markdown_blocks.specs.declared.containers.Container.{Container}
 use Rattle.markdown_blocks.specs.declared.taken.Taken.{Taken}
 use Rattle.markdown_blocks.specs.taken.Lines.{IsTaken, IsNext}
-use Rattle.markdown_blocks.specs.blocks.Leaves.{Begins, IsBlank, Underlines, OutOr, LeavesBehind, ClosesFence, OnFirst, EndsAsHtml, GoesOnIndented, IsHead, IsRow, BeginsNoTable}
+use Rattle.markdown_blocks.specs.blocks.Leaves.{Begins, IsBlank, Underlines, OutOr, LeavesBehind, ClosesFence}
+use Rattle.markdown_blocks.specs.blocks.Leaves.{OnFirst, EndsAsHtml, GoesOnIndented, IsHead, IsRow, BeginsNoTable}
 use Rattle.markdown_blocks.specs.blocks.Pages.{IsBlockOf}
 use Rattle.markdown_blocks.proofs.blocks.ParagraphLemmas.{Reached}
 use Rattle.markdown_blocks.proofs.taken.TakenLemmas.{Until, Through, taken-next}

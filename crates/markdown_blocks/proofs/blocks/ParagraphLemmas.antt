@@ -1,5 +1,6 @@
 -- The lines of a paragraph, up to the first that ends it behind those before it.
-use Rattle.std.proofs.Common.{ℕ, true, false, ◌⊎◌, List, [], ◌∷◌, ◌++◌, ◌≡◌, inl, inr, refl, sym, ap, ◌∙◌, subst, append_assoc, append-nil, IsTrue, Some, ◌==◌, ◌≤◌, length, arith, suc, take, not, ◌+◌}
+use Rattle.std.proofs.Common.{ℕ, true, false, ◌⊎◌, List, [], ◌∷◌, ◌++◌, ◌≡◌, inl, inr, refl, sym, ap}
+use Rattle.std.proofs.Common.{◌∙◌, subst, append_assoc, append-nil, IsTrue, Some, ◌==◌, ◌≤◌, length, arith, suc, take, not, ◌+◌}
 use Rattle.std.specs.List.{list_all, prefix_len}
 use Rattle.std.proofs.lemmas.Bool.{and_parts, eqb-true}
 use Rattle.markdown_values.specs.declared.values.HeadingLevel.{HeadingLevel}
@@ -48,7 +49,8 @@ not_blank : (bytes : List ℕ) (level : HeadingLevel) (byte : ℕ) (run rest : L
 not_blank bytes level byte [] rest of parts all some blank = absurd (omega (arith, some))
 not_blank bytes level byte (b ∷ run) rest of parts all some blank =
     let same : b ≡ byte = eqb-true b byte (and_parts (b == byte) _ all).0 in
-    let text : is_blank (b ∷ (run ++ rest)) ≡ false = marked b (run ++ rest) (subst (λ x. (x ≡ equals_sign) ⊎ (x ≡ hyphen)) (sym same) (of_either level byte of)) in
+    let either = subst (λ x. (x ≡ equals_sign) ⊎ (x ≡ hyphen)) (sym same) (of_either level byte of) in
+    let text : is_blank (b ∷ (run ++ rest)) ≡ false = marked b (run ++ rest) either in
     let both : true ≡ false = sym blank ∙ ap is_blank parts ∙ text in cc
 
 module _ (outer : List Container) (words : List ℕ) where

@@ -1,6 +1,8 @@
 -- The definitions at the front of a text, one behind another.
-use Rattle.std.proofs.Common.{ℕ, List, [], ◌∷◌, ◌++◌, ◌≡◌, ◌<◌, ◌≤◌, ◌-◌, length, drop, refl, sym, ap, ◌∙◌, subst, arith, append-nil, append_assoc, length-append}
-use Rattle.std.proofs.lemmas.List.{append_cancel_left, length-drop}
+use Rattle.std.proofs.Common.{ℕ, List, [], ◌∷◌, ◌++◌, ◌≡◌, ◌<◌, ◌≤◌, ◌-◌, length, take}
+use Rattle.std.proofs.Common.{drop, refl, sym, ap, ◌∙◌, subst, arith, append-nil, append_assoc, length-append}
+use Rattle.std.proofs.Math.Seq.{take-append_seam}
+use Rattle.std.proofs.lemmas.List.{append_cancel_left, length-drop, take_all, take-append-le}
 use Rattle.std.specs.List.{flat_map}
 use Rattle.std.specs.Prelude.{IsTrue, nat_lt}
 use Rattle.std.proofs.lemmas.Bool.{lt-ltb, ltb-true}
@@ -70,72 +72,79 @@ content-more outer words before line =
         ∙ ap (λ c. words_in outer l ++ c) (push ls)
 
 -- the content of the lines that are read, behind what stood before it
-pub record Read (outer : List Container) (words text line : List ℕ) (later : List (List ℕ)) (read taken : Taken) (old content : List ℕ) : Type 0 where
+pub record Read (outer : List Container) (words text line : List ℕ) (count : ℕ) (read : Taken) (old content : List ℕ) : Type 0 where
   pub before : List (List ℕ)
-  pub after : List (List ℕ)
-  pub all : later ≡ before ++ after
+  pub few : length before ≤ count - 1
   pub is_read : IsTaken text read (line ∷ before)
-  pub left : lines_of (drop read.bytes text) ≡ after ++ lines_of (drop taken.bytes text)
   pub gathered : content ≡ old ++ content_of outer words before
 
-module _ (outer : List Container) (words text line : List ℕ) (later : List (List ℕ)) (taken : Taken) (old : List ℕ) where
-  pub read-first : (first : Taken) (content : List ℕ) → IsTaken text first (line ∷ []) → IsTaken text taken (line ∷ later)
-      → content ≡ old ++ without_front words → Read outer words text line later first taken old content
-  read-first first content h all gathered = record {
+module _ (outer : List Container) (words text line : List ℕ) (count : ℕ) (old : List ℕ) where
+  pub read-first : (first : Taken) (content : List ℕ) → IsTaken text first (line ∷ []) → content ≡ old ++ without_front words
+      → Read outer words text line count first old content
+  read-first first content h gathered = record {
     before = [];
-    after = later;
-    all = refl;
+    few = omega arith;
     is_read = h;
-    left = append_cancel_left (line ∷ []) (lines_of (drop first.bytes text)) (later ++ lines_of (drop taken.bytes text)) (sym h.parts ∙ all.parts);
     gathered = gathered ∙ ap (λ c. old ++ c) (sym (append-nil (without_front words)));
   }
 
   -- a line more
-  pub read-more : (read more : Taken) (l content now : List ℕ) → Read outer words text line later read taken old content → read.lines < taken.lines
-      → IsTaken text taken (line ∷ later) → IsNext text read l more → now ≡ content ++ words_in outer l
-      → Read outer words text line later more taken old now
-  read-more read more l content now r fewer all n grown = by r.after refl
-    where
-      by : (after : List (List ℕ)) → r.after ≡ after → Read outer words text line later more taken old now
-      by [] none =
-          let same : later ≡ r.before = r.all ∙ ap (λ ls. r.before ++ ls) none ∙ append-nil r.before in
-          let size = ap length same in absurd (omega (arith, fewer, all.counted, r.is_read.counted, size))
-      by (next ∷ after) some =
-          let lists : l ∷ lines_of (drop more.bytes text) ≡ next ∷ (after ++ lines_of (drop taken.bytes text)) =
-          sym n.parts ∙ r.left ∙ ap (λ ls. ls ++ lines_of (drop taken.bytes text)) some in
-          let here : next ≡ l = cc in
-          record {
-            before = r.before ++ l ∷ [];
-            after = after;
-            all = r.all ∙ ap (λ ls. r.before ++ ls) (some ∙ ap (λ x. x ∷ after) here) ∙ sym (append_assoc r.before (l ∷ []) after);
-            is_read = taken-next text read more (line ∷ r.before) l r.is_read n;
-            left = cc;
-            gathered = grown ∙ ap (λ c. c ++ words_in outer l) r.gathered
-                ∙ append_assoc old (content_of outer words r.before) (words_in outer l)
-                ∙ ap (λ c. old ++ c) (content-more outer words r.before l);
-          }
+  pub read-more : (read more : Taken) (l content now : List ℕ) → Read outer words text line count read old content → read.lines < count
+      → IsNext text read l more → now ≡ content ++ words_in outer l → Read outer words text line count more old now
+  read-more read more l content now r fewer n grown = record {
+    before = r.before ++ l ∷ [];
+    few = omega (arith, fewer, r.is_read.counted, length-append r.before (l ∷ []));
+    is_read = taken-next text read more (line ∷ r.before) l r.is_read n;
+    gathered = grown ∙ ap (λ c. c ++ words_in outer l) r.gathered
+        ∙ append_assoc old (content_of outer words r.before) (words_in outer l) ∙ ap (λ c. old ++ c) (content-more outer words r.before l);
+  }
 
-  -- all lines
-  pub read-all : (read : Taken) (content : List ℕ) → Read outer words text line later read taken old content → IsTaken text taken (line ∷ later)
-      → ¬ (read.lines < taken.lines) → content ≡ old ++ content_of outer words later
-  read-all read content r all done = r.gathered ∙ ap (λ ls. old ++ content_of outer words ls) (by r.after refl)
-    where
-      by : (after : List (List ℕ)) → r.after ≡ after → r.before ≡ later
-      by [] none = sym (r.all ∙ ap (λ ls. r.before ++ ls) none ∙ append-nil r.before)
-      by (next ∷ after) some =
-          let size = ap length (r.all ∙ ap (λ ls. r.before ++ ls) some) ∙ length-append r.before (next ∷ after) in
-          absurd (omega (arith, done, all.counted, r.is_read.counted, size))
+  module _ (first read : Taken) (content : List ℕ) (h : IsTaken text first (line ∷ [])) (r : Read outer words text line count read old content) where
+    left : lines_of (drop first.bytes text) ≡ r.before ++ lines_of (drop read.bytes text)
+    left = append_cancel_left (line ∷ []) (lines_of (drop first.bytes text)) (r.before ++ lines_of (drop read.bytes text)) (sym h.parts ∙ r.is_read.parts)
 
-  -- no line is left
-  pub read-end : (read : Taken) (content : List ℕ) → Read outer words text line later read taken old content → lines_of (drop read.bytes text) ≡ []
-      → content ≡ old ++ content_of outer words later
-  read-end read content r none = r.gathered ∙ ap (λ ls. old ++ content_of outer words ls) (by r.after refl)
-    where
-      by : (after : List (List ℕ)) → r.after ≡ after → r.before ≡ later
-      by [] empty = sym (r.all ∙ ap (λ ls. r.before ++ ls) empty ∙ append-nil r.before)
-      by (next ∷ after) some =
-          let lists : next ∷ (after ++ lines_of (drop taken.bytes text)) ≡ [] =
-          sym (r.left ∙ ap (λ ls. ls ++ lines_of (drop taken.bytes text)) some) ∙ none in cc
+    -- all lines
+    pub read-all : ¬ (read.lines < count) → content ≡ old ++ content_of outer words (take (count - 1) (lines_of (drop first.bytes text)))
+    read-all done = r.gathered ∙ ap (λ ls. old ++ content_of outer words ls) (sym all)
+      where
+        size : count - 1 ≡ length r.before
+        size = omega (arith, done, r.few, r.is_read.counted)
+
+        all : take (count - 1) (lines_of (drop first.bytes text)) ≡ r.before
+        all = ap (take (count - 1)) left ∙ ap (λ n. take n (r.before ++ lines_of (drop read.bytes text))) size
+            ∙ take-append_seam r.before (lines_of (drop read.bytes text))
+
+    -- no line is left
+    pub read-end : lines_of (drop read.bytes text) ≡ [] → content ≡ old ++ content_of outer words (take (count - 1) (lines_of (drop first.bytes text)))
+    read-end none = r.gathered ∙ ap (λ ls. old ++ content_of outer words ls) (sym all)
+      where
+        all : take (count - 1) (lines_of (drop first.bytes text)) ≡ r.before
+        all = ap (take (count - 1)) (left ∙ ap (λ ls. r.before ++ ls) none ∙ append-nil r.before) ∙ take_all (count - 1) r.before r.few
+
+-- the content of a block: its first lines, of all that stand there
+module _ (text line : List ℕ) (later : List (List ℕ)) (first taken : Taken) (h : IsTaken text first (line ∷ [])) (t : IsTaken text taken (line ∷ later)) where
+  rest_is : lines_of (drop first.bytes text) ≡ later ++ lines_of (drop taken.bytes text)
+  rest_is = append_cancel_left (line ∷ []) (lines_of (drop first.bytes text)) (later ++ lines_of (drop taken.bytes text)) (sym h.parts ∙ t.parts)
+
+  pub later_lines : take (taken.lines - 1) (lines_of (drop first.bytes text)) ≡ later
+  later_lines =
+      let size : taken.lines - 1 ≡ length later = omega (arith, t.counted) in
+      ap (take (taken.lines - 1)) rest_is ∙ ap (λ n. take n (later ++ lines_of (drop taken.bytes text))) size
+      ∙ take-append_seam later (lines_of (drop taken.bytes text))
+
+  pub all_but_last : take (taken.lines - 1 - 1) (lines_of (drop first.bytes text)) ≡ take (length later - 1) later
+  all_but_last =
+      let size : taken.lines - 1 - 1 ≡ length later - 1 = omega (arith, t.counted) in
+      ap (take (taken.lines - 1 - 1)) rest_is ∙ ap (λ n. take n (later ++ lines_of (drop taken.bytes text))) size
+      ∙ take-append-le (length later - 1) later (lines_of (drop taken.bytes text)) (omega arith)
+
+-- the line that is taken from the front is the first
+pub first_line : (text line : List ℕ) (later : List (List ℕ)) (taken : Taken) → IsTaken text taken (line ∷ later) → (start one : Taken) (l : List ℕ)
+    → IsTaken text start [] → IsNext text start l one → IsTaken text one (line ∷ [])
+first_line text line later taken t start one l none n =
+    let is = taken-next text start one [] l none n in
+    let here : l ∷ lines_of (drop one.bytes text) ≡ line ∷ (later ++ lines_of (drop taken.bytes text)) = sym is.parts ∙ t.parts in
+    let same : l ≡ line = cc in subst (λ x. IsTaken text one (x ∷ [])) same is
 
 -- whether a content is more than its definitions, by their length and its own
 pub all_told : (items content : List ℕ) (taken size : ℕ) → items ≡ content

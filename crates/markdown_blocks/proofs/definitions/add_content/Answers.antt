@@ -1,19 +1,19 @@
-use Rattle.std.proofs.Common.{arith}
-use Rattle.markdown_blocks.proofs.definitions.DefinitionLemmas.{read-more, read-all, read-end}
+use Rattle.std.proofs.lemmas.Result.{IfOk-weaker}
+use Rattle.markdown_blocks.proofs.definitions.DefinitionLemmas.{later_lines, all_but_last, first_line}
+use Rattle.markdown_blocks.proofs.definitions.add_content.Goals.{in-Paragraph, in-Setext}
 use Rattle.markdown_blocks.proofs.definitions.add_content.Goals as goal
 
-pub loop-read-preserved : goal.loop-read-preserved
-loop-read-preserved c = λ line later h all.
-    read-more c.args.outer.containers.now c.args.words.now c.args.text.now line later c.args.taken c.args.content.now.items c.loop-read.read c.in-Some.more
-    c.in-Some.line.now c.loop-read.content.items c.extend_from_slice-in-loop-read.new.self.items (c.loop-read.invariant line later h all) c.loop-read-test.true all
-    c.in-Some.ensures.line (rw c.words_in.ensures at c.in_ok-extend_from_slice-2.ensures.items)
-
-pub returns-in_default : goal.returns-in_default
-returns-in_default c = λ line later h all.
-    read-end c.args.outer.containers.now c.args.words.now c.args.text.now line later c.args.taken c.args.content.now.items c.loop-read.read
-    c.loop-read.content.items (c.loop-read.invariant line later h all) c.in_default.ensures.none
-
 pub returns : goal.returns
-returns c = λ line later h all.
-    read-all c.args.outer.containers.now c.args.words.now c.args.text.now line later c.args.taken c.args.content.now.items c.loop-read.read
-    c.loop-read.content.items (c.loop-read.invariant line later h all) all (λ fewer. absurd (omega (arith, fewer, c.loop-read-test.false)))
+returns c = IfOk-weaker c.add_lines.result _ _ (λ unit told line later t.
+    let h = first_line c.args.lines.now line later c.args.block.taken t c.nothing.result c.in-Some.first _ (c.nothing.ensures c.args.lines.now)
+    c.in-Some.ensures.line in
+    let is = rw c.new.ensures at (told line h) in
+    elim c.match-block.branch [
+      | in-Paragraph w ↦ rw w.in-Paragraph.is (rw (w.count-is, later_lines c.args.lines.now line later c.in-Some.first c.args.block.taken h t) at is)
+      | in-Setext w ↦ rw w.in-Setext.is (rw (
+        w.count-is,
+        w.saturating_sub-count.ensures,
+        all_but_last c.args.lines.now line later c.in-Some.first
+            c.args.block.taken h t,
+      ) at is)
+    ]) c.add_lines.ensures
