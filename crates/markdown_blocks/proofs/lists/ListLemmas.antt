@@ -9,7 +9,9 @@ use Rattle.markdown_blocks.specs.declared.lists.ListBlock.{ListBlock}
 use Rattle.markdown_blocks.specs.declared.lists.OpenList.{OpenList}
 use Rattle.markdown_blocks.specs.events.Events.{Event, ends, LeafBlock}
 use Rattle.markdown_blocks.specs.lists.Lists.{Nodes, nothing, leaf_then, container_then, flatten, line_behind, lines_passed, is_blank_kind, begins_blank}
-use Rattle.markdown_blocks.specs.lists.Lists.{Child, is_item_of, list_from, longer, list_behind, list_before, lists_among, are_parted, ends_blank, last_end}
+use Rattle.markdown_blocks.specs.lists.Lists.{Child, ends_blank, last_end}
+use Rattle.markdown_blocks.proofs.lists.Followed.{is_item_of, item_list, longer, list_behind, list_before, lists_followed, parted_followed}
+use Rattle.markdown_blocks.proofs.lists.Followed.{lists_are_followed, parted_is_followed}
 use Rattle.markdown_blocks.specs.lists.Lists.{end_of, ends_blank_line, leaf_child, container_child, child_unless, children, lists_of}
 use Rattle.markdown_blocks.specs.lists.Tracked.{Tracked, list_now, joins, loosened, list_begun, begun, is_item, level_within, leaf_read, lists_behind}
 
@@ -63,9 +65,9 @@ lists_after (level ∷ outer) line end blank item parted later =
 -- the lists of the children that follow, and those behind them
 abbrev told : List Level → Option ListBlock → Bool → List Child → ℕ → ℕ → Bool → Bool → List Event → List ListBlock
 told outer list blank later_ones line end item parted later =
-    lists_among (length outer) list blank later_ones
+    lists_followed (length outer) list blank later_ones
     ++ lists_after outer line (last_end end later_ones) (ends_blank blank later_ones) item
-    (parted || are_parted (length outer) list blank later_ones) later
+    (parted || parted_followed (length outer) list blank later_ones) later
 
 told_one : (outer : List Level) (list : Option ListBlock) (blank : Bool) (child : Child) (others : List Child) (line end : ℕ) (item parted : Bool)
     → (later : List Event)
@@ -75,8 +77,8 @@ told_one : (outer : List Level) (list : Option ListBlock) (blank : Bool) (child 
 told_one outer list blank child others line end item parted later =
     let before = option_to_list (list_before list child) in
     let next = list_behind (length outer) list blank child in
-    let among = lists_among (length outer) next child.is_blank others in
-    let parted_later = are_parted (length outer) next child.is_blank others in
+    let among = lists_followed (length outer) next child.is_blank others in
+    let parted_later = parted_followed (length outer) next child.is_blank others in
     let behind : Bool → List ListBlock = λ p. lists_after outer line (last_end child.end others) (ends_blank child.is_blank others) item p later in
     let together = behind (parted || ((blank && not (is_item_of list child.container)) || parted_later)) in
     append_assoc (before ++ child.inside) among together
@@ -108,14 +110,14 @@ joined (Item i) (Some l) end outer = refl
 -- the list at its end
 list_then : (c : Container) (list : Option OpenList) (blank : Bool) (outer : List Level) (before : ℕ) (child : Child)
     → now (loosened (begun (level_of false false list) c blank child.line).list child.is_parted) child.end outer
-    ≡ (if is_item_of (now list before outer) (Some c) then longer (now list before outer) blank child else list_from (length outer) child (Some c))
+    ≡ (if is_item_of (now list before outer) (Some c) then longer (now list before outer) blank child else item_list (length outer) child (Some c))
 list_then Quote list blank outer before child = refl
 list_then (Item i) None blank outer before child = refl
 list_then (Item i) (Some l) blank outer before child = alike (l.delimiter == i.delimiter)
   where
     alike : (q : Bool)
         → now (loosened (if q then loosened (Some l) blank else list_begun (Item i) child.line) child.is_parted) child.end outer
-        ≡ (if q then longer (now (Some l) before outer) blank child else list_from (length outer) child (Some (Item i)))
+        ≡ (if q then longer (now (Some l) before outer) blank child else item_list (length outer) child (Some (Item i)))
     alike true = refl
     alike false = refl
 
@@ -193,11 +195,15 @@ module _ (c : Container) (inner nodes : Nodes) (found_in : AreFound inner) (foun
       let blank_now = is_item c && ends_blank false content in
       let list_then_now = loosened level.list child.is_parted in
       let among = child.inside in
+      let closing : Bool → List ListBlock = λ p.
+      lists_after (level ∷ outer) passed (last_end line content) (ends_blank false content) (is_item c) p behind in
       let behind_child : Option ListBlock → Bool → ℕ → Bool → List ListBlock = λ o b e q.
       told outer o (b || begins_blank nodes) others far e item (parted || q) later in
       ap (λ es. before ++ lists_behind (at line line false true (level_within c) (level ∷ outer)) es)
       (append_assoc (flatten inner) (ends ∷ flatten nodes) (tail outer later))
       ∙ ap (λ ls. before ++ ls) (found_in line line false true (is_item c) false None (level ∷ outer) behind)
+      ∙ ap (λ ls. before ++ (ls ++ closing (parted_followed (suc (length outer)) None false content))) (lists_are_followed (suc (length outer)) content)
+      ∙ ap (λ p. before ++ (among ++ closing p)) (parted_is_followed (suc (length outer)) content)
       ∙ ap (λ ls. before ++ (among ++ ls)) (found passed end_now blank_now false item level.is_parted list_then_now outer later)
       ∙ ap (λ e. before ++ (among ++ behind_child (now list_then_now e outer) blank_now e (blank && not (joins list c)))) (end_is c line passed content)
       ∙ ap (λ b. before ++ (among ++ behind_child (now list_then_now child.end outer) b child.end (blank && not (joins list c)))) (blank_is c content)
@@ -225,7 +231,8 @@ at_start = at 0 0 false true (level_of false false None) []
 pub page_lists : (nodes : Nodes) → lists_behind at_start (flatten nodes) ≡ lists_of nodes
 page_lists nodes =
     ap (lists_behind at_start) (sym (append_nothing (flatten nodes)))
-    ∙ lists_found nodes 0 0 false true false false None [] [] ∙ append_nil (lists_of nodes)
+    ∙ lists_found nodes 0 0 false true false false None [] [] ∙ append_nil (lists_followed 0 None false (children true 0 0 nodes))
+    ∙ lists_are_followed 0 (children true 0 0 nodes)
   where
     append_nothing : (es : List Event) → es ++ [] ≡ es
     append_nothing [] = refl

@@ -49,52 +49,6 @@ pub record Child : Type 0 where
   pub is_blank : Bool
   pub inside : List ListBlock
 
--- the block is an item of the list
-abbrev pub is_item_of : Option ListBlock → Option Container → Bool
-is_item_of list None = false
-is_item_of list (Some Quote) = false
-is_item_of None (Some (Item item)) = false
-is_item_of (Some list) (Some (Item item)) = list.delimiter == item.delimiter
-
--- the list that an item begins
-abbrev pub list_from : ℕ → Child → Option Container → Option ListBlock
-list_from depth child (Some (Item item)) = Some (record {
-  delimiter = item.delimiter;
-  is_loose = child.is_parted;
-  start = item.start;
-  depth = depth;
-  line = child.line;
-  end = child.end;
-})
-list_from depth child container = None
-
--- the list with one more item, behind a blank line or not
-abbrev pub longer : Option ListBlock → Bool → Child → Option ListBlock
-longer None blank child = None
-longer (Some list) blank child = Some (record list { is_loose = (list.is_loose || blank) || child.is_parted; end = child.end })
-
--- Items that follow each other, of one bullet or delimiter, are a list: it goes on with the next block or that begins anew.
-abbrev pub list_behind : ℕ → Option ListBlock → Bool → Child → Option ListBlock
-list_behind depth list blank child =
-    if is_item_of list child.container then longer list blank child else list_from depth child child.container
-
--- the list, unless the next block goes on with it
-abbrev pub list_before : Option ListBlock → Child → Option ListBlock
-list_before list child = if is_item_of list child.container then None else list
-
--- The lists of blocks and in them, each where it ends, where the block before them is in this list, if in any, and followed by
--- a blank line or not.
-abbrev pub lists_among : ℕ → Option ListBlock → Bool → List Child → List ListBlock
-lists_among depth list blank [] = option_to_list list
-lists_among depth list blank (child ∷ later) =
-    option_to_list (list_before list child) ++ child.inside ++ lists_among depth (list_behind depth list blank child) child.is_blank later
-
--- a blank line stands between two of the blocks, which are in no list together
-abbrev pub are_parted : ℕ → Option ListBlock → Bool → List Child → Bool
-are_parted depth list blank [] = false
-are_parted depth list blank (child ∷ later) =
-    (blank && not (is_item_of list child.container)) || are_parted depth (list_behind depth list blank child) child.is_blank later
-
 -- the last of the blocks is followed by a blank line, or ends with one; and where it ends
 abbrev pub ends_blank : Bool → List Child → Bool
 ends_blank blank [] = blank
@@ -103,6 +57,52 @@ ends_blank blank (child ∷ later) = ends_blank child.is_blank later
 abbrev pub last_end : ℕ → List Child → ℕ
 last_end end [] = end
 last_end end (child ∷ later) = last_end child.end later
+
+-- both are items, of one bullet or delimiter
+abbrev pub are_alike : Option Container → Option Container → Bool
+are_alike (Some (Item one)) (Some (Item other)) = one.delimiter == other.delimiter
+are_alike one other = false
+
+-- a blank line stands between two of the blocks that follow each other and are in no list together
+abbrev pub are_parted : List Child → Bool
+are_parted (child ∷ next ∷ later) =
+    (child.is_blank && not (are_alike child.container next.container)) || are_parted (next ∷ later)
+are_parted others = false
+
+-- A list is loose if a blank line stands between two of its items, or between two blocks directly in one of them.
+abbrev pub are_loose : List Child → Bool
+are_loose (item ∷ next ∷ later) = (item.is_parted || item.is_blank) || are_loose (next ∷ later)
+are_loose (item ∷ []) = item.is_parted
+are_loose [] = false
+
+-- the list of these items, in so many containers: it starts as the first of them does
+abbrev pub list_from : ℕ → Child → List Child → Option Container → Option ListBlock
+list_from depth first more (Some (Item item)) = Some (record {
+  delimiter = item.delimiter;
+  is_loose = are_loose (first ∷ more);
+  start = item.start;
+  depth = depth;
+  line = first.line;
+  end = last_end first.end more;
+})
+list_from depth first more container = None
+
+abbrev pub list_of : ℕ → List Child → Option ListBlock
+list_of depth [] = None
+list_of depth (first ∷ more) = list_from depth first more first.container
+
+-- the block is one more item of their list
+abbrev pub goes_on : List Child → Child → Bool
+goes_on [] child = false
+goes_on (first ∷ more) child = are_alike first.container child.container
+
+-- The lists of blocks and in them, each where it ends, where these items stand before the blocks: items that follow each other,
+-- of one bullet or delimiter, are a list.
+abbrev pub lists_among : ℕ → List Child → List Child → List ListBlock
+lists_among depth items [] = option_to_list (list_of depth items)
+lists_among depth items (child ∷ later) =
+    (if goes_on items child then [] else option_to_list (list_of depth items)) ++ child.inside
+    ++ lists_among depth (if goes_on items child then items ++ child ∷ [] else child ∷ []) later
 
 -- An item ends with its last block, and may end with a blank line; to a block quote each of its lines belongs.
 abbrev pub end_of : Container → ℕ → ℕ → List Child → ℕ
@@ -129,17 +129,17 @@ container_child container depth line passed blank content = record {
   container = Some container;
   line = line;
   end = end_of container line passed content;
-  is_parted = are_parted depth None false content;
+  is_parted = are_parted content;
   is_blank = ends_blank_line container content || blank;
-  inside = lists_among depth None false content;
+  inside = lists_among depth [] content;
 }
 
 abbrev pub child_unless : Bool → Child → List Child → List Child
 child_unless true child later = later
 child_unless false child later = child ∷ later
 
--- The blocks in a container, in so many of which they stand, with so many lines of the page before them. What an item has first
--- may be blank: the rest of its marker's line, and no blank line.
+-- The blocks in a container or in the page: in so many containers, with so many lines of the page before them. What stands first
+-- may be blank: in an item it is the rest of the marker's line, and no blank line; else nothing stands before it.
 abbrev pub children : Bool → ℕ → ℕ → Nodes → List Child
 children is_first depth line nothing = []
 children is_first depth line (leaf_then block later) =
@@ -151,7 +151,7 @@ children is_first depth line (container_then container inner later) =
 
 -- the lists of a page, each where it ends
 abbrev pub lists_of : Nodes → List ListBlock
-lists_of nodes = lists_among 0 None false (children true 0 0 nodes)
+lists_of nodes = lists_among 0 [] (children true 0 0 nodes)
 
 abbrev pub AreListsOf : List ℕ → List ListBlock → Type 0
 AreListsOf page lists = (nodes : Nodes) × IsEventsOf page (flatten nodes) × (lists ≡ lists_of nodes)
