@@ -5,7 +5,9 @@ pub mod ItemLaw
 pub mod ItemPlaces
 pub mod LeafMoves
 pub mod MarkerPlaces
+pub mod MarkedLines
 pub mod Places
 pub mod QuoteLaw
 pub mod QuotePlaces
+pub mod Rows
 pub mod SameContainers

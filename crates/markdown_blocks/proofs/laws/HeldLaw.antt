@@ -15,14 +15,14 @@ use Rattle.markdown_blocks.proofs.laws.AlikeLemmas.{Alike, alike_back, same_rest
 use Rattle.markdown_blocks.proofs.laws.SameContainers.{alike_none, same_begun, same_opens}
 use Rattle.markdown_blocks.proofs.laws.LeafMoves.{Moves, FirstTwo, Follows, LaterMoves, leaf_moves}
 
-zip_map : (R S : Change) → ((line moved : List ℕ) → R line moved → S line moved) → (lines others : List (List ℕ))
+pub zip_map : (R S : Change) → ((line moved : List ℕ) → R line moved → S line moved) → (lines others : List (List ℕ))
     → AllZip R lines others → AllZip S lines others
 zip_map R S to [] [] z = tt
 zip_map R S to [] (moved ∷ others) z = absurd z
 zip_map R S to (line ∷ lines) [] z = absurd z
 zip_map R S to (line ∷ lines) (moved ∷ others) z = (to line moved z.0, zip_map R S to lines others z.1)
 
-zip_append : (R : Change) (lines others lines' others' : List (List ℕ)) → AllZip R lines others → AllZip R lines' others'
+pub zip_append : (R : Change) (lines others lines' others' : List (List ℕ)) → AllZip R lines others → AllZip R lines' others'
     → AllZip R (lines ++ lines') (others ++ others')
 zip_append R [] [] lines' others' z z' = z'
 zip_append R [] (moved ∷ others) lines' others' z z' = absurd z
@@ -186,3 +186,31 @@ module _ (c : Container) (First Later Lazy : Change) (steady : settled c ≡ c) 
         first_piece p q pieces others z.1 z.0 h.0,
         subst (λ cs. AreBlocks cs others []) there (next_blocks (p.kept ++ p.begun) pieces others z.1 h.1),
       )
+
+-- the lines of the blocks, each beside the line that stands for it
+module _ (c : Container) (First Later Lazy R : Change) (by_first : (line held : List ℕ) → First line held → R line held)
+    (by_later : (line held : List ℕ) → Later line held → R line held) (by_lazy : (line held : List ℕ) → Lazy line held → R line held) where
+  pub each_later : (kind : BlockKind) (line held : List ℕ) → Later line held ⊎ ((kind ≡ Paragraph) × Lazy line held) → R line held
+  each_later kind line held (inl h) = by_later line held h
+  each_later kind line held (inr h) = by_lazy line held h.1
+
+  pub next_lines : (pieces others : List Piece) → AllZip (λ p q. IsHeldIn Later Later Lazy (c ∷ p.kept) p.begun p q) pieces others
+      → AllZip R (lines_in pieces) (lines_in others)
+  next_lines [] [] z = tt
+  next_lines [] (q ∷ others) z = absurd z
+  next_lines (p ∷ pieces) [] z = absurd z
+  next_lines (p ∷ pieces) (q ∷ others) z =
+      zip_append R (p.first ∷ p.later) (q.first ∷ q.later) (lines_in pieces) (lines_in others) (
+        by_later p.first q.first z.0.first,
+        zip_map _ R (each_later p.kind) p.later q.later z.0.later,
+      ) (next_lines pieces others z.1)
+
+  pub held_lines : (pieces others : List Piece) → AreIn c First Later Lazy pieces others → AllZip R (lines_in pieces) (lines_in others)
+  held_lines [] [] z = tt
+  held_lines [] (q ∷ others) z = absurd z
+  held_lines (p ∷ pieces) [] z = absurd z
+  held_lines (p ∷ pieces) (q ∷ others) z =
+      zip_append R (p.first ∷ p.later) (q.first ∷ q.later) (lines_in pieces) (lines_in others) (
+        by_first p.first q.first z.0.first,
+        zip_map _ R (each_later p.kind) p.later q.later z.0.later,
+      ) (next_lines pieces others z.1)

@@ -1,11 +1,15 @@
 -- The rules of block quotes. (CommonMark 0.31.2, section 5.1)
-use Rattle.std.proofs.Common.{ℕ, ◌≡◌, List, [], refl, sym, ◌∙◌}
+use Rattle.std.proofs.Common.{ℕ, ◌≡◌, List, [], ◌∷◌, ◌++◌, refl, sym, ◌∙◌, subst, inl, append_assoc}
+use Rattle.std.specs.List.{AllZip, concat}
+use Rattle.markdown_scanners_tree.specs.Ascii.{greater_than_sign}
 use Rattle.markdown_scanners_tree.specs.scanners.TextLines.{lines_of}
 use Rattle.markdown_blocks.specs.declared.containers.Container.TheVariants.{Quote}
 use Rattle.markdown_blocks.specs.blocks.Pages.{Piece, lines_in, AreBlocks, IsPage}
 use Rattle.markdown_blocks.specs.laws.Quotes.{IsQuoted, IsBare, AreInQuote}
 use Rattle.markdown_blocks.proofs.blocks.OneText.{one_page}
-use Rattle.markdown_blocks.proofs.laws.HeldLaw.{held_blocks}
+use Rattle.markdown_blocks.proofs.laws.HeldLaw.{held_blocks, held_lines}
+use Rattle.markdown_blocks.proofs.laws.MarkedLines.{IsMarked, marked_lines, none_spaces, none_of_spaces}
+use Rattle.markdown_blocks.proofs.laws.Places.{spaces}
 use Rattle.markdown_blocks.proofs.laws.QuotePlaces.{place_in, line_alike, begun_there, kept_there, state_there, bare_outside, bare_lazy}
 
 quoted_blocks : (pieces others : List Piece) → AreInQuote pieces others → AreBlocks [] pieces [] → AreBlocks [] others []
@@ -14,13 +18,34 @@ quoted_blocks = held_blocks Quote IsQuoted IsQuoted IsBare refl
     (λ line quoted q outer. (kept_there line quoted q outer, state_there line quoted q outer))
     (λ line bare b outer. (bare_outside line bare b outer, bare_lazy line bare b outer))
 
--- Rules 1 and 2: where a text has these blocks, the lines of the other text, which are the lines of these with a marker before each or
--- lazily without, are a block quote of these blocks, and nothing else.
-pub block_quote : (text quoted : List ℕ) (pieces others : List Piece) → IsPage text pieces → AreInQuote pieces others
-    → lines_in others ≡ lines_of quoted → IsPage quoted others
-block_quote text quoted pieces others page z joined = record { joined = joined; each = quoted_blocks pieces others z page.each }
+-- the lines are those of the text that they make
+quoted_marked : (line quoted : List ℕ) → IsQuoted line quoted → IsMarked line quoted
+quoted_marked line quoted q =
+    inl (
+    record {
+      front = spaces q.indent ++ greater_than_sign ∷ spaces q.gap;
+      parts = q.parts ∙ sym (append_assoc (spaces q.indent) (greater_than_sign ∷ spaces q.gap) line);
+      plain = none_spaces q.indent (greater_than_sign ∷ spaces q.gap) (none_of_spaces q.gap);
+    }
+    )
 
-pub one_block_quote : (text quoted : List ℕ) (pieces others found : List Piece) → IsPage text pieces → AreInQuote pieces others
-    → lines_in others ≡ lines_of quoted → IsPage quoted found → found ≡ others
-one_block_quote text quoted pieces others found page z joined is =
-    one_page [] found others (is.joined ∙ sym joined) is.each (quoted_blocks pieces others z page.each)
+bare_marked : (line bare : List ℕ) → IsBare line bare → IsMarked line bare
+bare_marked line bare b = inl (record { front = spaces b.indent; parts = b.parts; plain = none_of_spaces b.indent })
+
+quoted_lines : (text : List ℕ) (pieces others : List Piece) → lines_in pieces ≡ lines_of text → AreInQuote pieces others
+    → lines_of (concat (lines_in others)) ≡ lines_in others
+quoted_lines text pieces others joined z =
+    marked_lines text (lines_in others) (subst (λ ls. AllZip IsMarked ls (lines_in others)) joined
+    (held_lines Quote IsQuoted IsQuoted IsBare IsMarked quoted_marked quoted_marked bare_marked pieces others z))
+
+-- Rules 1 and 2: where a text has these blocks, its lines with a marker before each, or lazily without, make a text that is a block
+-- quote of these blocks, and nothing else.
+pub block_quote : (text : List ℕ) (pieces others : List Piece) → IsPage text pieces → AreInQuote pieces others
+    → IsPage (concat (lines_in others)) others
+block_quote text pieces others page z =
+    record { joined = sym (quoted_lines text pieces others page.joined z); each = quoted_blocks pieces others z page.each }
+
+pub one_block_quote : (text : List ℕ) (pieces others found : List Piece) → IsPage text pieces → AreInQuote pieces others
+    → IsPage (concat (lines_in others)) found → found ≡ others
+one_block_quote text pieces others found page z is =
+    one_page [] found others (is.joined ∙ quoted_lines text pieces others page.joined z) is.each (quoted_blocks pieces others z page.each)
