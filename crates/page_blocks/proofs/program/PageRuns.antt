@@ -1,5 +1,5 @@
 -- What the clauses of a page's telling say of its end.
-use Rattle.std.proofs.Common.{ℕ, List, Option, Some, None, Result, Ok, Err, IfOk, IfErr, ◌≡◌, ◌⊎◌, refl}
+use Rattle.std.proofs.Common.{ℕ, List, Option, Result, Ok, Err, IfOk, IfErr, ◌≡◌, ◌⊎◌, refl}
 use Rattle.std.specs.Prelude.{IfSome}
 use Rattle.std.specs.Io.KnownBytes.{IsAtEnd}
 use Rattle.program_faults.specs.Steps.{AreReads, HasEnded, HasFailed}

@@ -1,5 +1,5 @@
 -- How the pages that the words name are told.
-use Rattle.std.specs.Prelude.{ℕ, Bool, true, false, ◌≡◌, ◌≢◌, ◌⊎◌, List, [], ◌∷◌, ⊤, Option, Some, None, Result, Ok, Err, IfSome}
+use Rattle.std.specs.Prelude.{ℕ, true, false, ◌≡◌, ◌⊎◌, List, [], ◌∷◌, ⊤, Option, Some, None, Result, Ok, Err, IfSome}
 use Rattle.std.specs.Str.{bytes_eq}
 use Rattle.std.specs.Io.KnownBytes.{IsAtEnd}
 use Rattle.program_faults.specs.Steps.{AreReads, HasEnded, HasFailed}

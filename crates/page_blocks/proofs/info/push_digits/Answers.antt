@@ -1,4 +1,4 @@
-use Rattle.std.proofs.Common.{ℕ, List, [], ◌∷◌, ◌++◌, ◌≡◌, if◌then◌else◌, Result, Ok, Err, OnOk, codes, string_bytes, ap, ◌∙◌, append_assoc}
+use Rattle.std.proofs.Common.{ℕ, List, ◌++◌, ◌≡◌, if◌then◌else◌, Result, Ok, Err, OnOk, codes, string_bytes, ap, ◌∙◌, append_assoc}
 use Rattle.std.specs.List.{flat_map}
 use Rattle.std.specs.Result.{is_ok}
 use Rattle.page_blocks.specs.info.Info.{hex_byte}

@@ -1,4 +1,4 @@
-use Rattle.std.proofs.Common.{List, [], ℕ, Some, None, slice_index_or, sym, ap, subst, drop, arith}
+use Rattle.std.proofs.Common.{List, [], ℕ, Some, None, slice_index_or, sym, ap, subst, arith}
 use Rattle.std.proofs.lemmas.List.{at_drop_more, drop_all}
 use Rattle.page_blocks.specs.program.Runs.{AreTold, TellsBlocks, none_left, told, stopped}
 use Rattle.page_blocks.specs.words.Words.{texts}
