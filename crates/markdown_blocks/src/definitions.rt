@@ -31,7 +31,7 @@ pub fn scan_definition(content: &[u8]) -> Option<ReferenceDefinition>
 pub fn take_definition(content: &[u8]) -> Option<Taken>
     ensures found { IfSome result (λ taken. (definition : ReferenceDefinition)
         × IsDefinition content.now definition × (taken.bytes ≡ definition.len)
-        × (taken.lines ≡ length (lines_of (take definition.len content.now)))) }
+        × IsTaken content.now taken (lines_of (take definition.len content.now))) }
     ensures none { IfNone result ((definition : ReferenceDefinition)
         → ¬ IsDefinition content.now definition) }
     ensures some { IfSome result (λ taken. 0 < taken.bytes) }

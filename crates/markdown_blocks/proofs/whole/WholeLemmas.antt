@@ -8,7 +8,7 @@ use Rattle.markdown_scanners_tree.specs.scanners.TextLines.{ends_line, with_firs
 use Rattle.markdown_blocks.specs.taken.Whole.{surely_ends_line, AreWhole}
 
 -- the last byte of the text, if it has one, ends a line where these bytes follow
-LastEnds : List ℕ → List ℕ → Type 0
+unfoldable pub LastEnds : List ℕ → List ℕ → Type 0
 LastEnds [] more = Unit
 LastEnds (b ∷ []) more = ends_line (b ∷ more) ≡ true
 LastEnds (b ∷ c ∷ text) more = LastEnds (c ∷ text) more
@@ -40,7 +40,7 @@ alone b more ends = elim (cases_Bool (b == 10)) [
   ]
 ]
 
-lines_cut : (text more : List ℕ) → LastEnds text more → lines_of (text ++ more) ≡ lines_of text ++ lines_of more
+pub lines_cut : (text more : List ℕ) → LastEnds text more → lines_of (text ++ more) ≡ lines_of text ++ lines_of more
 unfolding LastEnds
 lines_cut [] more ends = refl
 lines_cut (b ∷ []) more ends = rw (ends, alone b more ends) refl
