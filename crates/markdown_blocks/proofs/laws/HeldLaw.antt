@@ -10,7 +10,7 @@ use Rattle.markdown_blocks.specs.declared.containers.Container.{Container}
 use Rattle.markdown_blocks.specs.blocks.Leaves.{IsLazy, IsLeaf}
 use Rattle.markdown_blocks.specs.blocks.Pages.{Piece, lines_in, AreOpened, IsPiece, AreBlocks}
 use Rattle.markdown_blocks.specs.definitions.Content.{words_in}
-use Rattle.markdown_blocks.specs.laws.Held.{Change, IsHeldIn, AreIn}
+use Rattle.markdown_blocks.specs.laws.Held.{Change, HasSameWords, IsHeldIn, AreIn}
 use Rattle.markdown_blocks.proofs.laws.AlikeLemmas.{Alike, alike_back, same_rest}
 use Rattle.markdown_blocks.proofs.laws.SameContainers.{alike_none, same_begun, same_opens}
 use Rattle.markdown_blocks.proofs.laws.LeafMoves.{Moves, FirstTwo, Follows, LaterMoves, leaf_moves}
@@ -77,7 +77,7 @@ module _ (c : Container) (First Later Lazy : Change) (steady : settled c ≡ c) 
   abbrev IsLater : Piece → Piece → Change
   IsLater p q line changed =
       Later line changed
-      ⊎ ((p.kind ≡ Paragraph) × Lazy line changed × (words_in (p.kept ++ p.begun) line ≡ words_in (q.kept ++ q.begun) changed))
+      ⊎ ((p.kind ≡ Paragraph) × Lazy line changed × HasSameWords p q line changed)
 
   module _ (outer : List Container) where
     later_moves : (p q : Piece) → outer ≡ p.kept ++ p.begun → c ∷ outer ≡ q.kept ++ q.begun → (line moved : List ℕ) → IsLater p q line moved
@@ -190,9 +190,10 @@ module _ (c : Container) (First Later Lazy : Change) (steady : settled c ≡ c) 
 -- the lines of the blocks, each beside the line that stands for it
 module _ (c : Container) (First Later Lazy R : Change) (by_first : (line held : List ℕ) → First line held → R line held)
     (by_later : (line held : List ℕ) → Later line held → R line held) (by_lazy : (line held : List ℕ) → Lazy line held → R line held) where
-  pub each_later : (kind : BlockKind) (line held : List ℕ) → Later line held ⊎ ((kind ≡ Paragraph) × Lazy line held) → R line held
-  each_later kind line held (inl h) = by_later line held h
-  each_later kind line held (inr h) = by_lazy line held h.1
+  pub each_later : (p q : Piece) (line held : List ℕ)
+      → Later line held ⊎ ((p.kind ≡ Paragraph) × Lazy line held × HasSameWords p q line held) → R line held
+  each_later p q line held (inl h) = by_later line held h
+  each_later p q line held (inr h) = by_lazy line held h.1
 
   pub next_lines : (pieces others : List Piece) → AllZip (λ p q. IsHeldIn Later Later Lazy (c ∷ p.kept) p.begun p q) pieces others
       → AllZip R (lines_in pieces) (lines_in others)
@@ -202,7 +203,7 @@ module _ (c : Container) (First Later Lazy R : Change) (by_first : (line held : 
   next_lines (p ∷ pieces) (q ∷ others) z =
       zip_append R (p.first ∷ p.later) (q.first ∷ q.later) (lines_in pieces) (lines_in others) (
         by_later p.first q.first z.0.first,
-        zip_map _ R (each_later p.kind) p.later q.later z.0.later,
+        zip_map _ R (each_later p q) p.later q.later z.0.later,
       ) (next_lines pieces others z.1)
 
   pub held_lines : (pieces others : List Piece) → AreIn c First Later Lazy pieces others → AllZip R (lines_in pieces) (lines_in others)
@@ -212,5 +213,5 @@ module _ (c : Container) (First Later Lazy R : Change) (by_first : (line held : 
   held_lines (p ∷ pieces) (q ∷ others) z =
       zip_append R (p.first ∷ p.later) (q.first ∷ q.later) (lines_in pieces) (lines_in others) (
         by_first p.first q.first z.0.first,
-        zip_map _ R (each_later p.kind) p.later q.later z.0.later,
+        zip_map _ R (each_later p q) p.later q.later z.0.later,
       ) (next_lines pieces others z.1)

@@ -122,7 +122,7 @@ blank_lines_in lead (p ∷ pieces) (q ∷ others) is z =
     zip_append IsMarked (p.first ∷ p.later) (q.first ∷ q.later) (lines_in pieces) (lines_in others) (
       alone_marked lead is p.first q.first z.2.first,
       zip_map _ IsMarked (each_later (item_by lead) (IsItemLine lead) (IsIndentedLine w) (IsLessIndented w) IsMarked (first_marked lead is)
-          (later_marked w) (less_marked w) p.kind) p.later q.later z.2.later,
+          (later_marked w) (less_marked w) p q) p.later q.later z.2.later,
     ) (next_lines (item_by lead) (IsItemLine lead) (IsIndentedLine w) (IsLessIndented w) IsMarked (first_marked lead is) (later_marked w)
     (less_marked w) pieces others z.3)
 

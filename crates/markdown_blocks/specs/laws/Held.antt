@@ -19,6 +19,10 @@ KeepsTabs columns line = IsTrue (has_no_tab line) ⊎ (columns % 4 ≡ 0)
 abbrev pub Change : Type 1
 Change = List ℕ → List ℕ → Type 0
 
+-- the line has the same words in one block's containers as the changed line has in the other's
+abbrev pub HasSameWords : Piece → Piece → Change
+HasSameWords piece held line changed = words_in (piece.kept ++ piece.begun) line ≡ words_in (held.kept ++ held.begun) changed
+
 -- The block in these containers, of which its first line begins the second ones. Its first line is changed so, and so each
 -- other line, or in a paragraph so, where that leaves the line's words as they are (laziness).
 pub record IsHeldIn (First Later Lazy : Change) (kept begun : List Container) (piece held : Piece) : Type 0 where
@@ -27,8 +31,8 @@ pub record IsHeldIn (First Later Lazy : Change) (kept begun : List Container) (p
   pub words : held.words ≡ piece.words
   pub kind : held.kind ≡ piece.kind
   pub first : First piece.first held.first
-  pub later : AllZip (λ line changed. Later line changed ⊎ ((piece.kind ≡ Paragraph) × Lazy line changed
-      × (words_in (piece.kept ++ piece.begun) line ≡ words_in (held.kept ++ held.begun) changed))) piece.later held.later
+  pub later : AllZip (λ line changed. Later line changed ⊎ ((piece.kind ≡ Paragraph) × Lazy line changed × HasSameWords piece held line changed))
+      piece.later held.later
 
 -- The blocks are one container of these blocks: the first begins it, with its first line changed so, and the others stand in it.
 abbrev pub AreIn : Container → (First Later Lazy : Change) → List Piece → List Piece → Type 0
