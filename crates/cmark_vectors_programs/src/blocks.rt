@@ -233,11 +233,13 @@ const JSON_OF_INFO_STRINGS: &[Row] = &[
     ),
     (
         b"~~~~ \"a\xff\n",
-        "{\"first\":1,\"last\":1,\"depth\":0,\"offset\":0,\"kind\":\"fenced\",\"count\":4,\"fence\":\"~\",\"info\":\"\\u0022a�\",\"info_bytes\":\"2261ff\",\"bytes\":9}\n",
+        "{\"first\":1,\"last\":1,\"depth\":0,\"offset\":0,\"kind\":\"fenced\",\"count\":4,\
+        \"fence\":\"~\",\"info\":\"\\u0022a�\",\"info_bytes\":\"2261ff\",\"bytes\":9}\n",
     ),
     (
         b"~~~ a\x01\x7f\tb\\\n",
-        "{\"first\":1,\"last\":1,\"depth\":0,\"offset\":0,\"kind\":\"fenced\",\"count\":3,\"fence\":\"~\",\"info\":\"a\\u0001\\u007f\\u0009b\\u005c\",\"bytes\":11}\n",
+        "{\"first\":1,\"last\":1,\"depth\":0,\"offset\":0,\"kind\":\"fenced\",\"count\":3,\
+        \"fence\":\"~\",\"info\":\"a\\u0001\\u007f\\u0009b\\u005c\",\"bytes\":11}\n",
     ),
     (
         b"~~~ \xc3",

@@ -5,7 +5,9 @@ use Rattle.std.specs.declared.io.ErrorKind.TheVariants as kind
 use Rattle.program_faults.specs.declared.reasons.Reason.TheVariants.{Other}
 use Rattle.program_faults.specs.Reasons.{reason_of}
 
-pub other_reason : (k : ErrorKind) → k ≢ kind.NotFound → k ≢ kind.PermissionDenied → k ≢ kind.BrokenPipe → k ≢ kind.WouldBlock → k ≢ kind.NotADirectory → k ≢ kind.IsADirectory → k ≢ kind.FilesystemLoop → k ≢ kind.InvalidInput → k ≢ kind.StorageFull → k ≢ kind.InvalidFilename → k ≢ kind.Interrupted → k ≢ kind.OutOfMemory → Other ≡ reason_of k
+pub other_reason : (k : ErrorKind) → k ≢ kind.NotFound → k ≢ kind.PermissionDenied → k ≢ kind.BrokenPipe → k ≢ kind.WouldBlock
+    → k ≢ kind.NotADirectory → k ≢ kind.IsADirectory → k ≢ kind.FilesystemLoop → k ≢ kind.InvalidInput → k ≢ kind.StorageFull
+    → k ≢ kind.InvalidFilename → k ≢ kind.Interrupted → k ≢ kind.OutOfMemory → Other ≡ reason_of k
 other_reason kind.NotFound n0 n1 n2 n3 n4 n5 n6 n7 n8 n9 n10 n11 = absurd (n0 refl)
 other_reason kind.PermissionDenied n0 n1 n2 n3 n4 n5 n6 n7 n8 n9 n10 n11 = absurd (n1 refl)
 other_reason kind.ConnectionRefused n0 n1 n2 n3 n4 n5 n6 n7 n8 n9 n10 n11 = refl

@@ -32,7 +32,8 @@ told-none None line = tt
 told-none (Some xs) line = ([], refl, sym (append-nil xs))
 
 -- a write took none of it
-pub told-kept : (old middle new : Option (List ℕ)) (line rest : List ℕ) → AppendsBefore old middle line rest → Keeps middle new → AppendsBefore old new line rest
+pub told-kept : (old middle new : Option (List ℕ)) (line rest : List ℕ) → AppendsBefore old middle line rest → Keeps middle new
+    → AppendsBefore old new line rest
 told-kept None middle new line rest before keeps = tt
 told-kept (Some xs) None new line rest before keeps = absurd before
 told-kept (Some xs) (Some ys) None line rest before keeps = absurd keeps
@@ -54,10 +55,12 @@ module _ {W : Type 0} (writes : W → List ℕ → Result ℕ Reason → W → T
   not_empty [] some = cc
   not_empty (b ∷ rest) some = omega arith
 
-  pub given-refused : (old new : W) (rest : List ℕ) (count : ℕ) → (length rest == 0) ≡ false → count ≡ 0 → writes old rest (Ok count) new → IsGiven writes old rest new
+  pub given-refused : (old new : W) (rest : List ℕ) (count : ℕ) → (length rest == 0) ≡ false → count ≡ 0 → writes old rest (Ok count) new
+      → IsGiven writes old rest new
   given-refused old new rest count some none step = refused old new rest (not_empty rest some) (subst (λ n. writes old rest (Ok n) new) none step)
 
-  pub given-failed : (old new : W) (rest : List ℕ) (reason : Reason) → (length rest == 0) ≡ false → writes old rest (Err reason) new → IsGiven writes old rest new
+  pub given-failed : (old new : W) (rest : List ℕ) (reason : Reason) → (length rest == 0) ≡ false → writes old rest (Err reason) new
+      → IsGiven writes old rest new
   given-failed old new rest reason some step = failed old new rest reason (not_empty rest some) step
 
   pub given-taken : (old middle new : W) (rest : List ℕ) (count : ℕ) → (count ≡ 0 → ⊥) → writes old rest (Ok count) middle
@@ -67,13 +70,15 @@ module _ {W : Type 0} (writes : W → List ℕ → Result ℕ Reason → W → T
 
 module _ {R : Type 0} (reads : R → Result (List ℕ) Reason → R → Type 0) where
   -- a read more
-  pub reads-read : (count : ℕ) (old middle new : R) (given : Result (List ℕ) Reason) → AreReads reads count old middle → reads middle given new → AreReads reads (suc count) old new
+  pub reads-read : (count : ℕ) (old middle new : R) (given : Result (List ℕ) Reason) → AreReads reads count old middle → reads middle given new
+      → AreReads reads (suc count) old new
   reads-read count old middle new given (no_read at) step = read 0 old new new given step (no_read new)
   reads-read count old middle new given (read n first second last g step more) later =
       read count first second new g step (reads-read n second middle new given more later)
 
   -- these reads, and then those
-  pub reads-append : (count more : ℕ) (old middle new : R) → AreReads reads count old middle → AreReads reads more middle new → AreReads reads (count + more) old new
+  pub reads-append : (count more : ℕ) (old middle new : R) → AreReads reads count old middle → AreReads reads more middle new
+      → AreReads reads (count + more) old new
   reads-append count more old middle new (no_read at) later = let all : more ≡ 0 + more = omega arith in subst (λ n. AreReads reads n at new) all later
   reads-append count more old middle new (read n first second last g step rest) later =
       let all : suc (n + more) ≡ suc n + more = omega arith in

@@ -3,7 +3,8 @@ use Rattle.std.specs.Prelude.{ℕ, List, ◌∷◌, [], ◌++◌, codes}
 use Rattle.std.specs.declared.io.ErrorKind.{ErrorKind}
 use Rattle.std.specs.declared.io.ErrorKind.TheVariants as kind
 use Rattle.program_faults.specs.declared.reasons.Reason.{Reason}
-use Rattle.program_faults.specs.declared.reasons.Reason.TheVariants.{NotFound, Denied, Folder, NotFolder, Links, LongName, Interrupted, Waits, Full, NotRead, Invalid, Memory, Other}
+use Rattle.program_faults.specs.declared.reasons.Reason.TheVariants.{NotFound, Denied, Folder, NotFolder, Links, LongName}
+use Rattle.program_faults.specs.declared.reasons.Reason.TheVariants.{Interrupted, Waits, Full, NotRead, Invalid, Memory, Other}
 
 -- the reason of an error of this kind
 abbrev pub reason_of : ErrorKind → Reason

@@ -34,8 +34,10 @@ module _ {W : Type 0} (writes : W → List ℕ → Result ℕ Reason → W → T
   -- parts of a line are given to it in this way, one after another
   pub data AreGiven : W → List (List ℕ) → W → Type 0 where
     no_part : (at : W) → AreGiven at [] at
-    part : (old middle new : W) (bytes : List ℕ) (parts : List (List ℕ)) → IsGiven old bytes middle → AreGiven middle parts new → AreGiven old (bytes ∷ parts) new
+    part : (old middle new : W) (bytes : List ℕ) (parts : List (List ℕ)) → IsGiven old bytes middle → AreGiven middle parts new
+        → AreGiven old (bytes ∷ parts) new
 
   -- The last write failed for this reason, or it took nothing.
   abbrev pub HasRefused : Reason → W → Type 0
-  HasRefused reason new = (old : W) × (bytes : List ℕ) × (writes old bytes (Err reason) new ⊎ (0 < length bytes × (reason ≡ Other) × writes old bytes (Ok 0) new))
+  HasRefused reason new = (old : W) × (bytes : List ℕ) × (writes old bytes (Err reason) new ⊎ (0 < length bytes × (reason ≡ Other)
+      × writes old bytes (Ok 0) new))

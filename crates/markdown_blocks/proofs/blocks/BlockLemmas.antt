@@ -64,7 +64,8 @@ module _ (text : List ℕ) (outer : List Container) (line : List ℕ) (rest : Re
   -- the lines behind the first
   behind_first : (taken : Taken) (more : List (List ℕ)) → IsTaken text taken (line ∷ more)
       → lines_of (drop first.bytes text) ≡ more ++ lines_of (drop taken.bytes text)
-  behind_first taken more t = append_cancel_left (line ∷ []) (lines_of (drop first.bytes text)) (more ++ lines_of (drop taken.bytes text)) (sym h.parts ∙ t.parts)
+  behind_first taken more t = append_cancel_left (line ∷ []) (lines_of (drop first.bytes text)) (more ++ lines_of (drop taken.bytes text))
+      (sym h.parts ∙ t.parts)
 
   first_of : (P : List ℕ → Type 0) (front rest : List (List ℕ)) → OnFirst P (front ++ rest) → OnFirst P front
   first_of P [] rest on = tt

@@ -17,7 +17,8 @@ use Rattle.markdown_blocks.specs.blocks.Leaves.{IsUnderline, IsLazy, In, OutOr, 
 use Rattle.markdown_blocks.specs.info.Info.{without_front}
 use Rattle.markdown_blocks.specs.definitions.Content.{content_of, words_in}
 use Rattle.markdown_blocks.specs.definitions.Definitions.{HasText}
-use Rattle.markdown_blocks.specs.blocks.Leaves.{OnFirst, BeginsNoTable, NoneBehind, StopsAt, StopsBefore, StopsBehind, EndsIndented, NoMoreIndented, LastHasText, EndsAsHtml, IsLeaf}
+use Rattle.markdown_blocks.specs.blocks.Leaves.{OnFirst, BeginsNoTable, NoneBehind, StopsAt, StopsBefore}
+use Rattle.markdown_blocks.specs.blocks.Leaves.{StopsBehind, EndsIndented, NoMoreIndented, LastHasText, EndsAsHtml, IsLeaf}
 
 -- what is read of the second line behind the other containers is what is read of the first behind these
 pub record Moves (outer other : List Container) (line moved : List ℕ) : Type 0 where
@@ -246,7 +247,8 @@ module _ (outer other : List Container) where
   content_step : (containers : List Container) (text : List ℕ) (before : List (List ℕ)) (line : List ℕ)
       → content_of containers text (before ++ line ∷ []) ≡ content_of containers text before ++ words_in containers line
   content_step containers text before line =
-      ap (λ t. without_front text ++ t) (flat_map-append (words_in containers) before (line ∷ []) ∙ ap (λ t. flat_map (words_in containers) before ++ t) (append-nil (words_in containers line)))
+      ap (λ t. without_front text ++ t) (flat_map-append (words_in containers) before (line ∷ [])
+      ∙ ap (λ t. flat_map (words_in containers) before ++ t) (append-nil (words_in containers line)))
       ∙ sym (append_assoc (without_front text) (flat_map (words_in containers) before) (words_in containers line))
 
   -- a line behind this content
@@ -306,8 +308,10 @@ module _ (outer other : List Container) where
         first_moves (Moves outer other) (λ l. (columns : ℕ) → ¬ IsHead outer first.text columns l) (λ l. (columns : ℕ) → ¬ IsHead other first.text columns l)
             (λ l k m. no_head first (Setext level) l k (inl m)) middle cut.0 (first_two (Moves outer other) middle cut.0 cut.3) leaf.4,
         stops_at (Setext level) first.text middle cut.0 (last ∷ rest) (cut.1 ∷ after) (as_later (Setext level) middle cut.0 cut.3) cut.4 leaf.5,
-        (in_moves outer other last cut.1 cut.4 (IsUnderline level) leaf.6.0,
-            subst HasText (content_moves (Setext level) first.text middle cut.0 (as_later (Setext level) middle cut.0 cut.3)) leaf.6.1),
+        (
+          in_moves outer other last cut.1 cut.4 (IsUnderline level) leaf.6.0,
+          subst HasText (content_moves (Setext level) first.text middle cut.0 (as_later (Setext level) middle cut.0 cut.3)) leaf.6.1,
+        ),
       )
 
   -- a table: its delimiter row, and the rows behind that
@@ -359,5 +363,6 @@ module _ (outer other : List Container) where
       no_table first Paragraph lines others (first_two (LaterMoves Paragraph) lines others z) leaf.1,
       stops_at Paragraph first.text lines others rest after z f.first leaf.2,
       first_moves (Moves outer other) (λ l. (level : HeadingLevel) → ¬ Underlines outer first.text lines level l)
-          (λ l. (level : HeadingLevel) → ¬ Underlines other first.text others level l) (none_under Paragraph first.text lines others z) rest after f.first leaf.3,
+          (λ l. (level : HeadingLevel) → ¬ Underlines other first.text others level l)
+          (none_under Paragraph first.text lines others z) rest after f.first leaf.3,
     )

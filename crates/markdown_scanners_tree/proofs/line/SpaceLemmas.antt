@@ -1,5 +1,6 @@
 -- Columns of space taken from a state.
-use Rattle.std.specs.Prelude.{ℕ, zero, suc, true, false, ◌≡◌, refl, ◌⊎◌, List, [], ◌∷◌, ◌++◌, ◌+◌, ◌-◌, ◌*◌, ◌/◌, ◌%◌, ◌<◌, ◌≤◌, replicate, length, min, get_or, take, drop}
+use Rattle.std.specs.Prelude.{ℕ, zero, suc, true, false, ◌≡◌, refl, ◌⊎◌, List, [], ◌∷◌, ◌++◌}
+use Rattle.std.specs.Prelude.{◌+◌, ◌-◌, ◌*◌, ◌/◌, ◌%◌, ◌<◌, ◌≤◌, replicate, length, min, get_or, take, drop}
 use Rattle.std.proofs.Common.{sym, ◌∙◌, ap, inl, inr, eqb, arith, append_assoc, add-zero}
 use Rattle.std.proofs.lemmas.List.{length-replicate, replicate-append-replicate, drop-append-le, drop-replicate, drop_more}
 use Rattle.std.proofs.lemmas.Bool.{cases_lt}

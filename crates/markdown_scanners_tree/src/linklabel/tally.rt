@@ -2,7 +2,8 @@
 ghost use Rattle.std.specs.Prelude.{◌≡◌, ◌≤◌, ◌+◌, ◌-◌, ◌&&◌, not, length};
 ghost use Rattle.std.specs.List.{sum_by};
 ghost use Rattle.markdown_scanners_tree.specs.Bytes.{is_between};
-ghost use Rattle.markdown_scanners_tree.specs.linklabel.private.Pass.{continued, due_len, gap_len, tally_after_words, tally_past_ending, tally_past_space, tally_past_word};
+ghost use Rattle.markdown_scanners_tree.specs.linklabel.private.Pass.{continued, due_len, gap_len};
+ghost use Rattle.markdown_scanners_tree.specs.linklabel.private.Pass.{tally_after_words, tally_past_ending, tally_past_space, tally_past_word};
 
 // How many bytes are counted at once.
 const PART: usize = 255;

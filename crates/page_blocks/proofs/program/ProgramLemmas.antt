@@ -49,7 +49,8 @@ module _ (form : Form) (input old : Option (List ℕ)) where
   -- what is told of it is written, and nothing more is told yet
   pub begun-written : (left new longer : Option (List ℕ)) (telling next cleared : Telling) (text rest : List ℕ) (count : ℕ)
       → Begun form input left old new telling text → string_bytes telling.told ≡ []
-      → ((more : List ℕ) → Tells telling (lines_of (text ++ more)) next (lines_of (drop count text ++ more))) → next.form ≡ telling.form → Appends new longer (string_bytes next.told)
+      → ((more : List ℕ) → Tells telling (lines_of (text ++ more)) next (lines_of (drop count text ++ more))) → next.form ≡ telling.form
+      → Appends new longer (string_bytes next.told)
       → cleared.form ≡ next.form → cleared.at ≡ next.at → cleared.walk ≡ next.walk → string_bytes cleared.told ≡ []
       → rest ≡ drop count text → Begun form input left old longer cleared rest
   begun-written left new longer telling next cleared text rest count b empty tells same writes form_is at_is walk_is cleared_is rest_is = record {

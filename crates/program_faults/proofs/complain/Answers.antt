@@ -16,7 +16,8 @@ loop-rest-preserved g c = record {
 }
 
 pub returns-clause-given : goal.returns-clause-given
-returns-clause-given g c = c.loop-rest.invariant.given _ (given-nothing g.V.StepWriter.writes _ c.loop-rest.rest.now (sym c.is_empty.ensures ∙ c.loop-rest-test.false))
+returns-clause-given g c = c.loop-rest.invariant.given _ (given-nothing g.V.StepWriter.writes _ c.loop-rest.rest.now (sym c.is_empty.ensures
+    ∙ c.loop-rest-test.false))
 
 pub returns-in_default-clause-given : goal.returns-in_default-clause-given
 returns-in_default-clause-given g c =

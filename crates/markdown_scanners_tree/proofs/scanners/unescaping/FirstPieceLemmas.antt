@@ -1,5 +1,6 @@
 -- The first piece of a text, by what stands at the front.
-use Rattle.std.proofs.Common.{◌≡◌, ◌≢◌, ℕ, zero, suc, ◌+◌, ◌-◌, ◌<◌, ◌≤◌, Bool, true, false, List, [], ◌∷◌, ◌++◌, length, take, drop, get_or, refl, ap, ◌∙◌, sym, subst, arith, inl, inr, ◌⊎◌, eqb}
+use Rattle.std.proofs.Common.{◌≡◌, ◌≢◌, ℕ, zero, suc, ◌+◌, ◌-◌, ◌<◌, ◌≤◌, Bool, true, false, List, [], ◌∷◌}
+use Rattle.std.proofs.Common.{◌++◌, length, take, drop, get_or, refl, ap, ◌∙◌, sym, subst, arith, inl, inr, ◌⊎◌, eqb}
 use Rattle.std.specs.Prelude.{◌&&◌, ◌||◌}
 use Rattle.std.proofs.lemmas.List.{take_rest, append-nil, drop_all, drop_more, length-append, length-drop, get_or-drop, get_or_append_left, get_or_at}
 use Rattle.std.proofs.lemmas.Bool.Decides.{nat_tests}
@@ -10,8 +11,10 @@ use Rattle.markdown_scanners_tree.specs.Ascii.{carriage_return, number_sign, amp
 use Rattle.markdown_scanners_tree.specs.Bytes.{is_punctuation, is_alphanumeric}
 use Rattle.markdown_scanners_tree.specs.scanners.Escapes.{starts_escape}
 use Rattle.markdown_scanners_tree.specs.scanners.entities.CharacterReference.{Lookup, IsReference, StartsWithReference}
-use Rattle.markdown_scanners_tree.specs.scanners.unescaping.Unescaping.{Piece, IsFirstFit, IsItself, Fits, IsTablePipe, IsBackslashEscape, IsAmpersandReference, IsDroppedReturn}
-use Rattle.markdown_scanners_tree.specs.scanners.unescaping.private.FirstPiece.{IsFirstPiece, StartsWithAmpersandReference, IsChanged, IsFirstSize, ArePlain, begins_change, starts_pipe}
+use Rattle.markdown_scanners_tree.specs.scanners.unescaping.Unescaping.{Piece, IsFirstFit, IsItself, Fits}
+use Rattle.markdown_scanners_tree.specs.scanners.unescaping.Unescaping.{IsTablePipe, IsBackslashEscape, IsAmpersandReference, IsDroppedReturn}
+use Rattle.markdown_scanners_tree.specs.scanners.unescaping.private.FirstPiece.{IsFirstPiece, StartsWithAmpersandReference, IsChanged}
+use Rattle.markdown_scanners_tree.specs.scanners.unescaping.private.FirstPiece.{IsFirstSize, ArePlain, begins_change, starts_pipe}
 use Rattle.markdown_scanners_tree.proofs.scanners.escapes.UnitLemmas.{plain_byte}
 use Rattle.markdown_scanners_tree.proofs.scanners.entities.ReferenceUnique.{same_source, same_meaning}
 

@@ -16,7 +16,12 @@ returns-then-self c =
     let t : IsTaken 1 0 c.args.self.now c.args.self.now =
     rw (← c.self.view_is) (none_of_byte s.bytes.now s.place s.column s.pending 1 (omega arith) (omega arith)
     (none_at_end s.bytes.now s.place s.column (omega arith))) in
-    record { answer = (λ yes. cc, λ one. absurd (omega (arith, t.answer))); state = t.state; forward = taken_forward 1 c.args.self.now _ t.state; rest = rw (← t.answer) t.rest }
+    record {
+      answer = (λ yes. cc, λ one. absurd (omega (arith, t.answer)));
+      state = t.state;
+      forward = taken_forward 1 c.args.self.now _ t.state;
+      rest = rw (← t.answer) t.rest;
+    }
 
 pub returns-in-32 : goal.returns-in-32
 returns-in-32 c =
@@ -43,4 +48,9 @@ returns-in_default c =
     let t : IsTaken 1 0 c.args.self.now c.args.self.now =
     rw (← c.self.view_is) (none_of_byte s.bytes.now s.place s.column s.pending 1 (omega arith) (omega arith)
     (none_at_byte s.bytes.now s.place s.column (omega arith) (omega (arith, c.in_default)) (omega (arith, c.in_default)))) in
-    record { answer = (λ yes. cc, λ one. absurd (omega (arith, t.answer))); state = t.state; forward = taken_forward 1 c.args.self.now _ t.state; rest = rw (← t.answer) t.rest }
+    record {
+      answer = (λ yes. cc, λ one. absurd (omega (arith, t.answer)));
+      state = t.state;
+      forward = taken_forward 1 c.args.self.now _ t.state;
+      rest = rw (← t.answer) t.rest;
+    }
