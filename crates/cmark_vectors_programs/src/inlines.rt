@@ -1,7 +1,9 @@
 //! Tests of `markdown_inlines`: rows of CommonMark 0.31.2, sections 2.1, 6.1, 6.2 and 6.5.
 use crate::asserts::{assert_same, found, is_none};
 use markdown_inlines::code_spans::scan_code_span;
-use markdown_inlines::delimiter_runs::{is_punctuation, is_white_space, scan_delimiter_run};
+use markdown_inlines::delimiter_runs::{
+    DelimiterRun, is_punctuation, is_white_space, scan_delimiter_run,
+};
 use markdown_inlines::emails::{scan_email_autolink, scan_email_autolink_bytes};
 use markdown_values::values::LinkType;
 use std::process::Abort;
@@ -96,8 +98,8 @@ const RUNS: &[(&str, usize, usize, bool, bool)] = &[
 fn assert_email(rt: &impl Abort, text: &str, len: usize) {
     assert_same(rt, scan_email_autolink_bytes(text.as_bytes()), Some(len));
     let (place, address, kind) = found(rt, scan_email_autolink(text, 0));
-    assert_same(rt, place, len + 1);
-    assert_same(rt, address.as_str(), &text[..len]);
+    assert_same(rt, place.checked_sub(1), Some(len));
+    assert_same(rt, Some(address.as_str()), text.get(..len));
     assert_same(rt, kind, LinkType::Email);
 }
 
@@ -119,12 +121,38 @@ fn other_bytes_are_no_email_address(rt: HostRuntime) {
     }
 }
 
+// The code span at the front of the text has this content and so many bytes.
+fn assert_code(rt: &impl Abort, text: &str, content: &str, len: usize) {
+    let span = found(rt, scan_code_span(text.as_bytes()));
+    assert_same(
+        rt,
+        text.as_bytes().get(span.content),
+        Some(content.as_bytes()),
+    );
+    assert_same(rt, span.len, len);
+}
+
+// The run at a place of the text, if that is one between two characters.
+fn run_at(text: &str, place: usize) -> Option<DelimiterRun> {
+    if text.is_char_boundary(place) {
+        scan_delimiter_run(text, place)
+    } else {
+        None
+    }
+}
+
+// The run at a place of the text has so many bytes, and opens and closes emphasis so.
+fn assert_run_at(rt: &impl Abort, text: &str, place: usize, count: usize, sides: (bool, bool)) {
+    let run = found(rt, run_at(text, place));
+    assert_same(rt, Some(run.byte), text.as_bytes().get(place).copied());
+    assert_same(rt, run.count, count);
+    assert_same(rt, (run.can_open, run.can_close), sides);
+}
+
 #[test]
 fn code_stands_up_to_the_next_string_of_its_length(rt: HostRuntime) {
     for (text, content, len) in CODE_SPANS {
-        let span = found(&rt, scan_code_span(text.as_bytes()));
-        assert_same(&rt, &text.as_bytes()[span.content], content.as_bytes());
-        assert_same(&rt, span.len, *len);
+        assert_code(&rt, text, content, *len);
     }
     for text in NO_CODE_SPANS {
         assert!(rt; is_none(scan_code_span(text.as_bytes())));
@@ -134,14 +162,10 @@ fn code_stands_up_to_the_next_string_of_its_length(rt: HostRuntime) {
 #[test]
 fn a_run_opens_and_closes_by_its_sides(rt: HostRuntime) {
     for (text, place, count, can_open, can_close) in RUNS {
-        let run = found(&rt, scan_delimiter_run(text, *place));
-        assert_same(&rt, run.byte, text.as_bytes()[*place]);
-        assert_same(&rt, run.count, *count);
-        assert_same(&rt, run.can_open, *can_open);
-        assert_same(&rt, run.can_close, *can_close);
+        assert_run_at(&rt, text, *place, *count, (*can_open, *can_close));
     }
-    assert!(rt; is_none(scan_delimiter_run("a*", 0)));
-    assert!(rt; is_none(scan_delimiter_run("a*", 2)));
+    assert!(rt; is_none(run_at("a*", 0)));
+    assert!(rt; is_none(run_at("a*", 2)));
 }
 
 #[test]
