@@ -76,7 +76,8 @@ pub(crate) fn has_text(
     outer: Outer,
     words: &[u8],
 ) -> Result<bool, AllocError>
-    ensures { IfOk result (λ told. (line : List ℕ) (later : List (List ℕ)) → IsTaken text.now first (line ∷ [])
+    ensures { IfOk result (λ told. (line : List ℕ) (later : List (List ℕ))
+        → IsTaken text.now first (line ∷ [])
         → IsTaken text.now taken (line ∷ later)
         → (IsTrue told ↔ HasText (content_of outer.entry.containers.now words.now later))) }
 {
@@ -108,8 +109,10 @@ pub fn add_content(
     containers: &[Container],
     text: &[u8],
 ) -> Result<(), AllocError>
-    ensures { OnOk result ((line : List ℕ) (later : List (List ℕ)) → IsTaken lines.now block.taken (line ∷ later)
-        → content.new.items ≡ content.old.items ++ content_in block.kind containers.now text.now later) }
+    ensures { OnOk result ((line : List ℕ) (later : List (List ℕ))
+        → IsTaken lines.now block.taken (line ∷ later)
+        → content.new.items
+        ≡ content.old.items ++ content_in block.kind containers.now text.now later) }
 {
     let count = match block.kind {
         BlockKind::Paragraph => block.taken.lines,
