@@ -22,7 +22,15 @@ pub extern "C" fn ours_tag(alloc: Global, text: &[u8], at: &[usize], rounds: usi
 }
 
 fn tag_in_quote(alloc: Global, b: &[u8]) -> u64 {
-    let quote = |rest: &[u8]| -> usize { if rest.starts_with(b"> ") { 2 } else { 0 } };
+    // By a pattern: `starts_with` makes the answer without a branch, and each line then waits for the
+    // answer of the line before it.
+    let quote = |rest: &[u8]| -> usize {
+        if matches!(rest, [b'>', b' ', ..]) {
+            2
+        } else {
+            0
+        }
+    };
     match scan_html_block_inner(alloc, b, Some(&quote)) {
         Ok(Some((text, n))) => two(n, text.len() as u64),
         _ => 0,

@@ -8,17 +8,23 @@ pub use Rattle.markdown_scanners_tree.proofs.inline_html.run.KeptGuard.{first-tr
 pub use Rattle.markdown_scanners_tree.proofs.inline_html.run.Sums.{passed-counted}
 pub use Rattle.markdown_scanners_tree.proofs.line.ItemIndents.{same_items}
 pub use Rattle.markdown_scanners_tree.proofs.line.ItemRules.{items_agree, item_alone, no_item_alone, items_begun, same_answers}
-pub use Rattle.markdown_scanners_tree.proofs.line.PlaceLemmas.{space_forward, all_space_forward, quote_forward, definition_forward, task_forward, alert_forward, breaks_stay}
+pub use Rattle.markdown_scanners_tree.proofs.line.PlaceLemmas.{space_forward, all_space_forward, quote_forward, definition_forward, task_forward}
+pub use Rattle.markdown_scanners_tree.proofs.line.PlaceLemmas.{alert_forward, breaks_stay}
 pub use Rattle.markdown_scanners_tree.proofs.line.RestLemmas.{rest_within}
 pub use Rattle.markdown_scanners_tree.proofs.line.run.StateRunLemmas.{run_at_front, run_in_parts, run_stopped}
 pub use Rattle.markdown_scanners_tree.proofs.linklabel.OneLabel.{one_label, one_label_in_bytes}
 pub use Rattle.markdown_scanners_tree.proofs.scanners.Scanned.{same_pieces, thematic_breaks, blank_lines, place_of_rest}
-pub use Rattle.markdown_scanners_tree.proofs.scanners.Scanned.{one_atx_heading, one_blank_line, one_closing_fence, one_closing_metadata, one_code_fence, one_destination}
+pub use Rattle.markdown_scanners_tree.proofs.scanners.Scanned.{one_atx_heading, one_blank_line, one_closing_fence, one_closing_metadata, one_code_fence}
+pub use Rattle.markdown_scanners_tree.proofs.scanners.Scanned.{one_destination}
 pub use Rattle.markdown_scanners_tree.proofs.scanners.Scanned.{one_html_block_start, one_html_kind, one_indent, one_item}
 pub use Rattle.markdown_scanners_tree.proofs.scanners.Scanned.{one_metadata_block, one_quote_start, one_reference, one_reference_definition, one_row}
 pub use Rattle.markdown_scanners_tree.proofs.scanners.Scanned.{one_tag, one_tag_alone, one_title, one_underline, one_uri}
 pub use Rattle.markdown_scanners_tree.proofs.scanners.breaks.BreakLemmas.{is_thematic_break-found}
 pub use Rattle.markdown_scanners_tree.proofs.scanners.html_kinds.StartLemmas.{none_unopened}
+pub use Rattle.markdown_scanners_tree.proofs.scanners.lines.BlankLemmas.{first-line_ending}
+pub use Rattle.markdown_scanners_tree.proofs.scanners.reference_definitions.DefinitionLemmas.{raw_place}
+pub use Rattle.markdown_scanners_tree.proofs.scanners.reference_definitions.GapLemmas.{IsSolid, destination_solid, title_solid, gap_only, one_gap, gap_there}
+pub use Rattle.markdown_scanners_tree.proofs.scanners.reference_definitions.GapLemmas.{gap_scanned, cut_behind_gap, cut_behind_rest}
 pub use Rattle.markdown_scanners_tree.proofs.scanners.runs.CallableLemmas.{callable_in_turn}
 pub use Rattle.markdown_scanners_tree.proofs.scanners.text_lines.LineSteps.{first_line-taken, lines_joined}
 

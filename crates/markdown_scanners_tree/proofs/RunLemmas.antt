@@ -5,6 +5,7 @@ use Rattle.std.specs.List.{prefix_len, list_all}
 use Rattle.std.proofs.lemmas.Bool.{cases_Bool, eqb-true}
 use Rattle.std.proofs.lemmas.List.{take-append-drop, drop-drop}
 use Rattle.std.proofs.lemmas.List.Folds.{length-prefix_len}
+use Rattle.std.proofs.lemmas.List.Sums.{prefix_len-le-length}
 use Rattle.std.proofs.Math.Seq.{drop-append_seam}
 use Rattle.markdown_scanners_tree.specs.Bytes.{begins_with, line_ending}
 use Rattle.markdown_scanners_tree.specs.scanners.Lines.{IsRunOf}
@@ -120,3 +121,19 @@ pub line_ending-from : (bytes : List ℕ) (i j : ℕ) (ending : Option ℕ)
     → line_ending (drop j (drop i bytes)) ≡ ending
 line_ending-from bytes i j ending is =
     sym (is ∙ ap line_ending (from_place bytes (i + j) ∙ sym (drop-drop j i bytes)))
+
+-- a run whose first byte is known
+pub begun_bytes : (byte : ℕ) (bytes : List ℕ) → begins_with (λ b. b == byte) bytes ≡ true → 1 ≤ length bytes
+begun_bytes byte [] begins = absurd (let none : false ≡ true = begins in cc)
+begun_bytes byte (b ∷ bytes) begins = omega arith
+
+pub begun_length : (byte : ℕ) (bytes : List ℕ) (rest : ℕ) → begins_with (λ b. b == byte) bytes ≡ true
+    → rest ≡ prefix_len (λ b. b == byte) (take (length bytes - 1) (drop 1 bytes))
+    → (1 + rest ≡ prefix_len (λ b. b == byte) bytes) × (1 + rest ≤ length bytes)
+begun_length byte [] rest begins is = absurd (let none : false ≡ true = begins in cc)
+begun_length byte (b ∷ bytes) rest begins is =
+    let same : (b == byte) ≡ true = begins in
+    let counted : rest ≡ prefix_len (λ b. b == byte) bytes =
+    is ∙ ap (prefix_len (λ b. b == byte)) (from_place (b ∷ bytes) 1) in
+    let long = prefix_len-le-length (λ b. b == byte) bytes in
+    (rw same (omega (arith, counted)), omega (arith, counted, long))

@@ -18,7 +18,8 @@ mod tabs;
 use crate::line::alerts::scan_alert;
 use crate::line::tabs::tab_width;
 use crate::scanners::{
-    is_ascii_whitespace, is_ascii_whitespace_no_nl, is_line_ending, scan_spaces_and_tabs,
+    is_ascii_whitespace, is_ascii_whitespace_no_nl, is_line_ending, scan_ch_repeat,
+    scan_spaces_and_tabs,
 };
 pub use known_breaks::KnownBreaks;
 use markdown_values::values::BlockQuoteKind;
@@ -189,6 +190,9 @@ impl<'a> LineStart<'a> {
     }
 
     /// Takes up to `n` columns, pending ones first, then those of spaces and tabs. Answers how many.
+    ///
+    /// It is inlined, so that where no space stands, as most often, it costs no call.
+    #[inline(always)]
     pub fn scan_space_upto(&mut self, n: usize) -> usize
         ensures answer { result ≡ space_within n self.old }
         ensures state { self.new ≡ after_space n self.old }
@@ -203,20 +207,28 @@ impl<'a> LineStart<'a> {
         let from_pending = n.min(self.pending);
         self.pending -= from_pending;
         let mut left = n - from_pending;
+        // A run of spaces first: one comparison finds both ends, of the bytes and of the columns.
+        let rest = &self.bytes[self.place..];
+        let spaces = scan_ch_repeat(&rest[..left.min(rest.len())], b' ');
+        self.place += spaces;
+        self.column = self.column.wrapping_add(spaces);
+        left -= spaces;
         while left > 0 && self.place < self.bytes.len() {
             match self.bytes[self.place] {
-                b' ' => {
-                    self.place += 1;
-                    self.column = self.column.wrapping_add(1);
-                    left -= 1;
-                }
                 b'\t' => {
                     let width = tab_width(self.column as u128);
                     self.place += 1;
                     self.column = self.column.wrapping_add(width);
-                    let taken = left.min(width);
-                    self.pending = width - taken;
-                    left -= taken;
+                    if width > left {
+                        self.pending = width - left;
+                        return n;
+                    }
+                    left -= width;
+                }
+                b' ' => {
+                    self.place += 1;
+                    self.column = self.column.wrapping_add(1);
+                    left -= 1;
                 }
                 _ => break,
             }

@@ -1,14 +1,18 @@
 -- Columns of space taken from a state.
 use Rattle.std.specs.Prelude.{ℕ, zero, suc, true, false, ◌≡◌, refl, ◌⊎◌, List, [], ◌∷◌, ◌++◌}
 use Rattle.std.specs.Prelude.{◌+◌, ◌-◌, ◌*◌, ◌/◌, ◌%◌, ◌<◌, ◌≤◌, replicate, length, min, get_or, take, drop}
-use Rattle.std.proofs.Common.{sym, ◌∙◌, ap, inl, inr, eqb, arith, append_assoc, add-zero}
-use Rattle.std.proofs.lemmas.List.{length-replicate, replicate-append-replicate, drop-append-le, drop-replicate, drop_more}
-use Rattle.std.proofs.lemmas.Bool.{cases_lt}
+use Rattle.std.proofs.Common.{sym, ◌∙◌, ap, inl, inr, eqb, ◌==◌, arith, append_assoc, add-zero}
+use Rattle.std.specs.List.{prefix_len}
+use Rattle.std.proofs.lemmas.List.{length-replicate, replicate-append-replicate, drop-append-le, drop-replicate, drop_more, length-drop, get_or-take}
+use Rattle.std.proofs.lemmas.List.{get_or-drop}
+use Rattle.std.proofs.lemmas.List.Sums.{prefix_len-le-length, prefix_len_passes}
+use Rattle.std.proofs.lemmas.Bool.{cases_lt, eqb-true}
 use Rattle.std.proofs.lemmas.Bool.Decides.{nat_tests}
 use Rattle.std.proofs.Math.ListN.{drop_of_length-le}
 use Rattle.markdown_scanners_tree.specs.Bytes.{begins_with, is_space_or_tab, is_line_ending}
 use Rattle.markdown_scanners_tree.specs.Columns.{column_after, column_past, bytes_below, written_byte, written_out}
 use Rattle.markdown_scanners_tree.specs.line.State.{LineState, rest_of, leading_spaces, columns_further, space_within, after_space}
+use Rattle.markdown_scanners_tree.proofs.PrefixLemmas.{from_place, prefix_len-first}
 use Rattle.markdown_scanners_tree.proofs.line.ColumnLemmas.{after-more, bool_cases, written-end, written-cons, none_below, below-shift}
 use Rattle.markdown_scanners_tree.proofs.line.ColumnLemmas.{column_past-shift, written_out-shift, Reach, reach_none, reach_byte}
 
@@ -243,8 +247,50 @@ taking_more {bytes} {place₀} {c₀} {p₀} {n} {place} {column} {p} {left} b w
       taking = taking_next b t.taking some inside read is wide (rw grown pending) (rw grown left_over);
     }
 
+-- as many spaces more as are passed at once
+pub taking_spaces : {bytes : List ℕ} {place₀ c₀ p₀ n place column p left : ℕ} (k : ℕ)
+    → IsTakingAt bytes place₀ c₀ p₀ n place column p left → k ≤ left → place + k ≤ length bytes
+    → ((j : ℕ) → j < k → get_or bytes (place + j) 0 ≡ 32)
+    → IsTakingAt bytes place₀ c₀ p₀ n (place + k) (column + k) p (left - k)
+taking_spaces {bytes} {place₀} {c₀} {p₀} {n} {place} {column} {p} {left} zero t few inside read =
+    let same : left - 0 ≡ left = omega arith in
+    let place_is : place + 0 ≡ place = omega arith in
+    let column_is : column + 0 ≡ column = omega arith in
+    rw (same, place_is, column_is) t
+taking_spaces {bytes} {place₀} {c₀} {p₀} {n} {place} {column} {p} {left} (suc k) t few inside read =
+    let before : IsTakingAt bytes place₀ c₀ p₀ n (place + k) (column + k) p (left - k) =
+    taking_spaces k t (omega arith) (omega arith) (λ j lt. read j (omega arith)) in
+    let none : p ≡ 0 = omega (arith, t.taking.whole) in
+    let place_is : place + k + 1 ≡ place + suc k = omega arith in
+    let column_is : column + k + 1 ≡ column + suc k = omega arith in
+    let after : IsTakingAt bytes place₀ c₀ p₀ n (place + k + 1) (column + k + 1) p (left - suc k) =
+    taking_more 32 1 before (omega arith) (omega arith) (read k (omega arith)) (inl (refl, refl)) refl
+    (omega arith) (omega arith) in
+    rw (place_is, column_is) at after
+
+-- a run of spaces at a place, counted in the first bytes of the rest
+module _ (bytes : List ℕ) (place most run : ℕ) (inside : place ≤ length bytes)
+    (counted : run ≡ prefix_len (λ b. b == 32) (take most (take (length bytes - place) (drop place bytes)))) where
+  run_is : run ≡ prefix_len (λ b. b == 32) (take most (drop place bytes))
+  run_is = counted ∙ ap (λ rest. prefix_len (λ b. b == 32) (take most rest)) (from_place bytes place)
+
+  pub run_within : (run ≤ most) × (place + run ≤ length bytes)
+  run_within =
+      let first = prefix_len-first (λ b. b == 32) most (drop place bytes) in
+      let long = prefix_len-le-length (λ b. b == 32) (drop place bytes) in
+      (omega (arith, run_is, first), omega (arith, run_is, first, long, length-drop place bytes))
+
+  pub run_of_spaces : (j : ℕ) → j < run → get_or bytes (place + j) 0 ≡ 32
+  run_of_spaces j lt =
+      let front = take most (drop place bytes) in
+      let few : j < most = omega (arith, run_within) in
+      let passes = prefix_len_passes (λ b. b == 32) front j 0 (omega (arith, run_is)) in
+      let read : get_or front j 0 ≡ get_or bytes (place + j) 0 =
+      get_or-take most (drop place bytes) j 0 few ∙ get_or-drop place bytes j 0 in
+      sym read ∙ eqb-true (get_or front j 0) 32 passes
+
 -- none are taken yet
-taking_none : (bytes : List ℕ) (place c p n : ℕ) → place ≤ length bytes → p < 4 → min p n ≡ 0
+pub taking_none : (bytes : List ℕ) (place c p n : ℕ) → place ≤ length bytes → p < 4 → min p n ≡ 0
     → IsTaking bytes place c p n place c p n
 taking_none bytes place c p n inside small whole =
     let no_column : c - c ≡ 0 = omega arith in

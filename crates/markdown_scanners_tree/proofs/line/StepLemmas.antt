@@ -1,5 +1,6 @@
 -- Each call is one plain step.
-use Rattle.std.specs.Prelude.{ℕ, suc, not, Option, Some, None, IfSome, IfNone, nat_eq, Bool, true, false, ◌≡◌, refl, ◌==◌, List, [], ◌∷◌, ◌++◌, ◌+◌, ◌-◌, ◌%◌, ◌<◌, take, drop, ◌≤◌, length}
+use Rattle.std.specs.Prelude.{ℕ, suc, not, Option, Some, None, IfSome, IfNone, nat_eq, Bool, true, false, ◌≡◌, refl, ◌==◌, List, [], ◌∷◌, ◌++◌, ◌+◌, ◌-◌, ◌%◌}
+use Rattle.std.specs.Prelude.{◌<◌, take, drop, ◌≤◌, length}
 use Rattle.std.proofs.Common.{subst, sym, ◌∙◌, ap, arith, zero-add, take-add}
 use Rattle.std.specs.List.{list_all}
 use Rattle.std.specs.Option.{option_eq}
@@ -21,7 +22,7 @@ use Rattle.markdown_scanners_tree.proofs.line.WrittenLemmas.{line_end-written, b
 use Rattle.markdown_scanners_tree.proofs.line.SpaceLemmas.{state_of, further-column, written_out-phase}
 
 -- a state is made of its parts
-state_is : (s : LineState) → s.phase < 4 → state_of s.bytes s.place s.pending s.phase ≡ s
+pub state_is : (s : LineState) → s.phase < 4 → state_of s.bytes s.place s.pending s.phase ≡ s
 state_is s small =
     let phase : s.phase % 4 ≡ s.phase = omega arith in
     rw phase refl

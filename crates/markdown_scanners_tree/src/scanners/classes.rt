@@ -1,7 +1,9 @@
 //! The classes of bytes, read from one table.
-ghost use Rattle.std.specs.Prelude.{◌≡◌};
+ghost use Rattle.std.specs.Prelude.{◌≡◌, IsTrue};
 ghost use Rattle.markdown_scanners_tree.specs.Bytes.{is_line_ending, is_white_space, is_white_space_in_line, is_punctuation};
 ghost use Rattle.markdown_scanners_tree.specs.Bytes.{is_letter, is_digit, is_alphanumeric, is_unquoted};
+ghost use Rattle.markdown_scanners_tree.specs.scanners.Breaks.{is_break_marker, is_break_byte};
+ghost use Rattle.markdown_scanners_tree.specs.scanners.classes.private.BreakBits.{break_bits};
 ghost use Rattle.markdown_scanners_tree.specs.scanners.classes.private.ClassBits.{class_bits};
 ghost use Rattle.markdown_scanners_tree.specs.scanners.classes.private.InDestination.{is_in_destination};
 
@@ -51,6 +53,19 @@ const IN_DESTINATION: [bool; 256] = [
     true, true, true, true, true, true, true, true, true, true, true, true, true, true, true, true,
     true, true, true, true, true, true, true, true, true, true, true, true, true, true, true, true,
     true, true, true, true, true, true, true, true, true, true,
+];
+
+// For each byte a bit for each marker of a thematic break in which it may stand: 1 for `*`, 2 for `-`,
+// 4 for `_`.
+const BREAKS: [u8; 256] = [
+    0, 0, 0, 0, 0, 0, 0, 0, 0, 7, 0, 0, 0, 0, 0, 0, 0, 0, 0, 0, 0, 0, 0, 0, 0, 0, 0, 0, 0, 0, 0, 0,
+    7, 0, 0, 0, 0, 0, 0, 0, 0, 0, 1, 0, 0, 2, 0, 0, 0, 0, 0, 0, 0, 0, 0, 0, 0, 0, 0, 0, 0, 0, 0, 0,
+    0, 0, 0, 0, 0, 0, 0, 0, 0, 0, 0, 0, 0, 0, 0, 0, 0, 0, 0, 0, 0, 0, 0, 0, 0, 0, 0, 0, 0, 0, 0, 4,
+    0, 0, 0, 0, 0, 0, 0, 0, 0, 0, 0, 0, 0, 0, 0, 0, 0, 0, 0, 0, 0, 0, 0, 0, 0, 0, 0, 0, 0, 0, 0, 0,
+    0, 0, 0, 0, 0, 0, 0, 0, 0, 0, 0, 0, 0, 0, 0, 0, 0, 0, 0, 0, 0, 0, 0, 0, 0, 0, 0, 0, 0, 0, 0, 0,
+    0, 0, 0, 0, 0, 0, 0, 0, 0, 0, 0, 0, 0, 0, 0, 0, 0, 0, 0, 0, 0, 0, 0, 0, 0, 0, 0, 0, 0, 0, 0, 0,
+    0, 0, 0, 0, 0, 0, 0, 0, 0, 0, 0, 0, 0, 0, 0, 0, 0, 0, 0, 0, 0, 0, 0, 0, 0, 0, 0, 0, 0, 0, 0, 0,
+    0, 0, 0, 0, 0, 0, 0, 0, 0, 0, 0, 0, 0, 0, 0, 0, 0, 0, 0, 0, 0, 0, 0, 0, 0, 0, 0, 0, 0, 0, 0, 0,
 ];
 
 // The sum of the bits of the classes that the byte is in.
@@ -125,6 +140,21 @@ pub(in crate::scanners) fn is_in_destination(c: u8) -> bool
     ensures { result ≡ is_in_destination c }
 {
     IN_DESTINATION[c as usize]
+}
+
+// Whether the byte may stand in a thematic break of this marker.
+pub(in crate::scanners) fn is_break_byte(marker: u8, byte: u8) -> bool
+    requires { IsTrue (is_break_marker marker) }
+    ensures { result ≡ is_break_byte marker byte }
+{
+    breaks_of(byte) & breaks_of(marker) != 0
+}
+
+// The sum of the bits of the markers in whose thematic breaks the byte may stand.
+fn breaks_of(byte: u8) -> u8
+    ensures { result ≡ break_bits byte }
+{
+    BREAKS[byte as usize]
 }
 
 #[cfg(test)]

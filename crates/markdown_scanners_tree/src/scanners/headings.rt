@@ -1,5 +1,6 @@
 //! Headings.
 ghost use Rattle.std.specs.Prelude.{ℕ, ◌≡◌, ◌≤◌, ◌==◌, length, Some, IsTrue, IfSome, IfNone};
+ghost use Rattle.std.specs.List.{prefix_len};
 ghost use Rattle.markdown_values.specs.values.Headings.{heading_number};
 ghost use Rattle.markdown_scanners_tree.specs.SomeExactly.{SomeExactly, IsOnly};
 ghost use Rattle.markdown_scanners_tree.specs.Bytes.{begins_with, ends_or_begins_with, is_white_space};
@@ -47,13 +48,30 @@ pub fn scan_setext_heading(bytes: &[u8]) -> Option<(usize, HeadingLevel)>
     ensures within { IfSome result (λ r. r.0 ≤ length bytes.now) }
 {
     match bytes {
-        [b'=', ..] => scan_underline(bytes, b'=', HeadingLevel::H1),
-        [b'-', ..] => scan_underline(bytes, b'-', HeadingLevel::H2),
+        [byte, ..] => match underline_level(*byte) {
+            Some(level) => scan_underline(bytes, *byte, level),
+            None => None,
+        },
+        [] => None,
+    }
+}
+
+// The level of the heading whose underline is made of the byte.
+fn underline_level(byte: u8) -> Option<HeadingLevel>
+    ensures found { IfSome result (λ level. underline_byte level ≡ Some byte) }
+    ensures none { IfNone result ((level : HeadingLevel) → ¬ (underline_byte level ≡ Some byte)) }
+{
+    match byte {
+        b'=' => Some(HeadingLevel::H1),
+        b'-' => Some(HeadingLevel::H2),
         _ => None,
     }
 }
 
-// The same, where the first byte is known.
+// The same as `scan_setext_heading`, where the first byte and the level are known.
+//
+// The byte is an argument, so that one loop compares with a register: two loops, each with a
+// constant, take half as long again.
 fn scan_underline(bytes: &[u8], byte: u8, level: HeadingLevel) -> Option<(usize, HeadingLevel)>
     requires of_level { underline_byte level ≡ Some byte }
     requires begins { IsTrue (begins_with (λ b. b == byte) bytes.now) }
@@ -63,7 +81,17 @@ fn scan_underline(bytes: &[u8], byte: u8, level: HeadingLevel) -> Option<(usize,
         → ¬ IsSetextUnderline bytes.now n level) }
     ensures within { IfSome result (λ r. r.0 ≤ length bytes.now) }
 {
-    let run = scan_ch_repeat(bytes, byte);
+    let run = begun_run(bytes, byte);
     let blank = scan_blank_line(&bytes[run..])?;
     Some((run + blank, level))
+}
+
+// The length of the run of the byte at the front. The first byte is known, and is not looked at
+// again.
+fn begun_run(bytes: &[u8], byte: u8) -> usize
+    requires { IsTrue (begins_with (λ b. b == byte) bytes.now) }
+    ensures run { result ≡ prefix_len (λ b. b == byte) bytes.now }
+    ensures within { result ≤ length bytes.now }
+{
+    1 + scan_ch_repeat(&bytes[1..], byte)
 }

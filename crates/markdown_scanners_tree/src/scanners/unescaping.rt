@@ -168,7 +168,7 @@ fn push_ampersand<E: Entities>(
 {
     let bytes = &text.as_bytes()[place..];
     if bytes.len() > 1 && bytes[1] == b'#' {
-        let Some((length, meaning)) = number_reference(bytes) else {
+        let Some((length, meaning)) = numbered_char(bytes) else {
             let plain = 1 + lone_len(&bytes[1..]);
             return Ok((run, place + plain));
         };
@@ -308,7 +308,7 @@ fn number_size(bytes: &[u8]) -> PieceSize
     ensures size { (in_table : Bool) (known : Lookup) → IsFirstSize in_table known bytes.now
         result.source result.dropped result.inserted }
 {
-    match number_reference(bytes) {
+    match numbered_char(bytes) {
         Some((source, meaning)) => piece_size(source, source, meaning.len_utf8()),
         None => piece_size(1 + lone_len(&bytes[1..]), 0, 0),
     }
@@ -381,17 +381,4 @@ fn starts_pipe(bytes: &[u8]) -> bool
     ensures { result ≡ starts_pipe_at bytes.now }
 {
     bytes.len() > 2 && bytes[0] == b'\\' && bytes[1] == b'\\' && bytes[2] == b'|'
-}
-
-// The character reference by number at the front, from `&` and `#` on. It is called, so that the
-// loops over pieces stay short.
-#[inline(never)]
-fn number_reference(bytes: &[u8]) -> Option<(usize, char)>
-    requires long { 1 < length bytes.now }
-    requires number { slice_index bytes.now 1 ≡ number_sign }
-    ensures reference { (known : Lookup) → IsNumberAnswer known bytes.now result }
-    ensures some { IfSome result (λ r. 0 < r.0) }
-    ensures within { IfSome result (λ r. r.0 ≤ length bytes.now) }
-{
-    numbered_char(bytes)
 }

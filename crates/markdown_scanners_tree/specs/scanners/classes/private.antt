@@ -1,2 +1,3 @@
+pub mod BreakBits
 pub mod ClassBits
 pub mod InDestination

@@ -1,4 +1,4 @@
-use Rattle.std.proofs.Common.{◌≡◌}
+use Rattle.std.proofs.Common.{◌≡◌, ◌-◌}
 use Rattle.markdown_scanners_tree.proofs.line.SpaceLemmas.{IsTakingAt}
 use Rattle.markdown_scanners_tree.proofs.line.LineStart.scan_space_upto.Given as goal
 
@@ -6,12 +6,14 @@ abbrev pub invariant-loop-left : goal.invariant-loop-left
 invariant-loop-left l =
     let now = l.self-inside in
     let old = l.initial.self-inside in
+    let entry = l.fn.self in
     record {
       same : now.bytes ≡ old.bytes;
+      text : now.bytes.now ≡ entry.bytes;
       none_before : now.breaks.none_before ≡ old.breaks.none_before;
       behind_break : now.breaks.behind_break ≡ old.breaks.behind_break;
-      taking : IsTakingAt old.bytes.now old.place old.column old.pending l.initial.left now.place
-          now.column now.pending l.left;
+      taking : IsTakingAt entry.bytes entry.place entry.phase (entry.pending - l.from_pending)
+          (l.n - l.from_pending) now.place now.column now.pending l.left;
     }
 
 -- proposed from the loop's first test

@@ -15,7 +15,7 @@ first_marker marker (b ∷ bytes) begins =
 
 pub loop-run-init : goal.loop-run-init
 loop-run-init c =
-    let first = first_marker c.args.marker c.args.bytes.now c.requires in
+    let first = first_marker c.args.marker c.args.bytes.now c.requires.begins in
     record { inside = first.0; few = omega arith; run = first.1; markers = first.2 }
 
 pub loop-run-preserved : goal.loop-run-preserved

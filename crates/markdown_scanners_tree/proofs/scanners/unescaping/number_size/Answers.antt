@@ -8,7 +8,7 @@ returns-in-Some-clause-size c in_table known =
     rw c.piece_size.ensures (inr (
       meaning,
       reference_changed in_table known c.args.bytes.now c.in-Some.source meaning
-          (c.requires.begins, c.in-Some.ensures.reference known),
+          (c.requires.begins, c.in-Some.ensures.found known),
       c.len_utf8.ensures.len,
     ))
 
@@ -17,7 +17,7 @@ returns-in-None-clause-size c in_table known =
     let first =
     lone_piece in_table known c.args.bytes.now (omega (arith, c.requires.long))
     (λ b. absurd (omega (arith, b, c.requires.begins))) (λ b. absurd (omega (arith, b, c.requires.begins)))
-    (λ n meaning starts. c.in-None.ensures.reference known n meaning starts.1) in
+    (λ n meaning starts. c.in-None.ensures.found known n meaning starts.1) in
     rw c.piece_size-in-None.ensures (inl (
       refl,
       refl,

@@ -30,7 +30,7 @@ returns-in_default-clause-pushed g c in_table =
     let first =
     lone_piece in_table known rest (omega (arith, c.if-bytes-gt1.true))
     (λ b. absurd (omega (arith, b, begins))) (λ b. absurd (omega (arith, b, begins)))
-    (λ n meaning starts. c.in_default.ensures.reference known n meaning starts.1) in
+    (λ n meaning starts. c.in_default.ensures.found known n meaning starts.1) in
     let n = c.lone_len-plain.result in
     pushed_nothing in_table known c.args.text.now c.args.run place (1 + n) c.args.out.now
     (subst (λ bs. ArePlain in_table known bs (1 + n)) same
@@ -48,7 +48,7 @@ returns-in_err-push_with_char-clause-room g c in_table room =
     let is =
     subst (λ bs. IsChanged in_table known bs n n meaning) same
     (reference_changed in_table known _ n meaning
-    (ap (λ bs. get_or bs 0 0) same ∙ begins, c.in-Some.ensures.reference known)) in
+    (ap (λ bs. get_or bs 0 0) same ∙ begins, c.in-Some.ensures.found known)) in
     absurd (false≢true (c.in_err-push_with_char.ensures.succeeds
     (omega (arith, room n n meaning is, c.range.ensures.len))))
 
@@ -63,7 +63,7 @@ returns-then-bytes-eq35-clause-pushed g c in_table =
     let is =
     subst (λ bs. IsChanged in_table known bs n n meaning) same
     (reference_changed in_table known _ n meaning
-    (ap (λ bs. get_or bs 0 0) same ∙ begins, c.in-Some.ensures.reference known)) in
+    (ap (λ bs. get_or bs 0 0) same ∙ begins, c.in-Some.ensures.found known)) in
     pushed_change in_table known c.args.text.now c.args.run place n n (place + n) meaning c.range.result.now
     c.args.out.now c.push_with_char.new.out is refl c.range.ensures.value (omega (arith, c.range.ensures.len))
     c.in_ok-push_with_char.ensures.bytes (omega (arith, c.in_ok-push_with_char.ensures.len))
