@@ -1,0 +1,4 @@
+pub mod BoundLemmas
+pub mod EmphasisLemmas
+pub mod MadeLemmas
+pub mod NestLemmas
