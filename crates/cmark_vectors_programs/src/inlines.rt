@@ -1,12 +1,23 @@
-//! Tests of `markdown_inlines`: rows of CommonMark 0.31.2, sections 2.1, 6.1, 6.2 and 6.5.
-use crate::asserts::{assert_same, found, is_none};
-use markdown_inlines::code_spans::scan_code_span;
+//! Tests of `markdown_inlines`: rows of CommonMark 0.31.2, sections 2.1, 6.1 to 6.3, 6.5, 6.7 and 6.8.
+ghost use Rattle.std.specs.Prelude.{◌≤◌, ◌+◌, length, IfSome};
+ghost use Rattle.markdown_inlines.specs.DelimiterRuns.{IsDelimiterRun};
+
+mod emphasis;
+
+use crate::asserts::{assert_same, found, is_none, made};
+use markdown_inlines::code_content::code_text;
+use markdown_inlines::code_spans::{CodeSpan, scan_code_span};
 use markdown_inlines::delimiter_runs::{
     DelimiterRun, is_punctuation, is_white_space, scan_delimiter_run,
 };
 use markdown_inlines::emails::{scan_email_autolink, scan_email_autolink_bytes};
+use markdown_inlines::guarded_code_spans::CodeSpans;
+use markdown_inlines::line_breaks::{LineBreak, scan_line_break};
+use markdown_inlines::link_tails::scan_link_tail;
+use markdown_values::strings::CowStr;
 use markdown_values::values::LinkType;
 use std::process::Abort;
+use std::test::Fail;
 
 const EMAILS: &[(&str, usize)] = &[
     ("foo@bar.example.com>", 19),
@@ -62,6 +73,127 @@ const NO_CODE_SPANS: &[&str] = &[
     "`foo",
     "`foo``bar``",
     "a`b`",
+];
+
+// A text with several strings of backticks, and what stands at its places: the content of the code
+// span there, and how many bytes it has.
+const STRINGS: &str = "a `b` ``c` ```d``` `e``f`";
+
+const SPANS_AT: &[(usize, Option<(&str, usize)>)] = &[
+    (0, None),
+    (2, Some(("b", 3))),
+    (6, Some(("c` ```d``` `e", 17))),
+    (9, Some((" ```d``` ", 11))),
+    (11, Some(("d", 7))),
+    (15, None),
+    (19, Some(("e``f", 6))),
+    (21, None),
+    (24, None),
+    (25, None),
+];
+
+// The content of a code span, and its text.
+const CODE_CONTENT: &[(&str, &str)] = &[
+    ("foo", "foo"),
+    (" foo ` bar ", "foo ` bar"),
+    (" `` ", "``"),
+    ("  ``  ", " `` "),
+    (" a", " a"),
+    ("a ", "a "),
+    ("\u{a0}b\u{a0}", "\u{a0}b\u{a0}"),
+    ("\u{a0}", "\u{a0}"),
+    (" ", " "),
+    ("  ", "  "),
+    ("\ta\t", "\ta\t"),
+    (" a\t", " a\t"),
+    ("\nfoo\nbar  \nbaz\n", "foo bar   baz"),
+    ("\nfoo \n", "foo "),
+    ("foo   bar \nbaz", "foo   bar  baz"),
+    ("\r\nfoo\r\nbar\r", "foo bar"),
+    ("a\r\r\n\nb", "a   b"),
+    ("\r\n", " "),
+    ("\n\r\n", "  "),
+    (" \u{e9}\n\u{e9}\r\n", "\u{e9} \u{e9}"),
+];
+
+// A tail: the text that it begins, its destination, its title, and how many bytes it has.
+const LINK_TAILS: &[(&str, &str, Option<&str>, usize)] = &[
+    ("(/uri \"title\")", "/uri", Some("title"), 14),
+    ("(/uri)", "/uri", None, 6),
+    ("(./target.md) a)", "./target.md", None, 13),
+    ("()", "", None, 2),
+    ("(<>)", "", None, 4),
+    ("( \n )", "", None, 5),
+    ("(</my uri>)", "/my uri", None, 11),
+    ("(<b)c>)", "b)c", None, 7),
+    ("(\\(foo\\))", "\\(foo\\)", None, 9),
+    ("(foo(and(bar)))", "foo(and(bar))", None, 15),
+    ("(foo\\(and\\(bar\\))", "foo\\(and\\(bar\\)", None, 17),
+    ("(<foo(and(bar)>)", "foo(and(bar)", None, 16),
+    ("(foo\\)\\:)", "foo\\)\\:", None, 9),
+    ("(foo%20b&auml;)", "foo%20b&auml;", None, 15),
+    ("(\"title\")", "\"title\"", None, 9),
+    ("(/url 'title')", "/url", Some("title"), 14),
+    ("(/url (title))", "/url", Some("title"), 14),
+    (
+        "(/url \"title \\\"&quot;\")",
+        "/url",
+        Some("title \\\"&quot;"),
+        23,
+    ),
+    ("(/url\u{a0}\"title\")", "/url\u{a0}\"title\"", None, 15),
+    (
+        "(/url 'title \"and\" title')",
+        "/url",
+        Some("title \"and\" title"),
+        26,
+    ),
+    ("(   /uri\n  \"title\"  )", "/uri", Some("title"), 21),
+    ("(\u{a0}a \"b\")\u{a0})", "\u{a0}a", Some("b"), 9),
+    ("(<> \"\"\r\n\t)", "", Some(""), 10),
+    ("(a\r'\u{e9}\nb'))", "a", Some("\u{e9}\nb"), 10),
+];
+
+const NO_LINK_TAILS: &[&str] = &[
+    "",
+    "(",
+    "a",
+    " (/uri)",
+    "[a]",
+    "(a",
+    "(/my uri)",
+    "(foo\nbar)",
+    "(<foo\nbar>)",
+    "(<foo\\>)",
+    "(foo(and(bar))",
+    "(/url \"title \"and\" title\")",
+    "(\n\n)",
+    "(a\n\n)",
+    "(a \"b\"c)",
+    "(<a>\"b\")",
+    "(a \"b\" \"c\")",
+    "(a \"b",
+    "(\"a b\")",
+];
+
+// A line break: the text that it begins, whether it is hard, and how many bytes it has.
+const LINE_BREAKS: &[(&str, bool, usize)] = &[
+    ("  \nbaz", true, 3),
+    ("\\\nbaz", true, 2),
+    ("       \nbaz", true, 8),
+    ("  \n     bar", true, 8),
+    ("\\\n     bar", true, 7),
+    ("\nbaz", false, 1),
+    (" \n baz", false, 3),
+    (" \r\n a", false, 4),
+    ("  \r a", true, 4),
+    ("\n\ta", false, 1),
+    ("\n\n", false, 1),
+];
+
+const NO_LINE_BREAKS: &[&str] = &[
+    "", "a", " ", "  ", "\\", "\n", "  \n", "\\\n", "\\\r\n", " \n  ", " a", "  a", "\\a",
+    "\\ \na", " \\\na", "\\\\\na", "\t\na",
 ];
 
 // A run: the text, its place, its length, whether it can open and whether it can close emphasis.
@@ -133,7 +265,10 @@ fn assert_code(rt: &impl Abort, text: &str, content: &str, len: usize) {
 }
 
 // The run at a place of the text, if that is one between two characters.
-fn run_at(text: &str, place: usize) -> Option<DelimiterRun> {
+fn run_at(text: &str, place: usize) -> Option<DelimiterRun>
+    ensures found { IfSome result (λ run. IsDelimiterRun text.now place run) }
+    ensures within { IfSome result (λ run. place + run.count ≤ length text.now) }
+{
     if text.is_char_boundary(place) {
         scan_delimiter_run(text, place)
     } else {
@@ -156,6 +291,83 @@ fn code_stands_up_to_the_next_string_of_its_length(rt: HostRuntime) {
     }
     for text in NO_CODE_SPANS {
         assert!(rt; is_none(scan_code_span(text.as_bytes())));
+    }
+}
+
+// The code span that begins at a place of the strings has this content and so many bytes.
+fn assert_span(
+    rt: &impl Abort,
+    place: usize,
+    span: Option<CodeSpan>,
+    wanted: Option<(&str, usize)>,
+) {
+    match span {
+        Some(span) => {
+            let content = found(rt, STRINGS.get(place..)).get(span.content);
+            assert_same(rt, Some((found(rt, content), span.len)), wanted);
+        }
+        None => assert_same(rt, None, wanted),
+    }
+}
+
+#[test]
+fn code_stands_at_many_places_of_a_text(rt: HostRuntime) -> Result<(), Fail> {
+    let spans = CodeSpans::new(rt.alloc(), STRINGS.as_bytes())?;
+    for (place, wanted) in SPANS_AT {
+        if *place <= STRINGS.len() {
+            assert_span(&rt, *place, spans.scan(*place), *wanted);
+        }
+    }
+    Ok(())
+}
+
+#[test]
+fn code_has_spaces_for_line_endings(rt: HostRuntime) {
+    for (content, expected) in CODE_CONTENT {
+        let text = made(&rt, code_text(rt.alloc(), content));
+        assert_same(&rt, text.as_str(), *expected);
+        let is_lent = matches!(&text, CowStr::Borrowed(_));
+        assert_same(
+            &rt,
+            is_lent,
+            !content.contains('\n') && !content.contains('\r'),
+        );
+    }
+}
+
+// The tail at the front of the text has this destination, this title, and so many bytes.
+fn assert_tail(rt: &impl Abort, text: &str, destination: &str, title: Option<&str>, len: usize) {
+    let tail = found(rt, scan_link_tail(text.as_bytes(), 9));
+    assert_same(rt, text.get(tail.destination), Some(destination));
+    match tail.title {
+        Some(range) => assert_same(rt, text.get(range), title),
+        None => assert_same(rt, None, title),
+    }
+    assert_same(rt, tail.len, len);
+}
+
+#[test]
+fn a_link_has_a_tail_with_a_destination_and_a_title(rt: HostRuntime) {
+    for (text, destination, title, len) in LINK_TAILS {
+        assert_tail(&rt, text, destination, *title, *len);
+    }
+    for text in NO_LINK_TAILS {
+        assert!(rt; is_none(scan_link_tail(text.as_bytes(), 9)));
+    }
+    assert!(rt; is_none(scan_link_tail(b"(foo(and(bar)))", 0)));
+}
+
+#[test]
+fn lines_break_hard_and_softly(rt: HostRuntime) {
+    for (text, is_hard, len) in LINE_BREAKS {
+        let expected = LineBreak {
+            is_hard: *is_hard,
+            len: *len,
+        };
+        assert_same(&rt, scan_line_break(text.as_bytes()), Some(expected));
+    }
+    for text in NO_LINE_BREAKS {
+        assert!(rt; is_none(scan_line_break(text.as_bytes())));
     }
 }
 

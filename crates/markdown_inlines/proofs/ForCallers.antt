@@ -2,3 +2,7 @@
 pub use Rattle.markdown_inlines.proofs.code_spans.CodeSpanLemmas.{one_code_span}
 pub use Rattle.markdown_inlines.proofs.delimiter_runs.DelimiterRunLemmas.{one_delimiter_run}
 pub use Rattle.markdown_inlines.proofs.emails.EmailLemmas.{one_email}
+pub use Rattle.markdown_inlines.proofs.line_breaks.LineBreakLemmas.{one_line_break}
+pub use Rattle.markdown_inlines.proofs.link_tails.OneLinkTail.{one_link_tail}
+pub use Rattle.markdown_inlines.proofs.emphasis.MadeLemmas.{emphasis_is_made}
+pub use Rattle.markdown_inlines.proofs.emphasis.NestLemmas.{emphasis_nests}

@@ -1,5 +1,6 @@
 -- Delimiter runs, and which of them can open and close emphasis. (CommonMark 0.31.2, section 6.2, emphasis and strong emphasis)
-use Rattle.std.specs.Prelude.{ℕ, Bool, ◌&&◌, ◌||◌, ◌==◌, not, true, false, ◌+◌, ◌≡◌, ◌<◌, ◌⊎◌, List, take, drop, Option, Some, None}
+use Rattle.std.specs.Prelude.{ℕ, Bool, ◌&&◌, ◌||◌, ◌==◌, not, true, false, ◌+◌, ◌≡◌, ◌<◌, ◌⊎◌, List, take, drop, Option}
+use Rattle.std.specs.Prelude.{Some, None}
 use Rattle.std.specs.List.{prefix_len, last_or, slice_get}
 use Rattle.std.specs.Str.{chars}
 use Rattle.ucd_category.specs.GeneralCategory.{general_category}

@@ -1,5 +1,6 @@
 -- Email addresses in angle brackets. (CommonMark 0.31.2, section 6.5, autolinks)
-use Rattle.std.specs.Prelude.{ℕ, Bool, ◌&&◌, ◌||◌, ◌==◌, ◌-◌, nat_le, not, List, [], ◌∷◌, ◌++◌, ◌≡◌, ◌≢◌, length, slice_index, codes, IsTrue}
+use Rattle.std.specs.Prelude.{ℕ, Bool, ◌&&◌, ◌||◌, ◌==◌, ◌-◌, nat_le, not, List, [], ◌∷◌, ◌++◌, ◌≡◌, ◌≢◌, length}
+use Rattle.std.specs.Prelude.{slice_index, codes, IsTrue}
 use Rattle.std.specs.List.{list_all, list_any, slice_split}
 use Rattle.std.specs.Char.{is_ascii_alphanumeric}
 use Rattle.markdown_scanners_tree.specs.Ascii.{hyphen, full_stop, greater_than_sign}

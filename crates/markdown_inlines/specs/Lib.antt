@@ -1,3 +1,10 @@
+pub mod CodeContent
 pub mod CodeSpans
 pub mod DelimiterRuns
 pub mod Emails
+pub mod Emphasis
+pub mod EmphasisBounds
+pub mod EmphasisLaws
+pub mod LastStrings
+pub mod LineBreaks
+pub mod LinkTails

@@ -4,6 +4,7 @@ ghost use Rattle.std.specs.List.{prefix_len};
 ghost use Rattle.markdown_scanners_tree.specs.SomeExactly.{SomeExactly, IsOnly};
 ghost use Rattle.markdown_inlines.specs.CodeSpans.{IsCodeSpan, IsBacktickString, HasNone, is_backtick};
 
+use markdown_scanners_tree::scanners::scan_ch_repeat;
 use memchr::memchr;
 use std::ops::Range;
 
@@ -31,7 +32,7 @@ pub fn scan_code_span(bytes: &[u8]) -> Option<CodeSpan>
         × (span.content.start < span.content.end)
         × (span.content.end + span.content.start ≡ span.len)) }
 {
-    let fence = run_len(bytes);
+    let fence = scan_ch_repeat(bytes, b'`');
     if fence == 0 {
         return None;
     }
@@ -53,19 +54,11 @@ fn find_string(bytes: &[u8], fence: usize) -> Option<usize>
     let mut place = fence;
     while let Some(offset) = memchr(b'`', &bytes[place..]) {
         let start = place + offset;
-        let run = run_len(&bytes[start..]);
+        let run = scan_ch_repeat(&bytes[start..], b'`');
         if run == fence {
             return Some(start);
         }
         place = start + run;
     }
     None
-}
-
-// How many backticks stand at the front.
-fn run_len(bytes: &[u8]) -> usize
-    ensures count { result ≡ prefix_len is_backtick bytes.now }
-    ensures within { result ≤ length bytes.now }
-{
-    bytes.iter().take_while(|b| **b == b'`').count()
 }

@@ -1,12 +1,12 @@
 //! Delimiter runs. (CommonMark 0.31.2, section 6.2)
 ghost use Rattle.std.specs.Prelude.{◌≡◌, ◌↔◌, ◌⊎◌, ◌==◌, ◌<◌, ◌≤◌, ◌+◌, Option, ℕ, length, drop, IsTrue, IfSome};
 ghost use Rattle.markdown_scanners_tree.specs.Ascii.{asterisk, underscore};
-ghost use Rattle.std.specs.List.{prefix_len};
 ghost use Rattle.std.specs.Str.{IsCharBoundary};
 ghost use Rattle.markdown_scanners_tree.specs.SomeExactly.{SomeExactly, IsOnly};
 ghost use Rattle.markdown_inlines.specs.DelimiterRuns.{IsDelimiterRun, can_open, is_left_flanking};
 ghost use Rattle.markdown_inlines.specs.DelimiterRuns.{is_white_space, is_punctuation, is_white_side, is_punctuation_side};
 
+use markdown_scanners_tree::scanners::scan_ch_repeat;
 use ucd_category::{GeneralCategory, GeneralCategoryGroup};
 
 /// A delimiter run.
@@ -40,7 +40,7 @@ pub fn scan_delimiter_run(text: &str, place: usize) -> Option<DelimiterRun>
         return None;
     }
     let byte = bytes[place];
-    let count = count_of(&bytes[place..], byte);
+    let count = scan_ch_repeat(&bytes[place..], byte);
     let before = text[..place].chars().next_back();
     let after = text[place + count..].chars().next();
     Some(DelimiterRun {
@@ -56,14 +56,6 @@ fn is_delimiter(byte: u8) -> bool
     ensures { IsTrue result ↔ ((byte ≡ asterisk) ⊎ (byte ≡ underscore)) }
 {
     byte == b'*' || byte == b'_'
-}
-
-// How many of the bytes stand at the front.
-fn count_of(bytes: &[u8], byte: u8) -> usize
-    ensures count { result ≡ prefix_len (λ b. b == byte) bytes.now }
-    ensures within { result ≤ length bytes.now }
-{
-    bytes.iter().take_while(|b| **b == byte).count()
 }
 
 // Whether a run of the byte between these characters can open emphasis.

@@ -74,8 +74,8 @@ none_joined text n from mid to first second = λ place low high is.
       | inr more ↦ second place more high is
     ]
 
--- the search for a backtick from a place where none stands
-module _ (bytes : List ℕ) (place : ℕ) (here : get_or bytes place 0 ≢ backtick) where
+-- the search for a backtick from the front, or from a place where none stands
+module _ (bytes : List ℕ) (place : ℕ) (here : 0 < place → get_or bytes place 0 ≢ backtick) where
   other_before : (rest : List ℕ) (to k : ℕ) → rest ≡ drop place bytes → Nowhere (Passes (is_byte backtick) rest) 0 to → place ≤ k → k < place + to
       → get_or bytes k 0 ≢ backtick
   other_before rest to k same none low high = λ is.
@@ -103,14 +103,17 @@ module _ (bytes : List ℕ) (place : ℕ) (here : get_or bytes place 0 ≢ backt
       let at : get_or bytes (place + offset) 0 ≡ backtick = sym (get_or-drop place bytes offset 0) ∙ eqb-true (get_or rest offset 0) backtick first.1 in
       let count : run ≡ prefix_len is_backtick (drop (place + offset) bytes) = counted ∙ ap (prefix_len is_backtick) (take_rest bytes (place + offset)) in
       let before = other_before rest offset in
-      let further : 0 < offset = elim (cases_lt 0 offset) [
-        | inl less ↦ less
-        | inr zero ↦ (let same : place + offset ≡ place = omega (arith, zero) in absurd (here (ap (λ k. get_or bytes k 0) (sym same) ∙ at)))
+      let further : (k : ℕ) → place + offset ≡ suc k → place ≤ k = λ k is. elim (cases_lt 0 place) [
+        | inl moved ↦ elim (cases_lt 0 offset) [
+          | inl less ↦ omega (arith, is, less)
+          | inr zero ↦ (let same : place + offset ≡ place = omega (arith, zero) in absurd (here moved (ap (λ k. get_or bytes k 0) (sym same) ∙ at)))
+        ]
+        | inr front ↦ omega (arith, front)
       ] in
       let some : 0 < run = omega
       (arith, count, prefix_len-drop_yes is_backtick bytes (place + offset) 0 inside (eq-eqb (get_or bytes (place + offset) 0) backtick at)) in (
         inside,
-        string_at bytes (place + offset) run count some (λ k is. before k refl first.0.before (omega (arith, is, further)) (omega (arith, is))),
+        string_at bytes (place + offset) run count some (λ k is. before k refl first.0.before (further k is) (omega (arith, is))),
         λ n. none_without bytes n place (place + offset) (λ k low high. before k refl first.0.before low high),
       )
 

@@ -32,29 +32,29 @@ ends_at bytes text place count same inside utf8 delimiter counted fits =
     (omega (arith, fits, inside, ap length (take_rest bytes place ∙ ap (drop place) same), length-drop place text)) utf8
 
 pub range_from-requires : goal.range_from-requires
-range_from-requires c = λ _. ends_at c.as_bytes-bytes.result.now c.args.text.now c.args.place c.count_of-count.result c.as_bytes-bytes.ensures.value
+range_from-requires c = λ _. ends_at c.as_bytes-bytes.result.now c.args.text.now c.args.place c.scan_ch_repeat-count.result c.as_bytes-bytes.ensures.value
     (inside_at c.as_bytes-bytes.result.now c.args.text.now c.args.place c.as_bytes-bytes.ensures.value c.requires c.if-place-bytes.false) c.utf8.text
-    (c.is_delimiter.ensures.0 c.if-not-is_delimiter.false) c.count_of-count.ensures.count c.count_of-count.ensures.within
+    (c.is_delimiter.ensures.0 c.if-not-is_delimiter.false) c.scan_ch_repeat-count.ensures.run c.scan_ch_repeat-count.ensures.within
 
 pub returns-clause-boundary : goal.returns-clause-boundary
-returns-clause-boundary c = ends_at c.as_bytes-bytes.result.now c.args.text.now c.args.place c.count_of-count.result c.as_bytes-bytes.ensures.value
+returns-clause-boundary c = ends_at c.as_bytes-bytes.result.now c.args.text.now c.args.place c.scan_ch_repeat-count.result c.as_bytes-bytes.ensures.value
     (inside_at c.as_bytes-bytes.result.now c.args.text.now c.args.place c.as_bytes-bytes.ensures.value c.requires c.if-place-bytes.false) c.utf8.text
-    (c.is_delimiter.ensures.0 c.if-not-is_delimiter.false) c.count_of-count.ensures.count c.count_of-count.ensures.within
+    (c.is_delimiter.ensures.0 c.if-not-is_delimiter.false) c.scan_ch_repeat-count.ensures.run c.scan_ch_repeat-count.ensures.within
 
 pub returns-clause-found : goal.returns-clause-found
 returns-clause-found c =
     let bytes = c.as_bytes-bytes.result.now in
     let count_is = counted_from bytes c.args.text.now c.args.place
-    (get_or bytes c.args.place 0) c.count_of-count.result c.as_bytes-bytes.ensures.value c.count_of-count.ensures.count in
+    (get_or bytes c.args.place 0) c.scan_ch_repeat-count.result c.as_bytes-bytes.ensures.value c.scan_ch_repeat-count.ensures.run in
     let before : c.next_back-before.result ≡ char_before c.args.text.now c.args.place =
     sym (last_from_steps c.chars.result.rest.now c.next_back-before.result _ _ (subst IsUtf8 (sym c.chars.ensures.rest) c.range.utf8)
     c.next_back-before.ensures.steps)
     ∙ ap (λ t. last_or None (chars t)) (c.chars.ensures.rest ∙ c.range.ensures.value ∙ ap (λ n. take n c.args.text.now) (omega arith)) in
-    let after : c.next-after.result ≡ char_after c.args.text.now (c.args.place + c.count_of-count.result) =
+    let after : c.next-after.result ≡ char_after c.args.text.now (c.args.place + c.scan_ch_repeat-count.result) =
     c.next-after.ensures.steps.2 ∙ ap (λ t. slice_get (chars t) 0) (c.chars-2.ensures.rest ∙ c.range_from.ensures.value) in
     record {
       delimiter = c.is_delimiter.ensures.0 c.if-not-is_delimiter.false;
-      some = some_counted c.args.text.now c.args.place c.count_of-count.result (get_or bytes c.args.place 0) count_is
+      some = some_counted c.args.text.now c.args.place c.scan_ch_repeat-count.result (get_or bytes c.args.place 0) count_is
           (inside_at bytes c.args.text.now c.args.place c.as_bytes-bytes.ensures.value c.requires c.if-place-bytes.false)
           (ap (λ t. get_or t c.args.place 0) (sym c.as_bytes-bytes.ensures.value));
       longest = count_is;

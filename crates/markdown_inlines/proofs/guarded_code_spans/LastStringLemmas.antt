@@ -1,0 +1,122 @@
+-- The last backtick string of each length.
+use Rattle.std.proofs.Common.{◌≡◌, ◌≢◌, ℕ, suc, ◌+◌, ◌-◌, ◌<◌, ◌≤◌, ◌==◌, cond, true, false, List, length, drop, get_or}
+use Rattle.std.proofs.Common.{refl, sym, ap, ◌∙◌, subst, arith, inl, inr}
+use Rattle.std.specs.Prelude.{Option, None, IfNone}
+use Rattle.std.specs.List.{prefix_len}
+use Rattle.std.proofs.lemmas.Bool.{cases_Bool, eqb-true, eq-eqb, cases_lt}
+use Rattle.std.proofs.lemmas.List.{get_or-drop}
+use Rattle.markdown_scanners_tree.specs.Ascii.{backtick}
+use Rattle.markdown_inlines.specs.declared.code_spans.CodeSpan.{CodeSpan}
+use Rattle.markdown_inlines.specs.CodeSpans.{IsCodeSpan, IsBacktickString, HasNone, is_backtick}
+use Rattle.markdown_inlines.specs.LastStrings.{AreLastStrings}
+use Rattle.markdown_inlines.proofs.code_spans.CodeSpanLemmas.{one_length, opens_counted, strings_apart}
+
+pub if_none : {A P : Type 0} {answer : Option A} → answer ≡ None → P → IfNone answer P
+if_none {A} {P} none holds = subst (λ r. IfNone r P) (sym none) holds
+
+-- The last strings of those that begin before a place, which cuts none.
+pub record AreLastBefore (text lasts : List ℕ) (place : ℕ) : Type 0 where
+  pub within : place ≤ length text
+  pub apart : 0 < place → get_or text place 0 ≢ backtick
+  pub latest : (at n : ℕ) → IsBacktickString text at n → at < place → at ≤ get_or lasts n 0
+  pub there : (n : ℕ) → 0 < get_or lasts n 0 → IsBacktickString text (get_or lasts n 0) n
+
+-- no string begins within another one
+inside_none : (text : List ℕ) (start run at n : ℕ) → IsBacktickString text start run → IsBacktickString text at n → start < at
+    → at < start + run → ⊥
+inside_none text start run at n here is low high =
+    let before : at ≡ suc (at - 1) = omega (arith, low) in
+    let k : start + (at - 1 - start) ≡ at - 1 = omega (arith, low) in
+    is.not_preceded (at - 1) before (ap (λ j. get_or text j 0) (sym k) ∙ here.backticks (at - 1 - start) (omega (arith, low, high)))
+
+-- One string more.
+pub one_more : (text lasts lasts' : List ℕ) (place start run : ℕ) → AreLastBefore text lasts place → place ≤ start
+    → IsBacktickString text start run → ((n : ℕ) → HasNone text n place start) → start + run ≤ length text
+    → ((k : ℕ) → get_or lasts' k 0 ≡ cond (k == run) start (get_or lasts k 0)) → AreLastBefore text lasts' (start + run)
+one_more text lasts lasts' place start run is behind here none inside put = record {
+  within = inside;
+  apart = λ _. here.not_followed;
+  latest = latest;
+  there = there;
+}
+  where
+    latest : (at n : ℕ) → IsBacktickString text at n → at < start + run → at ≤ get_or lasts' n 0
+    latest at n string before = elim (cases_Bool (n == run)) [
+      | inl same ↦ (
+          let value : get_or lasts' n 0 ≡ start = put n ∙ rw same refl in
+          elim (cases_lt start at) [
+            | inl later ↦ absurd (inside_none text start run at n here string later before)
+            | inr early ↦ omega (arith, value, early)
+          ]
+          )
+      | inr other ↦ (
+          let value : get_or lasts' n 0 ≡ get_or lasts n 0 = put n ∙ rw other refl in
+          elim (cases_lt at place) [
+            | inl early ↦ omega (arith, value, is.latest at n string early)
+            | inr late ↦ elim (cases_lt at start) [
+              | inl gap ↦ absurd (none n at late gap string)
+              | inr from ↦ elim (cases_lt start at) [
+                | inl later ↦ absurd (inside_none text start run at n here string later before)
+                | inr same ↦ absurd (let at_start : at ≡ start = omega (arith, from, same) in
+                    let equal : n ≡ run = one_length text start n run (subst (λ j. IsBacktickString text j n) at_start string) here in
+                    differ n run equal other)
+              ]
+            ]
+          ]
+          )
+    ]
+      where
+        differ : (n run : ℕ) → n ≡ run → (n == run) ≡ false → ⊥
+        differ n run equal other = (let turned : true ≡ false = sym (eq-eqb n run equal) ∙ other in cc)
+
+    there : (n : ℕ) → 0 < get_or lasts' n 0 → IsBacktickString text (get_or lasts' n 0) n
+    there n some = elim (cases_Bool (n == run)) [
+      | inl same ↦ (
+          let value : get_or lasts' n 0 ≡ start = put n ∙ rw same refl in
+          subst (λ j. IsBacktickString text j n) (sym value) (subst (IsBacktickString text start) (sym (eqb-true n run same)) here)
+          )
+      | inr other ↦ (
+          let value : get_or lasts' n 0 ≡ get_or lasts n 0 = put n ∙ rw other refl in
+          subst (λ j. IsBacktickString text j n) (sym value) (is.there n (omega (arith, some, value)))
+          )
+    ]
+
+-- No string is left.
+pub all_last : (text lasts : List ℕ) (place : ℕ) → AreLastBefore text lasts place
+    → ((n to : ℕ) → 0 < n → HasNone text n place to) → AreLastStrings text lasts
+all_last text lasts place is none = record {
+  latest = λ at n string. elim (cases_lt at place) [
+    | inl early ↦ is.latest at n string early
+    | inr late ↦ absurd (none n (at + 1) string.some at late (omega arith) string)
+  ];
+  there = is.there;
+}
+
+pub none_yet : (text lasts : List ℕ) → ((k : ℕ) → get_or lasts k 0 ≡ 0) → AreLastBefore text lasts 0
+none_yet text lasts empty = record {
+  within = omega arith;
+  apart = λ moved. absurd (omega (arith, moved));
+  latest = λ at n string early. absurd (omega (arith, early));
+  there = λ n some. absurd (omega (arith, some, empty n));
+}
+
+-- a string of what follows a place, in the text
+string_in_text : (text : List ℕ) (place at n : ℕ) → IsBacktickString (drop place text) at n → 0 < at → IsBacktickString text (place + at) n
+string_in_text text place at n is some = record {
+  some = is.some;
+  backticks = λ k less. ap (λ j. get_or text j 0) (omega arith) ∙ sym (get_or-drop place text (at + k) 0) ∙ is.backticks k less;
+  not_preceded = λ k before here.
+      is.not_preceded (at - 1) (omega (arith, some))
+      (get_or-drop place text (at - 1) 0 ∙ ap (λ j. get_or text j 0) (omega (arith, some, before)) ∙ here);
+  not_followed = λ here.
+      is.not_followed (get_or-drop place text (at + n) 0 ∙ ap (λ j. get_or text j 0) (omega arith) ∙ here);
+}
+
+-- What no later string closes begins no code span.
+pub no_later : (text lasts : List ℕ) (place fence : ℕ) → AreLastStrings text lasts → fence ≡ prefix_len is_backtick (drop place text)
+    → get_or lasts fence 0 ≤ place → (span : CodeSpan) → ¬ IsCodeSpan (drop place text) span
+no_later text lasts place fence are counted early span is =
+    let n : span.content.start ≡ fence = opens_counted (drop place text) span.content.start is.opens ∙ sym counted in
+    let behind = strings_apart (drop place text) span.content.start span.content.end span.content.start is.opens is.closes is.in_order in
+    let string = string_in_text text place span.content.end span.content.start is.closes (omega (arith, behind)) in
+    absurd (omega (arith, early, behind, ap (λ k. get_or lasts k 0) n, are.latest (place + span.content.end) span.content.start string))

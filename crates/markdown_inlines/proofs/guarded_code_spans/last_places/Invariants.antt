@@ -1,0 +1,10 @@
+-- the strings before the place are put in
+use Rattle.std.proofs.Common.{◌-◌, length}
+use Rattle.markdown_inlines.proofs.guarded_code_spans.LastStringLemmas.{AreLastBefore}
+use Rattle.markdown_inlines.proofs.guarded_code_spans.last_places.Given as goal
+
+abbrev pub invariant-loop-start : goal.invariant-loop-start
+invariant-loop-start l = AreLastBefore l.bytes l.lasts.items l.place
+
+abbrev pub decreases-loop-start : goal.decreases-loop-start
+decreases-loop-start l = length l.bytes - l.place

@@ -1,0 +1,2 @@
+pub mod LinkTailLemmas
+pub mod OneLinkTail

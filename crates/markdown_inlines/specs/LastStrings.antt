@@ -1,0 +1,8 @@
+-- Where the last backtick string of each length stands. (CommonMark 0.31.2, section 6.1, code spans)
+use Rattle.std.specs.Prelude.{ℕ, ◌≤◌, ◌<◌, List, slice_index}
+use Rattle.markdown_inlines.specs.CodeSpans.{IsBacktickString}
+
+-- By its length, the place of the last backtick string in the text, or 0 where there is none after the front.
+pub record AreLastStrings (text lasts : List ℕ) : Type 0 where
+  pub latest : (place n : ℕ) → IsBacktickString text place n → place ≤ slice_index lasts n
+  pub there : (n : ℕ) → 0 < slice_index lasts n → IsBacktickString text (slice_index lasts n) n
