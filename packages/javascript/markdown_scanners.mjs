@@ -15,7 +15,7 @@
 import { VERSION } from "./lib/c.mjs";
 import { Block, Engine } from "./lib/engine.mjs";
 import { BadModule, isAnswer, ModuleMissing, WrongVersion } from "./lib/errors.mjs";
-import { byteOf, bytesOf, optionsOf, wrongType } from "./lib/given.mjs";
+import { byteOf, bytesOf, characterOf, optionsOf, wrongType } from "./lib/given.mjs";
 import { Text } from "./lib/text.mjs";
 
 export * from "./lib/errors.mjs";
@@ -82,6 +82,24 @@ export class Scanners {
      */
     isPunctuation(character) {
         return this.#engine.calls.isPunctuation(byteOf("character", character));
+    }
+
+    /**
+     * A Unicode white space character: a tab, LF, FF or CR, or one of category Zs. (2.1)
+     * @param {string | number} character or its number
+     * @returns {boolean}
+     */
+    isUnicodeWhitespace(character) {
+        return this.#engine.calls.isUnicodeWhitespace(characterOf("character", character));
+    }
+
+    /**
+     * A Unicode punctuation character: one of category P or S. (2.1)
+     * @param {string | number} character or its number
+     * @returns {boolean}
+     */
+    isUnicodePunctuation(character) {
+        return this.#engine.calls.isUnicodePunctuation(characterOf("character", character));
     }
 
     /**

@@ -1,4 +1,5 @@
 pub mod Buffers
+pub mod DelimiterRuns
 pub mod HtmlScans
 pub mod KeyLemmas
 pub mod LabelLemmas
@@ -8,5 +9,6 @@ pub mod NoSpaces
 pub mod Parts
 pub mod Rows
 pub mod SameKept
+pub mod Sides
 pub mod SkipLemmas
 pub mod TagLemmas

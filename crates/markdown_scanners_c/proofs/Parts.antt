@@ -1,10 +1,15 @@
--- Parts of what stands in bytes from a place on. (CommonMark 0.31.2, sections 6.3, links, and 6.5, autolinks)
-use Rattle.std.proofs.Common.{ℕ, List, ◌≡◌, ◌≤◌, ◌+◌, ◌-◌, ◌⊎◌, inl, inr, drop, take, arith, refl, ap, subst, ◌∙◌}
+-- Parts of what stands in bytes from a place on. (CommonMark 0.31.2, sections 6.1, code spans, 6.3, links, and 6.5,
+-- autolinks)
+use Rattle.std.proofs.Common.{ℕ, List, ◌≡◌, ◌≤◌, ◌+◌, ◌-◌, ◌⊎◌, inl, inr, drop, take, get_or, length, arith, refl, ap, subst, ◌∙◌}
 use Rattle.std.proofs.lemmas.List.{drop-drop}
+use Rattle.std.proofs.lemmas.Str.{IsCharBoundary-after_ascii, IsCharBoundary-before_ascii}
 use Rattle.std.specs.Prelude.{slice_range}
 use Rattle.std.specs.Str.{IsUtf8, IsCharBoundary}
+use Rattle.markdown_scanners_tree.specs.Ascii.{backtick}
 use Rattle.markdown_scanners_tree.specs.scanners.links.LinkDestination.{IsLinkDestination, StandsInside}
 use Rattle.markdown_scanners_tree.proofs.ForCallers.{place_of_rest}
+use Rattle.markdown_inlines.specs.CodeSpans.{IsCodeSpan, IsBacktickString}
+use Rattle.markdown_inlines.specs.declared.code_spans.CodeSpan.{CodeSpan}
 use Rattle.markdown_scanners_c.specs.TextPlace.{IsTextPlace}
 
 -- where its own bytes stand
@@ -28,7 +33,7 @@ destination_at most start taken from to bytes rest same found =
     (subst (IsLinkDestination most rest taken) own found))
 
 -- A place between two characters of what stands from such a place of a text on is one of the text.
-place_in : (start : ℕ) (bytes rest : List ℕ) → rest ≡ drop start bytes → IsTextPlace bytes start → (n place : ℕ)
+pub place_in : (start : ℕ) (bytes rest : List ℕ) → rest ≡ drop start bytes → IsTextPlace bytes start → (n place : ℕ)
     → start + n ≡ place → (IsUtf8 rest → IsCharBoundary rest n) → IsCharBoundary bytes place
 place_in start bytes rest same (utf8, at_start) n place counted at =
     subst (IsCharBoundary bytes) counted (place_of_rest rest bytes start n same utf8 (λ some. at_start) at)
@@ -66,3 +71,34 @@ cut_closed start n bytes rest same text before behind = (
   place_in start bytes rest same text n (start + n) refl before,
   place_in start bytes rest same text (n + 1) (start + n + 1) (omega arith) behind,
 )
+
+-- a text may be cut after a backtick string
+after_string : (text : List ℕ) (place n : ℕ) → IsBacktickString text place n → place + n ≤ length text → IsUtf8 text
+    → IsCharBoundary text (place + n)
+after_string text place n is inside utf8 =
+    let last = is.backticks (n - 1) (omega (arith, is.some)) in
+    subst (IsCharBoundary text) (omega (arith, is.some))
+    (IsCharBoundary-after_ascii text (place + (n - 1)) utf8 (omega (arith, is.some, inside)) (omega (arith, last)))
+
+-- both ends of a code span's content, and its own end
+pub cut_code : (start : ℕ) (span : CodeSpan) (bytes rest : List ℕ) → rest ≡ drop start bytes → IsTextPlace bytes start
+    → IsCodeSpan rest span → span.len ≤ length rest
+    → IsCharBoundary bytes (start + span.content.start)
+    × IsCharBoundary bytes (start + span.content.start + (span.content.end - span.content.start))
+    × IsCharBoundary bytes (start + span.len)
+cut_code start span bytes rest same text is inside =
+    let opens : IsUtf8 rest → IsCharBoundary rest span.content.start = λ utf8.
+    subst (IsCharBoundary rest) (omega arith)
+    (after_string rest 0 span.content.start is.opens (omega (arith, is.counted, inside)) utf8) in
+    let first : get_or rest span.content.end 0 ≡ backtick =
+    subst (λ k. get_or rest k 0 ≡ backtick) (omega arith) (is.closes.backticks 0 is.closes.some) in
+    let closes : IsCharBoundary rest span.content.end =
+    IsCharBoundary-before_ascii rest span.content.end (omega (arith, is.counted, is.closes.some, inside))
+    (omega (arith, first)) in
+    let ends : IsUtf8 rest → IsCharBoundary rest span.len = λ utf8.
+    subst (IsCharBoundary rest) (omega (arith, is.counted))
+    (after_string rest span.content.end span.content.start is.closes (omega (arith, is.counted, inside)) utf8) in (
+      place_in start bytes rest same text span.content.start (start + span.content.start) refl opens,
+      place_in start bytes rest same text span.content.end _ (omega (arith, is.in_order)) (λ utf8. closes),
+      place_in start bytes rest same text span.len (start + span.len) refl ends,
+    )

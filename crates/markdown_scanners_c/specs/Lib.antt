@@ -1,6 +1,7 @@
 pub mod Among
 pub mod Answers
 pub mod Buffer
+pub mod DelimiterRuns
 pub mod Finds
 pub mod Guards
 pub mod Keys
@@ -9,6 +10,7 @@ pub mod LineRests
 pub mod LineRuns
 pub mod LineStarts
 pub mod Parts
+pub mod ReferenceDefinitions
 pub mod Runs
 pub mod Skips
 pub mod Status

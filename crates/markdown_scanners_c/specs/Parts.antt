@@ -1,12 +1,13 @@
 -- Parts of bytes that are found at a place of them: their own bytes, and where what belongs to them ends.
--- (CommonMark 0.31.2, sections 6.3, links, and 6.5, autolinks)
+-- (CommonMark 0.31.2, sections 6.1, code spans, 6.3, links, and 6.5, autolinks)
 use Rattle.std.specs.Prelude.{ℕ, List, None, Some, ◌≡◌, ◌⊎◌, ◌+◌, ◌-◌, ◌==◌, drop, take}
 use Rattle.std.specs.List.{position}
 use Rattle.std.specs.Str.{IsCharBoundary}
 use Rattle.markdown_scanners_tree.specs.Ascii.{vertical_line}
-use Rattle.markdown_scanners_tree.specs.scanners.links.Autolink.{IsUriAutolink}
 use Rattle.markdown_scanners_tree.specs.scanners.links.LinkDestination.{IsLinkDestination}
 use Rattle.markdown_scanners_tree.specs.scanners.titles.LinkTitle.{IsLinkTitle}
+use Rattle.markdown_inlines.specs.CodeSpans.{IsCodeSpan}
+use Rattle.markdown_inlines.specs.declared.code_spans.CodeSpan.{CodeSpan}
 use Rattle.markdown_scanners_c.specs.Status.{ok, nothing}
 use Rattle.markdown_scanners_c.specs.TextPlace.{IsTextPlace}
 use Rattle.markdown_scanners_c.specs.declared.inline.Part.{Part}
@@ -20,12 +21,20 @@ IsNoPart status part =
 abbrev pub part_of : List ℕ → Part → List ℕ
 part_of bytes part = take part.length (drop part.start bytes)
 
--- an absolute URI, which begins at the place and which `>` ends, or none
-unfoldable pub IsUriPart : List ℕ → ℕ → Part → Type 0
-IsUriPart bytes place part =
-    (IsNoPart nothing part × ((uri : List ℕ) → ¬ IsUriAutolink (drop place bytes) uri))
-    ⊎ ((part.status ≡ ok) × IsUriAutolink (drop place bytes) (part_of bytes part)
+-- an absolute URI or an email address, as it is said of these, which begins at the place and which `>` ends, or none
+unfoldable pub IsAutolinkPart : (List ℕ → List ℕ → Type 0) → List ℕ → ℕ → Part → Type 0
+IsAutolinkPart IsOne bytes place part =
+    (IsNoPart nothing part × ((address : List ℕ) → ¬ IsOne (drop place bytes) address))
+    ⊎ ((part.status ≡ ok) × IsOne (drop place bytes) (part_of bytes part)
     × (part.start ≡ place) × (part.end ≡ place + part.length + 1))
+
+-- a code span, which begins at the place, with its content between its backtick strings, or none
+unfoldable pub IsCodePart : List ℕ → ℕ → Part → Type 0
+IsCodePart bytes place part =
+    (IsNoPart nothing part × ((span : CodeSpan) → ¬ IsCodeSpan (drop place bytes) span))
+    ⊎ ((span : CodeSpan) × IsCodeSpan (drop place bytes) span
+    × (part.status ≡ ok) × (part.end ≡ place + span.len)
+    × (part.start ≡ place + span.content.start) × (part.start + part.length ≡ place + span.content.end))
 
 -- what stands before the first pipe of so many bytes from the place on, or no pipe
 unfoldable pub IsPipePart : List ℕ → ℕ → ℕ → Part → Type 0

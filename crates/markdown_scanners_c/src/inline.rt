@@ -1,10 +1,14 @@
-//! Link destinations, link titles, autolinks and pipes of wikilinks.
+//! Link destinations, link titles, code spans, autolinks and pipes of wikilinks.
 ghost use Rattle.std.specs.Prelude.{◌≤◌, ◌+◌, length};
+ghost use Rattle.markdown_scanners_tree.specs.scanners.links.Autolink.{IsUriAutolink};
+ghost use Rattle.markdown_inlines.specs.Emails.{IsEmailAutolink};
 ghost use Rattle.markdown_scanners_c.specs.Status.{past_end};
-ghost use Rattle.markdown_scanners_c.specs.Parts.{IsNoPart, IsUriPart, IsPipePart, IsDestinationPart, IsTitlePart, IsCutFromText};
+ghost use Rattle.markdown_scanners_c.specs.Parts.{IsNoPart, IsAutolinkPart, IsPipePart, IsCodePart, IsDestinationPart, IsTitlePart, IsCutFromText};
 ghost use Rattle.markdown_scanners_c.specs.TextPlace.{IsAnswerAt};
 
 use crate::status::{NOTHING, OK, PAST_END};
+use markdown_inlines::code_spans::scan_code_span;
+use markdown_inlines::emails::scan_email_autolink_bytes;
 use markdown_scanners_tree::scanners::{
     scan_autolink_bytes, scan_link_dest_bytes, scan_link_title, scan_wikilink_pipe_bytes,
 };
@@ -79,12 +83,37 @@ pub extern "C" fn mds_scan_link_title(bytes: &[u8], start: usize) -> Part
     }
 }
 
+/// The code span that begins at the place, as if no backtick stood before that. (CommonMark 0.31.2,
+/// section 6.1)
+#[tactic(auto, unfolding(crate::specs::Parts::IsCodePart))]
+#[unsafe(no_mangle)]
+pub extern "C" fn mds_scan_code_span(bytes: &[u8], start: usize) -> Part
+    ensures part { IsAnswerAt bytes.now start (IsNoPart past_end result)
+        (IsCodePart bytes.now start result) }
+    ensures within { (result.start + result.length ≤ result.end)
+        × (result.end ≤ length bytes.now) }
+    ensures boundary { IsCutFromText bytes.now start result }
+{
+    if start > bytes.len() {
+        return no_part(PAST_END);
+    }
+    match scan_code_span(&bytes[start..]) {
+        Some(span) => Part {
+            status: OK,
+            end: start + span.len,
+            start: start + span.content.start,
+            length: span.content.end - span.content.start,
+        },
+        None => no_part(NOTHING),
+    }
+}
+
 /// The URI of the autolink whose `<` stands before the place. (CommonMark 0.31.2, section 6.5)
-#[tactic(auto, unfolding(crate::specs::Parts::IsUriPart))]
+#[tactic(auto, unfolding(crate::specs::Parts::IsAutolinkPart))]
 #[unsafe(no_mangle)]
 pub extern "C" fn mds_scan_autolink(bytes: &[u8], start: usize) -> Part
     ensures part { IsAnswerAt bytes.now start (IsNoPart past_end result)
-        (IsUriPart bytes.now start result) }
+        (IsAutolinkPart IsUriAutolink bytes.now start result) }
     ensures within { (result.start + result.length ≤ result.end)
         × (result.end ≤ length bytes.now) }
     ensures boundary { IsCutFromText bytes.now start result }
@@ -98,6 +127,31 @@ pub extern "C" fn mds_scan_autolink(bytes: &[u8], start: usize) -> Part
             end: start + length + 1,
             start,
             length,
+        },
+        None => no_part(NOTHING),
+    }
+}
+
+/// The email address of the autolink whose `<` stands before the place. (CommonMark 0.31.2, section
+/// 6.5)
+#[tactic(auto, unfolding(crate::specs::Parts::IsAutolinkPart))]
+#[unsafe(no_mangle)]
+pub extern "C" fn mds_scan_email_autolink(bytes: &[u8], start: usize) -> Part
+    ensures part { IsAnswerAt bytes.now start (IsNoPart past_end result)
+        (IsAutolinkPart IsEmailAutolink bytes.now start result) }
+    ensures within { (result.start + result.length ≤ result.end)
+        × (result.end ≤ length bytes.now) }
+    ensures boundary { IsCutFromText bytes.now start result }
+{
+    if start > bytes.len() {
+        return no_part(PAST_END);
+    }
+    match scan_email_autolink_bytes(&bytes[start..]) {
+        Some(address) => Part {
+            status: OK,
+            end: start + address + 1,
+            start,
+            length: address,
         },
         None => no_part(NOTHING),
     }

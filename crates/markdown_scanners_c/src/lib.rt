@@ -1,4 +1,5 @@
-//! The scanners of `markdown_scanners_tree` as C functions, whose header is `markdown_scanners.h`.
+//! The scanners of `markdown_scanners_tree` and `markdown_inlines` as C functions, whose header is
+//! `markdown_scanners.h`.
 //!
 //! A slice is two parameters in C: a pointer, and then the length in elements. A reference to a
 //! struct is a pointer to it; a struct that is answered is returned by value. `alloc: Global` is
@@ -6,6 +7,7 @@
 #![tactic(auto)]
 
 mod blocks;
+mod delimiter_runs;
 mod html;
 mod inline;
 mod keys;
@@ -14,6 +16,7 @@ mod line_rests;
 mod line_runs;
 mod line_starts;
 mod lines;
+mod reference_definitions;
 mod runs;
 mod skips;
 mod status;

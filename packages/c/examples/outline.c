@@ -101,37 +101,19 @@ static size_t read_label(struct text text, size_t place, struct entry *entry) {
     return found.end;
 }
 
-/* White space with at most one line ending. */
-static size_t space_length(struct text text) {
-    size_t space = mds_scan_whitespace_in_line(text.bytes, text.length);
-    return space + begins_with(rest_of(text, space), "\n");
-}
-
-/* How many bytes of a definition stand behind its destination: a title, or none, and the line ending; or 0. (4.7) */
-static size_t definition_end(struct text text) {
-    size_t space = space_length(text);
-    struct mds_part title = mds_scan_link_title(text.bytes, text.length, space);
-    if (space > 0 && title.status == MDS_OK && begins_with(rest_of(text, title.end), "\n"))
-        return title.end + 1;
-    return space > 0 && text.bytes[space - 1] == '\n' ? space : 0;
-}
-
 /* Adds the definition at the front of a paragraph, and answers how many bytes it takes, or 0. (4.7) */
 static size_t define(struct reader *reader, struct text text) {
+    struct mds_reference_definition found = mds_scan_reference_definition(text.bytes, text.length, 0, 31);
+    if (found.status != MDS_OK)
+        return 0;
     struct entry entry = {.line = reader->begun_at};
-    size_t label = read_label(text, 0, &entry);
-    if (label == 0 || !begins_with(rest_of(text, label), ":"))
-        return 0;
-    size_t start = label + 1 + space_length(rest_of(text, label + 1));
-    struct mds_part part = mds_scan_link_dest(text.bytes, text.length, start, 31);
-    size_t end = part.status == MDS_OK && part.end > start ? definition_end(rest_of(text, part.end)) : 0;
-    if (end == 0)
-        return 0;
-    size_t room = part.length + part.length / 5;
+    read_label(text, 0, &entry);
+    struct text raw = {text.bytes + found.destination_start, found.destination_length};
+    size_t room = raw.length + raw.length / 5;
     uint8_t *target = grown(NULL, room);
-    entry.target = made(target, mds_unescape(text.bytes + part.start, part.length, false, target, room));
+    entry.target = made(target, mds_unescape(raw.bytes, raw.length, false, target, room));
     add(&reader->definitions, entry);
-    return part.end + end;
+    return found.end;
 }
 
 static size_t run_length(struct text text, size_t place) {
@@ -156,16 +138,10 @@ static size_t *last_runs(struct text text) {
 /* How many bytes the code span at the place takes, or its backticks where nothing closes it. That is known before a closing
  * run is looked for, so no part of a text is searched twice, whatever the lengths of its runs. (6.1) */
 static size_t code_length(struct text text, size_t place, struct known *known) {
-    size_t run = run_length(text, place), end = place + run, count = 0;
+    size_t run = run_length(text, place);
     if (!known->runs)
         known->runs = last_runs(text);
-    if (known->runs[run] <= place)
-        return run;
-    while (count != run) {
-        end += count + 1;
-        count = run_length(text, end);
-    }
-    return end + run - place;
+    return known->runs[run] > place ? mds_scan_code_span(text.bytes, text.length, place).end - place : run;
 }
 
 /* How many bytes the escape, code span, autolink or HTML at the place takes; else 1. (2.4, 6.1, 6.5, 6.6) */

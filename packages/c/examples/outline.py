@@ -7,7 +7,6 @@ installed, else that of the tree, over the shared library that packages/c/build 
 import os
 import re
 import sys
-from bisect import bisect_left
 from pathlib import Path
 
 sys.dont_write_bytecode = True
@@ -47,25 +46,20 @@ def find(text, place, closers):
     return place
 
 
-class BacktickRuns:
-    """Where the runs of backticks of a text begin, by their lengths; they are looked for once, at the first."""
+class CodeSpans:
+    """The code spans of a text. Where its last run of so many backticks begins is looked for once, at the first, so that no
+    call looks for a closing run that is not there."""
 
     def __init__(self, text):
-        self.text, self.begins = text, None
+        self.text, self.last = text, None
 
-    def look(self):
-        self.begins = {}
-        for run in BACKTICKS.finditer(self.text):
-            self.begins.setdefault(len(run[0]), []).append(run.start())
-
-    def span_length(self, place):
+    def length(self, place):
         """How many bytes the code span at the place takes, or its backticks where no run as long closes it. (6.1)"""
-        if self.begins is None:
-            self.look()
+        if self.last is None:
+            self.last = {len(run[0]): run.start() for run in BACKTICKS.finditer(self.text)}
         end = BACKTICKS.match(self.text, place).end()
-        closers = self.begins.get(end - place, [])
-        closer = bisect_left(closers, end)
-        return closers[closer] + end - 2 * place if closer < len(closers) else end - place
+        is_closed = self.last.get(end - place, place) > place
+        return (mds.scan_code_span(self.text, place).end if is_closed else end) - place
 
 
 class Outline:
@@ -82,37 +76,21 @@ class Outline:
         label = mds.scan_link_label(text, place + 1, end + 1)
         return (label.text, mds.label_key(label.text), label.end - place) if label else (b"", b"", 0)
 
-    def space_end(self, text, place):
-        """The end of white space with at most one line ending."""
-        place = mds.scan_whitespace_in_line(text, place)
-        return place + (text[place : place + 1] == b"\n")
-
-    def definition_end(self, text, place):
-        """The end of the definition whose destination ends at the place, with a title or without; or 0. (4.7)"""
-        start = self.space_end(text, place)
-        title = mds.scan_link_title(text, start) if start > place else None
-        if title and text[title.end : title.end + 1] == b"\n":
-            return title.end + 1
-        return start if text[place:start].endswith(b"\n") else 0
-
     def define(self, line, text, place):
         """Adds the definition at the place in a paragraph, and answers its end, or 0. (4.7)"""
-        label, key, taken = self.read_label(text, place)
-        if not taken or text[place + taken : place + taken + 1] != b":":
+        found = mds.scan_reference_definition(text, place)
+        if not found:
             return 0
-        start = self.space_end(text, place + taken + 1)
-        part = mds.scan_link_dest(text, start)
-        end = self.definition_end(text, part.end) if part and part.end > start else 0
-        if end:
-            self.definitions.append((line, label, key, mds.unescape(text, part.start, part.stop)))
-        return end
+        label = mds.scan_link_label(text, found.label.start).text
+        self.definitions.append((line, label, mds.label_key(label), mds.unescape(text, *found.destination)))
+        return found.end
 
-    def inline_length(self, text, place, guard, runs):
+    def inline_length(self, text, place, guard, spans):
         """How many bytes the escape, code span, autolink or HTML at the place takes; else 1. (2.4, 6.1, 6.5, 6.6)"""
         if text[place] == ord("\\"):
             return 2 if text[place + 1 : place + 2] and text[place + 1] in b"!\"#$%&'()*+,-./:;<=>?@[\\]^_`{|}~" else 1
         if text[place] != ord("<"):
-            return runs.span_length(place) if text[place] == ord("`") else 1
+            return spans.length(place) if text[place] == ord("`") else 1
         found = mds.scan_autolink(text, place + 1) or mds.scan_html_tag_over_lines(text, place)
         if found:
             return found.end - place
@@ -123,14 +101,14 @@ class Outline:
         """Adds the full references of a text that begins in this line; where a level is given it is a heading. (6.3)"""
         if level:
             self.output.append(b"%d: %b %b\n" % (line, b"#" * level, text.replace(b"\n", b" ")))
-        guard, runs = mds.HtmlScanGuard(text), BacktickRuns(text)
+        guard, spans = mds.HtmlScanGuard(text), CodeSpans(text)
         place = depth = 0
         while place < len(text):
             closes = text[place] == ord("]") and depth > 0
             label, key, taken = self.read_label(text, place + 1) if closes else (b"", b"", 0)
             if taken:
                 self.references.append((line, label, key))
-            taken += self.inline_length(text, place, guard, runs) if text[place] in b"\\`<" else 1
+            taken += self.inline_length(text, place, guard, spans) if text[place] in b"\\`<" else 1
             depth += (text[place] == ord("[")) - closes
             line += text.count(b"\n", place, place + taken)
             place += taken

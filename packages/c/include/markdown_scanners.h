@@ -1,9 +1,9 @@
 /* The scanners of Markdown's lines, blocks and inline text, as C functions.
  *
- * They stand over the library `markdown_scanners_tree`, and each is proved to answer what that library's definitions
- * say, after CommonMark 0.31.2 (https://spec.commonmark.org/0.31.2/), whose sections stand in brackets below. They are
- * scanners: each reads from the front of the bytes that it is given, or from a place in them, and says what begins
- * there. None looks for the next construct, so a caller goes through its document and asks.
+ * They stand over the libraries `markdown_scanners_tree` and `markdown_inlines`, and each is proved to answer what their
+ * definitions say, after CommonMark 0.31.2 (https://spec.commonmark.org/0.31.2/), whose sections stand in brackets below.
+ * They are scanners: each reads from the front of the bytes that it is given, or from a place in them, and says what
+ * begins there. None looks for the next construct, so a caller goes through its document and asks.
  *
  * Bytes and texts. A pointer and a length go together; nothing has to end in a zero byte, and zero bytes are read as
  * any other. What is read may be of any type of bytes, as `char` or `uint8_t`. The pointer may be null where the length
@@ -147,6 +147,19 @@ bool mds_is_whitespace_in_line(uint8_t byte);
  *     mds_is_punctuation('!')
  */
 bool mds_is_punctuation(uint8_t byte);
+
+/* A Unicode white space character, by its number: a tab, LF, FF or CR, or one of category Zs. Of a number that no
+ * character has it is false. (2.1)
+ *
+ *     mds_is_unicode_whitespace(0xA0) && !mds_is_unicode_whitespace('\v')
+ */
+bool mds_is_unicode_whitespace(uint32_t character);
+
+/* A Unicode punctuation character, by its number: one of category P or S. (2.1)
+ *
+ *     mds_is_unicode_punctuation(0x20AC) && !mds_is_unicode_punctuation('a')
+ */
+bool mds_is_unicode_punctuation(uint32_t character);
 
 /* Whether the bytes are UTF-8.
  *
@@ -533,6 +546,32 @@ size_t mds_scan_closing_metadata_block(const void *bytes, size_t length, uint8_t
  */
 bool mds_interrupts_paragraph(const void *bytes, size_t length);
 
+/* A link reference definition, where the status is MDS_OK: the places of its parts, as they are written there, and how many
+ * bytes they have. It is MDS_NOTHING where there is none, and MDS_PAST_END where the place is past the end of the bytes.
+ */
+struct mds_reference_definition {
+    uint32_t status;
+    size_t end;                                   /* the place after its last line */
+    size_t label_start, label_length;             /* what stands between the brackets of its label */
+    size_t destination_start, destination_length; /* its destination, without angle brackets */
+    size_t title_start, title_length;             /* its title, without the bytes around it; MDS_NONE and 0 of none */
+};
+
+/* The link reference definition that begins at the place `start`. The bytes are the content of a paragraph: its lines
+ * without the markers of containers and without indent. Of more definitions each begins where the one before it ends.
+ * A title that something follows in its line is none: where it began in a line of its own, the definition ends before
+ * that. Parentheses in the destination may stand in each other `max_next` + 1 deep. mds_scan_link_label reads the label
+ * at `label_start`. No byte after the one that decides is read; where they are UTF-8 and the place is between two
+ * characters, so are both ends of each part. (4.7)
+ *
+ *     struct mds_reference_definition found = mds_scan_reference_definition("[a]: <b> 'c'\n", 13, 0, 31);
+ *     found.status == MDS_OK && found.end == 13 && found.label_start == 1 && found.label_length == 1
+ *     found.destination_start == 6 && found.destination_length == 1
+ *     found.title_start == 10 && found.title_length == 1
+ */
+struct mds_reference_definition mds_scan_reference_definition(
+    const void *bytes, size_t length, size_t start, size_t max_next);
+
 /* How a column of a table is aligned. */
 enum mds_alignment { MDS_ALIGN_NONE = 0, MDS_ALIGN_LEFT = 1, MDS_ALIGN_CENTER = 2, MDS_ALIGN_RIGHT = 3 };
 
@@ -552,8 +591,8 @@ struct mds_text mds_scan_table_head(const void *bytes, size_t length, uint8_t *a
 
 /* A part of the bytes, where the status is MDS_OK. It is MDS_NOTHING where there is none, and MDS_PAST_END where the
  * place is past the end of the bytes. The bytes need not be UTF-8, and are not tested: each of these calls reads from
- * its place on, and no byte behind the one that decides. Where they are UTF-8 and the place is between two
- * characters, so are all places that are told. */
+ * its place on, and no byte behind the one that decides, but that mds_scan_code_span looks at many bytes at once. Where
+ * they are UTF-8 and the place is between two characters, so are all places that are told. */
 struct mds_part {
     uint32_t status;
     size_t end;    /* the place behind all that belongs to it */
@@ -587,6 +626,25 @@ struct mds_part mds_scan_link_title(const void *bytes, size_t length, size_t sta
  */
 struct mds_part mds_scan_autolink(const void *bytes, size_t length, size_t start);
 
+/* The email address of the autolink whose `<`, at which the call doesn't look, stands just before the place `start`; the
+ * end is after its `>`. (6.5)
+ *
+ *     struct mds_part part = mds_scan_email_autolink("<a@b.c>", 7, 1);
+ *     part.end == 7 && part.start == 1 && part.length == 5
+ */
+struct mds_part mds_scan_email_autolink(const void *bytes, size_t length, size_t start);
+
+/* The code span that begins at the place `start`, as if no backtick stood before that. Its own bytes are its content, as
+ * it is written, between its backtick strings. Where no later string is as long as the one that begins there, it is
+ * MDS_NOTHING, and all bytes are read for that. So a caller that meets many strings notes in one pass where the last one
+ * of each length begins, and asks only where that is still to come (examples/outline.c): then none is read in vain, and
+ * all of them cost as much as one pass. (6.1)
+ *
+ *     struct mds_part part = mds_scan_code_span("a ``b ` c`` d", 13, 2);
+ *     part.end == 11 && part.start == 4 && part.length == 5
+ */
+struct mds_part mds_scan_code_span(const void *bytes, size_t length, size_t start);
+
 /* What stands before the first pipe of the `count` bytes from the place `start` on, or of as many as there are; the end
  * is behind the pipe. It may read all of these bytes. (An extension of pulldown-cmark)
  *
@@ -594,6 +652,27 @@ struct mds_part mds_scan_autolink(const void *bytes, size_t length, size_t start
  *     part.end == 4 && part.start == 2 && part.length == 1
  */
 struct mds_part mds_scan_wikilink_pipe(const void *bytes, size_t length, size_t start, size_t count);
+
+/* A run of one of the bytes `*` and `_`, where the status is MDS_OK. It is MDS_NOTHING where there is none, and
+ * MDS_PAST_END where the place is past the end of the bytes. */
+struct mds_delimiter_run {
+    uint32_t status;
+    uint8_t byte;
+    bool can_open, can_close; /* whether it can open emphasis, and close it (rules 1 to 8) */
+    size_t count;             /* how many bytes it has */
+};
+
+/* The delimiter run that begins at `place`, the longest there. The caller asks where no unescaped byte of its kind stands
+ * just before it. The text begins at the front of the bytes. Beside the run the call reads the character before it and
+ * the one after it, four bytes on each side at most: they must be UTF-8, or it is MDS_NOT_UTF8. Bytes farther off may be
+ * any, and are not read. (6.2)
+ *
+ *     struct mds_delimiter_run run = mds_scan_delimiter_run("a **b**", 7, 2);
+ *     run.byte == '*' && run.count == 2 && run.can_open && !run.can_close
+ *     run = mds_scan_delimiter_run("a_b", 3, 1);
+ *     run.byte == '_' && run.count == 1 && !run.can_open && !run.can_close
+ */
+struct mds_delimiter_run mds_scan_delimiter_run(const void *bytes, size_t length, size_t place);
 
 /* ---- Texts over lines ---- */
 

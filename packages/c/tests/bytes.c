@@ -114,6 +114,31 @@ static void check_break(const char *bytes, size_t length) {
         SAME(is_break(bytes + place, length - place), false);
 }
 
+/* How many backticks stand at the front. */
+static size_t backticks(const char *bytes, size_t length) {
+    size_t count = 0;
+    while (count < length && bytes[count] == '`')
+        count++;
+    return count;
+}
+
+/* A code span: a string of backticks, up to the first later one that is as long. (6.1) */
+static size_t length_of_code(const char *bytes, size_t length) {
+    size_t first = backticks(bytes, length), place = first;
+    while (first > 0 && place < length) {
+        size_t run = backticks(bytes + place, length - place);
+        if (run == first)
+            return place + run;
+        place += run + (run == 0);
+    }
+    return MDS_NONE;
+}
+
+static void check_code(const char *bytes, size_t length) {
+    struct mds_part found = mds_scan_code_span(given(BYTES, bytes, length), length, 0);
+    SAME(found.status == MDS_OK ? found.end : MDS_NONE, length_of_code(bytes, length));
+}
+
 static void check_title(const char *bytes, size_t length) {
     struct mds_part found = mds_scan_link_title(given(BYTES, bytes, length), length, 0);
     SAME(found.status == MDS_OK ? found.end : MDS_NONE, length_of_title(bytes, length));
@@ -142,6 +167,8 @@ static void short_strings(void) {
         each_string("\"()\\ \n", length, check_title);
         each_string("'\\a\r\n", length, check_title);
     }
+    for (size_t length = 0; length <= 10; length++)
+        each_string("`a", length, check_code);
 }
 
 static void break_is(int line, struct mds_break found, size_t length, size_t none_before) {
@@ -253,6 +280,142 @@ static void autolinks(void) {
     NO_PART(mds_scan_autolink(OF("\xf0\x9f\x8d\x94"), 3), MDS_NOTHING);
 }
 
+/* An email address in angle brackets, of which nothing is left out. */
+#define EMAIL(literal) PART(mds_scan_email_autolink(OF(literal), 1), sizeof(literal) - 1, 1, sizeof(literal) - 3)
+#define NO_EMAIL(literal) NO_PART(mds_scan_email_autolink(OF(literal), 1), MDS_NOTHING)
+
+static void emails(void) {
+    EMAIL("<foo@bar.example.com>"), EMAIL("<foo+special@Bar.baz-bar0.com>"), EMAIL("<a@b>"), EMAIL("<.!#$%&'*+/=?^_`{|}~-@b>");
+    EMAIL("<a@abcdefghijklmnopqrstuvwxyz-ABCDEFGHIJKLMNOPQRSTUVWXYZ0123456789>");
+    NO_EMAIL("<foo\\+@bar.example.com>"), NO_EMAIL("<>"), NO_EMAIL("<a>"), NO_EMAIL("<@b>"), NO_EMAIL("<a@>"), NO_EMAIL("<a@b");
+    NO_EMAIL("<a@-b>"), NO_EMAIL("<a@b->"), NO_EMAIL("<a@b..c>"), NO_EMAIL("<a@b.>"), NO_EMAIL("<a@b_c>"), NO_EMAIL("< a@b >");
+    NO_EMAIL("<a@abcdefghijklmnopqrstuvwxyz-ABCDEFGHIJKLMNOPQRSTUVWXYZ01234567890>"), NO_EMAIL("<a@b@c>"), NO_EMAIL("<\xc3\xa9@b>");
+    PART(mds_scan_email_autolink(OF("<a@b> c"), 1), 5, 1, 3);
+    PART(mds_scan_email_autolink(OF("a@b>\xff"), 0), 4, 0, 3);
+    NO_PART(mds_scan_email_autolink(NULL, 0, 0), MDS_NOTHING);
+    NO_PART(mds_scan_email_autolink(OF("<a@b>"), 5), MDS_NOTHING);
+    NO_PART(mds_scan_email_autolink(OF("<a@b>"), 6), MDS_PAST_END);
+}
+
+/* Code spans: the examples of the specification, and places in other texts. */
+static void code_spans(void) {
+    PART(mds_scan_code_span(OF("`foo`"), 0), 5, 1, 3);
+    PART(mds_scan_code_span(OF("`` foo ` bar ``"), 0), 15, 2, 11);
+    PART(mds_scan_code_span(OF("` `` `"), 0), 6, 1, 4);
+    PART(mds_scan_code_span(OF("``\nfoo \nbar  \nbaz\n``"), 0), 20, 2, 16);
+    PART(mds_scan_code_span(OF("`foo\\`bar`"), 0), 6, 1, 4);
+    PART(mds_scan_code_span(OF("``foo`bar``"), 0), 11, 2, 7);
+    PART(mds_scan_code_span(OF("`foo``bar``"), 4), 11, 6, 3);
+    NO_PART(mds_scan_code_span(OF("`foo``bar``"), 0), MDS_NOTHING);
+    NO_PART(mds_scan_code_span(OF("```foo``"), 0), MDS_NOTHING), NO_PART(mds_scan_code_span(OF("`foo"), 0), MDS_NOTHING);
+    PART(mds_scan_code_span(OF("a`b` c`"), 1), 4, 2, 1);
+    PART(mds_scan_code_span(OF("``a`"), 1), 4, 2, 1);
+    PART(mds_scan_code_span(OF("\xc3\xa9`\xff`\xff"), 2), 5, 3, 1);
+    NO_PART(mds_scan_code_span(OF("a`b`"), 0), MDS_NOTHING), NO_PART(mds_scan_code_span(OF("a`b`"), 4), MDS_NOTHING);
+    NO_PART(mds_scan_code_span(OF("a`b`"), 5), MDS_PAST_END);
+    NO_PART(mds_scan_code_span(NULL, 0, 0), MDS_NOTHING), NO_PART(mds_scan_code_span(NULL, 0, 1), MDS_PAST_END);
+}
+
+static void definition_is(
+    int line, struct mds_reference_definition found, size_t end, size_t label_start, size_t label_length,
+    size_t destination_start, size_t destination_length, size_t title_start, size_t title_length) {
+    same(line, "status", found.status, MDS_OK), same(line, "end", found.end, end);
+    same(line, "label start", found.label_start, label_start), same(line, "label length", found.label_length, label_length);
+    same(line, "destination start", found.destination_start, destination_start);
+    same(line, "destination length", found.destination_length, destination_length);
+    same(line, "title start", found.title_start, title_start), same(line, "title length", found.title_length, title_length);
+}
+
+static void no_definition(int line, struct mds_reference_definition found, uint32_t status) {
+    same(line, "status", found.status, status), same(line, "end", found.end, 0);
+    same(line, "label", found.label_start + found.label_length, 0);
+    same(line, "destination", found.destination_start + found.destination_length, 0);
+    same(line, "title", found.title_start + found.title_length, 0);
+}
+
+#define DEFINITION(found, end, label, label_length, destination, length, title, title_length)                                  \
+    definition_is(__LINE__, found, end, label, label_length, destination, length, title, title_length)
+#define NO_DEFINITION(found, status) no_definition(__LINE__, found, status)
+
+/* Link reference definitions: the examples of the specification, without indent. */
+static void definitions(void) {
+    DEFINITION(mds_scan_reference_definition(OF("[foo]: /url \"title\"\n"), 0, 31), 20, 1, 3, 7, 4, 13, 5);
+    DEFINITION(mds_scan_reference_definition(OF("[foo]: \n/url  \n'the title'  \n"), 0, 31), 29, 1, 3, 8, 4, 16, 9);
+    DEFINITION(mds_scan_reference_definition(OF("[Foo*bar\\]]:my_(url) 'title (with parens)'\n"), 0, 31), 43, 1, 9, 12, 8, 22, 19);
+    DEFINITION(mds_scan_reference_definition(OF("[Foo bar]:\n<my url>\n'title'\n"), 0, 31), 28, 1, 7, 12, 6, 21, 5);
+    DEFINITION(mds_scan_reference_definition(OF("[foo]:\n/url\n"), 0, 31), 12, 1, 3, 7, 4, MDS_NONE, 0);
+    DEFINITION(mds_scan_reference_definition(OF("[foo]: <>\n"), 0, 31), 10, 1, 3, 8, 0, MDS_NONE, 0);
+    DEFINITION(mds_scan_reference_definition(OF("[\nfoo\n]: /url\nbar\n"), 0, 31), 14, 1, 5, 9, 4, MDS_NONE, 0);
+    DEFINITION(mds_scan_reference_definition(OF("[foo]: /url\n\"title\" ok\n"), 0, 31), 12, 1, 3, 7, 4, MDS_NONE, 0);
+    NO_DEFINITION(mds_scan_reference_definition(OF("[foo]: /url 'title\n\nwith blank line'\n"), 0, 31), MDS_NOTHING);
+    NO_DEFINITION(mds_scan_reference_definition(OF("[foo]:\n\n[foo]"), 0, 31), MDS_NOTHING);
+    NO_DEFINITION(mds_scan_reference_definition(OF("[foo]: <bar>(baz)\n"), 0, 31), MDS_NOTHING);
+    NO_DEFINITION(mds_scan_reference_definition(OF("[foo]: /url \"title\" ok\n"), 0, 31), MDS_NOTHING);
+    DEFINITION(mds_scan_reference_definition(OF("x\n[a]: b"), 2, 31), 8, 3, 1, 7, 1, MDS_NONE, 0);
+    DEFINITION(mds_scan_reference_definition(OF("[a]: b\r\n[c]: d"), 0, 31), 8, 1, 1, 5, 1, MDS_NONE, 0);
+    DEFINITION(mds_scan_reference_definition(OF("[a]: (b)"), 0, 0), 8, 1, 1, 5, 3, MDS_NONE, 0);
+    NO_DEFINITION(mds_scan_reference_definition(OF("[a]: ((b))"), 0, 0), MDS_NOTHING);
+    DEFINITION(mds_scan_reference_definition(OF("[a]: ((b))"), 0, SIZE_MAX), 10, 1, 1, 5, 5, MDS_NONE, 0);
+    DEFINITION(mds_scan_reference_definition(OF("\xc3\xa9[\xc3\xa9]: \xc3\xa9 '\xc3\xa9'\n\xff"), 2, 31), 16, 3, 2, 8, 2, 12, 2);
+    NO_DEFINITION(mds_scan_reference_definition(OF("a]: b"), 0, 31), MDS_NOTHING);
+    NO_DEFINITION(mds_scan_reference_definition(OF("[a]: b"), 6, 31), MDS_NOTHING);
+    NO_DEFINITION(mds_scan_reference_definition(OF("[a]: b"), 7, 31), MDS_PAST_END);
+    NO_DEFINITION(mds_scan_reference_definition(NULL, 0, 0, 31), MDS_NOTHING);
+    NO_DEFINITION(mds_scan_reference_definition(NULL, 0, 1, 31), MDS_PAST_END);
+}
+
+static void run_is(int line, struct mds_delimiter_run run, uint8_t byte, size_t count, bool can_open, bool can_close) {
+    same(line, "status", run.status, MDS_OK), same(line, "byte", run.byte, byte), same(line, "count", run.count, count);
+    same(line, "can open", run.can_open, can_open), same(line, "can close", run.can_close, can_close);
+}
+
+static void no_run(int line, struct mds_delimiter_run run, uint32_t status) {
+    same(line, "status", run.status, status), same(line, "byte", run.byte, 0), same(line, "count", run.count, 0);
+    same(line, "can open", run.can_open, false), same(line, "can close", run.can_close, false);
+}
+
+#define RUN(run, byte, count, can_open, can_close) run_is(__LINE__, run, byte, count, can_open, can_close)
+#define NO_RUN(run, status) no_run(__LINE__, run, status)
+
+/* Runs that are left-flanking, right-flanking, both, and neither, as the specification has them, and some of its examples. */
+static void delimiter_runs(void) {
+    RUN(mds_scan_delimiter_run(OF("***abc"), 0), '*', 3, true, false);
+    RUN(mds_scan_delimiter_run(OF("  _abc"), 2), '_', 1, true, false);
+    RUN(mds_scan_delimiter_run(OF("**\"abc\""), 0), '*', 2, true, false);
+    RUN(mds_scan_delimiter_run(OF(" _\"abc\""), 1), '_', 1, true, false);
+    RUN(mds_scan_delimiter_run(OF(" abc***"), 4), '*', 3, false, true);
+    RUN(mds_scan_delimiter_run(OF(" abc_"), 4), '_', 1, false, true);
+    RUN(mds_scan_delimiter_run(OF("\"abc\"**"), 5), '*', 2, false, true);
+    RUN(mds_scan_delimiter_run(OF("\"abc\"_"), 5), '_', 1, false, true);
+    RUN(mds_scan_delimiter_run(OF(" abc***def"), 4), '*', 3, true, true);
+    RUN(mds_scan_delimiter_run(OF("\"abc\"_\"def\""), 5), '_', 1, true, true);
+    RUN(mds_scan_delimiter_run(OF("abc *** def"), 4), '*', 3, false, false);
+    RUN(mds_scan_delimiter_run(OF("a _ b"), 2), '_', 1, false, false);
+    RUN(mds_scan_delimiter_run(OF("foo_bar_"), 3), '_', 1, false, false);
+    RUN(mds_scan_delimiter_run(OF("a*\"foo\"*"), 1), '*', 1, false, true);
+    RUN(mds_scan_delimiter_run(OF("*\xc2\xa0" "a\xc2\xa0*"), 0), '*', 1, false, false);
+    RUN(mds_scan_delimiter_run(OF("*$*alpha."), 0), '*', 1, true, false);
+    RUN(mds_scan_delimiter_run(OF("*$*alpha."), 2), '*', 1, true, false);
+    RUN(mds_scan_delimiter_run(OF("*\xc2\xa3*bravo."), 3), '*', 1, true, false);
+    RUN(mds_scan_delimiter_run(OF("*\xe2\x82\xac*charlie."), 4), '*', 1, true, false);
+    RUN(mds_scan_delimiter_run(OF("\xf0\x9f\x8d\x94*a"), 4), '*', 1, true, false);
+    RUN(mds_scan_delimiter_run(OF("\xd0\xbf_\xd1\x80"), 2), '_', 1, false, false);
+    RUN(mds_scan_delimiter_run(OF("*_a"), 0), '*', 1, true, false);
+    RUN(mds_scan_delimiter_run(OF("*"), 0), '*', 1, false, false);
+    NO_RUN(mds_scan_delimiter_run(OF("abc"), 0), MDS_NOTHING), NO_RUN(mds_scan_delimiter_run(OF("~~a"), 0), MDS_NOTHING);
+    NO_RUN(mds_scan_delimiter_run(OF("*"), 1), MDS_NOTHING), NO_RUN(mds_scan_delimiter_run(OF("*"), 2), MDS_PAST_END);
+    NO_RUN(mds_scan_delimiter_run(NULL, 0, 0), MDS_NOTHING), NO_RUN(mds_scan_delimiter_run(NULL, 0, 1), MDS_PAST_END);
+}
+
+/* A character before or after a run that is not UTF-8; and other bytes farther off, which may be any. */
+static void runs_in_bytes(void) {
+    NO_RUN(mds_scan_delimiter_run(OF("\xff*a"), 1), MDS_NOT_UTF8), NO_RUN(mds_scan_delimiter_run(OF("*\xff"), 0), MDS_NOT_UTF8);
+    NO_RUN(mds_scan_delimiter_run(OF("\xc3*"), 1), MDS_NOT_UTF8), NO_RUN(mds_scan_delimiter_run(OF("*\xc3"), 0), MDS_NOT_UTF8);
+    NO_RUN(mds_scan_delimiter_run(OF("\x80\x80\x80\x80\x80*a"), 5), MDS_NOT_UTF8);
+    NO_RUN(mds_scan_delimiter_run(OF("\xff"), 0), MDS_NOTHING);
+    RUN(mds_scan_delimiter_run(OF("\xff **a\xff"), 2), '*', 2, true, false);
+}
+
 static void pipes(void) {
     PART(mds_scan_wikilink_pipe(OF("a|b]]"), 0, 3), 2, 0, 1);
     PART(mds_scan_wikilink_pipe(OF("[a|b]]"), 1, SIZE_MAX), 3, 1, 1);
@@ -311,12 +474,19 @@ static void last_bytes(void) {
     NO_PART(mds_scan_autolink(before_far("ab: ", 4), FAR, 0), MDS_NOTHING);
     NO_PART(mds_scan_autolink(before_far("abcdefghijklmnopqrstuvwxyzabcdefg", 33), FAR, 0), MDS_NOTHING);
     NO_BREAK(mds_scan_hrule(before_far("* * x", 5), FAR), 4);
+    PART(mds_scan_email_autolink(before_far("a@b>", 4), FAR, 0), 4, 0, 3);
+    NO_PART(mds_scan_email_autolink(before_far("a@b ", 4), FAR, 0), MDS_NOTHING);
+    NO_DEFINITION(mds_scan_reference_definition(before_far("[a] ", 4), FAR, 0, 31), MDS_NOTHING);
+    DEFINITION(mds_scan_reference_definition(before_far("[a]: b\nc", 8), FAR, 0, 31), 7, 1, 1, 5, 1, MDS_NONE, 0);
+    RUN(mds_scan_delimiter_run(before_far("**abcd", 6), FAR, 0), '*', 2, true, false);
+    NO_RUN(mds_scan_delimiter_run(before_far("a", 1), FAR, 0), MDS_NOTHING);
 }
 
 static void parts(void) {
     check_rooms();
     texts(), lines(), short_strings(), breaks();
-    destinations(), destinations_in_bytes(), titles(), autolinks(), pipes();
+    destinations(), destinations_in_bytes(), titles(), autolinks(), emails(), pipes();
+    code_spans(), definitions(), delimiter_runs(), runs_in_bytes();
 }
 
 int main(void) {

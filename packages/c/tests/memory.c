@@ -247,6 +247,8 @@ static void others_on_lines(void) {
     ASKS_NOT(mds_is_whitespace(' '), true);
     ASKS_NOT(mds_is_whitespace_in_line(' '), true);
     ASKS_NOT(mds_is_punctuation('!'), true);
+    ASKS_NOT(mds_is_unicode_whitespace(0xA0), true);
+    ASKS_NOT(mds_is_unicode_punctuation(0x20AC), true);
     ASKS_NOT(mds_is_utf8(OF("\xc3\xa9")), true);
     ASKS_NOT(mds_version(), MDS_VERSION);
     ASKS_NOT(mds_scan_ch(OF("#x"), '#'), 1);
@@ -302,6 +304,10 @@ static void others_on_texts(void) {
     ASKS_NOT(mds_scan_link_title(OF("'a\nb'"), 0).end, 5);
     ASKS_NOT(mds_scan_autolink(OF("<ab:c>"), 1).end, 6);
     ASKS_NOT(mds_scan_wikilink_pipe(OF("a|b]]"), 0, 3).end, 2);
+    ASKS_NOT(mds_scan_email_autolink(OF("<a@b>"), 1).end, 5);
+    ASKS_NOT(mds_scan_code_span(OF("``a``"), 0).end, 5);
+    ASKS_NOT(mds_scan_delimiter_run(OF("\xc3\xa9**"), 2).count, 2);
+    ASKS_NOT(mds_scan_reference_definition(OF("[a]: <b> 'c'\n"), 0, 9).end, 13);
     ASKS_NOT(mds_starts_html_block_type_6(OF("div>")), true);
     ASKS_NOT(mds_scan_html_type_7(OF("<a b='c'>\n")), 9);
     ASKS_NOT(mds_scan_html_block_start(OF("<a b='c'>\n")), MDS_HTML_TAG_ALONE);

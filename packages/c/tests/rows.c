@@ -35,6 +35,23 @@ static void byte_classes(void) {
     }
 }
 
+/* Tab, LF, FF, CR and the 17 characters of category Zs. Each ASCII punctuation character is a Unicode one. (2.1) */
+static void character_classes(void) {
+    static const uint32_t spaces[] = {' ', 0xA0, 0x1680, 0x202F, 0x205F, 0x3000, '\t', '\n', '\f', '\r'};
+    static const uint32_t punctuation[] = {0xA1, 0xA3, 0xAB, 0x2014, 0x20AC, 0x3001, 0xFF01, 0x1F354};
+    static const uint32_t others[] = {0x0B, 0x85, 0xAA, 0x300, 0x2028, 0x200B, 0x4E2D, 0xD800, 0xDFFF, 0x110000, UINT32_MAX};
+    for (size_t i = 0; i < sizeof(spaces) / sizeof(*spaces); i++)
+        SAME(mds_is_unicode_whitespace(spaces[i]), true), SAME(mds_is_unicode_punctuation(spaces[i]), false);
+    for (size_t i = 0; i < sizeof(punctuation) / sizeof(*punctuation); i++)
+        SAME(mds_is_unicode_whitespace(punctuation[i]), false), SAME(mds_is_unicode_punctuation(punctuation[i]), true);
+    for (size_t i = 0; i < sizeof(others) / sizeof(*others); i++)
+        SAME(mds_is_unicode_whitespace(others[i]), false), SAME(mds_is_unicode_punctuation(others[i]), false);
+    for (uint32_t character = 0x2000; character <= 0x200A; character++)
+        SAME(mds_is_unicode_whitespace(character), true);
+    for (uint8_t byte = 0; byte < 128; byte++)
+        SAME(mds_is_unicode_punctuation(byte), mds_is_punctuation(byte));
+}
+
 static void lines(void) {
     SAME(mds_scan_ch(OF("##a"), '#'), 1);
     SAME(mds_scan_ch(OF("a#"), '#'), 0);
@@ -511,6 +528,7 @@ int main(void) {
     status_names();
     version();
     byte_classes();
+    character_classes();
     scanners();
     at_front = true;
     scanners();

@@ -9,6 +9,8 @@ import { Source } from "./source.mjs";
 /** @typedef {{ end: number, delimiter: string, start: number, indent: number }} ListItem `indent` is that of marker and space */
 /** @typedef {{ end: number, level: number }} Underline */
 /** @typedef {{ end: number, character: string }} Fence */
+/** @typedef {{ start: number, stop: number }} Span the places of the first byte and after the last */
+/** @typedef {{ end: number, label: Span, destination: Span, title: Span | null }} ReferenceDefinition its parts as they are written */
 /** @typedef {"none" | "left" | "center" | "right"} Alignment */
 /** @typedef {{ end: number, alignments: Alignment[] }} TableHead */
 
@@ -197,6 +199,28 @@ export class Blocks extends Source {
     }
 
     /**
+     * A link reference definition, in the content of a paragraph: its lines without the markers of containers and without indent.
+     * Parentheses may stand in each other `maxNext` + 1 deep, 32 where it is not given. (4.7)
+     * @param {number} [at]
+     * @param {number} [end]
+     * @param {{ maxNext?: number | bigint }} [options]
+     * @returns {ReferenceDefinition | null}
+     */
+    scanReferenceDefinition(at = 0, end = this.length, options = {}) {
+        const { maxNext = 31 } = optionsOf(options, "maxNext");
+        const [from, to] = this.limits(at, end);
+        this.engine.bring(this.block);
+        const found = this.engine.calls.scanReferenceDefinition(this.block.address, to, from, sizeOf("maxNext", maxNext));
+        if (!isAnswer(found.status)) return null;
+        return {
+            end: this.placeOf(found.end),
+            label: this.#span(found.labelStart, found.labelLength),
+            destination: this.#span(found.destinationStart, found.destinationLength),
+            title: found.titleStart === NONE ? null : this.#span(found.titleStart, found.titleLength),
+        };
+    }
+
+    /**
      * The delimiter row of a table: the place behind it, and how its columns are aligned. (GitHub Flavored Markdown 0.29, 4.10)
      * @returns {TableHead | null}
      */
@@ -206,6 +230,15 @@ export class Blocks extends Source {
         const [found, alignments] = this.written("scanTableHead", at, end, room);
         if (!isAnswer(found.status)) return null;
         return { end: this.placeOf(this.inBytes(at) + found.taken), alignments: Array.from(alignments, (it) => ALIGNMENTS[it]) };
+    }
+
+    /**
+     * @param {number} start
+     * @param {number} length
+     * @returns {Span}
+     */
+    #span(start, length) {
+        return { start: this.placeOf(start), stop: this.placeOf(start + length) };
     }
 
     /**

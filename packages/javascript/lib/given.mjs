@@ -62,6 +62,19 @@ export function byteOf(name, given) {
 }
 
 /**
+ * The number of a character, which is given itself or by its number.
+ * @param {string} name
+ * @param {string | number} given
+ */
+export function characterOf(name, given) {
+    if (typeof given !== "string" && typeof given !== "number") throw wrongType(name, given, "a character or its number");
+    const number = typeof given === "number" ? given : given.codePointAt(0);
+    const isOne = typeof given === "number" || (number !== undefined && given === String.fromCodePoint(number));
+    if (isOne && number !== undefined && Number.isInteger(number) && number >= 0 && number < 2 ** 32) return number;
+    throw new RangeError(`\`${name}\` is ${written(given)}, which is no character and no number of one`);
+}
+
+/**
  * @param {string} name
  * @param {boolean} given
  */

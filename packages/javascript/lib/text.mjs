@@ -6,6 +6,7 @@ import { isAnswer } from "./errors.mjs";
 import { flagOf, listOf, optionsOf, sizeOf, wrongType } from "./given.mjs";
 import { ended } from "./line_start.mjs";
 
+const ASTERISK = 42;
 const REFERENCE_ROOM = 6;
 /** A label has at most 999 characters. */
 const LABEL_ROOM = 4 * 999;
@@ -40,6 +41,41 @@ export class Text extends Blocks {
     /** The absolute URI of the autolink whose `<` stands just before the place. (6.5) */
     scanAutolink(at = 0, end = this.length) {
         return this.#part("scanAutolink", at, end);
+    }
+
+    /** The email address of the autolink whose `<` stands just before the place. (6.5) */
+    scanEmailAutolink(at = 0, end = this.length) {
+        return this.#part("scanEmailAutolink", at, end);
+    }
+
+    /**
+     * The code span that begins at the place, as if no backtick stood before that; its backtick strings are not among its own
+     * bytes. Where no later string closes it, all of the text is read for that: a caller notes where the last string of each
+     * length begins, and asks only where such a one is still to come. (6.1)
+     */
+    scanCodeSpan(at = 0, end = this.length) {
+        return this.#part("scanCodeSpan", at, end);
+    }
+
+    /**
+     * The delimiter run that begins at the place, in the text that begins at `begin`, where it is given: the place after it, its
+     * character, and whether it can open and close emphasis. The caller asks where no unescaped character of its kind stands just
+     * before it. NotUtf8 where no character of UTF-8 stands beside it. (6.2)
+     * @param {number} [at]
+     * @param {number} [end]
+     * @param {{ begin?: number }} [options]
+     * @returns {{ end: number, character: "*" | "_", canOpen: boolean, canClose: boolean } | null}
+     */
+    scanDelimiterRun(at = 0, end = this.length, options = {}) {
+        const { begin = 0 } = optionsOf(options, "begin");
+        const [from, to] = this.limits(at, end);
+        const before = this.inBytes(begin, "begin");
+        if (before > from) throw new RangeError(`\`begin\` is ${begin}, which is after \`at\`, ${at}`);
+        this.engine.bring(this.block);
+        const found = this.engine.calls.scanDelimiterRun(this.block.address + before, to - before, from - before);
+        if (!isAnswer(found.status)) return null;
+        const { byte, canOpen, canClose } = found;
+        return { end: this.placeOf(from + found.count), character: byte === ASTERISK ? "*" : "_", canOpen, canClose };
     }
 
     /** What stands before the first pipe from the place on. (An extension of pulldown-cmark) */

@@ -26,7 +26,7 @@ export const CONTRACTS = {
     unescape: contract("mds_unescape", "2.4 Backslash escapes", "backslash-escapes", ["IsUnescapedText"]),
     scanLinkLabel: contract("mds_scan_link_label", "6.3 Links", "link-label", ["IsScannedLabel"]),
     scanLinkDest: contract("mds_scan_link_dest", "6.3 Links", "link-destination", ["IsDestinationPart"]),
-    scanAutolink: contract("mds_scan_autolink", "6.5 Autolinks", "autolinks", ["IsUriPart"]),
+    scanAutolink: contract("mds_scan_autolink", "6.5 Autolinks", "autolinks", ["IsAutolinkPart", "IsUriAutolink"]),
     scanHtmlTagOverLines: contract("mds_scan_html_tag_over_lines", "6.6 Raw HTML", "raw-html", ["IsScannedTag"]),
     scanInlineHtml: contract("mds_scan_inline_html", "6.6 Raw HTML", "raw-html", ["IsGuardedEnd", "IsTrueEnd", "IsScanInTurn"]),
 };

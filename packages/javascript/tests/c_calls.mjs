@@ -131,6 +131,24 @@ const part = (call) => (d, start, ...more) => {
     return { status, end: d.place(found.end), start: d.place(found.start), length: bytesOf(d.text.slice(found.start, found.stop)).length };
 };
 
+function definition(d, start, maxNext) {
+    const [status, found] = told(() => d.text.scanReferenceDefinition(d.placeIn(start), d.end, { maxNext }));
+    const made = { status, end: status === c.OK ? d.place(found.end) : 0 };
+    for (const it of ["label", "destination", "title"]) {
+        const span = status === c.OK ? found[it] : { start: d.at, stop: d.at };
+        made[`${it}_start`] = span ? d.place(span.start) : NONE;
+        made[`${it}_length`] = span ? bytesOf(d.text.slice(span.start, span.stop)).length : 0;
+    }
+    return made;
+}
+
+function delimiterRun(d, place) {
+    const at = d.placeIn(place);
+    const [status, found] = told(() => d.text.scanDelimiterRun(at, d.end, { begin: d.at }));
+    if (status !== c.OK) return { status, byte: 0, count: 0, can_open: false, can_close: false };
+    return { status, byte: code(found.character), count: found.end - at, can_open: found.canOpen, can_close: found.canClose };
+}
+
 /** A text that is made, as struct mds_text tells it. */
 const text = (call, textOf = (found) => bytesOf(found.text)) => (d) => {
     const [status, found] = told(() => call(d));
@@ -201,6 +219,10 @@ export const CALLS = {
     mds_scan_link_dest: part((d, start, maxNext) => d.text.scanLinkDest(start, d.end, { maxNext })),
     mds_scan_link_title: part((d, start) => d.text.scanLinkTitle(start, d.end)),
     mds_scan_autolink: part((d, start) => d.text.scanAutolink(start, d.end)),
+    mds_scan_email_autolink: part((d, start) => d.text.scanEmailAutolink(start, d.end)),
+    mds_scan_code_span: part((d, start) => d.text.scanCodeSpan(start, d.end)),
+    mds_scan_reference_definition: definition,
+    mds_scan_delimiter_run: delimiterRun,
     mds_scan_wikilink_pipe: part((d, start, count) => {
         const stop = d.placeIn(BigInt(d.place(start)) + BigInt(count));
         return d.text.scanWikilinkPipe(start, stop < d.end ? stop : d.end);

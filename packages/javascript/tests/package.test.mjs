@@ -28,13 +28,28 @@ test("each byte has its class", () => {
     assert.deepEqual(found((it) => scanners.isPunctuation(it)), isIn("!\"#$%&'()*+,-./:;<=>?@[\\]^_`{|}~"));
 });
 
+test("the classes of Unicode characters", () => {
+    // as this engine's own tables have them, of planes that have long been assigned
+    for (let it = 0; it < 0x2000; it++) {
+        const character = String.fromCodePoint(it);
+        if (/\p{Cn}/u.test(character)) continue;
+        assert.equal(scanners.isUnicodeWhitespace(it), /[\t\n\f\r\p{Zs}]/u.test(character), it.toString(16));
+        assert.equal(scanners.isUnicodePunctuation(character), /[\p{P}\p{S}]/u.test(character), it.toString(16));
+    }
+    assert.deepEqual([0xd800, 0x110000, 2 ** 32 - 1].filter((it) => scanners.isUnicodePunctuation(it)), []);
+    assert.ok(scanners.isUnicodePunctuation("🍔") && scanners.isUnicodeWhitespace("\u3000"));
+});
+
 test("what is no byte, number, place or text is refused", () => {
     for (const it of [-1, 256, 1.5, "é", "ab", ""]) assert.throws(() => scanners.isWhitespace(it), RangeError);
+    for (const it of [-1, 2 ** 32, 1.5, "ab", ""]) assert.throws(() => scanners.isUnicodeWhitespace(it), RangeError);
+    for (const begin of [-1, 2, 0.5]) assert.throws(() => text("a*b").scanDelimiterRun(1, 3, { begin }), RangeError);
     for (const it of [-1, 2 ** 53, 1.5, -1n, 2n ** 64n]) {
         assert.throws(() => text(" ").calcIndent(0, 1, { limit: it }), RangeError);
         assert.throws(() => text(" ").lineStart().space(it), RangeError);
         assert.throws(() => text("<!").htmlScanGuard().scan(it), RangeError);
         assert.throws(() => text("").scanLinkDest(0, 0, { maxNext: it }), RangeError);
+        assert.throws(() => text("").scanReferenceDefinition(0, 0, { maxNext: it }), RangeError);
     }
     for (const [at, end] of [[2, 2], [-1, 1], [0, 2], [1, 0], [0.5, 1]]) assert.throws(() => text("a").scanLine(at, end), RangeError);
     for (const it of [0, 8, 1.5]) assert.throws(() => text("<a>").endsHtmlBlock(it), RangeError);
@@ -48,6 +63,8 @@ const WRONG = [
     ["`at` is", [(page) => page.scanLine("0"), (page) => page.scanLinkLabel({}), (page) => page.slice(null), (page) => page.htmlScanGuard().scan("2")]],
     ["`end` is", [(page) => page.scanLine(0, "1"), (page) => page.scanLinkDest(0, { maxNext: 3 }), (page) => page.unescape(0, true)]],
     ["`end` is", [(page) => page.scanLinkLabel(0, { inTable: true }), (page) => page.htmlScanGuard(null), (page) => page.runInlineHtml([], "1")]],
+    ["`begin` is", [(page) => page.scanDelimiterRun(0, 1, { begin: "0" })]],
+    ["`character` is", [() => scanners.isUnicodePunctuation(null)]],
     ["`character` is", [() => scanners.isWhitespace(null), (page) => page.scanCh({}), (page) => page.scanClosingCodeFence(undefined, 3)]],
     ["`accepted` is", [(page) => page.scanWhile(32)]],
     ["`count` is", [(page) => page.scanClosingCodeFence("`", "3"), (page) => page.lineStart().upto("4"), (page) => page.lineStart().space(null)]],
@@ -103,6 +120,11 @@ test("the end stands behind the place, and options behind both", () => {
     assert.equal(text("a|b").scanWikilinkPipe(0, 1), null);
     assert.equal(text("x<a>").scanHtmlTagOverLines(1).end, 4);
     assert.equal(text("x<a>").scanHtmlTagOverLines(1, 3), null);
+    assert.deepEqual(text("b*a*").scanDelimiterRun(1), { end: 2, character: "*", canOpen: true, canClose: true }); // (6.2)
+    assert.deepEqual(text("b*a*").scanDelimiterRun(1, 4, { begin: 1 }), { end: 2, character: "*", canOpen: true, canClose: false });
+    assert.deepEqual(text("b*a*").scanDelimiterRun(1, 2), { end: 2, character: "*", canOpen: false, canClose: true });
+    assert.equal(text("[a]: (b)").scanReferenceDefinition(0, 8, { maxNext: 0 }).end, 8);
+    assert.equal(text("[a]: ((b))").scanReferenceDefinition(0, 10, { maxNext: 0 }), null);
     assert.equal(text("\t x").calcIndent().columns, 5); // a tab goes to column 4
     assert.equal(text("      x").calcIndent(0, 7, { limit: 3 }).columns, 3);
     assert.equal(text("---\na\n---").scanMetadataBlock(), null);

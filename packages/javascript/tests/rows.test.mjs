@@ -21,7 +21,13 @@ const FIELDS = {
     END: ["status", "end"],
     NO_FENCE: [],
     NO_ITEM: [],
+    DEFINITION: ["end", "label_start", "label_length", "destination_start", "destination_length", "title_start", "title_length"],
+    NO_DEFINITION: ["status"],
+    RUN: ["byte", "count", "can_open", "can_close"],
+    NO_RUN: ["status"],
 };
+/** Of a macro that checks one part, which takes all bytes, the call and its place. */
+const WHOLE = { URI: ["mds_scan_autolink", 1], EMAIL: ["mds_scan_email_autolink", 1], TITLE: ["mds_scan_link_title", 0] };
 const NOTHING = {
     NO_FENCE: { length: NONE, byte: 0 },
     NO_ITEM: { length: NONE, start: 0, indent: 0, delimiter: 0 },
@@ -119,7 +125,7 @@ class Rows {
     }
 
     checkPart(row, data) {
-        const [call, at] = row.macro.endsWith("URI") ? ["mds_scan_autolink", 1] : ["mds_scan_link_title", 0];
+        const [call, at] = WHOLE[row.macro.replace("NO_", "")];
         const found = this.found({ call, given: [data, at] });
         const wanted = row.macro.startsWith("NO_") ? [c.NOTHING, 0, 0] : [c.OK, data.length, 1];
         this.same(row, [found.status, found.end, found.start], wanted);
@@ -147,7 +153,7 @@ class Rows {
         else if (macro === "SAME") this.checkSame(row, ...given);
         else if (this.lines.checks(row)) this.lines.check(row);
         else if (macro in FIELDS) this.checkCall(row, ...given);
-        else if (/^(NO_)?(URI|TITLE)$/.test(macro)) this.checkPart(row, ...given);
+        else if (macro.replace("NO_", "") in WHOLE) this.checkPart(row, ...given);
         else if (macro === "MAKES" || macro === "REFUSES") this.checkMade(row, ...given);
         else if (TAGS_AND_LABELS.test(macro)) this.checkOver(row, ...given);
         else if (macro === "WRONG") this.checkWrong(row, ...given);

@@ -9,8 +9,11 @@ const start: LineStart<string> = page.lineStart(page.scanLine());
 const isQuote: boolean = start.quote();
 const made: [string, Uint8Array] = [page.unescape(6, undefined, { inTable: false }), bytes.unescape()];
 const label: { end: number; text: string; start: number | null } | null = page.scanLinkLabel(7);
+const title: { start: number; stop: number } | null | undefined = page.scanReferenceDefinition(0, 3, { maxNext: 3 })?.title;
+const run: "*" | "_" | undefined = page.scanDelimiterRun(0, 3, { begin: 0 })?.character;
 const name: string = new NotUtf8("none").name;
 console.log(level, isQuote, made[0], made[1].length, label?.text, page.scanLinkDest(10, 11)?.end, name);
+console.log(title?.start, run, page.scanCodeSpan()?.stop, scanners.isUnicodeWhitespace("a"), scanners.isUnicodePunctuation(33));
 
 // @ts-expect-error a place is a number
 page.scanLine("0");
@@ -20,6 +23,8 @@ page.scanLinkLabel({ inTable: true });
 page.unescape(0, 3, { intable: true });
 // @ts-expect-error there is no such option
 scanners.text("a", { unit: "utf-16" });
+// @ts-expect-error there is no such option
+page.scanDelimiterRun(0, 3, { start: 0 });
 // @ts-expect-error a call of a run is a list
 start.run(["quote"]);
 // @ts-expect-error what is made of a string is a string

@@ -10,7 +10,9 @@ ANSWER2(LineRun, mds_line_run, status, count)
 ANSWER2(Break, mds_break, length, none_before)
 ANSWER2(Underline, mds_underline, length, level)
 ANSWER2(Fence, mds_fence, length, byte)
+ANSWER8(ReferenceDefinition, mds_reference_definition, status, end, label_start, label_length, destination_start, destination_length, title_start, title_length)
 ANSWER4(Part, mds_part, status, end, start, length)
+ANSWER5(DelimiterRun, mds_delimiter_run, status, byte, can_open, can_close, count)
 ANSWER3(Tag, mds_tag, status, end, length)
 ANSWER3(End, mds_end, status, end, passed)
 ANSWER2(HtmlRun, mds_html_run, status, count)
@@ -18,6 +20,8 @@ ANSWER4(Label, mds_label, status, end, length, start)
 SCANNER(is_whitespace, PyBool_FromLong, 1, it[0])
 SCANNER(is_whitespace_in_line, PyBool_FromLong, 1, it[0])
 SCANNER(is_punctuation, PyBool_FromLong, 1, it[0])
+SCANNER(is_unicode_whitespace, PyBool_FromLong, 1, it[0])
+SCANNER(is_unicode_punctuation, PyBool_FromLong, 1, it[0])
 SCANNER(is_utf8, PyBool_FromLong, 2, (void *)it[0], it[1])
 SCANNER(scan_ch, PyLong_FromSize_t, 3, (void *)it[0], it[1], it[2])
 SCANNER(scan_ch_repeat, PyLong_FromSize_t, 3, (void *)it[0], it[1], it[2])
@@ -50,11 +54,15 @@ SCANNER(scan_closing_code_fence, PyLong_FromSize_t, 4, (void *)it[0], it[1], it[
 SCANNER(scan_metadata_block, of_Fence, 4, (void *)it[0], it[1], it[2], it[3])
 SCANNER(scan_closing_metadata_block, PyLong_FromSize_t, 3, (void *)it[0], it[1], it[2])
 SCANNER(interrupts_paragraph, PyBool_FromLong, 2, (void *)it[0], it[1])
+SCANNER(scan_reference_definition, of_ReferenceDefinition, 4, (void *)it[0], it[1], it[2], it[3])
 WRITER(scan_table_head, mds_text, of_Text, 2, (void *)it[0], it[1])
 SCANNER(scan_link_dest, of_Part, 4, (void *)it[0], it[1], it[2], it[3])
 SCANNER(scan_link_title, of_Part, 3, (void *)it[0], it[1], it[2])
 SCANNER(scan_autolink, of_Part, 3, (void *)it[0], it[1], it[2])
+SCANNER(scan_email_autolink, of_Part, 3, (void *)it[0], it[1], it[2])
+SCANNER(scan_code_span, of_Part, 3, (void *)it[0], it[1], it[2])
 SCANNER(scan_wikilink_pipe, of_Part, 4, (void *)it[0], it[1], it[2], it[3])
+SCANNER(scan_delimiter_run, of_DelimiterRun, 3, (void *)it[0], it[1], it[2])
 SCANNER(check_skips, PyLong_FromUnsignedLong, 4, (void *)it[0], it[1], (void *)it[2], it[3])
 SCANNER(starts_html_block_type_6, PyBool_FromLong, 2, (void *)it[0], it[1])
 SCANNER(scan_html_type_7, PyLong_FromSize_t, 2, (void *)it[0], it[1])
@@ -72,16 +80,17 @@ WRITER(label_key, mds_text, of_Text, 2, (void *)it[0], it[1])
 
 #define EACH_ANSWER(use) \
     use(Text) use(ListItem) use(Indent) use(Columns) use(LineItem) use(Task) use(Alert) use(LineRun) use(Break) \
-    use(Underline) use(Fence) use(Part) use(Tag) use(End) use(HtmlRun) use(Label)
+    use(Underline) use(Fence) use(ReferenceDefinition) use(Part) use(DelimiterRun) use(Tag) use(End) use(HtmlRun) use(Label)
 
 #define EACH_FUNCTION(use) \
-    use(is_whitespace) use(is_whitespace_in_line) use(is_punctuation) use(is_utf8) use(scan_ch) use(scan_ch_repeat) \
-    use(scan_while) use(scan_rev_while) use(scan_whitespace_in_line) use(scan_eol) use(scan_line) use(scan_nextline) \
-    use(scan_blank_line) use(scan_blockquote_start) use(scan_listitem) use(calc_indent) use(line_space) use(line_upto) \
-    use(line_all_space) use(line_eol) use(line_quote) use(line_list) use(line_definition) use(line_task) use(line_alert) \
-    use(run_line) use(line_rest) use(scan_hrule) use(scan_atx_heading) use(scan_setext_heading) use(scan_code_fence) \
-    use(scan_closing_code_fence) use(scan_metadata_block) use(scan_closing_metadata_block) use(interrupts_paragraph) \
-    use(scan_table_head) use(scan_link_dest) use(scan_link_title) use(scan_autolink) use(scan_wikilink_pipe) \
-    use(check_skips) use(starts_html_block_type_6) use(scan_html_type_7) use(scan_html_block_start) use(ends_html_block) \
-    use(scan_html_tag) use(scan_html_tag_over_lines) use(scan_inline_html) use(run_inline_html) use(scan_entity) \
-    use(unescape) use(scan_link_label) use(labels_match) use(label_key)
+    use(is_whitespace) use(is_whitespace_in_line) use(is_punctuation) use(is_unicode_whitespace) use(is_unicode_punctuation) \
+    use(is_utf8) use(scan_ch) use(scan_ch_repeat) use(scan_while) use(scan_rev_while) use(scan_whitespace_in_line) \
+    use(scan_eol) use(scan_line) use(scan_nextline) use(scan_blank_line) use(scan_blockquote_start) use(scan_listitem) \
+    use(calc_indent) use(line_space) use(line_upto) use(line_all_space) use(line_eol) use(line_quote) use(line_list) \
+    use(line_definition) use(line_task) use(line_alert) use(run_line) use(line_rest) use(scan_hrule) use(scan_atx_heading) \
+    use(scan_setext_heading) use(scan_code_fence) use(scan_closing_code_fence) use(scan_metadata_block) \
+    use(scan_closing_metadata_block) use(interrupts_paragraph) use(scan_reference_definition) use(scan_table_head) \
+    use(scan_link_dest) use(scan_link_title) use(scan_autolink) use(scan_email_autolink) use(scan_code_span) \
+    use(scan_wikilink_pipe) use(scan_delimiter_run) use(check_skips) use(starts_html_block_type_6) use(scan_html_type_7) \
+    use(scan_html_block_start) use(ends_html_block) use(scan_html_tag) use(scan_html_tag_over_lines) use(scan_inline_html) \
+    use(run_inline_html) use(scan_entity) use(unescape) use(scan_link_label) use(labels_match) use(label_key)

@@ -72,6 +72,13 @@ static PyObject *with_text(PyObject *found, struct room *room, size_t length) {
 #define ANSWER4(name, type, a, b, c, d)                                                                                        \
     static PyStructSequence_Field fields_##name[] = {{#a, NULL}, {#b, NULL}, {#c, NULL}, {#d, NULL}, {NULL, NULL}};            \
     ANSWER(name, type, 4, it.a, it.b, it.c, it.d)
+#define ANSWER5(name, type, a, b, c, d, e)                                                                                     \
+    static PyStructSequence_Field fields_##name[] = {{#a, NULL}, {#b, NULL}, {#c, NULL}, {#d, NULL}, {#e, NULL}, {NULL, NULL}}; \
+    ANSWER(name, type, 5, it.a, it.b, it.c, it.d, it.e)
+#define ANSWER8(name, type, a, b, c, d, e, f, g, h)                                                                            \
+    static PyStructSequence_Field fields_##name[] = {                                                                          \
+        {#a, NULL}, {#b, NULL}, {#c, NULL}, {#d, NULL}, {#e, NULL}, {#f, NULL}, {#g, NULL}, {#h, NULL}, {NULL, NULL}};         \
+    ANSWER(name, type, 8, it.a, it.b, it.c, it.d, it.e, it.f, it.g, it.h)
 #define SCANNER(name, made, wanted, ...)                                                                                       \
     static __typeof__(mds_##name) *its_##name;                                                                                 \
     static PyObject *call_##name(PyObject *module, PyObject *const *given, Py_ssize_t count) {                                 \

@@ -196,6 +196,27 @@ class Fence(Structure):
     ]
 
 
+class ReferenceDefinition(Structure):
+    status: int
+    end: int
+    label_start: int
+    label_length: int
+    destination_start: int
+    destination_length: int
+    title_start: int
+    title_length: int
+    _fields_ = [
+        ("status", c_uint32),
+        ("end", c_size_t),
+        ("label_start", c_size_t),
+        ("label_length", c_size_t),
+        ("destination_start", c_size_t),
+        ("destination_length", c_size_t),
+        ("title_start", c_size_t),
+        ("title_length", c_size_t),
+    ]
+
+
 class Part(Structure):
     status: int
     end: int
@@ -206,6 +227,21 @@ class Part(Structure):
         ("end", c_size_t),
         ("start", c_size_t),
         ("length", c_size_t),
+    ]
+
+
+class DelimiterRun(Structure):
+    status: int
+    byte: int
+    can_open: bool
+    can_close: bool
+    count: int
+    _fields_ = [
+        ("status", c_uint32),
+        ("byte", c_uint8),
+        ("can_open", c_bool),
+        ("can_close", c_bool),
+        ("count", c_size_t),
     ]
 
 
@@ -280,6 +316,8 @@ FUNCTIONS: dict[str, tuple[Any, tuple[Any, ...]]] = {
     "is_whitespace": (c_bool, (c_uint8,)),
     "is_whitespace_in_line": (c_bool, (c_uint8,)),
     "is_punctuation": (c_bool, (c_uint8,)),
+    "is_unicode_whitespace": (c_bool, (c_uint32,)),
+    "is_unicode_punctuation": (c_bool, (c_uint32,)),
     "is_utf8": (c_bool, (c_void_p, c_size_t)),
     "scan_ch": (c_size_t, (c_void_p, c_size_t, c_uint8)),
     "scan_ch_repeat": (c_size_t, (c_void_p, c_size_t, c_uint8)),
@@ -312,11 +350,15 @@ FUNCTIONS: dict[str, tuple[Any, tuple[Any, ...]]] = {
     "scan_metadata_block": (Fence, (c_void_p, c_size_t, c_bool, c_bool)),
     "scan_closing_metadata_block": (c_size_t, (c_void_p, c_size_t, c_uint8)),
     "interrupts_paragraph": (c_bool, (c_void_p, c_size_t)),
+    "scan_reference_definition": (ReferenceDefinition, (c_void_p, c_size_t, c_size_t, c_size_t)),
     "scan_table_head": (Text, (c_void_p, c_size_t, c_void_p, c_size_t)),
     "scan_link_dest": (Part, (c_void_p, c_size_t, c_size_t, c_size_t)),
     "scan_link_title": (Part, (c_void_p, c_size_t, c_size_t)),
     "scan_autolink": (Part, (c_void_p, c_size_t, c_size_t)),
+    "scan_email_autolink": (Part, (c_void_p, c_size_t, c_size_t)),
+    "scan_code_span": (Part, (c_void_p, c_size_t, c_size_t)),
     "scan_wikilink_pipe": (Part, (c_void_p, c_size_t, c_size_t, c_size_t)),
+    "scan_delimiter_run": (DelimiterRun, (c_void_p, c_size_t, c_size_t)),
     "check_skips": (c_uint32, (c_void_p, c_size_t, c_void_p, c_size_t)),
     "starts_html_block_type_6": (c_bool, (c_void_p, c_size_t)),
     "scan_html_type_7": (c_size_t, (c_void_p, c_size_t)),

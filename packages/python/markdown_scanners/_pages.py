@@ -133,6 +133,18 @@ def byte(given: Union[int, str, bytes]) -> int:
     return index(given)
 
 
+def character_number(given: Union[str, int]) -> int:
+    """The number of a character, which is given itself or by its number."""
+    if isinstance(given, str):
+        if len(given) != 1:
+            raise ValueError(f"{given!r} is not one character")
+        return ord(given)
+    found = whole_number("the character", given)
+    if not 0 <= found < 2**32:
+        raise ValueError(f"{given} is no number of a character")
+    return found
+
+
 def flag(what: str, given: bool) -> bool:
     if given is True or given is False:
         return given

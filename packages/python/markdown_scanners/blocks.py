@@ -1,4 +1,4 @@
-"""Thematic breaks, headings, fences, metadata and tables at a place. Sections in brackets are those of CommonMark 0.31.2."""
+"""Thematic breaks, headings, fences, metadata, definitions and tables at a place. Sections in brackets are those of CommonMark 0.31.2."""
 from __future__ import annotations
 
 from enum import IntEnum
@@ -6,7 +6,7 @@ from typing import Any, Callable, NamedTuple, Optional
 
 from . import _c
 from ._library import ROOM, function, writer
-from ._pages import Page, behind, flag, front, number
+from ._pages import Page, behind, flag, front, number, whole
 from ._pages import byte as _byte
 from .errors import stated
 from .line_scanners import Byte
@@ -19,6 +19,7 @@ _scan_closing_code_fence: Callable[..., int] = function("scan_closing_code_fence
 _scan_metadata_block: Callable[..., _c.Fence] = function("scan_metadata_block")
 _scan_closing_metadata_block: Callable[..., int] = function("scan_closing_metadata_block")
 _interrupts_paragraph: Callable[..., bool] = function("interrupts_paragraph")
+_scan_reference_definition: Callable[..., _c.ReferenceDefinition] = function("scan_reference_definition")
 _scan_table_head: Callable[..., tuple[Any, bytes]] = writer("scan_table_head")
 
 
@@ -135,6 +136,46 @@ def interrupts_paragraph(data: Page, at: int = 0, end: Optional[int] = None) -> 
     """
     address, length, _held = front(data, at, end)
     return _interrupts_paragraph(address, length)
+
+
+class Span(NamedTuple):
+    """Bytes of a page."""
+
+    start: int  #: the place of the first
+    stop: int  #: the place after the last
+
+
+class ReferenceDefinition(NamedTuple):
+    """A link reference definition. Its parts stand there as they are written."""
+
+    end: int  #: the place after its last line
+    label: Span  #: what stands between the brackets of its label
+    destination: Span  #: its destination, without angle brackets
+    title: Optional[Span]  #: its title, without what stands around it
+
+
+def scan_reference_definition(
+    data: Page, at: int = 0, end: Optional[int] = None, *, max_next: int = 31
+) -> Optional[ReferenceDefinition]:
+    r"""A link reference definition, in the content of a paragraph: its lines without the markers of containers and without
+    indent. Parentheses may stand in each other `max_next` + 1 deep. (4.7)
+
+    >>> found = scan_reference_definition(b"[a]: <b> 'c'\n")
+    >>> found.end, found.destination, found.title
+    (13, Span(start=6, stop=7), Span(start=10, stop=11))
+    """
+    address, length, first, origin = whole(data, at, end)
+    found = _scan_reference_definition(address, length, first, number("max_next", max_next))
+    if not stated(found.status):
+        return None
+    label = _span(origin, found.label_start, found.label_length)
+    destination = _span(origin, found.destination_start, found.destination_length)
+    title = None if found.title_start == _c.NONE else _span(origin, found.title_start, found.title_length)
+    return ReferenceDefinition(origin + found.end, label, destination, title)
+
+
+def _span(origin: int, start: int, length: int) -> Span:
+    return Span(origin + start, origin + (start + length))
 
 
 class Alignment(IntEnum):

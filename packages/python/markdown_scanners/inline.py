@@ -3,17 +3,22 @@ from __future__ import annotations
 
 import ctypes
 from enum import IntEnum
-from typing import Any, Callable, Generic, NamedTuple, Optional, overload
+from typing import Any, Callable, Generic, NamedTuple, Optional, Union, overload
 
 from . import _c
 from ._library import ROOM, function, writer
-from ._pages import Buffer, Made, Page, behind, flag, front, limits, number, place_in, text_for, whole
+from ._pages import Buffer, Made, Page, behind, character_number, flag, front, limits, number, place_in, text_for, whole
 from .errors import stated
 from .skips import Skips, table
 
 _scan_link_dest: Callable[..., _c.Part] = function("scan_link_dest")
 _scan_link_title: Callable[..., _c.Part] = function("scan_link_title")
 _scan_autolink: Callable[..., _c.Part] = function("scan_autolink")
+_scan_email_autolink: Callable[..., _c.Part] = function("scan_email_autolink")
+_scan_code_span: Callable[..., _c.Part] = function("scan_code_span")
+_scan_delimiter_run: Callable[..., _c.DelimiterRun] = function("scan_delimiter_run")
+_is_unicode_whitespace: Callable[..., bool] = function("is_unicode_whitespace")
+_is_unicode_punctuation: Callable[..., bool] = function("is_unicode_punctuation")
 _scan_wikilink_pipe: Callable[..., _c.Part] = function("scan_wikilink_pipe")
 _starts_html_block_type_6: Callable[..., bool] = function("starts_html_block_type_6")
 _scan_html_type_7: Callable[..., int] = function("scan_html_type_7")
@@ -78,6 +83,70 @@ def scan_autolink(data: Page, at: int = 0, end: Optional[int] = None) -> Optiona
     """
     address, length, first, origin = whole(data, at, end)
     return _part(_scan_autolink(address, length, first), origin)
+
+
+def scan_email_autolink(data: Page, at: int = 0, end: Optional[int] = None) -> Optional[Part]:
+    """The email address of the autolink whose `<` stands just before the place. (6.5)
+
+    >>> scan_email_autolink(b"<a@b.c>", 1)
+    Part(end=7, start=1, stop=6)
+    """
+    address, length, first, origin = whole(data, at, end)
+    return _part(_scan_email_autolink(address, length, first), origin)
+
+
+def scan_code_span(data: Page, at: int = 0, end: Optional[int] = None) -> Optional[Part]:
+    """The code span that begins at the place, as if no backtick stood before that; its backtick strings are not among its own
+    bytes. Where no later string closes it, all of the page is read for that: a caller notes where the last string of each
+    length begins, and asks only where such a one is still to come. (6.1)
+
+    >>> scan_code_span("a ``b ` c`` d", 2)
+    Part(end=11, start=4, stop=9)
+    """
+    address, length, first, origin = whole(data, at, end)
+    return _part(_scan_code_span(address, length, first), origin)
+
+
+class DelimiterRun(NamedTuple):
+    """A run of `*` or `_`."""
+
+    end: int  #: the place after it
+    byte: int  #: `*` or `_`
+    can_open: bool  #: whether it can open emphasis
+    can_close: bool  #: whether it can close emphasis
+
+
+def scan_delimiter_run(data: Page, at: int = 0, end: Optional[int] = None, *, begin: int = 0) -> Optional[DelimiterRun]:
+    """The delimiter run that begins at the place, in the text that begins at `begin`. The caller asks where no unescaped byte
+    of its kind stands just before it. NotUtf8Error where no character of UTF-8 stands beside it. (6.2)
+
+    >>> scan_delimiter_run("- **a**", 2, begin=2), scan_delimiter_run(b"a_b_", 1)
+    (DelimiterRun(end=4, byte=42, can_open=True, can_close=False), DelimiterRun(end=2, byte=95, can_open=False, can_close=False))
+    """
+    address, length, first, origin = whole(data, at, end)
+    before = place_in(data, limits(data, begin, at)[0])
+    found = _scan_delimiter_run(address + before, length - before, first - before)
+    if not stated(found.status):
+        return None
+    return DelimiterRun(origin + (first + found.count), found.byte, bool(found.can_open), bool(found.can_close))
+
+
+def is_unicode_whitespace(character: Union[str, int]) -> bool:
+    """A Unicode white space character: a tab, LF, FF or CR, or one of category Zs. (2.1)
+
+    >>> is_unicode_whitespace("\u3000"), is_unicode_whitespace("a")
+    (True, False)
+    """
+    return _is_unicode_whitespace(character_number(character))
+
+
+def is_unicode_punctuation(character: Union[str, int]) -> bool:
+    """A Unicode punctuation character: one of category P or S. (2.1)
+
+    >>> is_unicode_punctuation("€"), is_unicode_punctuation("a")
+    (True, False)
+    """
+    return _is_unicode_punctuation(character_number(character))
 
 
 def scan_wikilink_pipe(data: Page, at: int = 0, end: Optional[int] = None, *, count: int) -> Optional[Part]:

@@ -67,6 +67,7 @@ TAKEN = {
     "scan_ch": ["byte"], "scan_ch_repeat": ["byte"], "scan_while": ["accepted"], "calc_indent": ["limit"],
     "scan_closing_code_fence": ["byte", "count"], "scan_closing_metadata_block": ["byte"],
     "scan_metadata_block": ["yaml", "pluses"], "scan_link_dest": ["max_next"], "scan_wikilink_pipe": ["count"],
+    "scan_reference_definition": ["max_next"],
 }
 
 
@@ -128,6 +129,27 @@ def part(name):
                 "length": d.between(found.start, found.stop) if ok else 0}
 
     return parted
+
+
+def definition(d, start, *given):
+    d = d.beside(start)
+    name = "scan_reference_definition"
+    status, found = told(getattr(mds, name), d.data, d.place(start), d.end, **named(name, given))
+    made = {"status": status, "end": d.length(found.end) if status == _c.OK else 0}
+    for part in ("label", "destination", "title"):
+        span = getattr(found, part) if status == _c.OK else mds.Span(d.at, d.at)
+        made[f"{part}_start"] = d.length(span and span.start)
+        made[f"{part}_length"] = d.between(*span) if span else 0
+    return made
+
+
+def delimiter_run(d, place):
+    d = d.beside(place)
+    status, found = told(mds.scan_delimiter_run, d.data, d.place(place), d.end, begin=d.at)
+    if status != _c.OK:
+        return {"status": status, "byte": 0, "count": 0, "can_open": False, "can_close": False}
+    return {"status": status, "byte": found.byte, "count": d.between(d.place(place), found.end), "can_open": found.can_open,
+            "can_close": found.can_close}
 
 
 def text(name, of=lambda found: found.text, **given):
@@ -193,7 +215,10 @@ CALLS = {
         "scan_html_type_7", "scan_html_tag")},
     **{f"mds_{it}": plain(it) for it in ("is_utf8", "starts_html_block_type_6", "interrupts_paragraph")},
     **{f"mds_{it}": fence(it) for it in ("scan_code_fence", "scan_metadata_block")},
-    **{f"mds_{it}": part(it) for it in ("scan_link_dest", "scan_link_title", "scan_autolink", "scan_wikilink_pipe")},
+    **{f"mds_{it}": part(it) for it in (
+        "scan_link_dest", "scan_link_title", "scan_autolink", "scan_email_autolink", "scan_code_span", "scan_wikilink_pipe")},
+    "mds_scan_reference_definition": definition,
+    "mds_scan_delimiter_run": delimiter_run,
     "mds_scan_rev_while": from_back,
     "mds_scan_atx_heading": lambda d: mds.scan_atx_heading(d.data, d.at, d.end) or 0,
     "mds_scan_listitem": item,

@@ -4,6 +4,7 @@ import doctest
 import html.entities
 import importlib
 import pkgutil
+import unicodedata
 import unittest
 from pathlib import Path
 
@@ -22,6 +23,20 @@ class Bytes(unittest.TestCase):
             self.assertEqual(mds.is_whitespace_in_line(it), it in b" \t\v\f")
             self.assertEqual(mds.is_punctuation(it), it in PUNCTUATION)
 
+    def test_character_classes(self):
+        """As Python's own tables have them, of the characters of Unicode 3.2, whose categories stay."""
+        for it in [it for it in range(0x30000) if unicodedata.ucd_3_2_0.category(chr(it)) != "Cn"]:
+            category = unicodedata.category(chr(it))
+            is_space = category == "Zs" or it in (9, 10, 12, 13)
+            self.assertEqual(mds.is_unicode_whitespace(it), is_space, hex(it))
+            self.assertEqual(mds.is_unicode_punctuation(chr(it)), category[0] in "PS", hex(it))
+        for it in (0xD800, 0x110000, 2**32 - 1):
+            self.assertFalse(mds.is_unicode_whitespace(it) or mds.is_unicode_punctuation(it))
+        for it in (-1, 2**32, "", "ab"):
+            self.assertRaises(ValueError, mds.is_unicode_whitespace, it)
+            self.assertRaises(ValueError, mds.is_unicode_punctuation, it)
+        self.assertRaises(TypeError, mds.is_unicode_whitespace, b" ")
+
     def test_no_bytes(self):
         for it in (-1, 256, 2**64 + 32):
             self.assertRaises(ValueError, mds.is_whitespace, it)
@@ -37,6 +52,7 @@ class Bytes(unittest.TestCase):
             self.assertRaises(ValueError, mds.HtmlScanGuard(b"<!").scan, it)
             self.assertRaises(ValueError, mds.run_inline_html, b"<!", [it])
             self.assertRaises(ValueError, mds.scan_link_dest, b"", max_next=it)
+            self.assertRaises(ValueError, mds.scan_reference_definition, b"", max_next=it)
             self.assertRaises(ValueError, mds.scan_wikilink_pipe, b"", count=it)
             self.assertRaises(ValueError, mds.scan_closing_code_fence, b"", byte="~", count=it)
 
@@ -46,6 +62,9 @@ class Bytes(unittest.TestCase):
             self.assertRaises(IndexError, mds.scan_link_dest, b"a", at, end=end)
             self.assertRaises(IndexError, mds.LineStart, b"a", at, end)
             self.assertRaises(IndexError, mds.unescape, b"a", at=at, end=end)
+            self.assertRaises(IndexError, mds.scan_delimiter_run, b"a", at, end)
+        for begin in (-1, 2):
+            self.assertRaises(IndexError, mds.scan_delimiter_run, "a*b", 1, begin=begin)
         self.assertEqual(mds.scan_line(b"a", 1), 1)
 
 class Refusals(unittest.TestCase):
@@ -108,6 +127,15 @@ class Texts(unittest.TestCase):
         many = mds.HtmlScanGuard(b"<!-- a\n" * 10000)
         self.assertEqual([many.scan(at) for at in range(2, 70000, 7)], [None] * 10000)
         self.assertLessEqual(many.passed, 4 * 70000 + 8 * 10000)
+
+    def test_delimiter_runs(self):
+        """A text begins where it is said to; else at the page's front."""
+        page = "\u20ac*a*"
+        self.assertEqual(mds.scan_delimiter_run(page, 1), mds.DelimiterRun(2, ord("*"), True, False))
+        self.assertEqual(mds.scan_delimiter_run("b*a*", 1), mds.DelimiterRun(2, ord("*"), True, True))
+        self.assertEqual(mds.scan_delimiter_run("b*a*", 1, begin=1), mds.DelimiterRun(2, ord("*"), True, False))
+        self.assertEqual(mds.scan_delimiter_run("b*a*", 1, 2), mds.DelimiterRun(2, ord("*"), False, True))
+        self.assertRaises(mds.NotUtf8Error, mds.scan_delimiter_run, b"\xff*a", 1)
 
     def test_long_label(self):
         self.assertEqual(mds.scan_link_label(b"a" * 999 + b"]").end, 1000)

@@ -21,7 +21,12 @@ FILES = ["bytes.c", "line_starts.c", "rows.c", "runs.c", "skips.c"]
 FIELDS = {
     "PART": ("end", "start", "length"), "NO_PART": ("status",), "FENCE": ("length", "byte"), "BREAK": ("length",),
     "NO_BREAK": ("none_before",), "END": ("status", "end"), "NO_FENCE": (), "NO_ITEM": (),
+    "DEFINITION": (
+        "end", "label_start", "label_length", "destination_start", "destination_length", "title_start", "title_length"),
+    "NO_DEFINITION": ("status",), "RUN": ("byte", "count", "can_open", "can_close"), "NO_RUN": ("status",),
 }
+# Of a macro that checks one part, which takes all bytes, the call and its place.
+WHOLE = {"URI": ("mds_scan_autolink", 1), "EMAIL": ("mds_scan_email_autolink", 1), "TITLE": ("mds_scan_link_title", 0)}
 # The calls that are methods of a line start.
 LINE_CALLS = {f"mds_line_{it}" for it in (
     "space", "upto", "all_space", "eol", "quote", "list", "definition", "task", "alert")}
@@ -225,8 +230,8 @@ class Rows(unittest.TestCase):
             self.check_start(row, *given)
         elif macro in FIELDS:
             self.check_call(row, *given)
-        elif macro in ("URI", "NO_URI", "TITLE", "NO_TITLE"):
-            name, at = ("mds_scan_autolink", 1) if macro.endswith("URI") else ("mds_scan_link_title", 0)
+        elif macro.removeprefix("NO_") in WHOLE:
+            name, at = WHOLE[macro.removeprefix("NO_")]
             found = self.found(Call(name, [given[0], at]))
             wanted = (_c.NOTHING, 0, 0) if macro.startswith("NO_") else (_c.OK, len(given[0]), 1)
             self.same(row, (found["status"], found["end"], found["start"]), wanted)

@@ -5,6 +5,7 @@
 
 use alloc::vec;
 use alloc::vec::Vec;
+use core::ops::Range;
 
 use crate::raw::{self, ffi};
 use crate::values::{found, Alignment, HeadingLevel, ListItem};
@@ -245,6 +246,38 @@ pub fn scan_atx_heading(data: &[u8]) -> Option<HeadingLevel> {
 pub fn scan_setext_heading(data: &[u8]) -> Option<(usize, HeadingLevel)> {
     let line = raw::scan_setext_heading(data);
     found(line.length).zip(HeadingLevel::of(line.level))
+}
+
+/// A link reference definition: where its parts stand, as they are written.
+#[derive(Clone, Debug, PartialEq, Eq, Hash)]
+pub struct ReferenceDefinition {
+    /// What stands between the brackets of its label.
+    pub label: Range<usize>,
+    /// Its destination, without angle brackets.
+    pub destination: Range<usize>,
+    /// Its title, without the two bytes around it, if it has one.
+    pub title: Option<Range<usize>>,
+    /// How many bytes it takes, its last line ending among them.
+    pub len: usize,
+}
+
+/// The link reference definition at the front of a paragraph's content, which is its lines without the markers of containers
+/// and without indent. Parentheses in its destination may stand in each other `max_next + 1` deep. (4.7)
+///
+/// ```
+/// let found = markdown_scanners::scan_reference_definition(b"[a]: <b> 'c'\n", 31).unwrap();
+/// assert_eq!((found.label, found.destination, found.title, found.len), (1..2, 6..7, Some(10..11), 13));
+/// ```
+#[must_use]
+pub fn scan_reference_definition(data: &[u8], max_next: usize) -> Option<ReferenceDefinition> {
+    let told = raw::scan_reference_definition(data, 0, max_next);
+    let part = |start: usize, length: usize| start..start + length;
+    (told.status == ffi::OK).then(|| ReferenceDefinition {
+        label: part(told.label_start, told.label_length),
+        destination: part(told.destination_start, told.destination_length),
+        title: found(told.title_start).map(|start| part(start, told.title_length)),
+        len: told.end,
+    })
 }
 
 /// The alignments of the columns of the delimiter row at the front, and its length with the line ending; 0 and none where

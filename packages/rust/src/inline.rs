@@ -27,16 +27,16 @@ pub(crate) fn string(bytes: Vec<u8>) -> String {
 }
 
 /// A part of the bytes: the place behind it, and its own bytes.
-fn part(told: ffi::Part, data: &[u8]) -> Option<(usize, &[u8])> {
+pub(crate) fn part(told: ffi::Part, data: &[u8]) -> Option<(usize, &[u8])> {
     (told.status == ffi::OK).then(|| (told.end, &data[told.start..told.start + told.length]))
 }
 
 /// The same of a text.
-fn text_part(told: ffi::Part, data: &str) -> Option<(usize, &str)> {
+pub(crate) fn text_part(told: ffi::Part, data: &str) -> Option<(usize, &str)> {
     (told.status == ffi::OK).then(|| (told.end, &data[told.start..told.start + told.length]))
 }
 
-fn check_place(data: &str, start: usize) {
+pub(crate) fn check_place(data: &str, start: usize) {
     assert!(data.is_char_boundary(start), "no character begins at {start}");
 }
 

@@ -14,6 +14,7 @@ mod line;
 #[allow(unsafe_code)]
 mod raw;
 mod runs;
+mod spans;
 mod values;
 
 pub use blocks::*;
@@ -22,6 +23,7 @@ pub use labels::*;
 pub use line::LineStart;
 pub use raw::Skip;
 pub use runs::{line_rest, run_inline_html, run_line, HtmlRun, HtmlStop, LineAnswer, LineCall, LineRun, LineStop};
+pub use spans::*;
 pub use values::{
     Alignment, BadSkips, BlockQuoteKind, HeadingLevel, HtmlBlockKind, InvalidHeadingLevel, LinkType, ListItem,
 };

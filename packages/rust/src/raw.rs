@@ -62,21 +62,23 @@ fn refused() -> ! {
     handle_alloc_error(Layout::new::<usize>())
 }
 
-/// Functions of a byte.
-macro_rules! of_bytes {
-    ($($name:ident = $function:ident;)*) => {$(
+/// Functions of a byte or a character.
+macro_rules! of_one {
+    ($($name:ident($kind:ty) = $function:ident;)*) => {$(
         #[inline]
-        pub(crate) fn $name(byte: u8) -> bool {
+        pub(crate) fn $name(one: $kind) -> bool {
             // SAFETY: it is given no pointer.
-            unsafe { ffi::$function(byte) }
+            unsafe { ffi::$function(one) }
         }
     )*};
 }
 
-of_bytes! {
-    is_whitespace = mds_is_whitespace;
-    is_whitespace_in_line = mds_is_whitespace_in_line;
-    is_punctuation = mds_is_punctuation;
+of_one! {
+    is_whitespace(u8) = mds_is_whitespace;
+    is_whitespace_in_line(u8) = mds_is_whitespace_in_line;
+    is_punctuation(u8) = mds_is_punctuation;
+    is_unicode_whitespace(u32) = mds_is_unicode_whitespace;
+    is_unicode_punctuation(u32) = mds_is_unicode_punctuation;
 }
 
 /// Functions that read a slice, and are given numbers besides.
@@ -112,6 +114,10 @@ reading! {
     scan_link_dest(start: usize, max_next: usize) -> ffi::Part = mds_scan_link_dest;
     scan_link_title(start: usize) -> ffi::Part = mds_scan_link_title;
     scan_autolink(start: usize) -> ffi::Part = mds_scan_autolink;
+    scan_email_autolink(start: usize) -> ffi::Part = mds_scan_email_autolink;
+    scan_code_span(start: usize) -> ffi::Part = mds_scan_code_span;
+    scan_delimiter_run(place: usize) -> ffi::DelimiterRun = mds_scan_delimiter_run;
+    scan_reference_definition(start: usize, max_next: usize) -> ffi::ReferenceDefinition = mds_scan_reference_definition;
     scan_wikilink_pipe(start: usize, count: usize) -> ffi::Part = mds_scan_wikilink_pipe;
     starts_html_block_type_6() -> bool = mds_starts_html_block_type_6;
     scan_html_type_7() -> usize = mds_scan_html_type_7;

@@ -160,6 +160,8 @@ impl HtmlBlockKind {
 pub enum LinkType {
     /// An absolute URI in angle brackets.
     Autolink,
+    /// An email address in angle brackets.
+    Email,
 }
 
 /// A table of skips is none of the text: its places do not rise, one ends past the text or where the next has begun, or one

@@ -165,6 +165,54 @@ fn parts() {
 }
 
 #[test]
+fn definitions() {
+    let found = scan_reference_definition(b"[foo]: \n/url  \n'the title'  \nx", 31).unwrap();
+    assert_eq!((found.label, found.destination, found.title, found.len), (1..4, 8..12, Some(16..25), 29));
+    let found = scan_reference_definition(b"[foo]: /url\n\"title\" ok\n", 31).unwrap();
+    assert_eq!((found.label, found.destination, found.title, found.len), (1..4, 7..11, None, 12));
+    assert_eq!(scan_reference_definition(b"[foo]: /url \"title\" ok\n", 31), None);
+    assert!(scan_reference_definition(b"[a]: (b)", 0).is_some());
+    assert_eq!(scan_reference_definition(b"[a]: ((b))", 0), None);
+    assert_eq!(scan_reference_definition(b"", 31), None);
+}
+
+#[test]
+fn spans() {
+    assert_eq!(scan_code_span("é`` foo ` bar ``", 2), Some((17, " foo ` bar ")));
+    assert_eq!(scan_code_span("`foo``bar``", 0), None);
+    assert_eq!(scan_code_span_bytes(b"`a`", 4), None);
+    assert_eq!(scan_email_autolink("<foo+special@Bar.baz-bar0.com>", 1).unwrap().1, "foo+special@Bar.baz-bar0.com");
+    assert_eq!(scan_email_autolink(r"<foo\+@bar.example.com>", 1), None);
+    assert_eq!(scan_email_autolink_bytes(b"a@b>", 5), None);
+    for start in [1, 3, usize::MAX] {
+        assert!(catch_unwind(|| scan_code_span("é", start)).is_err());
+        assert!(catch_unwind(|| scan_email_autolink("é", start)).is_err());
+        assert!(catch_unwind(|| scan_delimiter_run("é", start)).is_err());
+    }
+}
+
+/// Runs that are left-flanking, right-flanking, both and neither, as the specification has them.
+#[test]
+fn delimiter_runs() {
+    let rows = [
+        ("***abc", 0, Some((b'*', 3, true, false))),
+        ("\"abc\"_", 5, Some((b'_', 1, false, true))),
+        (" abc***def", 4, Some((b'*', 3, true, true))),
+        ("a _ b", 2, Some((b'_', 1, false, false))),
+        ("*€*charlie.", 4, Some((b'*', 1, true, false))),
+        ("foo_bar", 3, Some((b'_', 1, false, false))),
+        ("~~a", 0, None),
+        ("", 0, None),
+    ];
+    for (text, place, wanted) in rows {
+        let found = scan_delimiter_run(text, place).map(|it| (it.byte, it.count, it.can_open, it.can_close));
+        assert_eq!(found, wanted, "{text}");
+    }
+    assert!(is_unicode_whitespace('\u{a0}') && !is_unicode_whitespace('\u{b}'));
+    assert!(is_unicode_punctuation('🍔') && !is_unicode_punctuation('中'));
+}
+
+#[test]
 fn large_numbers() {
     assert_eq!(calc_indent(b" ", usize::MAX / 4), (0, 1));
     assert!(catch_unwind(|| calc_indent(b" ", usize::MAX / 4 + 1)).is_err());

@@ -158,11 +158,34 @@ pub struct Fence {
 
 #[repr(C)]
 #[derive(Clone, Copy, Debug, Default, PartialEq, Eq)]
+pub struct ReferenceDefinition {
+    pub status: u32,
+    pub end: usize,
+    pub label_start: usize,
+    pub label_length: usize,
+    pub destination_start: usize,
+    pub destination_length: usize,
+    pub title_start: usize,
+    pub title_length: usize,
+}
+
+#[repr(C)]
+#[derive(Clone, Copy, Debug, Default, PartialEq, Eq)]
 pub struct Part {
     pub status: u32,
     pub end: usize,
     pub start: usize,
     pub length: usize,
+}
+
+#[repr(C)]
+#[derive(Clone, Copy, Debug, Default, PartialEq, Eq)]
+pub struct DelimiterRun {
+    pub status: u32,
+    pub byte: u8,
+    pub can_open: bool,
+    pub can_close: bool,
+    pub count: usize,
 }
 
 #[repr(C)]
@@ -218,6 +241,8 @@ extern "C" {
     pub fn mds_is_whitespace(byte: u8) -> bool;
     pub fn mds_is_whitespace_in_line(byte: u8) -> bool;
     pub fn mds_is_punctuation(byte: u8) -> bool;
+    pub fn mds_is_unicode_whitespace(character: u32) -> bool;
+    pub fn mds_is_unicode_punctuation(character: u32) -> bool;
     pub fn mds_is_utf8(bytes: *const c_void, length: usize) -> bool;
     pub fn mds_scan_ch(bytes: *const c_void, length: usize, byte: u8) -> usize;
     pub fn mds_scan_ch_repeat(bytes: *const c_void, length: usize, byte: u8) -> usize;
@@ -264,11 +289,20 @@ extern "C" {
     pub fn mds_scan_metadata_block(bytes: *const c_void, length: usize, yaml: bool, pluses: bool) -> Fence;
     pub fn mds_scan_closing_metadata_block(bytes: *const c_void, length: usize, fence: u8) -> usize;
     pub fn mds_interrupts_paragraph(bytes: *const c_void, length: usize) -> bool;
+    pub fn mds_scan_reference_definition(
+        bytes: *const c_void,
+        length: usize,
+        start: usize,
+        max_next: usize,
+    ) -> ReferenceDefinition;
     pub fn mds_scan_table_head(bytes: *const c_void, length: usize, alignments: *mut u8, capacity: usize) -> Text;
     pub fn mds_scan_link_dest(bytes: *const c_void, length: usize, start: usize, max_next: usize) -> Part;
     pub fn mds_scan_link_title(bytes: *const c_void, length: usize, start: usize) -> Part;
     pub fn mds_scan_autolink(bytes: *const c_void, length: usize, start: usize) -> Part;
+    pub fn mds_scan_email_autolink(bytes: *const c_void, length: usize, start: usize) -> Part;
+    pub fn mds_scan_code_span(bytes: *const c_void, length: usize, start: usize) -> Part;
     pub fn mds_scan_wikilink_pipe(bytes: *const c_void, length: usize, start: usize, count: usize) -> Part;
+    pub fn mds_scan_delimiter_run(bytes: *const c_void, length: usize, place: usize) -> DelimiterRun;
     pub fn mds_check_skips(bytes: *const c_void, length: usize, skips: *const Skip, skip_count: usize) -> u32;
     pub fn mds_starts_html_block_type_6(bytes: *const c_void, length: usize) -> bool;
     pub fn mds_scan_html_type_7(bytes: *const c_void, length: usize) -> usize;

@@ -1,12 +1,12 @@
 use Rattle.std.proofs.Common.{inl, inr, refl, sym, subst, arith, take}
 use Rattle.std.proofs.lemmas.List.{take_rest}
 use Rattle.markdown_scanners_tree.specs.scanners.links.Autolink.{IsUriAutolink}
-use Rattle.markdown_scanners_c.specs.Parts.{IsUriPart}
+use Rattle.markdown_scanners_c.specs.Parts.{IsAutolinkPart}
 use Rattle.markdown_scanners_c.proofs.Parts.{cut_closed}
 use Rattle.markdown_scanners_c.proofs.inline.mds_scan_autolink.Goals as goal
 
 pub returns-in-Some-clause-part : goal.returns-in-Some-clause-part
-unfolding IsUriPart
+unfolding IsAutolinkPart
 returns-in-Some-clause-part c =
     let rest = take_rest c.args.bytes.now c.args.start in
     inr (
@@ -25,7 +25,7 @@ returns-in-Some-clause-boundary c = λ text found.
     c.in-Some.ensures.before c.in-Some.ensures.behind
 
 pub returns-in-None-clause-part : goal.returns-in-None-clause-part
-unfolding IsUriPart
+unfolding IsAutolinkPart
 returns-in-None-clause-part c =
     let rest = take_rest c.args.bytes.now c.args.start in
     inr (

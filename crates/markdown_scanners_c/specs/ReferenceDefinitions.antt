@@ -1,0 +1,48 @@
+-- Link reference definitions that begin at a place of bytes. (CommonMark 0.31.2, section 4.7, link reference definitions)
+use Rattle.std.specs.Prelude.{ℕ, List, Option, None, Some, ◌≡◌, ◌≢◌, ◌⊎◌, ◌+◌, drop}
+use Rattle.std.specs.Str.{IsCharBoundary}
+use Rattle.std.specs.declared.ops.Range.{Range}
+use Rattle.markdown_scanners_tree.specs.declared.scanners.reference_definitions.ReferenceDefinition.{ReferenceDefinition}
+use Rattle.markdown_scanners_tree.specs.scanners.reference_definitions.ReferenceDefinition.{IsReferenceDefinition}
+use Rattle.markdown_scanners_c.specs.Answers.{none}
+use Rattle.markdown_scanners_c.specs.Status.{ok, nothing}
+use Rattle.markdown_scanners_c.specs.TextPlace.{IsTextPlace}
+use Rattle.markdown_scanners_c.specs.declared.reference_definitions.Definition.{Definition}
+
+-- a status, and no definition
+abbrev pub IsNoDefinition : ℕ → Definition → Type 0
+IsNoDefinition status told =
+    (told.status ≡ status) × (told.end ≡ 0) × (told.label_start ≡ 0) × (told.label_length ≡ 0)
+    × (told.destination_start ≡ 0) × (told.destination_length ≡ 0) × (told.title_start ≡ 0) × (told.title_length ≡ 0)
+
+-- Of a range of what stands from the place on: where it begins in all bytes, and how long it is.
+abbrev pub IsRangeAt : ℕ → Range ℕ → ℕ → ℕ → Type 0
+IsRangeAt place range start length = (start ≡ place + range.start) × (start + length ≡ place + range.end)
+
+-- the same of a title, and `MDS_NONE` and 0 of none
+abbrev pub IsTitleAt : ℕ → Option (Range ℕ) → ℕ → ℕ → Type 0
+IsTitleAt place None start length = (start ≡ none) × (length ≡ 0)
+IsTitleAt place (Some title) start length = IsRangeAt place title start length
+
+-- a definition, which begins at the place with at most so many parentheses in each other, or none
+unfoldable pub IsToldDefinition : ℕ → List ℕ → ℕ → Definition → Type 0
+IsToldDefinition most bytes place told =
+    (IsNoDefinition nothing told
+    × ((definition : ReferenceDefinition) → ¬ IsReferenceDefinition most (drop place bytes) definition))
+    ⊎ ((definition : ReferenceDefinition) × IsReferenceDefinition most (drop place bytes) definition
+    × (told.status ≡ ok) × (told.end ≡ place + definition.len)
+    × IsRangeAt place definition.label told.label_start told.label_length
+    × IsRangeAt place definition.destination told.destination_start told.destination_length
+    × IsTitleAt place definition.title told.title_start told.title_length)
+
+-- A text may be cut where so many bytes from the place on begin, and where they end.
+abbrev pub IsCutOut : List ℕ → ℕ → ℕ → Type 0
+IsCutOut bytes start length = IsCharBoundary bytes start × IsCharBoundary bytes (start + length)
+
+-- Where the bytes are a text and the place is between two of its characters, so are both ends of each part, and the end of
+-- all.
+abbrev pub AreCutFromText : List ℕ → ℕ → Definition → Type 0
+AreCutFromText bytes place told =
+    IsTextPlace bytes place → told.status ≡ ok
+    → IsCutOut bytes told.label_start told.label_length × IsCutOut bytes told.destination_start told.destination_length
+    × (told.title_start ≢ none → IsCutOut bytes told.title_start told.title_length) × IsCharBoundary bytes told.end
