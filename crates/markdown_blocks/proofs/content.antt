@@ -1,0 +1,3 @@
+pub mod OneContent
+pub mod RunLemmas
+pub mod SegmentLemmas

@@ -1,0 +1,87 @@
+-- Parts that are one run of the lines.
+use Rattle.std.proofs.Common.{ℕ, zero, suc, ◌+◌, ◌-◌, ◌≤◌, ◌≡◌, List, [], ◌∷◌, ◌++◌, length, take, drop, replicate}
+use Rattle.std.proofs.Common.{refl, sym, ap, ◌∙◌, subst, arith, append_assoc, length-append}
+use Rattle.std.specs.List.{flat_map, range_with_len}
+use Rattle.std.proofs.Math.Seq.{take-add, take-append_seam}
+use Rattle.std.proofs.lemmas.List.{drop-drop}
+use Rattle.markdown_scanners_tree.specs.Ascii.{space}
+use Rattle.markdown_blocks.specs.content.Content.{places_of, text_of}
+use Rattle.markdown_blocks.specs.content.Parts.{GoOn, Part}
+use Rattle.markdown_blocks.specs.content.Seen.{IsIn}
+
+-- the bytes from one place up to another, and those that follow
+pub run_more : (lines bytes : List ℕ) (begin end : ℕ) → begin ≤ end → drop end lines ≡ bytes ++ drop (end + length bytes) lines
+    → take (end - begin) (drop begin lines) ++ bytes ≡ take (end + length bytes - begin) (drop begin lines)
+run_more lines bytes begin end low stands =
+    let size : end + length bytes - begin ≡ (end - begin) + length bytes = omega arith in
+    let at : begin + (end - begin) ≡ end = omega arith in
+    let next : take (length bytes) (drop (end - begin) (drop begin lines)) ≡ bytes =
+    ap (take (length bytes)) (drop-drop (end - begin) begin lines ∙ ap (λ n. drop n lines) at ∙ stands)
+    ∙ take-append_seam bytes (drop (end + length bytes) lines) in
+    sym (ap (λ n. take n (drop begin lines)) size ∙ take-add (end - begin) (length bytes) (drop begin lines)
+    ∙ ap (λ b. take (end - begin) (drop begin lines) ++ b) next)
+
+-- a part without columns
+pub plain_part : (p : Part) → p.columns ≡ 0 → text_of p ≡ p.bytes
+plain_part p none = ap (λ n. replicate n space ++ p.bytes) none
+
+pub range_on : (k m n : ℕ) → range_with_len k m ++ range_with_len (k + m) n ≡ range_with_len k (m + n)
+range_on k zero n =
+    let at : k + 0 ≡ k = omega arith in
+    let count : n ≡ 0 + n = omega arith in
+    ap (λ a. range_with_len a n) at ∙ ap (range_with_len k) count
+range_on k (suc m) n =
+    let counts : suc m + n ≡ suc (m + n) = omega arith in
+    ap (λ xs. k ∷ xs) (ap (λ a. range_with_len (k + 1) m ++ range_with_len a n) (omega arith) ∙ range_on (k + 1) m n)
+    ∙ sym (ap (range_with_len k) counts)
+
+-- the places of parts that go on from a place
+pub run_places : (place : ℕ) (parts : List Part) → GoOn place parts → flat_map places_of parts ≡ range_with_len place (length (flat_map text_of parts))
+run_places place [] on = refl
+run_places place (p ∷ parts) on =
+    let plain = plain_part p on.0 in
+    let size : length (text_of p ++ flat_map text_of parts) ≡ length p.bytes + length (flat_map text_of parts) =
+    length-append (text_of p) (flat_map text_of parts) ∙ ap (λ t. length t + length (flat_map text_of parts)) plain in
+    ap (λ n. (replicate n (p.place - 1) ++ range_with_len p.place (length p.bytes)) ++ flat_map places_of parts) on.0
+    ∙ ap (λ a. range_with_len a (length p.bytes) ++ flat_map places_of parts) on.1
+    ∙ ap (λ xs. range_with_len place (length p.bytes) ++ xs) (run_places (place + length p.bytes) parts on.2)
+    ∙ range_on place (length p.bytes) (length (flat_map text_of parts))
+    ∙ ap (range_with_len place) (sym size)
+
+-- the first part of a run, and a part more
+pub run_first : (lines : List ℕ) (all rest : List Part) (p : Part) → p.columns ≡ 0 → IsIn lines p → all ≡ p ∷ rest
+    → flat_map text_of all ≡ take (p.place + length p.bytes - p.place) (drop p.place lines) ++ flat_map text_of rest
+run_first lines all rest p none inside is =
+    let size : p.place + length p.bytes - p.place ≡ length p.bytes = omega arith in
+    ap (flat_map text_of) is ∙ ap (λ t. t ++ flat_map text_of rest) (plain_part p none
+    ∙ sym (ap (λ n. take n (drop p.place lines)) size ∙ ap (take (length p.bytes)) inside.1
+    ∙ take-append_seam p.bytes (drop (p.place + length p.bytes) lines)))
+
+pub run_next : (lines : List ℕ) (all left rest : List Part) (p : Part) (begin end : ℕ) → p.columns ≡ 0 → p.place ≡ end → IsIn lines p → begin ≤ end
+    → left ≡ p ∷ rest → flat_map text_of all ≡ take (end - begin) (drop begin lines) ++ flat_map text_of left
+    → flat_map text_of all ≡ take (end + length p.bytes - begin) (drop begin lines) ++ flat_map text_of rest
+run_next lines all left rest p begin end none at inside low is so_far =
+    let stands : drop end lines ≡ p.bytes ++ drop (end + length p.bytes) lines =
+    subst (λ n. drop n lines ≡ p.bytes ++ drop (n + length p.bytes) lines) at inside.1 in
+    so_far ∙ ap (λ ps. take (end - begin) (drop begin lines) ++ flat_map text_of ps) is
+    ∙ ap (λ t. take (end - begin) (drop begin lines) ++ (t ++ flat_map text_of rest)) (plain_part p none)
+    ∙ sym (append_assoc (take (end - begin) (drop begin lines)) p.bytes (flat_map text_of rest))
+    ∙ ap (λ t. t ++ flat_map text_of rest) (run_more lines p.bytes begin end low stands)
+
+pub go_first : (all rest : List Part) (p : Part) → p.columns ≡ 0 → all ≡ p ∷ rest
+    → (GoOn (p.place + length p.bytes) rest → GoOn p.place all) × (GoOn p.place all → GoOn (p.place + length p.bytes) rest)
+go_first all rest p none is = (
+  λ on. subst (GoOn p.place) (sym is) (none, refl, on),
+  λ on. (subst (GoOn p.place) is on).2,
+)
+
+pub go_next : (left rest : List Part) (p : Part) (end : ℕ) → p.columns ≡ 0 → p.place ≡ end → left ≡ p ∷ rest
+    → (GoOn (end + length p.bytes) rest → GoOn end left) × (GoOn end left → GoOn (end + length p.bytes) rest)
+go_next left rest p end none at is = (
+  λ on. subst (GoOn end) (sym is) (none, at, on),
+  λ on. (subst (GoOn end) is on).2,
+)
+
+-- a part that is cut, or stands elsewhere, ends the run
+pub not_cut : (end : ℕ) (left rest : List Part) (p : Part) → left ≡ p ∷ rest → GoOn end left → (p.columns ≡ 0) × (p.place ≡ end)
+not_cut end left rest p is on = let here = subst (GoOn end) is on in (here.0, here.1)

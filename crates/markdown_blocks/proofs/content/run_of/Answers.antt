@@ -1,0 +1,33 @@
+use Rattle.std.proofs.Common.{◌≡◌, ◌∙◌, arith}
+use Rattle.markdown_blocks.specs.content.Left.{parts_left}
+use Rattle.markdown_blocks.specs.content.Seen.{seen_part}
+use Rattle.markdown_blocks.proofs.content.RunLemmas.{go_first, go_next, run_first, run_next}
+use Rattle.markdown_blocks.proofs.content.run_of.Goals as goal
+
+pub loop-next-init : goal.loop-next-init
+loop-next-init c =
+    let p = seen_part c.in-Some.part in
+    let none : p.columns ≡ 0 = omega (arith, c.if-part-gt0.false) in
+    let inside = c.in-Some.ensures.inside in (
+      c.in-Some.ensures.lines,
+      omega arith,
+      inside.0,
+      run_first c.args.parts.lines.now (parts_left c.args.parts) (parts_left c.in-Some.rest) p none inside c.in-Some.ensures.some,
+      (go_first (parts_left c.args.parts) (parts_left c.in-Some.rest) p none c.in-Some.ensures.some).0,
+      (go_first (parts_left c.args.parts) (parts_left c.in-Some.rest) p none c.in-Some.ensures.some).1,
+    )
+
+pub loop-next-preserved : goal.loop-next-preserved
+loop-next-preserved c =
+    let p = seen_part c.in-Some-next.next in
+    let l = c.loop-next in
+    let none : p.columns ≡ 0 = omega (arith, c.if-next-gt0.false) in
+    let inside = rw l.invariant.0 at c.in-Some-next.ensures.inside in (
+      c.in-Some-next.ensures.lines ∙ l.invariant.0,
+      omega (arith, l.invariant.1),
+      omega (arith, inside.0, c.if-next-end.false),
+      run_next c.args.parts.lines.now (parts_left c.args.parts) (parts_left l.rest) (parts_left c.in-Some-next.more) p c.in-Some.part.place l.end none
+          c.if-next-end.false inside l.invariant.1 c.in-Some-next.ensures.some l.invariant.3,
+      λ on. l.invariant.4 ((go_next (parts_left l.rest) (parts_left c.in-Some-next.more) p l.end none c.if-next-end.false c.in-Some-next.ensures.some).0 on),
+      λ on. (go_next (parts_left l.rest) (parts_left c.in-Some-next.more) p l.end none c.if-next-end.false c.in-Some-next.ensures.some).1 (l.invariant.5 on),
+    )

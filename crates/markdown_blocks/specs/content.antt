@@ -1,0 +1,5 @@
+pub mod Content
+pub mod Left
+pub mod Parts
+pub mod Seen
+pub mod Segments

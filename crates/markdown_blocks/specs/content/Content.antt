@@ -1,0 +1,49 @@
+-- The content of leaf blocks, with the place of each byte. (CommonMark 0.31.2, sections 2.2, 4.2 to 4.6 and 4.8)
+use Rattle.std.specs.Prelude.{ℕ, ◌||◌, ◌-◌, List, ◌++◌, ◌≡◌, length, take, replicate}
+use Rattle.std.specs.List.{flat_map, range_with_len, suffix_len}
+use Rattle.markdown_scanners_tree.specs.Ascii.{space}
+use Rattle.markdown_scanners_tree.specs.Bytes.{is_line_ending, is_space_or_tab}
+use Rattle.markdown_blocks.specs.content.Parts.{Part, AreParts}
+use Rattle.markdown_blocks.specs.declared.blocks.BlockKind.{BlockKind}
+use Rattle.markdown_blocks.specs.declared.blocks.BlockKind.TheVariants.{Indented, Fenced, Html}
+use Rattle.markdown_blocks.specs.declared.containers.Container.{Container}
+
+-- bytes, and of each its place in the block's lines
+pub record Placed : Type 0 where
+  pub text : List ℕ
+  pub places : List ℕ
+
+-- the columns of a cut tab are spaces, and stand where the tab does, directly before the bytes (2.2)
+abbrev pub text_of : Part → List ℕ
+text_of p = replicate p.columns space ++ p.bytes
+
+abbrev pub places_of : Part → List ℕ
+places_of p = replicate p.columns (p.place - 1) ++ range_with_len p.place (length p.bytes)
+
+-- the parts, joined
+abbrev pub joined : List Part → Placed
+joined parts = record { text = flat_map text_of parts; places = flat_map places_of parts }
+
+-- without the spaces, tabs and line endings at its end
+abbrev pub words_len : List ℕ → ℕ
+words_len text = length text - suffix_len (λ b. is_space_or_tab b || is_line_ending b) text
+
+-- how much of what is joined is content: of code and HTML all (4.4 to 4.6), of other text what stands before white space at its
+-- end (4.8)
+abbrev pub content_len : BlockKind → List ℕ → ℕ
+content_len Indented text = length text
+content_len (Fenced count byte) text = length text
+content_len (Html kind) text = length text
+content_len kind text = words_len text
+
+abbrev pub front : ℕ → Placed → Placed
+front n content = record { text = take n content.text; places = take n content.places }
+
+abbrev pub content_with : BlockKind → List Part → Placed
+content_with kind parts = front (content_len kind (joined parts).text) (joined parts)
+
+-- the content of these lines, which are a block of this kind in these containers; its first line goes on with so many of them
+pub record IsContent (kind : BlockKind) (outer : List Container) (kept : ℕ) (lines : List (List ℕ)) (content : Placed) : Type 0 where
+  pub parts : List Part
+  pub are_parts : AreParts kind outer kept lines parts
+  pub is_content : content ≡ content_with kind parts

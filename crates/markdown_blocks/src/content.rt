@@ -1,0 +1,239 @@
+//! The content of leaf blocks: what is handed to the inline pass, and the text of code and HTML, with the place of each of its
+//! bytes. (CommonMark 0.31.2, sections 2.2, 4.2 to 4.6 and 4.8)
+ghost use Rattle.std.specs.Prelude.{◌≡◌, ◌^◌, ◌++◌, ◌+◌, ◌-◌, ◌<◌, ◌≤◌, List, length, replicate, slice_index, IfOk, IfSome, IfNone, IsOk, OnOk};
+ghost use Rattle.markdown_scanners_tree.specs.Ascii.{space};
+ghost use Rattle.markdown_scanners_tree.specs.scanners.TextLines.{lines_of};
+ghost use Rattle.markdown_blocks.specs.content.Content.{IsContent, content_len, content_with, text_of, words_len};
+ghost use Rattle.markdown_blocks.specs.content.Left.{IsRun, IsRunAt, parts_left};
+ghost use Rattle.markdown_blocks.specs.content.Parts.{AreOneRun, AreParts, Part};
+ghost use Rattle.markdown_blocks.specs.content.Seen.{seen_part};
+ghost use Rattle.markdown_blocks.specs.content.Segments.{Rising, place_at, place_in};
+
+mod parts;
+
+use crate::blocks::BlockKind;
+use crate::containers::Container;
+use crate::content::parts::{LinePart, Parts};
+use std::alloc::{AllocError, Global};
+use std::marker::Model;
+
+/// The content of a leaf block: its bytes, and of each its place in the block's lines.
+#[derive(Drop)]
+pub struct Content<'a> {
+    // It is lent from the lines, or built; the other of the two is empty.
+    lent: &'a [u8],
+    built: Vec<u8>,
+    // What begins at its first byte, and what begins further on.
+    first: Segment,
+    later: Vec<Segment>,
+}
+
+// Bytes of a content that stand one after the other in the lines, from an offset in the content on:
+// columns of a tab, which stands directly before a place, and the bytes from that place on.
+#[derive(Clone, Copy)]
+struct Segment {
+    offset: usize,
+    columns: usize,
+    place: usize,
+}
+
+impl<'a> Model for Content<'a> {
+    ghost use Rattle.std.specs.Prelude.{◌++◌, length, map};
+    ghost use Rattle.std.specs.List.{range_with_len};
+    ghost use Rattle.markdown_blocks.specs.content.Content.{Placed};
+    ghost use Rattle.markdown_blocks.specs.content.Segments.{Held, place_at};
+
+    ghost Value = { Placed };
+
+    ghost view = { λ c. record {
+      text = c.lent.now ++ c.built.items;
+      places = map (place_at c.first c.later.items)
+          (range_with_len 0 (length (c.lent.now ++ c.built.items)));
+    } };
+
+    ghost invariant = { λ c. Held c.lent.now c.built.items c.first c.later.items };
+}
+
+/// The content of the lines, which are a leaf block of this kind in these containers. Its first line
+/// goes on with `kept` of them and begins the others.
+///
+/// Of a paragraph or a heading it is the text for the inline pass, without the space at its ends. A
+/// table has none here: its rows are cut into cells. Memory is asked for where the content is not
+/// one run of the lines.
+pub fn content_of<'a>(
+    alloc: Global,
+    lines: &'a [u8],
+    kind: BlockKind,
+    containers: &[Container],
+    kept: usize,
+) -> Result<Content<'a>, AllocError>
+    ensures content { IfOk result (λ content.
+        IsContent kind containers.now kept (lines_of lines.now) content) }
+    ensures lent { (parts : List Part) → AreParts kind containers.now kept (lines_of lines.now) parts
+        → AreOneRun parts → IsOk result }
+{
+    let parts = Parts::of(lines, kind, containers, kept);
+    if let Some((begin, end)) = run_of(parts) {
+        return Ok(lent(alloc, &lines[begin..end], kind, begin));
+    }
+    built(alloc, parts, kind)
+}
+
+impl<'a> Content<'a> {
+    /// Its bytes.
+    pub fn text(&self) -> &[u8]
+        ensures { result.now ≡ self.now.text }
+    {
+        if self.built.is_empty() {
+            return self.lent;
+        }
+        &self.built
+    }
+
+    /// The place in the block's lines of the byte at the offset. A column of a tab that is cut stands
+    /// where the tab does.
+    pub fn place(&self, offset: usize) -> usize
+        requires { offset < length self.now.text }
+        ensures { result ≡ slice_index self.now.places offset }
+    {
+        let segment = segment_at(self.first, &self.later, offset);
+        let further = offset.saturating_sub(segment.offset);
+        if further < segment.columns {
+            return segment.place.saturating_sub(1);
+        }
+        segment.place + (further - segment.columns)
+    }
+}
+
+// The last of the segments that begins at the offset or before it.
+fn segment_at(first: Segment, later: &[Segment], offset: usize) -> Segment
+    requires { Rising first.offset later.now }
+    ensures { place_in result offset ≡ place_at first later.now offset }
+{
+    let mut found = first;
+    let mut low = 0;
+    let mut high = later.len();
+    while low < high {
+        let middle = low + (high - low) / 2;
+        let segment = later[middle];
+        if segment.offset <= offset {
+            found = segment;
+            low = middle + 1;
+        } else {
+            high = middle;
+        }
+    }
+    found
+}
+
+// Where the parts begin and end in the lines, if they are one run of them.
+fn run_of(parts: Parts) -> Option<(usize, usize)>
+    ensures run { IfSome result (λ r. IsRun parts.entry.lines.now (parts_left parts.entry) r.0 r.1) }
+    ensures none { IfNone result (¬ AreOneRun (parts_left parts.entry)) }
+{
+    let Some((part, mut rest)) = parts.next() else {
+        return Some((0, 0));
+    };
+    if part.columns > 0 {
+        return None;
+    }
+    let mut end = part.place + part.bytes.len();
+    while let Some((next, more)) = rest.next() {
+        if next.columns > 0 || next.place != end {
+            return None;
+        }
+        end += next.bytes.len();
+        rest = more;
+    }
+    Some((part.place, end))
+}
+
+// The content that is one run of the lines, from this place on.
+fn lent<'a>(alloc: Global, run: &'a [u8], kind: BlockKind, place: usize) -> Content<'a>
+    requires { place + length run.now < 2 ^ 64 }
+    ensures { (parts : List Part) → IsRunAt run.now place parts → result ≡ content_with kind parts }
+{
+    Content {
+        lent: &run[..content_len(run, kind)],
+        built: Vec::new(alloc),
+        first: Segment {
+            offset: 0,
+            columns: 0,
+            place,
+        },
+        later: Vec::new(alloc),
+    }
+}
+
+// The content that the parts are, joined.
+fn built<'a>(alloc: Global, parts: Parts, kind: BlockKind) -> Result<Content<'a>, AllocError>
+    ensures { IfOk result (λ content. content ≡ content_with kind (parts_left parts.entry)) }
+{
+    let mut text = Vec::new(alloc);
+    let mut segments = Vec::new(alloc);
+    let mut rest = parts;
+    while let Some((part, more)) = rest.next() {
+        segments.push(Segment {
+            offset: text.len(),
+            columns: part.columns,
+            place: part.place,
+        })?;
+        add_part(&mut text, part)?;
+        rest = more;
+    }
+    let end = content_len(&text, kind);
+    text.truncate(end);
+    Ok(Content {
+        lent: &[],
+        built: text,
+        first: Segment {
+            offset: 0,
+            columns: 0,
+            place: 0,
+        },
+        later: segments,
+    })
+}
+
+// Adds the part.
+fn add_part(text: &mut Vec<u8>, part: LinePart) -> Result<(), AllocError>
+    ensures { OnOk result (text.new.items ≡ text.old.items ++ text_of (seen_part part.entry)) }
+{
+    add_spaces(text, part.columns)?;
+    text.extend_from_slice(part.bytes)
+}
+
+// Adds so many spaces.
+fn add_spaces(text: &mut Vec<u8>, count: usize) -> Result<(), AllocError>
+    ensures { OnOk result (text.new.items ≡ text.old.items ++ replicate count space) }
+{
+    let mut left = count;
+    while left > 0 {
+        text.push(b' ')?;
+        left -= 1;
+    }
+    Ok(())
+}
+
+// How much of what is joined is content of a block of this kind.
+fn content_len(text: &[u8], kind: BlockKind) -> usize
+    ensures length { result ≡ content_len kind text.now }
+    ensures within { result ≤ length text.now }
+{
+    match kind {
+        BlockKind::Indented | BlockKind::Fenced(..) | BlockKind::Html(_) => text.len(),
+        _ => words_len(text),
+    }
+}
+
+// How many bytes stand before the spaces, tabs and line endings at the end.
+fn words_len(text: &[u8]) -> usize
+    ensures length { result ≡ words_len text.now }
+    ensures within { result ≤ length text.now }
+{
+    let mut end = text.len();
+    while end > 0 && matches!(text[end - 1], b' ' | b'\t' | b'\n' | b'\r') {
+        end -= 1;
+    }
+    end
+}

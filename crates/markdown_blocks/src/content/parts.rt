@@ -1,0 +1,402 @@
+//! The parts of a leaf block's lines that are its content, one after the other.
+ghost use Rattle.std.specs.Prelude.{◌≡◌, ◌↔◌, ◌+◌, ◌-◌, ◌<◌, ◌≤◌, List, true, drop, length, take, IsTrue, None, Some};
+ghost use Rattle.markdown_scanners_tree.specs.scanners.TextLines.{lines_of};
+ghost use Rattle.markdown_blocks.specs.blocks.Leaves.{ClosesFence, In};
+ghost use Rattle.markdown_blocks.specs.containers.Containers.{begun_at};
+ghost use Rattle.markdown_blocks.specs.content.Parts.{AreInner, IsLeftOut, after_containers, after_indent, first_place, heading_part, later_place, part_at};
+ghost use Rattle.markdown_blocks.specs.content.Parts.{place_inside, text_place, without_closing, without_signs};
+ghost use Rattle.markdown_blocks.specs.content.Seen.{IsFirstIn, IsIn, seen_part};
+ghost use Rattle.markdown_blocks.specs.declared.containers.Container.{Container};
+
+use crate::blocks::{BlockKind, closes_fence};
+use crate::containers::{Container, Outer, go_on, pass, rest_behind, scan_container};
+use crate::info::{without_end, without_front};
+use crate::kinds::is_blank;
+use crate::taken::Taken;
+use markdown_scanners_tree::line::LineStart;
+use markdown_scanners_tree::scanners::{line_head, scan_ch_repeat};
+
+/// A part of a line: so many columns of a tab that is cut, and the bytes from this place on.
+#[derive(Clone, Copy)]
+pub(crate) struct LinePart<'a> {
+    pub(crate) columns: usize,
+    pub(crate) place: usize,
+    pub(crate) bytes: &'a [u8],
+}
+
+/// The parts that are not read yet: the first line's, if it is there, and those of later lines, as
+/// many as belong to the content.
+#[derive(Clone, Copy)]
+pub(crate) struct Parts<'a> {
+    pub(crate) lines: &'a [u8],
+    first: Option<LinePart<'a>>,
+    // What is read of the lines, and how many of them there are.
+    read: Taken,
+    count: usize,
+    cut: Cut<'a>,
+    ghost first_in: { IsFirstIn lines.now first },
+}
+
+// How later lines are cut: by the kind of their block, the columns that its fence is indented, and
+// the containers.
+#[derive(Clone, Copy)]
+struct Cut<'a> {
+    kind: BlockKind,
+    indent: usize,
+    outer: Outer<'a>,
+}
+
+impl<'a> Parts<'a> {
+    ghost use Rattle.std.specs.Prelude.{◌≡◌, [], ◌∷◌, IfSome, IfNone};
+    ghost use Rattle.markdown_scanners_tree.specs.scanners.TextLines.{lines_of};
+    ghost use Rattle.markdown_blocks.specs.content.Left.{parts_left};
+    ghost use Rattle.markdown_blocks.specs.content.Parts.{AreParts};
+    ghost use Rattle.markdown_blocks.specs.content.Seen.{IsIn, seen_part};
+
+    /// The parts of the content of these lines, which are a block of this kind in these containers.
+    pub(crate) fn of(
+        lines: &'a [u8],
+        kind: BlockKind,
+        containers: &'a [Container],
+        kept: usize,
+    ) -> Parts<'a>
+        ensures parts { AreParts kind containers.now kept (lines_of lines.now) (parts_left result) }
+        ensures lines { result.lines.now ≡ lines.now }
+    {
+        let outer = Outer::new(containers);
+        let Some((line, read)) = Taken::nothing().next(lines) else {
+            return Parts::none(lines, kind, outer);
+        };
+        let start = first_place(line, containers, kept);
+        match kind {
+            BlockKind::Blank | BlockKind::Break | BlockKind::Table(_) => {
+                return Parts::none(lines, kind, outer);
+            }
+            BlockKind::Heading(_) => {
+                return Parts {
+                    lines,
+                    first: Some(heading_part(line, start)),
+                    read,
+                    count: 0,
+                    cut: Cut {
+                        kind,
+                        indent: 0,
+                        outer,
+                    },
+                };
+            }
+            BlockKind::Fenced(..) => {
+                let (indent, _) = rest_behind(line, start);
+                return Parts {
+                    lines,
+                    first: None,
+                    read,
+                    count: count_inner(lines, read, kind, outer),
+                    cut: Cut {
+                        kind,
+                        indent,
+                        outer,
+                    },
+                };
+            }
+            _ => {}
+        }
+        Parts {
+            lines,
+            first: Some(text_part(line, start, kind, 0)),
+            read,
+            count: count_inner(lines, read, kind, outer),
+            cut: Cut {
+                kind,
+                indent: 0,
+                outer,
+            },
+        }
+    }
+
+    // No part.
+    fn none(lines: &'a [u8], kind: BlockKind, outer: Outer<'a>) -> Parts<'a>
+        ensures parts { parts_left result ≡ [] }
+        ensures lines { result.lines.now ≡ lines.now }
+    {
+        Parts {
+            lines,
+            first: None,
+            read: Taken::nothing(),
+            count: 0,
+            cut: Cut {
+                kind,
+                indent: 0,
+                outer,
+            },
+        }
+    }
+
+    /// The next part, and those after it.
+    pub(crate) fn next(self) -> Option<(LinePart<'a>, Parts<'a>)>
+        ensures some { IfSome result (λ r. parts_left self.entry ≡ seen_part r.0 ∷ parts_left r.1) }
+        ensures none { IfNone result (parts_left self.entry ≡ []) }
+        ensures inside { IfSome result (λ r. IsIn self.entry.lines.now (seen_part r.0)) }
+        ensures lines { IfSome result (λ r. r.1.lines.now ≡ self.entry.lines.now) }
+    {
+        let Parts {
+            lines,
+            first,
+            read,
+            count,
+            cut,
+        } = self;
+        match first {
+            Some(part) => {
+                return Some((
+                    part,
+                    Parts {
+                        lines,
+                        first: None,
+                        read,
+                        count,
+                        cut,
+                    },
+                ));
+            }
+            None => {}
+        }
+        if read.lines >= count {
+            return None;
+        }
+        let (line, more) = read.next(lines)?;
+        let part = text_part(
+            line,
+            later_place(line, cut.kind, cut.outer),
+            cut.kind,
+            cut.indent,
+        );
+        let part = LinePart {
+            place: read.bytes + part.place,
+            ..part
+        };
+        Some((
+            part,
+            Parts {
+                lines,
+                first,
+                read: more,
+                count,
+                cut,
+            },
+        ))
+    }
+}
+
+// How many of the lines are read and content: of those after the first all, or all but the last.
+fn count_inner(lines: &[u8], first: Taken, kind: BlockKind, outer: Outer) -> usize
+    ensures { AreInner kind outer.entry.containers.now (lines_of (drop first.bytes lines.now))
+        (take (result - first.lines) (lines_of (drop first.bytes lines.now))) }
+{
+    let mut read = first;
+    while let Some((line, more)) = read.next(lines) {
+        let is_last = more.bytes == lines.len();
+        if is_left_out(line, is_last, kind, outer) {
+            return read.lines;
+        }
+        read = more;
+    }
+    read.lines
+}
+
+// Whether the line is the last of its block, and no content.
+fn is_left_out(line: &[u8], is_last: bool, kind: BlockKind, outer: Outer) -> bool
+    ensures { IsTrue result ↔ (IsTrue is_last × IsLeftOut kind outer.entry.containers.now line.now) }
+{
+    if !is_last {
+        return false;
+    }
+    match kind {
+        BlockKind::Setext(_) => true,
+        BlockKind::Fenced(count, byte) => is_closing_fence(line, count, byte, outer),
+        _ => false,
+    }
+}
+
+// Whether the line closes fenced code in the containers.
+fn is_closing_fence(line: &[u8], count: usize, byte: u8, outer: Outer) -> bool
+    ensures { IsTrue result ↔ In outer.entry.containers.now (ClosesFence count byte) line.now }
+{
+    let (kept, start) = go_on(line, outer);
+    let (indent, text) = rest_behind(line, start);
+    kept == outer.containers.len() && closes_fence(indent, text, count, byte)
+}
+
+// The place in a block's first line after its containers.
+fn first_place<'a>(line: &'a [u8], containers: &[Container], kept: usize) -> LineStart<'a>
+    ensures place { result ≡ first_place kept containers.now line.now }
+    ensures bytes { result.bytes ≡ line.now }
+{
+    let (before, begun) = containers.split_at(kept.min(containers.len()));
+    let (_, mut start) = go_on(line, Outer::new(before));
+    let mut left = begun.len();
+    while left > 0 {
+        if !pass_marker(line, &mut start) {
+            return start;
+        }
+        left -= 1;
+    }
+    start
+}
+
+// Passes the marker of a container that begins at the place, if one does.
+fn pass_marker(line: &[u8], start: &mut LineStart) -> bool
+    requires { start.old.bytes ≡ line.now }
+    ensures passed { IsTrue result → (container : Container)
+        × (begun_at start.old ≡ Some (container, start.new)) }
+    ensures none { ¬ IsTrue result → (begun_at start.old ≡ None) }
+    ensures unchanged { ¬ IsTrue result → (start.new ≡ start.old) }
+    ensures bytes { start.new.bytes ≡ line.now }
+{
+    let Ok(before) = start.clone() else {
+        return false;
+    };
+    let indent = start.scan_space_upto(4);
+    let Some(_) = scan_container(line, start, indent) else {
+        *start = before;
+        return false;
+    };
+    true
+}
+
+// The place in a later line of a block after its containers.
+fn later_place<'a>(line: &'a [u8], kind: BlockKind, outer: Outer) -> LineStart<'a>
+    ensures place { result ≡ later_place kind outer.entry.containers.now line.now }
+    ensures bytes { result.bytes ≡ line.now }
+{
+    match kind {
+        BlockKind::Indented | BlockKind::Fenced(..) | BlockKind::Html(_) => {
+            place_inside(line, outer.containers)
+        }
+        _ => {
+            let (_, start) = go_on(line, outer);
+            start
+        }
+    }
+}
+
+// The place in a line of code or HTML after the containers that it goes on with. Of a blank line no
+// more containers are tried than it has space for.
+fn place_inside<'a>(line: &'a [u8], containers: &[Container]) -> LineStart<'a>
+    ensures place { result ≡ place_inside containers.now line.now }
+    ensures bytes { result.bytes ≡ line.now }
+{
+    let mut start = LineStart::new(line);
+    let mut blank = is_blank(line);
+    let mut rest = containers;
+    while let [container, inner @ ..] = rest {
+        let Some(more) = pass(line, &mut start, blank, *container) else {
+            return start;
+        };
+        let spent = pass_indent_left(&mut start, *container, blank);
+        if spent && more {
+            return start;
+        }
+        blank = more;
+        rest = inner;
+    }
+    start
+}
+
+// Passes as much of an item's indent as a blank line has. Answers whether nothing of it is left.
+fn pass_indent_left(start: &mut LineStart, container: Container, blank: bool) -> bool
+    ensures place { start.new ≡ after_indent container blank start.old }
+    ensures spent { IsTrue result → (inner : List Container)
+        → after_containers true inner start.new ≡ start.new }
+    ensures bytes { start.new.bytes ≡ start.old.bytes }
+{
+    match container {
+        Container::Item(item) if blank => {
+            start.scan_space_upto(item.width as usize);
+            start.remaining_space() == 0 && start.is_at_eol()
+        }
+        _ => false,
+    }
+}
+
+// What a line has for the content, from this place after its containers on.
+fn text_part<'a>(
+    line: &'a [u8],
+    mut start: LineStart,
+    kind: BlockKind,
+    indent: usize,
+) -> LinePart<'a>
+    requires { start.bytes ≡ line.now }
+    ensures part { seen_part result ≡ part_at (text_place kind indent start.entry) }
+    ensures inside { result.place ≤ length line.now }
+    ensures bytes { result.bytes.now ≡ drop result.place line.now }
+{
+    pass_space(&mut start, kind, indent);
+    let place = start.bytes_scanned();
+    LinePart {
+        columns: start.remaining_space(),
+        place,
+        bytes: &line[place..],
+    }
+}
+
+// Passes the space before the content of a line.
+fn pass_space(start: &mut LineStart, kind: BlockKind, indent: usize)
+    ensures place { start.new ≡ text_place kind indent start.old }
+    ensures bytes { start.new.bytes ≡ start.old.bytes }
+{
+    match kind {
+        BlockKind::Indented => {
+            start.scan_space_upto(4);
+        }
+        BlockKind::Fenced(..) => {
+            start.scan_space_upto(indent);
+        }
+        BlockKind::Html(_) => {}
+        _ => {
+            start.scan_space_upto(4);
+            start.scan_all_space();
+        }
+    }
+}
+
+// The text of an ATX heading.
+fn heading_part<'a>(line: &'a [u8], mut start: LineStart) -> LinePart<'a>
+    requires { start.bytes ≡ line.now }
+    ensures part { seen_part result ≡ heading_part start.entry }
+    ensures inside { IsIn line.now (seen_part result) }
+{
+    start.scan_space_upto(4);
+    start.scan_all_space();
+    let text = &line[start.bytes_scanned()..];
+    let (_, marked) = text.split_at(scan_ch_repeat(text, b'#'));
+    let after = without_front(marked);
+    LinePart {
+        columns: 0,
+        place: line.len() - after.len(),
+        bytes: without_closing(without_end(line_head(after))),
+    }
+}
+
+// Without a closing sequence of number signs.
+fn without_closing(text: &[u8]) -> &[u8]
+    ensures { result.now ≡ without_closing text.now }
+{
+    let front = without_signs(text);
+    let inner = without_end(front);
+    if front.is_empty() || inner.len() < front.len() {
+        return inner;
+    }
+    text
+}
+
+// Without the number signs at its end.
+fn without_signs(text: &[u8]) -> &[u8]
+    ensures { result.now ≡ without_signs text.now }
+{
+    let mut end = text.len();
+    while end > 0 && text[end - 1] == b'#' {
+        end -= 1;
+    }
+    &text[..end]
+}
