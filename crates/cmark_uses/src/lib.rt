@@ -2,7 +2,9 @@
 #![tactic(auto)]
 
 pub mod blocks;
+pub mod contents;
 pub mod definitions;
+pub mod events;
 pub mod headings;
 pub mod html;
 pub mod labels;

@@ -3,16 +3,15 @@ ghost use Rattle.std.specs.Prelude.{◌≡◌, List, count_by, IfOk};
 ghost use Rattle.markdown_blocks.specs.declared.lists.ListBlock.{ListBlock};
 ghost use Rattle.markdown_blocks.specs.lists.Lists.{AreListsOf};
 
-use markdown_blocks::events::Blocks;
 use markdown_blocks::lists::{ListBlock, Lists, lists_of_page};
+use markdown_blocks::page_events::page_events;
 use std::alloc::{AllocError, Global};
 
 /// The first list of a page that ends, read no further than its end shows.
 pub fn first_list(alloc: Global, page: &[u8]) -> Result<Option<ListBlock>, AllocError> {
-    let mut blocks = Blocks::new(alloc, page);
     let mut lists = Lists::new(alloc);
-    while let Some(event) = blocks.next(alloc)? {
-        let ended = lists.read(event)?;
+    for event in page_events(alloc, page) {
+        let ended = lists.read(event?)?;
         if ended.is_some() {
             return Ok(ended);
         }

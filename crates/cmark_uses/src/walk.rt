@@ -1,11 +1,12 @@
 //! A page walked block by block.
 ghost use Rattle.std.specs.Prelude.{◌≡◌, ◌<◌, IfOk, IfSome};
-ghost use Rattle.markdown_blocks.specs.events.Events.{events_left};
+ghost use Rattle.markdown_blocks.specs.events.Given.{events_left};
 ghost use Rattle.markdown_blocks.specs.declared.blocks.BlockKind.TheVariants.{Paragraph};
 
 use markdown_blocks::blocks::BlockKind;
 use markdown_blocks::events::{BlockEvent, Blocks, Leaf};
 use markdown_blocks::info::info_of;
+use markdown_blocks::page_events::page_events;
 use std::alloc::{AllocError, Global};
 
 /// The next paragraph of a page that is walked, or None where it has no further one.
@@ -39,9 +40,8 @@ pub fn paragraph_heads<'a>(alloc: Global, page: &'a [u8]) -> Result<Vec<&'a [u8]
 
 /// Whether a page has fenced code with this info string.
 pub fn has_code(alloc: Global, page: &[u8], info: &[u8]) -> Result<bool, AllocError> {
-    let mut blocks = Blocks::new(alloc, page);
-    while let Some(event) = blocks.next(alloc)? {
-        if is_code(event, info) {
+    for event in page_events(alloc, page) {
+        if is_code(event?, info) {
             return Ok(true);
         }
     }

@@ -1,5 +1,6 @@
 pub mod blocks
 pub mod containers
+pub mod content
 pub mod definitions
 pub mod events
 pub mod info

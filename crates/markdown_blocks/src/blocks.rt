@@ -45,6 +45,9 @@ pub enum BlockKind {
     Html(HtmlBlockKind),
     /// A table with so many columns.
     Table(usize),
+    /// A link reference definition. By its lines alone a block is none: events part it from the
+    /// paragraph that begins with it.
+    Definition,
     /// A paragraph.
     Paragraph,
 }
@@ -398,8 +401,8 @@ fn underline_in(line: &[u8], outer: Outer) -> Option<Underline>
     })
 }
 
-// Whether it closes fenced code.
-fn closes_fence(indent: usize, text: &[u8], count: usize, byte: u8) -> bool
+/// Whether it closes fenced code.
+pub(crate) fn closes_fence(indent: usize, text: &[u8], count: usize, byte: u8) -> bool
     ensures { IsTrue result
         ↔ ClosesFence count byte (record { indent = indent; text = text.now }) }
 {

@@ -92,9 +92,14 @@ pub(crate) fn go_on<'a>(line: &'a [u8], outer: Outer) -> (usize, LineStart<'a>)
     (kept, start)
 }
 
-// Passes what the line has of the container, if it goes on with it. Answers whether what is left is
-// blank, as it was before or not.
-fn pass(line: &[u8], start: &mut LineStart, blank: bool, container: Container) -> Option<bool>
+/// Passes what the line has of the container, if it goes on with it. Answers whether what is left is
+/// blank, as it was before or not.
+pub(crate) fn pass(
+    line: &[u8],
+    start: &mut LineStart,
+    blank: bool,
+    container: Container,
+) -> Option<bool>
     requires { start.old.bytes ≡ line.now }
     ensures passed { IfSome result (λ more.
         within container blank start.old ≡ Some (more, start.new)) }

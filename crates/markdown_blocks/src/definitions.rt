@@ -7,6 +7,7 @@ ghost use Rattle.markdown_blocks.specs.definitions.Content.{content_in, content_
 ghost use Rattle.markdown_blocks.specs.definitions.Definitions.{AreDefinitions, HasText, IsDefinition};
 ghost use Rattle.markdown_blocks.specs.info.Info.{without_front};
 ghost use Rattle.markdown_blocks.specs.taken.Lines.{IsTaken};
+ghost use Rattle.markdown_blocks.specs.walk.Walk.{IsGathered};
 
 use crate::blocks::{Block, BlockKind};
 use crate::containers::{Container, Outer, go_on, rest_behind};
@@ -91,7 +92,9 @@ pub(crate) fn has_text(
 
 // Whether the text of a paragraph's first line shows that it begins with no definition.
 fn begins_with_text(words: &[u8]) -> bool
-    ensures { IsTrue result → (more : List ℕ) → HasText (without_front words.now ++ more) }
+    ensures text { IsTrue result → (more : List ℕ) → HasText (without_front words.now ++ more) }
+    ensures none { IsTrue result → (more : List ℕ) (definition : ReferenceDefinition)
+        → ¬ IsDefinition (without_front words.now ++ more) definition }
 {
     match without_front(words) {
         [] | [b'[', ..] => false,
@@ -99,9 +102,29 @@ fn begins_with_text(words: &[u8]) -> bool
     }
 }
 
-/// Adds the content of a block at the front of these lines: a paragraph's or a setext heading's, and
-/// nothing of other blocks. `text` is what its first line has, as `Step` has it, and `containers` are
-/// those that it stands in.
+/// Makes the content that of the block at the front of these lines, where it may begin with a
+/// definition, and else empty.
+pub(crate) fn gather_content(
+    content: &mut Vec<u8>,
+    lines: &[u8],
+    block: Block,
+    containers: &[Container],
+    text: &[u8],
+) -> Result<(), AllocError>
+    ensures { OnOk result ((line : List ℕ) (later : List (List ℕ))
+        → IsTaken lines.now block.taken (line ∷ later)
+        → IsGathered (content_in block.kind containers.now text.now later) content.new.items) }
+{
+    content.clear();
+    if begins_with_text(text) {
+        return Ok(());
+    }
+    add_content(content, lines, block, containers, text)
+}
+
+/// Adds the content of a block at the front of these lines: a paragraph's, a definition's or a setext
+/// heading's, and nothing of other blocks. `text` is what its first line has, as `Step` has it, and
+/// `containers` are those that it stands in.
 pub fn add_content(
     content: &mut Vec<u8>,
     lines: &[u8],
@@ -115,7 +138,7 @@ pub fn add_content(
         ≡ content.old.items ++ content_in block.kind containers.now text.now later) }
 {
     let count = match block.kind {
-        BlockKind::Paragraph => block.taken.lines,
+        BlockKind::Paragraph | BlockKind::Definition => block.taken.lines,
         BlockKind::Setext(_) => block.taken.lines.saturating_sub(1),
         _ => return Ok(()),
     };

@@ -1,10 +1,13 @@
 //! The blocks of a page as events: containers that begin and end, and the leaf blocks in them.
-ghost use Rattle.std.specs.Prelude.{◌≡◌, ◌⊎◌, ◌<◌, ◌≤◌, [], ◌∷◌, List, length, drop, None, IfOk, IfErr, IfSome, IfNone, OnOk};
+ghost use Rattle.std.specs.Prelude.{◌≡◌, ◌⊎◌, ◌<◌, ◌≤◌, [], ◌∷◌, List, length, take, drop, None, IfOk, IfErr, IfSome, IfNone, OnOk};
 ghost use Rattle.std.specs.Option.{option_map};
-ghost use Rattle.markdown_blocks.specs.events.Events.{Event, Left, Gives, IsEventsOf, events_left, seen_event, seen_leaf};
+ghost use Rattle.markdown_blocks.specs.events.Events.{Event, IsEventsOf, seen_event};
+ghost use Rattle.markdown_blocks.specs.events.Given.{Left, Gives, begun_of, block_events_left, events_left};
 
+pub use crate::block_events::BlockEvents;
 use crate::containers::Container;
 pub use crate::leaf::Leaf;
+use crate::taken::Taken;
 use crate::walk::Walk;
 use std::alloc::{AllocError, Global};
 use std::marker::Model;
@@ -12,8 +15,9 @@ use std::marker::Model;
 /// What a page has next.
 #[derive(Clone, Copy)]
 pub enum BlockEvent<'a> {
-    /// A container begins, in the first line of the next leaf block.
-    Start(Container),
+    /// A container begins, in the first line of the next leaf block. So many bytes of the page stand
+    /// before its marker.
+    Start(Container, usize),
     /// A leaf block, in the containers that have begun and not ended.
     Block(Leaf<'a>),
     /// The innermost of the containers that have begun ends.
@@ -24,33 +28,32 @@ pub enum BlockEvent<'a> {
 #[derive(Drop)]
 pub struct Blocks<'a> {
     page: &'a [u8],
-    // The bytes and the lines before the next block.
-    place: usize,
-    line: usize,
+    // What stands before the next block.
+    before: Taken,
     walk: Walk,
-    // How many containers have begun and not ended, and how many of them the next leaf is in.
+    // How many containers have begun and not ended, where no block is read.
     begun: usize,
-    kept: usize,
-    next: Option<Leaf<'a>>,
+    // The block that is read, and its content, where that may begin with a definition.
+    block: Option<BlockEvents<'a>>,
+    content: Vec<u8>,
 }
 
 impl<'a> Model for Blocks<'a> {
     ghost Value = { Left };
 
     ghost view = { λ b. record {
-      text = drop b.place b.page.now;
+      text = drop b.before.bytes b.page.now;
       containers = b.walk;
       begun = b.begun;
-      kept = b.kept;
-      line = b.line;
-      start = b.place;
-      next = option_map seen_leaf b.next;
+      line = b.before.lines;
+      start = b.before.bytes;
+      next = option_map (λ block. record { block = block; content = b.content.items }) b.block;
     } };
 
     ghost invariant = { λ b.
-        (b.place ≤ length b.page.now) × (b.line ≤ b.place)
-        × (b.next ≡ None → (b.begun ≡ length b.walk) ⊎ (drop b.place b.page.now ≡ []))
-        × (¬ (b.next ≡ None) → (b.kept ≤ b.begun) × (b.kept ≤ length b.walk)) };
+        (b.before.bytes ≤ length b.page.now)
+        × (b.block ≡ None → (b.begun ≡ length b.walk) ⊎ (drop b.before.bytes b.page.now ≡ []))
+        × IfSome b.block (λ block. 0 < block_events_left b.walk block) };
 }
 
 impl<'a> Blocks<'a> {
@@ -60,13 +63,26 @@ impl<'a> Blocks<'a> {
     {
         Blocks {
             page,
-            place: 0,
-            line: 0,
+            before: Taken::nothing(),
             walk: Walk::new(alloc),
             begun: 0,
-            kept: 0,
-            next: None,
+            block: None,
+            content: Vec::new(alloc),
         }
+    }
+
+    /// The containers that have begun and that the next leaf block stands in, outermost first; after
+    /// the last leaf block, those that have not ended. At the event of a leaf block they are those
+    /// that it stands in, as `add_content` wants them.
+    pub fn containers(&self) -> &[Container]
+        ensures { result.now ≡ take (begun_of self.now.begun self.now.next) self.now.containers }
+    {
+        let count = match &self.block {
+            Some(block) => block.begun(),
+            None => self.begun,
+        };
+        let containers = self.walk.containers();
+        &containers[..count.min(containers.len())]
     }
 
     /// The next event of the page, or None after the last.
@@ -81,7 +97,7 @@ impl<'a> Blocks<'a> {
         ensures none { IfOk result (λ found. IfNone found (Gives self.old [])) }
         ensures refused { IfErr result (λ _. self.new ≡ self.old) }
     {
-        if self.next.is_none() {
+        if self.block.is_none() {
             self.read_block(alloc)?;
         }
         Ok(self.take_event())
@@ -93,49 +109,45 @@ impl<'a> Blocks<'a> {
         ensures same { OnOk result ((events : List Event)
             → Gives self.new events → Gives self.old events) }
         ensures no_more { OnOk result (events_left self.new ≤ events_left self.old) }
-        ensures ended { OnOk result (self.new.next ≡ None
-            → (self.new.text ≡ []) × (self.new.kept ≡ 0)) }
+        ensures ended { OnOk result (self.new.next ≡ None → self.new.text ≡ []) }
         ensures refused { IfErr result (λ _. self.new ≡ self.old) }
     {
-        let Some(step) = self.walk.next_block(alloc, &self.page[self.place..], true)? else {
-            self.kept = 0;
+        let lines = &self.page[self.before.bytes..];
+        let next = self.walk.next_block(alloc, &mut self.content, lines, true)?;
+        let Some(step) = next else {
             return Ok(());
         };
-        self.kept = step.kept;
-        self.next = Some(Leaf {
-            kind: step.block.kind,
-            line: self.line,
-            lines: step.block.taken.lines,
-            start: self.place,
-            bytes: step.block.taken.bytes,
-            indent: step.indent,
-            text: step.text,
-        });
-        self.line += step.block.taken.lines;
-        self.place += step.block.taken.bytes;
+        let before = self.before;
+        self.before = Taken {
+            bytes: before.bytes + step.block.taken.bytes,
+            lines: before.lines + step.block.taken.lines,
+        };
+        self.block = Some(BlockEvents::new(step, before, self.begun));
         Ok(())
     }
 
     // The next event of the block that is read, or of what is open at the end of the page.
     fn take_event(&mut self) -> Option<BlockEvent<'a>>
-        requires { self.old.next ≡ None → (self.old.text ≡ []) × (self.old.kept ≡ 0) }
+        requires { self.old.next ≡ None → self.old.text ≡ [] }
         ensures event { IfSome result (λ event. (events : List Event)
             → Gives self.new events → Gives self.old (seen_event event ∷ events)) }
         ensures fewer { IfSome result (λ _. events_left self.new < events_left self.old) }
         ensures none { IfNone result (Gives self.old []) }
     {
-        if self.begun > self.kept {
+        let containers = self.walk.containers();
+        let Some(mut block) = self.block.take() else {
+            if self.begun == 0 {
+                return None;
+            }
             self.begun -= 1;
             return Some(BlockEvent::End);
+        };
+        let event = block.next(containers, &self.content);
+        if block.is_done(containers) {
+            self.begun = containers.len();
+        } else {
+            self.block = Some(block);
         }
-        let leaf = self.next?;
-        if self.begun < self.walk.containers().len() {
-            let container = self.walk.containers()[self.begun];
-            self.begun += 1;
-            self.kept = self.begun;
-            return Some(BlockEvent::Start(container));
-        }
-        self.next = None;
-        Some(BlockEvent::Block(leaf))
+        event
     }
 }

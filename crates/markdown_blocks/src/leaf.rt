@@ -1,7 +1,8 @@
-//! A leaf block, as the events of a page tell it.
-ghost use Rattle.std.specs.Prelude.{◌+◌, ◌^◌, ◌<◌};
+//! A leaf block, as the events of a page have it.
+ghost use Rattle.std.specs.Prelude.{◌+◌, ◌^◌, ◌<◌, ◌≤◌};
 
-use crate::blocks::BlockKind;
+use crate::blocks::{Block, BlockKind};
+use crate::taken::Taken;
 
 /// A leaf block of a page.
 #[derive(Clone, Copy)]
@@ -16,9 +17,33 @@ pub struct Leaf<'a> {
     pub start: usize,
     /// How many bytes its lines have.
     pub bytes: usize,
-    /// How many columns of space its first line has behind its containers, at most four.
+    /// How many columns of space its first line has after its containers, at most four.
     pub indent: usize,
-    /// The text behind that space, with its line ending.
+    /// The text after that space, with its line ending.
     pub text: &'a [u8],
+    /// How many bytes of the page stand before that text.
+    pub place: usize,
+    ghost before: { line ≤ start },
+    ghost ends: { start + bytes < 2 ^ 64 },
     ghost fits: { line + lines < 2 ^ 64 },
+    ghost few: { lines ≤ bytes },
+}
+
+impl<'a> Leaf<'a> {
+    ghost use Rattle.std.specs.Prelude.{◌≡◌};
+
+    /// The leaf block without its place, as `add_content` wants it.
+    pub fn block(&self) -> Block
+        ensures kind { result.kind ≡ self.now.kind }
+        ensures bytes { result.taken.bytes ≡ self.now.bytes }
+        ensures lines { result.taken.lines ≡ self.now.lines }
+    {
+        Block {
+            kind: self.kind,
+            taken: Taken {
+                bytes: self.bytes,
+                lines: self.lines,
+            },
+        }
+    }
 }

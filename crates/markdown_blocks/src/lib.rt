@@ -2,14 +2,18 @@
 //! Markdown 0.29.
 #![tactic(auto)]
 
+mod block_events;
 pub mod blocks;
 pub mod containers;
+pub mod content;
 pub mod definitions;
 pub mod events;
 pub mod info;
 mod kinds;
 mod leaf;
 pub mod lists;
+pub mod page_events;
+mod step;
 mod tables;
 pub mod taken;
 pub mod walk;

@@ -1,10 +1,11 @@
 //! The lists of a page: which items are in one, where it begins and ends, and whether it is loose.
 //! (CommonMark 0.31.2, section 5.3)
-ghost use Rattle.std.specs.Prelude.{◌≡◌, ◌++◌, ◌∷◌, [], List, reverse, IfOk, IfErr, OnOk};
+ghost use Rattle.std.specs.Prelude.{◌≡◌, ◌++◌, ◌∷◌, [], List, length, reverse, IfOk, IfErr, OnOk};
 ghost use Rattle.std.specs.Option.{option_to_list};
-ghost use Rattle.markdown_blocks.specs.events.Events.{Event, seen_event, seen_leaf, starts, leaf, ends};
+ghost use Rattle.markdown_blocks.specs.events.Events.{Event, seen_event, seen_leaf, leaf, ends};
 ghost use Rattle.markdown_blocks.specs.lists.Lists.{AreListsOf, Nodes, flatten, lists_of};
-ghost use Rattle.markdown_blocks.specs.lists.Tracked.{Tracked, read, closed, lists_behind, joins, loosened, list_begun, begun, level_within};
+ghost use Rattle.markdown_blocks.specs.lists.Tracked.{Tracked, at_start, read, start_read, closed, lists_behind, joins, loosened, list_begun, begun};
+ghost use Rattle.markdown_blocks.specs.lists.Tracked.{level_within};
 
 use crate::blocks::BlockKind;
 use crate::containers::Container;
@@ -81,6 +82,7 @@ impl Lists {
     /// Before the first event of a page.
     pub fn new(alloc: Global) -> Lists
         ensures lists { (nodes : Nodes) → lists_behind result (flatten nodes) ≡ lists_of nodes }
+        ensures start { result ≡ at_start }
     {
         Lists {
             line: 0,
@@ -104,10 +106,14 @@ impl Lists {
         ensures ended { IfOk result (λ ended. (events : List Event)
             → lists_behind self.old (seen_event event.entry ∷ events)
             ≡ option_to_list ended ++ lists_behind self.new events) }
+        ensures list { IfOk result (λ ended.
+            ended ≡ (read self.old (seen_event event.entry)).list) }
+        ensures state { OnOk result (self.new
+            ≡ (read self.old (seen_event event.entry)).state) }
         ensures refused { IfErr result (λ _. self.new ≡ self.old) }
     {
         match event {
-            BlockEvent::Start(container) => self.start(container),
+            BlockEvent::Start(container, _) => self.start(container),
             BlockEvent::Block(leaf) => Ok(self.leaf(leaf)),
             BlockEvent::End => Ok(self.end()),
         }
@@ -115,9 +121,17 @@ impl Lists {
 
     /// The list that the last event of the page has left open, if any, which the end of the page ends.
     pub fn finish(&self) -> Option<ListBlock>
-        ensures { lists_behind self.now [] ≡ option_to_list result }
+        ensures lists { lists_behind self.now [] ≡ option_to_list result }
+        ensures list { result ≡ closed self.now }
     {
         self.current()
+    }
+
+    /// How many containers have begun and not ended.
+    pub fn depth(&self) -> usize
+        ensures { result ≡ length self.now.outer }
+    {
+        self.outer.len()
     }
 
     // The list of the innermost container's last block, as it is where no item follows.
@@ -137,8 +151,8 @@ impl Lists {
 
     // A container begins.
     fn start(&mut self, container: Container) -> Result<Option<ListBlock>, AllocError>
-        ensures list { IfOk result (λ list. list ≡ (read self.old (starts container)).list) }
-        ensures state { IfOk result (λ _. self.new ≡ (read self.old (starts container)).state) }
+        ensures list { IfOk result (λ list. list ≡ (start_read container self.old).list) }
+        ensures state { IfOk result (λ _. self.new ≡ (start_read container self.old).state) }
         ensures refused { IfErr result (λ _. self.new ≡ self.old) }
     {
         let goes_on = joins(self.level.list, container);

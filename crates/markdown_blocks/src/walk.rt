@@ -1,13 +1,17 @@
 //! A page cut into blocks, from the first to the last.
 ghost use Rattle.std.specs.Prelude.{◌≡◌, ◌<◌, ◌≤◌, ◌+◌, [], List, ℕ, length, take, drop, IsTrue, IfOk, IfErr, IfSome, IfNone, OnOk};
 ghost use Rattle.markdown_blocks.specs.blocks.Pages.{NoneIsOver};
-ghost use Rattle.markdown_blocks.specs.containers.Containers.{settled, settled_last};
+ghost use Rattle.markdown_blocks.specs.containers.Containers.{behind, settled, settled_last};
 ghost use Rattle.markdown_blocks.specs.declared.containers.Container.{Container};
-ghost use Rattle.markdown_blocks.specs.walk.Walk.{IsOpening, IsStep};
+ghost use Rattle.markdown_scanners_tree.specs.line.State.{LineState};
+ghost use Rattle.markdown_blocks.specs.walk.Walk.{IsOpening, IsStep, IsContentOf};
 
-use crate::blocks::{Block, is_over, scan_block};
+use crate::blocks::{is_over, scan_block};
 use crate::containers::{Container, ListItem, Outer, go_on, scan_container};
+use crate::definitions::gather_content;
+pub use crate::step::Step;
 use crate::taken::Taken;
+use markdown_scanners_tree::line::LineStart;
 use std::alloc::{AllocError, Global};
 use std::marker::Model;
 use std::mem::swap;
@@ -26,18 +30,14 @@ impl Model for Walk {
     ghost view = { λ walk. walk.open.items };
 }
 
-/// A block at the front of some lines, and what its first line has before it.
-#[derive(Clone, Copy)]
-pub struct Step<'a> {
-    /// How many of the containers that were open the first line goes on with. The walk has the
-    /// others, which it begins, behind them.
-    pub kept: usize,
-    /// How many columns of space stand after the containers, at most four.
-    pub indent: usize,
-    /// The text behind that space, with its line ending.
-    pub text: &'a [u8],
-    /// The block.
-    pub block: Block,
+// What a line has after its containers: how many of those that were open it goes on with, its place
+// after these, and the space and the text after all of them.
+#[derive(Drop)]
+struct Opened<'a> {
+    kept: usize,
+    start: LineStart<'a>,
+    indent: usize,
+    text: &'a [u8],
 }
 
 impl Walk {
@@ -61,18 +61,24 @@ impl Walk {
     /// The block at the front of the lines, if there is one that no line behind them changes: where
     /// the input has ended none stands behind them. Its containers are open then.
     ///
+    /// `content` gets the content of the block, as `add_content` has it, where that may begin with a
+    /// link reference definition, and else nothing.
+    ///
     /// Memory is asked for where more containers are open than ever before, by a table's delimiter
-    /// row, and by the underline of a paragraph that begins with a bracket: for its content, which
-    /// may be link reference definitions alone. After a refusal the walk is as it was, and may go on.
+    /// row, and for the content of a paragraph that begins with a bracket. After a refusal the walk is
+    /// as it was, and may go on; what `content` holds then is not said.
     pub fn next_block<'a>(
         &mut self,
         alloc: Global,
+        content: &mut Vec<u8>,
         lines: &'a [u8],
         has_ended: bool,
     ) -> Result<Option<Step<'a>>, AllocError>
         ensures step { IfOk result (λ found. IfSome found (λ step.
             (more : List (List ℕ)) → (IsTrue has_ended → more ≡ [])
             → IsStep self.old lines.now more step self.new)) }
+        ensures content { IfOk result (λ found. IfSome found (λ step.
+            IsContentOf step self.new content.new.items)) }
         ensures some { IfOk result (λ found. IfSome found (λ step. 0 < step.block.taken.bytes)) }
         ensures within { IfOk result (λ found. IfSome found (λ step.
             step.block.taken.bytes ≤ length lines.now)) }
@@ -89,33 +95,36 @@ impl Walk {
         };
         self.closed.clear();
         self.closed.extend_from_slice(&self.open)?;
-        let (kept, indent, text) = open_containers(&mut self.closed, line)?;
+        let opened = open_containers(&mut self.closed, line)?;
         let outer = Outer::new(&self.closed);
-        let block = scan_block(alloc, lines, first, outer, indent, text)?;
+        let block = scan_block(alloc, lines, first, outer, opened.indent, opened.text)?;
         if !is_over(lines, block, outer, has_ended) {
             return Ok(None);
         }
+        gather_content(content, lines, block, &self.closed, opened.text)?;
         swap(&mut self.open, &mut self.closed);
         Ok(Some(Step {
-            kept,
-            indent,
-            text,
+            kept: opened.kept,
+            line,
+            start: opened.start,
+            indent: opened.indent,
+            text: opened.text,
             block,
+            lines: &lines[..block.taken.bytes],
         }))
     }
 }
 
-// Closes the containers that the line does not go on with, and opens those that it begins. Answers
-// how many it goes on with, and what it has behind all of them.
-fn open_containers<'a>(
-    outer: &mut Vec<Container>,
-    line: &'a [u8],
-) -> Result<(usize, usize, &'a [u8]), AllocError>
-    ensures opening { IfOk result (λ r. IsOpening outer.old.items line.now outer.new.items r.0
-        (record { indent = r.1; text = r.2.now })) }
-    ensures few { IfOk result (λ r. length outer.new.items ≤ r.0 + length line.now) }
+// Closes the containers that the line does not go on with, and opens those that it begins.
+fn open_containers<'a>(outer: &mut Vec<Container>, line: &'a [u8]) -> Result<Opened<'a>, AllocError>
+    ensures opening { IfOk result (λ o. IsOpening outer.old.items line.now outer.new.items o.kept
+        (record { indent = o.indent; text = o.text.now })) }
+    ensures place { IfOk result (λ o. o.start ≡ (behind outer.old.items line.now).state) }
+    ensures bytes { IfOk result (λ o. o.start.bytes ≡ line.now) }
+    ensures few { IfOk result (λ o. length outer.new.items ≤ o.kept + length line.now) }
 {
     let (kept, mut start) = go_on(line, Outer::new(outer));
+    let before = start.clone()?;
     keep(outer, kept)?;
     let count = outer.len();
     let mut indent = start.scan_space_upto(4);
@@ -123,7 +132,12 @@ fn open_containers<'a>(
         outer.push(container)?;
         indent = start.scan_space_upto(4);
     }
-    Ok((count, indent, &line[start.bytes_scanned()..]))
+    Ok(Opened {
+        kept: count,
+        start: before,
+        indent,
+        text: &line[start.bytes_scanned()..],
+    })
 }
 
 // Closes all but the first of the containers; an item that is the last of them has a second line.

@@ -6,7 +6,7 @@ use Rattle.markdown_scanners_tree.specs.declared.scanners.html_kinds.HtmlBlockKi
 use Rattle.markdown_scanners_tree.specs.scanners.TextLines.{lines_of}
 use Rattle.markdown_blocks.specs.containers.Containers.{Rest}
 use Rattle.markdown_blocks.specs.declared.blocks.BlockKind.{BlockKind}
-use Rattle.markdown_blocks.specs.declared.blocks.BlockKind.TheVariants.{Blank, Break, Heading, Indented, Fenced, Html, Setext, Table, Paragraph}
+use Rattle.markdown_blocks.specs.declared.blocks.BlockKind.TheVariants.{Blank, Break, Heading, Indented, Fenced, Html, Setext, Table, Definition, Paragraph}
 use Rattle.markdown_blocks.specs.declared.containers.Container.{Container}
 use Rattle.markdown_blocks.specs.declared.taken.Taken.{Taken}
 use Rattle.markdown_blocks.specs.taken.Lines.{IsTaken, IsNext}
@@ -34,6 +34,7 @@ module _ (text : List ℕ) (outer : List Container) (line : List ℕ) (rest : Re
   one_line Paragraph begins blank indented fenced html paragraph = absurd (paragraph refl)
   one_line (Setext level) begins blank indented fenced html paragraph = absurd begins.2
   one_line (Table columns) begins blank indented fenced html paragraph = absurd begins.2
+  one_line Definition begins blank indented fenced html paragraph = absurd begins.2
   one_line Break begins blank indented fenced html paragraph = record { later = []; taken = h; leaf = (begins, refl) }
   one_line (Heading level) begins blank indented fenced html paragraph = record { later = []; taken = h; leaf = (begins, refl) }
 

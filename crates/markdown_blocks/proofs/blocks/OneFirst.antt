@@ -16,7 +16,7 @@ use Rattle.markdown_scanners_tree.specs.scanners.html_kinds.HtmlKinds.{IsHtmlBlo
 use Rattle.markdown_scanners_tree.proofs.ForCallers.{is_thematic_break-found, none_unopened, one_atx_heading, one_code_fence, one_html_block_start}
 use Rattle.markdown_blocks.specs.containers.Containers.{Rest}
 use Rattle.markdown_blocks.specs.declared.blocks.BlockKind.{BlockKind}
-use Rattle.markdown_blocks.specs.declared.blocks.BlockKind.TheVariants.{Blank, Break, Heading, Setext, Indented, Fenced, Html, Table, Paragraph}
+use Rattle.markdown_blocks.specs.declared.blocks.BlockKind.TheVariants.{Blank, Break, Heading, Setext, Indented, Fenced, Html, Table, Definition, Paragraph}
 use Rattle.markdown_blocks.specs.blocks.Leaves.{IsBlank, HasIndent, Begins, BeginsAt}
 
 both_true : (a b : Bool) → (a && b) ≡ true → (a ≡ true) × (b ≡ true)
@@ -115,10 +115,12 @@ one_at Blank other text h h' = absurd h
 one_at Indented other text h h' = absurd h
 one_at (Setext level) other text h h' = absurd h
 one_at (Table columns) other text h h' = absurd h
+one_at Definition other text h h' = absurd h
 one_at kind Blank text h h' = absurd h'
 one_at kind Indented text h h' = absurd h'
 one_at kind (Setext level) text h h' = absurd h'
 one_at kind (Table columns) text h h' = absurd h'
+one_at kind Definition text h h' = absurd h'
 one_at Break Break text h h' = refl
 one_at Break (Heading level) text h h' = differ (first_byte text) 1 2 (break_family text h) (heading_family text level h') (λ e. cc)
 one_at Break (Fenced n byte) text h h' = differ (first_byte text) 1 3 (break_family text h) (fence_family text n byte h') (λ e. cc)
@@ -161,6 +163,7 @@ seen (Setext level) rest h = inr (inr h)
 seen (Fenced n byte) rest h = inr (inr h)
 seen (Html html) rest h = inr (inr h)
 seen (Table columns) rest h = inr (inr h)
+seen Definition rest h = inr (inr h)
 seen Paragraph rest h = inr (inr h)
 
 -- the rest of a line begins a block of one kind

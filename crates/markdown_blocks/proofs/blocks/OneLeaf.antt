@@ -6,7 +6,7 @@ use Rattle.markdown_scanners_tree.specs.declared.scanners.html_kinds.HtmlBlockKi
 use Rattle.markdown_scanners_tree.specs.scanners.html_kinds.HtmlKinds.{ends_before_blank}
 use Rattle.markdown_blocks.specs.containers.Containers.{Rest, IsInside}
 use Rattle.markdown_blocks.specs.declared.blocks.BlockKind.{BlockKind}
-use Rattle.markdown_blocks.specs.declared.blocks.BlockKind.TheVariants.{Blank, Break, Heading, Setext, Indented, Fenced, Html, Table, Paragraph}
+use Rattle.markdown_blocks.specs.declared.blocks.BlockKind.TheVariants.{Blank, Break, Heading, Setext, Indented, Fenced, Html, Table, Definition, Paragraph}
 use Rattle.markdown_blocks.specs.declared.containers.Container.{Container}
 use Rattle.markdown_blocks.specs.blocks.Leaves.{Begins, EndsIndented, NoMoreIndented, LastHasText, GoesOnIndented}
 use Rattle.markdown_blocks.specs.blocks.Leaves.{NoneBehind, OnFirst, StopsAt, StopsBefore, StopsBehind, EndsAsHtml, EndsHtml, OutOr, IsLeaf}
@@ -133,6 +133,7 @@ base_text Indented h = cc
 base_text (Fenced n byte) h = cc
 base_text (Html html) h = cc
 base_text (Table columns) h = refl
+base_text Definition h = cc
 base_text Paragraph h = refl
 
 pub base_other : (kind : BlockKind) → is_text kind ≡ false → base kind ≡ kind
@@ -145,6 +146,7 @@ base_other Indented h = refl
 base_other (Fenced n byte) h = refl
 base_other (Html html) h = refl
 base_other (Table columns) h = cc
+base_other Definition h = refl
 base_other Paragraph h = cc
 
 module _ (outer : List Container) (first : Rest) where
@@ -158,6 +160,7 @@ module _ (outer : List Container) (first : Rest) where
   begins (Fenced n byte) lines rest leaf = leaf.0
   begins (Html html) lines rest leaf = leaf.0
   begins (Table columns) lines rest leaf = leaf.0
+  begins Definition lines rest leaf = leaf.0
   begins Paragraph lines rest leaf = leaf.0
 
   module _ (a b rest rest' : List (List ℕ)) (same : a ++ rest ≡ b ++ rest') where
@@ -172,4 +175,5 @@ module _ (outer : List Container) (first : Rest) where
     one_other (Fenced n byte) h leaf leaf' = one_behind outer _ a b rest rest' same leaf.1 leaf'.1
     one_other (Html html) h leaf leaf' = one_html outer html first a b rest rest' same leaf.1 leaf'.1
     one_other (Table columns) h leaf leaf' = cc
+    one_other Definition h leaf leaf' = leaf.1 ∙ sym leaf'.1
     one_other Paragraph h leaf leaf' = cc

@@ -8,7 +8,7 @@ use Rattle.markdown_scanners_tree.specs.line.State.{LineState}
 use Rattle.markdown_scanners_tree.proofs.ForCallers.{one_underline}
 use Rattle.markdown_blocks.specs.containers.Containers.{Rest, rest_at, rest_in, behind, Opens, settled_last}
 use Rattle.markdown_blocks.specs.declared.blocks.BlockKind.{BlockKind}
-use Rattle.markdown_blocks.specs.declared.blocks.BlockKind.TheVariants.{Blank, Break, Heading, Setext, Indented, Fenced, Html, Table, Paragraph}
+use Rattle.markdown_blocks.specs.declared.blocks.BlockKind.TheVariants.{Blank, Break, Heading, Setext, Indented, Fenced, Html, Table, Definition, Paragraph}
 use Rattle.markdown_blocks.specs.declared.containers.Container.{Container}
 use Rattle.markdown_blocks.specs.blocks.Leaves.{In, IsUnderline, IsHead, IsRow, BeginsNoTable, OnFirst, StopsAt, LeavesBehind, Underlines, IsLeaf}
 use Rattle.markdown_blocks.specs.blocks.Pages.{Piece, lines_in, IsPiece, AreBlocks}
@@ -59,12 +59,14 @@ module _ (outer : List Container) (first : Rest) where
     one_text Indented other t t' leaf leaf' = cc
     one_text (Fenced n byte) other t t' leaf leaf' = cc
     one_text (Html html) other t t' leaf leaf' = cc
+    one_text Definition other t t' leaf leaf' = cc
     one_text kind Blank t t' leaf leaf' = cc
     one_text kind Break t t' leaf leaf' = cc
     one_text kind (Heading level) t t' leaf leaf' = cc
     one_text kind Indented t t' leaf leaf' = cc
     one_text kind (Fenced n byte) t t' leaf leaf' = cc
     one_text kind (Html html) t t' leaf leaf' = cc
+    one_text kind Definition t t' leaf leaf' = cc
     one_text Paragraph Paragraph t t' leaf leaf' = (refl, (one_end _ a b rest rest' same leaf.2 leaf'.2).0)
     one_text Paragraph (Setext level) t t' leaf leaf' =
         absurd (underlined level a leaf'.1 rest rest' leaf'.2 (same ∙ joined leaf'.1 b rest' leaf'.2 leaf'.3) leaf.2 leaf.3 leaf'.5 leaf'.6)

@@ -8,7 +8,7 @@ use Rattle.markdown_scanners_tree.specs.scanners.TextLines.{lines_of}
 use Rattle.markdown_scanners_tree.specs.scanners.html_kinds.HtmlKinds.{ends_before_blank}
 use Rattle.markdown_blocks.specs.containers.Containers.{Rest, IsInside}
 use Rattle.markdown_blocks.specs.declared.blocks.BlockKind.{BlockKind}
-use Rattle.markdown_blocks.specs.declared.blocks.BlockKind.TheVariants.{Blank, Break, Heading, Setext, Indented, Fenced, Html, Table, Paragraph}
+use Rattle.markdown_blocks.specs.declared.blocks.BlockKind.TheVariants.{Blank, Break, Heading, Setext, Indented, Fenced, Html, Table, Definition, Paragraph}
 use Rattle.markdown_blocks.specs.declared.blocks.Ending.TheVariants.{Text}
 use Rattle.markdown_blocks.specs.declared.containers.Container.{Container}
 use Rattle.markdown_blocks.specs.declared.taken.Taken.{Taken}
@@ -66,6 +66,7 @@ module _ (outer : List Container) (more : List (List ℕ)) where
       (leaf.0, leaf.1, leaf.2, leaf.3, leaf.4, record { none = leaf.5.none; stopped = leaf.5.stopped }, leaf.6)
   leaf-over Break first later rest some leaf = leaf
   leaf-over (Heading level) first later rest some leaf = leaf
+  leaf-over Definition first later rest some leaf = leaf
 
   -- it does so where its end is seen, or where no line follows
   pub leaf-more : (kind : BlockKind) (first : Rest) (later rest : List (List ℕ)) (has_ended : Bool) → IsOver outer kind has_ended rest
@@ -94,6 +95,7 @@ module _ (outer : List Container) (has_ended : Bool) (open_yet : has_ended ≡ f
   any_told (Fenced count byte) rest seen other tells = tells
   any_told (Html html) rest seen other tells = tells
   any_told (Table columns) rest seen other tells = tells
+  any_told Definition rest seen other tells = tells
   any_told Paragraph rest seen other tells = tells
 
 module _ (outer : List Container) where

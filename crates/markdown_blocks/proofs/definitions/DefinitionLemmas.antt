@@ -13,7 +13,7 @@ use Rattle.markdown_scanners_tree.proofs.ForCallers.{one_reference_definition}
 use Rattle.markdown_blocks.specs.declared.containers.Container.{Container}
 use Rattle.markdown_blocks.specs.declared.taken.Taken.{Taken}
 use Rattle.markdown_blocks.specs.definitions.Content.{content_of, words_in}
-use Rattle.markdown_blocks.specs.definitions.Definitions.{AreDefinitions, HasText, most_nested}
+use Rattle.markdown_blocks.specs.definitions.Definitions.{AreDefinitions, HasText, most_nested, IsDefinition}
 use Rattle.markdown_blocks.specs.info.Info.{without_front}
 use Rattle.markdown_blocks.specs.taken.Lines.{IsTaken, IsNext}
 use Rattle.markdown_blocks.proofs.taken.TakenLemmas.{taken-next}
@@ -30,12 +30,19 @@ one_list_of_definitions text (d ∷ definitions) (d' ∷ others) rest rest' is i
     (subst (λ (e : ReferenceDefinition). AreDefinitions (drop e.len text) definitions rest) first is.1) is'.1 in
     (ap (λ e. e ∷ definitions) first ∙ ap (λ ds. d' ∷ ds) more.0, more.1)
 
--- a text that begins with another byte begins with none
+-- a text that begins with another byte begins with none, and nor does no text
+pub plain_front : (b : ℕ) (bytes : List ℕ) → ¬ (b ≡ left_bracket) → (d : ReferenceDefinition) → ¬ IsDefinition (b ∷ bytes) d
+plain_front b bytes other d is =
+    other (let opens : b ∷ bytes ≡ left_bracket ∷ is.target.is_named.inside = is.target.is_named.opens in cc)
+
+pub no_text : (d : ReferenceDefinition) → ¬ IsDefinition [] d
+no_text d is = let opens : [] ≡ left_bracket ∷ is.target.is_named.inside = is.target.is_named.opens in cc
+
 pub plain_text : (b : ℕ) (bytes : List ℕ) → ¬ (b ≡ left_bracket) → HasText (b ∷ bytes)
 plain_text b bytes other = record {
   definitions = [];
   rest = b ∷ bytes;
-  behind = (refl, λ d is. other (let opens : b ∷ bytes ≡ left_bracket ∷ is.target.is_named.inside = is.target.is_named.opens in cc));
+  behind = (refl, plain_front b bytes other);
   some = λ none. cc;
 }
 

@@ -3,7 +3,7 @@ use Rattle.std.proofs.Common.{Bool, false, ◌≡◌, IsTrue, Option, Some, None
 use Rattle.markdown_scanners_tree.specs.SomeExactly.{SomeExactly}
 use Rattle.markdown_blocks.specs.containers.Containers.{Rest}
 use Rattle.markdown_blocks.specs.declared.blocks.BlockKind.{BlockKind}
-use Rattle.markdown_blocks.specs.declared.blocks.BlockKind.TheVariants.{Blank, Break, Heading, Setext, Indented, Fenced, Html, Table, Paragraph}
+use Rattle.markdown_blocks.specs.declared.blocks.BlockKind.TheVariants.{Blank, Break, Heading, Setext, Indented, Fenced, Html, Table, Definition, Paragraph}
 use Rattle.markdown_blocks.specs.blocks.Leaves.{IsBlank, HasIndent, Begins, BeginsAt}
 
 -- nothing is found
@@ -21,6 +21,7 @@ begins_behind Blank rest text near h = absurd h
 begins_behind Indented rest text near h = absurd h
 begins_behind (Setext level) rest text near h = absurd h
 begins_behind (Table columns) rest text near h = absurd h
+begins_behind Definition rest text near h = absurd h
 begins_behind Break rest text near h = (text, near, h)
 begins_behind (Heading level) rest text near h = (text, near, h)
 begins_behind (Fenced count byte) rest text near h = (text, near, h)
@@ -33,6 +34,7 @@ other_kind Blank rest other begins paragraph = paragraph.0 begins
 other_kind Indented rest other begins paragraph = paragraph.1 begins.1
 other_kind (Setext level) rest other begins paragraph = absurd begins.2
 other_kind (Table columns) rest other begins paragraph = absurd begins.2
+other_kind Definition rest other begins paragraph = absurd begins.2
 other_kind Break rest other begins paragraph = paragraph.2.0 begins.2
 other_kind (Heading level) rest other begins paragraph = paragraph.2.1 level begins.2
 other_kind (Fenced count byte) rest other begins paragraph = paragraph.2.2 (count, byte) begins.2

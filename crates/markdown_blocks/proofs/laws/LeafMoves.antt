@@ -9,7 +9,7 @@ use Rattle.markdown_scanners_tree.specs.scanners.Interrupts.{InterruptsParagraph
 use Rattle.markdown_scanners_tree.specs.scanners.html_kinds.HtmlKinds.{ends_before_blank}
 use Rattle.markdown_blocks.specs.containers.Containers.{Rest, rest_in, begun_at, behind, IsInside}
 use Rattle.markdown_blocks.specs.declared.blocks.BlockKind.{BlockKind}
-use Rattle.markdown_blocks.specs.declared.blocks.BlockKind.TheVariants.{Blank, Break, Heading, Setext, Indented, Fenced, Html, Table, Paragraph}
+use Rattle.markdown_blocks.specs.declared.blocks.BlockKind.TheVariants.{Blank, Break, Heading, Setext, Indented, Fenced, Html, Table, Definition, Paragraph}
 use Rattle.markdown_blocks.specs.declared.containers.Container.{Container}
 use Rattle.markdown_blocks.specs.blocks.Tables.{IsDelimiter}
 use Rattle.markdown_blocks.specs.blocks.Leaves.{IsBlank, HasIndent, Begins, EndsParagraph, ClosesFence, EndsHtml}
@@ -342,6 +342,7 @@ module _ (outer other : List Container) where
         (leaf.0, out_stops (λ r. ¬ IsBlank r) lines others rest after (all_move Blank (λ e. cc) lines others z) f.first leaf.1)
     leaf_moves Break z leaf = (leaf.0, none_moves (LaterMoves Break) lines others leaf.1 z)
     leaf_moves (Heading level) z leaf = (leaf.0, none_moves (LaterMoves (Heading level)) lines others leaf.1 z)
+    leaf_moves Definition z leaf = (leaf.0, none_moves (LaterMoves Definition) lines others leaf.1 z)
     leaf_moves (Setext level) z leaf = setext_moves level first lines others rest after (all_move (Setext level) (λ e. cc) lines others z) leaf
     leaf_moves Indented z leaf =
         let zipped = all_move Indented (λ e. cc) lines others z in (

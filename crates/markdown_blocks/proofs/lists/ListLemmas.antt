@@ -13,7 +13,7 @@ use Rattle.markdown_blocks.specs.lists.Lists.{Child, ends_blank, last_end}
 use Rattle.markdown_blocks.proofs.lists.Followed.{is_item_of, item_list, longer, list_behind, list_before, lists_followed, parted_followed}
 use Rattle.markdown_blocks.proofs.lists.Followed.{lists_are_followed, parted_is_followed}
 use Rattle.markdown_blocks.specs.lists.Lists.{end_of, ends_blank_line, leaf_child, container_child, child_unless, children, lists_of}
-use Rattle.markdown_blocks.specs.lists.Tracked.{Tracked, list_now, joins, loosened, list_begun, begun, is_item, level_within, leaf_read, lists_behind}
+use Rattle.markdown_blocks.specs.lists.Tracked.{at_start, Tracked, list_now, joins, loosened, list_begun, begun, is_item, level_within, leaf_read, lists_behind}
 
 or_false : (b : Bool) → (b || false) ≡ b
 or_false true = refl
@@ -179,8 +179,8 @@ module _ (block : LeafBlock) (nodes : Nodes) (found : AreFound nodes) where
       by_kind false true = found_block line end blank blank item parted list outer later refl
       by_kind false false = found_block line end blank (blank || false) item parted list outer later (or_false blank)
 
-module _ (c : Container) (inner nodes : Nodes) (found_in : AreFound inner) (found : AreFound nodes) where
-  found_container : AreFound (container_then c inner nodes)
+module _ (c : Container) (place : ℕ) (inner nodes : Nodes) (found_in : AreFound inner) (found : AreFound nodes) where
+  found_container : AreFound (container_then c place inner nodes)
   found_container line end blank fresh item parted list outer later =
       let marked_now = marked fresh blank false in
       let content = children true (suc (length outer)) line inner in
@@ -221,11 +221,7 @@ module _ (c : Container) (inner nodes : Nodes) (found_in : AreFound inner) (foun
 lists_found : (nodes : Nodes) → AreFound nodes
 lists_found nothing = found_nothing
 lists_found (leaf_then block nodes) = found_leaf block nodes (lists_found nodes)
-lists_found (container_then c inner nodes) = found_container c inner nodes (lists_found inner) (lists_found nodes)
-
--- before the first event
-abbrev pub at_start : Tracked
-at_start = at 0 0 false true (level_of false false None) []
+lists_found (container_then c place inner nodes) = found_container c place inner nodes (lists_found inner) (lists_found nodes)
 
 -- the lists of a page's nodes
 pub page_lists : (nodes : Nodes) → lists_behind at_start (flatten nodes) ≡ lists_of nodes

@@ -4,13 +4,14 @@ use Rattle.std.proofs.Common.{refl, sym, ap, ◌∙◌, subst, arith, append_ass
 use Rattle.std.specs.Prelude.{map, replicate}
 use Rattle.std.proofs.lemmas.List.{length-take}
 use Rattle.markdown_blocks.proofs.events.EventLemmas.{kept_fewer, one_list_of_events}
-use Rattle.markdown_blocks.proofs.lists.ListLemmas.{at_start, page_lists}
+use Rattle.markdown_blocks.proofs.lists.ListLemmas.{page_lists}
 use Rattle.markdown_blocks.specs.blocks.Pages.{Piece, IsPiece, AreBlocks}
-use Rattle.markdown_blocks.specs.containers.Containers.{behind}
+use Rattle.markdown_scanners_tree.specs.line.State.{LineState}
+use Rattle.markdown_blocks.specs.containers.Containers.{behind, marker_place, after_marker}
 use Rattle.markdown_blocks.specs.declared.containers.Container.{Container}
 use Rattle.markdown_blocks.specs.declared.lists.ListBlock.{ListBlock}
-use Rattle.markdown_blocks.specs.events.Events.{Event, starts, leaf, ends, LeafBlock, events_from, IsEventsOf}
-use Rattle.markdown_blocks.specs.lists.Tracked.{lists_behind}
+use Rattle.markdown_blocks.specs.events.Events.{Event, starts, leaf, ends, LeafBlock, started, AreEvents, open_after, IsEventsOf}
+use Rattle.markdown_blocks.specs.lists.Tracked.{at_start, lists_behind}
 use Rattle.markdown_blocks.specs.lists.Lists.{Nodes, nothing, leaf_then, container_then, flatten, lists_of, AreListsOf}
 
 -- what stands in the innermost of so many containers, in the one around it behind that, and so on
@@ -26,13 +27,14 @@ nest_leaf (suc depth) block events n = (leaf_then block n.0, n.1, ap (λ es. lea
 nest_end : (depth : ℕ) (events : List Event) → AreNested depth events → AreNested (suc depth) (ends ∷ events)
 nest_end depth events n = (nothing, events, refl, n)
 
-nest_start : (depth : ℕ) (c : Container) (events : List Event) → AreNested (suc depth) events → AreNested depth (starts c ∷ events)
-nest_start zero c events n =
-    (container_then c n.0 n.3.0, ap (λ es. starts c ∷ es) (n.2 ∙ ap (λ es. flatten n.0 ++ (ends ∷ es)) n.3.1))
-nest_start (suc depth) c events n = (
-  container_then c n.0 n.3.0,
+nest_start : (depth : ℕ) (c : Container) (place : ℕ) (events : List Event) → AreNested (suc depth) events → AreNested depth (starts c place ∷ events)
+nest_start zero c place events n =
+    (container_then c place n.0 n.3.0, ap (λ es. starts c place ∷ es) (n.2 ∙ ap (λ es. flatten n.0 ++ (ends ∷ es)) n.3.1))
+nest_start (suc depth) c place events n = (
+  container_then c place n.0 n.3.0,
   n.3.1,
-  ap (λ es. starts c ∷ es) (n.2 ∙ ap (λ es. flatten n.0 ++ (ends ∷ es)) n.3.2 ∙ sym (append_assoc (flatten n.0) (ends ∷ flatten n.3.0) (ends ∷ n.3.1))),
+  ap (λ es. starts c place ∷ es) (n.2 ∙ ap (λ es. flatten n.0 ++ (ends ∷ es)) n.3.2
+      ∙ sym (append_assoc (flatten n.0) (ends ∷ flatten n.3.0) (ends ∷ n.3.1))),
   n.3.3,
 )
 
@@ -43,11 +45,16 @@ nest_ends (suc count) depth deeper events sum n =
     subst (λ d. AreNested d (replicate (suc count) ends ++ events)) (let same : suc (count + depth) ≡ deeper = omega (arith, sum) in same)
     (nest_end (count + depth) (replicate count ends ++ events) (nest_ends count depth (count + depth) events refl n))
 
-nest_starts : (cs : List Container) (depth deeper : ℕ) (events : List Event) → depth + length cs ≡ deeper → AreNested deeper events
-    → AreNested depth (map starts cs ++ events)
-nest_starts [] depth deeper events sum n = subst (λ d. AreNested d events) (let same : deeper ≡ depth = omega (arith, sum) in same) n
-nest_starts (c ∷ cs) depth deeper events sum n =
-    nest_start depth c (map starts cs ++ events) (nest_starts cs (suc depth) deeper events (omega (arith, sum)) n)
+nest_starts : (cs : List Container) (start : ℕ) (s : LineState) (depth deeper : ℕ) (events : List Event) → depth + length cs ≡ deeper
+    → AreNested deeper events → AreNested depth (started start s cs ++ events)
+nest_starts [] start s depth deeper events sum n = subst (λ d. AreNested d events) (let same : deeper ≡ depth = omega (arith, sum) in same) n
+nest_starts (c ∷ cs) start s depth deeper events sum n =
+    nest_start depth c (start + marker_place s) (started start (after_marker s) cs ++ events)
+    (nest_starts cs start (after_marker s) (suc depth) deeper events (omega (arith, sum)) n)
+
+nest_leaves : (leaves : List LeafBlock) (depth : ℕ) (events : List Event) → AreNested depth events → AreNested depth (map leaf leaves ++ events)
+nest_leaves [] depth events n = n
+nest_leaves (block ∷ leaves) depth events n = nest_leaf depth block (map leaf leaves ++ events) (nest_leaves leaves depth events n)
 
 nest_none : (depth : ℕ) → AreNested depth (replicate depth ends)
 nest_none zero = (nothing, refl)
@@ -59,22 +66,32 @@ kept_few outer piece rest p =
     let here : length piece.kept ≡ length (take count outer) = ap length p.opened.goes_on ∙ kept_fewer (take count outer) in
     omega (arith, here, length-take count outer)
 
-events_nested : (pieces : List Piece) (outer : List Container) (line start : ℕ) → AreBlocks outer pieces []
-    → AreNested (length outer) (events_from (length outer) line start pieces)
-events_nested [] outer line start each = nest_none (length outer)
-events_nested (piece ∷ later) outer line start each =
+-- the events of a piece, and those after it
+regroup : (x y z blocks all : List Event) → x ++ y ++ z ++ blocks ++ all ≡ x ++ (y ++ (z ++ (blocks ++ all)))
+regroup x y z blocks all =
+    append_assoc (x ++ y ++ z) blocks all ∙ append_assoc (x ++ y) z (blocks ++ all) ∙ append_assoc x y (z ++ (blocks ++ all))
+
+events_nested : (pieces : List Piece) (outer : List Container) (line start : ℕ) (blocks : List Event) → AreBlocks outer pieces []
+    → AreEvents outer line start pieces blocks
+    → AreNested (length outer) (blocks ++ replicate (open_after (length outer) pieces) ends)
+events_nested [] outer line start blocks each are = subst (λ es. AreNested (length outer) (es ++ replicate (length outer) ends)) (sym are) (nest_none (length outer))
+events_nested (piece ∷ later) outer line start blocks each are =
     let few = kept_few outer piece _ each.0 in
     let inside = piece.kept ++ piece.begun in
-    let n = events_nested later inside _ _ each.1 in
-    subst (AreNested (length outer)) (sym (append_assoc (replicate (length outer - length piece.kept) ends) (map starts piece.begun) _))
+    let all = replicate (open_after (length inside) later) ends in
+    let gone = replicate (length outer - length piece.kept) ends in
+    let new = started start (behind outer piece.first).state piece.begun in
+    let n = events_nested later inside _ _ are.1 each.1 are.4 in
+    subst (AreNested (length outer)) (sym (ap (λ es. es ++ all) are.3 ∙ regroup gone new (map leaf are.0) are.1 all))
     (nest_ends (length outer - length piece.kept) (length piece.kept) (length outer) _ (omega (arith, few))
-    (nest_starts piece.begun (length piece.kept) (length inside) _ (sym (length-append piece.kept piece.begun)) (nest_leaf (length inside) _ _ n)))
+    (nest_starts piece.begun start (behind outer piece.first).state (length piece.kept) (length inside) _
+    (sym (length-append piece.kept piece.begun)) (nest_leaves are.0 (length inside) (are.1 ++ all) n)))
 
 -- the events of a page are those of nodes
 pub events_of_nodes : (page : List ℕ) (events : List Event) → IsEventsOf page events → (nodes : Nodes) × (events ≡ flatten nodes)
 events_of_nodes page events h =
-    let n = events_nested h.0 [] 0 0 h.1.each in
-    (n.0, h.2 ∙ n.1)
+    let n = events_nested h.0 [] 0 0 h.1 h.2.each h.3 in
+    (n.0, h.4 ∙ n.1)
 
 -- what the lists of such nodes are, the page's are
 pub lists_are : (page : List ℕ) (all : List Event) (found : List ListBlock) → IsEventsOf page all

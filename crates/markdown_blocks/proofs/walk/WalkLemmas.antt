@@ -10,8 +10,11 @@ use Rattle.markdown_blocks.specs.declared.containers.Container.{Container}
 use Rattle.markdown_blocks.specs.blocks.Leaves.{IsLeaf}
 use Rattle.markdown_blocks.specs.blocks.Over.{IsOver}
 use Rattle.markdown_blocks.specs.blocks.Pages.{Piece, IsPiece, IsBlockOf, NoneIsOver}
-use Rattle.markdown_blocks.specs.declared.walk.Step.{Step}
-use Rattle.markdown_blocks.specs.walk.Walk.{IsOpening, IsStep, rest_of}
+use Rattle.markdown_blocks.specs.declared.step.Step.{Step}
+use Rattle.markdown_blocks.specs.definitions.Content.{content_in}
+use Rattle.markdown_blocks.specs.taken.Lines.{IsTaken}
+use Rattle.markdown_blocks.specs.walk.Walk.{IsOpening, IsStep, IsGathered, rest_of}
+use Rattle.markdown_blocks.proofs.taken.FrontLemmas.{lines_of_taken}
 use Rattle.markdown_blocks.proofs.blocks.OneText.{one_piece}
 
 -- the last container that is left is settled
@@ -100,9 +103,10 @@ kept_settled old now popped after kept last c short same is settles grown =
 
 -- the block at the front of the lines is a step
 pub step_here : (old inner : List Container) (line lines : List ℕ) (more : List (List ℕ)) (step : Step) → IsOpening old line inner step.kept (rest_of step)
+    → step.line.now ≡ line → step.start ≡ (behind old line).state → step.lines.now ≡ take step.block.taken.bytes lines
     → (b : IsBlockOf lines inner line (rest_of step) step.block)
     → IsLeaf inner step.block.kind (rest_of step) b.later (lines_of (drop step.block.taken.bytes lines) ++ more) → IsStep old lines more step inner
-step_here old inner line lines more step o b leaf = record {
+step_here old inner line lines more step o first place own b leaf = record {
   piece = record { kept = o.kept; begun = o.begun; words = rest_of step; kind = step.block.kind; first = line; later = b.later };
   is_piece = record {
     opened = o.opened;
@@ -113,7 +117,19 @@ step_here old inner line lines more step o b leaf = record {
   counted = o.counted;
   kind = refl;
   words = refl;
+  line = first;
+  place = place;
+  all = ap lines_of own ∙ lines_of_taken lines step.block.taken (line ∷ b.later) b.taken;
 }
+
+-- what is gathered of its content
+pub content_here : (lines text : List ℕ) (block : Block) (inner : List Container) (line : List ℕ) (later : List (List ℕ)) (gathered : List ℕ)
+    → IsTaken lines block.taken (line ∷ later) → IsGathered (content_in block.kind inner text later) gathered
+    → (first : List ℕ) (others : List (List ℕ)) → lines_of (take block.taken.bytes lines) ≡ first ∷ others
+    → IsGathered (content_in block.kind inner text others) gathered
+content_here lines text block inner line later gathered t is first others all =
+    let same : first ∷ others ≡ line ∷ later = sym all ∙ lines_of_taken lines block.taken (line ∷ later) t in
+    subst (λ ls. IsGathered (content_in block.kind inner text ls) gathered) (let ls : later ≡ others = cc in ls) is
 
 -- it is not over, so that no block at the front is
 pub none_over : (old inner : List Container) (line lines : List ℕ) (has_ended : Bool) (count : ℕ) (words : Rest) (block : Block)

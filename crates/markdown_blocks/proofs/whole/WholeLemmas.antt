@@ -31,7 +31,7 @@ with_first-append : (b : ℕ) (lines more : List (List ℕ)) → lines ≢ [] �
 with_first-append b [] more some = absurd (some refl)
 with_first-append b (l ∷ lines) more some = refl
 
-alone : (b : ℕ) (more : List ℕ) → ends_line (b ∷ more) ≡ true → ends_line (b ∷ []) ≡ true
+pub alone : (b : ℕ) (more : List ℕ) → ends_line (b ∷ more) ≡ true → ends_line (b ∷ []) ≡ true
 alone b more ends = elim (cases_Bool (b == 10)) [
   | inl lf ↦ rw lf refl
   | inr other ↦ elim (cases_Bool (b == 13)) [

@@ -12,7 +12,7 @@ use Rattle.markdown_scanners_tree.specs.scanners.Interrupts.{InterruptsParagraph
 use Rattle.markdown_scanners_tree.specs.scanners.html_kinds.HtmlKinds.{IsHtmlBlockStart, ends_before_blank, is_html_end}
 use Rattle.markdown_blocks.specs.containers.Containers.{Rest, rest_at, begun_at, behind, IsInside, rest_in}
 use Rattle.markdown_blocks.specs.declared.blocks.BlockKind.{BlockKind}
-use Rattle.markdown_blocks.specs.declared.blocks.BlockKind.TheVariants.{Blank, Break, Heading, Setext, Indented, Fenced, Html, Table, Paragraph}
+use Rattle.markdown_blocks.specs.declared.blocks.BlockKind.TheVariants.{Blank, Break, Heading, Setext, Indented, Fenced, Html, Table, Definition, Paragraph}
 use Rattle.markdown_blocks.specs.declared.containers.Container.{Container}
 use Rattle.markdown_blocks.specs.definitions.Content.{content_of}
 use Rattle.markdown_blocks.specs.definitions.Definitions.{HasText}
@@ -33,6 +33,7 @@ BeginsAt Blank text = ⊥
 BeginsAt Indented text = ⊥
 BeginsAt (Setext level) text = ⊥
 BeginsAt (Table columns) text = ⊥
+BeginsAt Definition text = ⊥
 BeginsAt Break text = IsThematicBreak text
 BeginsAt (Heading level) text = IsAtxHeading text level
 BeginsAt (Fenced count byte) text = IsCodeFence text count byte

@@ -40,6 +40,17 @@ begun_behind indent s =
 abbrev pub begun_at : LineState → Option (Container × LineState)
 begun_at s = begun_behind (space_within 4 s) (after_space 4 s)
 
+-- the place in the line of that container's marker, and what is left of the line after the marker
+abbrev pub marker_place : LineState → ℕ
+marker_place s = (after_space 4 s).place
+
+abbrev pub after_marker : LineState → LineState
+after_marker s =
+    elim (begun_at s) [
+      | Some r ↦ r.1
+      | None ↦ after_space 4 s
+    ]
+
 -- The rest of a line goes on with a container: with a block quote where its marker stands, with an item where the rest is
 -- indented as the item's text is, or blank. An item that begins with a blank line does not go on with a second one. What is
 -- left of the line then, and whether that is blank.

@@ -8,17 +8,18 @@ use Rattle.markdown_blocks.specs.declared.containers.Container.TheVariants.{Quot
 use Rattle.markdown_blocks.specs.declared.lists.ListBlock.{ListBlock}
 use Rattle.markdown_blocks.specs.events.Events.{Event, starts, leaf, ends, LeafBlock, IsEventsOf}
 
--- What stands in a container or in the page, in order: leaf blocks, and containers with what stands in them.
+-- What stands in a container or in the page, in order: leaf blocks, and containers, with how many bytes of the page stand before
+-- the marker, and with what stands in them.
 pub data Nodes : Type 0 where
   nothing : Nodes
   leaf_then : LeafBlock → Nodes → Nodes
-  container_then : Container → Nodes → Nodes → Nodes
+  container_then : Container → ℕ → Nodes → Nodes → Nodes
 
 -- their events, in order
 abbrev pub flatten : Nodes → List Event
 flatten nothing = []
 flatten (leaf_then block later) = leaf block ∷ flatten later
-flatten (container_then container inner later) = starts container ∷ flatten inner ++ ends ∷ flatten later
+flatten (container_then container place inner later) = starts container place ∷ flatten inner ++ ends ∷ flatten later
 
 -- how many lines of the page stand before what follows a leaf block, and before what follows nodes that so many stand before
 abbrev pub line_behind : LeafBlock → ℕ
@@ -27,7 +28,7 @@ line_behind block = block.line + block.lines
 abbrev pub lines_passed : ℕ → Nodes → ℕ
 lines_passed line nothing = line
 lines_passed line (leaf_then block later) = lines_passed (line_behind block) later
-lines_passed line (container_then container inner later) = lines_passed (lines_passed line inner) later
+lines_passed line (container_then container place inner later) = lines_passed (lines_passed line inner) later
 
 -- blank lines, which are no block
 abbrev pub is_blank_kind : BlockKind → Bool
@@ -145,7 +146,7 @@ children is_first depth line nothing = []
 children is_first depth line (leaf_then block later) =
     child_unless (is_blank_kind block.kind && not is_first) (leaf_child block line (begins_blank later))
     (children false depth (line_behind block) later)
-children is_first depth line (container_then container inner later) =
+children is_first depth line (container_then container place inner later) =
     container_child container (suc depth) line (lines_passed line inner) (begins_blank later) (children true (suc depth) line inner)
     ∷ children false depth (lines_passed line inner) later
 

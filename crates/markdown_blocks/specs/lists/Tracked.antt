@@ -19,6 +19,17 @@ pub record Tracked : Type 0 where
   pub level : Level
   pub outer : List Level
 
+-- before the first event of a page
+abbrev pub at_start : Tracked
+at_start = record {
+  line = 0;
+  end = 0;
+  is_blank = false;
+  is_fresh = true;
+  level = record { is_item = false; is_parted = false; list = None };
+  outer = [];
+}
+
 -- the list of the last block, as it is where no item follows
 abbrev pub list_now : ℕ → ℕ → OpenList → ListBlock
 list_now depth end list = record {
@@ -95,8 +106,8 @@ end_read (level ∷ outer) s = record {
   };
 }
 
-abbrev pub read : Tracked → Event → Read
-read s (starts container) = record {
+abbrev pub start_read : Container → Tracked → Read
+start_read container s = record {
   list = if joins s.level.list container then None else closed s;
   state = record {
     line = s.line;
@@ -107,6 +118,9 @@ read s (starts container) = record {
     outer = begun s.level container s.is_blank s.line ∷ s.outer;
   };
 }
+
+abbrev pub read : Tracked → Event → Read
+read s (starts container place) = start_read container s
 read s (leaf block) = leaf_read (is_blank_kind block.kind && not s.is_fresh) block s
 read s ends = end_read s.outer s
 

@@ -1,10 +1,13 @@
 -- One step of a walk over a page: the next block, and the containers that are open then.
-use Rattle.std.specs.Prelude.{ℕ, ◌≡◌, List, ◌∷◌, ◌++◌, drop, length}
+use Rattle.std.specs.Prelude.{ℕ, ◌≡◌, ◌⊎◌, List, [], ◌∷◌, ◌++◌, drop, length}
+use Rattle.markdown_scanners_tree.specs.declared.scanners.reference_definitions.ReferenceDefinition.{ReferenceDefinition}
 use Rattle.markdown_scanners_tree.specs.scanners.TextLines.{lines_of}
 use Rattle.markdown_blocks.specs.blocks.Pages.{Piece, AreOpened, IsPiece}
-use Rattle.markdown_blocks.specs.containers.Containers.{Rest}
+use Rattle.markdown_blocks.specs.containers.Containers.{Rest, behind}
 use Rattle.markdown_blocks.specs.declared.containers.Container.{Container}
-use Rattle.markdown_blocks.specs.declared.walk.Step.{Step}
+use Rattle.markdown_blocks.specs.declared.step.Step.{Step}
+use Rattle.markdown_blocks.specs.definitions.Content.{content_in}
+use Rattle.markdown_blocks.specs.definitions.Definitions.{IsDefinition}
 use Rattle.markdown_blocks.specs.taken.Lines.{IsTaken}
 
 -- where these containers are open, the line opens new ones, so many of which were open before, and what is left of it is this
@@ -29,3 +32,17 @@ pub record IsStep (old : List Container) (lines : List ℕ) (more : List (List �
   pub counted : step.kept ≡ length piece.kept
   pub kind : piece.kind ≡ step.block.kind
   pub words : piece.words ≡ rest_of step
+  pub line : step.line.now ≡ piece.first
+  pub place : step.start ≡ (behind old piece.first).state
+  pub all : lines_of step.lines.now ≡ piece.first ∷ piece.later
+
+-- the content of a block, or nothing where that begins with no definition
+abbrev pub IsGathered : List ℕ → List ℕ → Type 0
+IsGathered content gathered =
+    (gathered ≡ content) ⊎ ((gathered ≡ []) × ((definition : ReferenceDefinition) → ¬ IsDefinition content definition))
+
+-- what is gathered of the content of the step's block, in these containers
+abbrev pub IsContentOf : Step → List Container → List ℕ → Type 0
+IsContentOf step containers gathered =
+    (line : List ℕ) (later : List (List ℕ)) → lines_of step.lines.now ≡ line ∷ later
+    → IsGathered (content_in step.block.kind containers step.text.now later) gathered

@@ -1,6 +1,6 @@
 -- the events that are left grow no more
 use Rattle.std.proofs.Common.{◌≤◌}
-use Rattle.markdown_blocks.specs.events.Events.{events_left}
+use Rattle.markdown_blocks.specs.events.Given.{events_left}
 use Rattle.cmark_uses.proofs.walk.next_paragraph.Given as goal
 
 abbrev pub invariant-loop-event : goal.invariant-loop-event

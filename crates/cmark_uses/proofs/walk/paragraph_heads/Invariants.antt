@@ -1,4 +1,4 @@
-use Rattle.markdown_blocks.specs.events.Events.{events_left}
+use Rattle.markdown_blocks.specs.events.Given.{events_left}
 use Rattle.cmark_uses.proofs.walk.paragraph_heads.Given as goal
 
 abbrev pub decreases-loop-blocks : goal.decreases-loop-blocks

@@ -1,3 +1,4 @@
+use Rattle.std.proofs.Common.{inl, inr}
 use Rattle.std.proofs.lemmas.Result.{IfOk-weaker}
 use Rattle.markdown_blocks.proofs.definitions.DefinitionLemmas.{later_lines, all_but_last, first_line}
 use Rattle.markdown_blocks.proofs.definitions.add_content.Goals.{in-Paragraph, in-Setext}
@@ -9,7 +10,12 @@ returns c = IfOk-weaker c.add_lines.result _ _ (λ unit told line later t.
     c.in-Some.ensures.line in
     let is = rw c.new.ensures at (told line h) in
     elim c.match-block.branch [
-      | in-Paragraph w ↦ rw w.in-Paragraph.is (rw (w.count-is, later_lines c.args.lines.now line later c.in-Some.first c.args.block.taken h t) at is)
+      | in-Paragraph w ↦
+          let all = rw (w.count-is, later_lines c.args.lines.now line later c.in-Some.first c.args.block.taken h t) at is in
+          elim w.in-Paragraph.is [
+            | inl paragraph ↦ rw paragraph all
+            | inr definition ↦ rw definition all
+          ]
       | in-Setext w ↦ rw w.in-Setext.is (rw (
         w.count-is,
         w.saturating_sub-count.ensures,

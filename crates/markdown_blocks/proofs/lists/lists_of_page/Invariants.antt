@@ -1,5 +1,6 @@
 use Rattle.std.proofs.Common.{◌≡◌, ◌++◌, List}
-use Rattle.markdown_blocks.specs.events.Events.{Event, Gives, IsEventsOf, events_left}
+use Rattle.markdown_blocks.specs.events.Events.{Event, IsEventsOf}
+use Rattle.markdown_blocks.specs.events.Given.{Gives, events_left}
 use Rattle.markdown_blocks.specs.lists.Lists.{Nodes, flatten, lists_of}
 use Rattle.markdown_blocks.specs.lists.Tracked.{lists_behind}
 use Rattle.markdown_blocks.proofs.lists.lists_of_page.Given as goal

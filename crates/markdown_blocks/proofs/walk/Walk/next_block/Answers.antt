@@ -1,9 +1,11 @@
-use Rattle.std.proofs.Common.{◌∷◌, [], IsTrue, inl, ◌∙◌, arith}
+use Rattle.std.proofs.Common.{◌∷◌, [], IsTrue, inl, length, refl, sym, ap, ◌∙◌, arith}
+use Rattle.std.proofs.lemmas.List.{length-take-le}
 use Rattle.markdown_blocks.proofs.kinds.KindLemmas.{not_told}
 use Rattle.markdown_blocks.proofs.blocks.OverLemmas.{leaf-more}
 use Rattle.markdown_blocks.proofs.taken.TakenLemmas.{taken-next, first_within}
+use Rattle.markdown_blocks.proofs.taken.FrontLemmas.{lines_of_taken}
 use Rattle.markdown_blocks.proofs.whole.WholeLemmas.{some_lines}
-use Rattle.markdown_blocks.proofs.walk.WalkLemmas.{some_bytes, step_here, none_over}
+use Rattle.markdown_blocks.proofs.walk.WalkLemmas.{some_bytes, step_here, content_here, none_over}
 use Rattle.markdown_blocks.proofs.walk.Walk.next_block.Goals as goal
 
 pub returns-in_default-clause-all : goal.returns-in_default-clause-all
@@ -22,9 +24,9 @@ returns-then-not-is_over-clause-none c =
     let one = taken-next c.args.lines.now c.nothing.result c.in-Some.first [] c.in-Some.line.now (c.nothing.ensures c.args.lines.now) c.in-Some.ensures.line in
     let block = rw (c.new-outer.ensures ∙ c.deref-2.ensures.value) at (c.in_ok-block.ensures c.in-Some.line.now one) in
     let over = rw (c.new-outer.ensures ∙ c.deref-2.ensures.value) at (c.is_over.ensures (c.in-Some.line.now ∷ block.later) block.taken) in
-    let opening = rw (c.in_ok-extend_from_slice.ensures.items, c.clear.ensures.items, c.deref.ensures.value) at c.in_ok-kept.ensures.opening in
+    let opening = rw (c.in_ok-extend_from_slice.ensures.items, c.clear.ensures.items, c.deref.ensures.value) at c.in_ok-opened.ensures.opening in
     rw (← c.self.view_is) (none_over c.self.inside.open.items c.open_containers.new.outer.items c.in-Some.line.now
-    c.args.lines.now c.args.has_ended c.in_ok-kept.kept _ c.in_ok-block.block opening block (not_told c.if-not-is_over.true over.1))
+    c.args.lines.now c.args.has_ended c.in_ok-opened.opened.kept _ c.in_ok-block.block opening block (not_told c.if-not-is_over.true over.1))
 
 pub returns-clause-some : goal.returns-clause-some
 returns-clause-some c =
@@ -41,15 +43,44 @@ returns-clause-step c = λ more none.
     let one = taken-next c.args.lines.now c.nothing.result c.in-Some.first [] c.in-Some.line.now (c.nothing.ensures c.args.lines.now) c.in-Some.ensures.line in
     let block = rw (c.new-outer.ensures ∙ c.deref-2.ensures.value) at (c.in_ok-block.ensures c.in-Some.line.now one) in
     let over = rw (c.new-outer.ensures ∙ c.deref-2.ensures.value) at (c.is_over.ensures (c.in-Some.line.now ∷ block.later) block.taken) in
-    let opening = rw (c.in_ok-extend_from_slice.ensures.items, c.clear.ensures.items, c.deref.ensures.value) at c.in_ok-kept.ensures.opening in
+    let opening = rw (c.in_ok-extend_from_slice.ensures.items, c.clear.ensures.items, c.deref.ensures.value) at c.in_ok-opened.ensures.opening in
+    let place = rw (c.in_ok-extend_from_slice.ensures.items, c.clear.ensures.items, c.deref.ensures.value) at c.in_ok-opened.ensures.place in
     let leaf = leaf-more c.open_containers.new.outer.items more c.in_ok-block.block.kind _ block.later _ c.args.has_ended
     (over.0 c.if-not-is_over.false) none block.leaf in
     rw (← c.self.view_is, c.swap.ensures.x_after) (step_here c.self.inside.open.items c.open_containers.new.outer.items
-    c.in-Some.line.now c.args.lines.now more _ opening block leaf)
+    c.in-Some.line.now c.args.lines.now more _ opening refl place refl block leaf)
+
+pub returns-clause-content : goal.returns-clause-content
+returns-clause-content c =
+    let one = taken-next c.args.lines.now c.nothing.result c.in-Some.first [] c.in-Some.line.now (c.nothing.ensures c.args.lines.now) c.in-Some.ensures.line in
+    let block = c.in_ok-block.ensures c.in-Some.line.now one in
+    rw c.swap.ensures.x_after (content_here c.args.lines.now c.in_ok-opened.opened.text.now c.in_ok-block.block c.open_containers.new.outer.items
+    c.in-Some.line.now block.later c.gather_content.new.content.items block.taken
+    (rw c.deref-3.ensures.value at (c.in_ok-gather_content.ensures c.in-Some.line.now block.later block.taken)))
 
 pub returns-clause-few : goal.returns-clause-few
 returns-clause-few c =
     let one = taken-next c.args.lines.now c.nothing.result c.in-Some.first [] c.in-Some.line.now (c.nothing.ensures c.args.lines.now) c.in-Some.ensures.line in
     let block = c.in_ok-block.ensures c.in-Some.line.now one in
     let line = first_within c.args.lines.now c.in_ok-block.block.taken c.in-Some.line.now block.later block.taken in
-    rw c.swap.ensures.x_after (omega (arith, line, c.in_ok-kept.ensures.few))
+    rw c.swap.ensures.x_after (omega (arith, line, c.in_ok-opened.ensures.few))
+
+pub slice_bounds-result-end : goal.slice_bounds-result-end
+slice_bounds-result-end c =
+    let one = taken-next c.args.lines.now c.nothing.result c.in-Some.first [] c.in-Some.line.now (c.nothing.ensures c.args.lines.now) c.in-Some.ensures.line in
+    let block = c.in_ok-block.ensures c.in-Some.line.now one in
+    sym (length-take-le c.in_ok-block.block.taken.bytes c.args.lines.now block.taken.within)
+
+pub invariant_of-result : goal.invariant_of-result
+invariant_of-result c =
+    let one = taken-next c.args.lines.now c.nothing.result c.in-Some.first [] c.in-Some.line.now (c.nothing.ensures c.args.lines.now) c.in-Some.ensures.line in
+    let block = c.in_ok-block.ensures c.in-Some.line.now one in
+    let size = length-take-le c.in_ok-block.block.taken.bytes c.args.lines.now block.taken.within in
+    let line = first_within c.args.lines.now c.in_ok-block.block.taken c.in-Some.line.now block.later block.taken in
+    let lines = lines_of_taken c.args.lines.now c.in_ok-block.block.taken (c.in-Some.line.now ∷ block.later) block.taken in
+    record {
+      at = c.in_ok-opened.ensures.bytes;
+      first = omega (arith, line, size);
+      bytes = sym size;
+      counted = block.taken.counted ∙ sym (ap length lines);
+    }

@@ -1,0 +1,44 @@
+//! The events of a page in words.
+use markdown_blocks::blocks::BlockKind;
+use markdown_blocks::containers::Container;
+use markdown_blocks::events::BlockEvent;
+use markdown_blocks::page_events::page_events;
+use std::alloc::{AllocError, Global};
+
+/// A page's events, one behind another: a container with how many bytes of the page stand before its
+/// marker, a leaf block with its first line and its last, and `end` where a container ends.
+pub fn shown_events(alloc: Global, page: &[u8]) -> Result<String, AllocError> {
+    let mut text = String::new(alloc);
+    for event in page_events(alloc, page) {
+        if !text.is_empty() {
+            text.push_str("; ")?;
+        }
+        show(&mut text, event?)?;
+    }
+    Ok(text)
+}
+
+// Adds the words of an event.
+fn show(text: &mut String, event: BlockEvent) -> Result<(), AllocError> {
+    match event {
+        BlockEvent::Start(Container::Quote, place) => write!(text, "quote {place}"),
+        BlockEvent::Start(Container::Item(_), place) => write!(text, "item {place}"),
+        BlockEvent::Block(leaf) => {
+            let first = leaf.line as u128 + 1;
+            let last = leaf.line as u128 + leaf.lines as u128;
+            write!(text, "{} {first} {last}", word_of(leaf.kind))
+        }
+        BlockEvent::End => text.push_str("end"),
+    }
+}
+
+// The word for the kind of a leaf block.
+fn word_of(kind: BlockKind) -> &'static str {
+    match kind {
+        BlockKind::Blank => "blank",
+        BlockKind::Definition => "definition",
+        BlockKind::Paragraph => "paragraph",
+        BlockKind::Setext(_) => "setext",
+        _ => "other",
+    }
+}

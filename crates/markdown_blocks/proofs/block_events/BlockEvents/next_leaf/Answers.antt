@@ -1,0 +1,44 @@
+use Rattle.std.proofs.Common.{◌≡◌, ◌+◌, length, drop, subst, ap, ◌∙◌, arith}
+use Rattle.markdown_blocks.specs.declared.blocks.BlockKind.TheVariants.{Definition}
+use Rattle.markdown_blocks.specs.events.Events.{seen_leaf, leaf_of, first_lines, later_lines}
+use Rattle.markdown_blocks.specs.events.Given.{BlockLeft}
+use Rattle.markdown_blocks.proofs.block_events.GivenLemmas.{own_leaf, definition_leaf}
+use Rattle.markdown_blocks.proofs.block_events.PartLemmas.{some_taken, fewer_lines}
+use Rattle.markdown_blocks.proofs.block_events.BlockEvents.next_leaf.Goals as goal
+
+pub returns-in_default-clause-leaf : goal.returns-in_default-clause-leaf
+returns-in_default-clause-leaf c =
+    let v = c.self.view_is in
+    let outer = c.args.containers.now in
+    let content = c.args.content.now in
+    let whole = c.take_lines.inside.leaf in
+    let counted = c.self.invariant.2 in
+    own_leaf outer content c.args.self.now c.take_lines-in_default.new.self (seen_leaf c.take_lines-in_default.result) whole.lines
+    (rw (c.content_from.ensures ∙ ap (λ (l : BlockLeft). drop l.used content) v) at c.in_default.ensures.none)
+    (λ none. omega (arith, c.if-self-eq0.false, counted, ap length (ap (λ (l : BlockLeft). l.part.lines) v ∙ none)))
+    (c.take_lines.invariant.2 ∙ ap (λ (l : BlockLeft). length l.part.lines) c.take_lines.view_is)
+    (subst (λ (l : BlockLeft). seen_leaf c.take_lines-in_default.result ≡ leaf_of l.kind (first_lines whole.lines c.args.self.now.part)) c.take_lines.view_is
+    c.take_lines-in_default.ensures.leaf)
+    c.take_lines-in_default.ensures.rest
+
+pub returns-clause-leaf : goal.returns-clause-leaf
+returns-clause-leaf c =
+    let v = c.self.view_is in
+    let outer = c.args.containers.now in
+    let content = c.args.content.now in
+    let taken = c.in-Some.taken in
+    let counted = c.self.invariant.2 in
+    let found = rw (c.content_from.ensures ∙ ap (λ (l : BlockLeft). drop l.used content) v) at c.in-Some.ensures.found in
+    definition_leaf outer content c.args.self.now c.take_lines-2.new.self (seen_leaf c.take_lines-2.result) found.0 taken found.1 found.2 found.3.counted
+    (λ none. omega (arith, c.if-self-eq0.false, counted, ap length (ap (λ (l : BlockLeft). l.part.lines) v ∙ none)))
+    (subst (λ (l : BlockLeft). seen_leaf c.take_lines-2.result ≡ leaf_of Definition (first_lines taken.lines l.part)) v c.take_lines-2.ensures.leaf)
+    (subst (λ (l : BlockLeft). c.take_lines-2.new.self
+    ≡ record l { part = later_lines outer taken.lines l.part; used = l.used + taken.bytes }) v c.take_lines-2.ensures.rest)
+
+pub returns-clause-fewer : goal.returns-clause-fewer
+returns-clause-fewer c =
+    let counted = c.self.invariant.2 in
+    let found = c.in-Some.ensures.found in
+    rw (← c.self.view_is, c.take_lines-2.ensures.rest) (fewer_lines c.in-Some.taken.lines _
+    (some_taken _ c.in-Some.taken _ found.3 c.in-Some.ensures.some)
+    (λ none. omega (arith, c.if-self-eq0.false, counted, ap length none)))

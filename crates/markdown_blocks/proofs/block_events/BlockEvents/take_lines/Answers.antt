@@ -1,0 +1,40 @@
+use Rattle.std.proofs.Common.{refl, ap, ◌∙◌, length, take, drop, arith}
+use Rattle.markdown_blocks.specs.events.Events.{first_of, first_rest}
+use Rattle.markdown_scanners_tree.specs.scanners.TextLines.{lines_of}
+use Rattle.markdown_blocks.proofs.taken.FrontLemmas.{lines_of_taken}
+use Rattle.markdown_blocks.proofs.taken.TakenLemmas.{slice_behind}
+use Rattle.markdown_blocks.proofs.block_events.PartLemmas.{first_size, front_is, lines_few, same_words}
+use Rattle.markdown_blocks.proofs.block_events.BlockEvents.take_lines.Goals as goal
+
+pub invariant_of-self : goal.invariant_of-self
+invariant_of-self c =
+    let lines = c.self.inside.lines.now in
+    let rest = drop c.front_of-taken.result.bytes lines in
+    let f = front_is lines c.args.count c.front_of-taken.result rest refl c.front_of-taken.ensures in
+    let inv = c.self.invariant in
+    record {
+      before = omega (arith, c.self.inside.leaf.before, c.front_of-taken.result.few);
+      ends = omega (arith, f.bytes_left, inv.3, inv.5);
+      fits = omega (arith, c.self.inside.leaf.fits, f.lines_left, inv.2);
+      few = omega (arith, f.lines_left, f.bytes_left, inv.2, inv.3, lines_few rest);
+    }
+
+pub returns-clause-leaf : goal.returns-clause-leaf
+returns-clause-leaf c =
+    let lines = c.self.inside.lines.now in
+    let f = front_is lines c.args.count c.front_of-taken.result (drop c.front_of-taken.result.bytes lines) refl c.front_of-taken.ensures in
+    let first = first_size (take c.front_of-taken.result.bytes lines) c.scan_line-first.result c.scan_line-first.ensures.line
+    c.scan_line-first.ensures.within
+    ∙ ap (λ ls. length (first_of ls)) (lines_of_taken lines c.front_of-taken.result (take c.args.count (lines_of lines)) c.front_of-taken.ensures) in
+    rw (← c.self.view_is, f.counted, f.bytes_are, c.saturating_sub.ensures, first) refl
+
+pub returns-clause-rest : goal.returns-clause-rest
+returns-clause-rest c =
+    let lines = c.self.inside.lines.now in
+    let rest = drop c.front_of-taken.result.bytes lines in
+    let behind = slice_behind lines c.front_of-taken.result.bytes in
+    let f = front_is lines c.args.count c.front_of-taken.result rest refl c.front_of-taken.ensures in
+    let words = same_words (first_rest c.args.containers.now (drop c.args.count (lines_of lines))) c.first_rest-indent.result.0
+    c.first_rest-indent.result.1.now (rw (behind, f.lines_are) at c.first_rest-indent.ensures.indent)
+    (rw (behind, f.lines_are) at c.first_rest-indent.ensures.text) in
+    rw (← c.self.view_is, behind, f.lines_are, words, f.counted, f.bytes_are) refl

@@ -1,0 +1,25 @@
+-- Nothing is gathered of a content that begins with no definition.
+use Rattle.std.proofs.Common.{ℕ, List, [], ◌++◌, ◌-◌, ◌≡◌, inl, inr, length, take}
+use Rattle.std.specs.List.{flat_map}
+use Rattle.markdown_scanners_tree.specs.declared.scanners.reference_definitions.ReferenceDefinition.{ReferenceDefinition}
+use Rattle.markdown_blocks.specs.declared.blocks.BlockKind.{BlockKind}
+use Rattle.markdown_blocks.specs.declared.blocks.BlockKind.TheVariants.{Blank, Break, Heading, Setext, Indented, Fenced, Html, Table, Definition, Paragraph}
+use Rattle.markdown_blocks.specs.declared.containers.Container.{Container}
+use Rattle.markdown_blocks.specs.definitions.Content.{content_in, words_in}
+use Rattle.markdown_blocks.specs.definitions.Definitions.{IsDefinition}
+use Rattle.markdown_blocks.specs.info.Info.{without_front}
+use Rattle.markdown_blocks.specs.walk.Walk.{IsGathered}
+
+pub none_gathered : (kind : BlockKind) (outer : List Container) (text : List ℕ) (later : List (List ℕ)) (gathered : List ℕ) → gathered ≡ []
+    → ((more : List ℕ) (d : ReferenceDefinition) → ¬ IsDefinition (without_front text ++ more) d)
+    → IsGathered (content_in kind outer text later) gathered
+none_gathered Paragraph outer text later gathered none plain = inr (none, plain (flat_map (words_in outer) later))
+none_gathered Definition outer text later gathered none plain = inr (none, plain (flat_map (words_in outer) later))
+none_gathered (Setext level) outer text later gathered none plain = inr (none, plain (flat_map (words_in outer) (take (length later - 1) later)))
+none_gathered Blank outer text later gathered none plain = inl none
+none_gathered Break outer text later gathered none plain = inl none
+none_gathered (Heading level) outer text later gathered none plain = inl none
+none_gathered Indented outer text later gathered none plain = inl none
+none_gathered (Fenced count byte) outer text later gathered none plain = inl none
+none_gathered (Html kind) outer text later gathered none plain = inl none
+none_gathered (Table columns) outer text later gathered none plain = inl none

@@ -1,0 +1,246 @@
+//! The events of one block: containers that end and begin, link reference definitions, and what is
+//! left of the block after them.
+ghost use Rattle.std.specs.Prelude.{◌≡◌, ◌∷◌, ◌<◌, ◌≤◌, ◌+◌, ◌^◌, ◌↔◌, [], List, ℕ, length, take, drop, IsTrue, IfSome, IfNone};
+ghost use Rattle.markdown_scanners_tree.specs.scanners.TextLines.{lines_of};
+ghost use Rattle.markdown_blocks.specs.containers.Containers.{marker_place, after_marker};
+ghost use Rattle.markdown_blocks.specs.events.Events.{Event, LeafBlock, AreLeaves, leaf_of, first_lines, later_lines, first_rest, seen_event, seen_leaf};
+ghost use Rattle.markdown_blocks.specs.events.Given.{GivesBlock, block_left, block_events_left};
+ghost use Rattle.markdown_blocks.specs.taken.Lines.{IsTaken};
+
+use crate::blocks::BlockKind;
+use crate::containers::{Container, Outer, go_on, rest_behind, scan_container};
+use crate::definitions::take_definition;
+use crate::events::BlockEvent;
+use crate::leaf::Leaf;
+use crate::step::Step;
+use crate::taken::Taken;
+use markdown_scanners_tree::line::LineStart;
+use markdown_scanners_tree::scanners::scan_line;
+use std::marker::Model;
+
+/// The events of one block that are not given yet.
+#[derive(Drop)]
+pub struct BlockEvents<'a> {
+    // How many containers end, and how many of the block's have begun.
+    ending: usize,
+    begun: usize,
+    // The first line, how many bytes of the page stand before it, and the place before the marker of
+    // the next container.
+    line: &'a [u8],
+    front: usize,
+    start: LineStart<'a>,
+    // The leaf block that is left, but for the place of its text, which is found where it is given;
+    // its lines; and how much of the content stands before it.
+    leaf: Leaf<'a>,
+    lines: &'a [u8],
+    used: usize,
+}
+
+impl<'a> Model for BlockEvents<'a> {
+    ghost use Rattle.std.specs.Prelude.{◌≡◌, ◌≤◌, ◌<◌, ◌+◌, ◌^◌, length};
+    ghost use Rattle.markdown_scanners_tree.specs.scanners.TextLines.{lines_of};
+    ghost use Rattle.markdown_blocks.specs.events.Given.{BlockLeft};
+
+    ghost Value = { BlockLeft };
+
+    ghost view = { λ b. record {
+      ending = b.ending;
+      begun = b.begun;
+      front = b.front;
+      place = b.start;
+      kind = b.leaf.kind;
+      part = record {
+        line = b.leaf.line;
+        start = b.leaf.start;
+        words = record { indent = b.leaf.indent; text = b.leaf.text.now };
+        lines = lines_of b.lines.now;
+      };
+      used = b.used;
+    } };
+
+    ghost invariant = { λ b.
+        (b.start.bytes ≡ b.line.now) × (b.front + length b.line.now < 2 ^ 64)
+        × (b.leaf.lines ≡ length (lines_of b.lines.now)) × (b.leaf.bytes ≡ length b.lines.now)
+        × (b.leaf.line ≤ b.leaf.start) × (b.leaf.start + length b.lines.now < 2 ^ 64) };
+}
+
+impl<'a> BlockEvents<'a> {
+    /// The events of a step's block, before which so much of the page stands and so many containers
+    /// are open.
+    pub fn new(step: Step<'a>, before: Taken, depth: usize) -> BlockEvents<'a>
+        requires { before.bytes + step.block.taken.bytes < 2 ^ 64 }
+        ensures { result ≡ block_left step.entry before depth }
+    {
+        BlockEvents {
+            ending: depth.saturating_sub(step.kept),
+            begun: step.kept,
+            line: step.line,
+            front: before.bytes,
+            start: step.start,
+            leaf: Leaf {
+                kind: step.block.kind,
+                line: before.lines,
+                lines: step.block.taken.lines,
+                start: before.bytes,
+                bytes: step.block.taken.bytes,
+                indent: step.indent,
+                text: step.text,
+                place: before.bytes,
+            },
+            lines: step.lines,
+            used: 0,
+        }
+    }
+
+    /// How many of the containers that are open after the step have begun.
+    pub fn begun(&self) -> usize
+        ensures { result ≡ self.now.begun }
+    {
+        self.begun
+    }
+
+    /// Whether the block has no further event, in these containers.
+    pub fn is_done(&self, containers: &[Container]) -> bool
+        ensures { IsTrue result ↔ (block_events_left containers.now self.now ≡ 0) }
+    {
+        self.ending == 0 && self.begun >= containers.len() && self.leaf.lines == 0
+    }
+
+    /// The next event of the block, or None after the last. The containers are those that are open
+    /// after the step, and the content is what `Walk::next_block` gathered of the block's.
+    pub fn next(&mut self, containers: &[Container], content: &[u8]) -> Option<BlockEvent<'a>>
+        ensures event { IfSome result (λ event. (later : List Event)
+            → GivesBlock containers.now content.now self.new later
+            → GivesBlock containers.now content.now self.old (seen_event event ∷ later)) }
+        ensures fewer { IfSome result (λ _. block_events_left containers.now self.new
+            < block_events_left containers.now self.old) }
+        ensures none { IfNone result (GivesBlock containers.now content.now self.old []) }
+        ensures done { IfNone result (block_events_left containers.now self.old ≡ 0) }
+    {
+        if self.ending > 0 {
+            self.ending -= 1;
+            return Some(BlockEvent::End);
+        }
+        if self.begun < containers.len() {
+            let container = containers[self.begun];
+            self.begun += 1;
+            return Some(BlockEvent::Start(container, self.pass_marker()));
+        }
+        let leaf = self.next_leaf(containers, content)?;
+        Some(BlockEvent::Block(leaf))
+    }
+
+    // Passes the marker of the next container. Answers how many bytes of the page stand before it.
+    fn pass_marker(&mut self) -> usize
+        ensures place { result ≡ self.old.front + marker_place self.old.place }
+        ensures passed { self.new ≡ record self.old { place = after_marker self.old.place } }
+    {
+        let indent = self.start.scan_space_upto(4);
+        let place = self.front + self.start.bytes_scanned();
+        scan_container(self.line, &mut self.start, indent);
+        place
+    }
+
+    // The next leaf block: the definition at the front of what is left of the content, or what is
+    // left of the block.
+    fn next_leaf(&mut self, containers: &[Container], content: &[u8]) -> Option<Leaf<'a>>
+        ensures leaf { IfSome result (λ block. (later : List LeafBlock)
+            → AreLeaves containers.now self.new.kind self.new.part (drop self.new.used content.now) later
+            → AreLeaves containers.now self.old.kind self.old.part (drop self.old.used content.now)
+            (seen_leaf block ∷ later)) }
+        ensures fewer { IfSome result (λ _.
+            length self.new.part.lines < length self.old.part.lines) }
+        ensures none { IfNone result (self.old.part.lines ≡ []) }
+        ensures same { self.new
+            ≡ record self.old { part = self.new.part; used = self.new.used } }
+    {
+        if self.leaf.lines == 0 {
+            return None;
+        }
+        let Some(taken) = take_definition(content_from(content, self.used)) else {
+            return Some(self.take_lines(self.leaf.kind, self.leaf.lines, containers));
+        };
+        self.used += taken.bytes;
+        Some(self.take_lines(BlockKind::Definition, taken.lines, containers))
+    }
+
+    // Takes so many lines from the front of what is left, or all where there are fewer, as a leaf
+    // block of this kind.
+    fn take_lines(&mut self, kind: BlockKind, count: usize, containers: &[Container]) -> Leaf<'a>
+        ensures leaf { seen_leaf result ≡ leaf_of kind (first_lines count self.old.part) }
+        ensures rest { self.new ≡ record self.old {
+          part = later_lines containers.now count self.old.part;
+        } }
+    {
+        let taken = front_of(self.lines, count, self.leaf.lines);
+        let first = scan_line(&self.lines[..taken.bytes]);
+        let rest = &self.lines[taken.bytes..];
+        let (indent, text) = first_rest(rest, containers);
+        let whole = self.leaf;
+        self.lines = rest;
+        self.leaf = Leaf {
+            kind: whole.kind,
+            line: whole.line + taken.lines,
+            lines: whole.lines - taken.lines,
+            start: whole.start + taken.bytes,
+            bytes: whole.bytes - taken.bytes,
+            indent,
+            text,
+            place: whole.start + taken.bytes,
+        };
+        Leaf {
+            kind,
+            line: whole.line,
+            lines: taken.lines,
+            start: whole.start,
+            bytes: taken.bytes,
+            indent: whole.indent,
+            text: whole.text,
+            place: whole.start + first.saturating_sub(whole.text.len()),
+        }
+    }
+}
+
+// The content from this place on.
+fn content_from(content: &[u8], place: usize) -> &[u8]
+    ensures { result.now ≡ drop place content.now }
+{
+    if place < content.len() {
+        &content[place..]
+    } else {
+        &[]
+    }
+}
+
+// The first lines of a text of `all` lines: so many, or all where there are fewer.
+fn front_of(text: &[u8], count: usize, all: usize) -> Taken
+    requires { all ≡ length (lines_of text.now) }
+    ensures { IsTaken text.now result (take count (lines_of text.now)) }
+{
+    if count >= all {
+        return Taken {
+            bytes: text.len(),
+            lines: all,
+        };
+    }
+    let mut taken = Taken::nothing();
+    while taken.lines < count {
+        let Some((_, more)) = taken.next(text) else {
+            return taken;
+        };
+        taken = more;
+    }
+    taken
+}
+
+// What the first of the lines has in the containers.
+fn first_rest<'a>(lines: &'a [u8], containers: &[Container]) -> (usize, &'a [u8])
+    ensures indent { result.0 ≡ (first_rest containers.now (lines_of lines.now)).indent }
+    ensures text { result.1.now ≡ (first_rest containers.now (lines_of lines.now)).text }
+{
+    let Some((line, _)) = Taken::nothing().next(lines) else {
+        return (0, &[]);
+    };
+    let (_, start) = go_on(line, Outer::new(containers));
+    rest_behind(line, start)
+}
