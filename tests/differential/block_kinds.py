@@ -10,7 +10,6 @@ from block_trees import EMPTY, agree, alike, has_later_header, lines_in, tables_
 
 # What of a line containers may take.
 CONTAINERS = rb"(?:[ \t>]|[-+*](?=[ \t])|[0-9]{1,9}[.)](?=[ \t]))*"
-DEFINITION = re.compile(rb"(?:[ \t>]|[-+*]|[0-9]{1,9}[.)])*\[(?:[^][\\]|\\.)+\]:", re.S)
 
 # An opening fence and white space that is not trimmed from its info string; a delimiter row with a colon elsewhere than at the ends
 # of a cell.
@@ -24,8 +23,8 @@ Kind = namedtuple("Kind", "words section fits")
 class Page:
     """A page of which the two say something else."""
 
-    def __init__(self, lines, ours, theirs):
-        self.lines, self.ours, self.theirs = lines, ours, theirs
+    def __init__(self, lines, ours, defined, theirs):
+        self.lines, self.ours, self.defined, self.theirs = lines, ours, defined, theirs
         self.text = b"".join(lines)
 
     def parting(self):
@@ -67,25 +66,31 @@ def in_a_table_page(pattern):
     return lambda page: page.has_our_table() and found.search(page.text) is not None
 
 
-def defined(page):
-    """The lines of paragraphs and headings of ours that begin with a link reference definition, and those of a thematic break
-    directly behind, which is text for cmark, with the paragraph behind that."""
+def hyphens(page):
+    """The lines of thematic breaks of hyphens directly behind definitions, which are text for cmark, with the paragraph behind them."""
     lines, end = set(), 0
     for block in page.ours:
-        begins = block.kind in ("paragraph", "heading") and DEFINITION.match(b"".join(page.lines[block.first - 1 : block.last]))
-        is_text = block.kind == "paragraph" or (block.kind == "break" and b"-" in page.lines[block.first - 1])
-        goes_on = is_text and block.first == end + 1 and end in lines
-        if begins or goes_on:
+        is_break = block.kind == "break" and block.first - 1 in page.defined and b"-" in page.lines[block.first - 1]
+        if is_break or block.kind == "paragraph" and block.first == end + 1 and end in lines:
             lines.update(range(block.first, block.last + 1))
             end = block.last
     return lines
 
 
-def has_a_definition(page):
-    """That a page has definitions, and all blocks of other lines agree."""
-    passed = defined(page)
-    others = [[it for it in blocks if it.first not in passed] for blocks in (page.ours, page.theirs)]
+def has_hyphens(page):
+    """That a page has such breaks, and all blocks of other lines agree; the lines of definitions before them are cmark's too."""
+    passed = hyphens(page)
+    others = [[it for it in blocks if it.first not in passed | page.defined and it.kind != "list"] for blocks in (page.ours, page.theirs)]
     return bool(passed) and agree(*others)
+
+
+def is_loose(page):
+    """That the two part at a list that is loose here and tight for cmark, and a thematic break in it has a blank line behind it."""
+    our, their = page.parting()
+    if not (our and their) or our.kind != "list" or their != our._replace(detail=(*our.detail[:2], True), last={0}):
+        return False
+    ends = [it.last for it in page.ours if it.kind == "break" and it.depth > our.depth and it.first >= our.first]
+    return any(EMPTY.fullmatch(page.lines[it]) for it in ends if it < len(page.lines))
 
 
 def is_column(first, lines):
@@ -116,7 +121,8 @@ def begins_blank(page):
 
 
 KINDS = {
-    "definition": Kind("have a link reference definition", "4.7", has_a_definition),
+    "hyphens": Kind("have hyphens behind link reference definitions", "4.1", has_hyphens),
+    "loose": Kind("have a blank line behind a thematic break in an item", "5.3", is_loose),
     "declaration": Kind("begin a declaration with a small letter", "4.6, condition 4", begins(rb"<![a-z]")),
     "cdata": Kind("have <![CDATA[ in small letters", "4.6, condition 5", begins(rb"<!\[(?!CDATA)(?i:cdata)\[")),
     "raw": Kind("have <pre/> or the like alone in its line", "4.6, condition 7", begins(rb"<(?i:pre|script|style|textarea)/>")),

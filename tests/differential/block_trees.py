@@ -25,8 +25,9 @@ LINE = re.compile(rb"[^\r\n]*(?:\r\n|\n|\r)|[^\r\n]+")
 EMPTY = re.compile(rb"[ \t>]*[\r\n]*")
 REPLACEMENT = "\ufffd".encode()
 
-# A block or container. `detail` is a level, an info string, a number of columns, or the marker of an item: its delimiter, and the
-# number that its list starts at or None. `last` is 0 of a container; of what cmark says it is the set of lines that it may be.
+# A block, a list or a container. `detail` is a level, an info string, a number of columns, the marker of an item: its delimiter, and
+# the number that its list starts at or None; or of a list these two, and whether it is tight. `last` is 0 of a container and a list;
+# of what cmark says it is the set of lines that it may be.
 Block = namedtuple("Block", "kind detail first last depth")
 
 
@@ -77,24 +78,58 @@ def resolved(info):
     return in_attribute(re.sub(rb"\\([!-/:-@[-`{-~])|" + reference, meaning, text))
 
 
+def our_marker(delimiter, start):
+    return {b".": "period", b")": "paren"}.get(delimiter, "bullet"), int(start)
+
+
 def our_detail(kind, more):
     if kind == "item":
-        return {b".": "period", b")": "paren"}.get(more[0], "bullet"), int(more[1])
+        return our_marker(*more)
+    if kind == "list":
+        return *our_marker(*more[:2]), more[2] == b"tight"
     if kind in ("heading", "setext", "table"):
         return int(more[0])
     return resolved(b" ".join(more[2:])) if kind == "fenced" else b""
 
 
+def in_order(found):
+    """Blocks and lists where they begin: a list before its first item."""
+    return sorted(found, key=lambda it: (it.first, it.depth, it.kind != "list"))
+
+
+def our_rows(page):
+    """What cmark_blocks prints of a page: of each line its numbers, the kind, and the words after it."""
+    rows = [row.split(b" ") for row in said_by(OURS, page).splitlines()]
+    return [(int(first), int(last), int(depth), kind.decode(), more) for first, last, depth, kind, *more in rows]
+
+
+def definitions_in(rows):
+    """The lines of link reference definitions, which are no blocks of cmark."""
+    return {line for first, last, _, kind, _ in rows if kind == "definition" for line in range(first, last + 1)}
+
+
+def begin_of(first, kind, defined):
+    """The first line of a block, as cmark has it: a paragraph or setext heading begins with the definitions directly before it."""
+    while kind in ("paragraph", "setext") and first - 1 in defined:
+        first -= 1
+    return first
+
+
+def our_block(row, lines, defined):
+    """A block, a list or a container. Whether a list is tight isn't compared where it has a definition: for cmark that is no block."""
+    first, last, depth, kind, more = row
+    detail = our_detail(kind, more)
+    if kind == "list":
+        return Block(kind, (*detail[:2], None) if defined & set(range(first, last + 1)) else detail, first, 0, depth)
+    end = 0 if kind in CONTAINERS.values() else trimmed(lines, first, last)
+    return Block(SAME_KIND.get(kind, kind), detail, begin_of(first, kind, defined), end, depth)
+
+
 def our_blocks(page):
-    """What cmark_blocks says of a page. Blank lines are no blocks of cmark."""
-    lines, found = lines_of(page), []
-    for row in said_by(OURS, page).splitlines():
-        first, last, depth, name, *more = row.split(b" ")
-        kind, first = name.decode(), int(first)
-        end = 0 if kind in CONTAINERS.values() else trimmed(lines, first, int(last))
-        if kind != "blank":
-            found.append(Block(SAME_KIND.get(kind, kind), our_detail(kind, more), first, end, int(depth)))
-    return found
+    """What cmark_blocks says of a page, and the lines of its definitions. Blank lines and definitions are no blocks of cmark."""
+    lines, rows = lines_of(page), our_rows(page)
+    defined = definitions_in(rows)
+    return in_order(our_block(it, lines, defined) for it in rows if it[3] not in ("blank", "definition")), defined
 
 
 def parsed(said):
@@ -117,8 +152,7 @@ def elements(document):
     while waiting:
         element, parent, depth = waiting.pop()
         name = name_of(element)
-        if name != "list":
-            yield element, parent, depth
+        yield element, parent, depth
         if name not in BLOCKS:
             waiting += [(it, element, depth + (name in CONTAINERS)) for it in reversed(element)]
 
@@ -126,6 +160,11 @@ def elements(document):
 def marker_of(item, items):
     """The delimiter of an item, and what its list starts at where it is the first."""
     return items.get("delim", "bullet"), int(items.get("start", 0)) if items[0] is item else None
+
+
+def list_detail(items):
+    """The delimiter of a list, what it starts at, and whether it is tight."""
+    return items.get("delim", "bullet"), int(items.get("start", 0)), items.get("tight") == "true"
 
 
 def their_detail(element, kind):
@@ -154,12 +193,14 @@ def their_blocks(document, lines):
     found = []
     for element, parent, depth in elements(document):
         kind = CONTAINERS.get(name_of(element))
-        if kind:
+        if name_of(element) == "list":
+            found.append(Block("list", list_detail(element), lines_in(element)[0], {0}, depth))
+        elif kind:
             detail = marker_of(element, parent) if kind == "item" else b""
             found.append(Block(kind, detail, lines_in(element)[0], {0}, depth))
         else:
             found.append(their_block(element, depth, lines))
-    return found
+    return in_order(found)
 
 
 def may_have_table(page):
@@ -181,9 +222,12 @@ def has_later_header(document):
 
 
 def alike(our, their):
-    """Whether they are the same, but that of an item which is not the first of its list cmark has no number."""
+    """Whether they are the same, but that of an item which is not the first of its list cmark has no number, and that of some lists
+    it isn't asked whether they are tight."""
     if our.kind == their.kind == "item" and their.detail[1] is None:
         our = our._replace(detail=(our.detail[0], None))
+    if our.kind == their.kind == "list" and our.detail[2] is None:
+        their = their._replace(detail=(*their.detail[:2], None))
     return our._replace(last=their.last) == their and our.last in their.last
 
 

@@ -18,12 +18,14 @@ RECORDED = [
 3 3 0 quote
 3 3 1 item - 0
 3 4 2 paragraph
+3 4 1 list - 0 tight
 5 5 0 blank
 6 6 0 item ) 3
 6 6 1 paragraph
 7 7 0 item ) 4
 7 7 1 paragraph
 8 8 1 blank
+6 7 0 list ) 3 tight
 9 10 0 html 6
 """, b"""\
 <document sourcepos="1:1-10:1" xmlns="http://commonmark.org/xml/1.0">
@@ -108,8 +110,8 @@ f
   </block_quote>
 </document>
 """),
-    Recorded("definition", b"[a]: /b\n\nc\n", b"""\
-1 1 0 paragraph
+    Recorded("agree", b"[a]: /b\n\nc\n", b"""\
+1 1 0 definition
 2 2 0 blank
 3 3 0 paragraph
 """, b"""\
@@ -119,8 +121,8 @@ f
   </paragraph>
 </document>
 """, None),
-    Recorded("definition", b"[a]: /b\n---\nc\n", b"""\
-1 1 0 paragraph
+    Recorded("hyphens", b"[a]: /b\n---\nc\n", b"""\
+1 1 0 definition
 2 2 0 break
 3 3 0 paragraph
 """, b"""\
@@ -130,6 +132,24 @@ f
     <softbreak />
     <text sourcepos="2:1-2:1" xml:space="preserve">c</text>
   </paragraph>
+</document>
+""", None),
+    Recorded("loose", b"* ---\n\n  a\n", b"""\
+1 1 0 item * 0
+1 1 1 break
+2 2 1 blank
+3 3 1 paragraph
+1 3 0 list * 0 loose
+""", b"""\
+<document sourcepos="1:1-3:3" xmlns="http://commonmark.org/xml/1.0">
+  <list sourcepos="1:1-3:3" type="bullet" tight="true">
+    <item sourcepos="1:1-3:3">
+      <thematic_break sourcepos="1:3-2:0" />
+      <paragraph sourcepos="3:3-3:3">
+        <text sourcepos="3:3-3:3" xml:space="preserve">a</text>
+      </paragraph>
+    </item>
+  </list>
 </document>
 """, None),
     Recorded("declaration", b"a\n<!b\n", b"""\
@@ -283,6 +303,7 @@ f
 1 1 0 item - 0
 1 1 1 blank
 2 2 0 blank
+1 1 0 list - 0 tight
 3 3 0 paragraph
 """, b"""\
 <document sourcepos="1:1-3:3" xmlns="http://commonmark.org/xml/1.0">

@@ -82,8 +82,9 @@ OBJECTS = Page(
     "objects",
     "--json",
     b"> ~~~ a",
-    b'{"first":1,"last":1,"depth":0,"offset":0,"kind":"quote"}\n'
-    b'{"first":1,"last":1,"depth":1,"offset":0,"kind":"fenced","count":3,"fence":"~","info":"a","bytes":7}\n',
+    b'{"first":1,"last":1,"depth":0,"offset":0,"column":1,"kind":"quote"}\n'
+    b'{"first":1,"last":1,"depth":1,"offset":0,"column":3,"kind":"fenced","count":3,"fence":"~","info":"a","bytes":7}\n'
+    b'{"last":1,"depth":0,"end":7,"kind":"end"}\n',
 )
 
 # One of each form.
@@ -98,7 +99,13 @@ SMALL = [
     Page("an info string", "", b"``` \xc3\n", b"1 1 0 fenced 3 ` \\u00c3\n"),
     Page("HTML", "", b"<!--\n\n-->\n<p>\n", b"1 3 0 html 2\n4 4 0 html 6\n"),
     Page("a table", "", b"|a|b|\n|-|-|\n|c|d|\n", b"1 3 0 table 2\n"),
-    Page("containers", "", b"> a\n2) b\n***\n", b"1 1 0 quote\n1 1 1 paragraph\n2 2 0 item ) 2\n2 2 1 paragraph\n3 3 0 break\n"),
+    Page(
+        "containers",
+        "",
+        b"> a\n2) b\n***\n",
+        b"1 1 0 quote\n1 1 1 paragraph\n2 2 0 item ) 2\n2 2 1 paragraph\n2 2 0 list ) 2 tight\n3 3 0 break\n",
+    ),
+    Page("definitions", "", b"[a]: /b\n[c]:\n/d\ne\n", b"1 1 0 definition\n2 3 0 definition\n4 4 0 paragraph\n"),
     Page("deep containers", "", b">" * DEEP + b"a\n", b"".join(b"1 1 %d quote\n" % it for it in range(DEEP)) + b"1 1 %d paragraph\n" % DEEP),
     Page("no page", "", b"", b""),
 ]
@@ -111,7 +118,7 @@ def headings(count):
 
 def objects(count):
     shown = b"".join(
-        b'{"first":%d,"last":%d,"depth":0,"offset":%d,"kind":"break","bytes":8}\n' % (line, line, 8 * line - 8)
+        b'{"first":%d,"last":%d,"depth":0,"offset":%d,"column":1,"kind":"break","bytes":8}\n' % (line, line, 8 * line - 8)
         for line in range(1, count + 1)
     )
     return Page("objects of breaks", "--json", b"* * * *\n" * count, shown)
@@ -119,7 +126,7 @@ def objects(count):
 
 def items(count):
     shown = b"".join(b"%d %d 0 item - 0\n%d %d 1 paragraph\n" % ((line,) * 4) for line in range(1, count + 1))
-    return Page("items", "", b"- ab cd\n" * count, shown)
+    return Page("items", "", b"- ab cd\n" * count, shown + b"1 %d 0 list - 0 tight\n" % count)
 
 
 def a_paragraph(count):

@@ -3,7 +3,7 @@
 
 use page_blocks::files::OpensFiles;
 use page_blocks::program::run_program;
-use program_faults::{Reason, complain, reason_of};
+use program_faults::{Reason, StepWriter, complain, reason_of};
 use std::env;
 use std::fs::File;
 use std::io::{self, ErrorKind};
@@ -29,34 +29,37 @@ impl OpensFiles for SystemFiles<'_> {
     }
 }
 
+const OUT_OF_MEMORY: &str = "cmark_blocks: out of memory\n";
+
 // What is said where the words can't be had.
 fn words_fault(error: io::Error) -> &'static str {
     match error.kind() {
-        ErrorKind::OutOfMemory => "cmark_blocks: out of memory\n",
+        ErrorKind::OutOfMemory => OUT_OF_MEMORY,
         _ => "cmark_blocks: a word of the command line is not UTF-8\n",
     }
+}
+
+// Says why it stops before it reads a page.
+fn stop<V: StepWriter>(faults: &mut V, why: &str) -> ExitCode {
+    complain(faults, why);
+    ExitCode::from(3u8)
 }
 
 fn main(rt: HostRuntime) -> ExitCode {
     let mut faults = rt.stderr();
     let arguments = match env::args(&rt) {
         Ok(arguments) => arguments,
-        Err(error) => {
-            complain(&mut faults, words_fault(error));
-            return ExitCode::from(3u8);
-        }
+        Err(error) => return stop(&mut faults, words_fault(error)),
     };
     let Ok(texts) = arguments.skip(1).collect::<Vec<String>>(rt.alloc()) else {
-        complain(&mut faults, "cmark_blocks: out of memory\n");
-        return ExitCode::from(3u8);
+        return stop(&mut faults, OUT_OF_MEMORY);
     };
     let Ok(words) = texts
         .iter()
         .map(|text| text.as_str())
         .collect::<Vec<&str>>(rt.alloc())
     else {
-        complain(&mut faults, "cmark_blocks: out of memory\n");
-        return ExitCode::from(3u8);
+        return stop(&mut faults, OUT_OF_MEMORY);
     };
     ExitCode::from(run_program(
         rt.alloc(),

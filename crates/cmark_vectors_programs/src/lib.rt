@@ -6,6 +6,8 @@ mod asserts;
 #[cfg(test)]
 mod blocks;
 #[cfg(test)]
+mod events;
+#[cfg(test)]
 mod inlines;
 #[cfg(test)]
 mod lists;

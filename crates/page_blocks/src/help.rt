@@ -17,7 +17,8 @@ usage: cmark_blocks [--json] [--] [FILE ..]
 
 Prints a line for each block of a page of Markdown: the number of its first line, the number of
 its last line, how many containers it is in, and its kind. Before it comes a line for each
-container that begins in its first line, outermost first, with the number of that line twice.
+container that begins in its first line, outermost first, with the number of that line twice. A
+list has a line where it is shown to have ended: before the lines of what shows it, or last.
 
   blank            blank lines in a row
   break            a thematic break
@@ -31,27 +32,35 @@ container that begins in its first line, outermost first, with the number of tha
                    hexadecimal digits
   html NUMBER      an HTML block, by the number of its start condition
   table COLUMNS    a table of GitHub Flavored Markdown
+  definition       a link reference definition
   paragraph        a paragraph, with its lazy continuation lines
   quote            a block quote
   item C START     a list item: its bullet or delimiter, and the number that it starts at
+  list C START tight
+  list C START loose
+                   a list: the bullet or delimiter of its items, the number that it starts at, and
+                   whether it is tight or loose; its last line is that of its last block
 
 FILE is a page; - is standard input, and so is no FILE. The lines of the pages follow one another,
 and the lines of each page are counted from 1. Behind the word -- all words are files.
 
-With --json each line is an object. Its members are first, last, depth and kind, as above; offset,
-how many bytes of the page stand before its first line; of a block bytes, how many bytes its lines
-have; level of a heading; count, fence and info of fenced code; condition of an HTML block; columns
-of a table; delimiter and start of an item, and indent, by how many columns its text is indented
-behind the container around it. Where info is not UTF-8, each part of it that isn't is U+FFFD, and
-info_bytes has two hexadecimal digits for each of its bytes.
+With --json each line is an object. Its members are first, last, depth and kind, as above; of blocks
+and containers offset, how many bytes of the page stand before the first line, and column, the byte
+of that line that the text or the marker begins with, counted from 1; of a block bytes, how many
+bytes its lines have; level of a heading; count, fence and info of fenced code; condition of an HTML
+block; columns of a table; delimiter and start of an item or a list; tight of a list; and indent of
+an item, by how many columns its text is indented from the container around it. Where info is not
+UTF-8, each part of it that isn't is U+FFFD, and info_bytes has two hexadecimal digits for each of
+its bytes.
 
-Together the blocks contain every line of the page. Nothing is printed about where a container
-ends, or about which items make up a list, tight or loose.
+Where a container ends there is an object of the kind end: last is its last line, depth how many
+containers are around it, and end how many bytes of the page stand before what follows it. Where two
+or more files are named, an object of one member, page, has the name of each before its other ones.
+
+Together the blocks contain every line of the page.
 
 Some pages are not read as CommonMark and GitHub Flavored Markdown read them:
 
-  - Link reference definitions are no lines of their own: they are printed with the paragraph or
-    heading that they stand in front of, and where nothing follows them as a paragraph.
   - A header row that follows other lines of its paragraph doesn't begin a table.
   - A table's delimiter row needs a pipe: \"a\" and then \":-\" is not a table.
   - Vertical tabs and form feeds count as white space.

@@ -72,8 +72,12 @@ fn push_digits(text: &mut String, info: &[u8]) -> Result<(), AllocError>
     text.push_str("\"")
 }
 
-// Adds bytes as the text of a JSON string.
-fn push_json_text(alloc: Global, text: &mut String, bytes: &[u8]) -> Result<(), AllocError>
+/// Adds bytes as the text of a JSON string.
+pub(crate) fn push_json_text(
+    alloc: Global,
+    text: &mut String,
+    bytes: &[u8],
+) -> Result<(), AllocError>
     ensures { OnOk result (string_bytes text.new ≡ string_bytes text.old ++ json_text bytes.now) }
 {
     let escaped = escape_bytes(alloc, bytes)?;

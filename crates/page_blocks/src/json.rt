@@ -1,30 +1,77 @@
 //! Blocks and containers as JSON Lines.
 ghost use Rattle.std.specs.Prelude.{◌≡◌, ◌++◌, OnOk, decimal, string_bytes};
-ghost use Rattle.page_blocks.specs.json.Json.{kind_json, container_json, front_json, item_json, size_json};
+ghost use Rattle.page_blocks.specs.json.Json.{kind_json, container_json, front_json, marker_json, size_json};
+ghost use Rattle.page_blocks.specs.json.Json.{end_json, list_json, page_json, truth};
 ghost use Rattle.markdown_blocks.specs.declared.blocks.BlockKind.TheVariants.{Fenced};
 
-use crate::info::{push_byte, push_info_json};
+use crate::info::{push_byte, push_info_json, push_json_text};
+use crate::printing::Front;
 use markdown_blocks::blocks::BlockKind;
-use markdown_blocks::containers::{Container, ListItem};
+use markdown_blocks::containers::Container;
 use markdown_blocks::info::info_of;
+use markdown_blocks::lists::ListBlock;
+use markdown_blocks::taken::Taken;
 use std::alloc::{AllocError, Global};
 
 /// Adds the front of an object: its lines, how many containers stand around, how many bytes of the
-/// page before, the name of its kind.
-pub(crate) fn push_front_json(
-    text: &mut String,
-    first: u128,
-    last: u128,
-    depth: usize,
-    offset: usize,
-) -> Result<(), AllocError>
-    ensures { OnOk result (string_bytes text.new
-        ≡ string_bytes text.old ++ front_json first last depth offset) }
+/// page before, where in its line it begins, the name of its kind.
+pub(crate) fn push_front_json(text: &mut String, front: Front) -> Result<(), AllocError>
+    ensures { OnOk result (string_bytes text.new ≡ string_bytes text.old ++ front_json front) }
+{
+    let (first, last, depth) = (front.first, front.last, front.depth);
+    write!(
+        text,
+        "{{\"first\":{first},\"last\":{last},\"depth\":{depth}"
+    )?;
+    write!(
+        text,
+        ",\"offset\":{},\"column\":{},\"kind\":",
+        front.offset, front.column
+    )
+}
+
+/// Adds the object of the end of a container in so many others, after so much of the page.
+pub(crate) fn push_end_json(text: &mut String, at: Taken, depth: usize) -> Result<(), AllocError>
+    ensures { OnOk result (string_bytes text.new ≡ string_bytes text.old
+        ++ end_json at.lines depth at.bytes) }
 {
     write!(
         text,
-        "{{\"first\":{first},\"last\":{last},\"depth\":{depth},\"offset\":{offset},\"kind\":"
+        "{{\"last\":{},\"depth\":{depth},\"end\":{},\"kind\":\"end\"",
+        at.lines, at.bytes
     )
+}
+
+/// Adds the object of a list.
+pub(crate) fn push_list_json(text: &mut String, list: ListBlock) -> Result<(), AllocError>
+    ensures { OnOk result (string_bytes text.new ≡ string_bytes text.old ++ list_json list) }
+{
+    let first = list.line as u128 + 1;
+    write!(
+        text,
+        "{{\"first\":{first},\"last\":{},\"depth\":{}",
+        list.end, list.depth
+    )?;
+    text.push_str(",\"kind\":\"list\"")?;
+    push_marker_json(text, list.delimiter, list.start)?;
+    text.push_str(",\"tight\":")?;
+    text.push_str(truth(!list.is_loose))
+}
+
+// How JSON writes what holds or does not.
+fn truth(holds: bool) -> &'static str
+    ensures { result.now ≡ truth holds }
+{
+    if holds { "true" } else { "false" }
+}
+
+/// Adds the object of the name of a page.
+pub(crate) fn push_page_json(alloc: Global, text: &mut String, name: &str) -> Result<(), AllocError>
+    ensures { OnOk result (string_bytes text.new ≡ string_bytes text.old ++ page_json name.now) }
+{
+    text.push_str("{\"page\":\"")?;
+    push_json_text(alloc, text, name.as_bytes())?;
+    text.push_str("\"")
 }
 
 /// Adds how many bytes a block's lines have.
@@ -55,6 +102,7 @@ pub(crate) fn push_kind_json(
             push_number(text, "\"html\",\"condition\":", usize::from(kind.number()))
         }
         BlockKind::Table(columns) => write!(text, "\"table\",\"columns\":{columns}"),
+        BlockKind::Definition => text.push_str("\"definition\""),
         BlockKind::Paragraph => text.push_str("\"paragraph\""),
     }
 }
@@ -93,20 +141,21 @@ pub(crate) fn push_container_json(text: &mut String, container: Container) -> Re
     match container {
         Container::Quote => text.push_str("\"quote\""),
         Container::Item(item) => {
-            push_item_json(text, item)?;
+            text.push_str("\"item\"")?;
+            push_marker_json(text, item.delimiter, item.start)?;
             write!(text, ",\"indent\":{}", item.width)
         }
     }
 }
 
-// Adds the kind of a list item, with what is known of its marker.
-fn push_item_json(text: &mut String, item: ListItem) -> Result<(), AllocError>
-    ensures { OnOk result (string_bytes text.new ≡ string_bytes text.old ++ item_json item) }
+// Adds a bullet or delimiter, and the number that it starts at.
+fn push_marker_json(text: &mut String, delimiter: u8, start: u32) -> Result<(), AllocError>
+    ensures { OnOk result (string_bytes text.new
+        ≡ string_bytes text.old ++ marker_json delimiter start) }
 {
     write!(
         text,
-        "\"item\",\"delimiter\":\"{}\",\"start\":{}",
-        char::from(item.delimiter),
-        item.start
+        ",\"delimiter\":\"{}\",\"start\":{start}",
+        char::from(delimiter)
     )
 }

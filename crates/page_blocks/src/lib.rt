@@ -6,6 +6,7 @@ pub mod help;
 mod info;
 mod json;
 mod page;
+mod printer;
 mod printing;
 pub mod program;
 mod reading;

@@ -1,66 +1,74 @@
-//! The blocks of a page, told from the first to the last.
+//! The lines of a page, while it is read.
 ghost use Rattle.std.specs.Prelude.{◌≡◌, ◌<◌, ◌≤◌, ◌+◌, ◌-◌, ◌++◌, [], List, ℕ};
 ghost use Rattle.std.specs.Prelude.{length, take, drop, IsTrue, MatchBool, IfOk, IfSome, IfNone, OnOk, string_bytes};
 ghost use Rattle.markdown_scanners_tree.specs.scanners.TextLines.{lines_of};
-ghost use Rattle.page_blocks.specs.page.Going.{HasTold, Tells};
-ghost use Rattle.page_blocks.specs.page.Told.{told_containers, the_front};
 ghost use Rattle.markdown_blocks.specs.taken.Whole.{AreWhole};
+ghost use Rattle.page_blocks.specs.page.Going.{HasTold, Tells};
+ghost use Rattle.page_blocks.specs.page.Told.{TellsPage, the_front};
+ghost use Rattle.page_blocks.specs.printer.Printers.{printed_of};
 
-use crate::printing::{Place, push_block, push_container};
+use crate::printer::Printer;
 use crate::words::Form;
-use markdown_blocks::containers::Container;
+use markdown_blocks::events::BlockEvents;
 use markdown_blocks::walk::Walk;
 use markdown_blocks::whole::whole_lines;
 use std::alloc::{AllocError, Global};
 
-/// How far a page is told: the open containers, how much of it stands before the next block, and the
-/// lines that are told and not yet written.
+/// How far a page is told: the open containers, the content of a block that may begin with a link
+/// reference definition, and the lines.
 #[derive(Drop)]
 pub(crate) struct Telling {
-    form: Form,
     walk: Walk,
-    pub(crate) at: Place,
-    pub(crate) told: String,
+    content: Vec<u8>,
+    pub(crate) printer: Printer,
 }
 
 impl Telling {
     /// Nothing is told of a page.
     pub(crate) fn new(alloc: Global, form: Form) -> Telling
         ensures told { (page : List ℕ) → HasTold page [] result (lines_of page) }
-        ensures form { result.form ≡ form }
-        ensures at { result.at ≡ the_front }
-        ensures nothing { string_bytes result.told ≡ [] }
+        ensures form { result.printer.form ≡ form }
+        ensures at { printed_of result.printer ≡ the_front }
+        ensures nothing { string_bytes result.printer.text ≡ [] }
     {
         Telling {
-            form,
             walk: Walk::new(alloc),
-            at: Place { lines: 0, bytes: 0 },
-            told: String::new(alloc),
+            content: Vec::new(alloc),
+            printer: Printer::new(alloc, form),
         }
     }
 
     /// Tells the blocks at the front of the text that end there whatever bytes follow it, and all
-    /// of them where the input has ended. Answers how many bytes they have.
+    /// of the page where the input has ended. Answers how many bytes the blocks have.
     pub(crate) fn tell(
         &mut self,
         alloc: Global,
         text: &[u8],
         has_ended: bool,
     ) -> Result<usize, AllocError>
-        requires lines { self.old.at.lines + length text.now ≤ usize.MAX }
-        requires bytes { self.old.at.bytes + length text.now ≤ usize.MAX }
-        ensures told { IfOk result (λ count.
-            (more : List ℕ) → (IsTrue has_ended → more ≡ [])
+        requires lines { self.old.printer.at.lines + length text.now ≤ usize.MAX }
+        requires bytes { self.old.printer.at.bytes + length text.now ≤ usize.MAX }
+        ensures told { IfOk result (λ count. ¬ IsTrue has_ended → (more : List ℕ)
             → Tells self.old (lines_of (text.now ++ more))
             self.new (lines_of (drop count text.now ++ more))) }
-        ensures all { IfOk result (λ count. IsTrue has_ended → count ≡ length text.now) }
+        ensures ended { OnOk result (IsTrue has_ended → (page written : List ℕ)
+            → HasTold page written self.old (lines_of text.now)
+            → TellsPage self.old.printer.form page
+            (written ++ string_bytes self.new.printer.text)) }
         ensures within { IfOk result (λ count. count ≤ length text.now) }
-        ensures lines { IfOk result (λ count. self.new.at.lines ≤ self.old.at.lines + count) }
-        ensures bytes { IfOk result (λ count. self.new.at.bytes ≡ self.old.at.bytes + count) }
-        ensures form { OnOk result (self.new.form ≡ self.old.form) }
+        ensures lines { IfOk result (λ count. ¬ IsTrue has_ended →
+            self.new.printer.at.lines ≤ self.old.printer.at.lines + count) }
+        ensures bytes { IfOk result (λ count. ¬ IsTrue has_ended →
+            self.new.printer.at.bytes ≡ self.old.printer.at.bytes + count) }
+        ensures form { OnOk result (self.new.printer.form ≡ self.old.printer.form) }
     {
         let (lines, _) = text.split_at(front_of(text, has_ended));
-        self.tell_lines(alloc, lines, has_ended)
+        let count = self.tell_lines(alloc, lines, has_ended)?;
+        if has_ended {
+            let depth = self.walk.containers().len();
+            self.printer.print_end(alloc, depth)?;
+        }
+        Ok(count)
     }
 
     // The same of whole lines.
@@ -70,17 +78,19 @@ impl Telling {
         lines: &[u8],
         has_ended: bool,
     ) -> Result<usize, AllocError>
-        requires lines { self.old.at.lines + length lines.now ≤ usize.MAX }
-        requires bytes { self.old.at.bytes + length lines.now ≤ usize.MAX }
+        requires lines { self.old.printer.at.lines + length lines.now ≤ usize.MAX }
+        requires bytes { self.old.printer.at.bytes + length lines.now ≤ usize.MAX }
         ensures told { IfOk result (λ count.
             (more : List (List ℕ)) → (IsTrue has_ended → more ≡ [])
             → Tells self.old (lines_of lines.now ++ more)
             self.new (lines_of (drop count lines.now) ++ more)) }
         ensures all { IfOk result (λ count. IsTrue has_ended → count ≡ length lines.now) }
         ensures within { IfOk result (λ count. count ≤ length lines.now) }
-        ensures lines { IfOk result (λ count. self.new.at.lines ≤ self.old.at.lines + count) }
-        ensures bytes { IfOk result (λ count. self.new.at.bytes ≡ self.old.at.bytes + count) }
-        ensures form { OnOk result (self.new.form ≡ self.old.form) }
+        ensures lines { IfOk result (λ count.
+            self.new.printer.at.lines ≤ self.old.printer.at.lines + count) }
+        ensures bytes { IfOk result (λ count.
+            self.new.printer.at.bytes ≡ self.old.printer.at.bytes + count) }
+        ensures form { OnOk result (self.new.printer.form ≡ self.old.printer.form) }
     {
         let mut count = 0;
         while let Some(more) = self.tell_block(alloc, &lines[count..], has_ended)? {
@@ -97,8 +107,8 @@ impl Telling {
         lines: &[u8],
         has_ended: bool,
     ) -> Result<Option<usize>, AllocError>
-        requires lines { self.old.at.lines + length lines.now ≤ usize.MAX }
-        requires bytes { self.old.at.bytes + length lines.now ≤ usize.MAX }
+        requires lines { self.old.printer.at.lines + length lines.now ≤ usize.MAX }
+        requires bytes { self.old.printer.at.bytes + length lines.now ≤ usize.MAX }
         ensures told { IfOk result (λ found. IfSome found (λ count.
             (more : List (List ℕ)) → (IsTrue has_ended → more ≡ [])
             → Tells self.old (lines_of lines.now ++ more)
@@ -107,30 +117,27 @@ impl Telling {
         ensures within { IfOk result (λ found. IfSome found (λ count.
             count ≤ length lines.now)) }
         ensures lines { IfOk result (λ found. IfSome found (λ count.
-            self.new.at.lines ≤ self.old.at.lines + count)) }
+            self.new.printer.at.lines ≤ self.old.printer.at.lines + count)) }
         ensures bytes { IfOk result (λ found. IfSome found (λ count.
-            self.new.at.bytes ≡ self.old.at.bytes + count)) }
+            self.new.printer.at.bytes ≡ self.old.printer.at.bytes + count)) }
         ensures none { IfOk result (λ found. IfNone found (IsTrue has_ended → lines.now ≡ [])) }
-        ensures unchanged { IfOk result (λ found. IfNone found (self.new ≡ self.old)) }
-        ensures form { OnOk result (self.new.form ≡ self.old.form) }
+        ensures same_lines { IfOk result (λ found.
+            IfNone found (self.new.printer ≡ self.old.printer)) }
+        ensures same_walk { IfOk result (λ found. IfNone found (self.new.walk ≡ self.old.walk)) }
+        ensures form { OnOk result (self.new.printer.form ≡ self.old.printer.form) }
     {
-        let Some(step) = self.walk.next_block(alloc, lines, has_ended)? else {
+        let depth = self.walk.containers().len();
+        let Some(step) = self
+            .walk
+            .next_block(alloc, &mut self.content, lines, has_ended)?
+        else {
             return Ok(None);
         };
-        let containers = self.walk.containers();
-        push_containers(&mut self.told, self.form, self.at, containers, step.kept)?;
-        push_block(
-            alloc,
-            &mut self.told,
-            self.form,
-            self.at,
-            containers.len(),
-            step.block,
-            step.text,
-        )?;
-        self.at.lines += step.block.taken.lines;
-        self.at.bytes += step.block.taken.bytes;
-        Ok(Some(step.block.taken.bytes))
+        let count = step.block.taken.bytes;
+        let events = BlockEvents::new(step, self.printer.at, depth);
+        self.printer
+            .print_block(alloc, self.walk.containers(), &self.content, events)?;
+        Ok(Some(count))
     }
 }
 
@@ -143,21 +150,4 @@ fn front_of(text: &[u8], has_ended: bool) -> usize
         return text.len();
     }
     whole_lines(text)
-}
-
-// Adds the lines of the containers behind the first ones, before which so much of the page stands.
-fn push_containers(
-    told: &mut String,
-    form: Form,
-    at: Place,
-    containers: &[Container],
-    first: usize,
-) -> Result<(), AllocError>
-    ensures { OnOk result (string_bytes told.new ≡ string_bytes told.old
-        ++ told_containers form at first (drop first containers.now)) }
-{
-    for depth in first..containers.len() {
-        push_container(told, form, at, depth, containers[depth])?;
-    }
-    Ok(())
 }

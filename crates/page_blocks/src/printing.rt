@@ -1,78 +1,168 @@
 //! The printed lines of blocks and containers.
-ghost use Rattle.std.specs.Prelude.{◌≡◌, ◌+◌, ◌++◌, OnOk, string_bytes};
-ghost use Rattle.page_blocks.specs.page.Told.{block_told, kind_told, container_told, front_told, size_told, end_told, told_line};
-ghost use Rattle.page_blocks.specs.page.Told.{kind_text, container_text, fence_text, info_text};
+ghost use Rattle.std.specs.Prelude.{◌≡◌, ◌++◌, IfOk, OnOk, string_bytes};
+ghost use Rattle.markdown_blocks.specs.events.Events.{seen_leaf};
+ghost use Rattle.page_blocks.specs.page.Told.{kind_told, container_told, front_told, size_told, line_end};
+ghost use Rattle.page_blocks.specs.page.Told.{column_of, place_of, container_line, end_line, leaf_line, list_line};
+ghost use Rattle.page_blocks.specs.page.Told.{kind_text, container_text, fence_text, info_text, list_text, tightness, title_of};
 
 use crate::info::push_bytes;
-use crate::json::{push_container_json, push_front_json, push_kind_json, push_size_json};
+use crate::json::{
+    push_container_json, push_end_json, push_front_json, push_kind_json, push_list_json,
+    push_page_json, push_size_json,
+};
 use crate::words::Form;
-use markdown_blocks::blocks::{Block, BlockKind};
+use markdown_blocks::blocks::BlockKind;
 use markdown_blocks::containers::Container;
+use markdown_blocks::events::Leaf;
 use markdown_blocks::info::info_of;
+use markdown_blocks::lists::ListBlock;
+use markdown_blocks::taken::Taken;
 use std::alloc::{AllocError, Global};
 
-/// How much of a page stands before a line.
+/// What stands at the front of a line: the first line and the last one of what it is about, how many
+/// containers stand around that, how many bytes of the page before its first line, and with which
+/// byte of that line it begins, counted from 1.
 #[derive(Clone, Copy)]
-pub(crate) struct Place {
-    pub(crate) lines: usize,
-    pub(crate) bytes: usize,
+pub(crate) struct Front {
+    pub(crate) first: u128,
+    pub(crate) last: u128,
+    pub(crate) depth: usize,
+    pub(crate) offset: usize,
+    pub(crate) column: u128,
 }
 
-/// Adds the line, in this form, of a block in so many containers, before which so much of the page
-/// stands, and whose first line has this text behind its containers.
-pub(crate) fn push_block(
+/// Adds the line, in this form, of a leaf block in so many containers.
+pub(crate) fn push_leaf(
     alloc: Global,
     text: &mut String,
     form: Form,
-    at: Place,
     depth: usize,
-    block: Block,
-    words: &[u8],
+    leaf: Leaf,
 ) -> Result<(), AllocError>
-    ensures { OnOk result (string_bytes text.new ≡ string_bytes text.old
-        ++ told_line form (at.lines + 1) (at.lines + block.taken.lines) depth at.bytes
-        (block_told form block.kind words.now block.taken.bytes)) }
+    ensures { OnOk result (string_bytes text.new
+        ≡ string_bytes text.old ++ leaf_line form depth (seen_leaf leaf.entry)) }
 {
-    push_front(text, form, at, block.taken.lines, depth)?;
-    push_kind(alloc, text, form, block.kind, words)?;
-    push_size(text, form, block.taken.bytes)?;
-    push_end(text, form)
+    let front = Front {
+        first: leaf.line as u128 + 1,
+        last: leaf.line as u128 + leaf.lines as u128,
+        depth,
+        offset: leaf.start,
+        column: column_of(leaf.start, leaf.place),
+    };
+    push_front(text, form, front)?;
+    push_kind(alloc, text, form, leaf.kind, leaf.text)?;
+    push_size(text, form, leaf.bytes)?;
+    push_line_end(text, form)
 }
 
-/// Adds the line, in this form, of a container in so many others, before which so much of the page
-/// stands.
+/// Adds the line, in this form, of a container in so many others, whose marker stands after so many
+/// bytes of the page, and its line after so much of it.
 pub(crate) fn push_container(
     text: &mut String,
     form: Form,
-    at: Place,
+    at: Taken,
     depth: usize,
     container: Container,
+    marker: usize,
 ) -> Result<(), AllocError>
     ensures { OnOk result (string_bytes text.new ≡ string_bytes text.old
-        ++ told_line form (at.lines + 1) (at.lines + 1) depth at.bytes
-        (container_told form container)) }
+        ++ container_line form (place_of at) depth container marker) }
 {
-    push_front(text, form, at, 1, depth)?;
+    let front = Front {
+        first: at.lines as u128 + 1,
+        last: at.lines as u128 + 1,
+        depth,
+        offset: at.bytes,
+        column: column_of(at.bytes, marker),
+    };
+    push_front(text, form, front)?;
     push_marker(text, form, container)?;
-    push_end(text, form)
+    push_line_end(text, form)
 }
 
-// Adds what a line has before the kind of what has so many lines, behind so much of the page.
-fn push_front(
+/// Adds the line, in this form, of the end of a container in so many others, after so much of the
+/// page: by words there is none.
+pub(crate) fn push_end(
     text: &mut String,
     form: Form,
-    at: Place,
-    count: usize,
+    at: Taken,
     depth: usize,
 ) -> Result<(), AllocError>
-    ensures { OnOk result (string_bytes text.new ≡ string_bytes text.old
-        ++ front_told form (at.lines + 1) (at.lines + count) depth at.bytes) }
+    ensures { OnOk result (string_bytes text.new
+        ≡ string_bytes text.old ++ end_line form (place_of at) depth) }
 {
-    let first = at.lines as u128 + 1;
-    let last = at.lines as u128 + count as u128;
     match form {
-        Form::Words => write!(text, "{first} {last} {depth} "),
-        Form::Json => push_front_json(text, first, last, depth, at.bytes),
+        Form::Words => Ok(()),
+        Form::Json => {
+            push_end_json(text, at, depth)?;
+            push_line_end(text, form)
+        }
+    }
+}
+
+/// Adds the line, in this form, of a list.
+pub(crate) fn push_list(text: &mut String, form: Form, list: ListBlock) -> Result<(), AllocError>
+    ensures { OnOk result (string_bytes text.new ≡ string_bytes text.old ++ list_line form list) }
+{
+    match form {
+        Form::Words => push_list_text(text, list)?,
+        Form::Json => push_list_json(text, list)?,
+    }
+    push_line_end(text, form)
+}
+
+/// What is printed before the lines of the page of this name, of so many pages: as JSON its name, where
+/// there are two or more.
+pub(crate) fn make_title(
+    alloc: Global,
+    form: Form,
+    pages: usize,
+    name: &str,
+) -> Result<String, AllocError>
+    ensures { IfOk result (λ title. string_bytes title ≡ title_of form pages name.now) }
+{
+    let mut title = String::new(alloc);
+    match form {
+        Form::Json if pages > 1 => {
+            push_page_json(alloc, &mut title, name)?;
+            push_line_end(&mut title, form)?;
+        }
+        _ => {}
+    }
+    Ok(title)
+}
+
+// Adds the lines of a list, how many containers stand around it, its kind, and what is known of it.
+fn push_list_text(text: &mut String, list: ListBlock) -> Result<(), AllocError>
+    ensures { OnOk result (string_bytes text.new ≡ string_bytes text.old ++ list_text list) }
+{
+    let first = list.line as u128 + 1;
+    write!(text, "{first} {} {} list ", list.end, list.depth)?;
+    write!(text, "{} {} ", char::from(list.delimiter), list.start)?;
+    text.push_str(tightness(list.is_loose))
+}
+
+// The word for a list that is loose, or is not.
+fn tightness(is_loose: bool) -> &'static str
+    ensures { result.now ≡ tightness is_loose }
+{
+    if is_loose { "loose" } else { "tight" }
+}
+
+// With which byte of a line the place begins, counted from 1, where the line begins there.
+fn column_of(start: usize, place: usize) -> u128
+    ensures { result ≡ column_of start place }
+{
+    place.saturating_sub(start) as u128 + 1
+}
+
+// Adds what stands at the front of a line.
+fn push_front(text: &mut String, form: Form, front: Front) -> Result<(), AllocError>
+    ensures { OnOk result (string_bytes text.new ≡ string_bytes text.old ++ front_told form front) }
+{
+    match form {
+        Form::Words => write!(text, "{} {} {} ", front.first, front.last, front.depth),
+        Form::Json => push_front_json(text, front),
     }
 }
 
@@ -87,9 +177,9 @@ fn push_size(text: &mut String, form: Form, bytes: usize) -> Result<(), AllocErr
     }
 }
 
-// Adds what a line has behind it.
-fn push_end(text: &mut String, form: Form) -> Result<(), AllocError>
-    ensures { OnOk result (string_bytes text.new ≡ string_bytes text.old ++ end_told form) }
+// Adds what a line ends with.
+fn push_line_end(text: &mut String, form: Form) -> Result<(), AllocError>
+    ensures { OnOk result (string_bytes text.new ≡ string_bytes text.old ++ line_end form) }
 {
     match form {
         Form::Words => text.push_str("\n"),
@@ -152,6 +242,7 @@ fn push_kind_text(text: &mut String, kind: BlockKind, words: &[u8]) -> Result<()
         BlockKind::Fenced(count, byte) => push_fenced(text, count, byte, info_of(words, byte)),
         BlockKind::Html(kind) => write!(text, "html {}", kind.number()),
         BlockKind::Table(columns) => write!(text, "table {columns}"),
+        BlockKind::Definition => text.push_str("definition"),
         BlockKind::Paragraph => text.push_str("paragraph"),
     }
 }

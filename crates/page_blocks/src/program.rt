@@ -1,5 +1,5 @@
 //! What the program does with its words, its input and its output.
-ghost use Rattle.std.specs.Prelude.{◌≡◌, ◌≢◌, ◌⊎◌, ◌∷◌, [], ℕ, List, IfOk, IfSome, IfErr, IsSome, Some, None, codes};
+ghost use Rattle.std.specs.Prelude.{◌≡◌, ◌≢◌, ◌⊎◌, ◌∷◌, [], ℕ, List, IfOk, IfSome, IfErr, IsSome, Some, None, length};
 ghost use Rattle.std.specs.Io.KnownBytes.{IsAtEnd, Appends};
 ghost use Rattle.program_faults.specs.Steps.{AreReads, HasEnded, HasFailed, HasRefused, AreGiven};
 ghost use Rattle.program_faults.specs.declared.reasons.Reason.{Reason};
@@ -14,6 +14,7 @@ ghost use Rattle.page_blocks.specs.stops.Stops.{IfWrite, IsWrite, stop_parts};
 use crate::files::OpensFiles;
 use crate::help::{HELP, UNKNOWN, USAGE, VERSION};
 use crate::page::Telling;
+use crate::printing::make_title;
 use crate::reading::Unread;
 use crate::stops::{Stop, report_stop};
 use crate::words::{Form, Request, name_pages, parse_request, unknown_option};
@@ -52,8 +53,9 @@ pub fn run_program<R: StepReader, F: OpensFiles, W: StepWriter, V: StepWriter>(
 
     // Pages.
     ensures told { (form : Form) → result ≡ 0 → request_of words.now ≡ Pages form →
-        AreTold (TellsBlocks form R.remaining R.reads) F.opens
-        (TellsBlocks form F.File.remaining F.File.reads) (pages_of words.now)
+        AreTold (TellsBlocks form (length (pages_of words.now)) R.remaining R.reads) F.opens
+        (TellsBlocks form (length (pages_of words.now)) F.File.remaining F.File.reads)
+        (pages_of words.now)
         input.old files.old (W.contents output.old)
         input.new files.new (W.contents output.new) None }
 
@@ -64,8 +66,9 @@ pub fn run_program<R: StepReader, F: OpensFiles, W: StepWriter, V: StepWriter>(
         × IfWrite stop (λ why. why ≢ Reason.Interrupted → HasRefused W.writes why output.new)
         × ((request_of words.now ≡ Help) ⊎ (request_of words.now ≡ Version) → IsWrite stop)
         × ((form : Form) → request_of words.now ≡ Pages form →
-        AreTold (TellsBlocks form R.remaining R.reads) F.opens
-        (TellsBlocks form F.File.remaining F.File.reads) (pages_of words.now)
+        AreTold (TellsBlocks form (length (pages_of words.now)) R.remaining R.reads) F.opens
+        (TellsBlocks form (length (pages_of words.now)) F.File.remaining F.File.reads)
+        (pages_of words.now)
         input.old files.old (W.contents output.old)
         input.new files.new (W.contents output.new) (Some (name, stop))) }
 {
@@ -103,13 +106,15 @@ fn answer<'a, R: StepReader, F: OpensFiles, W: StepWriter>(
     ensures refused { IfErr result (λ stop.
         IfWrite stop.1 (λ why. why ≢ Reason.Interrupted → HasRefused W.writes why output.new)) }
     ensures told { IfOk result (λ _. (form : Form) → request_of words.now ≡ Pages form →
-        AreTold (TellsBlocks form R.remaining R.reads) F.opens
-        (TellsBlocks form F.File.remaining F.File.reads) (pages_of words.now)
+        AreTold (TellsBlocks form (length (pages_of words.now)) R.remaining R.reads) F.opens
+        (TellsBlocks form (length (pages_of words.now)) F.File.remaining F.File.reads)
+        (pages_of words.now)
         input.old files.old (W.contents output.old)
         input.new files.new (W.contents output.new) None) }
     ensures stopped { IfErr result (λ stop. (form : Form) → request_of words.now ≡ Pages form →
-        AreTold (TellsBlocks form R.remaining R.reads) F.opens
-        (TellsBlocks form F.File.remaining F.File.reads) (pages_of words.now)
+        AreTold (TellsBlocks form (length (pages_of words.now)) R.remaining R.reads) F.opens
+        (TellsBlocks form (length (pages_of words.now)) F.File.remaining F.File.reads)
+        (pages_of words.now)
         input.old files.old (W.contents output.old)
         input.new files.new (W.contents output.new) (Some (stop.0.now, stop.1))) }
 {
@@ -134,7 +139,7 @@ fn write_words<'a, W: StepWriter>(output: &mut W, text: &str) -> Result<(), (&'a
     }
 }
 
-// Writes a line for each block of each page that the words name.
+// Writes the lines of each page that the words name.
 fn tell_operands<'a, R: StepReader, F: OpensFiles, W: StepWriter>(
     alloc: Global,
     form: Form,
@@ -144,13 +149,15 @@ fn tell_operands<'a, R: StepReader, F: OpensFiles, W: StepWriter>(
     output: &mut W,
 ) -> Result<(), (&'a str, Stop)>
     ensures told { IfOk result (λ _.
-        AreTold (TellsBlocks form R.remaining R.reads) F.opens
-        (TellsBlocks form F.File.remaining F.File.reads) (pages_of words.now)
+        AreTold (TellsBlocks form (length (pages_of words.now)) R.remaining R.reads) F.opens
+        (TellsBlocks form (length (pages_of words.now)) F.File.remaining F.File.reads)
+        (pages_of words.now)
         input.old files.old (W.contents output.old)
         input.new files.new (W.contents output.new) None) }
     ensures stopped { IfErr result (λ stop.
-        AreTold (TellsBlocks form R.remaining R.reads) F.opens
-        (TellsBlocks form F.File.remaining F.File.reads) (pages_of words.now)
+        AreTold (TellsBlocks form (length (pages_of words.now)) R.remaining R.reads) F.opens
+        (TellsBlocks form (length (pages_of words.now)) F.File.remaining F.File.reads)
+        (pages_of words.now)
         input.old files.old (W.contents output.old)
         input.new files.new (W.contents output.new) (Some (stop.0.now, stop.1))) }
     ensures refused { IfErr result (λ stop.
@@ -163,7 +170,7 @@ fn tell_operands<'a, R: StepReader, F: OpensFiles, W: StepWriter>(
     tell_pages(alloc, form, &names, input, files, output)
 }
 
-// Writes a line for each block of each page of these names.
+// Writes the lines of each page of these names.
 fn tell_pages<'a, R: StepReader, F: OpensFiles, W: StepWriter>(
     alloc: Global,
     form: Form,
@@ -173,65 +180,70 @@ fn tell_pages<'a, R: StepReader, F: OpensFiles, W: StepWriter>(
     output: &mut W,
 ) -> Result<(), (&'a str, Stop)>
     ensures told { IfOk result (λ _.
-        AreTold (TellsBlocks form R.remaining R.reads) F.opens
-        (TellsBlocks form F.File.remaining F.File.reads) (texts names.now)
+        AreTold (TellsBlocks form (length (texts names.now)) R.remaining R.reads) F.opens
+        (TellsBlocks form (length (texts names.now)) F.File.remaining F.File.reads)
+        (texts names.now)
         input.old files.old (W.contents output.old)
         input.new files.new (W.contents output.new) None) }
     ensures stopped { IfErr result (λ stop.
-        AreTold (TellsBlocks form R.remaining R.reads) F.opens
-        (TellsBlocks form F.File.remaining F.File.reads) (texts names.now)
+        AreTold (TellsBlocks form (length (texts names.now)) R.remaining R.reads) F.opens
+        (TellsBlocks form (length (texts names.now)) F.File.remaining F.File.reads)
+        (texts names.now)
         input.old files.old (W.contents output.old)
         input.new files.new (W.contents output.new) (Some (stop.0.now, stop.1))) }
     ensures refused { IfErr result (λ stop.
         IfWrite stop.1 (λ why. why ≢ Reason.Interrupted → HasRefused W.writes why output.new)) }
 {
     for name in names {
-        if let Err(stop) = tell_named(alloc, form, name, input, files, output) {
+        if let Err(stop) = tell_named(alloc, form, names.len(), name, input, files, output) {
             return Err((*name, stop));
         }
     }
     Ok(())
 }
 
-// Writes a line for each block of the page of this name.
+// Writes the lines of the page of this name, of so many pages.
 fn tell_named<R: StepReader, F: OpensFiles, W: StepWriter>(
     alloc: Global,
     form: Form,
+    pages: usize,
     name: &str,
     input: &mut R,
     files: &mut F,
     output: &mut W,
 ) -> Result<(), Stop>
-    ensures told { IsTold (TellsBlocks form R.remaining R.reads) F.opens
-        (TellsBlocks form F.File.remaining F.File.reads) name.now
+    ensures told { IsTold (TellsBlocks form pages R.remaining R.reads) F.opens
+        (TellsBlocks form pages F.File.remaining F.File.reads) name.now
         input.old files.old (W.contents output.old)
         input.new files.new (W.contents output.new) (stop_of result) }
     ensures refused { IfErr result (λ stop.
         IfWrite stop (λ why. why ≢ Reason.Interrupted → HasRefused W.writes why output.new)) }
 {
+    let title = make_title(alloc, form, pages, name)?;
     if name == "-" {
-        return tell_page(alloc, form, input, output);
+        return tell_page(alloc, form, title.as_str(), input, output);
     }
     let mut file = match files.open_named(name) {
         Ok(file) => file,
         Err(reason) => return Err(Stop::Read(reason)),
     };
-    tell_page(alloc, form, &mut file, output)
+    tell_page(alloc, form, title.as_str(), &mut file, output)
 }
 
-// Writes a line for each block of the input, in this form.
+// Writes the title, and the lines of the blocks and lists of the input, in this form.
 fn tell_page<R: StepReader, W: StepWriter>(
     alloc: Global,
     form: Form,
+    title: &str,
     input: &mut R,
     output: &mut W,
 ) -> Result<(), Stop>
     ensures told { IfOk result (λ _. IfSome (R.remaining input.old) (λ bytes.
-        IsToldTo form bytes (W.contents output.old) (W.contents output.new))) }
+        IsToldTo form title.now bytes (W.contents output.old) (W.contents output.new))) }
     ensures read { IfOk result (λ _. IsAtEnd (R.remaining input.new)) }
     ensures ended { IfOk result (λ _. HasEnded R.reads input.new) }
     ensures begun { IfErr result (λ stop. ¬ IsWrite stop →
-        IsBegunTo form (R.remaining input.old) (R.remaining input.new)
+        IsBegunTo form title.now (R.remaining input.old) (R.remaining input.new)
         (W.contents output.old) (W.contents output.new)) }
     ensures reads { (count : ℕ) × AreReads R.reads count input.old input.new }
     ensures failed { IfErr result (λ stop. (why : Reason) → stop ≡ Stop.Read why →
@@ -239,16 +251,17 @@ fn tell_page<R: StepReader, W: StepWriter>(
     ensures refused { IfErr result (λ stop.
         IfWrite stop (λ why. why ≢ Reason.Interrupted → HasRefused W.writes why output.new)) }
 {
+    write_text(output, title)?;
     let mut unread = Unread::new(alloc);
     let mut telling = Telling::new(alloc, form);
     loop {
         let has_ended = unread.read_more(input)?;
         let count = telling.tell(alloc, &unread.text, has_ended)?;
-        write_text(output, telling.told.as_str())?;
+        write_text(output, telling.printer.text.as_str())?;
         if has_ended {
             return Ok(());
         }
-        telling.told.clear();
+        telling.printer.text.clear();
         unread.drop_front(count);
     }
 }

@@ -1,23 +1,91 @@
-//! Link reference definitions in front of a setext heading's underline. (CommonMark 0.31.2, sections 4.3 and 4.7)
+//! Link reference definitions, alone and before text and underlines. (CommonMark 0.31.2, sections 4.3 and 4.7)
 use super::{Blocks, Row, assert_rows};
 use crate::asserts::made;
 use crate::runs::{DONE, assert_run};
 use std::alloc::{AllocError, Global};
 use std::process::Abort;
 
+// Examples of section 4.7.
+const EXAMPLES: &[Row] = &[
+    (
+        b"[foo]: /url \"title\"\n\n[foo]\n",
+        "1 1 0 definition\n2 2 0 blank\n3 3 0 paragraph\n",
+    ),
+    (
+        b"   [foo]: \n      /url  \n           'the title'  \n\n[foo]\n",
+        "1 3 0 definition\n4 4 0 blank\n5 5 0 paragraph\n",
+    ),
+    (
+        b"[foo]: /url '\ntitle\nline1\nline2\n'\n\n[foo]\n",
+        "1 5 0 definition\n6 6 0 blank\n7 7 0 paragraph\n",
+    ),
+    (
+        b"[foo]: /url 'title\n\nwith blank line'\n",
+        "1 1 0 paragraph\n2 2 0 blank\n3 3 0 paragraph\n",
+    ),
+    (
+        b"[foo]:\n\n[foo]\n",
+        "1 1 0 paragraph\n2 2 0 blank\n3 3 0 paragraph\n",
+    ),
+    (
+        b"[\nfoo\n]: /url\nbar\n",
+        "1 3 0 definition\n4 4 0 paragraph\n",
+    ),
+    (b"[foo]: /url \"title\" ok\n", "1 1 0 paragraph\n"),
+    (
+        b"[foo]: /url\n\"title\" ok\n",
+        "1 1 0 definition\n2 2 0 paragraph\n",
+    ),
+    (b"    [foo]: /url \"title\"\n", "1 1 0 indented\n"),
+    (b"Foo\n[bar]: /baz\n", "1 2 0 paragraph\n"),
+    (
+        b"# [Foo]\n[foo]: /url\n> bar\n",
+        "1 1 0 heading 1\n2 2 0 definition\n3 3 0 quote\n3 3 1 paragraph\n",
+    ),
+    (
+        b"[foo]: /url\nbar\n===\n[foo]\n",
+        "1 1 0 definition\n2 3 0 setext 1\n4 4 0 paragraph\n",
+    ),
+    (
+        b"[foo]: /foo-url \"foo\"\n[bar]: /bar-url\n  \"bar\"\n[baz]: /baz-url\n\n[foo],\n[bar],\n[baz]\n",
+        "1 1 0 definition\n2 3 0 definition\n4 4 0 definition\n5 5 0 blank\n6 8 0 paragraph\n",
+    ),
+    (
+        b"[foo]\n\n> [foo]: /url\n",
+        "1 1 0 paragraph\n2 2 0 blank\n3 3 0 quote\n3 3 1 definition\n",
+    ),
+];
+
+#[test]
+fn definitions_are_lines_of_their_own(rt: HostRuntime) {
+    assert_rows(&rt, rt.alloc(), EXAMPLES);
+}
+
 // An underline behind definitions alone is text, and one behind that makes a heading of it.
 const UNDERLINES: &[Row] = &[
-    (b"[a]: /b\n===\nc\n", "1 3 0 paragraph\n"),
-    (b"[a]: /b\n===\n===\n", "1 3 0 setext 1\n"),
-    (b"[a]: /b\n--\nc\n==\n", "1 4 0 setext 1\n"),
-    (b"[a]: /b\n-\n", "1 2 0 paragraph\n"),
-    (b"[a]: /b\n[c]: /d\n=\ne\n", "1 4 0 paragraph\n"),
-    (b"[a]: /b\nc\n===\n", "1 3 0 setext 1\n"),
-    (b"[a]: /b\r\n===\r\n===\r\n", "1 3 0 setext 1\n"),
-    (b"  [a]: /b\n   [c]:\n      /d\n===\n", "1 4 0 paragraph\n"),
+    (b"[a]: /b\n===\nc\n", "1 1 0 definition\n2 3 0 paragraph\n"),
+    (b"[a]: /b\n===\n===\n", "1 1 0 definition\n2 3 0 setext 1\n"),
+    (
+        b"[a]: /b\n--\nc\n==\n",
+        "1 1 0 definition\n2 4 0 setext 1\n",
+    ),
+    (b"[a]: /b\n-\n", "1 1 0 definition\n2 2 0 paragraph\n"),
+    (
+        b"[a]: /b\n[c]: /d\n=\ne\n",
+        "1 1 0 definition\n2 2 0 definition\n3 4 0 paragraph\n",
+    ),
+    (b"[a]: /b\nc\n===\n", "1 1 0 definition\n2 3 0 setext 1\n"),
+    (
+        b"[a]: /b\r\n===\r\n===\r\n",
+        "1 1 0 definition\n2 3 0 setext 1\n",
+    ),
+    (
+        b"  [a]: /b\n   [c]:\n      /d\n===\n",
+        "1 1 0 definition\n2 3 0 definition\n4 4 0 paragraph\n",
+    ),
     (
         b"[a]: /b\n\n===\n",
-        "1 1 0 paragraph\n2 2 0 blank\n3 3 0 paragraph\n",
+        "1 1 0 definition\n2 2 0 blank\n3 3 0 paragraph\n",
     ),
 ];
 
@@ -30,9 +98,9 @@ fn an_underline_needs_text_before_it(rt: HostRuntime) {
 const BREAKS: &[Row] = &[
     (
         b"[a]: /b\n---\nc\n",
-        "1 1 0 paragraph\n2 2 0 break\n3 3 0 paragraph\n",
+        "1 1 0 definition\n2 2 0 break\n3 3 0 paragraph\n",
     ),
-    (b"[a]: /b\nc\n---\n", "1 3 0 setext 2\n"),
+    (b"[a]: /b\nc\n---\n", "1 1 0 definition\n2 3 0 setext 2\n"),
 ];
 
 #[test]
@@ -42,13 +110,25 @@ fn hyphens_behind_definitions_are_a_break(rt: HostRuntime) {
 
 // A title over lines, and what is none: the definition ends a line earlier, or there is none.
 const TITLES: &[Row] = &[
-    (b"[a]: /b\n\"c\nd\"\n===\n", "1 4 0 paragraph\n"),
-    (b"[a]: /b 'c\nd'\n===\n", "1 3 0 paragraph\n"),
-    (b"[a]: /b\n\"c\" d\n===\n", "1 3 0 setext 1\n"),
+    (
+        b"[a]: /b\n\"c\nd\"\n===\n",
+        "1 3 0 definition\n4 4 0 paragraph\n",
+    ),
+    (
+        b"[a]: /b 'c\nd'\n===\n",
+        "1 2 0 definition\n3 3 0 paragraph\n",
+    ),
+    (
+        b"[a]: /b\n\"c\" d\n===\n",
+        "1 1 0 definition\n2 3 0 setext 1\n",
+    ),
     (b"[a]: /b \"c\" d\n===\n", "1 2 0 setext 1\n"),
-    (b"[a]:\n/b\n'c'\n===\nd\n===\n", "1 6 0 setext 1\n"),
+    (
+        b"[a]:\n/b\n'c'\n===\nd\n===\n",
+        "1 3 0 definition\n4 6 0 setext 1\n",
+    ),
     (b"[a]:\n===\n", "1 2 0 setext 1\n"),
-    (b"[a]: <>\n===\n", "1 2 0 paragraph\n"),
+    (b"[a]: <>\n===\n", "1 1 0 definition\n2 2 0 paragraph\n"),
     (b"[ ]: /b\n===\n", "1 2 0 setext 1\n"),
     (b"[a] : /b\n===\n", "1 2 0 setext 1\n"),
 ];
@@ -62,19 +142,28 @@ fn a_title_may_fail(rt: HostRuntime) {
 const CONTAINERS: &[Row] = &[
     (
         b"> [a]: /b\n> ===\n> ===\n",
-        "1 1 0 quote\n1 3 1 setext 1\n",
+        "1 1 0 quote\n1 1 1 definition\n2 3 1 setext 1\n",
     ),
-    (b"> [a]:\n> /b\n> ===\n", "1 1 0 quote\n1 3 1 paragraph\n"),
+    (
+        b"> [a]:\n> /b\n> ===\n",
+        "1 1 0 quote\n1 2 1 definition\n3 3 1 paragraph\n",
+    ),
     (
         b"> [a]:\n/b\n> ===\n> ===\n",
-        "1 1 0 quote\n1 4 1 setext 1\n",
+        "1 1 0 quote\n1 2 1 definition\n3 4 1 setext 1\n",
     ),
-    (b"> [a]: /b\nc\n===\n", "1 1 0 quote\n1 3 1 paragraph\n"),
+    (
+        b"> [a]: /b\nc\n===\n",
+        "1 1 0 quote\n1 1 1 definition\n2 3 1 paragraph\n",
+    ),
     (
         b"- [a]: /b\n  ===\n  ===\n",
-        "1 1 0 item - 0\n1 3 1 setext 1\n",
+        "1 1 0 item - 0\n1 1 1 definition\n2 3 1 setext 1\n1 3 0 list - 0 tight\n",
     ),
-    (b"- [a]: /b\n===\n", "1 1 0 item - 0\n1 2 1 paragraph\n"),
+    (
+        b"- [a]: /b\n===\n",
+        "1 1 0 item - 0\n1 1 1 definition\n2 2 1 paragraph\n1 2 0 list - 0 tight\n",
+    ),
 ];
 
 #[test]
@@ -100,20 +189,32 @@ fn with_definition(alloc: Global, letters: usize, pairs: usize) -> Result<Vec<u8
     Ok(page)
 }
 
-fn assert_length(rt: &impl Abort, alloc: Global, letters: usize, pairs: usize, told: &str) {
+fn assert_length(rt: &impl Abort, alloc: Global, letters: usize, pairs: usize, printed: &str) {
     let page = made(rt, with_definition(alloc, letters, pairs));
-    assert_run::<Blocks, _>(rt, alloc, &[], &mut page.as_slice(), told, DONE);
+    assert_run::<Blocks, _>(rt, alloc, &[], &mut page.as_slice(), printed, DONE);
 }
 
 #[test]
 fn labels_have_999_characters_at_most(rt: HostRuntime) {
-    assert_length(&rt, rt.alloc(), 999, 1, "1 2 0 paragraph\n");
+    assert_length(
+        &rt,
+        rt.alloc(),
+        999,
+        1,
+        "1 1 0 definition\n2 2 0 paragraph\n",
+    );
     assert_length(&rt, rt.alloc(), 1000, 1, "1 2 0 setext 1\n");
 }
 
 // As cmark 0.30.2 has it.
 #[test]
 fn parentheses_nest_32_deep_at_most(rt: HostRuntime) {
-    assert_length(&rt, rt.alloc(), 1, 32, "1 2 0 paragraph\n");
+    assert_length(
+        &rt,
+        rt.alloc(),
+        1,
+        32,
+        "1 1 0 definition\n2 2 0 paragraph\n",
+    );
     assert_length(&rt, rt.alloc(), 1, 33, "1 2 0 setext 1\n");
 }

@@ -24,7 +24,7 @@ impl OpensFiles for Shelf {
             "a.md" => Ok(whole(b"# a\n\nb")),
             "b.md" => Ok(whole(b"- c\n")),
             "-x" => Ok(whole(b"***\n")),
-            "empty" => Ok(whole(b"")),
+            "empty" | "e\"\u{e9}" => Ok(whole(b"")),
             "broken" => Ok(failing(b"# a\n\nb\n")),
             "secret" => Err(Reason::Denied),
             _ => Err(Reason::NotFound),
@@ -59,27 +59,45 @@ type Row = (&'static [&'static str], &'static str);
 
 const FILES: &[Row] = &[
     (&["a.md"], A),
-    (&["b.md"], "1 1 0 item - 0\n1 1 1 paragraph\n"),
+    (
+        &["b.md"],
+        "1 1 0 item - 0\n1 1 1 paragraph\n1 1 0 list - 0 tight\n",
+    ),
     (&["empty"], ""),
     (&["-"], "1 1 0 paragraph\n"),
     (&["--", "-x"], "1 1 0 break\n"),
     (&["--"], "1 1 0 paragraph\n"),
     (
         &["b.md", "-", "empty", "b.md", "-"],
-        "1 1 0 item - 0\n1 1 1 paragraph\n1 1 0 paragraph\n1 1 0 item - 0\n1 1 1 paragraph\n",
+        "1 1 0 item - 0\n1 1 1 paragraph\n1 1 0 list - 0 tight\n1 1 0 paragraph\n\
+        1 1 0 item - 0\n1 1 1 paragraph\n1 1 0 list - 0 tight\n",
     ),
     (
         &["b.md", "--json"],
-        "{\"first\":1,\"last\":1,\"depth\":0,\"offset\":0,\"kind\":\"item\",\"delimiter\":\"-\",\"start\":0,\"indent\":2}\n\
-        {\"first\":1,\"last\":1,\"depth\":1,\"offset\":0,\"kind\":\"paragraph\",\"bytes\":4}\n",
+        "{\"first\":1,\"last\":1,\"depth\":0,\"offset\":0,\"column\":1,\"kind\":\"item\",\"delimiter\":\"-\",\"start\":0,\"indent\":2}\n\
+        {\"first\":1,\"last\":1,\"depth\":1,\"offset\":0,\"column\":3,\"kind\":\"paragraph\",\"bytes\":4}\n\
+        {\"last\":1,\"depth\":0,\"end\":4,\"kind\":\"end\"}\n\
+        {\"first\":1,\"last\":1,\"depth\":0,\"kind\":\"list\",\"delimiter\":\"-\",\"start\":0,\"tight\":true}\n",
+    ),
+    (
+        &["--json", "--", "-x", "-", "empty"],
+        "{\"page\":\"-x\"}\n\
+        {\"first\":1,\"last\":1,\"depth\":0,\"offset\":0,\"column\":1,\"kind\":\"break\",\"bytes\":4}\n\
+        {\"page\":\"-\"}\n\
+        {\"first\":1,\"last\":1,\"depth\":0,\"offset\":0,\"column\":1,\"kind\":\"paragraph\",\"bytes\":1}\n\
+        {\"page\":\"empty\"}\n",
+    ),
+    (
+        &["--json", "e\"\u{e9}", "empty"],
+        "{\"page\":\"e\\u0022\u{e9}\"}\n{\"page\":\"empty\"}\n",
     ),
 ];
 
 #[test]
 fn pages_follow_one_another(rt: HostRuntime) {
-    for (words, told) in FILES {
+    for (words, printed) in FILES {
         let mut input = b"p".as_slice();
-        assert_run::<Blocks, _>(&rt, rt.alloc(), words, &mut input, told, DONE);
+        assert_run::<Blocks, _>(&rt, rt.alloc(), words, &mut input, printed, DONE);
     }
 }
 
@@ -109,10 +127,10 @@ const STOPS: &[(&[&str], &str, &str)] = &[
 
 #[test]
 fn the_first_page_that_can_t_be_read_is_named(rt: HostRuntime) {
-    for (words, told, said) in STOPS {
+    for (words, printed, said) in STOPS {
         let mut input = b"p".as_slice();
         let end = (3, said.as_bytes());
-        assert_run::<Blocks, _>(&rt, rt.alloc(), words, &mut input, told, end);
+        assert_run::<Blocks, _>(&rt, rt.alloc(), words, &mut input, printed, end);
         assert_same(&rt, input, b"p".as_slice());
     }
 }

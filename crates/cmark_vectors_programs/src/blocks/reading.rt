@@ -41,8 +41,8 @@ const PAGES: &[Row] = &[
     ),
     (
         b"> 1. a\nb\n\n-\n\n      c\n\n",
-        "1 1 0 quote\n1 1 1 item . 1\n1 2 2 paragraph\n3 3 0 blank\n4 4 0 item - 0\n4 4 1 blank\n\
-        5 5 0 blank\n6 6 0 indented\n7 7 0 blank\n",
+        "1 1 0 quote\n1 1 1 item . 1\n1 2 2 paragraph\n1 2 1 list . 1 tight\n3 3 0 blank\n4 4 0 item - 0\n\
+        4 4 1 blank\n5 5 0 blank\n4 4 0 list - 0 tight\n6 6 0 indented\n7 7 0 blank\n",
     ),
 ];
 

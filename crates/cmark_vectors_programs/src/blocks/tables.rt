@@ -59,11 +59,11 @@ const ENDS: &[Row] = &[
     (b"a|b\n-|-\n<b>\nc|d\n", "1 2 0 table 2\n3 4 0 html 7\n"),
     (
         b"a|b\n-|-\n2. c\n",
-        "1 2 0 table 2\n3 3 0 item . 2\n3 3 1 paragraph\n",
+        "1 2 0 table 2\n3 3 0 item . 2\n3 3 1 paragraph\n3 3 0 list . 2 tight\n",
     ),
     (
         b"a|b\n-|-\n-\n",
-        "1 2 0 table 2\n3 3 0 item - 0\n3 3 1 blank\n",
+        "1 2 0 table 2\n3 3 0 item - 0\n3 3 1 blank\n3 3 0 list - 0 tight\n",
     ),
     (b"a|b\n-|-\n***\n", "1 2 0 table 2\n3 3 0 break\n"),
     (
@@ -81,17 +81,20 @@ const DELIMITER_ROWS: &[Row] = &[
     (b"a|b\n    -|-\n", "1 2 0 paragraph\n"),
     (
         b"a|b\n- | -\n",
-        "1 1 0 paragraph\n2 2 0 item - 0\n2 2 1 paragraph\n",
+        "1 1 0 paragraph\n2 2 0 item - 0\n2 2 1 paragraph\n2 2 0 list - 0 tight\n",
     ),
     (b"# a|b\n-|-\n", "1 1 0 heading 1\n2 2 0 paragraph\n"),
     (
         b"> a|b\n> -|-\nc|d\n",
         "1 1 0 quote\n1 2 1 table 2\n3 3 0 paragraph\n",
     ),
-    (b"- a|b\n-|-\n", "1 1 0 item - 0\n1 2 1 paragraph\n"),
+    (
+        b"- a|b\n-|-\n",
+        "1 1 0 item - 0\n1 2 1 paragraph\n1 2 0 list - 0 tight\n",
+    ),
     (
         b"- a|b\n  -|-\n c|d\n",
-        "1 1 0 item - 0\n1 2 1 table 2\n3 3 0 paragraph\n",
+        "1 1 0 item - 0\n1 2 1 table 2\n1 2 0 list - 0 tight\n3 3 0 paragraph\n",
     ),
 ];
 
@@ -102,7 +105,7 @@ fn a_delimiter_row_goes_on_with_its_header(rt: HostRuntime) {
 
 const JSON: &[Row] = &[(
     b"|a|b|\n|-|-|\n",
-    "{\"first\":1,\"last\":2,\"depth\":0,\"offset\":0,\"kind\":\"table\",\"columns\":2,\
+    "{\"first\":1,\"last\":2,\"depth\":0,\"offset\":0,\"column\":1,\"kind\":\"table\",\"columns\":2,\
         \"bytes\":12}\n",
 )];
 

@@ -1,67 +1,146 @@
--- Blocks that are told, one after the other.
-use Rattle.std.proofs.Common.{ℕ, suc, List, [], ◌∷◌, ◌++◌, ◌+◌, ◌<◌, ◌≡◌, length}
-use Rattle.std.proofs.Common.{drop, refl, sym, ap, ◌∙◌, subst, arith, append_assoc, append-nil}
-use Rattle.std.proofs.lemmas.List.{drop_at}
+-- Blocks that are printed, one after the other.
+use Rattle.std.proofs.Common.{ℕ, zero, suc, List, [], ◌∷◌, ◌++◌, ◌+◌, ◌-◌, ◌≡◌, ◌⊎◌, inl, inr, length, take, drop}
+use Rattle.std.proofs.Common.{refl, sym, ap, ◌∙◌, subst, arith, append_assoc, append-nil, length-append}
+use Rattle.std.specs.Prelude.{map, replicate}
 use Rattle.std.specs.List.{concat}
+use Rattle.std.proofs.lemmas.List.{take-append-drop}
+use Rattle.std.proofs.lemmas.List.Folds.{concat-append}
+use Rattle.markdown_scanners_tree.specs.declared.scanners.reference_definitions.ReferenceDefinition.{ReferenceDefinition}
+use Rattle.markdown_scanners_tree.specs.line.State.{LineState}
 use Rattle.markdown_scanners_tree.specs.scanners.TextLines.{lines_of}
-use Rattle.markdown_blocks.specs.containers.Containers.{Rest}
+use Rattle.markdown_blocks.specs.containers.Containers.{behind, after_marker}
+use Rattle.markdown_blocks.specs.declared.blocks.BlockKind.{BlockKind}
+use Rattle.markdown_blocks.specs.declared.blocks.BlockKind.TheVariants.{Definition}
 use Rattle.markdown_blocks.specs.declared.containers.Container.{Container}
-use Rattle.markdown_blocks.specs.declared.walk.Step.{Step}
-use Rattle.markdown_blocks.specs.blocks.Pages.{Piece, IsPiece, AreBlocks, IsFront, lines_in}
-use Rattle.markdown_blocks.specs.walk.Walk.{IsStep}
+use Rattle.markdown_blocks.specs.declared.step.Step.{Step}
+use Rattle.markdown_blocks.specs.declared.taken.Taken.{Taken}
+use Rattle.markdown_blocks.specs.definitions.Definitions.{IsDefinition}
+use Rattle.markdown_blocks.specs.blocks.Pages.{Piece, IsPage, IsPiece, AreBlocks, lines_in}
+use Rattle.markdown_blocks.specs.events.Events.{Event, leaf, ends, LeafBlock, Part, AreLeaves, AreLeavesOf, AreEvents, IsEventsOf}
+use Rattle.markdown_blocks.specs.events.Events.{first_lines, later_lines, leaf_of, lines_taken, open_after, part_of, piece_content, piece_events, started}
+use Rattle.markdown_blocks.specs.events.Given.{GivesBlock, block_left}
+use Rattle.markdown_blocks.specs.lists.Tracked.{Tracked, at_start, closed, lists_behind}
+use Rattle.markdown_blocks.specs.walk.Walk.{IsStep, IsContentOf}
+use Rattle.markdown_blocks.proofs.ForCallers.{events_of_nodes, page_lists, step_events}
 use Rattle.markdown_blocks.proofs.taken.TakenLemmas.{lines_bytes}
-use Rattle.page_blocks.specs.declared.printing.Place.{Place}
 use Rattle.page_blocks.specs.declared.words.Form.{Form}
 use Rattle.page_blocks.specs.page.Going.{GoesOnTelling}
-use Rattle.page_blocks.specs.page.Told.{block_told, container_told, told_line, told_containers, told_piece, told_from, the_front}
+use Rattle.page_blocks.specs.page.Told.{Place, Printed, place_of, place_after, after, after_all, ended_line, event_lines, lines_of_events}
+use Rattle.page_blocks.specs.page.Told.{last_lines, lines_to_end, the_front, TellsFront, TellsPage}
 
--- a container more that is told, and none more
-pub told-next : (form : Form) (at : Place) (depth : ℕ) (containers : List Container) (c : Container) (text longer whole : List ℕ)
-    → c ≡ c → depth < length containers → drop depth containers ≡ c ∷ drop (depth + 1) containers
-    → text ++ told_containers form at depth (drop depth containers) ≡ whole
-    → longer ≡ text ++ told_line form (at.lines + 1) (at.lines + 1) depth at.bytes (container_told form c)
-    → longer ++ told_containers form at (depth + 1) (drop (depth + 1) containers) ≡ whole
-told-next form at depth containers c text longer whole same within front tells grown =
-    ap (λ t. t ++ told_containers form at (depth + 1) (drop (depth + 1) containers)) grown
-    ∙ append_assoc text (told_line form (at.lines + 1) (at.lines + 1) depth at.bytes (container_told form c)) _
-    ∙ ap (λ n. text ++ (told_line form (at.lines + 1) (at.lines + 1) depth at.bytes (container_told form c)
-    ++ told_containers form at n (drop (depth + 1) containers))) one
-    ∙ ap (λ cs. text ++ told_containers form at depth cs) (sym front) ∙ tells
-  where
-    one : depth + 1 ≡ suc depth
-    one = omega arith
+-- events that are printed one after the other
+pub lines-append : (form : Form) (p : Printed) (events later : List Event)
+    → lines_of_events form p (events ++ later) ≡ lines_of_events form p events ++ lines_of_events form (after_all p events) later
+lines-append form p [] later = refl
+lines-append form p (event ∷ events) later =
+    ap (λ t. event_lines form p event ++ t) (lines-append form (after p event) events later)
+    ∙ sym (append_assoc (event_lines form p event) (lines_of_events form (after p event) events) _)
 
-regroup : (text opened told rest : List ℕ) → ((text ++ opened) ++ told) ++ rest ≡ text ++ ((opened ++ told) ++ rest)
-regroup text opened told rest = simp append_assoc
+pub after-append : (p : Printed) (events later : List Event) → after_all p (events ++ later) ≡ after_all (after_all p events) later
+after-append p [] later = refl
+after-append p (event ∷ events) later = after-append (after p event) events later
 
-module _ (form : Form) (outer now : List Container) (at : Place) (step : Step) (lines : List ℕ) (more : List (List ℕ))
-    (s : IsStep outer lines more step now) where
-  bytes_are : step.block.taken.bytes ≡ length (concat (s.piece.first ∷ s.piece.later))
-  bytes_are = lines_bytes lines step.block.taken.bytes (s.piece.first ∷ s.piece.later) s.taken.within s.taken.parts
+abbrev place : ℕ → ℕ → Place
+place lines bytes = record { lines = lines; bytes = bytes }
 
-  abbrev block_line : ℕ → ℕ → List Container → List ℕ
-  block_line n m open_now =
-      told_line form (at.lines + 1) (at.lines + n) (length open_now) at.bytes (block_told form step.block.kind step.text.now m)
+-- how much of the page stands before what follows events
+abbrev behind_all : Place → List Event → Place
+behind_all at [] = at
+behind_all at (event ∷ later) = behind_all (place_after at event) later
 
-  -- what is told of it
-  piece_told : told_containers form at step.kept (drop step.kept now) ++ block_line step.block.taken.lines step.block.taken.bytes now
-      ≡ told_piece form at s.piece
-  piece_told =
-      ap (λ cs. told_containers form at step.kept cs ++ block_line step.block.taken.lines step.block.taken.bytes now) behind_kept
-      ∙ ap (λ n. told_containers form at n s.piece.begun ++ block_line step.block.taken.lines step.block.taken.bytes now) s.counted
-      ∙ ap (λ n. told_containers form at (length s.piece.kept) s.piece.begun ++ block_line n step.block.taken.bytes now) s.taken.counted
-      ∙ ap (λ m. told_containers form at (length s.piece.kept) s.piece.begun ++ block_line (length (s.piece.first ∷ s.piece.later)) m now) bytes_are
-      ∙ ap (λ cs. told_containers form at (length s.piece.kept) s.piece.begun
-      ++ block_line (length (s.piece.first ∷ s.piece.later)) (length (concat (s.piece.first ∷ s.piece.later))) cs) s.open_now
-      ∙ ap (λ k. told_containers form at (length s.piece.kept) s.piece.begun
-      ++ told_line form (at.lines + 1) (at.lines + length (s.piece.first ∷ s.piece.later)) (length (s.piece.kept ++ s.piece.begun)) at.bytes
-      (block_told form k step.text.now (length (concat (s.piece.first ∷ s.piece.later))))) (sym s.kind)
-      ∙ ap (λ (w : Rest). told_containers form at (length s.piece.kept) s.piece.begun
-      ++ told_line form (at.lines + 1) (at.lines + length (s.piece.first ∷ s.piece.later)) (length (s.piece.kept ++ s.piece.begun)) at.bytes
-      (block_told form s.piece.kind w.text (length (concat (s.piece.first ∷ s.piece.later))))) (sym s.words)
-    where
-      behind_kept : drop step.kept now ≡ s.piece.begun
-      behind_kept = ap (drop step.kept) s.open_now ∙ drop_at s.piece.kept s.piece.begun step.kept (sym s.counted)
+at-behind : (p : Printed) (events : List Event) → (after_all p events).at ≡ behind_all p.at events
+at-behind p [] = refl
+at-behind p (event ∷ later) = at-behind (after p event) later
+
+behind-ends : (count : ℕ) (at : Place) (later : List Event) → behind_all at (replicate count ends ++ later) ≡ behind_all at later
+behind-ends zero at later = refl
+behind-ends (suc count) at later = behind-ends count at later
+
+behind-started : (cs : List Container) (start : ℕ) (s : LineState) (at : Place) (later : List Event)
+    → behind_all at (started start s cs ++ later) ≡ behind_all at later
+behind-started [] start s at later = refl
+behind-started (c ∷ cs) start s at later = behind-started cs start (after_marker s) at later
+
+-- what stands before what follows lines
+abbrev part_end : Part → Place
+part_end part = place (part.line + length part.lines) (part.start + length (concat part.lines))
+
+nothing_more : (part : Part) → part.lines ≡ [] → place part.line part.start ≡ part_end part
+nothing_more part none =
+    let lines : part.line ≡ part.line + length part.lines = omega (arith, ap length none) in
+    let bytes : part.start ≡ part.start + length (concat part.lines) = omega (arith, ap (λ ls. length (concat ls)) none) in
+    ap (λ n. place n part.start) lines ∙ ap (place (part.line + length part.lines)) bytes
+
+-- the lines of a definition, and those after it
+parted : (outer : List Container) (count : ℕ) (part : Part) → part_end (later_lines outer count part) ≡ part_end part
+parted outer count part =
+    let front : List (List ℕ) = take count part.lines in
+    let rest : List (List ℕ) = drop count part.lines in
+    let all = take-append-drop count part.lines in
+    let counts : length part.lines ≡ length front + length rest = sym (ap length all) ∙ length-append front rest in
+    let sizes : length (concat part.lines) ≡ length (concat front) + length (concat rest) =
+    ap (λ ls. length (concat ls)) (sym all) ∙ ap length (concat-append front rest) ∙ length-append (concat front) (concat rest) in
+    let lines : (part.line + length front) + length rest ≡ part.line + length part.lines = omega (arith, counts) in
+    let bytes : (part.start + length (concat front)) + length (concat rest) ≡ part.start + length (concat part.lines) = omega (arith, sizes) in
+    ap (λ n. place n ((part.start + length (concat front)) + length (concat rest))) lines ∙ ap (place (part.line + length part.lines)) bytes
+
+-- a leaf block and those after it reach to the end of the lines, where these do
+behind-leaf : (block : LeafBlock) (more : List LeafBlock) (outer : List Container) (kind : BlockKind) (part : Part) (content : List ℕ) (at : Place)
+    → ((rest : Part) (left : List ℕ) → place_after at (leaf block) ≡ place rest.line rest.start → AreLeaves outer kind rest left more
+    → behind_all (place_after at (leaf block)) (map leaf more) ≡ part_end rest)
+    → ((definition : ReferenceDefinition) × IsDefinition content definition
+    × (block ≡ leaf_of Definition (first_lines (lines_taken content definition) part))
+    × AreLeaves outer kind (later_lines outer (lines_taken content definition) part) (drop definition.len content) more)
+    ⊎ (((definition : ReferenceDefinition) → ¬ IsDefinition content definition) × (block ≡ leaf_of kind part) × (more ≡ []))
+    → behind_all (place_after at (leaf block)) (map leaf more) ≡ part_end part
+behind-leaf block more outer kind part content at later (inl d) =
+    later (later_lines outer (lines_taken content d.0) part) (drop d.0.len content) (ap (λ (b : LeafBlock). place_after at (leaf b)) d.2) d.3
+    ∙ parted outer (lines_taken content d.0) part
+behind-leaf block more outer kind part content at later (inr w) =
+    ap (λ ls. behind_all (place_after at (leaf block)) (map leaf ls)) w.2 ∙ ap (λ (b : LeafBlock). place_after at (leaf b)) w.1
+
+-- leaf blocks of lines reach to the end of these
+behind-leaves : (leaves : List LeafBlock) (outer : List Container) (kind : BlockKind) (part : Part) (content : List ℕ) (at : Place)
+    → at ≡ place part.line part.start → AreLeaves outer kind part content leaves → behind_all at (map leaf leaves) ≡ part_end part
+behind-leaves [] outer kind part content at here none = here ∙ nothing_more part none
+behind-leaves (block ∷ more) outer kind part content at here are =
+    behind-leaf block more outer kind part content at
+    (λ rest left now each. behind-leaves more outer kind rest left (place_after at (leaf block)) now each) are.1
+
+behind-piece : (outer : List Container) (piece : Piece) (leaves : List LeafBlock) (line start : ℕ) → AreLeavesOf line start piece leaves
+    → behind_all (place line start) (piece_events outer start piece leaves)
+    ≡ place (line + length (piece.first ∷ piece.later)) (start + length (concat (piece.first ∷ piece.later)))
+behind-piece outer piece leaves line start are =
+    ap (behind_all (place line start)) (append_assoc (replicate (length outer - length piece.kept) ends)
+    (started start (behind outer piece.first).state piece.begun) (map leaf leaves))
+    ∙ behind-ends (length outer - length piece.kept) (place line start) _
+    ∙ behind-started piece.begun start (behind outer piece.first).state (place line start) (map leaf leaves)
+    ∙ behind-leaves leaves (piece.kept ++ piece.begun) piece.kind (part_of line start piece) (piece_content piece) (place line start) refl are
+
+module _ (form : Form) (outer now : List Container) (before : Taken) (lists : Tracked) (step : Step) (lines : List ℕ) (more : List (List ℕ))
+    (s : IsStep outer lines more step now) (content : List ℕ) (given : List Event) (gathered : IsContentOf step now content)
+    (gives : GivesBlock now content (block_left step before (length outer)) given) where
+  abbrev so_far : Printed
+  so_far = record { at = place_of before; lists = lists }
+
+  leaves_are : (leaves : List LeafBlock) × AreLeavesOf before.lines before.bytes s.piece leaves
+      × (given ≡ piece_events outer before.bytes s.piece leaves)
+  leaves_are = step_events outer now lines more step s before content gathered given gives
+
+  -- the page is printed as far as the step's block goes
+  pub step_place : (next : Printed) → next ≡ after_all so_far given
+      → next.at ≡ place (before.lines + length (s.piece.first ∷ s.piece.later)) (before.bytes + length (concat (s.piece.first ∷ s.piece.later)))
+  step_place next is =
+      ap (λ (p : Printed). p.at) is ∙ at-behind so_far given ∙ ap (behind_all (place_of before)) leaves_are.2
+      ∙ behind-piece outer s.piece leaves_are.0 before.lines before.bytes leaves_are.1
+
+  pub step_size : (next : Printed) → next ≡ after_all so_far given
+      → (next.at.lines ≡ before.lines + step.block.taken.lines) × (next.at.bytes ≡ before.bytes + step.block.taken.bytes)
+  step_size next is = (
+    ap (λ (q : Place). q.lines) (step_place next is) ∙ ap (λ n. before.lines + n) (sym s.taken.counted),
+    ap (λ (q : Place). q.bytes) (step_place next is) ∙ ap (λ n. before.bytes + n)
+        (sym (lines_bytes lines step.block.taken.bytes (s.piece.first ∷ s.piece.later) s.taken.within s.taken.parts)),
+  )
 
   left : List (List ℕ)
   left = lines_of (drop step.block.taken.bytes lines) ++ more
@@ -75,44 +154,102 @@ module _ (form : Form) (outer now : List Container) (at : Place) (step : Step) (
     (subst (IsPiece outer s.piece) is s.is_piece, subst (λ cs. AreBlocks cs later rest) s.open_now each),
   )
 
-  abbrev pub further : Place
-  further = record { lines = at.lines + step.block.taken.lines; bytes = at.bytes + step.block.taken.bytes }
-
-  pub telling-next : (page text longer : List ℕ) (next : Place) → next ≡ further
-      → longer ≡ (text ++ told_containers form at step.kept (drop step.kept now)) ++ block_line step.block.taken.lines step.block.taken.bytes now
-      → GoesOnTelling form page text at outer (lines_of lines ++ more)
+  pub telling-next : (page text longer : List ℕ) (next : Printed) → next ≡ after_all so_far given
+      → longer ≡ text ++ lines_of_events form so_far given
+      → GoesOnTelling form page text so_far outer (lines_of lines ++ more)
       → GoesOnTelling form page longer next now (lines_of (drop step.block.taken.bytes lines) ++ more)
   unfolding GoesOnTelling left
-  telling-next page text longer next is_next tells goes later rest is each =
+  telling-next page text longer next is_next tells goes later events rest is each are =
       let front = front_with later rest is each in
-      let whole = goes (s.piece ∷ later) rest front.0 front.1 in (
-        whole.0,
-        whole.1,
-        ap (λ t. t ++ told_from form next later) tells
-            ∙ ap (λ (p : Place). ((text ++ told_containers form at step.kept (drop step.kept now))
-            ++ block_line step.block.taken.lines step.block.taken.bytes now) ++ told_from form p later) is_next
-            ∙ regroup text (told_containers form at step.kept (drop step.kept now)) (block_line step.block.taken.lines step.block.taken.bytes now) _
-            ∙ ap (λ t. text ++ (t ++ told_from form further later)) piece_told
-            ∙ ap (λ n. text ++ (told_piece form at s.piece
-            ++ told_from form (record { lines = at.lines + n; bytes = at.bytes + step.block.taken.bytes }) later)) s.taken.counted
-            ∙ ap (λ m. text ++ (told_piece form at s.piece
-            ++ told_from form (record { lines = at.lines + length (s.piece.first ∷ s.piece.later); bytes = at.bytes + m }) later)) bytes_are
-            ∙ whole.2,
-      )
+      let others = subst (λ cs. AreEvents cs (before.lines + length (s.piece.first ∷ s.piece.later))
+      (before.bytes + length (concat (s.piece.first ∷ s.piece.later))) later events) s.open_now
+      (subst (λ (q : Place). AreEvents now q.lines q.bytes later events) (step_place next is_next) are) in
+      let whole = goes (s.piece ∷ later) (given ++ events) rest front.0 front.1
+      (leaves_are.0, events, leaves_are.1, ap (λ es. es ++ events) leaves_are.2, others) in
+      record {
+        pieces = whole.pieces;
+        events = whole.events;
+        are_its_blocks = whole.are_its_blocks;
+        are_their_events = whole.are_their_events;
+        lines = ap (λ t. t ++ lines_of_events form next events) tells
+            ∙ ap (λ (q : Printed). (text ++ lines_of_events form so_far given) ++ lines_of_events form q events) is_next
+            ∙ append_assoc text (lines_of_events form so_far given) _
+            ∙ ap (λ t. text ++ t) (sym (lines-append form so_far given events)) ∙ whole.lines;
+        so_far = ap (λ (q : Printed). after_all q events) is_next ∙ sym (after-append so_far given events) ∙ whole.so_far;
+        open_now = ap (λ (cs : List Container). open_after (length cs) later) s.open_now ∙ whole.open_now;
+      }
 
-pub telling-first : (form : Form) (page : List ℕ) (at : Place) (outer : List Container) (text : List ℕ) → at ≡ the_front → outer ≡ [] → text ≡ []
-    → GoesOnTelling form page text at outer (lines_of page)
+pub telling-first : (form : Form) (page : List ℕ) (p : Printed) (outer : List Container) (text : List ℕ) → p ≡ the_front → outer ≡ [] → text ≡ []
+    → GoesOnTelling form page text p outer (lines_of page)
 unfolding GoesOnTelling
-telling-first form page at outer text front none empty later rest is each = (
-  later,
-  record { joined = sym is; each = subst (λ cs. AreBlocks cs later rest) none each },
-  ap (λ t. t ++ told_from form at later) empty ∙ ap (λ (p : Place). told_from form p later) front,
-)
+telling-first form page p outer text front none empty later events rest is each are = record {
+  pieces = later;
+  events = events;
+  are_its_blocks = record { joined = sym is; each = subst (λ cs. AreBlocks cs later rest) none each };
+  are_their_events = subst (λ (q : Printed). AreEvents [] q.at.lines q.at.bytes later events) front
+      (subst (λ cs. AreEvents cs p.at.lines p.at.bytes later events) none are);
+  lines = ap (λ t. t ++ lines_of_events form p events) empty ∙ ap (λ (q : Printed). lines_of_events form q events) front;
+  so_far = ap (λ (q : Printed). after_all q events) front;
+  open_now = ap (λ (cs : List Container). open_after (length cs) later) none;
+}
 
--- the text, in this form, tells blocks at the front of the page
-pub telling-front : (form other : Form) (page text words : List ℕ) (at : Place) (outer : List Container) (lines : List (List ℕ)) → form ≡ other → text ≡ words
-    → GoesOnTelling form page text at outer lines → (all : List Piece) × IsFront page all lines × (words ≡ told_from other the_front all)
+-- the text, in this form, prints blocks at the front of the page
+pub telling-front : (form other : Form) (page text words : List ℕ) (p : Printed) (outer : List Container) (lines : List (List ℕ)) → form ≡ other
+    → text ≡ words → GoesOnTelling form page text p outer lines → TellsFront other page words
 unfolding GoesOnTelling
-telling-front form other page text words at outer lines same is goes =
-    let whole = goes [] lines refl tt in
-    (whole.0, whole.1, sym is ∙ sym (append-nil text) ∙ whole.2 ∙ ap (λ f. told_from f the_front whole.0) same)
+telling-front form other page text words p outer lines same is goes =
+    let whole = goes [] [] lines refl tt refl in
+    record {
+      pieces = whole.pieces;
+      rest = lines;
+      events = whole.events;
+      are_its_blocks = whole.are_its_blocks;
+      are_their_events = whole.are_their_events;
+      lines = sym is ∙ sym (append-nil text) ∙ whole.lines ∙ ap (λ f. lines_of_events f the_front whole.events) same;
+    }
+
+-- the lines to the end of a page, of which the first events are printed
+to_end : (form : Form) (p : Printed) (events later : List Event)
+    → lines_of_events form p events ++ lines_to_end form (after_all p events) later ≡ lines_to_end form p (events ++ later)
+to_end form p events later =
+    sym (append_assoc (lines_of_events form p events) (lines_of_events form (after_all p events) later) _)
+    ∙ ap (λ t. t ++ ended_line form (closed (after_all (after_all p events) later).lists)) (sym (lines-append form p events later))
+    ∙ ap (λ (q : Printed). lines_of_events form p (events ++ later) ++ ended_line form (closed q.lists)) (sym (after-append p events later))
+
+-- with the last lines it prints the whole page
+pub telling-page : (form : Form) (page text longer : List ℕ) (p : Printed) (outer : List Container)
+    → longer ≡ text ++ last_lines form p (length outer) → GoesOnTelling form page text p outer [] → TellsPage form page longer
+unfolding GoesOnTelling
+telling-page form page text longer p outer tells goes =
+    let whole = goes [] [] [] refl tt refl in
+    let last : List Event = replicate (open_after 0 whole.pieces) ends in
+    let is_page : IsPage page whole.pieces =
+    record { joined = sym (append-nil _) ∙ whole.are_its_blocks.joined; each = whole.are_its_blocks.each } in
+    let are : IsEventsOf page (whole.events ++ last) = (whole.pieces, whole.events, is_page, whole.are_their_events, refl) in
+    let nodes = events_of_nodes page (whole.events ++ last) are in
+    record {
+      events = whole.events ++ last;
+      are_its_events = are;
+      are_its_lists = (nodes.0, subst (IsEventsOf page) nodes.1 are, ap (lists_behind at_start) nodes.1 ∙ page_lists nodes.0);
+      lines = tells ∙ ap (λ n. text ++ last_lines form p n) whole.open_now
+          ∙ ap (λ (q : Printed). text ++ lines_to_end form q last) whole.so_far
+          ∙ ap (λ t. t ++ lines_to_end form (after_all the_front whole.events) last) (sym (append-nil text) ∙ whole.lines)
+          ∙ to_end form the_front whole.events last;
+    }
+
+-- the lines of one more container's end
+last_more : (form : Form) (p : Printed) (count less : ℕ) → count ≡ suc less
+    → last_lines form p count ≡ event_lines form p ends ++ last_lines form (after p ends) less
+last_more form p count less more =
+    ap (last_lines form p) more
+    ∙ append_assoc (event_lines form p ends) (lines_of_events form (after p ends) (replicate less ends))
+    (ended_line form (closed (after_all (after p ends) (replicate less ends)).lists))
+
+pub end_step : (form same : Form) (p next : Printed) (text longer all : List ℕ) (count less : ℕ) → count ≡ suc less → same ≡ form → next ≡ after p ends
+    → longer ≡ text ++ event_lines form p ends → text ++ last_lines form p count ≡ all → longer ++ last_lines same next less ≡ all
+end_step form same p next text longer all count less more form_is next_is tells whole =
+    ap (λ t. t ++ last_lines same next less) tells
+    ∙ append_assoc text (event_lines form p ends) (last_lines same next less)
+    ∙ ap (λ f. text ++ (event_lines form p ends ++ last_lines f next less)) form_is
+    ∙ ap (λ (q : Printed). text ++ (event_lines form p ends ++ last_lines form q less)) next_is
+    ∙ ap (λ t. text ++ t) (sym (last_more form p count less more)) ∙ whole

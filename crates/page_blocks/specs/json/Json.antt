@@ -1,22 +1,48 @@
 -- The blocks of a page as JSON Lines.
-use Rattle.std.specs.Prelude.{ℕ, List, ◌++◌, codes, encode_utf8}
+use Rattle.std.specs.Prelude.{ℕ, Bool, true, false, not, ◌+◌, List, ◌++◌, codes, encode_utf8}
 use Rattle.std.specs.Fmt.{decimal}
 use Rattle.markdown_values.specs.values.Headings.{heading_number}
 use Rattle.markdown_scanners_tree.specs.scanners.html_kinds.HtmlKinds.{condition_number}
 use Rattle.markdown_blocks.specs.declared.blocks.BlockKind.{BlockKind}
-use Rattle.markdown_blocks.specs.declared.blocks.BlockKind.TheVariants.{Blank, Break, Heading, Setext, Indented, Fenced, Html, Table, Paragraph}
+use Rattle.markdown_blocks.specs.declared.blocks.BlockKind.TheVariants.{Blank, Break, Heading, Setext, Indented, Fenced, Html, Table, Definition, Paragraph}
 use Rattle.markdown_blocks.specs.declared.containers.Container.{Container}
 use Rattle.markdown_blocks.specs.declared.containers.Container.TheVariants.{Quote, Item}
-use Rattle.markdown_blocks.specs.declared.containers.ListItem.{ListItem}
+use Rattle.markdown_blocks.specs.declared.lists.ListBlock.{ListBlock}
 use Rattle.markdown_blocks.specs.info.Info.{info_of}
-use Rattle.page_blocks.specs.info.Info.{byte_text, info_json}
+use Rattle.page_blocks.specs.declared.printing.Front.{Front}
+use Rattle.page_blocks.specs.info.Info.{byte_text, info_json, json_text}
 
--- the first line, the last one, how many containers stand around, and how many bytes before, at the front of an object, and the
--- name of its kind
-abbrev pub front_json : ℕ → ℕ → ℕ → ℕ → List ℕ
-front_json first last depth offset =
-    codes "{\"first\":" ++ decimal first ++ codes ",\"last\":" ++ decimal last ++ codes ",\"depth\":" ++ decimal depth
-    ++ codes ",\"offset\":" ++ decimal offset ++ codes ",\"kind\":"
+-- the first line, the last one, how many containers stand around, how many bytes of the page before the first line, and which of
+-- its bytes the text or the marker begins with, at the front of an object, and the name of its kind
+abbrev pub front_json : Front → List ℕ
+front_json front =
+    codes "{\"first\":" ++ decimal front.first ++ codes ",\"last\":" ++ decimal front.last ++ codes ",\"depth\":" ++ decimal front.depth
+    ++ codes ",\"offset\":" ++ decimal front.offset ++ codes ",\"column\":" ++ decimal front.column ++ codes ",\"kind\":"
+
+-- the end of a container: its last line, how many containers stand around it, and how many bytes of the page before what follows it
+abbrev pub end_json : ℕ → ℕ → ℕ → List ℕ
+end_json last depth end =
+    codes "{\"last\":" ++ decimal last ++ codes ",\"depth\":" ++ decimal depth ++ codes ",\"end\":" ++ decimal end ++ codes ",\"kind\":\"end\""
+
+-- what holds, or does not
+abbrev pub truth : Bool → List ℕ
+truth true = codes "true"
+truth false = codes "false"
+
+-- a bullet or delimiter, and the number that it starts at
+abbrev pub marker_json : ℕ → ℕ → List ℕ
+marker_json delimiter start =
+    codes ",\"delimiter\":\"" ++ encode_utf8 delimiter ++ codes "\",\"start\":" ++ decimal start
+
+-- a list: its lines, how many containers stand around it, its bullet or delimiter, the number that it starts at, and whether it is tight
+abbrev pub list_json : ListBlock → List ℕ
+list_json list =
+    codes "{\"first\":" ++ decimal (list.line + 1) ++ codes ",\"last\":" ++ decimal list.end ++ codes ",\"depth\":" ++ decimal list.depth
+    ++ codes ",\"kind\":\"list\"" ++ marker_json list.delimiter list.start ++ codes ",\"tight\":" ++ truth (not list.is_loose)
+
+-- the name of a page
+abbrev pub page_json : List ℕ → List ℕ
+page_json name = codes "{\"page\":\"" ++ json_text name ++ codes "\""
 
 -- how many bytes a block's lines have, at the end of its object
 abbrev pub size_json : ℕ → List ℕ
@@ -34,13 +60,11 @@ kind_json (Fenced count byte) first =
     ++ info_json (info_of byte first)
 kind_json (Html kind) first = codes "\"html\",\"condition\":" ++ decimal (condition_number kind)
 kind_json (Table columns) first = codes "\"table\",\"columns\":" ++ decimal columns
+kind_json Definition first = codes "\"definition\""
 kind_json Paragraph first = codes "\"paragraph\""
 
--- the kind of a list item, with its bullet or delimiter, and the number that it starts at
-abbrev pub item_json : ListItem → List ℕ
-item_json item = codes "\"item\",\"delimiter\":\"" ++ encode_utf8 item.delimiter ++ codes "\",\"start\":" ++ decimal item.start
-
--- the kind of a container; of an item that too, and by how many columns its text is indented
+-- the kind of a container; of an item its marker too, and by how many columns its text is indented
 abbrev pub container_json : Container → List ℕ
 container_json Quote = codes "\"quote\""
-container_json (Item item) = item_json item ++ codes ",\"indent\":" ++ decimal item.width
+container_json (Item item) =
+    codes "\"item\"" ++ marker_json item.delimiter item.start ++ codes ",\"indent\":" ++ decimal item.width

@@ -1,24 +1,37 @@
--- How a page is told block by block.
-use Rattle.std.specs.Prelude.{ℕ, ◌≡◌, List, ◌++◌, string_bytes}
+-- How a page is printed block by block.
+use Rattle.std.specs.Prelude.{ℕ, ◌≡◌, List, [], ◌++◌, length, string_bytes}
 use Rattle.markdown_blocks.specs.blocks.Pages.{Piece, AreBlocks, IsFront, lines_in}
 use Rattle.markdown_blocks.specs.declared.containers.Container.{Container}
+use Rattle.markdown_blocks.specs.events.Events.{Event, AreEvents, open_after}
 use Rattle.page_blocks.specs.declared.page.Telling.{Telling}
-use Rattle.page_blocks.specs.declared.printing.Place.{Place}
 use Rattle.page_blocks.specs.declared.words.Form.{Form}
-use Rattle.page_blocks.specs.page.Told.{told_from, the_front}
+use Rattle.page_blocks.specs.page.Told.{Printed, lines_of_events, after_all, the_front}
+use Rattle.page_blocks.specs.printer.Printers.{printed_of}
 
--- The text tells a page as far as these lines, before which so much of it stands and these containers are open: whatever blocks the
--- first of them are, with what is told of these it tells blocks at the front of the page.
-unfoldable pub GoesOnTelling : Form → List ℕ → List ℕ → Place → List Container → List (List ℕ) → Type 0
-GoesOnTelling form page text at outer lines =
-    (later : List Piece) (rest : List (List ℕ)) → lines ≡ lines_in later ++ rest → AreBlocks outer later rest
-    → (all : List Piece) × IsFront page all rest × (text ++ told_from form at later ≡ told_from form the_front all)
+-- The text has the lines of the events of blocks at the front of the page, and these lines follow them. So far the page is printed
+-- then, and so many containers are open.
+pub record IsPrinted (form : Form) (page text : List ℕ) (p : Printed) (depth : ℕ) (rest : List (List ℕ)) : Type 0 where
+  pub pieces : List Piece
+  pub events : List Event
+  pub are_its_blocks : IsFront page pieces rest
+  pub are_their_events : AreEvents [] 0 0 pieces events
+  pub lines : text ≡ lines_of_events form the_front events
+  pub so_far : p ≡ after_all the_front events
+  pub open_now : depth ≡ open_after 0 pieces
 
--- what was written, and then what is told and not yet written, tells the page as far as these lines
+-- The text prints a page as far as these lines, before which the page is printed so far and these containers are open: whatever
+-- blocks the first of them are, with the lines of their events it prints blocks at the front of the page.
+unfoldable pub GoesOnTelling : Form → List ℕ → List ℕ → Printed → List Container → List (List ℕ) → Type 0
+GoesOnTelling form page text p outer lines =
+    (later : List Piece) (events : List Event) (rest : List (List ℕ)) → lines ≡ lines_in later ++ rest → AreBlocks outer later rest
+    → AreEvents outer p.at.lines p.at.bytes later events
+    → IsPrinted form page (text ++ lines_of_events form p events) (after_all p events) (open_after (length outer) later) rest
+
+-- what was written, and then the lines that are not yet written, print the page as far as these lines
 abbrev pub HasTold : List ℕ → List ℕ → Telling → List (List ℕ) → Type 0
 HasTold page written telling lines =
-    GoesOnTelling telling.form page (written ++ string_bytes telling.told) telling.at telling.walk lines
+    GoesOnTelling telling.printer.form page (written ++ string_bytes telling.printer.text) (printed_of telling.printer) telling.walk lines
 
--- of each page that is told as far as the ones, it goes on to tell it as far as the others
+-- of each page that is printed as far as the ones, it goes on to print it as far as the others
 abbrev pub Tells : Telling → List (List ℕ) → Telling → List (List ℕ) → Type 0
 Tells old lines new rest = (page written : List ℕ) → HasTold page written old lines → HasTold page written new rest

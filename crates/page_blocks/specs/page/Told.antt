@@ -1,22 +1,27 @@
--- What the program prints of the blocks of a page.
-use Rattle.std.specs.Prelude.{ℕ, suc, ◌+◌, ◌≡◌, List, [], ◌∷◌, ◌++◌, length, codes, encode_utf8, Option}
+-- What the program prints of a page: a line for each of its events, and for each of its lists.
+use Rattle.std.specs.Prelude.{ℕ, Bool, true, false, nat_lt, ◌+◌, ◌-◌, ◌≡◌, List, [], ◌∷◌, ◌++◌, length, replicate, codes, encode_utf8, Option, Some, None}
+use Rattle.std.specs.Prelude.{if◌then◌else◌}
 use Rattle.std.specs.Fmt.{decimal}
-use Rattle.std.specs.List.{concat}
 use Rattle.std.specs.Io.KnownBytes.{Appends, Consumes}
 use Rattle.markdown_values.specs.values.Headings.{heading_number}
 use Rattle.markdown_scanners_tree.specs.Ascii.{line_feed}
 use Rattle.markdown_scanners_tree.specs.scanners.html_kinds.HtmlKinds.{condition_number}
 use Rattle.markdown_blocks.specs.declared.blocks.BlockKind.{BlockKind}
-use Rattle.markdown_blocks.specs.declared.blocks.BlockKind.TheVariants.{Blank, Break, Heading, Setext, Indented, Fenced, Html, Table, Paragraph}
+use Rattle.markdown_blocks.specs.declared.blocks.BlockKind.TheVariants.{Blank, Break, Heading, Setext, Indented, Fenced, Html, Table, Definition, Paragraph}
 use Rattle.markdown_blocks.specs.declared.containers.Container.{Container}
 use Rattle.markdown_blocks.specs.declared.containers.Container.TheVariants.{Quote, Item}
+use Rattle.markdown_blocks.specs.declared.lists.ListBlock.{ListBlock}
+use Rattle.markdown_blocks.specs.events.Events.{Event, starts, leaf, ends, LeafBlock, AreEvents, IsEventsOf}
+use Rattle.markdown_blocks.specs.lists.Lists.{AreListsOf}
+use Rattle.markdown_blocks.specs.lists.Tracked.{Tracked, at_start, read, closed, lists_behind}
 use Rattle.page_blocks.specs.declared.words.Form.{Form}
 use Rattle.page_blocks.specs.declared.words.Form.TheVariants.{Words, Json}
-use Rattle.markdown_blocks.specs.blocks.Pages.{Piece, IsPage, IsFront}
+use Rattle.markdown_blocks.specs.blocks.Pages.{Piece, IsFront}
 use Rattle.markdown_blocks.specs.info.Info.{info_of}
+use Rattle.markdown_blocks.specs.declared.taken.Taken.{Taken}
 use Rattle.page_blocks.specs.info.Info.{bytes_text}
-use Rattle.page_blocks.specs.json.Json.{kind_json, container_json, front_json, size_json}
-use Rattle.page_blocks.specs.declared.printing.Place.{Place}
+use Rattle.page_blocks.specs.json.Json.{kind_json, container_json, front_json, size_json, end_json, list_json, page_json}
+use Rattle.page_blocks.specs.declared.printing.Front.{Front}
 
 -- an info string behind a space, or nothing
 abbrev pub info_text : List ℕ → List ℕ
@@ -38,6 +43,7 @@ kind_text Indented first = codes "indented"
 kind_text (Fenced count byte) first = fence_text count byte (info_of byte first)
 kind_text (Html kind) first = codes "html " ++ decimal (condition_number kind)
 kind_text (Table columns) first = codes "table " ++ decimal columns
+kind_text Definition first = codes "definition"
 kind_text Paragraph first = codes "paragraph"
 
 -- the word for a container, with an item's bullet or delimiter and the number that it starts at
@@ -54,11 +60,11 @@ abbrev pub container_told : Form → Container → List ℕ
 container_told Words container = container_text container
 container_told Json container = container_json container
 
--- what stands in a line before that: a first line and a last one, how many containers stand around it, and how many bytes of the
--- page stand before it
-abbrev pub front_told : Form → ℕ → ℕ → ℕ → ℕ → List ℕ
-front_told Words first last depth offset = decimal first ++ codes " " ++ decimal last ++ codes " " ++ decimal depth ++ codes " "
-front_told Json first last depth offset = front_json first last depth offset
+-- what stands in a line before that; by words no place
+abbrev pub front_told : Form → Front → List ℕ
+front_told Words front =
+    decimal front.first ++ codes " " ++ decimal front.last ++ codes " " ++ decimal front.depth ++ codes " "
+front_told Json front = front_json front
 
 -- what stands behind it of a block: how many bytes its lines have
 abbrev pub size_told : Form → ℕ → List ℕ
@@ -66,62 +72,153 @@ size_told Words bytes = []
 size_told Json bytes = size_json bytes
 
 -- and at the end
-abbrev pub end_told : Form → List ℕ
-end_told Words = line_feed ∷ []
-end_told Json = codes "}" ++ line_feed ∷ []
+abbrev pub line_end : Form → List ℕ
+line_end Words = line_feed ∷ []
+line_end Json = codes "}" ++ line_feed ∷ []
 
--- a line of what is told
-abbrev pub told_line : Form → ℕ → ℕ → ℕ → ℕ → List ℕ → List ℕ
-told_line form first last depth offset what = front_told form first last depth offset ++ what ++ end_told form
+-- how much of a page stands before what comes next
+pub record Place : Type 0 where
+  pub lines : ℕ
+  pub bytes : ℕ
 
--- what a block's line tells of its kind and its bytes
-abbrev pub block_told : Form → BlockKind → List ℕ → ℕ → List ℕ
-block_told form kind first bytes = kind_told form kind first ++ size_told form bytes
+abbrev pub place_of : Taken → Place
+place_of taken = record { lines = taken.lines; bytes = taken.bytes }
 
--- the lines of containers that begin in a line, behind so many
-abbrev pub told_containers : Form → Place → ℕ → List Container → List ℕ
-told_containers form at depth [] = []
-told_containers form at depth (c ∷ inner) =
-    told_line form (at.lines + 1) (at.lines + 1) depth at.bytes (container_told form c) ++ told_containers form at (suc depth) inner
+-- with which byte of its line a place of the page begins, counted from 1, where so many bytes stand before the line
+abbrev pub column_of : ℕ → ℕ → ℕ
+column_of start place = place - start + 1
 
--- the lines of a block behind so much of the page
-abbrev pub told_piece : Form → Place → Piece → List ℕ
-told_piece form at piece =
-    told_containers form at (length piece.kept) piece.begun
-    ++ told_line form (at.lines + 1) (at.lines + length (piece.first ∷ piece.later)) (length (piece.kept ++ piece.begun)) at.bytes
-    (block_told form piece.kind piece.words.text (length (concat (piece.first ∷ piece.later))))
-
--- what stands before what follows a piece
-abbrev pub behind_piece : Place → Piece → Place
-behind_piece at piece = record {
-  lines = at.lines + length (piece.first ∷ piece.later);
-  bytes = at.bytes + length (concat (piece.first ∷ piece.later));
+-- the line of a leaf block in so many containers
+abbrev pub leaf_front : ℕ → LeafBlock → Front
+leaf_front depth block = record {
+  first = block.line + 1;
+  last = block.line + block.lines;
+  depth = depth;
+  offset = block.start;
+  column = column_of block.start block.place;
 }
 
--- the lines of blocks behind so much of the page
-abbrev pub told_from : Form → Place → List Piece → List ℕ
-told_from form at [] = []
-told_from form at (piece ∷ later) = told_piece form at piece ++ told_from form (behind_piece at piece) later
+abbrev pub leaf_line : Form → ℕ → LeafBlock → List ℕ
+leaf_line form depth block =
+    front_told form (leaf_front depth block) ++ kind_told form block.kind block.text ++ size_told form block.bytes ++ line_end form
 
--- nothing of the page
-abbrev pub the_front : Place
-the_front = record { lines = 0; bytes = 0 }
+-- the line of a container in so many others, whose marker stands after so many bytes of the page, and its first line after so
+-- much of it
+abbrev pub container_front : Place → ℕ → ℕ → Front
+container_front at depth marker = record {
+  first = at.lines + 1;
+  last = at.lines + 1;
+  depth = depth;
+  offset = at.bytes;
+  column = column_of at.bytes marker;
+}
 
--- the text tells the blocks of the page in this form
-abbrev pub TellsPage : Form → List ℕ → List ℕ → Type 0
-TellsPage form input text = (pieces : List Piece) × IsPage input pieces × (text ≡ told_from form the_front pieces)
+abbrev pub container_line : Form → Place → ℕ → Container → ℕ → List ℕ
+container_line form at depth container marker =
+    front_told form (container_front at depth marker) ++ container_told form container ++ line_end form
 
--- known bytes grow by a text that tells the blocks of the page
-abbrev pub IsToldTo : Form → List ℕ → Option (List ℕ) → Option (List ℕ) → Type 0
-IsToldTo form input old new = (text : List ℕ) × TellsPage form input text × Appends old new text
+-- as JSON a line for the end of a container in so many others, after so much of the page
+abbrev pub end_line : Form → Place → ℕ → List ℕ
+end_line Words at depth = []
+end_line Json at depth = end_json at.lines depth at.bytes ++ line_end Json
 
--- it tells blocks at the front of the page
-abbrev pub TellsFront : Form → List ℕ → List ℕ → Type 0
-TellsFront form input text =
-    (pieces : List Piece) × (rest : List (List ℕ)) × IsFront input pieces rest × (text ≡ told_from form the_front pieces)
+-- the word for a list that is loose, or is not
+abbrev pub tightness : Bool → List ℕ
+tightness true = codes "loose"
+tightness false = codes "tight"
 
--- Known bytes grow by a text that tells blocks at the front of what was read of the input, whatever bytes follow that.
-abbrev pub IsBegunTo : Form → Option (List ℕ) → Option (List ℕ) → Option (List ℕ) → Option (List ℕ) → Type 0
-IsBegunTo form input left old new =
+-- the line of a list: its bullet or delimiter, the number that it starts at, and whether it is tight
+abbrev pub list_text : ListBlock → List ℕ
+list_text list =
+    decimal (list.line + 1) ++ codes " " ++ decimal list.end ++ codes " " ++ decimal list.depth ++ codes " list " ++ encode_utf8 list.delimiter
+    ++ codes " " ++ decimal list.start ++ codes " " ++ tightness list.is_loose
+
+abbrev pub list_line : Form → ListBlock → List ℕ
+list_line Words list = list_text list ++ line_end Words
+list_line Json list = list_json list ++ line_end Json
+
+abbrev pub ended_line : Form → Option ListBlock → List ℕ
+ended_line form None = []
+ended_line form (Some list) = list_line form list
+
+-- how far a page is printed: how much of it stands before what comes next, and how its lists are followed
+pub record Printed : Type 0 where
+  pub at : Place
+  pub lists : Tracked
+
+-- nothing of it
+abbrev pub the_front : Printed
+the_front = record { at = record { lines = 0; bytes = 0 }; lists = at_start }
+
+-- how much of the page stands before what follows an event
+abbrev pub place_after : Place → Event → Place
+place_after at (starts container marker) = at
+place_after at (leaf block) = record { lines = block.line + block.lines; bytes = block.start + block.bytes }
+place_after at ends = at
+
+abbrev pub after : Printed → Event → Printed
+after p event = record { at = place_after p.at event; lists = (read p.lists event).state }
+
+-- the line of an event, in so many containers
+abbrev pub event_line : Form → Place → ℕ → Event → List ℕ
+event_line form at depth (starts container marker) = container_line form at depth container marker
+event_line form at depth (leaf block) = leaf_line form depth block
+event_line form at depth ends = end_line form at (depth - 1)
+
+-- and before it that of the list that the event shows to have ended, if it shows one
+abbrev pub event_lines : Form → Printed → Event → List ℕ
+event_lines form p event = ended_line form (read p.lists event).list ++ event_line form p.at (length p.lists.outer) event
+
+-- the lines of events, one after the other
+abbrev pub lines_of_events : Form → Printed → List Event → List ℕ
+lines_of_events form p [] = []
+lines_of_events form p (event ∷ later) = event_lines form p event ++ lines_of_events form (after p event) later
+
+-- how far the page is printed after them
+abbrev pub after_all : Printed → List Event → Printed
+after_all p [] = p
+after_all p (event ∷ later) = after_all (after p event) later
+
+-- the lines of the last events of a page that is printed so far, and that of the list that its end ends
+abbrev pub lines_to_end : Form → Printed → List Event → List ℕ
+lines_to_end form p events = lines_of_events form p events ++ ended_line form (closed (after_all p events).lists)
+
+-- where so many containers are open at its end
+abbrev pub last_lines : Form → Printed → ℕ → List ℕ
+last_lines form p depth = lines_to_end form p (replicate depth ends)
+
+-- the lines of the events of a page, and of its lists
+abbrev pub page_lines : Form → List Event → List ℕ
+page_lines form events = lines_to_end form the_front events
+
+-- what is printed before the lines of a page of this name, of so many pages: as JSON its name, where there are two or more
+abbrev pub title_of : Form → ℕ → List ℕ → List ℕ
+title_of Words pages name = []
+title_of Json pages name = if nat_lt 1 pages then page_json name ++ line_end Json else []
+
+-- The text has the lines of the events of the page in this form, and of its lists. (chapter 3, and section 5.3)
+pub record TellsPage (form : Form) (input text : List ℕ) : Type 0 where
+  pub events : List Event
+  pub are_its_events : IsEventsOf input events
+  pub are_its_lists : AreListsOf input (lists_behind at_start events)
+  pub lines : text ≡ page_lines form events
+
+-- known bytes grow by the title and by a text that has the lines of the page
+abbrev pub IsToldTo : Form → List ℕ → List ℕ → Option (List ℕ) → Option (List ℕ) → Type 0
+IsToldTo form title input old new = (text : List ℕ) × TellsPage form input text × Appends old new (title ++ text)
+
+-- the text has the lines of the events of blocks at the front of the page
+pub record TellsFront (form : Form) (input text : List ℕ) : Type 0 where
+  pub pieces : List Piece
+  pub rest : List (List ℕ)
+  pub events : List Event
+  pub are_its_blocks : IsFront input pieces rest
+  pub are_their_events : AreEvents [] 0 0 pieces events
+  pub lines : text ≡ lines_of_events form the_front events
+
+-- Known bytes grow by the title and by a text that has the lines of blocks at the front of what was read of the input, whatever
+-- bytes follow that.
+abbrev pub IsBegunTo : Form → List ℕ → Option (List ℕ) → Option (List ℕ) → Option (List ℕ) → Option (List ℕ) → Type 0
+IsBegunTo form title input left old new =
     (read : List ℕ) × Consumes input left read
-    × (text : List ℕ) × ((more : List ℕ) → TellsFront form (read ++ more) text) × Appends old new text
+    × (text : List ℕ) × ((more : List ℕ) → TellsFront form (read ++ more) text) × Appends old new (title ++ text)

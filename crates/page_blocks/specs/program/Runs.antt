@@ -7,7 +7,7 @@ use Rattle.program_faults.specs.declared.reasons.Reason.{Reason}
 use Rattle.page_blocks.specs.declared.words.Form.{Form}
 use Rattle.page_blocks.specs.declared.stops.Stop.{Stop}
 use Rattle.page_blocks.specs.declared.stops.Stop.TheVariants.{Read, Write, Memory}
-use Rattle.page_blocks.specs.page.Told.{IsToldTo, IsBegunTo}
+use Rattle.page_blocks.specs.page.Told.{IsToldTo, IsBegunTo, title_of}
 use Rattle.page_blocks.specs.words.Words.{dash}
 
 -- the stop of a call that may stop
@@ -15,32 +15,36 @@ abbrev pub stop_of : {T S : Type 0} → Result T S → Option S
 stop_of (Ok t) = None
 stop_of (Err stop) = Some stop
 
-module _ {R : Type 0} (form : Form) (remaining : R → Option (List ℕ)) (reads : R → Result (List ℕ) Reason → R → Type 0) where
-  -- What a page came to that a reader gives: it was read to its end, and known bytes grew by what tells its blocks; or it stopped. Then
-  -- they grew by what tells the first of its blocks, unless a write failed. Where it can't be read the last read failed, or there
-  -- were as many reads as are made.
-  abbrev pub PageEnds : R → R → Option (List ℕ) → Option (List ℕ) → Option Stop → Type 0
-  PageEnds old new out told None = IfSome (remaining old) (λ bytes. IsToldTo form bytes out told) × IsAtEnd (remaining new) × HasEnded reads new
-  PageEnds old new out told (Some (Read why)) =
-      IsBegunTo form (remaining old) (remaining new) out told × (HasFailed reads why new ⊎ AreReads reads 281474976710655 old new)
-  PageEnds old new out told (Some (Write why)) = ⊤
-  PageEnds old new out told (Some Memory) = IsBegunTo form (remaining old) (remaining new) out told
+module _ {R : Type 0} (form : Form) (pages : ℕ) (remaining : R → Option (List ℕ)) (reads : R → Result (List ℕ) Reason → R → Type 0) where
+  -- What a page came to that a reader gives, where this stands before its lines: it was read to its end, and known bytes grew by its
+  -- lines; or it stopped. Then they grew by the lines of the first of its blocks, unless a write failed. Where it can't be read the
+  -- last read failed, or there were as many reads as are made.
+  abbrev pub PageEnds : List ℕ → R → R → Option (List ℕ) → Option (List ℕ) → Option Stop → Type 0
+  PageEnds title old new out told None =
+      IfSome (remaining old) (λ bytes. IsToldTo form title bytes out told) × IsAtEnd (remaining new) × HasEnded reads new
+  PageEnds title old new out told (Some (Read why)) =
+      IsBegunTo form title (remaining old) (remaining new) out told × (HasFailed reads why new ⊎ AreReads reads 281474976710655 old new)
+  PageEnds title old new out told (Some (Write why)) = ⊤
+  PageEnds title old new out told (Some Memory) = IsBegunTo form title (remaining old) (remaining new) out told
 
-  -- and nothing but reads was done
-  abbrev pub TellsBlocks : R → R → Option (List ℕ) → Option (List ℕ) → Option Stop → Type 0
-  TellsBlocks old new out told stop = PageEnds old new out told stop × (count : ℕ) × AreReads reads count old new
+  -- the same of the page of this name, of so many pages; and nothing but reads was done
+  abbrev pub TellsBlocks : List ℕ → R → R → Option (List ℕ) → Option (List ℕ) → Option Stop → Type 0
+  TellsBlocks name old new out told stop =
+      PageEnds (title_of form pages name) old new out told stop × (count : ℕ) × AreReads reads count old new
 
-module _ {R O F : Type 0} (by_input : R → R → Option (List ℕ) → Option (List ℕ) → Option Stop → Type 0) (opens : F → List ℕ → Result O Reason → F → Type 0)
-    (by_file : O → O → Option (List ℕ) → Option (List ℕ) → Option Stop → Type 0) where
-  -- What the page of a name came to: `-` is standard input, and any other name that of a file.
+module _ {R O F : Type 0} (by_input : List ℕ → R → R → Option (List ℕ) → Option (List ℕ) → Option Stop → Type 0)
+    (opens : F → List ℕ → Result O Reason → F → Type 0)
+    (by_file : List ℕ → O → O → Option (List ℕ) → Option (List ℕ) → Option Stop → Type 0) where
+  -- What the page of a name came to: `-` is standard input, and any other name that of a file. Memory may be refused before it.
   pub data IsTold : List ℕ → R → F → Option (List ℕ) → R → F → Option (List ℕ) → Option Stop → Type 0 where
     from_input : (name : List ℕ) (old new : R) (files : F) (out told : Option (List ℕ)) (stop : Option Stop)
-        → bytes_eq name dash ≡ true → by_input old new out told stop → IsTold name old files out new files told stop
+        → bytes_eq name dash ≡ true → by_input name old new out told stop → IsTold name old files out new files told stop
     from_file : (name : List ℕ) (input : R) (old new : F) (out told : Option (List ℕ)) (stop : Option Stop) (opened last : O)
-        → bytes_eq name dash ≡ false → opens old name (Ok opened) new → by_file opened last out told stop
+        → bytes_eq name dash ≡ false → opens old name (Ok opened) new → by_file name opened last out told stop
         → IsTold name input old out input new told stop
     not_opened : (name : List ℕ) (input : R) (old new : F) (out : Option (List ℕ)) (why : Reason)
         → bytes_eq name dash ≡ false → opens old name (Err why) new → IsTold name input old out input new out (Some (Read why))
+    not_begun : (name : List ℕ) (input : R) (files : F) (out : Option (List ℕ)) → IsTold name input files out input files out (Some Memory)
 
   -- The pages of names, one after another, up to the first that stopped. Memory may be refused before each.
   pub data AreTold : List (List ℕ) → R → F → Option (List ℕ) → R → F → Option (List ℕ) → Option (List ℕ × Stop) → Type 0 where

@@ -1,8 +1,8 @@
-use Rattle.std.proofs.Common.{ℕ, ◌+◌, ◌-◌, ◌++◌, ◌≡◌, true, false, Result, Ok, Err, IfErr, length, drop, arith, refl, sym, ap, subst, ◌∙◌}
+use Rattle.std.proofs.Common.{ℕ, ◌+◌, ◌-◌, ◌++◌, ◌≡◌, true, false, IsTrue, Result, Ok, Err, IfErr, length, drop, arith, refl, sym, ap, subst, ◌∙◌}
 use Rattle.std.specs.Result.{IsErrAnd}
 use Rattle.std.proofs.lemmas.List.{length-drop}
 use Rattle.program_faults.specs.Steps.{AreReads, no_read}
-use Rattle.page_blocks.specs.declared.printing.Place.{Place}
+use Rattle.page_blocks.specs.page.Told.{Printed}
 use Rattle.page_blocks.specs.declared.reading.TheConstants.{READS}
 use Rattle.page_blocks.proofs.reading.ReadingLemmas.{reads_on, reads_made, reads_all}
 use Rattle.page_blocks.proofs.program.ProgramLemmas.{begun-first, begun-read, begun-written, begun-stopped, begun-done}
@@ -20,19 +20,19 @@ by_err (Err e) error is h = λ why same. h why (sym is ∙ same)
 
 pub loop-telling-init : goal.loop-telling-init
 loop-telling-init g c = record {
-  begun = begun-first c.args.form (g.R.Read.remaining c.args.input.now) (g.W.Write.contents c.args.output.now) c.new-telling.result
-      c.new-unread.result.text.items c.new-unread.ensures.text c.new-telling.ensures.told c.new-telling.ensures.form;
+  begun = begun-first c.args.form c.args.title.now (g.R.Read.remaining c.args.input.now) (g.W.Write.contents c.args.output.now)
+      (g.W.Write.contents c.write_text.new.output) c.new-telling.result c.new-unread.result.text.items c.in_ok-write_text.ensures.written c.new-unread.ensures.text c.new-telling.ensures.told c.new-telling.ensures.form;
   empty = c.new-telling.ensures.nothing;
   reads = (0, omega (arith, c.new-unread.ensures.reads), no_read c.args.input.now);
   lines = omega (
     arith,
-    ap (λ (p : Place). p.lines) c.new-telling.ensures.at,
+    ap (λ (p : Printed). p.at.lines) c.new-telling.ensures.at,
     ap length c.new-unread.ensures.text,
     c.new-unread.ensures.reads,
   );
   bytes = omega (
     arith,
-    ap (λ (p : Place). p.bytes) c.new-telling.ensures.at,
+    ap (λ (p : Printed). p.at.bytes) c.new-telling.ensures.at,
     ap length c.new-unread.ensures.text,
     c.new-unread.ensures.reads,
   );
@@ -41,9 +41,9 @@ loop-telling-init g c = record {
 pub returns-in_err-has_ended-clause-begun : goal.returns-in_err-has_ended-clause-begun
 returns-in_err-has_ended-clause-begun g c =
     let read = c.in_err-has_ended.ensures.read in
-    if_err _ c.from_residual.result (begun-stopped c.args.form (g.R.Read.remaining c.args.input.now) (g.W.Write.contents c.args.output.now)
+    if_err _ c.from_residual-in_err-has_ended.result (begun-stopped c.args.form c.args.title.now (g.R.Read.remaining c.args.input.now) (g.W.Write.contents c.args.output.now)
     (g.R.Read.remaining c.read_more.new.input) (g.W.Write.contents c.loop-telling.output) c.loop-telling.telling (c.loop-telling.unread.text.items ++ read.0)
-    (begun-read c.args.form (g.R.Read.remaining c.args.input.now) (g.W.Write.contents c.args.output.now) (g.R.Read.remaining c.loop-telling.input)
+    (begun-read c.args.form c.args.title.now (g.R.Read.remaining c.args.input.now) (g.W.Write.contents c.args.output.now) (g.R.Read.remaining c.loop-telling.input)
     (g.R.Read.remaining c.read_more.new.input) (g.W.Write.contents c.loop-telling.output) c.loop-telling.telling c.loop-telling.unread.text.items
     (c.loop-telling.unread.text.items ++ read.0) read.0 c.loop-telling.invariant.begun read.1 refl)
     c.loop-telling.invariant.empty)
@@ -57,9 +57,9 @@ tell-requires-clause-bytes g c = omega (arith, c.loop-telling.invariant.bytes, c
 pub returns-in_err-count-clause-begun : goal.returns-in_err-count-clause-begun
 returns-in_err-count-clause-begun g c =
     let read = c.in_ok-has_ended.ensures.read in
-    if_err _ c.from_residual-in_err-count.result (begun-stopped c.args.form (g.R.Read.remaining c.args.input.now) (g.W.Write.contents c.args.output.now)
+    if_err _ c.from_residual-in_err-count.result (begun-stopped c.args.form c.args.title.now (g.R.Read.remaining c.args.input.now) (g.W.Write.contents c.args.output.now)
     (g.R.Read.remaining c.read_more.new.input) (g.W.Write.contents c.loop-telling.output) c.loop-telling.telling (c.loop-telling.unread.text.items ++ read.0)
-    (begun-read c.args.form (g.R.Read.remaining c.args.input.now) (g.W.Write.contents c.args.output.now) (g.R.Read.remaining c.loop-telling.input)
+    (begun-read c.args.form c.args.title.now (g.R.Read.remaining c.args.input.now) (g.W.Write.contents c.args.output.now) (g.R.Read.remaining c.loop-telling.input)
     (g.R.Read.remaining c.read_more.new.input) (g.W.Write.contents c.loop-telling.output) c.loop-telling.telling c.loop-telling.unread.text.items
     (c.loop-telling.unread.text.items ++ read.0) read.0 c.loop-telling.invariant.begun read.1 refl)
     c.loop-telling.invariant.empty)
@@ -67,30 +67,32 @@ returns-in_err-count-clause-begun g c =
 pub returns-then-has_ended-clause-told : goal.returns-then-has_ended-clause-told
 returns-then-has_ended-clause-told g c =
     let read = c.in_ok-has_ended.ensures.read in
-    begun-done c.args.form (g.R.Read.remaining c.args.input.now) (g.W.Write.contents c.args.output.now)
-    (g.R.Read.remaining c.read_more.new.input) (g.W.Write.contents c.loop-telling.output) (g.W.Write.contents c.write_text.new.output)
-    c.loop-telling.telling c.tell.new.self c.deref.result.now c.in_ok-count.count c.in_ok-has_ended.has_ended
-    (begun-read c.args.form (g.R.Read.remaining c.args.input.now) (g.W.Write.contents c.args.output.now) (g.R.Read.remaining c.loop-telling.input)
+    begun-done c.args.form c.args.title.now (g.R.Read.remaining c.args.input.now) (g.W.Write.contents c.args.output.now)
+    (g.R.Read.remaining c.read_more.new.input) (g.W.Write.contents c.loop-telling.output) (g.W.Write.contents c.write_text-in-loop-telling.new.output)
+    c.loop-telling.telling c.tell.new.self c.deref.result.now
+    (begun-read c.args.form c.args.title.now (g.R.Read.remaining c.args.input.now) (g.W.Write.contents c.args.output.now) (g.R.Read.remaining c.loop-telling.input)
     (g.R.Read.remaining c.read_more.new.input) (g.W.Write.contents c.loop-telling.output) c.loop-telling.telling c.loop-telling.unread.text.items
     c.deref.result.now read.0 c.loop-telling.invariant.begun read.1 (c.deref.ensures.value ∙ read.2))
-    c.in_ok-count.ensures.told (c.in_ok-count.ensures.all c.if-has_ended.true) c.in_ok-count.ensures.form
-    (rw c.as_str.ensures.value at c.in_ok-write_text.ensures.written) (c.in_ok-has_ended.ensures.end c.if-has_ended.true)
+    (c.in_ok-count.ensures.ended c.if-has_ended.true)
+    (rw c.as_str.ensures.value at c.in_ok-write_text-2.ensures.written) (c.in_ok-has_ended.ensures.end c.if-has_ended.true)
 
 pub loop-telling-preserved : goal.loop-telling-preserved
 loop-telling-preserved g c =
     let read = c.in_ok-has_ended.ensures.read in
+    let other : ¬ IsTrue c.in_ok-has_ended.has_ended =
+    λ ended. let both : true ≡ false = sym ended ∙ c.if-has_ended.false in cc in
     let left : length c.drop_front.new.self.text.items ≡ length c.read_more.new.self.text.items - c.in_ok-count.count =
     ap length c.drop_front.ensures.text ∙ length-drop c.in_ok-count.count c.read_more.new.self.text.items in
     record {
-      begun = begun-written c.args.form (g.R.Read.remaining c.args.input.now) (g.W.Write.contents c.args.output.now)
-          (g.R.Read.remaining c.read_more.new.input) (g.W.Write.contents c.loop-telling.output) (g.W.Write.contents c.write_text.new.output)
+      begun = begun-written c.args.form c.args.title.now (g.R.Read.remaining c.args.input.now) (g.W.Write.contents c.args.output.now)
+          (g.R.Read.remaining c.read_more.new.input) (g.W.Write.contents c.loop-telling.output) (g.W.Write.contents c.write_text-in-loop-telling.new.output)
           c.loop-telling.telling c.tell.new.self _ c.deref.result.now c.drop_front.new.self.text.items c.in_ok-count.count
-          (begun-read c.args.form (g.R.Read.remaining c.args.input.now) (g.W.Write.contents c.args.output.now) (g.R.Read.remaining c.loop-telling.input)
+          (begun-read c.args.form c.args.title.now (g.R.Read.remaining c.args.input.now) (g.W.Write.contents c.args.output.now) (g.R.Read.remaining c.loop-telling.input)
           (g.R.Read.remaining c.read_more.new.input) (g.W.Write.contents c.loop-telling.output) c.loop-telling.telling c.loop-telling.unread.text.items
           c.deref.result.now read.0 c.loop-telling.invariant.begun read.1 (c.deref.ensures.value ∙ read.2))
           c.loop-telling.invariant.empty
-          (λ more. c.in_ok-count.ensures.told more (λ ended. let both : true ≡ false = sym ended ∙ c.if-has_ended.false in cc))
-          c.in_ok-count.ensures.form (rw c.as_str.ensures.value at c.in_ok-write_text.ensures.written)
+          (c.in_ok-count.ensures.told other)
+          c.in_ok-count.ensures.form (rw c.as_str.ensures.value at c.in_ok-write_text-2.ensures.written)
           refl refl refl c.clear.ensures.bytes (c.drop_front.ensures.text ∙ ap (drop c.in_ok-count.count) (sym c.deref.ensures.value));
       empty = c.clear.ensures.bytes;
       reads = subst (λ n. (count : ℕ) × (n + count ≡ READS) × AreReads g.R.StepReader.reads count c.args.input.now c.read_more.new.input)
@@ -103,7 +105,7 @@ loop-telling-preserved g c =
         ap length c.deref.ensures.value,
         left,
         c.in_ok-count.ensures.within,
-        c.in_ok-count.ensures.lines,
+        c.in_ok-count.ensures.lines other,
         c.drop_front.ensures.reads,
       );
       bytes = omega (
@@ -113,7 +115,7 @@ loop-telling-preserved g c =
         ap length c.deref.ensures.value,
         left,
         c.in_ok-count.ensures.within,
-        c.in_ok-count.ensures.bytes,
+        c.in_ok-count.ensures.bytes other,
         c.drop_front.ensures.reads,
       );
     }
@@ -128,8 +130,8 @@ returns-in_err-count-clause-reads g c =
     reads_made g.R.StepReader.reads c.loop-telling.unread.reads c.read_more.new.self.reads READS c.args.input.now c.loop-telling.input c.read_more.new.input
     c.loop-telling.invariant.reads c.read_more.ensures.reads
 
-pub returns-in_err-write_text-clause-reads : goal.returns-in_err-write_text-clause-reads
-returns-in_err-write_text-clause-reads g c =
+pub returns-in_err-write_text-2-clause-reads : goal.returns-in_err-write_text-2-clause-reads
+returns-in_err-write_text-2-clause-reads g c =
     reads_made g.R.StepReader.reads c.loop-telling.unread.reads c.read_more.new.self.reads READS c.args.input.now c.loop-telling.input c.read_more.new.input
     c.loop-telling.invariant.reads c.read_more.ensures.reads
 
@@ -140,6 +142,9 @@ returns-then-has_ended-clause-reads g c =
 
 pub returns-in_err-has_ended-clause-failed : goal.returns-in_err-has_ended-clause-failed
 returns-in_err-has_ended-clause-failed g c =
-    by_err c.from_residual.result c.in_err-has_ended.field-0.0 c.from_residual.ensures.1
+    by_err c.from_residual-in_err-has_ended.result c.in_err-has_ended.field-0.0 c.from_residual-in_err-has_ended.ensures.1
     (λ why is. reads_all g.R.StepReader.reads why c.loop-telling.unread.reads c.read_more.new.self.reads READS c.args.input.now c.loop-telling.input
     c.read_more.new.input c.loop-telling.invariant.reads c.read_more.ensures.reads (c.in_err-has_ended.ensures.failed why is))
+
+pub returns-in_err-write_text-clause-reads : goal.returns-in_err-write_text-clause-reads
+returns-in_err-write_text-clause-reads g c = (0, no_read c.args.input.now)

@@ -1,8 +1,12 @@
-use Rattle.std.proofs.Common.{List, ℕ, [], ◌++◌, ◌≡◌, ◌≤◌, true, false, IsTrue, Bool, MatchBool, Ok, Err, Result, IfOk, take, drop, length, refl, sym, ap, ◌∙◌, subst, arith}
+use Rattle.std.proofs.Common.{List, ℕ, [], ◌++◌, ◌≡◌, ◌≤◌, true, false, IsTrue, Bool, MatchBool, take, drop, length, string_bytes}
+use Rattle.std.proofs.Common.{refl, sym, ap, ◌∙◌, subst, arith, append_assoc, append-nil}
 use Rattle.std.proofs.lemmas.List.{drop_all, length-take-le}
 use Rattle.markdown_scanners_tree.specs.scanners.TextLines.{lines_of}
 use Rattle.page_blocks.specs.declared.page.Telling.{Telling}
 use Rattle.page_blocks.specs.page.Going.{HasTold, Tells}
+use Rattle.page_blocks.specs.page.Told.{TellsPage, last_lines}
+use Rattle.page_blocks.specs.printer.Printers.{printed_of}
+use Rattle.page_blocks.proofs.page.PageLemmas.{telling-page}
 use Rattle.markdown_blocks.specs.taken.Whole.{AreWhole}
 use Rattle.markdown_blocks.proofs.whole.WholeLemmas.{front_cut}
 use Rattle.page_blocks.proofs.page.Telling.tell.Goals as goal
@@ -14,13 +18,12 @@ nothing_behind text more size true all none ended = rw (none refl, drop_all size
 nothing_behind text more size false whole none ended = cc
 
 -- what is told of the lines at the front is told of the text
-told_text : {E : Type 0} (old new : Telling) (text front : List ℕ) (size : ℕ) (has_ended : Bool) → MatchBool has_ended (size ≡ length text) (AreWhole text size)
-    → size ≤ length text → front ≡ take size text → (found : Result ℕ E)
-    → IfOk found (λ count. (more : List (List ℕ)) → (IsTrue has_ended → more ≡ []) → Tells old (lines_of front ++ more) new (lines_of (drop count front) ++ more))
-    → IfOk found (λ count. count ≤ length front)
-    → IfOk found (λ count. (more : List ℕ) → (IsTrue has_ended → more ≡ []) → Tells old (lines_of (text ++ more)) new (lines_of (drop count text ++ more)))
-told_text old new text front size has_ended whole fits is (Err e) told within = tt
-told_text old new text front size has_ended whole fits is (Ok count) told within = λ more none page written goes.
+told_text : (old new : Telling) (text front : List ℕ) (size count : ℕ) (has_ended : Bool) → MatchBool has_ended (size ≡ length text) (AreWhole text size)
+    → size ≤ length text → front ≡ take size text
+    → ((more : List (List ℕ)) → (IsTrue has_ended → more ≡ []) → Tells old (lines_of front ++ more) new (lines_of (drop count front) ++ more))
+    → count ≤ length front → (more : List ℕ) → (IsTrue has_ended → more ≡ [])
+    → Tells old (lines_of (text ++ more)) new (lines_of (drop count text ++ more))
+told_text old new text front size count has_ended whole fits is told within more none page written goes =
     let rest : List (List ℕ) = lines_of (drop size text ++ more) in
     let few : count ≤ size = omega (arith, within, ap length is, length-take-le size text fits) in
     let first = subst (λ lines. HasTold page written old lines) (front_cut text more size has_ended whole none 0 (omega arith)
@@ -29,6 +32,38 @@ told_text old new text front size has_ended whole fits is (Ok count) told within
     ∙ sym (front_cut text more size has_ended whole none count few))
     (told rest (nothing_behind text more size has_ended whole none) page written first)
 
-pub returns-clause-told : goal.returns-clause-told
-returns-clause-told c = told_text c.args.self.now c.tell_lines.new.self c.args.text.now c.split_at.result.0.now c.front_of.result c.args.has_ended
-    c.front_of.ensures.front c.front_of.ensures.within c.split_at.ensures.front c.tell_lines.result c.tell_lines.ensures.told c.tell_lines.ensures.within
+-- all of the text is at the front where the input has ended
+all_in_front : (X : Type 0) (has_ended : Bool) (size all : ℕ) → MatchBool has_ended (size ≡ all) X → has_ended ≡ true → size ≡ all
+all_in_front X true size all is ended = is
+all_in_front X false size all is ended = cc
+
+-- the page is told to its end
+ended_page : (old mid : Telling) (text longer : List ℕ) (count depth : ℕ) → length text ≤ count → mid.printer.form ≡ old.printer.form
+    → ((page written : List ℕ) → HasTold page written old (lines_of (text ++ [])) → HasTold page written mid (lines_of (drop count text ++ [])))
+    → depth ≡ length mid.walk → longer ≡ string_bytes mid.printer.text ++ last_lines mid.printer.form (printed_of mid.printer) depth
+    → (page written : List ℕ) → HasTold page written old (lines_of text) → TellsPage old.printer.form page (written ++ longer)
+ended_page old mid text longer count depth all same goes_on counted tells page written goes =
+    let here : HasTold page written mid [] = rw (drop_all count text all) at
+    (goes_on page written (subst (λ t. HasTold page written old (lines_of t)) (sym (append-nil text)) goes)) in
+    subst (λ f. TellsPage f page (written ++ longer)) same
+    (telling-page mid.printer.form page (written ++ string_bytes mid.printer.text) (written ++ longer) (printed_of mid.printer) mid.walk
+    (ap (λ t. written ++ t) tells ∙ sym (append_assoc written (string_bytes mid.printer.text) _)
+    ∙ ap (λ n. (written ++ string_bytes mid.printer.text) ++ last_lines mid.printer.form (printed_of mid.printer) n) counted) here)
+
+pub returns-else-has_ended-clause-told : goal.returns-else-has_ended-clause-told
+returns-else-has_ended-clause-told c = λ other more.
+    told_text c.args.self.now c.tell_lines.new.self c.args.text.now c.split_at.result.0.now c.front_of.result c.in_ok-count.count c.args.has_ended
+    c.front_of.ensures.front c.front_of.ensures.within c.split_at.ensures.front c.in_ok-count.ensures.told c.in_ok-count.ensures.within
+    more (λ ended. absurd (other ended))
+
+pub returns-in_ok-print_end-clause-ended : goal.returns-in_ok-print_end-clause-ended
+returns-in_ok-print_end-clause-ended c = λ ended.
+    let size : c.front_of.result ≡ length c.args.text.now = all_in_front _ c.args.has_ended c.front_of.result (length c.args.text.now)
+    c.front_of.ensures.front ended in
+    let front : length c.split_at.result.0.now ≡ c.front_of.result =
+    ap length c.split_at.ensures.front ∙ length-take-le c.front_of.result c.args.text.now c.front_of.ensures.within in
+    ended_page c.args.self.now c.tell_lines.new.self c.args.text.now (string_bytes c.print_end.new.self.text) c.in_ok-count.count (length c.containers-depth.result.now)
+    (omega (arith, size, front, c.in_ok-count.ensures.all ended)) c.in_ok-count.ensures.form
+    (told_text c.args.self.now c.tell_lines.new.self c.args.text.now c.split_at.result.0.now c.front_of.result c.in_ok-count.count c.args.has_ended
+    c.front_of.ensures.front c.front_of.ensures.within c.split_at.ensures.front c.in_ok-count.ensures.told c.in_ok-count.ensures.within
+    [] (λ over. refl)) (ap length c.containers-depth.ensures.containers) c.in_ok-print_end.ensures.lines

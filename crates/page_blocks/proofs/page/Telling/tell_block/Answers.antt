@@ -1,17 +1,38 @@
-use Rattle.std.proofs.Common.{◌≡◌, ◌++◌, ℕ, List, string_bytes, refl, sym, ap, ◌∙◌, append_assoc}
-use Rattle.page_blocks.proofs.page.PageLemmas.{telling-next}
+use Rattle.std.proofs.Common.{[], ◌++◌, length, string_bytes, refl, sym, ap, ◌∙◌, arith, append_assoc}
+use Rattle.markdown_blocks.specs.events.Given.{block_left}
+use Rattle.page_blocks.specs.printer.Printers.{HasPrinted, printed_of}
+use Rattle.page_blocks.proofs.page.PageLemmas.{step_size, telling-next}
 use Rattle.page_blocks.proofs.page.Telling.tell_block.Goals as goal
 
-told_more : (written text opened line grown longer : List ℕ) → grown ≡ text ++ opened → longer ≡ grown ++ line
-    → written ++ longer ≡ ((written ++ text) ++ opened) ++ line
-told_more written text opened line grown longer opens adds =
-    ap (λ t. written ++ t) (adds ∙ ap (λ t. t ++ line) opens) ∙ sym (append_assoc written (text ++ opened) line)
-    ∙ ap (λ t. t ++ line) (sym (append_assoc written text opened))
+-- the events of the step's block are printed
+printed : (c : goal.In_ok-print_block) → HasPrinted c.args.self.now.printer c.next_block.new.self c.next_block.new.content.items
+    (block_left c.in-Some.step c.args.self.now.printer.at (length c.args.self.now.walk)) c.print_block.new.self
+printed c =
+    rw (c.containers.ensures.containers, c.deref.ensures.value, c.new-events.ensures, c.containers-depth.ensures.containers)
+    at c.in_ok-print_block.ensures.lines
 
 pub returns-clause-told : goal.returns-clause-told
 returns-clause-told c = λ more none page written goes.
-    telling-next c.args.self.now.form c.args.self.now.walk c.next_block.new.self c.args.self.now.at c.in-Some.step c.args.lines.now more
-    ((rw c.in-Some.is at c.in_ok-step.ensures.step) more none) page (written ++ string_bytes c.args.self.now.told) _ _ refl
-    (told_more written (string_bytes c.args.self.now.told) _ _ (string_bytes c.push_containers.new.told) _
-    (rw c.containers-containers.ensures.containers at c.in_ok-push_containers.ensures)
-    (rw c.containers-containers.ensures.containers at c.in_ok-push_block.ensures)) goes
+    let h = printed c in
+    rw c.in_ok-print_block.ensures.form
+    (telling-next c.args.self.now.printer.form c.args.self.now.walk c.next_block.new.self c.args.self.now.printer.at c.args.self.now.printer.lists
+    c.in-Some.step c.args.lines.now more ((rw c.in-Some.is at c.in_ok-step.ensures.step) more none) c.next_block.new.content.items h.events
+    (rw c.in-Some.is at c.in_ok-step.ensures.content) h.given page (written ++ string_bytes c.args.self.now.printer.text) _
+    (printed_of c.print_block.new.self) h.so_far
+    (ap (λ t. written ++ t) h.lines ∙ sym (append_assoc written (string_bytes c.args.self.now.printer.text) _)) goes)
+
+pub returns-clause-lines : goal.returns-clause-lines
+returns-clause-lines c =
+    let h = printed c in
+    let size = step_size c.args.self.now.printer.form c.args.self.now.walk c.next_block.new.self c.args.self.now.printer.at c.args.self.now.printer.lists
+    c.in-Some.step c.args.lines.now [] ((rw c.in-Some.is at c.in_ok-step.ensures.step) [] (λ ended. refl)) c.next_block.new.content.items h.events
+    (rw c.in-Some.is at c.in_ok-step.ensures.content) h.given (printed_of c.print_block.new.self) h.so_far in
+    omega (arith, size.0, c.in-Some.step.block.taken.few)
+
+pub returns-clause-bytes : goal.returns-clause-bytes
+returns-clause-bytes c =
+    let h = printed c in
+    let size = step_size c.args.self.now.printer.form c.args.self.now.walk c.next_block.new.self c.args.self.now.printer.at c.args.self.now.printer.lists
+    c.in-Some.step c.args.lines.now [] ((rw c.in-Some.is at c.in_ok-step.ensures.step) [] (λ ended. refl)) c.next_block.new.content.items h.events
+    (rw c.in-Some.is at c.in_ok-step.ensures.content) h.given (printed_of c.print_block.new.self) h.so_far in
+    size.1

@@ -8,8 +8,8 @@ abbrev pub invariant-loop-more : goal.invariant-loop-more
 invariant-loop-more l =
     ((more : List (List ℕ)) → (IsTrue l.has_ended → more ≡ [])
     → Tells l.fn.self (lines_of l.lines ++ more) l.self (lines_of (drop l.count l.lines) ++ more))
-    × (l.count ≤ length l.lines) × (l.self.at.lines ≤ l.fn.self.at.lines + l.count) × (l.self.at.bytes ≡ l.fn.self.at.bytes + l.count)
-    × (l.self.form ≡ l.fn.self.form)
+    × (l.count ≤ length l.lines) × (l.self.printer.at.lines ≤ l.fn.self.printer.at.lines + l.count)
+    × (l.self.printer.at.bytes ≡ l.fn.self.printer.at.bytes + l.count) × (l.self.printer.form ≡ l.fn.self.printer.form)
 
 abbrev pub decreases-loop-more : goal.decreases-loop-more
 decreases-loop-more l = length l.lines - l.count

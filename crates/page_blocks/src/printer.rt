@@ -1,0 +1,112 @@
+//! The lines of a page's events and lists, from the first to the last.
+ghost use Rattle.std.specs.Prelude.{◌≡◌, ◌++◌, [], OnOk, string_bytes};
+ghost use Rattle.markdown_blocks.specs.events.Events.{seen_event};
+ghost use Rattle.page_blocks.specs.page.Told.{after, ended_line, event_lines, last_lines, the_front};
+ghost use Rattle.page_blocks.specs.printer.Printers.{HasPrinted, printed_of};
+
+use crate::printing::{push_container, push_end, push_leaf, push_list};
+use crate::words::Form;
+use markdown_blocks::containers::Container;
+use markdown_blocks::events::{BlockEvent, BlockEvents};
+use markdown_blocks::lists::{ListBlock, Lists};
+use markdown_blocks::taken::Taken;
+use std::alloc::{AllocError, Global};
+
+/// The lines that are made of a page and not yet written; how much of it stands before what comes
+/// next, and its lists so far.
+#[derive(Drop)]
+pub(crate) struct Printer {
+    form: Form,
+    pub(crate) at: Taken,
+    lists: Lists,
+    pub(crate) text: String,
+}
+
+impl Printer {
+    /// Before the first event of a page.
+    pub(crate) fn new(alloc: Global, form: Form) -> Printer
+        ensures front { printed_of result ≡ the_front }
+        ensures form { result.form ≡ form }
+        ensures nothing { string_bytes result.text ≡ [] }
+    {
+        Printer {
+            form,
+            at: Taken { lines: 0, bytes: 0 },
+            lists: Lists::new(alloc),
+            text: String::new(alloc),
+        }
+    }
+
+    /// Adds the line of the next event, and before it that of the list that it shows to have ended.
+    pub(crate) fn print(&mut self, alloc: Global, event: BlockEvent) -> Result<(), AllocError>
+        ensures lines { OnOk result (string_bytes self.new.text ≡ string_bytes self.old.text
+            ++ event_lines self.old.form (printed_of self.old) (seen_event event.entry)) }
+        ensures so_far { OnOk result (printed_of self.new
+            ≡ after (printed_of self.old) (seen_event event.entry)) }
+        ensures form { OnOk result (self.new.form ≡ self.old.form) }
+    {
+        let depth = self.lists.depth();
+        let ended = self.lists.read(event)?;
+        push_ended(&mut self.text, self.form, ended)?;
+        match event {
+            BlockEvent::Start(container, marker) => {
+                push_container(&mut self.text, self.form, self.at, depth, container, marker)
+            }
+            BlockEvent::Block(leaf) => {
+                push_leaf(alloc, &mut self.text, self.form, depth, leaf)?;
+                self.at = Taken {
+                    lines: leaf.line + leaf.lines,
+                    bytes: leaf.start + leaf.bytes,
+                };
+                Ok(())
+            }
+            BlockEvent::End => {
+                push_end(&mut self.text, self.form, self.at, depth.saturating_sub(1))
+            }
+        }
+    }
+
+    /// Adds the lines of the events that are left of a block, in these containers and with this
+    /// content.
+    pub(crate) fn print_block(
+        &mut self,
+        alloc: Global,
+        containers: &[Container],
+        content: &[u8],
+        mut events: BlockEvents<'_>,
+    ) -> Result<(), AllocError>
+        ensures lines { OnOk result
+            (HasPrinted self.old containers.now content.now events.entry self.new) }
+        ensures form { OnOk result (self.new.form ≡ self.old.form) }
+    {
+        while let Some(event) = events.next(containers, content) {
+            self.print(alloc, event)?;
+        }
+        Ok(())
+    }
+
+    /// Adds the lines of the end of the page, where so many containers are open: of the end of each,
+    /// and of the list that it ends.
+    pub(crate) fn print_end(&mut self, alloc: Global, depth: usize) -> Result<(), AllocError>
+        ensures lines { OnOk result (string_bytes self.new.text ≡ string_bytes self.old.text
+            ++ last_lines self.old.form (printed_of self.old) depth) }
+        ensures form { OnOk result (self.new.form ≡ self.old.form) }
+    {
+        let mut left = depth;
+        while left > 0 {
+            self.print(alloc, BlockEvent::End)?;
+            left -= 1;
+        }
+        push_ended(&mut self.text, self.form, self.lists.finish())
+    }
+}
+
+// Adds the line of the list, if there is one.
+fn push_ended(text: &mut String, form: Form, ended: Option<ListBlock>) -> Result<(), AllocError>
+    ensures { OnOk result (string_bytes text.new ≡ string_bytes text.old ++ ended_line form ended) }
+{
+    match ended {
+        Some(list) => push_list(text, form, list),
+        None => Ok(()),
+    }
+}
