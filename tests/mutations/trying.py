@@ -24,6 +24,7 @@ TELLERS = {
     "program_faults": ["tests cmark_scan", "tests cmark_vectors_programs"],
     "cmark_scan": ["run cmark_scan", "tests cmark_scan", "refused cmark_scan"],
     "markdown_blocks": ["run cmark_blocks", "tests cmark_vectors_programs"],
+    "markdown_inlines": ["tests cmark_vectors_programs"],
     "page_blocks": ["run cmark_blocks", "tests cmark_vectors_programs"],
 }
 
