@@ -1,9 +1,9 @@
 //! The events of one block: containers that end and begin, link reference definitions, and what is
 //! left of the block after them.
-ghost use Rattle.std.specs.Prelude.{◌≡◌, ◌∷◌, ◌<◌, ◌≤◌, ◌+◌, ◌^◌, ◌↔◌, [], List, ℕ, length, take, drop, IsTrue, IfSome, IfNone};
+ghost use Rattle.std.specs.Prelude.{◌≡◌, ◌∷◌, ◌<◌, ◌≤◌, ◌+◌, ◌-◌, ◌^◌, ◌↔◌, [], List, ℕ, length, take, drop, IsTrue, IfSome, IfNone};
 ghost use Rattle.markdown_scanners_tree.specs.scanners.TextLines.{lines_of};
 ghost use Rattle.markdown_blocks.specs.containers.Containers.{marker_place, after_marker};
-ghost use Rattle.markdown_blocks.specs.events.Events.{Event, LeafBlock, AreLeaves, leaf_of, first_lines, later_lines, first_rest, seen_event, seen_leaf};
+ghost use Rattle.markdown_blocks.specs.events.Events.{Event, LeafBlock, AreLeaves, leaf_of, first_lines, first_of, later_lines, first_rest, seen_event, seen_leaf};
 ghost use Rattle.markdown_blocks.specs.events.Given.{GivesBlock, block_left, block_events_left};
 ghost use Rattle.markdown_blocks.specs.taken.Lines.{IsTaken};
 
@@ -15,7 +15,6 @@ use crate::leaf::Leaf;
 use crate::step::Step;
 use crate::taken::Taken;
 use markdown_scanners_tree::line::LineStart;
-use markdown_scanners_tree::scanners::scan_line;
 use std::marker::Model;
 
 /// The events of one block that are not given yet.
@@ -37,7 +36,8 @@ pub struct BlockEvents<'a> {
 }
 
 impl<'a> Model for BlockEvents<'a> {
-    ghost use Rattle.std.specs.Prelude.{◌≡◌, ◌≤◌, ◌<◌, ◌+◌, ◌^◌, length};
+    ghost use Rattle.std.specs.Prelude.{◌≡◌, ◌≤◌, ◌<◌, ◌+◌, ◌-◌, ◌^◌, length};
+    ghost use Rattle.markdown_blocks.specs.events.Events.{first_of};
     ghost use Rattle.markdown_scanners_tree.specs.scanners.TextLines.{lines_of};
     ghost use Rattle.markdown_blocks.specs.events.Given.{BlockLeft};
 
@@ -61,7 +61,9 @@ impl<'a> Model for BlockEvents<'a> {
     ghost invariant = { λ b.
         (b.start.bytes ≡ b.line.now) × (b.front + length b.line.now < 2 ^ 64)
         × (b.leaf.lines ≡ length (lines_of b.lines.now)) × (b.leaf.bytes ≡ length b.lines.now)
-        × (b.leaf.line ≤ b.leaf.start) × (b.leaf.start + length b.lines.now < 2 ^ 64) };
+        × (b.leaf.line ≤ b.leaf.start) × (b.leaf.start + length b.lines.now < 2 ^ 64)
+        × (b.leaf.place ≡ b.leaf.start
+        + (length (first_of (lines_of b.lines.now)) - length b.leaf.text.now)) };
 }
 
 impl<'a> BlockEvents<'a> {
@@ -85,7 +87,7 @@ impl<'a> BlockEvents<'a> {
                 bytes: step.block.taken.bytes,
                 indent: step.indent,
                 text: step.text,
-                place: before.bytes,
+                place: before.bytes + step.line.len().saturating_sub(step.text.len()),
             },
             lines: step.lines,
             used: 0,
@@ -167,15 +169,15 @@ impl<'a> BlockEvents<'a> {
     // Takes so many lines from the front of what is left, or all where there are fewer, as a leaf
     // block of this kind.
     fn take_lines(&mut self, kind: BlockKind, count: usize, containers: &[Container]) -> Leaf<'a>
+        requires { 0 < count }
         ensures leaf { seen_leaf result ≡ leaf_of kind (first_lines count self.old.part) }
         ensures rest { self.new ≡ record self.old {
           part = later_lines containers.now count self.old.part;
         } }
     {
         let taken = front_of(self.lines, count, self.leaf.lines);
-        let first = scan_line(&self.lines[..taken.bytes]);
         let rest = &self.lines[taken.bytes..];
-        let (indent, text) = first_rest(rest, containers);
+        let (indent, text, before) = first_rest(rest, containers);
         let whole = self.leaf;
         self.lines = rest;
         self.leaf = Leaf {
@@ -186,7 +188,7 @@ impl<'a> BlockEvents<'a> {
             bytes: whole.bytes - taken.bytes,
             indent,
             text,
-            place: whole.start + taken.bytes,
+            place: whole.start + taken.bytes + before,
         };
         Leaf {
             kind,
@@ -196,7 +198,7 @@ impl<'a> BlockEvents<'a> {
             bytes: taken.bytes,
             indent: whole.indent,
             text: whole.text,
-            place: whole.start + first.saturating_sub(whole.text.len()),
+            place: whole.place,
         }
     }
 }
@@ -233,14 +235,17 @@ fn front_of(text: &[u8], count: usize, all: usize) -> Taken
     taken
 }
 
-// What the first of the lines has in the containers.
-fn first_rest<'a>(lines: &'a [u8], containers: &[Container]) -> (usize, &'a [u8])
+// What the first of the lines has in the containers, and how many bytes it has before that.
+fn first_rest<'a>(lines: &'a [u8], containers: &[Container]) -> (usize, &'a [u8], usize)
     ensures indent { result.0 ≡ (first_rest containers.now (lines_of lines.now)).indent }
     ensures text { result.1.now ≡ (first_rest containers.now (lines_of lines.now)).text }
+    ensures before { result.2 ≡ length (first_of (lines_of lines.now)) - length result.1.now }
+    ensures within { result.2 ≤ length lines.now }
 {
     let Some((line, _)) = Taken::nothing().next(lines) else {
-        return (0, &[]);
+        return (0, &[], 0);
     };
     let (_, start) = go_on(line, Outer::new(containers));
-    rest_behind(line, start)
+    let (indent, text) = rest_behind(line, start);
+    (indent, text, line.len().saturating_sub(text.len()))
 }

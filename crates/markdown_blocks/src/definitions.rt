@@ -38,6 +38,9 @@ pub fn take_definition(content: &[u8]) -> Option<Taken>
     ensures some { IfSome result (λ taken. 0 < taken.bytes) }
     ensures within { IfSome result (λ taken. taken.bytes ≤ length content.now) }
 {
+    if content.is_empty() {
+        return None;
+    }
     let definition = scan_definition(content)?;
     Some(count_lines(&content[..definition.len]))
 }

@@ -1,6 +1,7 @@
 //! One step of a walk over a page.
 ghost use Rattle.std.specs.Prelude.{◌≡◌, ◌≤◌, length};
 ghost use Rattle.markdown_scanners_tree.specs.scanners.TextLines.{lines_of};
+ghost use Rattle.markdown_blocks.specs.events.Events.{first_of};
 
 use crate::blocks::Block;
 use markdown_scanners_tree::line::LineStart;
@@ -25,4 +26,5 @@ pub struct Step<'a> {
     ghost first: { length line.now ≤ length lines.now },
     ghost bytes: { block.taken.bytes ≡ length lines.now },
     ghost counted: { block.taken.lines ≡ length (lines_of lines.now) },
+    ghost front: { length line.now ≡ length (first_of (lines_of lines.now)) },
 }

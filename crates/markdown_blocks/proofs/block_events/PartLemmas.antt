@@ -1,12 +1,10 @@
 -- The lines of a block, taken from the front by its leaf blocks, and the markers in its first line.
-use Rattle.std.proofs.Common.{ℕ, suc, Bool, true, false, List, [], ◌∷◌, ◌++◌, ◌+◌, ◌<◌, ◌≤◌, ◌≡◌, ◌≢◌, ◌⊎◌, inl, inr, Option, Some, None, length, take, drop}
+use Rattle.std.proofs.Common.{ℕ, suc, zero, Bool, true, false, List, [], ◌∷◌, ◌++◌, ◌+◌, ◌<◌, ◌≤◌, ◌≡◌, ◌≢◌, ◌⊎◌, inl, inr, Option, Some, None, length, take, drop}
 use Rattle.std.proofs.Common.{refl, sym, ap, ◌∙◌, subst, arith, length-append, append-nil}
 use Rattle.std.specs.Prelude.{IfSome, IfNone}
 use Rattle.std.specs.List.{concat}
 use Rattle.std.proofs.Math.Seq.{take-append_seam}
-use Rattle.std.proofs.lemmas.List.{append_cancel_left, drop_all, take-append-drop, take_all, length-drop, length-take-le}
-use Rattle.markdown_scanners_tree.proofs.ForCallers.{first_line-taken}
-use Rattle.markdown_scanners_tree.specs.Bytes.{line_length}
+use Rattle.std.proofs.lemmas.List.{append_cancel_left, drop_all, take-append-drop, take_all, length-drop}
 use Rattle.markdown_scanners_tree.specs.line.State.{LineState, space_within, after_space}
 use Rattle.markdown_scanners_tree.specs.scanners.TextLines.{ends_line, with_first, lines_of}
 use Rattle.markdown_blocks.proofs.taken.TakenLemmas.{lines_bytes}
@@ -100,7 +98,8 @@ pub fewer_lines : (n : ℕ) (lines : List (List ℕ)) → 0 < n → lines ≢ []
 fewer_lines n [] some there = absurd (there refl)
 fewer_lines n (l ∷ lines) some there = omega (arith, some, length-drop n (l ∷ lines))
 
--- how many bytes the first of the lines has
-pub first_size : (text : List ℕ) (n : ℕ) → n ≡ line_length text → n ≤ length text → n ≡ length (first_of (lines_of text))
-first_size [] n counts within = omega (arith, within)
-first_size (b ∷ bs) n counts within = rw (first_line-taken (b ∷ bs) n (omega arith) counts) (sym (length-take-le n (b ∷ bs) within))
+-- the first of the lines is the first of those that are taken, if any are
+pub first_taken : (count : ℕ) (lines : List (List ℕ)) → 0 < count → first_of (take count lines) ≡ first_of lines
+first_taken zero lines some = absurd (omega (arith, some))
+first_taken (suc count) [] some = refl
+first_taken (suc count) (l ∷ lines) some = refl

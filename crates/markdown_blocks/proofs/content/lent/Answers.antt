@@ -1,4 +1,4 @@
-use Rattle.std.proofs.Common.{◌≡◌, ◌++◌, [], take, length, ap, sym, ◌∙◌, append-nil}
+use Rattle.std.proofs.Common.{◌≡◌, ◌++◌, [], take, ap, sym, ◌∙◌, append-nil}
 use Rattle.std.specs.List.{flat_map}
 use Rattle.markdown_blocks.specs.content.Content.{content_len, front, joined, text_of}
 use Rattle.markdown_blocks.proofs.content.SegmentLemmas.{lent_seen, seen, start}

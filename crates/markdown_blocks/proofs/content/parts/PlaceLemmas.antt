@@ -1,5 +1,5 @@
 -- Places in lines after containers.
-use Rattle.std.proofs.Common.{ℕ, zero, suc, min, Bool, true, false, ◌==◌, ◌-◌, ◌<◌, ◌≡◌, List, [], ◌∷◌, length, take}
+use Rattle.std.proofs.Common.{ℕ, suc, min, Bool, true, false, ◌==◌, ◌-◌, ◌<◌, ◌≡◌, List, [], ◌∷◌, length, take}
 use Rattle.std.proofs.Common.{Option, Some, None, refl, sym, ap, ◌∙◌, subst, inl, inr, arith}
 use Rattle.std.proofs.lemmas.Bool.{cases_Bool}
 use Rattle.std.proofs.lemmas.Bool.Decides.{nat_tests}

@@ -21,6 +21,9 @@ returns-in_default-clause-leaf c =
     c.take_lines-in_default.ensures.leaf)
     c.take_lines-in_default.ensures.rest
 
+pub take_lines-requires-2 : goal.take_lines-requires-2
+take_lines-requires-2 c = some_taken _ c.in-Some.taken _ c.in-Some.ensures.found.3 c.in-Some.ensures.some
+
 pub returns-clause-leaf : goal.returns-clause-leaf
 returns-clause-leaf c =
     let v = c.self.view_is in

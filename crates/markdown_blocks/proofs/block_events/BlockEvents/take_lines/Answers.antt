@@ -1,9 +1,8 @@
-use Rattle.std.proofs.Common.{refl, ap, ◌∙◌, length, take, drop, arith}
-use Rattle.markdown_blocks.specs.events.Events.{first_of, first_rest}
+use Rattle.std.proofs.Common.{◌+◌, ◌-◌, refl, sym, ap, ◌∙◌, length, drop, arith}
+use Rattle.markdown_blocks.specs.events.Events.{first_rest}
 use Rattle.markdown_scanners_tree.specs.scanners.TextLines.{lines_of}
-use Rattle.markdown_blocks.proofs.taken.FrontLemmas.{lines_of_taken}
 use Rattle.markdown_blocks.proofs.taken.TakenLemmas.{slice_behind}
-use Rattle.markdown_blocks.proofs.block_events.PartLemmas.{first_size, front_is, lines_few, same_words}
+use Rattle.markdown_blocks.proofs.block_events.PartLemmas.{first_taken, front_is, lines_few, same_words}
 use Rattle.markdown_blocks.proofs.block_events.BlockEvents.take_lines.Goals as goal
 
 pub invariant_of-self : goal.invariant_of-self
@@ -23,10 +22,10 @@ pub returns-clause-leaf : goal.returns-clause-leaf
 returns-clause-leaf c =
     let lines = c.self.inside.lines.now in
     let f = front_is lines c.args.count c.front_of-taken.result (drop c.front_of-taken.result.bytes lines) refl c.front_of-taken.ensures in
-    let first = first_size (take c.front_of-taken.result.bytes lines) c.scan_line-first.result c.scan_line-first.ensures.line
-    c.scan_line-first.ensures.within
-    ∙ ap (λ ls. length (first_of ls)) (lines_of_taken lines c.front_of-taken.result (take c.args.count (lines_of lines)) c.front_of-taken.ensures) in
-    rw (← c.self.view_is, f.counted, f.bytes_are, c.saturating_sub.ensures, first) refl
+    let whole = c.self.inside.leaf in
+    let placed = c.self.invariant.6
+    ∙ ap (λ l. whole.start + (length l - length whole.text.now)) (sym (first_taken c.args.count (lines_of lines) c.requires)) in
+    rw (← c.self.view_is, f.counted, f.bytes_are, placed) refl
 
 pub returns-clause-rest : goal.returns-clause-rest
 returns-clause-rest c =

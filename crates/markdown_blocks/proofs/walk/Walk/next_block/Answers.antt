@@ -1,5 +1,6 @@
 use Rattle.std.proofs.Common.{◌∷◌, [], IsTrue, inl, length, refl, sym, ap, ◌∙◌, arith}
 use Rattle.std.proofs.lemmas.List.{length-take-le}
+use Rattle.markdown_blocks.specs.events.Events.{first_of}
 use Rattle.markdown_blocks.proofs.kinds.KindLemmas.{not_told}
 use Rattle.markdown_blocks.proofs.blocks.OverLemmas.{leaf-more}
 use Rattle.markdown_blocks.proofs.taken.TakenLemmas.{taken-next, first_within}
@@ -83,4 +84,5 @@ invariant_of-result c =
       first = omega (arith, line, size);
       bytes = sym size;
       counted = block.taken.counted ∙ sym (ap length lines);
+      front = sym (ap (λ ls. length (first_of ls)) lines);
     }
