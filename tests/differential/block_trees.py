@@ -108,28 +108,32 @@ def definitions_in(rows):
     return {line for first, last, _, kind, _ in rows if kind == "definition" for line in range(first, last + 1)}
 
 
-def begin_of(first, kind, defined):
-    """The first line of a block, as cmark has it: a paragraph or setext heading begins with the definitions directly before it."""
-    while kind in ("paragraph", "setext") and first - 1 in defined:
-        first -= 1
-    return first
+def begins_of(rows):
+    """The first line of each row, as cmark has it: a paragraph or setext heading begins with the definitions directly before it."""
+    begins, before = [], None
+    for first, last, depth, kind, _ in rows:
+        goes_on = kind in ("definition", "paragraph", "setext") and before and before[1:] == (first - 1, depth)
+        begins.append(before[0] if goes_on else first)
+        before = (begins[-1], last, depth) if kind == "definition" else None
+    return begins
 
 
-def our_block(row, lines, defined):
+def our_block(row, begin, lines, defined):
     """A block, a list or a container. Whether a list is tight isn't compared where it has a definition: for cmark that is no block."""
     first, last, depth, kind, more = row
     detail = our_detail(kind, more)
     if kind == "list":
         return Block(kind, (*detail[:2], None) if defined & set(range(first, last + 1)) else detail, first, 0, depth)
     end = 0 if kind in CONTAINERS.values() else trimmed(lines, first, last)
-    return Block(SAME_KIND.get(kind, kind), detail, begin_of(first, kind, defined), end, depth)
+    return Block(SAME_KIND.get(kind, kind), detail, begin, end, depth)
 
 
 def our_blocks(page):
     """What cmark_blocks says of a page, and the lines of its definitions. Blank lines and definitions are no blocks of cmark."""
     lines, rows = lines_of(page), our_rows(page)
     defined = definitions_in(rows)
-    return in_order(our_block(it, lines, defined) for it in rows if it[3] not in ("blank", "definition")), defined
+    blocks = [it for it in zip(rows, begins_of(rows)) if it[0][3] not in ("blank", "definition")]
+    return in_order(our_block(row, begin, lines, defined) for row, begin in blocks), defined
 
 
 def parsed(said):

@@ -121,6 +121,30 @@ f
   </paragraph>
 </document>
 """, None),
+    Recorded("agree", b"- a\n\n  [b]: /c\n- d\n", b"""\
+1 1 0 item - 0
+1 1 1 paragraph
+2 2 1 blank
+3 3 1 definition
+4 4 0 item - 0
+4 4 1 paragraph
+1 4 0 list - 0 loose
+""", b"""\
+<document sourcepos="1:1-4:3" xmlns="http://commonmark.org/xml/1.0">
+  <list sourcepos="1:1-4:3" type="bullet" tight="false">
+    <item sourcepos="1:1-3:9">
+      <paragraph sourcepos="1:3-1:3">
+        <text sourcepos="1:3-1:3" xml:space="preserve">a</text>
+      </paragraph>
+    </item>
+    <item sourcepos="4:1-4:3">
+      <paragraph sourcepos="4:3-4:3">
+        <text sourcepos="4:3-4:3" xml:space="preserve">d</text>
+      </paragraph>
+    </item>
+  </list>
+</document>
+""", None),
     Recorded("hyphens", b"[a]: /b\n---\nc\n", b"""\
 1 1 0 definition
 2 2 0 break
