@@ -20,6 +20,11 @@ OTHER_CELL = rb"^[-:| \t>]*(?:-[ \t]*:[ \t]*[-:]|::)[-:| \t]*\r?$"
 Kind = namedtuple("Kind", "words section fits")
 
 
+def our_list(block):
+    """A list of ours of which it isn't asked whether it is tight; any other block as it is."""
+    return block._replace(detail=(*block.detail[:2], None)) if block and block.kind == "list" else block
+
+
 class Page:
     """A page of which the two say something else."""
 
@@ -28,8 +33,12 @@ class Page:
         self.text = b"".join(lines)
 
     def parting(self):
-        """The first block of ours and of theirs that are not the same; None where there is no more."""
-        return next(it for it in zip_longest(self.ours, self.theirs) if not all(it) or not alike(*it))
+        """The first block of ours and of theirs that are not the same; None where there is no more. If they part at lists alone, and
+        only in whether these are tight, it is the first of those."""
+        pairs = [(it, (our_list(it), their)) for it, their in zip_longest(self.ours, self.theirs)]
+        differ = [(our, their) for _, (our, their) in pairs if not (our and their and alike(our, their))]
+        lists = [(our, their) for our, (_, their) in pairs if our and their and not alike(our, their)]
+        return (differ or lists)[0]
 
     def other_lines(self):
         """The lines at which they may part: the first of that block, and where one is shorter its last and the one after it."""
@@ -84,13 +93,17 @@ def has_hyphens(page):
     return bool(passed) and agree(*others)
 
 
-def is_loose(page):
-    """That the two part at a list that is loose here and tight for cmark, and a thematic break in it has a blank line behind it."""
-    our, their = page.parting()
-    if not (our and their) or our.kind != "list" or their != our._replace(detail=(*our.detail[:2], True), last={0}):
-        return False
-    ends = [it.last for it in page.ours if it.kind == "break" and it.depth > our.depth and it.first >= our.first]
-    return any(EMPTY.fullmatch(page.lines[it]) for it in ends if it < len(page.lines))
+def parts_at_a_list(is_tight, kind):
+    """That the two part at a list, which for cmark is tight or isn't, and a block of this kind is in it, with a blank line at its end
+    if it is no table."""
+    def fits(page):
+        our, their = page.parting()
+        if not (our and their) or our.kind != "list" or their != our._replace(detail=(*our.detail[:2], is_tight), last={0}):
+            return False
+        ends = [it.last for it in page.ours if it.kind == kind and it.depth > our.depth and it.first >= our.first]
+        return any(kind == "table" or it < len(page.lines) and EMPTY.fullmatch(page.lines[it]) for it in ends)
+
+    return fits
 
 
 def is_column(first, lines):
@@ -122,7 +135,9 @@ def begins_blank(page):
 
 KINDS = {
     "hyphens": Kind("have hyphens behind link reference definitions", "4.1", has_hyphens),
-    "loose": Kind("have a blank line behind a thematic break in an item", "5.3", is_loose),
+    "loose": Kind("have a blank line behind a thematic break in an item", "5.3", parts_at_a_list(True, "break")),
+    "tight": Kind("have a blank line of HTML at the end of an item", "5.3", parts_at_a_list(False, "html")),
+    "table": Kind("have a table in an item of a tight list", "5.3", parts_at_a_list(False, "table")),
     "declaration": Kind("begin a declaration with a small letter", "4.6, condition 4", begins(rb"<![a-z]")),
     "cdata": Kind("have <![CDATA[ in small letters", "4.6, condition 5", begins(rb"<!\[(?!CDATA)(?i:cdata)\[")),
     "raw": Kind("have <pre/> or the like alone in its line", "4.6, condition 7", begins(rb"<(?i:pre|script|style|textarea)/>")),

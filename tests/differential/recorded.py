@@ -176,6 +176,28 @@ f
   </list>
 </document>
 """, None),
+    Recorded("tight", b"- <?a\n\n- b\n", b"""\
+1 1 0 item - 0
+1 2 1 html 3
+3 3 0 item - 0
+3 3 1 paragraph
+1 3 0 list - 0 tight
+""", b"""\
+<document sourcepos="1:1-3:3" xmlns="http://commonmark.org/xml/1.0">
+  <list sourcepos="1:1-3:3" type="bullet" tight="false">
+    <item sourcepos="1:1-2:0">
+      <html_block sourcepos="1:3-2:0" xml:space="preserve">&lt;?a
+
+</html_block>
+    </item>
+    <item sourcepos="3:1-3:3">
+      <paragraph sourcepos="3:3-3:3">
+        <text sourcepos="3:3-3:3" xml:space="preserve">b</text>
+      </paragraph>
+    </item>
+  </list>
+</document>
+""", None),
     Recorded("declaration", b"a\n<!b\n", b"""\
 1 1 0 paragraph
 2 2 0 html 4
@@ -365,6 +387,38 @@ f
   <paragraph sourcepos="3:1-3:1">
     <text sourcepos="3:1-3:1" xml:space="preserve">|</text>
   </paragraph>
+</document>
+"""),
+    Recorded("table", b"- a|b\n  -|-\n  - c\n", b"""\
+1 1 0 item - 0
+1 2 1 table 2
+3 3 1 item - 0
+3 3 2 paragraph
+3 3 1 list - 0 tight
+1 3 0 list - 0 tight
+""", None, b"""\
+<document sourcepos="1:1-3:5" xmlns="http://commonmark.org/xml/1.0">
+  <list sourcepos="1:1-3:5" type="bullet" tight="false">
+    <item sourcepos="1:1-3:5">
+      <table sourcepos="1:3-2:5">
+        <table_header sourcepos="1:3-1:5">
+          <table_cell sourcepos="1:3-1:3">
+            <text sourcepos="1:3-1:3" xml:space="preserve">a</text>
+          </table_cell>
+          <table_cell sourcepos="1:5-1:5">
+            <text sourcepos="1:5-1:5" xml:space="preserve">b</text>
+          </table_cell>
+        </table_header>
+      </table>
+      <list sourcepos="3:3-3:5" type="bullet" tight="true">
+        <item sourcepos="3:3-3:5">
+          <paragraph sourcepos="3:5-3:5">
+            <text sourcepos="3:5-3:5" xml:space="preserve">c</text>
+          </paragraph>
+        </item>
+      </list>
+    </item>
+  </list>
 </document>
 """),
     Recorded("column", b"a\n:-\n", b"""\
