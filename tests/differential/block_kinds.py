@@ -41,9 +41,12 @@ class Page:
         return (differ or lists)[0]
 
     def other_lines(self):
-        """The lines at which they may part: the first of that block, and where one is shorter its last and the one after it."""
+        """The lines at which they may part: the first of that block, with the one before it where cmark has no block, and where one is
+        shorter its last and the one after it."""
         our, their = self.parting()
         first = min(it.first for it in (our, their) if it)
+        if not their:
+            return self.lines[max(first - 2, 0) : first]
         if not (our and their and our.first == their.first and our.last):
             return self.lines[first - 1 : first]
         last = min(our.last, *their.last)
