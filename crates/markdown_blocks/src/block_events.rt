@@ -28,8 +28,7 @@ pub struct BlockEvents<'a> {
     line: &'a [u8],
     front: usize,
     start: LineStart<'a>,
-    // The leaf block that is left, but for the place of its text, which is found where it is given;
-    // its lines; and how much of the content stands before it.
+    // The leaf block that is left, its lines, and how much of the content stands before it.
     leaf: Leaf<'a>,
     lines: &'a [u8],
     used: usize,

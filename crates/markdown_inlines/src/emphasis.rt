@@ -132,7 +132,8 @@ impl Openers {
             ≡ with_first made (ended_by n (closer_left closer made.count) self.new)) }
         ensures some { IfSome result (λ made. 0 < made.count) }
         ensures within { IfSome result (λ made. closer.start + made.count ≤ closer.end) }
-        ensures none { IfNone result ((n : ℕ) → ended_by n closer self.old ≡ none_ended closer self.old) }
+        ensures none { IfNone result ((n : ℕ)
+            → ended_by n closer self.old ≡ none_ended closer self.old) }
         ensures unchanged { IfNone result (self.new ≡ self.old) }
     {
         if left(closer) == 0 {
