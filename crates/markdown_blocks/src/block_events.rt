@@ -8,10 +8,11 @@ ghost use Rattle.markdown_blocks.specs.events.Given.{GivesBlock, block_left, blo
 ghost use Rattle.markdown_blocks.specs.taken.Lines.{IsTaken};
 
 use crate::blocks::BlockKind;
-use crate::containers::{Container, Outer, go_on, rest_behind, scan_container};
+use crate::containers::{Container, Outer, go_on, scan_container};
 use crate::definitions::take_definition;
 use crate::events::BlockEvent;
 use crate::leaf::Leaf;
+use crate::rest::{Rest, scan_rest};
 use crate::step::Step;
 use crate::taken::Taken;
 use markdown_scanners_tree::line::LineStart;
@@ -176,7 +177,7 @@ impl<'a> BlockEvents<'a> {
     {
         let taken = front_of(self.lines, count, self.leaf.lines);
         let rest = &self.lines[taken.bytes..];
-        let (indent, text, before) = first_rest(rest, containers);
+        let (words, before) = first_rest(rest, containers);
         let whole = self.leaf;
         self.lines = rest;
         self.leaf = Leaf {
@@ -185,8 +186,8 @@ impl<'a> BlockEvents<'a> {
             lines: whole.lines - taken.lines,
             start: whole.start + taken.bytes,
             bytes: whole.bytes - taken.bytes,
-            indent,
-            text,
+            indent: words.indent,
+            text: words.text,
             place: whole.start + taken.bytes + before,
         };
         Leaf {
@@ -235,16 +236,22 @@ fn front_of(text: &[u8], count: usize, all: usize) -> Taken
 }
 
 // What the first of the lines has in the containers, and how many bytes it has before that.
-fn first_rest<'a>(lines: &'a [u8], containers: &[Container]) -> (usize, &'a [u8], usize)
-    ensures indent { result.0 ≡ (first_rest containers.now (lines_of lines.now)).indent }
-    ensures text { result.1.now ≡ (first_rest containers.now (lines_of lines.now)).text }
-    ensures before { result.2 ≡ length (first_of (lines_of lines.now)) - length result.1.now }
-    ensures within { result.2 ≤ length lines.now }
+fn first_rest<'a>(lines: &'a [u8], containers: &[Container]) -> (Rest<'a>, usize)
+    ensures rest { result.0 ≡ first_rest containers.now (lines_of lines.now) }
+    ensures before { result.1 ≡ length (first_of (lines_of lines.now)) - length result.0.text }
+    ensures within { result.1 ≤ length lines.now }
 {
     let Some((line, _)) = Taken::nothing().next(lines) else {
-        return (0, &[], 0);
+        return (
+            Rest {
+                indent: 0,
+                text: &[],
+            },
+            0,
+        );
     };
-    let (_, start) = go_on(line, Outer::new(containers));
-    let (indent, text) = rest_behind(line, start);
-    (indent, text, line.len().saturating_sub(text.len()))
+    let (_, mut start) = go_on(line, &Outer::new(containers));
+    let rest = scan_rest(line, &mut start);
+    let before = line.len().saturating_sub(rest.text.len());
+    (rest, before)
 }

@@ -9,16 +9,17 @@ ghost use Rattle.markdown_blocks.specs.blocks.Leaves.{IsHead, BeginsNoTable};
 ghost use Rattle.markdown_blocks.specs.blocks.Endings.{IsEnd, IsUnderlineIn};
 ghost use Rattle.markdown_blocks.specs.blocks.Over.{IsOver};
 ghost use Rattle.markdown_blocks.specs.blocks.Pages.{IsBlockOf};
-ghost use Rattle.markdown_blocks.specs.containers.Containers.{IsInside};
+ghost use Rattle.markdown_blocks.specs.containers.Containers.{behind, IsInside};
 ghost use Rattle.markdown_blocks.specs.declared.blocks.BlockKind.TheVariants.{Paragraph};
 ghost use Rattle.markdown_blocks.specs.taken.Lines.{IsTaken, IsNext};
 
-use crate::containers::{Outer, go_on, rest_behind, scan_container};
+use crate::containers::{Outer, go_on};
 use crate::definitions::has_text;
 use crate::kinds::{is_blank, kind_of};
+use crate::line::Line;
+use crate::rest::Rest;
 use crate::tables::{count_cells, delimiter_columns, take_rows};
 use crate::taken::Taken;
-use markdown_scanners_tree::line::LineStart;
 use markdown_scanners_tree::scanners::{
     HtmlBlockKind, ends_html_block, interrupts_paragraph, scan_closing_code_fence,
     scan_setext_heading,
@@ -79,28 +80,27 @@ enum Ending {
     Html(HtmlBlockKind),
 }
 
-/// The block at the front of a text, in these containers, where its first line is taken, and has
-/// this text behind so many columns of indent.
+/// The block at the front of a text, in these containers, where its first line is taken, and has this
+/// after them.
 pub(crate) fn scan_block(
     alloc: Global,
     text: &[u8],
     first: Taken,
-    outer: Outer,
-    indent: usize,
-    words: &[u8],
+    outer: &Outer,
+    rest: &Rest,
 ) -> Result<Block, AllocError>
     ensures { IfOk result (λ block. (line : List ℕ) → IsTaken text.now first (line ∷ [])
-        → IsBlockOf text.now outer.entry.containers.now line (record { indent = indent; text = words.now }) block) }
+        → IsBlockOf text.now outer.now line rest.now block) }
 {
-    let kind = kind_of(indent, words);
+    let kind = kind_of(rest);
     let taken = match kind {
         BlockKind::Blank => take_until(text, first, outer, Ending::Text),
         BlockKind::Indented => take_indented(text, first, outer),
         BlockKind::Fenced(count, byte) => {
             take_through(text, first, outer, Ending::Fence(count, byte))
         }
-        BlockKind::Html(kind) => take_html(text, first, outer, kind, words),
-        BlockKind::Paragraph => return scan_paragraph(alloc, text, first, outer, words),
+        BlockKind::Html(kind) => take_html(text, first, outer, kind, rest),
+        BlockKind::Paragraph => return scan_paragraph(alloc, text, first, outer, rest),
         _ => first,
     };
     Ok(Block { kind, taken })
@@ -108,9 +108,9 @@ pub(crate) fn scan_block(
 
 /// Whether the block ends there: the text has a line behind it that shows it, whatever lines
 /// follow, or none follow since the input has ended.
-pub(crate) fn is_over(text: &[u8], block: Block, outer: Outer, has_ended: bool) -> bool
+pub(crate) fn is_over(text: &[u8], block: Block, outer: &Outer, has_ended: bool) -> bool
     ensures { (lines : List (List ℕ)) → IsTaken text.now block.taken lines
-        → (IsTrue result ↔ IsOver outer.entry.containers.now block.kind has_ended
+        → (IsTrue result ↔ IsOver outer.now block.kind has_ended
         (lines_of (drop block.taken.bytes text.now))) }
 {
     if has_ended {
@@ -126,14 +126,14 @@ pub(crate) fn is_over(text: &[u8], block: Block, outer: Outer, has_ended: bool) 
 }
 
 // The lines, and those behind them up to the first with this ending.
-fn take_until(text: &[u8], first: Taken, outer: Outer, ending: Ending) -> Taken
+fn take_until<'a>(text: &'a [u8], first: Taken, outer: &'a Outer<'a>, ending: Ending) -> Taken
     ensures { (lines : List (List ℕ)) → IsTaken text.now first lines
         → (more : List (List ℕ)) × IsTaken text.now result (lines ++ more)
-        × StopsBefore (IsEnd outer.entry.containers.now ending) more (lines_of (drop result.bytes text.now)) }
+        × StopsBefore (IsEnd outer.now ending) more (lines_of (drop result.bytes text.now)) }
 {
     let mut taken = first;
     while let Some((line, more)) = taken.next(text) {
-        if ends(line, outer, ending) {
+        if ends(&Line::new(line, outer), ending) {
             return taken;
         }
         taken = more;
@@ -142,10 +142,11 @@ fn take_until(text: &[u8], first: Taken, outer: Outer, ending: Ending) -> Taken
 }
 
 // The same, and that first line too, if it stands in the containers.
-fn take_through(text: &[u8], first: Taken, outer: Outer, ending: Ending) -> Taken
+fn take_through(text: &[u8], first: Taken, outer: &Outer, ending: Ending) -> Taken
     ensures { (lines : List (List ℕ)) → IsTaken text.now first lines
         → (more : List (List ℕ)) × IsTaken text.now result (lines ++ more)
-        × StopsBehind outer.entry.containers.now (IsEnd outer.entry.containers.now ending) more (lines_of (drop result.bytes text.now)) }
+        × StopsBehind outer.now (IsEnd outer.now ending) more
+        (lines_of (drop result.bytes text.now)) }
 {
     let taken = take_until(text, first, outer, ending);
     if let Some((line, more)) = taken.next(text) {
@@ -156,33 +157,33 @@ fn take_through(text: &[u8], first: Taken, outer: Outer, ending: Ending) -> Take
     taken
 }
 
-// The lines of an HTML block of this kind, whose first line has this text.
-fn take_html(text: &[u8], first: Taken, outer: Outer, kind: HtmlBlockKind, words: &[u8]) -> Taken
-    ensures { (lines : List (List ℕ)) → (indent : ℕ) → IsTaken text.now first lines
+// The lines of an HTML block of this kind, whose first line has this after its containers.
+fn take_html(text: &[u8], first: Taken, outer: &Outer, kind: HtmlBlockKind, rest: &Rest) -> Taken
+    ensures { (lines : List (List ℕ)) → IsTaken text.now first lines
         → (more : List (List ℕ)) × IsTaken text.now result (lines ++ more)
-        × EndsAsHtml outer.entry.containers.now kind (record { indent = indent; text = words.now }) more
-        (lines_of (drop result.bytes text.now)) }
+        × EndsAsHtml outer.now kind rest.now more (lines_of (drop result.bytes text.now)) }
 {
     if kind.ends_before_blank() {
         return take_until(text, first, outer, Ending::Html(kind));
     }
-    if ends_html_block(words, kind) {
+    if ends_html_block(rest.text, kind) {
         return first;
     }
     take_through(text, first, outer, Ending::Html(kind))
 }
 
 // The lines, and those of the indented code that they begin: up to its last line with text.
-fn take_indented(text: &[u8], first: Taken, outer: Outer) -> Taken
+fn take_indented<'a>(text: &'a [u8], first: Taken, outer: &'a Outer<'a>) -> Taken
     ensures { (lines : List (List ℕ)) → IsTaken text.now first lines
         → (more : List (List ℕ)) × IsTaken text.now result (lines ++ more)
-        × GoesOnIndented outer.entry.containers.now more (lines_of (drop result.bytes text.now)) }
+        × GoesOnIndented outer.now more (lines_of (drop result.bytes text.now)) }
 {
     let mut taken = first;
     let mut seen = first;
     while let Some((line, more)) = seen.next(text) {
-        if ends(line, outer, Ending::Text) {
-            if !is_indented(line, outer) {
+        let line = Line::new(line, outer);
+        if ends(&line, Ending::Text) {
+            if !is_indented(&line) {
                 return taken;
             }
             taken = more;
@@ -192,52 +193,52 @@ fn take_indented(text: &[u8], first: Taken, outer: Outer) -> Taken
     taken
 }
 
-// The paragraph whose first line this is, with this text behind its indent, or the table or heading
-// that it turns out to be.
+// The paragraph whose first line this is, with this after its containers, or the table or heading that
+// it turns out to be.
 fn scan_paragraph(
     alloc: Global,
     text: &[u8],
     first: Taken,
-    outer: Outer,
-    words: &[u8],
+    outer: &Outer,
+    rest: &Rest,
 ) -> Result<Block, AllocError>
-    ensures { IfOk result (λ block. (line : List ℕ) (indent : ℕ) → IsTaken text.now first (line ∷ [])
-        → Begins Paragraph (record { indent = indent; text = words.now })
-        → IsBlockOf text.now outer.entry.containers.now line (record { indent = indent; text = words.now }) block) }
+    ensures { IfOk result (λ block. (line : List ℕ) → IsTaken text.now first (line ∷ [])
+        → Begins Paragraph rest.now → IsBlockOf text.now outer.now line rest.now block) }
 {
-    if let Some((columns, more)) = scan_head(alloc, text, first, outer, words)? {
+    if let Some((columns, more)) = scan_head(alloc, text, first, outer, rest)? {
         return Ok(Block {
             kind: BlockKind::Table(columns),
             taken: take_rows(text, more, outer),
         });
     }
-    scan_lines(alloc, text, first, outer, words)
+    scan_lines(alloc, text, first, outer, rest)
 }
 
-// The paragraph or heading whose first line this is, with this text, where it begins no table.
-fn scan_lines(
+// The paragraph or heading whose first line this is, with this after its containers, where it begins no
+// table.
+fn scan_lines<'a>(
     alloc: Global,
-    text: &[u8],
+    text: &'a [u8],
     first: Taken,
-    outer: Outer,
-    words: &[u8],
+    outer: &'a Outer<'a>,
+    rest: &Rest,
 ) -> Result<Block, AllocError>
-    ensures { IfOk result (λ block. (line : List ℕ) (indent : ℕ) → IsTaken text.now first (line ∷ [])
-        → Begins Paragraph (record { indent = indent; text = words.now })
-        → BeginsNoTable outer.entry.containers.now (record { indent = indent; text = words.now })
-        (lines_of (drop first.bytes text.now))
-        → IsBlockOf text.now outer.entry.containers.now line (record { indent = indent; text = words.now }) block) }
+    ensures { IfOk result (λ block. (line : List ℕ) → IsTaken text.now first (line ∷ [])
+        → Begins Paragraph rest.now
+        → BeginsNoTable outer.now rest.now (lines_of (drop first.bytes text.now))
+        → IsBlockOf text.now outer.now line rest.now block) }
 {
     let mut taken = first;
     while let Some((line, more)) = taken.next(text) {
-        if !ends(line, outer, Ending::Paragraph) {
+        let line = Line::new(line, outer);
+        if !ends(&line, Ending::Paragraph) {
             taken = more;
             continue;
         }
-        let Some(underline) = underline_in(line, outer) else {
+        let Some(underline) = underline_in(&line) else {
             break;
         };
-        if has_text(alloc, text, first, taken, outer, words)? {
+        if has_text(alloc, text, first, taken, outer, rest.text)? {
             return Ok(Block {
                 kind: BlockKind::Setext(underline.level),
                 taken: more,
@@ -254,25 +255,24 @@ fn scan_lines(
     })
 }
 
-// Takes the delimiter row behind the first line of a table, which has this text, if one is there.
-// Answers how many columns it has, and what is taken with it.
+// Takes the delimiter row behind the first line of a table, which has this after its containers, if one
+// is there. Answers how many columns it has, and what is taken with it.
 fn scan_head(
     alloc: Global,
     text: &[u8],
     first: Taken,
-    outer: Outer,
-    words: &[u8],
+    outer: &Outer,
+    rest: &Rest,
 ) -> Result<Option<(usize, Taken)>, AllocError>
     ensures head { IfOk result (λ found. IfSome found (λ r. (line : List ℕ)
-        × IsNext text.now first line r.1 × IsHead outer.entry.containers.now words.now r.0 line)) }
-    ensures none { IfOk result (λ found. IfNone found ((indent : ℕ)
-        → BeginsNoTable outer.entry.containers.now (record { indent = indent; text = words.now })
-        (lines_of (drop first.bytes text.now)))) }
+        × IsNext text.now first line r.1 × IsHead outer.now rest.now.text r.0 line)) }
+    ensures none { IfOk result (λ found. IfNone found
+        (BeginsNoTable outer.now rest.now (lines_of (drop first.bytes text.now)))) }
 {
     let Some((line, more)) = first.next(text) else {
         return Ok(None);
     };
-    let Some(columns) = head_columns(alloc, line, outer, words)? else {
+    let Some(columns) = head_columns(alloc, &Line::new(line, outer), rest.text)? else {
         return Ok(None);
     };
     Ok(Some((columns, more)))
@@ -280,131 +280,117 @@ fn scan_head(
 
 // How many columns a table has, of which the line is the delimiter row, and the line before it has
 // this text.
-fn head_columns(
-    alloc: Global,
-    line: &[u8],
-    outer: Outer,
-    words: &[u8],
-) -> Result<Option<usize>, AllocError>
+fn head_columns(alloc: Global, line: &Line, words: &[u8]) -> Result<Option<usize>, AllocError>
     ensures { IfOk result (λ found. SomeExactly
-        (λ columns. IsHead outer.entry.containers.now words.now columns line.now) found) }
+        (λ columns. IsHead line.now.outer words.now columns line.now.bytes) found) }
 {
-    let Some(columns) = delimiter_columns(alloc, line, outer)? else {
+    let Some(columns) = delimiter_columns(alloc, line)? else {
         return Ok(None);
     };
     if columns as u128 != count_cells(words) {
         return Ok(None);
     }
-    if ends(line, outer, Ending::Paragraph) {
+    if ends(line, Ending::Paragraph) {
         return Ok(None);
     }
     Ok(Some(columns))
 }
 
 // Whether the line ends a block with this ending.
-fn ends(line: &[u8], outer: Outer, ending: Ending) -> bool
-    ensures { IsTrue result ↔ IsEnd outer.entry.containers.now ending line.now }
+fn ends(line: &Line, ending: Ending) -> bool
+    ensures { IsTrue result ↔ IsEnd line.now.outer ending line.now.bytes }
 {
-    let (kept, start) = go_on(line, outer);
-    if kept < outer.containers.len() {
+    let Some(rest) = line.rest_inside() else {
         return match ending {
-            Ending::Paragraph => !is_lazy(line, start),
+            Ending::Paragraph => !is_lazy(line),
             _ => true,
         };
-    }
-    let (indent, text) = rest_behind(line, start);
+    };
     match ending {
-        Ending::Text => !is_blank(text),
-        Ending::Paragraph => ends_paragraph(indent, text),
-        Ending::Fence(count, byte) => closes_fence(indent, text, count, byte),
-        Ending::Html(kind) => ends_html_block(text, kind),
+        Ending::Text => !is_blank(rest.text),
+        Ending::Paragraph => ends_paragraph(rest),
+        Ending::Fence(count, byte) => closes_fence(rest, count, byte),
+        Ending::Html(kind) => ends_html_block(rest.text, kind),
     }
 }
 
 // Whether the line stands in the containers.
-fn is_inside(line: &[u8], outer: Outer) -> bool
-    ensures { IsTrue result ↔ IsInside outer.entry.containers.now line.now }
+fn is_inside(line: &[u8], outer: &Outer) -> bool
+    ensures { IsTrue result ↔ IsInside outer.now line.now }
 {
     let (kept, _) = go_on(line, outer);
-    kept == outer.containers.len()
+    kept == outer.count()
 }
 
 // Whether the line stands in the containers, behind an indent of four columns.
-fn is_indented(line: &[u8], outer: Outer) -> bool
-    ensures { IsTrue result ↔ In outer.entry.containers.now HasIndent line.now }
+fn is_indented(line: &Line) -> bool
+    ensures { IsTrue result ↔ In line.now.outer HasIndent line.now.bytes }
 {
-    let (kept, start) = go_on(line, outer);
-    let (indent, _) = rest_behind(line, start);
-    kept == outer.containers.len() && indent == 4
+    match line.rest_inside() {
+        Some(rest) => rest.indent == 4,
+        None => false,
+    }
 }
 
-// Whether the rest of a line, behind fewer containers than those of the paragraph before it, goes
-// on with that.
-fn is_lazy(line: &[u8], mut start: LineStart) -> bool
-    requires { start.bytes ≡ line.now }
-    ensures { IsTrue result ↔ IsLazy start.entry }
+// Whether the rest of a line, after fewer containers than those of the paragraph before it, goes on with
+// that.
+fn is_lazy(line: &Line) -> bool
+    ensures { IsTrue result ↔ IsLazy (behind line.now.outer line.now.bytes).state }
 {
-    let indent = start.scan_space_upto(4);
-    let text = &line[start.bytes_scanned()..];
-    if scan_container(line, &mut start, indent).is_some() {
+    if line.begins_container() {
         return false;
     }
-    if is_blank(text) {
+    let rest = line.rest();
+    if is_blank(rest.text) {
         return false;
     }
-    if indent == 4 {
+    if rest.indent == 4 {
         return true;
     }
-    !interrupts_paragraph(text)
+    !interrupts_paragraph(rest.text)
 }
 
-// Whether a line with this text behind its indent goes on with no paragraph.
-fn ends_paragraph(indent: usize, text: &[u8]) -> bool
-    ensures { IsTrue result ↔ EndsParagraph (record { indent = indent; text = text.now }) }
+// Whether a line with this after its containers goes on with no paragraph.
+fn ends_paragraph(rest: &Rest) -> bool
+    ensures { IsTrue result ↔ EndsParagraph rest.now }
 {
-    if is_blank(text) {
+    if is_blank(rest.text) {
         return true;
     }
-    if underline_level(indent, text).is_some() {
+    if underline_level(rest).is_some() {
         return true;
     }
-    indent != 4 && interrupts_paragraph(text)
+    rest.indent != 4 && interrupts_paragraph(rest.text)
 }
 
 // The level of the setext heading whose underline it is.
-fn underline_level(indent: usize, text: &[u8]) -> Option<HeadingLevel>
-    ensures { SomeExactly (λ level. IsUnderline level (record { indent = indent; text = text.now }))
-        result }
+fn underline_level(rest: &Rest) -> Option<HeadingLevel>
+    ensures { SomeExactly (λ level. IsUnderline level rest.now) result }
 {
-    if indent == 4 {
+    if rest.indent == 4 {
         return None;
     }
-    let (_, level) = scan_setext_heading(text)?;
+    let (_, level) = scan_setext_heading(rest.text)?;
     Some(level)
 }
 
 // The underline that the line is in the containers.
-fn underline_in(line: &[u8], outer: Outer) -> Option<Underline>
-    ensures found { IfSome result (λ r. IsUnderlineIn outer.entry.containers.now r line.now) }
+fn underline_in(line: &Line) -> Option<Underline>
+    ensures found { IfSome result (λ r. IsUnderlineIn line.now.outer r line.now.bytes) }
     ensures none { IfNone result ((level : HeadingLevel)
-        → ¬ In outer.entry.containers.now (IsUnderline level) line.now) }
+        → ¬ In line.now.outer (IsUnderline level) line.now.bytes) }
 {
-    let (kept, start) = go_on(line, outer);
-    if kept < outer.containers.len() {
-        return None;
-    }
-    let (indent, text) = rest_behind(line, start);
-    let level = underline_level(indent, text)?;
+    let rest = line.rest_inside()?;
+    let level = underline_level(rest)?;
     Some(Underline {
         level,
-        interrupts: interrupts_paragraph(text),
+        interrupts: interrupts_paragraph(rest.text),
     })
 }
 
 /// Whether it closes fenced code.
-pub(crate) fn closes_fence(indent: usize, text: &[u8], count: usize, byte: u8) -> bool
-    ensures { IsTrue result
-        ↔ ClosesFence count byte (record { indent = indent; text = text.now }) }
+pub(crate) fn closes_fence(rest: &Rest, count: usize, byte: u8) -> bool
+    ensures { IsTrue result ↔ ClosesFence count byte rest.now }
 {
-    indent != 4 && scan_closing_code_fence(text, byte, count).is_some()
+    rest.indent != 4 && scan_closing_code_fence(rest.text, byte, count).is_some()
 }

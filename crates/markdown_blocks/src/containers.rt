@@ -1,12 +1,12 @@
 //! Block quotes and list items: how far a line goes on with those that are open, and what it begins.
 //! (CommonMark 0.31.2, sections 5.1 and 5.2)
-ghost use Rattle.std.specs.Prelude.{◌≡◌, ◌<◌, ◌≤◌, length, drop, false, true, Some, None, IfSome, IfNone};
-ghost use Rattle.std.specs.List.{list_all};
+ghost use Rattle.std.specs.Prelude.{◌≡◌, ◌<◌, ◌≤◌, length, false, Some, None, IfSome, IfNone};
 ghost use Rattle.markdown_scanners_tree.specs.line.State.{space_within, after_space};
-ghost use Rattle.markdown_blocks.specs.containers.Containers.{begun_behind, behind, behind_quote, goes_on_blank, rest_at, within, within_quote};
+ghost use Rattle.markdown_blocks.specs.containers.Containers.{begun_behind, behind, behind_quote, goes_on_blank, within, within_quote};
 
 use crate::kinds::is_blank;
 use markdown_scanners_tree::line::LineStart;
+use std::marker::Model;
 
 /// A list item: its bullet or delimiter, whether only its first line is read, which is blank behind
 /// the marker, the indent of its text in columns, and the number that it starts at. A page may open
@@ -31,20 +31,32 @@ pub enum Container {
 const _: () = prove!(size_of::<Container>() <= 16);
 
 /// The open containers, the outermost first; from a place on they are items that go on with blank
-/// lines, so that such a line is not tried for each of them.
-#[derive(Clone, Copy)]
+/// lines, so that such a line is not tried for each of them. Contracts see the list of containers.
+#[derive(Drop)]
 pub(crate) struct Outer<'a> {
-    pub(crate) containers: &'a [Container],
+    containers: &'a [Container],
     plain: usize,
-    ghost all_plain: { list_all goes_on_blank (drop plain containers.now) ≡ true },
+}
+
+impl<'a> Model for Outer<'a> {
+    ghost use Rattle.std.specs.Prelude.{◌≡◌, List, drop, true};
+    ghost use Rattle.std.specs.List.{list_all};
+    ghost use Rattle.markdown_blocks.specs.containers.Containers.{goes_on_blank};
+    ghost use Rattle.markdown_blocks.specs.declared.containers.Container.{Container};
+
+    ghost Value = { List Container };
+
+    ghost view = { λ o. o.containers.now };
+
+    ghost invariant = { λ o. list_all goes_on_blank (drop o.plain o.containers.now) ≡ true };
 }
 
 impl<'a> Outer<'a> {
-    ghost use Rattle.std.specs.Prelude.{◌≡◌};
+    ghost use Rattle.std.specs.Prelude.{◌≡◌, length};
 
     /// These containers.
     pub(crate) fn new(containers: &'a [Container]) -> Outer<'a>
-        ensures { result.containers.now ≡ containers.now }
+        ensures { result ≡ containers.now }
     {
         let mut plain = containers.len();
         while plain > 0 {
@@ -54,6 +66,20 @@ impl<'a> Outer<'a> {
             plain -= 1;
         }
         Outer { containers, plain }
+    }
+
+    /// How many they are.
+    pub(crate) fn count(&self) -> usize
+        ensures { result ≡ length self.now }
+    {
+        self.containers.len()
+    }
+
+    /// All of them.
+    pub(crate) fn containers(&self) -> &'a [Container]
+        ensures { result.now ≡ self.now }
+    {
+        self.containers
     }
 }
 
@@ -68,10 +94,10 @@ fn goes_on_blank(container: Container) -> bool
 }
 
 /// How many of the open containers the line goes on with, and its place behind them.
-pub(crate) fn go_on<'a>(line: &'a [u8], outer: Outer) -> (usize, LineStart<'a>)
-    ensures kept { result.0 ≡ (behind outer.entry.containers.now line.now).kept }
-    ensures few { result.0 ≤ length outer.entry.containers.now }
-    ensures state { result.1 ≡ (behind outer.entry.containers.now line.now).state }
+pub(crate) fn go_on<'a>(line: &'a [u8], outer: &Outer) -> (usize, LineStart<'a>)
+    ensures kept { result.0 ≡ (behind outer.now line.now).kept }
+    ensures few { result.0 ≤ length outer.now }
+    ensures state { result.1 ≡ (behind outer.now line.now).state }
     ensures bytes { result.1.bytes ≡ line.now }
 {
     let mut start = LineStart::new(line);
@@ -151,16 +177,6 @@ fn pass_quote(line: &[u8], start: &mut LineStart) -> Option<bool>
     }
     *start = before;
     None
-}
-
-/// At most four columns of space at the place of a line, and the text behind them.
-pub(crate) fn rest_behind<'a>(line: &'a [u8], mut start: LineStart) -> (usize, &'a [u8])
-    requires { start.bytes ≡ line.now }
-    ensures indent { result.0 ≡ (rest_at start.entry).indent }
-    ensures text { result.1.now ≡ (rest_at start.entry).text }
-{
-    let indent = start.scan_space_upto(4);
-    (indent, &line[start.bytes_scanned()..])
 }
 
 /// Passes the marker of the container that begins at the place, behind so many columns of space, if

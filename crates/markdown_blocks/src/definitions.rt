@@ -10,8 +10,9 @@ ghost use Rattle.markdown_blocks.specs.taken.Lines.{IsTaken};
 ghost use Rattle.markdown_blocks.specs.walk.Walk.{IsGathered};
 
 use crate::blocks::{Block, BlockKind};
-use crate::containers::{Container, Outer, go_on, rest_behind};
+use crate::containers::{Container, Outer, go_on};
 use crate::info::without_front;
+use crate::rest::scan_rest;
 use crate::taken::Taken;
 use markdown_scanners_tree::scanners::{ReferenceDefinition, scan_reference_definition};
 use std::alloc::{AllocError, Global};
@@ -77,13 +78,13 @@ pub(crate) fn has_text(
     text: &[u8],
     first: Taken,
     taken: Taken,
-    outer: Outer,
+    outer: &Outer,
     words: &[u8],
 ) -> Result<bool, AllocError>
     ensures { IfOk result (λ told. (line : List ℕ) (later : List (List ℕ))
         → IsTaken text.now first (line ∷ [])
         → IsTaken text.now taken (line ∷ later)
-        → (IsTrue told ↔ HasText (content_of outer.entry.containers.now words.now later))) }
+        → (IsTrue told ↔ HasText (content_of outer.now words.now later))) }
 {
     if begins_with_text(words) {
         return Ok(true);
@@ -148,7 +149,7 @@ pub fn add_content(
     let Some((_, first)) = Taken::nothing().next(lines) else {
         return Ok(());
     };
-    add_lines(content, lines, first, count, Outer::new(containers), text)
+    add_lines(content, lines, first, count, &Outer::new(containers), text)
 }
 
 // Adds the content of a paragraph of so many lines, of which the first is taken, and has this text.
@@ -157,11 +158,11 @@ fn add_lines(
     text: &[u8],
     first: Taken,
     count: usize,
-    outer: Outer,
+    outer: &Outer,
     words: &[u8],
 ) -> Result<(), AllocError>
     ensures { OnOk result ((line : List ℕ) → IsTaken text.now first (line ∷ [])
-        → content.new.items ≡ content.old.items ++ content_of outer.entry.containers.now words.now
+        → content.new.items ≡ content.old.items ++ content_of outer.now words.now
         (take (count - 1) (lines_of (drop first.bytes text.now)))) }
 {
     content.extend_from_slice(without_front(words))?;
@@ -177,10 +178,9 @@ fn add_lines(
 }
 
 // What the line has in the containers.
-fn words_in<'a>(line: &'a [u8], outer: Outer) -> &'a [u8]
-    ensures { result.now ≡ words_in outer.entry.containers.now line.now }
+fn words_in<'a>(line: &'a [u8], outer: &Outer) -> &'a [u8]
+    ensures { result.now ≡ words_in outer.now line.now }
 {
-    let (_, start) = go_on(line, outer);
-    let (_, text) = rest_behind(line, start);
-    without_front(text)
+    let (_, mut start) = go_on(line, outer);
+    without_front(scan_rest(line, &mut start).text)
 }

@@ -5,22 +5,23 @@ ghost use Rattle.markdown_scanners_tree.specs.scanners.Breaks.{IsThematicBreak};
 ghost use Rattle.markdown_blocks.specs.blocks.Leaves.{Begins, BeginsAt};
 
 use crate::blocks::BlockKind;
+use crate::rest::Rest;
 use markdown_scanners_tree::scanners::{
     scan_atx_heading, scan_blank_line, scan_code_fence, scan_hrule, scan_html_block_start,
 };
 
-/// The kind of the block that begins with this text behind so many columns of indent, where it
-/// goes on with none and begins no container.
-pub(crate) fn kind_of(indent: usize, text: &[u8]) -> BlockKind
-    ensures { Begins result (record { indent = indent; text = text.now }) }
+/// The kind of the block that begins with this rest of a line, where it goes on with none and begins
+/// no container.
+pub(crate) fn kind_of(rest: &Rest) -> BlockKind
+    ensures { Begins result rest.now }
 {
-    if is_blank(text) {
+    if is_blank(rest.text) {
         return BlockKind::Blank;
     }
-    if indent == 4 {
+    if rest.indent == 4 {
         return BlockKind::Indented;
     }
-    kind_at(text)
+    kind_at(rest.text)
 }
 
 // The same of what stands behind at most three columns of indent.

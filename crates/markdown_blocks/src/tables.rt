@@ -10,9 +10,11 @@ ghost use Rattle.markdown_blocks.specs.declared.blocks.BlockKind.TheVariants.{Pa
 ghost use Rattle.markdown_blocks.specs.taken.Lines.{IsTaken};
 
 use crate::blocks::BlockKind;
-use crate::containers::{Outer, go_on, rest_behind, scan_container};
+use crate::containers::Outer;
 use crate::info::without_end;
 use crate::kinds::kind_of;
+use crate::line::Line;
+use crate::rest::Rest;
 use crate::taken::Taken;
 use markdown_scanners_tree::scanners::{line_head, scan_table_head};
 use std::alloc::{AllocError, Global};
@@ -53,32 +55,25 @@ fn separates(before: u8, byte: u8) -> bool
     byte == b'|' && before != b'\\'
 }
 
-/// How many columns a table has whose delimiter row the line is, in the containers.
-pub(crate) fn delimiter_columns(
-    alloc: Global,
-    line: &[u8],
-    outer: Outer,
-) -> Result<Option<usize>, AllocError>
-    ensures { IfOk result (λ found.
-        SomeExactly (λ columns. In outer.entry.containers.now (IsDelimiter columns) line.now) found) }
+/// How many columns a table has whose delimiter row the line is.
+pub(crate) fn delimiter_columns(alloc: Global, line: &Line) -> Result<Option<usize>, AllocError>
+    ensures { IfOk result (λ found. SomeExactly
+        (λ columns. In line.now.outer (IsDelimiter columns) line.now.bytes) found) }
 {
-    let (kept, start) = go_on(line, outer);
-    if kept < outer.containers.len() {
+    let Some(rest) = line.rest_inside() else {
         return Ok(None);
-    }
-    let (indent, text) = rest_behind(line, start);
-    columns_of(alloc, indent, text)
+    };
+    columns_of(alloc, rest)
 }
 
-// The same of a line with this text behind its indent.
-fn columns_of(alloc: Global, indent: usize, text: &[u8]) -> Result<Option<usize>, AllocError>
-    ensures { IfOk result (λ found. SomeExactly
-        (λ columns. IsDelimiter columns (record { indent = indent; text = text.now })) found) }
+// The same of a line with this after its containers.
+fn columns_of(alloc: Global, rest: &Rest) -> Result<Option<usize>, AllocError>
+    ensures { IfOk result (λ found. SomeExactly (λ columns. IsDelimiter columns rest.now) found) }
 {
-    if indent == 4 {
+    if rest.indent == 4 {
         return Ok(None);
     }
-    let (length, alignments) = scan_table_head(alloc, text)?;
+    let (length, alignments) = scan_table_head(alloc, rest.text)?;
     if length == 0 {
         return Ok(None);
     }
@@ -86,15 +81,15 @@ fn columns_of(alloc: Global, indent: usize, text: &[u8]) -> Result<Option<usize>
 }
 
 /// The lines, and the rows of a table that stand directly behind them.
-pub(crate) fn take_rows(text: &[u8], first: Taken, outer: Outer) -> Taken
+pub(crate) fn take_rows<'a>(text: &'a [u8], first: Taken, outer: &'a Outer<'a>) -> Taken
     ensures { (lines : List (List ℕ)) → IsTaken text.now first lines
         → (more : List (List ℕ)) × IsTaken text.now result (lines ++ more)
-        × StopsBefore (λ line. ¬ IsRow outer.entry.containers.now line) more
+        × StopsBefore (λ line. ¬ IsRow outer.now line) more
         (lines_of (drop result.bytes text.now)) }
 {
     let mut taken = first;
     while let Some((line, more)) = taken.next(text) {
-        if !is_row(line, outer) {
+        if !is_row(&Line::new(line, outer)) {
             return taken;
         }
         taken = more;
@@ -103,24 +98,21 @@ pub(crate) fn take_rows(text: &[u8], first: Taken, outer: Outer) -> Taken
 }
 
 // Whether the line is a row of a table in the containers.
-fn is_row(line: &[u8], outer: Outer) -> bool
-    ensures { IsTrue result ↔ IsRow outer.entry.containers.now line.now }
+fn is_row(line: &Line) -> bool
+    ensures { IsTrue result ↔ IsRow line.now.outer line.now.bytes }
 {
-    let (kept, mut start) = go_on(line, outer);
-    if kept < outer.containers.len() {
+    let Some(rest) = line.rest_inside() else {
+        return false;
+    };
+    if line.begins_container() {
         return false;
     }
-    let indent = start.scan_space_upto(4);
-    let text = &line[start.bytes_scanned()..];
-    if scan_container(line, &mut start, indent).is_some() {
-        return false;
-    }
-    is_paragraph(indent, text)
+    is_paragraph(rest)
 }
 
-// Whether a paragraph begins with this text behind its indent, where no container does.
-fn is_paragraph(indent: usize, text: &[u8]) -> bool
-    ensures { IsTrue result ↔ Begins Paragraph (record { indent = indent; text = text.now }) }
+// Whether a paragraph begins with this rest of a line, where no container does.
+fn is_paragraph(rest: &Rest) -> bool
+    ensures { IsTrue result ↔ Begins Paragraph rest.now }
 {
-    matches!(kind_of(indent, text), BlockKind::Paragraph)
+    matches!(kind_of(rest), BlockKind::Paragraph)
 }

@@ -9,6 +9,7 @@ ghost use Rattle.markdown_blocks.specs.walk.Walk.{IsOpening, IsStep, IsContentOf
 use crate::blocks::{is_over, scan_block};
 use crate::containers::{Container, ListItem, Outer, go_on, scan_container};
 use crate::definitions::gather_content;
+use crate::rest::{Rest, scan_rest};
 pub use crate::step::Step;
 use crate::taken::Taken;
 use markdown_scanners_tree::line::LineStart;
@@ -31,13 +32,12 @@ impl Model for Walk {
 }
 
 // What a line has after its containers: how many of those that were open it goes on with, its place
-// after these, and the space and the text after all of them.
+// after these, and what is left of it after all of them.
 #[derive(Drop)]
 struct Opened<'a> {
     kept: usize,
     start: LineStart<'a>,
-    indent: usize,
-    text: &'a [u8],
+    rest: Rest<'a>,
 }
 
 impl Walk {
@@ -96,19 +96,20 @@ impl Walk {
         self.closed.clear();
         self.closed.extend_from_slice(&self.open)?;
         let opened = open_containers(&mut self.closed, line)?;
+        let rest = opened.rest;
         let outer = Outer::new(&self.closed);
-        let block = scan_block(alloc, lines, first, outer, opened.indent, opened.text)?;
-        if !is_over(lines, block, outer, has_ended) {
+        let block = scan_block(alloc, lines, first, &outer, &rest)?;
+        if !is_over(lines, block, &outer, has_ended) {
             return Ok(None);
         }
-        gather_content(content, lines, block, &self.closed, opened.text)?;
+        gather_content(content, lines, block, &self.closed, rest.text)?;
         swap(&mut self.open, &mut self.closed);
         Ok(Some(Step {
             kept: opened.kept,
             line,
             start: opened.start,
-            indent: opened.indent,
-            text: opened.text,
+            indent: rest.indent,
+            text: rest.text,
             block,
             lines: &lines[..block.taken.bytes],
         }))
@@ -117,26 +118,25 @@ impl Walk {
 
 // Closes the containers that the line does not go on with, and opens those that it begins.
 fn open_containers<'a>(outer: &mut Vec<Container>, line: &'a [u8]) -> Result<Opened<'a>, AllocError>
-    ensures opening { IfOk result (λ o. IsOpening outer.old.items line.now outer.new.items o.kept
-        (record { indent = o.indent; text = o.text.now })) }
+    ensures opening { IfOk result (λ o.
+        IsOpening outer.old.items line.now outer.new.items o.kept o.rest) }
     ensures place { IfOk result (λ o. o.start ≡ (behind outer.old.items line.now).state) }
     ensures bytes { IfOk result (λ o. o.start.bytes ≡ line.now) }
     ensures few { IfOk result (λ o. length outer.new.items ≤ o.kept + length line.now) }
 {
-    let (kept, mut start) = go_on(line, Outer::new(outer));
+    let (kept, mut start) = go_on(line, &Outer::new(outer));
     let before = start.clone()?;
     keep(outer, kept)?;
     let count = outer.len();
-    let mut indent = start.scan_space_upto(4);
-    while let Some(container) = scan_container(line, &mut start, indent) {
+    let mut rest = scan_rest(line, &mut start);
+    while let Some(container) = scan_container(line, &mut start, rest.indent) {
         outer.push(container)?;
-        indent = start.scan_space_upto(4);
+        rest = scan_rest(line, &mut start);
     }
     Ok(Opened {
         kept: count,
         start: before,
-        indent,
-        text: &line[start.bytes_scanned()..],
+        rest,
     })
 }
 

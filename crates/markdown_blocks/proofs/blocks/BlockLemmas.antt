@@ -55,12 +55,12 @@ module _ (text : List ℕ) (outer : List Container) (line : List ℕ) (rest : Re
 
   -- an HTML block
   pub html_block : (kind : HtmlBlockKind) (taken : Taken) → Begins (Html kind) rest
-      → ((lines : List (List ℕ)) (indent : ℕ) → IsTaken text first lines
+      → ((lines : List (List ℕ)) → IsTaken text first lines
       → (more : List (List ℕ)) × IsTaken text taken (lines ++ more)
-      × EndsAsHtml outer kind (record { indent = indent; text = rest.text }) more (lines_of (drop taken.bytes text)))
+      × EndsAsHtml outer kind rest more (lines_of (drop taken.bytes text)))
       → IsBlockOf text outer line rest (record { kind = Html kind; taken = taken })
   html_block kind taken begins goes =
-      let g = goes (line ∷ []) rest.indent h in record { later = g.0; taken = g.1; leaf = (begins, g.2) }
+      let g = goes (line ∷ []) h in record { later = g.0; taken = g.1; leaf = (begins, g.2) }
 
   -- the lines behind the first
   behind_first : (taken : Taken) (more : List (List ℕ)) → IsTaken text taken (line ∷ more)

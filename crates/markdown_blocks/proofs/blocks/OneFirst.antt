@@ -3,7 +3,7 @@ use Rattle.std.proofs.Common.{ℕ, suc, Bool, true, false, ◌==◌, ◌+◌, �
 use Rattle.std.proofs.Common.{[], ◌∷◌, ◌++◌, length, take, refl, sym, ap, ◌∙◌, subst, arith, inl, inr}
 use Rattle.std.specs.Prelude.{codes, if◌then◌else◌, nat_le, not}
 use Rattle.std.specs.List.{list_all, count_by, prefix_len}
-use Rattle.std.proofs.lemmas.Bool.{cases_Bool, eqb-true}
+use Rattle.std.proofs.lemmas.Bool.{and_parts, cases_Bool, eqb-true}
 use Rattle.markdown_values.specs.declared.values.HeadingLevel.{HeadingLevel}
 use Rattle.markdown_values.specs.declared.values.HeadingLevel.TheVariants.{H1, H2, H3, H4, H5, H6}
 use Rattle.markdown_scanners_tree.specs.Ascii.{number_sign, less_than_sign, backtick, tilde}
@@ -19,10 +19,6 @@ use Rattle.markdown_blocks.specs.declared.blocks.BlockKind.{BlockKind}
 use Rattle.markdown_blocks.specs.declared.blocks.BlockKind.TheVariants.{Blank, Break, Heading, Setext, Indented, Fenced, Html, Table, Definition, Paragraph}
 use Rattle.markdown_blocks.specs.blocks.Leaves.{IsBlank, HasIndent, Begins, BeginsAt}
 
-both_true : (a b : Bool) → (a && b) ≡ true → (a ≡ true) × (b ≡ true)
-both_true true b h = (refl, h)
-both_true false b h = cc
-
 first_byte : List ℕ → ℕ
 first_byte [] = 0
 first_byte (b ∷ bs) = b
@@ -32,8 +28,8 @@ head_marked : (stays : Bool) (n m b : ℕ) (bs : List ℕ) → m ≡ suc n → i
     → is_break_marker b ≡ true
 head_marked true n m b bs some h =
     let begun : is_break_head (b ∷ take n bs) ≡ true = subst (λ k. is_break_head (take k (b ∷ bs)) ≡ true) some h in
-    (both_true (is_break_marker b) (list_all (is_break_byte b) (b ∷ take n bs))
-    (both_true (is_break_marker b && list_all (is_break_byte b) (b ∷ take n bs)) (nat_le 3 (count_by (λ c. c == b) (b ∷ take n bs))) begun).0).0
+    (and_parts (is_break_marker b) (list_all (is_break_byte b) (b ∷ take n bs))
+    (and_parts (is_break_marker b && list_all (is_break_byte b) (b ∷ take n bs)) (nat_le 3 (count_by (λ c. c == b) (b ∷ take n bs))) begun).0).0
 head_marked false n m b bs some h = cc
 
 break_front : (bytes : List ℕ) → IsThematicBreak bytes → is_break_marker (first_byte bytes) ≡ true
@@ -56,7 +52,7 @@ fence_run : (byte : ℕ) (run rest : List ℕ) → 3 ≤ length run → list_all
     → is_fence_byte (first_byte (run ++ rest)) ≡ true
 unfolding first_byte
 fence_run byte [] rest three all of = absurd (omega (arith, three))
-fence_run byte (r ∷ run) rest three all of = subst (λ b. is_fence_byte b ≡ true) (sym (eqb-true r byte (both_true _ _ all).0)) of
+fence_run byte (r ∷ run) rest three all of = subst (λ b. is_fence_byte b ≡ true) (sym (eqb-true r byte (and_parts _ _ all).0)) of
 
 fence_front : (bytes : List ℕ) (n byte : ℕ) → IsCodeFence bytes n byte → is_fence_byte (first_byte bytes) ≡ true
 fence_front bytes n byte is = subst (λ bs. is_fence_byte (first_byte bs) ≡ true) (sym is.is_run.parts)
@@ -65,7 +61,7 @@ fence_front bytes n byte is = subst (λ bs. is_fence_byte (first_byte bs) ≡ tr
 opened : (bytes : List ℕ) → begins_with_text (codes "<") bytes ≡ true → first_byte bytes ≡ less_than_sign
 unfolding first_byte
 opened [] h = cc
-opened (b ∷ bs) h = eqb-true b less_than_sign (both_true _ _ h).0
+opened (b ∷ bs) h = eqb-true b less_than_sign (and_parts _ _ h).0
 
 html_front : (bytes : List ℕ) (kind : HtmlBlockKind) → IsHtmlBlockStart bytes kind → first_byte bytes ≡ less_than_sign
 html_front bytes kind is = elim (cases_Bool (begins_with_text (codes "<") bytes)) [

@@ -100,6 +100,10 @@ pub begins_none : {A : Type 0} {P : Type 0} (r : Option A) → is_some r ≡ fal
 begins_none None told h = h
 begins_none (Some a) told h = cc
 
+pub begun_none : {A : Type 0} (b : Bool) (r : Option A) → b ≡ is_some r → b ≡ false → r ≡ None
+begun_none b None told h = refl
+begun_none b (Some a) told h = let both : true ≡ false = sym told ∙ h in cc
+
 pub none_at : (s t : LineState) (indent : ℕ) → indent ≡ space_within 4 s → t ≡ after_space 4 s → begun_behind indent t ≡ None → begun_at s ≡ None
 none_at s t indent columns is none =
     subst (λ n. begun_behind n (after_space 4 s) ≡ None) columns (subst (λ z. begun_behind indent z ≡ None) is none)

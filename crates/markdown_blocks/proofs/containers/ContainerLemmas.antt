@@ -1,6 +1,7 @@
 -- A line goes on with containers, one after the other, and begins others.
 use Rattle.std.proofs.Common.{suc, zero, ◌≤◌, List, [], ◌∷◌, ℕ, ◌-◌, take, drop, IsTrue, ◌↔◌, Bool}
-use Rattle.std.proofs.Common.{true, false, ◌==◌, ◌≡◌, ◌<◌, length, Some, refl, sym, ap, subst, ◌∙◌, arith}
+use Rattle.std.specs.Prelude.{IfSome, IfNone}
+use Rattle.std.proofs.Common.{true, false, ◌==◌, ◌≡◌, ◌<◌, length, Option, Some, None, is_some, refl, sym, ap, subst, ◌∙◌, arith}
 use Rattle.std.specs.List.{list_all}
 use Rattle.markdown_scanners_tree.specs.Ascii.{greater_than_sign}
 use Rattle.markdown_scanners_tree.specs.Bytes.{begins_with, is_blank}
@@ -9,7 +10,7 @@ use Rattle.markdown_scanners_tree.specs.line.State.{LineState, unscanned, space_
 use Rattle.markdown_blocks.specs.declared.containers.Container.TheVariants.{Quote, Item}
 use Rattle.markdown_blocks.specs.declared.containers.Container.{Container}
 use Rattle.markdown_blocks.proofs.taken.TakenLemmas.{slice_behind}
-use Rattle.markdown_blocks.specs.containers.Containers.{goes_on_blank, go_on, Behind, behind_quote, begun_behind, item_of, within_quote}
+use Rattle.markdown_blocks.specs.containers.Containers.{goes_on_blank, go_on, Behind, behind_quote, begun_at, begun_behind, item_of, within_quote}
 
 -- less than four columns
 pub near : (indent : ℕ) → indent < 4 → (indent == 4) ≡ false
@@ -41,6 +42,18 @@ item_here indent s t after delimiter start width begun far other same found is b
     rw (far, other) (item_told (item_outcome indent s) after delimiter start width begun
     (subst (λ z. Some (delimiter, start, width) ≡ (item_outcome indent z).answer) same found) (subst (λ z. after ≡
     (item_outcome indent z).state) same is) blank)
+
+-- the container that a line begins, where its rest is passed
+pub begun_told : (s t after : LineState) (indent : ℕ) (r : Option Container) → indent ≡ space_within 4 s → t ≡ after_space 4 s
+    → IfSome r (λ container. begun_behind indent t ≡ Some (container, after)) → IfNone r (begun_behind indent t ≡ None)
+    → is_some r ≡ is_some (begun_at s)
+begun_told s t after indent r columns is found none = subst (λ n. is_some r ≡ is_some (begun_behind n (after_space 4 s))) columns
+    (subst (λ z. is_some r ≡ is_some (begun_behind indent z)) is (by r found none))
+  where
+    by : (r : Option Container) → IfSome r (λ container. begun_behind indent t ≡ Some (container, after)) → IfNone r (begun_behind indent t ≡ None)
+        → is_some r ≡ is_some (begun_behind indent t)
+    by None found none = sym (ap is_some none)
+    by (Some container) found none = sym (ap is_some found)
 
 -- the marker's test fails, and nothing is passed
 pub no_marker : (r : Bool) (b : Bool) → r ≡ false → (IsTrue r ↔ (b ≡ true)) → b ≡ false

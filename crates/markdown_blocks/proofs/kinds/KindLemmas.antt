@@ -1,5 +1,5 @@
 -- What tests tell of the first line of a block.
-use Rattle.std.proofs.Common.{Bool, false, ◌≡◌, IsTrue, Option, Some, None, is_some, refl}
+use Rattle.std.proofs.Common.{Bool, true, false, sym, ◌∙◌, ◌≡◌, IsTrue, Option, Some, None, is_some, refl}
 use Rattle.markdown_scanners_tree.specs.SomeExactly.{SomeExactly}
 use Rattle.markdown_blocks.specs.containers.Containers.{Rest}
 use Rattle.markdown_blocks.specs.declared.blocks.BlockKind.{BlockKind}
@@ -10,6 +10,12 @@ use Rattle.markdown_blocks.specs.blocks.Leaves.{IsBlank, HasIndent, Begins, Begi
 pub none_told : {A : Type 0} (P : A → Type 0) (r : Option A) → is_some r ≡ false → SomeExactly P r → (a : A) → ¬ P a
 none_told P None told exactly = exactly
 none_told P (Some a) told exactly = cc
+
+-- whether something is found
+pub some_told : {A : Type 0} (P : A → Type 0) (r : Option A) (t : Bool) → t ≡ is_some r → SomeExactly P r
+    → (IsTrue t → (a : A) × P a) × (((a : A) × P a) → IsTrue t)
+some_told P None t told exactly = (λ h. let both : true ≡ false = sym h ∙ told in cc, λ some. absurd (exactly some.0 some.1))
+some_told P (Some a) t told exactly = (λ h. (a, exactly), λ some. told)
 
 -- a test that fails
 pub not_told : {P : Type 0} {t : Bool} → t ≡ false → (P → IsTrue t) → ¬ P

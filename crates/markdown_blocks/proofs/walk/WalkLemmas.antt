@@ -2,7 +2,7 @@
 use Rattle.std.proofs.Common.{ℕ, Bool, List, [], ◌∷◌, ◌++◌, ◌<◌, ◌≤◌, ◌≡◌, length, take}
 use Rattle.std.proofs.Common.{drop, Some, None, refl, sym, ap, ◌∙◌, subst, arith, append_assoc, append-nil}
 use Rattle.std.proofs.lemmas.List.{take_all}
-use Rattle.markdown_scanners_tree.specs.line.State.{LineState, space_within, after_space}
+use Rattle.markdown_scanners_tree.specs.line.State.{LineState, after_space}
 use Rattle.markdown_scanners_tree.specs.scanners.TextLines.{lines_of}
 use Rattle.markdown_blocks.specs.containers.Containers.{Rest, rest_at, behind, begun_at, begun_behind, Opens, settled, settled_last}
 use Rattle.markdown_blocks.specs.declared.blocks.Block.{Block}
@@ -23,57 +23,56 @@ settled-push [] c = refl
 settled-push (a ∷ []) c = refl
 settled-push (a ∷ b ∷ outer) c = ap (λ cs. a ∷ cs) (settled-push (b ∷ outer) c)
 
--- the containers that the line has begun so far, and the place of the rest of it, behind its space
-pub record Opening (old : List Container) (line : List ℕ) (now : List Container) (count indent : ℕ) (start : LineState) : Type 0 where
+-- the containers that the line has begun so far, and the rest of it
+pub record Opening (old : List Container) (line : List ℕ) (now : List Container) (count : ℕ) (rest : Rest) (start : LineState) : Type 0 where
   pub kept : List Container
   pub begun : List Container
   pub place : LineState
   pub open_now : now ≡ kept ++ begun
   pub counted : count ≡ length kept
   pub goes_on : kept ≡ settled_last (take (behind old line).kept old)
-  pub columns : indent ≡ space_within 4 place
+  pub is_rest : rest ≡ rest_at place
   pub state : start ≡ after_space 4 place
   pub goes : (more : List Container) (after : LineState) → Opens place more after → Opens (behind old line).state (begun ++ more) after
 
 module _ (old : List Container) (line : List ℕ) where
-  pub opening-first : (now : List Container) (count kept indent : ℕ) (s start : LineState) → count ≡ length now → kept ≡ (behind old line).kept
-      → now ≡ settled_last (take kept old) → s ≡ (behind old line).state → indent ≡ space_within 4 s → start ≡ after_space 4 s
-      → Opening old line now count indent start
-  opening-first now count kept indent s start counts keeps left at columns state = record {
+  pub opening-first : (now : List Container) (count kept : ℕ) (rest : Rest) (s start : LineState) → count ≡ length now → kept ≡ (behind old line).kept
+      → now ≡ settled_last (take kept old) → s ≡ (behind old line).state → rest ≡ rest_at s → start ≡ after_space 4 s
+      → Opening old line now count rest start
+  opening-first now count kept rest s start counts keeps left at is state = record {
     kept = now;
     begun = [];
     place = (behind old line).state;
     open_now = sym (append-nil now);
     counted = counts;
     goes_on = subst (λ n. now ≡ settled_last (take n old)) keeps left;
-    columns = subst (λ z. indent ≡ space_within 4 z) at columns;
+    is_rest = subst (λ z. rest ≡ rest_at z) at is;
     state = subst (λ z. start ≡ after_space 4 z) at state;
     goes = λ more after h. h;
   }
 
-  pub opening-next : (now more_now : List Container) (count indent columns : ℕ) (start next after : LineState) (c : Container)
-      → Opening old line now count indent start → begun_behind indent start ≡ Some (c, next) → more_now ≡ now ++ c ∷ []
-      → columns ≡ space_within 4 next → after ≡ after_space 4 next → Opening old line more_now count columns after
-  opening-next now more_now count indent columns start next after c o found grown space state = record {
+  pub opening-next : (now more_now : List Container) (count : ℕ) (rest more : Rest) (start next after : LineState) (c : Container)
+      → Opening old line now count rest start → begun_behind rest.indent start ≡ Some (c, next) → more_now ≡ now ++ c ∷ []
+      → more ≡ rest_at next → after ≡ after_space 4 next → Opening old line more_now count more after
+  opening-next now more_now count rest left start next after c o found grown is state = record {
     kept = o.kept;
     begun = o.begun ++ c ∷ [];
     place = next;
     open_now = grown ∙ ap (λ cs. cs ++ c ∷ []) o.open_now ∙ append_assoc o.kept o.begun (c ∷ []);
     counted = o.counted;
     goes_on = o.goes_on;
-    columns = space;
+    is_rest = is;
     state = state;
     goes = λ more last h. rw append_assoc (o.goes (c ∷ more) last (next, here, h));
   }
     where
       here : begun_at o.place ≡ Some (c, next)
-      here = subst (λ n. begun_behind n (after_space 4 o.place) ≡ Some (c, next)) o.columns (subst (λ z. begun_behind indent z ≡ Some
+      here = subst (λ n. begun_behind n (after_space 4 o.place) ≡ Some (c, next)) (ap (λ (r : Rest). r.indent) o.is_rest) (subst (λ z. begun_behind rest.indent z ≡ Some
           (c, next)) o.state found)
 
-  pub opening-done : (now : List Container) (count indent : ℕ) (start : LineState) (words : Rest) → Opening old line now count indent start
-      → begun_behind indent start ≡ None → ((s : LineState) → indent ≡ space_within 4 s → start ≡ after_space 4 s → words ≡ rest_at s)
-      → IsOpening old line now count words
-  opening-done now count indent start words o none rest = record {
+  pub opening-done : (now : List Container) (count : ℕ) (rest : Rest) (start : LineState) → Opening old line now count rest start
+      → begun_behind rest.indent start ≡ None → IsOpening old line now count rest
+  opening-done now count rest start o none = record {
     kept = o.kept;
     begun = o.begun;
     open_now = o.open_now;
@@ -82,12 +81,13 @@ module _ (old : List Container) (line : List ℕ) where
       goes_on = o.goes_on;
       place = o.place;
       begins = rw append-nil at (o.goes [] o.place (here, refl));
-      is_rest = rest o.place o.columns o.state;
+      is_rest = o.is_rest;
     };
   }
     where
       here : begun_at o.place ≡ None
-      here = subst (λ n. begun_behind n (after_space 4 o.place) ≡ None) o.columns (subst (λ z. begun_behind indent z ≡ None) o.state none)
+      here = subst (λ n. begun_behind n (after_space 4 o.place) ≡ None) (ap (λ (r : Rest). r.indent) o.is_rest)
+          (subst (λ z. begun_behind rest.indent z ≡ None) o.state none)
 
 -- a block has a byte, and no more than the text
 pub some_bytes : (text : List ℕ) (outer : List Container) (line : List ℕ) (words : Rest) (block : Block) → IsBlockOf text outer line words block

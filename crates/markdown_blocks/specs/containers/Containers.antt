@@ -85,6 +85,11 @@ go_on blank (c ∷ inner) s =
 abbrev pub behind : List Container → List ℕ → Behind
 behind outer line = go_on (is_blank line) outer (start_of line)
 
+-- a line where these containers are open
+pub record Line : Type 0 where
+  pub outer : List Container
+  pub bytes : List ℕ
+
 -- the line goes on with all of them
 abbrev pub IsInside : List Container → List ℕ → Type 0
 IsInside outer line = (behind outer line).kept ≡ length outer

@@ -9,9 +9,10 @@ ghost use Rattle.markdown_blocks.specs.content.Seen.{IsFirstIn, IsIn, seen_part}
 ghost use Rattle.markdown_blocks.specs.declared.containers.Container.{Container};
 
 use crate::blocks::{BlockKind, closes_fence};
-use crate::containers::{Container, Outer, go_on, pass, rest_behind, scan_container};
+use crate::containers::{Container, Outer, go_on, pass, scan_container};
 use crate::info::{without_end, without_front};
 use crate::kinds::is_blank;
+use crate::line::Line;
 use crate::taken::Taken;
 use markdown_scanners_tree::line::LineStart;
 use markdown_scanners_tree::scanners::{line_head, scan_ch_repeat};
@@ -43,7 +44,7 @@ pub(crate) struct Parts<'a> {
 struct Cut<'a> {
     kind: BlockKind,
     indent: usize,
-    outer: Outer<'a>,
+    outer: &'a Outer<'a>,
 }
 
 impl<'a> Parts<'a> {
@@ -57,17 +58,16 @@ impl<'a> Parts<'a> {
     pub(crate) fn of(
         lines: &'a [u8],
         kind: BlockKind,
-        containers: &'a [Container],
+        outer: &'a Outer<'a>,
         kept: usize,
     ) -> Parts<'a>
-        ensures parts { AreParts kind containers.now kept (lines_of lines.now) (parts_left result) }
+        ensures parts { AreParts kind outer.now kept (lines_of lines.now) (parts_left result) }
         ensures lines { result.lines.now ≡ lines.now }
     {
-        let outer = Outer::new(containers);
         let Some((line, read)) = Taken::nothing().next(lines) else {
             return Parts::none(lines, kind, outer);
         };
-        let start = first_place(line, containers, kept);
+        let mut start = first_place(line, outer.containers(), kept);
         match kind {
             BlockKind::Blank | BlockKind::Break | BlockKind::Table(_) => {
                 return Parts::none(lines, kind, outer);
@@ -86,7 +86,7 @@ impl<'a> Parts<'a> {
                 };
             }
             BlockKind::Fenced(..) => {
-                let (indent, _) = rest_behind(line, start);
+                let indent = start.scan_space_upto(4);
                 return Parts {
                     lines,
                     first: None,
@@ -115,7 +115,7 @@ impl<'a> Parts<'a> {
     }
 
     // No part.
-    fn none(lines: &'a [u8], kind: BlockKind, outer: Outer<'a>) -> Parts<'a>
+    fn none(lines: &'a [u8], kind: BlockKind, outer: &'a Outer<'a>) -> Parts<'a>
         ensures parts { parts_left result ≡ [] }
         ensures lines { result.lines.now ≡ lines.now }
     {
@@ -189,8 +189,8 @@ impl<'a> Parts<'a> {
 }
 
 // How many of the lines are read and content: of those after the first all, or all but the last.
-fn count_inner(lines: &[u8], first: Taken, kind: BlockKind, outer: Outer) -> usize
-    ensures { AreInner kind outer.entry.containers.now (lines_of (drop first.bytes lines.now))
+fn count_inner(lines: &[u8], first: Taken, kind: BlockKind, outer: &Outer) -> usize
+    ensures { AreInner kind outer.now (lines_of (drop first.bytes lines.now))
         (take (result - first.lines) (lines_of (drop first.bytes lines.now))) }
 {
     let mut read = first;
@@ -205,8 +205,8 @@ fn count_inner(lines: &[u8], first: Taken, kind: BlockKind, outer: Outer) -> usi
 }
 
 // Whether the line is the last of its block, and no content.
-fn is_left_out(line: &[u8], is_last: bool, kind: BlockKind, outer: Outer) -> bool
-    ensures { IsTrue result ↔ (IsTrue is_last × IsLeftOut kind outer.entry.containers.now line.now) }
+fn is_left_out(line: &[u8], is_last: bool, kind: BlockKind, outer: &Outer) -> bool
+    ensures { IsTrue result ↔ (IsTrue is_last × IsLeftOut kind outer.now line.now) }
 {
     if !is_last {
         return false;
@@ -219,12 +219,14 @@ fn is_left_out(line: &[u8], is_last: bool, kind: BlockKind, outer: Outer) -> boo
 }
 
 // Whether the line closes fenced code in the containers.
-fn is_closing_fence(line: &[u8], count: usize, byte: u8, outer: Outer) -> bool
-    ensures { IsTrue result ↔ In outer.entry.containers.now (ClosesFence count byte) line.now }
+fn is_closing_fence(line: &[u8], count: usize, byte: u8, outer: &Outer) -> bool
+    ensures { IsTrue result ↔ In outer.now (ClosesFence count byte) line.now }
 {
-    let (kept, start) = go_on(line, outer);
-    let (indent, text) = rest_behind(line, start);
-    kept == outer.containers.len() && closes_fence(indent, text, count, byte)
+    let line = Line::new(line, outer);
+    match line.rest_inside() {
+        Some(rest) => closes_fence(rest, count, byte),
+        None => false,
+    }
 }
 
 // The place in a block's first line after its containers.
@@ -233,7 +235,7 @@ fn first_place<'a>(line: &'a [u8], containers: &[Container], kept: usize) -> Lin
     ensures bytes { result.bytes ≡ line.now }
 {
     let (before, begun) = containers.split_at(kept.min(containers.len()));
-    let (_, mut start) = go_on(line, Outer::new(before));
+    let (_, mut start) = go_on(line, &Outer::new(before));
     let mut left = begun.len();
     while left > 0 {
         if !pass_marker(line, &mut start) {
@@ -265,13 +267,13 @@ fn pass_marker(line: &[u8], start: &mut LineStart) -> bool
 }
 
 // The place in a later line of a block after its containers.
-fn later_place<'a>(line: &'a [u8], kind: BlockKind, outer: Outer) -> LineStart<'a>
-    ensures place { result ≡ later_place kind outer.entry.containers.now line.now }
+fn later_place<'a>(line: &'a [u8], kind: BlockKind, outer: &Outer) -> LineStart<'a>
+    ensures place { result ≡ later_place kind outer.now line.now }
     ensures bytes { result.bytes ≡ line.now }
 {
     match kind {
         BlockKind::Indented | BlockKind::Fenced(..) | BlockKind::Html(_) => {
-            place_inside(line, outer.containers)
+            place_inside(line, outer.containers())
         }
         _ => {
             let (_, start) = go_on(line, outer);

@@ -4,17 +4,17 @@ use Rattle.markdown_blocks.proofs.tables.TableLemmas.{no_delimiter, no_head}
 use Rattle.markdown_blocks.proofs.blocks.head_columns.Goals as goal
 
 pub returns-in_default : goal.returns-in_default
-returns-in_default c = no_delimiter c.args.outer.containers.now c.args.words.now c.args.line.now
+returns-in_default c = no_delimiter c.args.line.now.outer c.args.words.now c.args.line.now.bytes
     (rw c.in_default.is at c.in_ok-columns.ensures)
 
 pub returns-then-columns-count_cells : goal.returns-then-columns-count_cells
 returns-then-columns-count_cells c =
-    no_head c.args.outer.containers.now c.args.words.now c.args.line.now c.in-Some.columns (rw c.in-Some.is at c.in_ok-columns.ensures)
+    no_head c.args.line.now.outer c.args.words.now c.args.line.now.bytes c.in-Some.columns (rw c.in-Some.is at c.in_ok-columns.ensures)
     (λ same. absurd (c.if-columns-count_cells.true (sym same ∙ sym c.count_cells.ensures)))
 
 pub returns-then-ends : goal.returns-then-ends
 returns-then-ends c =
-    no_head c.args.outer.containers.now c.args.words.now c.args.line.now c.in-Some.columns (rw c.in-Some.is at c.in_ok-columns.ensures)
+    no_head c.args.line.now.outer c.args.words.now c.args.line.now.bytes c.in-Some.columns (rw c.in-Some.is at c.in_ok-columns.ensures)
     (λ same. c.ends.ensures.0 c.if-ends.true)
 
 pub returns : goal.returns

@@ -4,7 +4,7 @@ use Rattle.markdown_blocks.proofs.blocks.scan_lines.Given as goal
 
 -- none of the lines that are taken ends the paragraph of those before it
 abbrev pub invariant-loop-line : goal.invariant-loop-line
-invariant-loop-line l = Reached l.outer.containers.now l.words l.text l.fn.first l.taken
+invariant-loop-line l = Reached l.outer l.fn.rest.text l.text l.fn.first l.taken
 
 abbrev pub decreases-loop-line : goal.decreases-loop-line
 decreases-loop-line l = length l.text - l.taken.bytes

@@ -9,4 +9,4 @@ pub returns-clause-lent : goal.returns-clause-lent
 returns-clause-lent c = λ parts are run.
     absurd (c.in_default.ensures.none (subst AreOneRun
     (one_list_of_parts c.args.kind c.args.containers.now c.args.kept (lines_of c.args.lines.now) parts
-    (parts_left c.of-parts.result) are c.of-parts.ensures.parts) run))
+    (parts_left c.of-parts.result) are (rw c.new-outer.ensures at c.of-parts.ensures.parts)) run))

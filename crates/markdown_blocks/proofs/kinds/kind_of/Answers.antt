@@ -4,5 +4,5 @@ use Rattle.markdown_blocks.proofs.kinds.kind_of.Goals as goal
 
 pub returns : goal.returns
 returns c =
-    begins_behind c.kind_at.result (record { indent = c.args.indent; text = c.args.text.now })
-    (not_told c.if-is_blank.false (λ t. c.is_blank.ensures ∙ t)) c.if-indent-eq4.false c.kind_at.ensures
+    rw (← c.rest.view_is) (begins_behind c.kind_at.result (record { indent = c.rest.inside.indent; text = c.rest.inside.text.now })
+    (not_told c.if-is_blank.false (λ t. c.is_blank.ensures ∙ t)) c.if-rest-eq4.false c.kind_at.ensures)

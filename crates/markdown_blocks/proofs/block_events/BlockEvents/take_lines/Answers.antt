@@ -1,8 +1,7 @@
 use Rattle.std.proofs.Common.{◌+◌, ◌-◌, refl, sym, ap, ◌∙◌, length, drop, arith}
-use Rattle.markdown_blocks.specs.events.Events.{first_rest}
 use Rattle.markdown_scanners_tree.specs.scanners.TextLines.{lines_of}
 use Rattle.markdown_blocks.proofs.taken.TakenLemmas.{slice_behind}
-use Rattle.markdown_blocks.proofs.block_events.PartLemmas.{first_taken, front_is, lines_few, same_words}
+use Rattle.markdown_blocks.proofs.block_events.PartLemmas.{first_taken, front_is, lines_few}
 use Rattle.markdown_blocks.proofs.block_events.BlockEvents.take_lines.Goals as goal
 
 pub invariant_of-self : goal.invariant_of-self
@@ -33,7 +32,5 @@ returns-clause-rest c =
     let rest = drop c.front_of-taken.result.bytes lines in
     let behind = slice_behind lines c.front_of-taken.result.bytes in
     let f = front_is lines c.args.count c.front_of-taken.result rest refl c.front_of-taken.ensures in
-    let words = same_words (first_rest c.args.containers.now (drop c.args.count (lines_of lines))) c.first_rest-indent.result.0
-    c.first_rest-indent.result.1.now (rw (behind, f.lines_are) at c.first_rest-indent.ensures.indent)
-    (rw (behind, f.lines_are) at c.first_rest-indent.ensures.text) in
+    let words = c.words.view_is ∙ (rw (behind, f.lines_are) at c.first_rest-words.ensures.rest) in
     rw (← c.self.view_is, behind, f.lines_are, words, f.counted, f.bytes_are) refl

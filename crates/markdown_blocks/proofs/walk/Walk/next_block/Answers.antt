@@ -42,9 +42,10 @@ returns-clause-within c =
 pub returns-clause-step : goal.returns-clause-step
 returns-clause-step c = λ more none.
     let one = taken-next c.args.lines.now c.nothing.result c.in-Some.first [] c.in-Some.line.now (c.nothing.ensures c.args.lines.now) c.in-Some.ensures.line in
-    let block = rw (c.new-outer.ensures ∙ c.deref-2.ensures.value) at (c.in_ok-block.ensures c.in-Some.line.now one) in
+    let block = rw (c.new-outer.ensures ∙ c.deref-2.ensures.value, ← c.rest.view_is) at (c.in_ok-block.ensures c.in-Some.line.now one) in
     let over = rw (c.new-outer.ensures ∙ c.deref-2.ensures.value) at (c.is_over.ensures (c.in-Some.line.now ∷ block.later) block.taken) in
-    let opening = rw (c.in_ok-extend_from_slice.ensures.items, c.clear.ensures.items, c.deref.ensures.value) at c.in_ok-opened.ensures.opening in
+    let opening = rw (c.in_ok-extend_from_slice.ensures.items, c.clear.ensures.items, c.deref.ensures.value, ← c.rest.view_is)
+    at c.in_ok-opened.ensures.opening in
     let place = rw (c.in_ok-extend_from_slice.ensures.items, c.clear.ensures.items, c.deref.ensures.value) at c.in_ok-opened.ensures.place in
     let leaf = leaf-more c.open_containers.new.outer.items more c.in_ok-block.block.kind _ block.later _ c.args.has_ended
     (over.0 c.if-not-is_over.false) none block.leaf in
@@ -55,7 +56,7 @@ pub returns-clause-content : goal.returns-clause-content
 returns-clause-content c =
     let one = taken-next c.args.lines.now c.nothing.result c.in-Some.first [] c.in-Some.line.now (c.nothing.ensures c.args.lines.now) c.in-Some.ensures.line in
     let block = c.in_ok-block.ensures c.in-Some.line.now one in
-    rw c.swap.ensures.x_after (content_here c.args.lines.now c.in_ok-opened.opened.text.now c.in_ok-block.block c.open_containers.new.outer.items
+    rw c.swap.ensures.x_after (content_here c.args.lines.now c.rest.inside.text.now c.in_ok-block.block c.open_containers.new.outer.items
     c.in-Some.line.now block.later c.gather_content.new.content.items block.taken
     (rw c.deref-3.ensures.value at (c.in_ok-gather_content.ensures c.in-Some.line.now block.later block.taken)))
 

@@ -1,23 +1,8 @@
-use Rattle.std.proofs.Common.{ℕ, List, [], ◌≡◌, ◌-◌, take, drop, sym, ap, ◌∙◌, subst}
-use Rattle.markdown_scanners_tree.specs.line.State.{LineState}
+use Rattle.std.proofs.Common.{◌-◌, take, drop}
 use Rattle.markdown_scanners_tree.specs.scanners.TextLines.{lines_of}
-use Rattle.markdown_blocks.specs.content.Parts.{AreParts, ArePartsAt, Part, first_place}
 use Rattle.markdown_blocks.specs.content.Seen.{seen_part}
-use Rattle.markdown_blocks.specs.declared.blocks.BlockKind.{BlockKind}
-use Rattle.markdown_blocks.specs.declared.containers.Container.{Container}
-use Rattle.markdown_blocks.specs.declared.taken.Taken.{Taken}
-use Rattle.markdown_blocks.specs.taken.Lines.{IsNext, IsTaken}
 use Rattle.markdown_blocks.proofs.content.parts.FirstLemmas.{by_first, fenced_at, heading_at, lifted, part_in, some_in, text_parts}
 use Rattle.markdown_blocks.proofs.content.parts.Parts.of.Goals as goal
-
--- what holds in these containers, which are those that are given
-given : (lines line : List ℕ) (nothing read : Taken) → ((text : List ℕ) → IsTaken text nothing []) → IsNext lines nothing line read
-    → (kind : BlockKind) (outer containers : List Container) (kept : ℕ) (s : LineState) (parts : List Part) → outer ≡ containers
-    → s ≡ first_place kept containers line → ArePartsAt kind outer s read.bytes (lines_of (drop read.bytes lines)) parts
-    → AreParts kind containers kept (lines_of lines) parts
-given lines line nothing read none n kind outer containers kept s parts same at are =
-    subst (λ o. AreParts kind o kept (lines_of lines) parts) same
-    (by_first lines line nothing read none n kind outer kept s parts (at ∙ ap (λ o. first_place kept o line) (sym same)) are)
 
 pub invariant_of-result : goal.invariant_of-result
 invariant_of-result c = record {
@@ -27,18 +12,18 @@ invariant_of-result c = record {
 
 pub returns-in-Heading-clause-parts : goal.returns-in-Heading-clause-parts
 returns-in-Heading-clause-parts c =
-    given c.args.lines.now c.in-Some.line.now c.nothing.result c.in-Some.read c.nothing.ensures c.in-Some.ensures.line c.args.kind
-    c.new-outer.result.containers.now c.args.containers.now c.args.kept c.first_place-start.result _ c.new-outer.ensures c.first_place-start.ensures.place
-    (heading_at c.args.kind _ c.new-outer.result.containers.now c.first_place-start.result c.in-Some.read.bytes c.in-Some.read.lines
+    by_first c.args.lines.now c.in-Some.line.now c.nothing.result c.in-Some.read c.nothing.ensures c.in-Some.ensures.line c.args.kind
+    c.args.outer.now c.args.kept c.first_place-start.result _ (rw c.containers.ensures at c.first_place-start.ensures.place)
+    (heading_at c.args.kind _ c.args.outer.now c.first_place-start.result c.in-Some.read.bytes c.in-Some.read.lines
     (lines_of (drop c.in-Some.read.bytes c.args.lines.now)) (seen_part c.heading_part.result) c.in-Heading.is c.heading_part.ensures.part)
 
 pub returns-in-Fenced-clause-parts : goal.returns-in-Fenced-clause-parts
 returns-in-Fenced-clause-parts c =
-    given c.args.lines.now c.in-Some.line.now c.nothing.result c.in-Some.read c.nothing.ensures c.in-Some.ensures.line c.args.kind
-    c.new-outer.result.containers.now c.args.containers.now c.args.kept c.first_place-start.result _ c.new-outer.ensures c.first_place-start.ensures.place
-    (fenced_at c.args.kind _ _ c.new-outer.result.containers.now c.first_place-start.result c.rest_behind-indent.result.0 c.in-Some.read.bytes
+    by_first c.args.lines.now c.in-Some.line.now c.nothing.result c.in-Some.read c.nothing.ensures c.in-Some.ensures.line c.args.kind
+    c.args.outer.now c.args.kept c.first_place-start.result _ (rw c.containers.ensures at c.first_place-start.ensures.place)
+    (fenced_at c.args.kind _ _ c.args.outer.now c.first_place-start.result c.scan_space_upto-indent.result c.in-Some.read.bytes
     (lines_of (drop c.in-Some.read.bytes c.args.lines.now)) (take (c.count_inner.result - c.in-Some.read.lines)
-    (lines_of (drop c.in-Some.read.bytes c.args.lines.now))) c.in-Fenced.is c.rest_behind-indent.ensures.indent c.count_inner.ensures)
+    (lines_of (drop c.in-Some.read.bytes c.args.lines.now))) c.in-Fenced.is c.scan_space_upto-indent.ensures.answer c.count_inner.ensures)
 
 pub invariant_of-result-2 : goal.invariant_of-result-2
 invariant_of-result-2 c = record {
@@ -49,9 +34,9 @@ invariant_of-result-2 c = record {
 pub returns-clause-parts : goal.returns-clause-parts
 returns-clause-parts c =
     let k = c.in_default-kind in
-    given c.args.lines.now c.in-Some.line.now c.nothing.result c.in-Some.read c.nothing.ensures c.in-Some.ensures.line c.args.kind
-    c.new-outer.result.containers.now c.args.containers.now c.args.kept c.first_place-start.result _ c.new-outer.ensures c.first_place-start.ensures.place
-    (text_parts c.args.kind c.new-outer.result.containers.now c.first_place-start.result c.in-Some.read.bytes
+    by_first c.args.lines.now c.in-Some.line.now c.nothing.result c.in-Some.read c.nothing.ensures c.in-Some.ensures.line c.args.kind
+    c.args.outer.now c.args.kept c.first_place-start.result _ (rw c.containers.ensures at c.first_place-start.ensures.place)
+    (text_parts c.args.kind c.args.outer.now c.first_place-start.result c.in-Some.read.bytes
     (lines_of (drop c.in-Some.read.bytes c.args.lines.now)) (take (c.count_inner-2.result - c.in-Some.read.lines)
     (lines_of (drop c.in-Some.read.bytes c.args.lines.now))) (seen_part c.text_part.result) k.not-Blank k.not-Break k.not-Heading k.not-Fenced k.not-Table
     c.count_inner-2.ensures c.text_part.ensures.part)

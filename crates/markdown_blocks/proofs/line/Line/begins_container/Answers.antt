@@ -1,0 +1,11 @@
+use Rattle.std.proofs.Common.{◌≡◌, ap, ◌∙◌}
+use Rattle.markdown_blocks.specs.containers.Containers.{Rest}
+use Rattle.markdown_blocks.proofs.containers.ContainerLemmas.{begun_told}
+use Rattle.markdown_blocks.proofs.line.Line.begins_container.Goals as goal
+
+pub returns : goal.returns
+returns c = rw (← c.self.view_is) (
+    let columns = ap (λ (r : Rest). r.indent) (c.rest.view_is ∙ (rw (← c.self.view_is) at c.rest-rest.ensures)) in
+    let same : c.in-Ok.start ≡ c.self.inside.after = c.in-Ok.ensures.cases in
+    c.is_some.ensures ∙ begun_told _ c.in-Ok.start c.scan_container.new.start _ c.scan_container.result columns
+    (same ∙ c.self.invariant.2) c.scan_container.ensures.found c.scan_container.ensures.none)

@@ -1,0 +1,82 @@
+//! A line where containers are open.
+ghost use Rattle.std.specs.Prelude.{◌≡◌, is_some, IfSome, IfNone};
+ghost use Rattle.markdown_blocks.specs.containers.Containers.{begun_at, behind, rest_in, IsInside};
+
+use crate::containers::{Outer, go_on, scan_container};
+use crate::rest::{Rest, scan_rest};
+use markdown_scanners_tree::line::LineStart;
+use std::marker::Model;
+
+/// A line where containers are open. It is led past them once, whatever is asked of it then.
+#[derive(Drop)]
+pub(crate) struct Line<'a> {
+    outer: &'a Outer<'a>,
+    bytes: &'a [u8],
+    is_inside: bool,
+    // What it has after the containers that it goes on with, and the place after the space there.
+    rest: Rest<'a>,
+    after: LineStart<'a>,
+}
+
+impl<'a> Model for Line<'a> {
+    ghost use Rattle.std.specs.Prelude.{◌≡◌, ◌↔◌, IsTrue};
+    ghost use Rattle.markdown_scanners_tree.specs.line.State.{after_space};
+    ghost use Rattle.markdown_blocks.specs.containers.Containers.{Line, behind, rest_in, IsInside};
+
+    ghost Value = { Line };
+
+    ghost view = { λ l. record { outer = l.outer.now; bytes = l.bytes.now } };
+
+    ghost invariant = { λ l.
+        (IsTrue l.is_inside ↔ IsInside l.outer.now l.bytes.now)
+        × (l.rest ≡ rest_in l.outer.now l.bytes.now)
+        × (l.after ≡ after_space 4 (behind l.outer.now l.bytes.now).state)
+        × (l.after.bytes ≡ l.bytes.now) };
+}
+
+impl<'a> Line<'a> {
+    /// The line where these containers are open.
+    pub(crate) fn new(bytes: &'a [u8], outer: &'a Outer<'a>) -> Line<'a>
+        ensures { result ≡ record { outer = outer.now; bytes = bytes.now } }
+    {
+        let (kept, mut start) = go_on(bytes, outer);
+        let rest = scan_rest(bytes, &mut start);
+        Line {
+            outer,
+            bytes,
+            is_inside: kept == outer.count(),
+            rest,
+            after: start,
+        }
+    }
+
+    /// What it has after the containers, if it stands in all of them.
+    pub(crate) fn rest_inside(&self) -> Option<&Rest<'a>>
+        ensures rest { IfSome result (λ rest. rest.now ≡ rest_in self.now.outer self.now.bytes) }
+        ensures inside { IfSome result (λ _. IsInside self.now.outer self.now.bytes) }
+        ensures none { IfNone result (¬ IsInside self.now.outer self.now.bytes) }
+    {
+        if self.is_inside {
+            return Some(&self.rest);
+        }
+        None
+    }
+
+    /// What it has after the containers that it goes on with.
+    pub(crate) fn rest(&self) -> &Rest<'a>
+        ensures { result.now ≡ rest_in self.now.outer self.now.bytes }
+    {
+        &self.rest
+    }
+
+    /// Whether it begins a container after those that it goes on with.
+    pub(crate) fn begins_container(&self) -> bool
+        ensures { result ≡ is_some (begun_at (behind self.now.outer self.now.bytes).state) }
+    {
+        let rest = self.rest();
+        let Ok(mut start) = self.after.clone() else {
+            return false;
+        };
+        scan_container(self.bytes, &mut start, rest.indent).is_some()
+    }
+}
