@@ -5,8 +5,8 @@ ghost use Rattle.markdown_scanners_tree.specs.SomeExactly.{SomeExactly};
 ghost use Rattle.markdown_scanners_tree.specs.scanners.TextLines.{lines_of};
 ghost use Rattle.markdown_blocks.specs.blocks.Leaves.{Begins, IsUnderline, EndsParagraph, ClosesFence, HasIndent};
 ghost use Rattle.markdown_blocks.specs.blocks.Leaves.{In, IsLazy, StopsBefore, StopsBehind, EndsAsHtml, GoesOnIndented};
-ghost use Rattle.markdown_blocks.specs.blocks.Leaves.{IsHead, BeginsNoTable};
-ghost use Rattle.markdown_blocks.specs.blocks.Endings.{IsEnd, IsUnderlineIn};
+ghost use Rattle.markdown_blocks.specs.blocks.Leaves.{IsHead, BeginsNoTable, LeavesBehind};
+ghost use Rattle.markdown_blocks.specs.blocks.Endings.{IsEnd, IsNextLine, IsUnderlineIn};
 ghost use Rattle.markdown_blocks.specs.blocks.Over.{IsOver};
 ghost use Rattle.markdown_blocks.specs.blocks.Pages.{IsBlockOf};
 ghost use Rattle.markdown_blocks.specs.containers.Containers.{behind, IsInside};
@@ -78,6 +78,17 @@ enum Ending {
     Fence(usize, u8),
     // The end condition of an HTML block.
     Html(HtmlBlockKind),
+}
+
+// What a line is to the paragraph before it.
+#[derive(Clone, Copy)]
+enum NextLine {
+    // It goes on with it.
+    GoesOn,
+    // It makes a heading of this level of it.
+    Underlines(HeadingLevel),
+    // It is no part of it.
+    Ends,
 }
 
 /// The block at the front of a text, in these containers, where its first line is taken, and has this
@@ -205,49 +216,61 @@ fn scan_paragraph(
     ensures { IfOk result (λ block. (line : List ℕ) → IsTaken text.now first (line ∷ [])
         → Begins Paragraph rest.now → IsBlockOf text.now outer.now line rest.now block) }
 {
-    if let Some((columns, more)) = scan_head(alloc, text, first, outer, rest)? {
+    let Some((line, second)) = first.next(text) else {
+        return Ok(Block {
+            kind: BlockKind::Paragraph,
+            taken: first,
+        });
+    };
+    let line = Line::new(line, outer);
+    if let Some(columns) = head_columns(alloc, &line, rest.text)? {
         return Ok(Block {
             kind: BlockKind::Table(columns),
-            taken: take_rows(text, more, outer),
+            taken: take_rows(text, second, outer),
         });
     }
-    scan_lines(alloc, text, first, outer, rest)
+    match next_line(alloc, text, first, first, &line, rest.text)? {
+        NextLine::GoesOn => scan_lines(alloc, text, first, second, outer, rest),
+        NextLine::Underlines(level) => Ok(Block {
+            kind: BlockKind::Setext(level),
+            taken: second,
+        }),
+        NextLine::Ends => Ok(Block {
+            kind: BlockKind::Paragraph,
+            taken: first,
+        }),
+    }
 }
 
-// The paragraph or heading whose first line this is, with this after its containers, where it begins no
-// table.
+// The paragraph or heading whose first line this is, with this after its containers, where the second
+// line goes on with it, and it begins no table.
 fn scan_lines<'a>(
     alloc: Global,
     text: &'a [u8],
     first: Taken,
+    second: Taken,
     outer: &'a Outer<'a>,
     rest: &Rest,
 ) -> Result<Block, AllocError>
-    ensures { IfOk result (λ block. (line : List ℕ) → IsTaken text.now first (line ∷ [])
+    ensures { IfOk result (λ block. (line next : List ℕ) → IsTaken text.now first (line ∷ [])
+        → IsNext text.now first next second → ¬ LeavesBehind outer.now rest.now.text [] next
         → Begins Paragraph rest.now
         → BeginsNoTable outer.now rest.now (lines_of (drop first.bytes text.now))
         → IsBlockOf text.now outer.now line rest.now block) }
 {
-    let mut taken = first;
+    let mut taken = second;
     while let Some((line, more)) = taken.next(text) {
         let line = Line::new(line, outer);
-        if !ends(&line, Ending::Paragraph) {
-            taken = more;
-            continue;
+        match next_line(alloc, text, first, taken, &line, rest.text)? {
+            NextLine::GoesOn => taken = more,
+            NextLine::Underlines(level) => {
+                return Ok(Block {
+                    kind: BlockKind::Setext(level),
+                    taken: more,
+                });
+            }
+            NextLine::Ends => break,
         }
-        let Some(underline) = underline_in(&line) else {
-            break;
-        };
-        if has_text(alloc, text, first, taken, outer, rest.text)? {
-            return Ok(Block {
-                kind: BlockKind::Setext(underline.level),
-                taken: more,
-            });
-        }
-        if underline.interrupts {
-            break;
-        }
-        taken = more;
     }
     Ok(Block {
         kind: BlockKind::Paragraph,
@@ -255,27 +278,33 @@ fn scan_lines<'a>(
     })
 }
 
-// Takes the delimiter row behind the first line of a table, which has this after its containers, if one
-// is there. Answers how many columns it has, and what is taken with it.
-fn scan_head(
+// What the line is to the paragraph that is taken. Of that the first line is taken by `first`, and has
+// this text after its containers.
+fn next_line(
     alloc: Global,
     text: &[u8],
     first: Taken,
-    outer: &Outer,
-    rest: &Rest,
-) -> Result<Option<(usize, Taken)>, AllocError>
-    ensures head { IfOk result (λ found. IfSome found (λ r. (line : List ℕ)
-        × IsNext text.now first line r.1 × IsHead outer.now rest.now.text r.0 line)) }
-    ensures none { IfOk result (λ found. IfNone found
-        (BeginsNoTable outer.now rest.now (lines_of (drop first.bytes text.now)))) }
+    taken: Taken,
+    line: &Line,
+    words: &[u8],
+) -> Result<NextLine, AllocError>
+    ensures { IfOk result (λ next. (begin : List ℕ) (later : List (List ℕ))
+        → IsTaken text.now first (begin ∷ []) → IsTaken text.now taken (begin ∷ later)
+        → IsNextLine line.now.outer words.now later line.now.bytes next) }
 {
-    let Some((line, more)) = first.next(text) else {
-        return Ok(None);
+    if !ends(line, Ending::Paragraph) {
+        return Ok(NextLine::GoesOn);
+    }
+    let Some(underline) = underline_in(line) else {
+        return Ok(NextLine::Ends);
     };
-    let Some(columns) = head_columns(alloc, &Line::new(line, outer), rest.text)? else {
-        return Ok(None);
-    };
-    Ok(Some((columns, more)))
+    if has_text(alloc, text, first, taken, line.outer(), words)? {
+        return Ok(NextLine::Underlines(underline.level));
+    }
+    if underline.interrupts {
+        return Ok(NextLine::Ends);
+    }
+    Ok(NextLine::GoesOn)
 }
 
 // How many columns a table has, of which the line is the delimiter row, and the line before it has

@@ -50,6 +50,13 @@ impl<'a> Line<'a> {
         }
     }
 
+    /// The open containers.
+    pub(crate) fn outer(&self) -> &Outer<'a>
+        ensures { result.now ≡ self.now.outer }
+    {
+        self.outer
+    }
+
     /// What it has after the containers, if it stands in all of them.
     pub(crate) fn rest_inside(&self) -> Option<&Rest<'a>>
         ensures rest { IfSome result (λ rest. rest.now ≡ rest_in self.now.outer self.now.bytes) }

@@ -8,7 +8,7 @@ use Rattle.std.proofs.lemmas.List.{append_cancel_left, drop_all, take-append-dro
 use Rattle.markdown_scanners_tree.specs.line.State.{LineState, space_within, after_space}
 use Rattle.markdown_scanners_tree.specs.scanners.TextLines.{ends_line, with_first, lines_of}
 use Rattle.markdown_blocks.proofs.taken.TakenLemmas.{lines_bytes}
-use Rattle.markdown_blocks.specs.containers.Containers.{Rest, begun_behind, begun_at, after_marker}
+use Rattle.markdown_blocks.specs.containers.Containers.{begun_behind, begun_at, after_marker}
 use Rattle.markdown_blocks.specs.declared.containers.Container.{Container}
 use Rattle.markdown_blocks.specs.declared.taken.Taken.{Taken}
 use Rattle.markdown_blocks.specs.events.Events.{first_of}
@@ -72,9 +72,6 @@ front_is text count taken rest is h =
       lines_left = ap length parts ∙ length-append first (lines_of rest) ∙ ap (λ n. n + length (lines_of rest)) (sym h.counted);
       bytes_left = omega (arith, h.within, ap length is, length-drop taken.bytes text);
     }
-
-pub same_words : (r : Rest) (indent : ℕ) (text : List ℕ) → indent ≡ r.indent → text ≡ r.text → record { indent = indent; text = text } ≡ r
-same_words r indent text columns words = rw (columns, words) refl
 
 -- each line has a byte
 pub lines_few : (text : List ℕ) → length (lines_of text) ≤ length text

@@ -99,6 +99,9 @@ module _ (outer : List Container) (words : List ℕ) where
     pub reached-first : Reached first
     reached-first line h = ([], h, tt)
 
+    pub reached-second : (second : Taken) (l : List ℕ) → IsNext text first l second → ¬ LeavesBehind outer words [] l → Reached second
+    reached-second second l n goes line h = (l ∷ [], taken-next text first second (line ∷ []) l h n, (goes, tt))
+
     pub reached-more : (taken more : Taken) (l : List ℕ) → Reached taken → IsNext text taken l more
         → ((line : List ℕ) (later : List (List ℕ)) → IsTaken text first (line ∷ []) → IsTaken text taken (line ∷ later) → ¬ LeavesBehind outer words later l)
         → Reached more

@@ -1,13 +1,12 @@
 -- Cells of a row, read from its front, and lines that are rows.
-use Rattle.std.proofs.Common.{ℕ, ◌+◌, ◌<◌, ◌≤◌, Bool, true, false, IsTrue, List, [], ◌∷◌, length, drop, get_or, Option, Some, None, is_some}
+use Rattle.std.proofs.Common.{ℕ, ◌+◌, ◌<◌, ◌≤◌, Bool, true, false, IsTrue, List, [], ◌∷◌, length, drop, get_or, None}
 use Rattle.std.proofs.Common.{◌≡◌, refl, sym, ap, subst, ◌∙◌, arith}
-use Rattle.std.specs.Prelude.{IfSome}
 use Rattle.std.proofs.lemmas.List.{at_drop_more}
 use mir.Val.{bool_byte}
 use Rattle.markdown_values.specs.declared.values.Alignment.{Alignment}
 use Rattle.markdown_scanners_tree.proofs.ForCallers.{one_row}
-use Rattle.markdown_scanners_tree.specs.line.State.{LineState, space_within, after_space}
-use Rattle.markdown_blocks.specs.containers.Containers.{Rest, rest_at, begun_at, begun_behind, behind, IsInside, rest_in}
+use Rattle.markdown_scanners_tree.specs.line.State.{LineState}
+use Rattle.markdown_blocks.specs.containers.Containers.{Rest, rest_at, begun_at, behind, IsInside, rest_in}
 use Rattle.markdown_blocks.specs.declared.blocks.BlockKind.TheVariants.{Paragraph}
 use Rattle.markdown_blocks.specs.declared.containers.Container.{Container}
 use Rattle.markdown_blocks.specs.blocks.Leaves.{Begins, IsRow, In, IsHead, LeavesParagraph}
@@ -46,18 +45,6 @@ module _ (row : List ℕ) (i before : ℕ) (below : i < length row) (separated :
 pub few_more : (separated : Bool) (count i n : ℕ) → n ≡ bool_byte separated → count ≤ i → count + n ≤ i + 1
 few_more true count i n one few = omega (arith, one, few)
 few_more false count i n one few = omega (arith, one, few)
-
--- a container begins at the place of a line
-pub some_at : (at s t after : LineState) (indent : ℕ) (r : Option Container) → is_some r ≡ true
-    → IfSome r (λ container. begun_behind indent t ≡ Some (container, after)) → indent ≡ space_within 4 s → t ≡ after_space 4 s → s ≡ at
-    → ¬ (begun_at at ≡ None)
-some_at at s t after indent None told found columns is same none = cc
-some_at at s t after indent (Some container) told found columns is same none =
-    let here : begun_at s ≡ None = subst (λ z. begun_at z ≡ None) (sym same) none in
-    let found_none : begun_behind indent t ≡ None =
-    subst (λ n. begun_behind n t ≡ None) (sym columns) (subst (λ z. begun_behind (space_within 4 s) z ≡ None) (sym is) here) in
-    let both : ◌≡◌ {A = Option (Container × LineState)} (Some (container, after)) None = sym found ∙ found_none in
-    cc
 
 -- a test of a line in which none begins
 pub row_told : (outer : List Container) (line : List ℕ) (s : LineState) (rest : Rest) (r : Bool) → s ≡ (behind outer line).state → rest ≡ rest_at s

@@ -67,8 +67,8 @@ module _ (old : List Container) (line : List ℕ) where
   }
     where
       here : begun_at o.place ≡ Some (c, next)
-      here = subst (λ n. begun_behind n (after_space 4 o.place) ≡ Some (c, next)) (ap (λ (r : Rest). r.indent) o.is_rest) (subst (λ z. begun_behind rest.indent z ≡ Some
-          (c, next)) o.state found)
+      here = subst (λ n. begun_behind n (after_space 4 o.place) ≡ Some (c, next)) (ap (λ (r : Rest). r.indent) o.is_rest)
+          (subst (λ z. begun_behind rest.indent z ≡ Some (c, next)) o.state found)
 
   pub opening-done : (now : List Container) (count : ℕ) (rest : Rest) (start : LineState) → Opening old line now count rest start
       → begun_behind rest.indent start ≡ None → IsOpening old line now count rest

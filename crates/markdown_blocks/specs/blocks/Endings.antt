@@ -1,12 +1,16 @@
 -- What a scan for the end of a block looks for in a line.
 use Rattle.std.specs.Prelude.{ℕ, List, IsTrue, ◌↔◌}
+use Rattle.markdown_values.specs.declared.values.HeadingLevel.{HeadingLevel}
 use Rattle.markdown_scanners_tree.specs.scanners.Interrupts.{InterruptsParagraph}
 use Rattle.markdown_blocks.specs.containers.Containers.{Rest, rest_in}
 use Rattle.markdown_blocks.specs.declared.blocks.Ending.{Ending}
 use Rattle.markdown_blocks.specs.declared.blocks.Ending.TheVariants.{Text, Paragraph, Fence, Html}
+use Rattle.markdown_blocks.specs.declared.blocks.NextLine.{NextLine}
+use Rattle.markdown_blocks.specs.declared.blocks.NextLine.TheVariants as next
 use Rattle.markdown_blocks.specs.declared.blocks.Underline.{Underline}
 use Rattle.markdown_blocks.specs.declared.containers.Container.{Container}
-use Rattle.markdown_blocks.specs.blocks.Leaves.{IsBlank, EndsParagraph, ClosesFence, EndsHtml, In, OutOr, IsUnderline, LeavesParagraph}
+use Rattle.markdown_blocks.specs.blocks.Leaves.{IsBlank, EndsParagraph, ClosesFence, EndsHtml, In, OutOr, IsUnderline}
+use Rattle.markdown_blocks.specs.blocks.Leaves.{LeavesParagraph, LeavesBehind, Underlines}
 
 -- what a line has in the open containers where it ends the block
 abbrev pub Ends : Ending → Rest → Type 0
@@ -24,3 +28,10 @@ IsEnd outer ending line = OutOr outer (Ends ending) line
 pub record IsUnderlineIn (outer : List Container) (underline : Underline) (line : List ℕ) : Type 0 where
   pub underlines : In outer (IsUnderline underline.level) line
   pub interrupts : IsTrue underline.interrupts ↔ InterruptsParagraph (rest_in outer line).text
+
+-- what the line is to a paragraph whose first line has this text, with these later lines before it
+abbrev pub IsNextLine : List Container → List ℕ → List (List ℕ) → List ℕ → NextLine → Type 0
+IsNextLine outer text before line next.GoesOn = ¬ LeavesBehind outer text before line
+IsNextLine outer text before line (next.Underlines level) = Underlines outer text before level line
+IsNextLine outer text before line next.Ends =
+    LeavesBehind outer text before line × ((level : HeadingLevel) → ¬ Underlines outer text before level line)

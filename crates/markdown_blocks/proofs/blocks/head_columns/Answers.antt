@@ -18,4 +18,8 @@ returns-then-ends c =
     (λ same. c.ends.ensures.0 c.if-ends.true)
 
 pub returns : goal.returns
-returns c = (not_told c.if-ends.false c.ends.ensures.1, rw c.in-Some.is at c.in_ok-columns.ensures, sym c.count_cells.ensures ∙ sym c.if-columns-count_cells.false)
+returns c = (
+  not_told c.if-ends.false c.ends.ensures.1,
+  rw c.in-Some.is at c.in_ok-columns.ensures,
+  sym c.count_cells.ensures ∙ sym c.if-columns-count_cells.false,
+)

@@ -1,14 +1,42 @@
+use Rattle.std.proofs.Common.{[], ap}
 use Rattle.std.proofs.lemmas.Result.{IfOk-weaker}
-use Rattle.markdown_blocks.proofs.blocks.BlockLemmas.{table_block}
+use Rattle.markdown_blocks.specs.containers.Containers.{Rest}
+use Rattle.markdown_blocks.proofs.blocks.BlockLemmas.{paragraph_block, setext_block, table_block}
+use Rattle.markdown_blocks.proofs.blocks.ParagraphLemmas.{reached-first}
 use Rattle.markdown_blocks.proofs.blocks.scan_paragraph.Goals as goal
 
-pub returns-in-Some : goal.returns-in-Some
-returns-in-Some c = λ line h begins.
-    let head = rw c.in-Some.is at c.in_ok-columns.ensures.head in
-    table_block c.args.text.now c.args.outer.now line c.args.rest.now c.args.first h
-    c.in-Some.columns head.0 c.in-Some.more c.take_rows.result begins head.1 head.2 c.take_rows.ensures
+pub returns-in_default : goal.returns-in_default
+returns-in_default c = λ line h begins.
+    paragraph_block c.args.text.now c.args.outer.now line c.args.rest.now c.args.first h (rw c.in_default.ensures.none tt) begins
+    c.args.first (reached-first c.args.outer.now c.args.rest.now.text c.args.text.now c.args.first)
+    (λ later all. rw c.in_default.ensures.none (tt, tt))
 
-pub returns : goal.returns
-returns c =
-    IfOk-weaker c.scan_lines.result _ _
-    (λ block told line h begins. told line h begins (rw c.in_default.is at c.in_ok-columns.ensures.none)) c.scan_lines.ensures
+pub returns-in-Some-2 : goal.returns-in-Some-2
+returns-in-Some-2 c = λ line h begins.
+    let head = rw (c.in-Some-2.is, c.new-line.ensures, ap (λ (r : Rest). r.text) c.rest.view_is) at c.in_ok-columns.ensures in
+    table_block c.args.text.now c.args.outer.now line c.args.rest.now c.args.first h
+    c.in-Some-2.columns c.in-Some.line.now c.in-Some.second c.take_rows.result begins c.in-Some.ensures.line head c.take_rows.ensures
+
+pub returns-in-GoesOn : goal.returns-in-GoesOn
+returns-in-GoesOn c =
+    let text = ap (λ (r : Rest). r.text) c.rest.view_is in
+    IfOk-weaker c.scan_lines.result _ _ (λ block told line h begins. told line c.in-Some.line.now h c.in-Some.ensures.line
+    (rw (c.in-GoesOn.is, c.new-line.ensures, text) at (c.in_ok-next_line.ensures line [] h h)) begins
+    (rw c.in-Some.ensures.line.parts (rw (c.in_default-2.is, c.new-line.ensures, text) at c.in_ok-columns.ensures))) c.scan_lines.ensures
+
+pub returns-in-Underlines : goal.returns-in-Underlines
+returns-in-Underlines c = λ line h begins.
+    let text = ap (λ (r : Rest). r.text) c.rest.view_is in
+    setext_block c.args.text.now c.args.outer.now line c.args.rest.now c.args.first h
+    (rw c.in-Some.ensures.line.parts (rw (c.in_default-2.is, c.new-line.ensures, text) at c.in_ok-columns.ensures)) begins
+    c.in-Some.line.now c.in-Underlines.level c.args.first c.in-Some.second
+    (reached-first c.args.outer.now c.args.rest.now.text c.args.text.now c.args.first) c.in-Some.ensures.line
+    (λ later all. rw (c.in-Underlines.is, c.new-line.ensures, text) at (c.in_ok-next_line.ensures line later h all))
+
+pub returns-in-Ends : goal.returns-in-Ends
+returns-in-Ends c = λ line h begins.
+    let text = ap (λ (r : Rest). r.text) c.rest.view_is in
+    paragraph_block c.args.text.now c.args.outer.now line c.args.rest.now c.args.first h
+    (rw c.in-Some.ensures.line.parts (rw (c.in_default-2.is, c.new-line.ensures, text) at c.in_ok-columns.ensures)) begins
+    c.args.first (reached-first c.args.outer.now c.args.rest.now.text c.args.text.now c.args.first)
+    (λ later all. rw c.in-Some.ensures.line.parts (rw (c.in-Ends.is, c.new-line.ensures, text) at (c.in_ok-next_line.ensures line later h all)))

@@ -15,7 +15,8 @@ returns-then-not-is_indented c = λ lines h.
 pub loop-line-preserved-else-not-is_indented : goal.loop-line-preserved-else-not-is_indented
 loop-line-preserved-else-not-is_indented c = λ lines h.
     seen-code c.args.outer.now c.args.text.now lines c.loop-line.taken c.loop-line.seen c.in-Some.more c.in-Some.line.now (c.loop-line.invariant lines h)
-    c.in-Some.ensures.line ((rw c.new-line.ensures at c.ends.ensures).0 c.if-ends.true) ((rw c.new-line.ensures at c.is_indented.ensures).0 c.if-not-is_indented.false)
+    c.in-Some.ensures.line ((rw c.new-line.ensures at c.ends.ensures).0 c.if-ends.true)
+    ((rw c.new-line.ensures at c.is_indented.ensures).0 c.if-not-is_indented.false)
 
 pub loop-line-preserved : goal.loop-line-preserved
 loop-line-preserved c = λ lines h.

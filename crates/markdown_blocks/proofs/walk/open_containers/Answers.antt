@@ -24,7 +24,8 @@ loop-container-preserved c =
       grind (arith, columns),
       opening-next c.args.outer.now.items c.args.line.now c.loop-container.outer.items c.push.new.self.items _ c.loop-container.rest
           c.scan_rest-rest-in-Some.result c.loop-container.start c.scan_container.new.start c.scan_rest-rest-in-Some.new.start
-          c.in-Some.container c.loop-container.invariant.2 (rw (ap (λ (r : Rest). r.indent) c.rest.view_is) at c.in-Some.ensures.found) c.in_ok-push.ensures.items c.scan_rest-rest-in-Some.ensures.rest
+          c.in-Some.container c.loop-container.invariant.2 (rw (ap (λ (r : Rest). r.indent) c.rest.view_is) at c.in-Some.ensures.found)
+          c.in_ok-push.ensures.items c.scan_rest-rest-in-Some.ensures.rest
           c.scan_rest-rest-in-Some.ensures.place,
       omega (arith, grown, c.loop-container.invariant.3, c.in-Some.ensures.rises, c.scan_rest-rest-in-Some.ensures.forward),
       c.scan_rest-rest-in-Some.ensures.within,
