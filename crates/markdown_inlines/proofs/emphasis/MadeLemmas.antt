@@ -2,14 +2,14 @@
 use Rattle.std.proofs.Common.{ℕ, suc, zero, Bool, true, false, not, List, [], ◌∷◌, ◌++◌, ◌-◌, ◌<◌, ◌≤◌, ◌≡◌, ◌⊎◌, inl, inr, ◌==◌, min}
 use Rattle.std.proofs.Common.{Option, Some, None, refl, sym, ap, ◌∙◌, subst, arith, append_assoc, if◌then◌else◌, IsTrue}
 use Rattle.std.specs.List.{AllByRecursion}
-use Rattle.std.proofs.lemmas.Bool.{eqb-true}
+use Rattle.std.proofs.lemmas.Bool.{and_parts, eqb-true}
 use Rattle.markdown_inlines.specs.declared.delimiter_runs.DelimiterRun.{DelimiterRun}
 use Rattle.markdown_inlines.specs.declared.emphasis.Delimiters.{Delimiters}
 use Rattle.markdown_inlines.specs.Emphasis.{left, breaks_three, fits, used, made_of, openers_left, closer_left, opener_for, ended_by, ended}
 use Rattle.markdown_inlines.specs.Emphasis.{opened, emphasis_from, emphasis_of}
 use Rattle.markdown_inlines.specs.EmphasisLaws.{IsMade}
 use Rattle.markdown_inlines.proofs.emphasis.EmphasisLemmas.{stepped}
-use Rattle.markdown_inlines.proofs.emphasis.NestLemmas.{all_both, all_of, both_true, nearest_all, opener_some, opened_all, openers_left_all}
+use Rattle.markdown_inlines.proofs.emphasis.NestLemmas.{all_both, all_of, nearest_all, opener_some, opened_all, openers_left_all}
 
 -- what is left of one of the runs, which can open
 record IsFrom (runs : List Delimiters) (o : Delimiters) : Type 0 where
@@ -57,7 +57,7 @@ module _ (seen : List Delimiters) (run : Delimiters) (later : List Delimiters) (
   made_is : (o closer : Delimiters) → IsFrom seen o → IsLeftOf run closer → 0 < left closer → fits closer.run o.run ≡ true
       → IsMade (seen ++ run ∷ later) (made_of o closer)
   made_is o closer f l some fit =
-      let parts = both_true (o.run.byte == closer.run.byte) (not (breaks_three o.run closer.run)) fit in record {
+      let parts = and_parts (o.run.byte == closer.run.byte) (not (breaks_three o.run closer.run)) fit in record {
         before = f.before;
         opener = f.whole;
         between = f.later;

@@ -3,7 +3,7 @@ use Rattle.std.proofs.Common.{ℕ, suc, zero, Bool, true, false, not, List, [], 
 use Rattle.std.proofs.Common.{Option, Some, None, refl, sym, ap, ◌∙◌, subst, arith, if◌then◌else◌}
 use Rattle.std.specs.Prelude.{⊤}
 use Rattle.std.specs.List.{AllByRecursion}
-use Rattle.std.proofs.lemmas.Bool.{cases_eq, eq-eqb, ne_eqb}
+use Rattle.std.proofs.lemmas.Bool.{and_parts, cases_eq, eq-eqb, ne_eqb}
 use Rattle.markdown_inlines.specs.declared.delimiter_runs.DelimiterRun.{DelimiterRun}
 use Rattle.markdown_inlines.specs.declared.emphasis.Delimiters.{Delimiters}
 use Rattle.markdown_inlines.specs.declared.emphasis.Emphasis.{Emphasis}
@@ -34,10 +34,6 @@ nearest_all P c (o ∷ openers) r all is = elim (found_in (fits c o.run) (o, ope
   | inr later ↦ nearest_all P c openers r all.1 later
 ]
 
-pub both_true : (b c : Bool) → (b && c) ≡ true → (b ≡ true) × (c ≡ true)
-both_true true c is = (refl, is)
-both_true false c is = cc
-
 -- what follows from a test whether a number is zero
 if_zero : {X : Type 0} (n : ℕ) (x y : X) → n ≡ 0 → (if n == 0 then x else y) ≡ x
 if_zero n x y none = ap (λ b. if b then x else y) (eq-eqb n 0 none)
@@ -63,7 +59,7 @@ pub opened_all : (P : Delimiters → Type 0) (run : Delimiters) (openers : List 
 opened_all P run openers one all = by_test (run.run.can_open && not (left run == 0)) refl
   where
     by_test : (b : Bool) → (run.run.can_open && not (left run == 0)) ≡ b → AllByRecursion P (if b then run ∷ openers else openers)
-    by_test true is = let both = both_true run.run.can_open (not (left run == 0)) is in (one both.0 (not_zero (left run) both.1), all)
+    by_test true is = let both = and_parts run.run.can_open (not (left run == 0)) is in (one both.0 (not_zero (left run) both.1), all)
     by_test false is = all
 
 pub openers_left_all : (P : Delimiters → Type 0) (o : Delimiters) (count : ℕ) (outer : List Delimiters)
