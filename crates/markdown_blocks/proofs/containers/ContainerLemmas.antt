@@ -80,7 +80,8 @@ plain_on (Item item ∷ cs) s all = by item.begun refl (plain_on cs s)
     by false is later = rw is (ap (λ (b : Behind). record { kept = suc b.kept; state = b.state }) (later (rw is at all)))
 
 -- from a place on, and so behind it
-plain_behind : (plain kept : ℕ) (cs : List Container) → plain ≤ kept → list_all goes_on_blank (drop plain cs) ≡ true → list_all goes_on_blank (drop kept cs) ≡ true
+plain_behind : (plain kept : ℕ) (cs : List Container) → plain ≤ kept → list_all goes_on_blank (drop plain cs) ≡ true
+    → list_all goes_on_blank (drop kept cs) ≡ true
 plain_behind zero zero cs low all = all
 plain_behind zero (suc kept) [] low all = refl
 plain_behind zero (suc kept) (c ∷ cs) low all = plain_behind zero kept cs (omega arith) (by (goes_on_blank c) refl)
