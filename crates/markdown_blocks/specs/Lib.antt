@@ -3,6 +3,7 @@ pub mod containers
 pub mod content
 pub mod definitions
 pub mod events
+pub mod first_blocks
 pub mod info
 pub mod laws
 pub mod lists

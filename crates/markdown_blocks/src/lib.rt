@@ -8,6 +8,7 @@ pub mod containers;
 pub mod content;
 pub mod definitions;
 pub mod events;
+pub mod first_blocks;
 pub mod info;
 mod kinds;
 mod leaf;

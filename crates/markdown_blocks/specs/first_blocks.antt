@@ -1,0 +1,3 @@
+pub mod FirstBlocks
+pub mod Tasks
+pub mod Waiting

@@ -1,0 +1,36 @@
+-- Task list items. (GitHub Flavored Markdown 0.29, section 5.3)
+use Rattle.std.specs.Prelude.{ℕ, List, ◌≡◌, Option, None}
+use Rattle.std.specs.List.{filter_map}
+use Rattle.std.specs.Option.{option_map}
+use Rattle.markdown_scanners_tree.specs.line.ItemRules.{start_of}
+use Rattle.markdown_scanners_tree.specs.line.Outcome.{task_outcome}
+use Rattle.markdown_blocks.specs.declared.blocks.BlockKind.{BlockKind}
+use Rattle.markdown_blocks.specs.declared.blocks.BlockKind.TheVariants.{Paragraph}
+use Rattle.markdown_blocks.specs.declared.containers.Container.{Container}
+use Rattle.markdown_blocks.specs.declared.containers.Container.TheVariants.{Item}
+use Rattle.markdown_blocks.specs.declared.first_blocks.Task.{Task}
+use Rattle.markdown_blocks.specs.events.Events.{LeafBlock, IsEventsOf}
+use Rattle.markdown_blocks.specs.first_blocks.FirstBlocks.{First, firsts_of}
+use Rattle.markdown_blocks.specs.lists.Lists.{Nodes, flatten}
+
+-- The task list marker that a block's text begins with: whether it is checked, how many bytes of the page stand before the text,
+-- and how many bytes of it are the marker.
+abbrev pub task_of : LeafBlock → Option Task
+task_of block =
+    let found = task_outcome (start_of block.text) in
+    option_map (λ checked. record { is_checked = checked; place = block.place; len = found.state.place }) found.answer
+
+-- a task list item is a list item whose first block is a paragraph that begins with a task list marker
+abbrev pub task_in : Container → BlockKind → LeafBlock → Option Task
+task_in (Item item) Paragraph block = task_of block
+task_in container kind block = None
+
+abbrev pub task_at : First → Option Task
+task_at first = task_in first.container first.block.kind first.block
+
+-- the task list markers of a page, in order
+abbrev pub tasks_of : Nodes → List Task
+tasks_of nodes = filter_map task_at (firsts_of nodes)
+
+abbrev pub AreTasksOf : List ℕ → List Task → Type 0
+AreTasksOf page tasks = (nodes : Nodes) × IsEventsOf page (flatten nodes) × (tasks ≡ tasks_of nodes)
