@@ -3,7 +3,9 @@ pub use Rattle.markdown_blocks.proofs.blocks.OneText.{one_piece, one_page}
 pub use Rattle.markdown_blocks.proofs.content.OneContent.{one_content, one_list_of_parts}
 pub use Rattle.markdown_blocks.proofs.definitions.DefinitionLemmas.{one_list_of_definitions}
 pub use Rattle.markdown_blocks.proofs.events.EventLemmas.{one_list_of_events, step_events}
+pub use Rattle.markdown_blocks.proofs.first_blocks.OnePage.{one_list_of_alerts, one_list_of_tasks}
 pub use Rattle.markdown_blocks.proofs.laws.ItemLaw.{list_item, one_list_item, blank_list_item, one_blank_list_item}
 pub use Rattle.markdown_blocks.proofs.laws.QuoteLaw.{block_quote, one_block_quote}
 pub use Rattle.markdown_blocks.proofs.lists.ListLemmas.{page_lists}
 pub use Rattle.markdown_blocks.proofs.lists.PageLemmas.{events_of_nodes, one_list_of_lists}
+pub use Rattle.markdown_blocks.proofs.metadata.OneMetadata.{one_metadata}

@@ -1,2 +1,4 @@
+pub mod AlertLemmas
 pub mod FirstLemmas
+pub mod OnePage
 pub mod TaskLemmas

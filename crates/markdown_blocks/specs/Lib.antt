@@ -7,5 +7,6 @@ pub mod first_blocks
 pub mod info
 pub mod laws
 pub mod lists
+pub mod metadata
 pub mod taken
 pub mod walk

@@ -1,3 +1,4 @@
+pub mod Alerts
 pub mod FirstBlocks
 pub mod Tasks
 pub mod Waiting

@@ -1,6 +1,6 @@
 //! The first blocks of list items and block quotes, and the task list items that they show.
 //! (GitHub Flavored Markdown 0.29, section 5.3)
-ghost use Rattle.std.specs.Prelude.{◌≡◌, ◌∷◌, ◌++◌, List, None, IfOk, OnOk};
+ghost use Rattle.std.specs.Prelude.{◌≡◌, ◌∷◌, ◌++◌, List, None, IfOk};
 ghost use Rattle.std.specs.List.{filter_map};
 ghost use Rattle.std.specs.Option.{option_map, option_to_list};
 ghost use Rattle.markdown_blocks.specs.events.Events.{Event, seen_event};
@@ -12,6 +12,7 @@ ghost use Rattle.markdown_blocks.specs.lists.Lists.{Nodes, flatten};
 use crate::blocks::BlockKind;
 use crate::containers::Container;
 use crate::events::{BlockEvent, Blocks, Leaf};
+use crate::lists::keep;
 use markdown_scanners_tree::line::LineStart;
 use std::alloc::{AllocError, Global};
 use std::marker::Model;
@@ -122,9 +123,7 @@ pub fn tasks_of_page(alloc: Global, page: &[u8]) -> Result<Vec<Task>, AllocError
     let mut firsts = FirstBlocks::new();
     let mut found = Vec::new(alloc);
     while let Some(event) = blocks.next(alloc)? {
-        if let Some(task) = task_read(&mut firsts, event) {
-            found.push(task)?;
-        }
+        keep(&mut found, task_read(&mut firsts, event))?;
     }
     Ok(found)
 }

@@ -2,6 +2,7 @@
 //! Markdown 0.29.
 #![tactic(auto)]
 
+pub mod alerts;
 mod block_events;
 pub mod blocks;
 pub mod containers;
@@ -14,6 +15,7 @@ mod kinds;
 mod leaf;
 mod line;
 pub mod lists;
+pub mod metadata;
 pub mod page_events;
 mod rest;
 mod step;

@@ -286,12 +286,12 @@ pub fn lists_of_page(alloc: Global, page: &[u8]) -> Result<Vec<ListBlock>, Alloc
     Ok(found)
 }
 
-// Keeps the list, if there is one, behind the others.
-fn keep(found: &mut Vec<ListBlock>, list: Option<ListBlock>) -> Result<(), AllocError>
-    ensures { OnOk result (found.new.items ≡ found.old.items ++ option_to_list list) }
+/// Keeps the value, if there is one, after the others.
+pub(crate) fn keep<T: Copy>(found: &mut Vec<T>, value: Option<T>) -> Result<(), AllocError>
+    ensures { OnOk result (found.new.items ≡ found.old.items ++ option_to_list value) }
 {
-    if let Some(list) = list {
-        found.push(list)?;
+    if let Some(value) = value {
+        found.push(value)?;
     }
     Ok(())
 }

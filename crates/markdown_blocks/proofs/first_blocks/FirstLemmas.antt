@@ -1,6 +1,6 @@
 -- Events that are followed one by one show the first blocks of their nodes.
 use Rattle.std.proofs.Common.{ℕ, Bool, true, false, List, [], ◌∷◌, ◌++◌, Option, Some, None, ◌≡◌, if◌then◌else◌}
-use Rattle.std.proofs.Common.{refl, sym, ap, ◌∙◌, subst, append_assoc}
+use Rattle.std.proofs.Common.{refl, sym, ap, ◌∙◌, subst, append_assoc, append-nil}
 use Rattle.std.specs.List.{filter_map}
 use Rattle.std.specs.Option.{option_map, option_to_list}
 use Rattle.markdown_blocks.proofs.events.EventLemmas.{one_list_of_events}
@@ -77,13 +77,9 @@ firsts_found nothing = found_nothing
 firsts_found (leaf_then block nodes) = found_leaf block nodes (firsts_found nodes)
 firsts_found (container_then c place inner nodes) = found_container c place inner nodes (firsts_found inner) (firsts_found nodes)
 
-pub append_nil : {A : Type 0} → (xs : List A) → xs ++ [] ≡ xs
-append_nil [] = refl
-append_nil (x ∷ xs) = ap (λ ys. x ∷ ys) (append_nil xs)
-
 -- the first blocks of a page's nodes
 pub page_firsts : (nodes : Nodes) → firsts_behind None (flatten nodes) ≡ firsts_of nodes
-page_firsts nodes = ap (firsts_behind None) (sym (append_nil (flatten nodes))) ∙ firsts_found nodes None false [] ∙ append_nil (firsts_of nodes)
+page_firsts nodes = ap (firsts_behind None) (sym (append-nil (flatten nodes))) ∙ firsts_found nodes None false [] ∙ append-nil (firsts_of nodes)
 
 -- What a page shows at its first blocks, and what is found of it where these events are left and this container waits for its
 -- first block.
@@ -120,7 +116,7 @@ module _ {A : Type 0} (find : First → Option A) where
   found_at_end page left waiting found so_far none =
       let before = so_far [] none in
       let n = events_of_nodes page before.0 before.1 in
-      (n.0, subst (IsEventsOf page) n.1 before.1, sym (before.2 n.0 n.1 ∙ append_nil found))
+      (n.0, subst (IsEventsOf page) n.1 before.1, sym (before.2 n.0 n.1 ∙ append-nil found))
 
   pub one_shown : (page : List ℕ) (all others : List A) → IsShown page all → IsShown page others → all ≡ others
   one_shown page all others h h' =

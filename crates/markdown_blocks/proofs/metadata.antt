@@ -1,0 +1,2 @@
+pub mod MetadataLemmas
+pub mod OneMetadata

@@ -1,0 +1,29 @@
+-- The metadata block that a page begins with: YAML between `---`, or text between `+++`. (No part of CommonMark.)
+use Rattle.std.specs.Prelude.{ℕ, Bool, ◌+◌, ◌-◌, ◌<◌, ◌==◌, ◌≡◌, List, drop, get_or, if◌then◌else◌}
+use Rattle.markdown_scanners_tree.specs.Ascii.{hyphen, line_feed}
+use Rattle.markdown_scanners_tree.specs.Bytes.{line_length}
+use Rattle.markdown_scanners_tree.specs.scanners.Lines.{next_line}
+use Rattle.markdown_scanners_tree.specs.scanners.Metadata.{IsClosingMetadataBlock, IsMetadataBlock}
+use Rattle.markdown_values.specs.declared.values.MetadataBlockKind.{MetadataBlockKind}
+use Rattle.markdown_values.specs.declared.values.MetadataBlockKind.TheVariants.{YamlStyle, PlusesStyle}
+use Rattle.markdown_blocks.specs.declared.metadata.Metadata.{Metadata}
+
+-- the style of a block that the byte opens
+abbrev pub style_of : ℕ → MetadataBlockKind
+style_of byte = if byte == hyphen then YamlStyle else PlusesStyle
+
+-- A line begins at this place, directly after an LF, that closes a block which the byte opens.
+abbrev pub ClosesAt : List ℕ → ℕ → ℕ → Type 0
+ClosesAt page byte place = (get_or page (place - 1) 0 ≡ line_feed) × (n : ℕ) × IsClosingMetadataBlock (drop place page) byte n
+
+-- The metadata block that a page begins with, of a style that is enabled: its content stands between its first line and the first
+-- line after the next that closes it, and the page's blocks begin after that.
+pub record IsMetadata (page : List ℕ) (yaml pluses : Bool) (m : Metadata) : Type 0 where
+  pub byte : ℕ
+  pub block : IsMetadataBlock page yaml pluses byte
+  pub kind : m.kind ≡ style_of byte
+  pub start : m.start ≡ next_line page
+  pub later : m.start < m.end
+  pub closed : ClosesAt page byte m.end
+  pub first : (place : ℕ) → m.start < place → place < m.end → ¬ ClosesAt page byte place
+  pub len : m.len ≡ m.end + line_length (drop m.end page)

@@ -1,0 +1,80 @@
+//! The metadata block that a page may begin with. (No part of CommonMark.)
+ghost use Rattle.std.specs.Prelude.{◌≡◌, ◌<◌, ◌≤◌, ℕ, length, IfSome, IfNone};
+ghost use Rattle.markdown_scanners_tree.specs.SomeExactly.{SomeExactly};
+ghost use Rattle.markdown_scanners_tree.specs.scanners.Metadata.{IsMetadataBlock};
+ghost use Rattle.markdown_blocks.specs.metadata.Metadata.{ClosesAt, IsMetadata, style_of};
+
+use markdown_scanners_tree::scanners::{
+    scan_closing_metadata_block, scan_line, scan_metadata_block, scan_nextline,
+};
+use markdown_values::values::MetadataBlockKind;
+
+/// The metadata block that a page begins with, in bytes of the page.
+#[derive(Clone, Copy)]
+pub struct Metadata {
+    /// Its style.
+    pub kind: MetadataBlockKind,
+    /// Where its content begins: after its first line.
+    pub start: usize,
+    /// Where its content ends: before the line that closes it.
+    pub end: usize,
+    /// How many bytes it has, both of those lines included.
+    pub len: usize,
+}
+
+/// The metadata block that a page begins with, if one of a style that is enabled stands there.
+///
+/// What stands after its `len` bytes is the rest of the page. It is walked as a page of its own, whose
+/// places and lines are counted from there. No call that walks a page looks for metadata.
+pub fn metadata_of_page(
+    page: &[u8],
+    yaml_style_enabled: bool,
+    pluses_style_enabled: bool,
+) -> Option<Metadata>
+    ensures found { SomeExactly
+        (IsMetadata page.now yaml_style_enabled pluses_style_enabled) result }
+    ensures none { IfNone result ((byte : ℕ)
+        → ¬ IsMetadataBlock page.now yaml_style_enabled pluses_style_enabled byte) }
+    ensures within { IfSome result (λ m.
+        (m.start ≤ m.end) × (m.end ≤ m.len) × (m.len ≤ length page.now)) }
+{
+    let (_, byte) = scan_metadata_block(page, yaml_style_enabled, pluses_style_enabled)?;
+    let start = scan_nextline(page);
+    let end = closing_place(page, start, byte)?;
+    Some(Metadata {
+        kind: style_of(byte),
+        start,
+        end,
+        len: end + scan_line(&page[end..]),
+    })
+}
+
+// The style of a block that the byte opens.
+fn style_of(byte: u8) -> MetadataBlockKind
+    ensures { result ≡ style_of byte }
+{
+    if byte == b'-' {
+        MetadataBlockKind::YamlStyle
+    } else {
+        MetadataBlockKind::PlusesStyle
+    }
+}
+
+// The first place after this one where a line begins that closes a block which the byte opened.
+fn closing_place(page: &[u8], start: usize, byte: u8) -> Option<usize>
+    requires { start ≤ length page.now }
+    ensures found { IfSome result (λ end. (start < end) × ClosesAt page.now byte end) }
+    ensures first { IfSome result (λ end. (place : ℕ) → start < place → place < end
+        → ¬ ClosesAt page.now byte place) }
+    ensures none { IfNone result ((place : ℕ) → start < place → ¬ ClosesAt page.now byte place) }
+    ensures within { IfSome result (λ end. end ≤ length page.now) }
+{
+    let mut place = start;
+    while place < page.len() {
+        place += scan_nextline(&page[place..]);
+        if scan_closing_metadata_block(&page[place..], byte).is_some() {
+            return Some(place);
+        }
+    }
+    None
+}
