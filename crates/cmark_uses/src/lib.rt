@@ -5,6 +5,7 @@ pub mod blocks;
 pub mod contents;
 pub mod definitions;
 pub mod events;
+pub mod extensions;
 pub mod headings;
 pub mod html;
 pub mod labels;

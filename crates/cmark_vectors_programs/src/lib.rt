@@ -8,6 +8,8 @@ mod blocks;
 #[cfg(test)]
 mod events;
 #[cfg(test)]
+mod extensions;
+#[cfg(test)]
 mod inlines;
 #[cfg(test)]
 mod lists;
