@@ -5,7 +5,6 @@ use Rattle.markdown_values.specs.declared.values.BlockQuoteKind.{BlockQuoteKind}
 use Rattle.markdown_scanners_tree.specs.line.ItemRules.{start_of}
 use Rattle.markdown_scanners_tree.specs.line.Outcome.{Outcome, alert_line, alert_outcome, not_found}
 use Rattle.markdown_scanners_tree.specs.line.State.{LineState, bytes_further}
-use Rattle.markdown_blocks.specs.declared.alerts.Alert.{Alert}
 use Rattle.markdown_blocks.specs.events.Events.{LeafBlock}
 use Rattle.markdown_blocks.specs.first_blocks.Alerts.{alert_with}
 
