@@ -10,6 +10,7 @@ pub mod headings;
 pub mod html;
 pub mod labels;
 pub mod lines;
+pub mod link_definitions;
 pub mod links;
 pub mod lists;
 pub mod options;

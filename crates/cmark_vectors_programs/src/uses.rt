@@ -6,6 +6,7 @@ mod headings;
 mod html;
 mod labels;
 mod lines;
+mod link_definitions;
 mod links;
 mod options;
 mod outline;

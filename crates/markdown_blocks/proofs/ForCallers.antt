@@ -6,6 +6,7 @@ pub use Rattle.markdown_blocks.proofs.events.EventLemmas.{one_list_of_events, st
 pub use Rattle.markdown_blocks.proofs.first_blocks.OnePage.{one_list_of_alerts, one_list_of_tasks}
 pub use Rattle.markdown_blocks.proofs.laws.ItemLaw.{list_item, one_list_item, blank_list_item, one_blank_list_item}
 pub use Rattle.markdown_blocks.proofs.laws.QuoteLaw.{block_quote, one_block_quote}
+pub use Rattle.markdown_blocks.proofs.link_definitions.NamedLemmas.{one_list_of_named}
 pub use Rattle.markdown_blocks.proofs.lists.ListLemmas.{page_lists}
 pub use Rattle.markdown_blocks.proofs.lists.PageLemmas.{events_of_nodes, one_list_of_lists}
 pub use Rattle.markdown_blocks.proofs.metadata.OneMetadata.{one_metadata}

@@ -6,6 +6,7 @@ pub mod events
 pub mod first_blocks
 pub mod info
 pub mod laws
+pub mod link_definitions
 pub mod lists
 pub mod metadata
 pub mod taken

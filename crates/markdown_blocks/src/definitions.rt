@@ -23,6 +23,12 @@ pub fn scan_definition(content: &[u8]) -> Option<ReferenceDefinition>
     ensures found { SomeExactly (IsDefinition content.now) result }
     ensures some { IfSome result (λ definition. 0 < definition.len) }
     ensures within { IfSome result (λ definition. definition.len ≤ length content.now) }
+    ensures label { IfSome result (λ d. (0 < d.label.start) × (d.label.start ≤ d.label.end)
+        × (d.label.end < d.destination.start)) }
+    ensures destination { IfSome result (λ d. (d.destination.start ≤ d.destination.end)
+        × (d.destination.end ≤ d.len)) }
+    ensures title { IfSome result (λ d. IfSome d.title (λ title. (title.start ≤ title.end)
+        × (title.end < d.len))) }
 {
     scan_reference_definition(content, 31)
 }

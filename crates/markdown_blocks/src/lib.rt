@@ -14,6 +14,7 @@ pub mod info;
 mod kinds;
 mod leaf;
 mod line;
+pub mod link_definitions;
 pub mod lists;
 pub mod metadata;
 pub mod page_events;

@@ -12,6 +12,7 @@ pub use Rattle.markdown_scanners_tree.proofs.line.PlaceLemmas.{space_forward, al
 pub use Rattle.markdown_scanners_tree.proofs.line.PlaceLemmas.{alert_forward, breaks_stay}
 pub use Rattle.markdown_scanners_tree.proofs.line.RestLemmas.{rest_within}
 pub use Rattle.markdown_scanners_tree.proofs.line.run.StateRunLemmas.{run_at_front, run_in_parts, run_stopped}
+pub use Rattle.markdown_scanners_tree.proofs.linklabel.LabelLengths.{one_label_unskipped}
 pub use Rattle.markdown_scanners_tree.proofs.linklabel.OneLabel.{one_label, one_label_in_bytes}
 pub use Rattle.markdown_scanners_tree.proofs.scanners.Scanned.{same_pieces, thematic_breaks, blank_lines, place_of_rest}
 pub use Rattle.markdown_scanners_tree.proofs.scanners.Scanned.{one_atx_heading, one_blank_line, one_closing_fence, one_closing_metadata, one_code_fence}
@@ -42,6 +43,7 @@ pub ruleset only_answers = (
   one_item,
   one_label,
   one_label_in_bytes,
+  one_label_unskipped,
   one_metadata_block,
   one_quote_start,
   one_reference,

@@ -1,0 +1,257 @@
+-- What the definitions of a page name, and which of them a label finds.
+use Rattle.std.proofs.Common.{ℕ, List, [], ◌∷◌, ◌++◌, ◌≡◌, ◌⊎◌, inl, inr, Option, Some, None, drop, take, cond, false, Bool, true}
+use Rattle.std.proofs.Common.{refl, sym, ap, ◌∙◌, subst, append_assoc, string_bytes}
+use Rattle.std.specs.Prelude.{map, is_some, if◌then◌else◌}
+use Rattle.std.specs.Map.{lookup, update}
+use Rattle.std.specs.Ordering.{is_eq, nat_cmp}
+use Rattle.std.specs.Str.{IsUtf8, bytes_eq}
+use Rattle.std.specs.declared.string.String.{String}
+use Rattle.std.specs.Cmp.Lexicographic.{slice_cmp}
+use Rattle.std.proofs.lemmas.Bool.{cases_Bool}
+use Rattle.std.proofs.lemmas.Map.Text.{is_eq-slice_cmp}
+use Rattle.std.proofs.lemmas.Slice.Eq.{bytes_eq-Decides}
+use Rattle.std.proofs.lemmas.List.{drop_at}
+use Rattle.markdown_scanners_tree.specs.scanners.TextLines.{lines_of}
+use Rattle.markdown_scanners_tree.specs.declared.scanners.reference_definitions.ReferenceDefinition.{ReferenceDefinition}
+use Rattle.markdown_scanners_tree.specs.linklabel.Key.{key_bytes}
+use Rattle.markdown_scanners_tree.specs.linklabel.Label.{Label, IsLabel, IsLabelInBytes}
+use Rattle.markdown_scanners_tree.specs.NoSkips.{SkipsNothing}
+use Rattle.markdown_scanners_tree.proofs.ForCallers.{one_label_unskipped}
+use Rattle.markdown_blocks.specs.blocks.Pages.{Piece, IsPage, IsPiece, AreBlocks, lines_in}
+use Rattle.markdown_blocks.specs.containers.Containers.{Rest}
+use Rattle.markdown_blocks.specs.declared.containers.Container.{Container}
+use Rattle.markdown_blocks.specs.declared.step.Step.{Step}
+use Rattle.markdown_blocks.specs.definitions.Content.{content_in}
+use Rattle.markdown_blocks.specs.definitions.Definitions.{AreDefinitions, IsDefinition}
+use Rattle.markdown_blocks.specs.events.Events.{piece_content}
+use Rattle.markdown_blocks.specs.walk.Walk.{IsStep, IsGathered, IsContentOf}
+use Rattle.markdown_blocks.specs.link_definitions.LinkDefinitions.{Target, Named, Known, Names, IsNamed, AreNamed, AreNamedIn, HasDefinitions}
+use Rattle.markdown_blocks.specs.link_definitions.LinkDefinitions.{do_match, first_of, known_as, known_before, target_of}
+use Rattle.markdown_blocks.proofs.definitions.DefinitionLemmas.{no_text, one_list_of_definitions}
+use Rattle.markdown_blocks.proofs.blocks.OneText.{one_page}
+
+-- ---- what a label finds
+
+pub none_later : (known : Known) (label : List ℕ) → known_as known label ≡ known_before known [] label
+none_later known label = at (known_as known label)
+  where
+    at : (found : Option Target) → found ≡ elim found [ Some target ↦ Some target | None ↦ first_of label [] ]
+    at (Some target) = refl
+    at None = refl
+
+-- the first of two
+abbrev first : Option Target → Option Target → Option Target
+first one other = elim one [ Some target ↦ Some target | None ↦ other ]
+
+first_of_both : (label : List ℕ) (here later : List Named) → first_of label (here ++ later) ≡ first (first_of label here) (first_of label later)
+first_of_both label [] later = refl
+first_of_both label (named ∷ here) later = elim (cases_Bool (do_match label named.label)) [
+  | inl same ↦ rw same refl
+  | inr other ↦ rw other (first_of_both label here later)
+]
+
+first_of_three : (one two three : Option Target) → first (first one two) three ≡ first one (first two three)
+first_of_three (Some target) two three = refl
+first_of_three None two three = refl
+
+-- where some are added, they stand before the later ones
+pub added_before : (old new : Known) (here later : List Named) (label : List ℕ)
+    → known_as new label ≡ known_before old here label → known_before new later label ≡ known_before old (here ++ later) label
+added_before old new here later label added =
+    ap (λ found. first found (first_of label later)) added
+    ∙ first_of_three (known_as old label) (first_of label here) (first_of label later)
+    ∙ ap (λ found. first (known_as old label) found) (sym (first_of_both label here later))
+
+-- the labels match that have one key
+same_key : (one other : List ℕ) → bytes_eq one other ≡ true → one ≡ other
+same_key one other same = (bytes_eq-Decides one other).0 same
+
+key_itself : (key : List ℕ) → bytes_eq key key ≡ true
+key_itself key = (bytes_eq-Decides key key).1 refl
+
+-- a map that is seen as the definitions that are known finds the same
+pub found_by_text : {Y : Type 0} (es : List (String Y × Target)) (key : List ℕ)
+    → lookup (λ k. is_eq (slice_cmp nat_cmp key (string_bytes k))) es ≡ lookup (bytes_eq key) (map (λ e. (string_bytes e.0, e.1)) es)
+found_by_text [] key = refl
+found_by_text (e ∷ es) key =
+    rw (is_eq-slice_cmp key (string_bytes e.0)) (ap (λ found. cond (bytes_eq key (string_bytes e.0)) (Some e.1) found) (found_by_text es key))
+
+-- a label that is known leads nowhere else
+pub already_known : (known : Known) (label : List ℕ) (target : Target) → is_some (known_as known label) ≡ true
+    → (asked : List ℕ) → known_as known asked ≡ known_before known (record { label = label; target = target } ∷ []) asked
+already_known known label target there asked = elim (cases_Bool (bytes_eq (key_bytes asked) (key_bytes label))) [
+  | inl same ↦ (
+      let one : known_as known asked ≡ known_as known label =
+      ap (λ key. lookup (bytes_eq key) known) (same_key (key_bytes asked) (key_bytes label) same) in
+      is_first (known_as known asked) _ (ap is_some one ∙ there)
+      )
+  | inr other ↦ none_later known asked ∙ ap (λ b. first (known_as known asked) (cond b (Some target) None)) (sym other)
+]
+  where
+    is_first : (found other : Option Target) → is_some found ≡ true → found ≡ first found other
+    is_first (Some found) other some = refl
+    is_first None other some = cc
+
+-- a label that is added leads to its target
+pub newly_known : (old new : Known) (label : List ℕ) (target : Target) → known_as old label ≡ None
+    → ((key : List ℕ) → lookup (bytes_eq key) new ≡ cond (bytes_eq (key_bytes label) key) (Some target) (lookup (bytes_eq key) old))
+    → (asked : List ℕ) → known_as new asked ≡ known_before old (record { label = label; target = target } ∷ []) asked
+newly_known old new label target none added asked = elim (cases_Bool (bytes_eq (key_bytes label) (key_bytes asked))) [
+  | inl same ↦ (
+      let one : key_bytes label ≡ key_bytes asked = same_key (key_bytes label) (key_bytes asked) same in
+      let itself : bytes_eq (key_bytes asked) (key_bytes label) ≡ true = (bytes_eq-Decides (key_bytes asked) (key_bytes label)).1 (sym one) in
+      let nothing : known_as old asked ≡ None = ap (λ key. lookup (bytes_eq key) old) (sym one) ∙ none in
+      added (key_bytes asked) ∙ ap (λ b. cond b (Some target) (known_as old asked)) same ∙ ap (λ b. cond b (Some target) None) (sym itself)
+      ∙ ap (λ found. first found (cond (do_match asked label) (Some target) None)) (sym nothing)
+      )
+  | inr other ↦ (
+      let apart : bytes_eq (key_bytes asked) (key_bytes label) ≡ false =
+      not_same _ (λ same. true_not_false (sym ((bytes_eq-Decides (key_bytes label) (key_bytes asked)).1
+      (sym (same_key (key_bytes asked) (key_bytes label) same))) ∙ other)) in
+      added (key_bytes asked) ∙ ap (λ b. cond b (Some target) (known_as old asked)) other ∙ none_later old asked
+      ∙ ap (λ b. first (known_as old asked) (cond b (Some target) None)) (sym apart)
+      )
+]
+  where
+    true_not_false : true ≡ false → ⊥
+    true_not_false e = cc
+
+    not_same : (b : Bool) → (b ≡ true → ⊥) → b ≡ false
+    not_same false apart = refl
+    not_same true apart = absurd (apart refl)
+
+pub none_found : (found : Option Target) → is_some found ≡ false → found ≡ None
+none_found None none = refl
+none_found (Some target) none = cc
+
+-- ---- the definitions of a text
+
+-- the label at the front of a text, where it is UTF-8
+abbrev HasLabel : List ℕ → ReferenceDefinition → List ℕ → Type 0
+HasLabel text d bytes = (label : Label) × IsLabelInBytes SkipsNothing (drop d.label.start text) false label × (label.text ≡ bytes)
+
+pub is_named : (text : List ℕ) (d : ReferenceDefinition) (bytes : List ℕ) (target : Target) → HasLabel text d bytes
+    → target ≡ target_of text d → IsNamed text d (record { label = bytes; target = target } ∷ [])
+is_named text d bytes target found is = record {
+  label = found.0;
+  is_label = found.1.0;
+  named_is = inl (
+    found.1.1,
+    ap (λ t. record { label = bytes; target = t } ∷ []) is
+        ∙ ap (λ b. record { label = b; target = target_of text d } ∷ []) (sym found.2),
+  );
+}
+
+pub unnamed : (text : List ℕ) (d : ReferenceDefinition) → IsDefinition text d → ((bytes : List ℕ) → ¬ HasLabel text d bytes) → IsNamed text d []
+unnamed text d is none =
+    let named = is.target.is_named in
+    let label : Label = named.is_label.label in
+    let inside : named.inside ≡ drop d.label.start text =
+    sym (ap (λ n. drop n text) is.target.label_begins ∙ ap (drop 1) named.opens) in
+    let here : IsLabel SkipsNothing (drop d.label.start text) false label =
+    subst (λ s. IsLabel SkipsNothing s false label) inside named.is_label.is_label in
+    record { label = label; is_label = here; named_is = inr (λ utf8. none label.text (label, (here, utf8), refl), refl) }
+
+pub front_named : (text : List ℕ) (d : ReferenceDefinition) (here later : List Named)
+    → IsDefinition text d → IsNamed text d here → Names (drop d.len text) later → Names text (here ++ later)
+front_named text d here later is named more = record {
+  definitions = d ∷ more.definitions;
+  rest = more.rest;
+  are_definitions = (is, more.are_definitions);
+  are_named = (here, later, named, more.are_named, refl);
+}
+
+pub none_named : (text : List ℕ) → ((d : ReferenceDefinition) → ¬ IsDefinition text d) → Names text []
+none_named text none = record { definitions = []; rest = text; are_definitions = (refl, none); are_named = refl }
+
+-- what is gathered of a content has its definitions
+gathered_named : (content gathered : List ℕ) (named : List Named) → IsGathered content gathered → Names gathered named → Names content named
+gathered_named content gathered named (inl whole) names = subst (λ t. Names t named) whole names
+gathered_named content gathered named (inr plain) names = at names.definitions names.are_definitions names.are_named
+  where
+    at : (ds : List ReferenceDefinition) → AreDefinitions gathered ds names.rest → AreNamed gathered ds named → Names content named
+    at [] are none = subst (λ ns. Names content ns) (sym none) (none_named content plain.1)
+    at (d ∷ ds) are some = absurd (no_text d (subst (λ t. IsDefinition t d) plain.0 are.0))
+
+-- ---- the definitions of a page
+
+-- what the blocks name that are left, where these containers are open
+pub record Left (open_now : List Container) (text : List ℕ) (named : List Named) : Type 0 where
+  pub pieces : List Piece
+  pub joined : lines_in pieces ≡ lines_of text
+  pub each : AreBlocks open_now pieces []
+  pub are_named : AreNamedIn pieces named
+
+pub none_left : (open_now : List Container) (text : List ℕ) → text ≡ [] → Left open_now text []
+none_left open_now text last = record { pieces = []; joined = sym (ap lines_of last); each = tt; are_named = refl }
+
+pub whole_page : (page : List ℕ) (named : List Named) → Left [] page named → HasDefinitions page named
+whole_page page named left = record {
+  pieces = left.pieces;
+  is_page = record { joined = left.joined; each = left.each };
+  are_named = left.are_named;
+}
+
+pub block_named : (old new : List Container) (lines : List ℕ) (step : Step) (content : List ℕ) (here later : List Named)
+    → IsStep old lines [] step new → IsContentOf step new content → Names content here
+    → Left new (drop step.block.taken.bytes lines) later → Left old lines (here ++ later)
+block_named old new lines step content here later s c names left =
+    let gathered : IsGathered (piece_content s.piece) content =
+    subst (λ (w : Rest). IsGathered (content_in s.piece.kind (s.piece.kept ++ s.piece.begun) w.text s.piece.later) content) (sym s.words)
+    (subst (λ k. IsGathered (content_in k (s.piece.kept ++ s.piece.begun) step.text.now s.piece.later) content) (sym s.kind)
+    (subst (λ cs. IsGathered (content_in step.block.kind cs step.text.now s.piece.later) content) s.open_now
+    (c s.piece.first s.piece.later s.all))) in
+    record {
+      pieces = s.piece ∷ left.pieces;
+      joined = ap (λ ls. (s.piece.first ∷ s.piece.later) ++ ls) left.joined ∙ sym s.taken.parts;
+      each = (
+        subst (λ ls. IsPiece old s.piece (ls ++ [])) (sym left.joined) s.is_piece,
+        subst (λ cs. AreBlocks cs left.pieces []) s.open_now left.each,
+      );
+      are_named = (here, later, gathered_named (piece_content s.piece) content here gathered names, left.are_named, refl);
+    }
+
+-- ---- a page has one list of definitions
+
+one_named_front : (text : List ℕ) (d : ReferenceDefinition) (named others : List Named) → IsNamed text d named → IsNamed text d others → named ≡ others
+one_named_front text d named others is is' = at is.named_is is'.named_is
+  where
+    source : List ℕ
+    source = drop d.label.start text
+
+    label : is.label ≡ is'.label
+    label = one_label_unskipped source is.label is'.label is.is_label is'.is_label
+
+    Either : Label → List Named → Type 0
+    Either l ns = (IsUtf8 (take l.len source) × (ns ≡ record { label = l.text; target = target_of text d } ∷ []))
+        ⊎ ((¬ IsUtf8 (take l.len source)) × (ns ≡ []))
+
+    at : Either is.label named → Either is'.label others → named ≡ others
+    at (inl found) (inl found') =
+        found.1 ∙ ap (λ (l : Label). record { label = l.text; target = target_of text d } ∷ []) label ∙ sym found'.1
+    at (inl found) (inr none) = absurd (none.0 (subst (λ (l : Label). IsUtf8 (take l.len source)) label found.0))
+    at (inr none) (inl found) = absurd (none.0 (subst (λ (l : Label). IsUtf8 (take l.len source)) (sym label) found.0))
+    at (inr none) (inr none') = none.1 ∙ sym none'.1
+
+one_named : (text : List ℕ) (ds : List ReferenceDefinition) (named others : List Named) → AreNamed text ds named → AreNamed text ds others
+    → named ≡ others
+one_named text [] named others are are' = are ∙ sym are'
+one_named text (d ∷ ds) named others are are' =
+    are.4 ∙ ap (λ here. here ++ are.1) (one_named_front text d are.0 are'.0 are.2 are'.2)
+    ∙ ap (λ later. are'.0 ++ later) (one_named (drop d.len text) ds are.1 are'.1 are.3 are'.3) ∙ sym are'.4
+
+one_names : (content : List ℕ) (named others : List Named) → Names content named → Names content others → named ≡ others
+one_names content named others is is' =
+    let same = one_list_of_definitions content is.definitions is'.definitions is.rest is'.rest is.are_definitions is'.are_definitions in
+    one_named content is'.definitions named others (subst (λ ds. AreNamed content ds named) same.0 is.are_named) is'.are_named
+
+one_named_in : (pieces : List Piece) (named others : List Named) → AreNamedIn pieces named → AreNamedIn pieces others → named ≡ others
+one_named_in [] named others are are' = are ∙ sym are'
+one_named_in (piece ∷ pieces) named others are are' =
+    are.4 ∙ ap (λ here. here ++ are.1) (one_names (piece_content piece) are.0 are'.0 are.2 are'.2)
+    ∙ ap (λ more. are'.0 ++ more) (one_named_in pieces are.1 are'.1 are.3 are'.3) ∙ sym are'.4
+
+pub one_list_of_named : (page : List ℕ) (named others : List Named) → HasDefinitions page named → HasDefinitions page others → named ≡ others
+one_list_of_named page named others h h' =
+    let same = one_page [] h.pieces h'.pieces (h.is_page.joined ∙ sym h'.is_page.joined) h.is_page.each h'.is_page.each in
+    one_named_in h'.pieces named others (subst (λ ps. AreNamedIn ps named) same h.are_named) h'.are_named

@@ -1,0 +1,266 @@
+//! Which link reference definition of a page a label finds. (CommonMark 0.31.2, sections 4.7 and 6.3)
+ghost use Rattle.std.specs.Prelude.{◌≡◌, ◌<◌, ◌≤◌, [], ◌∷◌, false, List, ℕ, length, drop, option_map, is_none, IfOk, IfErr, IfSome, OnOk, Some, string_bytes};
+ghost use Rattle.std.specs.Cow.{cow_slice_items};
+ghost use Rattle.std.specs.Option.{option_copied};
+ghost use Rattle.markdown_values.specs.strings.Text.{cow_text};
+ghost use Rattle.markdown_scanners_tree.specs.NoSkips.{SkipsNothing};
+ghost use Rattle.markdown_scanners_tree.specs.SomeExactly.{SomeExactly};
+ghost use Rattle.markdown_scanners_tree.specs.linklabel.Key.{key_bytes};
+ghost use Rattle.markdown_scanners_tree.specs.linklabel.Label.{Label, IsLabelInBytes};
+ghost use Rattle.markdown_blocks.specs.definitions.Definitions.{IsDefinition};
+ghost use Rattle.markdown_blocks.specs.link_definitions.LinkDefinitions.{Named, Target, Known, HasDefinitions, Names, IsNamed};
+ghost use Rattle.markdown_blocks.specs.link_definitions.LinkDefinitions.{AreAddedUpTo, first_of, known_as, known_before, slice, target_of};
+
+use crate::definitions::scan_definition;
+use crate::walk::Walk;
+use caseless::default_case_fold_str;
+use markdown_scanners_tree::linklabel::scan_link_label_bytes;
+use markdown_scanners_tree::scanners::{ReferenceDefinition, scan_line};
+use markdown_values::strings::CowStr;
+use std::alloc::{AllocError, Global};
+use std::borrow::CowSlice;
+use std::collections::BTreeMap;
+use std::marker::Model;
+use std::ops::Range;
+
+/// Where a link reference definition leads. Its texts are as they are written: `unescape` decodes
+/// their backslash escapes and character references. They are lent from the page where they are
+/// one run of it, and else, as a title over the lines of a block quote, have memory of their own.
+#[derive(Drop)]
+pub struct LinkDefinition<'a> {
+    destination: CowSlice<'a, u8>,
+    title: Option<CowSlice<'a, u8>>,
+}
+
+impl<'a> Model for LinkDefinition<'a> {
+    ghost Value = { Target };
+
+    ghost view = { λ d. record {
+      destination = cow_slice_items d.destination;
+      title = option_map cow_slice_items d.title;
+    } };
+}
+
+impl<'a> LinkDefinition<'a> {
+    /// Its destination, without the angle brackets that it may have.
+    pub fn destination(&self) -> &[u8]
+        ensures { result.now ≡ self.now.destination }
+    {
+        self.destination.as_slice()
+    }
+
+    /// Its title, without the quotes or parentheses around it.
+    pub fn title(&self) -> Option<&[u8]>
+        ensures { option_map (λ title. title.now) result ≡ self.now.title }
+    {
+        match &self.title {
+            Some(title) => Some(title.as_slice()),
+            None => None,
+        }
+    }
+}
+
+/// The link reference definitions that are known, by their labels: of each label the first.
+///
+/// They are kept in the order of their case foldings, so that neither labels that are many nor
+/// labels that are made to collide take more than a search in a tree.
+#[derive(Drop)]
+pub struct LinkDefinitions<'a> {
+    alloc: Global,
+    by_key: BTreeMap<String, LinkDefinition<'a>>,
+}
+
+impl<'a> Model for LinkDefinitions<'a> {
+    ghost use Rattle.std.specs.Prelude.{map, string_bytes};
+    ghost use Rattle.markdown_blocks.specs.link_definitions.LinkDefinitions.{Known};
+
+    ghost Value = { Known };
+
+    ghost view = { λ d. map (λ e. (string_bytes e.0, e.1)) d.by_key.entries };
+}
+
+impl<'a> LinkDefinitions<'a> {
+    /// None.
+    pub fn new(alloc: Global) -> LinkDefinitions<'a>
+        ensures none { result ≡ [] }
+    {
+        LinkDefinitions {
+            alloc,
+            by_key: BTreeMap::new(alloc),
+        }
+    }
+
+    /// Those of a page, in one pass over it.
+    pub fn of_page(alloc: Global, page: &'a [u8]) -> Result<LinkDefinitions<'a>, AllocError>
+        ensures first { IfOk result (λ known. (named : List Named) × HasDefinitions page.now named
+            × ((label : List ℕ) → known_as known label ≡ first_of label named)) }
+    {
+        let mut known = LinkDefinitions::new(alloc);
+        let mut walk = Walk::new(alloc);
+        let mut content = Vec::new(alloc);
+        let mut before = 0;
+        while let Some(step) = walk.next_block(alloc, &mut content, &page[before..], true)? {
+            known.add_content(&content, step.lines)?;
+            before += step.block.taken.bytes;
+        }
+        Ok(known)
+    }
+
+    /// The first definition whose label matches this one, if there is one. The label is as
+    /// `scan_link_label_rest` reads it, with each run of white space as one space.
+    ///
+    /// Memory is asked for the label's case folding.
+    pub fn get(&self, label: &str) -> Result<Option<&LinkDefinition<'a>>, AllocError>
+        ensures { IfOk result (λ found. option_copied found ≡ known_as self.now label.now) }
+    {
+        let key = key_of(self.alloc, label)?;
+        Ok(self.by_key.get(key.as_str()))
+    }
+
+    /// Adds the definition of a label, unless the label has one. Answers whether it is added. The
+    /// label is as `get` has it.
+    pub fn add(&mut self, label: &str, definition: LinkDefinition<'a>) -> Result<bool, AllocError>
+        ensures added { OnOk result ((asked : List ℕ) → known_as self.new asked
+            ≡ known_before self.old (record { label = label.now; target = definition.entry } ∷ []) asked) }
+        ensures is_first { IfOk result (λ is_added.
+            is_added ≡ is_none (known_as self.old label.now)) }
+        ensures refused { IfErr result (λ _. self.new ≡ self.old) }
+    {
+        let key = key_of(self.alloc, label)?;
+        if self.by_key.contains_key(key.as_str()) {
+            return Ok(false);
+        }
+        self.by_key.insert(key, definition)?;
+        Ok(true)
+    }
+
+    /// Adds the definitions that a block's content begins with, in order. The content is as
+    /// `Walk::next_block` and `definitions::add_content` gather it from these lines.
+    ///
+    /// After a refusal some of them are added. To add them all again then is no different from
+    /// adding them at first.
+    pub fn add_content(&mut self, content: &[u8], lines: &'a [u8]) -> Result<(), AllocError>
+        ensures added { OnOk result ((named : List Named) × Names content.now named
+            × ((asked : List ℕ) → known_as self.new asked ≡ known_before self.old named asked)) }
+        ensures refused { IfErr result (λ _. (place : ℕ)
+            × AreAddedUpTo place content.now self.old self.new) }
+    {
+        let mut used = 0;
+        let mut rest = lines;
+        while let Some(definition) = scan_definition(&content[used..]) {
+            let text = &content[used..];
+            self.add_first(text, &definition, rest)?;
+            rest = place_in(rest, text, definition.len);
+            used += definition.len;
+        }
+        Ok(())
+    }
+
+    // Adds the definition at the front of the text, which is the content of these lines.
+    fn add_first(
+        &mut self,
+        text: &[u8],
+        definition: &ReferenceDefinition,
+        lines: &'a [u8],
+    ) -> Result<(), AllocError>
+        requires definition { IsDefinition text.now definition.now }
+        requires within { definition.now.len ≤ length text.now }
+        requires destination { (definition.now.destination.start ≤ definition.now.destination.end)
+            × (definition.now.destination.end ≤ definition.now.len) }
+        requires title { IfSome definition.now.title (λ title. (title.start ≤ title.end)
+            × (title.end < definition.now.len)) }
+        ensures added { OnOk result ((named : List Named) × IsNamed text.now definition.now named
+            × ((asked : List ℕ) → known_as self.new asked ≡ known_before self.old named asked)) }
+        ensures refused { IfErr result (λ _. self.new ≡ self.old) }
+    {
+        let Some(label) = read_label(self.alloc, &text[definition.label.start..])? else {
+            return Ok(());
+        };
+        let target = read_target(self.alloc, text, definition, lines)?;
+        self.add(label.as_str(), target)?;
+        Ok(())
+    }
+}
+
+// The case folding of a label.
+fn key_of(alloc: Global, label: &str) -> Result<String, AllocError>
+    ensures { IfOk result (λ key. string_bytes key ≡ key_bytes label.now) }
+{
+    default_case_fold_str(alloc, label)
+}
+
+// The label behind the bracket that opened it, if it is UTF-8.
+fn read_label<'t>(alloc: Global, text: &'t [u8]) -> Result<Option<CowStr<'t>>, AllocError>
+    ensures { IfOk result (λ found. SomeExactly (λ bytes. (label : Label)
+        × IsLabelInBytes SkipsNothing text.now false label × (label.text ≡ bytes))
+        (option_map cow_text found)) }
+{
+    let skips_nothing = |_rest: &[u8]| -> Option<usize>
+        ensures { result ≡ Some 0 }
+    { Some(0) };
+    match scan_link_label_bytes(alloc, text, &skips_nothing, false)? {
+        Some((_, label)) => Ok(Some(label)),
+        None => Ok(None),
+    }
+}
+
+// Where the definition at the front of the text leads.
+fn read_target<'a>(
+    alloc: Global,
+    text: &[u8],
+    definition: &ReferenceDefinition,
+    lines: &'a [u8],
+) -> Result<LinkDefinition<'a>, AllocError>
+    requires within { definition.now.len ≤ length text.now }
+    requires destination { (definition.now.destination.start ≤ definition.now.destination.end)
+        × (definition.now.destination.end ≤ definition.now.len) }
+    requires title { IfSome definition.now.title (λ title. (title.start ≤ title.end)
+        × (title.end < definition.now.len)) }
+    ensures { IfOk result (λ target. target ≡ target_of text.now definition.now) }
+{
+    let destination = read_range(alloc, text, &definition.destination, lines)?;
+    let title = match &definition.title {
+        Some(title) => Some(read_range(alloc, text, title, lines)?),
+        None => None,
+    };
+    Ok(LinkDefinition { destination, title })
+}
+
+// The text in the range, lent from the lines where it stands in them.
+fn read_range<'a>(
+    alloc: Global,
+    text: &[u8],
+    range: &Range<usize>,
+    lines: &'a [u8],
+) -> Result<CowSlice<'a, u8>, AllocError>
+    requires begins { range.now.start ≤ range.now.end }
+    requires ends { range.now.end ≤ length text.now }
+    ensures { IfOk result (λ found. cow_slice_items found ≡ slice range.now text.now) }
+{
+    let bytes = &text[range.start..range.end];
+    let there = place_in(lines, text, range.start);
+    if there.starts_with(bytes) {
+        return Ok(CowSlice::Borrowed(&there[..bytes.len()]));
+    }
+    let mut copy = Vec::new(alloc);
+    copy.extend_from_slice(bytes)?;
+    Ok(CowSlice::Owned(copy))
+}
+
+// What of the lines begins with the byte at the offset of a text whose lines are the ends of these.
+fn place_in<'a>(lines: &'a [u8], text: &[u8], offset: usize) -> &'a [u8] {
+    let mut left = text;
+    let mut further = offset;
+    let mut rest = lines;
+    while !left.is_empty() {
+        let length = scan_line(left);
+        let line = scan_line(rest);
+        if further < length {
+            return &rest[line.saturating_sub(length - further)..];
+        }
+        further -= length;
+        left = &left[length..];
+        rest = &rest[line..];
+    }
+    rest
+}
