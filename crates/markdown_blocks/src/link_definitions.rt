@@ -1,5 +1,6 @@
 //! Which link reference definition of a page a label finds. (CommonMark 0.31.2, sections 4.7 and 6.3)
-ghost use Rattle.std.specs.Prelude.{◌≡◌, ◌<◌, ◌≤◌, [], ◌∷◌, false, List, ℕ, length, drop, option_map, is_none, IfOk, IfErr, IfSome, OnOk, Some, string_bytes};
+ghost use Rattle.std.specs.Prelude.{◌≡◌, ◌<◌, ◌≤◌, [], ◌∷◌, false, List, ℕ, length, option_map, string_bytes};
+ghost use Rattle.std.specs.Prelude.{is_none, IfOk, IfErr, IfSome, OnOk, Some};
 ghost use Rattle.std.specs.Cow.{cow_slice_items};
 ghost use Rattle.std.specs.Option.{option_copied};
 ghost use Rattle.markdown_values.specs.strings.Text.{cow_text};

@@ -1,6 +1,7 @@
 //! Tests of `cmark_uses::link_definitions`. (CommonMark 0.31.2, sections 4.7 and 6.3)
 use crate::asserts::{assert_same, made};
 use cmark_uses::link_definitions::{destination_of, title_of};
+use std::alloc::{AllocError, Global};
 use std::process::Abort;
 
 // A page, a label, and the destination and the title of its first definition there.
@@ -200,4 +201,35 @@ fn labels_match_by_their_case_foldings(rt: HostRuntime) {
 #[test]
 fn definitions_in_containers_are_found(rt: HostRuntime) {
     assert_leads(&rt, CONTAINED);
+}
+
+// Definitions, of labels that differ or of one label.
+fn many_definitions(alloc: Global, do_differ: bool) -> Result<String, AllocError> {
+    let mut page = String::new(alloc);
+    for number in 0..100_000 {
+        if do_differ {
+            write!(page, "[a{number}]: /{number}\n")?;
+        } else {
+            write!(page, "[a]: /{number}\n")?;
+        }
+    }
+    Ok(page)
+}
+
+#[test]
+fn many_labels_are_found(rt: HostRuntime) {
+    let page = made(&rt, many_definitions(rt.alloc(), true));
+    let found = made(&rt, destination_of(rt.alloc(), page.as_bytes(), "A99999"));
+    assert_same(
+        &rt,
+        found.as_ref().map(|bytes| bytes.as_slice()),
+        Some(b"/99999"),
+    );
+    let page = made(&rt, many_definitions(rt.alloc(), false));
+    let found = made(&rt, destination_of(rt.alloc(), page.as_bytes(), "A"));
+    assert_same(
+        &rt,
+        found.as_ref().map(|bytes| bytes.as_slice()),
+        Some(b"/0"),
+    );
 }

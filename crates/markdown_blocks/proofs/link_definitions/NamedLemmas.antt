@@ -213,7 +213,8 @@ block_named old new lines step content here later s c names left =
 
 -- ---- a page has one list of definitions
 
-one_named_front : (text : List ℕ) (d : ReferenceDefinition) (named others : List Named) → IsNamed text d named → IsNamed text d others → named ≡ others
+one_named_front : (text : List ℕ) (d : ReferenceDefinition) (named others : List Named) → IsNamed text d named
+    → IsNamed text d others → named ≡ others
 one_named_front text d named others is is' = at is.named_is is'.named_is
   where
     source : List ℕ
