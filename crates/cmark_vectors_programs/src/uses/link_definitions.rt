@@ -84,9 +84,9 @@ const EXAMPLES: &[Row] = &[
     (b"[FOO]: /url\n\n[Foo]\n", "Foo", Some(b"/url"), None),
     // 206
     (
-        "[ΑΓΩ]: /φου\n\n[αγω]\n".as_bytes(),
+        b"[\xce\x91\xce\x93\xce\xa9]: /\xcf\x86\xce\xbf\xcf\x85\n\n[\xce\xb1\xce\xb3\xcf\x89]\n",
         "αγω",
-        Some("/φου".as_bytes()),
+        Some(b"/\xcf\x86\xce\xbf\xcf\x85"),
         None,
     ),
     // 208
@@ -125,7 +125,7 @@ const SEVERAL: &[u8] =
 
 // Examples of section 6.3, on labels that match and labels that do not.
 const LABELS: &[Row] = &[
-    ("[ẞ]\n\n[SS]: /url\n".as_bytes(), "ẞ", Some(b"/url"), None),
+    (b"[\xe1\xba\x9e]\n\n[SS]: /url\n", "ẞ", Some(b"/url"), None),
     (
         b"[Foo\n  url]: /url\n\n[Baz][Foo url]\n",
         "Foo url",
@@ -175,38 +175,38 @@ const CONTAINED: &[Row] = &[
 ];
 
 // The label leads there.
-fn assert_leads(rt: &HostRuntime, rows: &[Row]) {
+fn assert_leads(rt: &impl Abort, alloc: Global, rows: &[Row]) {
     for (page, label, destination, title) in rows {
-        let found = made(rt, destination_of(rt.alloc(), page, label));
+        let found = made(rt, destination_of(alloc, page, label));
         assert_same(
             rt,
             found.as_ref().map(|bytes| bytes.as_slice()),
             *destination,
         );
-        let found = made(rt, title_of(rt.alloc(), page, label));
+        let found = made(rt, title_of(alloc, page, label));
         assert_same(rt, found.as_ref().map(|bytes| bytes.as_slice()), *title);
     }
 }
 
 #[test]
 fn the_first_definition_of_a_label_is_found(rt: HostRuntime) {
-    assert_leads(&rt, EXAMPLES);
+    assert_leads(&rt, rt.alloc(), EXAMPLES);
 }
 
 #[test]
 fn labels_match_by_their_case_foldings(rt: HostRuntime) {
-    assert_leads(&rt, LABELS);
+    assert_leads(&rt, rt.alloc(), LABELS);
 }
 
 #[test]
 fn definitions_in_containers_are_found(rt: HostRuntime) {
-    assert_leads(&rt, CONTAINED);
+    assert_leads(&rt, rt.alloc(), CONTAINED);
 }
 
 // Definitions, of labels that differ or of one label.
 fn many_definitions(alloc: Global, do_differ: bool) -> Result<String, AllocError> {
     let mut page = String::new(alloc);
-    for number in 0..100_000 {
+    for number in 0..2000 {
         if do_differ {
             write!(page, "[a{number}]: /{number}\n")?;
         } else {
@@ -219,11 +219,11 @@ fn many_definitions(alloc: Global, do_differ: bool) -> Result<String, AllocError
 #[test]
 fn many_labels_are_found(rt: HostRuntime) {
     let page = made(&rt, many_definitions(rt.alloc(), true));
-    let found = made(&rt, destination_of(rt.alloc(), page.as_bytes(), "A99999"));
+    let found = made(&rt, destination_of(rt.alloc(), page.as_bytes(), "A1999"));
     assert_same(
         &rt,
         found.as_ref().map(|bytes| bytes.as_slice()),
-        Some(b"/99999"),
+        Some(b"/1999"),
     );
     let page = made(&rt, many_definitions(rt.alloc(), false));
     let found = made(&rt, destination_of(rt.alloc(), page.as_bytes(), "A"));
