@@ -29,17 +29,9 @@ struct entries {
     size_t count;
 };
 
-struct reader {
+/* What is found on a page. */
+struct found {
     struct entries definitions, references;
-    struct text line;         /* the line that is read, */
-    struct mds_line_start at; /* the place in it, */
-    size_t number;            /* and its number */
-    size_t *open, depth;      /* of each open list item the columns of its lines' indent; 0 of a block quote */
-    size_t blank_end;         /* where the innermost item has only a marker, the line that ends it if that is blank */
-    uint8_t *paragraph;       /* the lines of the open paragraph, without markers and indent, each with LF */
-    size_t length, begun_at;  /* how many bytes it has, and the number of its first line */
-    struct mds_fence fence;   /* of the open code block; its length is MDS_NONE where there is none */
-    uint32_t html;            /* the kind of the open HTML block, or 0 */
 };
 
 /* What is known of one text: which HTML it has not, and where runs of backticks are the last of their length, or null. */
@@ -74,13 +66,6 @@ static bool begins_with(struct text text, const char *word) {
     return text.length >= strlen(word) && memcmp(text.bytes, word, strlen(word)) == 0;
 }
 
-static struct text trimmed(struct text text) {
-    text = rest_of(text, mds_scan_whitespace_in_line(text.bytes, text.length));
-    while (text.length > 0 && mds_is_whitespace(text.bytes[text.length - 1]))
-        text.length--;
-    return text;
-}
-
 static struct text made(const uint8_t *buffer, struct mds_text found) {
     if (found.status == MDS_NO_MEMORY)
         fail("memory", "refused");
@@ -101,19 +86,16 @@ static size_t read_label(struct text text, size_t place, struct entry *entry) {
     return found.end;
 }
 
-/* Adds the definition at the front of a paragraph, and answers how many bytes it takes, or 0. (4.7) */
-static size_t define(struct reader *reader, struct text text) {
+/* Adds the definition that this text is, which begins in this line. (4.7) */
+static void define(struct found *all, size_t line, struct text text) {
     struct mds_reference_definition found = mds_scan_reference_definition(text.bytes, text.length, 0, 31);
-    if (found.status != MDS_OK)
-        return 0;
-    struct entry entry = {.line = reader->begun_at};
+    struct entry entry = {.line = line};
     read_label(text, 0, &entry);
     struct text raw = {text.bytes + found.destination_start, found.destination_length};
     size_t room = raw.length + raw.length / 5;
     uint8_t *target = grown(NULL, room);
     entry.target = made(target, mds_unescape(raw.bytes, raw.length, false, target, room));
-    add(&reader->definitions, entry);
-    return found.end;
+    add(&all->definitions, entry);
 }
 
 static size_t run_length(struct text text, size_t place) {
@@ -158,174 +140,97 @@ static size_t inline_length(struct text text, size_t place, struct known *known)
     return uri.status == MDS_OK ? uri.end - place : tag.status == MDS_OK ? tag.end - place : other;
 }
 
+/* A line ending is written as a space, with the white space before it. */
 static void write_text(struct text text, const char *behind) {
-    for (size_t i = 0; i < text.length; i++)
-        putchar(text.bytes[i] == '\n' ? ' ' : text.bytes[i]);
+    for (size_t space, ending; text.length > 0; text = rest_of(text, space + ending)) {
+        space = mds_scan_whitespace_in_line(text.bytes, text.length);
+        ending = mds_scan_eol(text.bytes + space, text.length - space);
+        ending = ending == MDS_NONE ? 0 : ending;
+        if (ending > 0)
+            putchar(' ');
+        else if (space > 0)
+            fwrite(text.bytes, 1, space, stdout);
+        else
+            putchar(text.bytes[ending++]);
+    }
     fputs(behind, stdout);
 }
 
-/* Adds the full references of a text that begins in this line; where a level is given it is a heading. (6.3) */
-static void read_text(struct reader *reader, size_t line, uint32_t level, struct text text) {
-    if (level > 0) {
-        printf("%zu: %s", line, &"###### "[6 - level]);
-        write_text(text, "\n");
-    }
+/* Adds the full references of a text that begins in this line. (6.3) */
+static void read_text(struct found *all, size_t line, struct text text) {
     struct known known = {0};
     for (size_t place = 0, taken, depth = 0; place < text.length; place += taken) {
         struct entry entry = {.line = line};
         bool closes = text.bytes[place] == ']' && depth > 0;
         size_t end = closes ? read_label(text, place + 1, &entry) : 0;
         if (end > 0)
-            add(&reader->references, entry);
+            add(&all->references, entry);
         taken = end > 0 ? end - place : inline_length(text, place, &known);
         depth = depth + (text.bytes[place] == '[') - closes;
         for (size_t i = place; i < place + taken; i++)
-            line += text.bytes[i] == '\n';
+            line += text.bytes[i] == '\n' || (text.bytes[i] == '\r' && !begins_with(rest_of(text, i + 1), "\n"));
     }
     free(known.runs);
 }
 
-/* Ends the paragraph, or heading of this level, and answers whether it is more than definitions. (4.3, 4.7) */
-static bool end_paragraph(struct reader *reader, uint32_t level) {
-    struct text text = {reader->paragraph, reader->length};
-    for (size_t taken = define(reader, text); taken > 0; taken = define(reader, text)) {
-        for (; taken > 0; taken--, text = rest_of(text, 1))
-            reader->begun_at += text.bytes[0] == '\n';
+/* All blocks of the page. */
+static struct mds_block *blocks_of(struct text page, size_t *count) {
+    struct mds_blocks found = mds_scan_blocks(page.bytes, page.length, NULL, 0);
+    struct mds_block *blocks = grown(NULL, found.count * sizeof(*blocks));
+    if (found.status == MDS_TOO_SHORT)
+        found = mds_scan_blocks(page.bytes, page.length, blocks, found.count);
+    if (found.status != MDS_OK)
+        fail("memory", "refused");
+    *count = found.count;
+    return blocks;
+}
+
+/* The text of a block, which stands in these containers and goes on with so many of them. */
+static struct text text_of(
+    struct text page, const struct mds_block *block, const struct mds_block *open, size_t depth, size_t kept) {
+    struct mds_text found = {MDS_TOO_SHORT, 0, block->bytes};
+    uint8_t *buffer = NULL;
+    while (found.status == MDS_TOO_SHORT) {
+        size_t room = found.length;
+        buffer = grown(buffer, room);
+        found = mds_block_content(page.bytes, page.length, block, open, depth, kept, buffer, room);
     }
-    read_text(reader, reader->begun_at, text.length > 0 ? level : 0, trimmed(text));
-    reader->length = 0;
-    return text.length > 0;
+    return made(buffer, found);
 }
 
-/* Closes what is open beyond so many containers. A paragraph may then begin in this line. */
-static void close_beyond(struct reader *reader, size_t depth) {
-    end_paragraph(reader, 0);
-    reader->begun_at = reader->number;
-    reader->depth = depth;
-    reader->fence.length = MDS_NONE;
-    reader->html = 0;
-}
-
-static struct text rest_of_line(const struct reader *reader) {
-    return rest_of(reader->line, reader->at.place);
-}
-
-static bool is_blank(const struct reader *reader) {
-    struct text rest = rest_of_line(reader);
-    return mds_scan_blank_line(rest.bytes, rest.length) != MDS_NONE;
-}
-
-/* Takes at most `count` columns of space. */
-static size_t take_space(struct reader *reader, size_t count) {
-    return mds_line_upto(reader->line.bytes, reader->line.length, &reader->at, count).columns;
-}
-
-/* Whether the line goes on the container behind so many others, whose marker or indent is then taken. (5.1, 5.2) */
-static bool goes_on(struct reader *reader, size_t depth) {
-    struct mds_line_start before = reader->at;
-    size_t indent = reader->open[depth], space = take_space(reader, indent == 0 ? 4 : indent);
-    bool ended = depth + 1 == reader->depth && reader->blank_end == reader->number && is_blank(reader);
-    bool on = space == indent || is_blank(reader);
-    if (indent == 0)
-        on = space < 4 && mds_line_quote(reader->line.bytes, reader->line.length, &reader->at) == MDS_OK;
-    reader->at = on && !ended ? reader->at : before;
-    return on && !ended;
-}
-
-/* Opens the container that begins here. An item that ends a paragraph has a text, and the number 1. (5.1, 5.2) */
-static bool opens_container(struct reader *reader, size_t depth) {
-    struct mds_line_start before = reader->at;
-    size_t space = take_space(reader, 4);
-    bool is_quote = space < 4 && mds_line_quote(reader->line.bytes, reader->line.length, &reader->at) == MDS_OK;
-    bool ends_paragraph = reader->length > 0 && depth == reader->depth && !is_quote;
-    struct mds_line_item item = {MDS_OK, 0, 0, 0};
-    if (!is_quote)
-        item = mds_line_list(reader->line.bytes, reader->line.length, &reader->at, space);
-    bool counts_on = item.start != 1 && (item.delimiter == '.' || item.delimiter == ')');
-    if (space == 4 || item.status != MDS_OK || (ends_paragraph && (counts_on || is_blank(reader)))) {
-        reader->at = before;
-        return false;
+/* Reads a heading, a definition, a paragraph or a table with this text; a table has its lines. (4.2, 4.3, 4.7, 4.8) */
+static void read_block(struct found *all, struct text page, const struct mds_block *block, struct text text) {
+    size_t line = block->line + 1;
+    if (block->kind == MDS_BLOCK_TABLE)
+        text = (struct text){page.bytes + block->start, block->bytes};
+    if (block->kind == MDS_BLOCK_HEADING || block->kind == MDS_BLOCK_SETEXT) {
+        printf("%zu: %s", line, &"###### "[6 - block->number]);
+        write_text(text, "\n");
     }
-    close_beyond(reader, depth);
-    reader->open[reader->depth++] = item.indent;
-    reader->blank_end = is_blank(reader) ? reader->number + 1 : 0;
-    return true;
+    if (block->kind == MDS_BLOCK_DEFINITION)
+        define(all, line, text);
+    else
+        read_text(all, line, text);
 }
 
-/* The text of an ATX heading, without its opening and its closing sequence. (4.2) */
-static struct text atx_text(struct text line, uint32_t level) {
-    struct text text = trimmed(rest_of(line, level)), front = text;
-    while (front.length > 0 && front.bytes[front.length - 1] == '#')
-        front.length--;
-    return front.length == 0 || mds_is_whitespace_in_line(front.bytes[front.length - 1]) ? trimmed(front) : text;
-}
-
-/* The kind of the HTML block that begins at the front, or 0. (4.6) */
-static uint32_t html_kind(struct text text, bool in_paragraph) {
-    uint32_t kind = mds_scan_html_block_start(text.bytes, text.length);
-    return kind == MDS_HTML_TAG_ALONE && in_paragraph ? 0 : kind;
-}
-
-/* A line of the open HTML block, which it may end. */
-static void read_html(struct reader *reader) {
-    struct text rest = rest_of_line(reader);
-    if (mds_ends_html_block(rest.bytes, rest.length, reader->html) == MDS_OK)
-        reader->html = 0;
-}
-
-/* Whether the rest of a line makes a heading, is a thematic break, or begins code or HTML. (4.1 to 4.3, 4.5, 4.6) */
-static bool read_block(struct reader *reader, struct text rest, size_t depth) {
-    uint32_t level = mds_scan_atx_heading(rest.bytes, rest.length);
-    struct mds_underline underline = mds_scan_setext_heading(rest.bytes, rest.length);
-    struct mds_fence fence = mds_scan_code_fence(rest.bytes, rest.length);
-    uint32_t html = html_kind(rest, reader->length > 0);
-    bool underlines = underline.length != MDS_NONE && reader->length > 0 && depth == reader->depth;
-    if (underlines && end_paragraph(reader, underline.level))
-        return true;
-    if (level == 0 && fence.length == MDS_NONE && !html && mds_scan_hrule(rest.bytes, rest.length).length == MDS_NONE)
-        return false;
-    close_beyond(reader, depth);
-    reader->fence = fence;
-    reader->html = html;
-    if (level > 0)
-        read_text(reader, reader->number, level, atx_text(rest, level));
-    return true;
-}
-
-/* What stands behind the containers of a line. A paragraph goes on without those that are not there. (4.8, 5.1) */
-static void read_leaf(struct reader *reader, size_t depth) {
-    bool indented = take_space(reader, 4) == 4, is_code = indented && reader->length == 0;
-    struct text rest = rest_of_line(reader), text = trimmed(rest);
-    if (is_code || is_blank(reader))
-        close_beyond(reader, depth);
-    else if (indented || !read_block(reader, rest, depth)) {
-        if (reader->length == 0)
-            close_beyond(reader, depth);
-        memcpy(reader->paragraph + reader->length, text.bytes, text.length);
-        reader->length += text.length;
-        reader->paragraph[reader->length++] = '\n';
+/* Goes through the blocks of a page with an array of the containers that are open. */
+static void read_page(struct found *all, struct text page) {
+    size_t count, depth = 0, kept = 0;
+    struct mds_block *blocks = blocks_of(page, &count), *open = grown(NULL, count * sizeof(*open));
+    for (const struct mds_block *block = blocks; block < blocks + count; block++) {
+        switch (block->kind) {
+        case MDS_BLOCK_END: kept = --depth; break;
+        case MDS_BLOCK_QUOTE:
+        case MDS_BLOCK_ITEM: open[depth++] = *block; break;
+        case MDS_BLOCK_HEADING:
+        case MDS_BLOCK_SETEXT:
+        case MDS_BLOCK_TABLE:
+        case MDS_BLOCK_DEFINITION:
+        case MDS_BLOCK_PARAGRAPH: read_block(all, page, block, text_of(page, block, open, depth, kept)); /* fall through */
+        default: kept = depth;
+        }
     }
-}
-
-static void read_line(struct reader *reader) {
-    size_t depth = 0;
-    reader->at = (struct mds_line_start){0};
-    while (depth < reader->depth && goes_on(reader, depth))
-        depth++;
-    if (depth < reader->depth && (reader->html || reader->fence.length != MDS_NONE))
-        close_beyond(reader, depth);
-    if (reader->fence.length != MDS_NONE) {
-        size_t indent = take_space(reader, 4), count = reader->fence.length;
-        struct text rest = rest_of_line(reader);
-        if (indent < 4 && mds_scan_closing_code_fence(rest.bytes, rest.length, reader->fence.byte, count) != MDS_NONE)
-            reader->fence.length = MDS_NONE;
-    } else if (!reader->html) {
-        while (opens_container(reader, depth))
-            depth = reader->depth;
-        read_leaf(reader, depth);
-    }
-    if (reader->html)
-        read_html(reader);
+    free(open), free(blocks);
 }
 
 static int by_key(const void *one, const void *other) {
@@ -371,19 +276,12 @@ int main(int count, char **words) {
     struct text page = read_all(file, name);
     if (!mds_is_utf8(page.bytes, page.length))
         fail(name, "not UTF-8");
-    struct reader reader = {.paragraph = grown(NULL, page.length), .fence = {MDS_NONE, 0}};
-    reader.open = grown(NULL, page.length * sizeof(*reader.open)); /* each has a byte of its own in the page */
-    for (size_t place = 0; place < page.length; place += reader.line.length) {
-        reader.line = rest_of(page, place);
-        reader.line.length = mds_scan_line(reader.line.bytes, reader.line.length);
-        reader.number++;
-        read_line(&reader);
-    }
-    close_beyond(&reader, 0);
-    print(reader.definitions, (struct entries){NULL, 0}, "]: ");
-    if (reader.definitions.count > 0)
-        qsort(reader.definitions.items, reader.definitions.count, sizeof(struct entry), by_key);
-    size_t missing = print(reader.references, reader.definitions, "] has no definition");
+    struct found all = {0};
+    read_page(&all, page);
+    print(all.definitions, (struct entries){NULL, 0}, "]: ");
+    if (all.definitions.count > 0)
+        qsort(all.definitions.items, all.definitions.count, sizeof(struct entry), by_key);
+    size_t missing = print(all.references, all.definitions, "] has no definition");
     if (fflush(stdout) || ferror(stdout))
         fail("standard output", strerror(errno));
     return missing > 0;

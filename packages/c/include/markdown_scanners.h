@@ -1,9 +1,10 @@
 /* The scanners of Markdown's lines, blocks and inline text, as C functions.
  *
- * They stand over the libraries `markdown_scanners_tree` and `markdown_inlines`, and each is proved to answer what their
- * definitions say, after CommonMark 0.31.2 (https://spec.commonmark.org/0.31.2/), whose sections stand in brackets below.
- * They are scanners: each reads from the front of the bytes that it is given, or from a place in them, and says what
- * begins there. None looks for the next construct, so a caller goes through its document and asks.
+ * They stand over the libraries `markdown_scanners_tree`, `markdown_inlines` and `markdown_blocks`, and each is proved to
+ * answer what their definitions say, after CommonMark 0.31.2 (https://spec.commonmark.org/0.31.2/), whose sections stand in
+ * brackets below. They are scanners: each reads from the front of the bytes that it is given, or from a place in them, and
+ * says what begins there. None looks for the next construct, so a caller goes through its document and asks. But
+ * mds_scan_blocks reads a page, and says which blocks it has.
  *
  * Bytes and texts. A pointer and a length go together; nothing has to end in a zero byte, and zero bytes are read as
  * any other. What is read may be of any type of bytes, as `char` or `uint8_t`. The pointer may be null where the length
@@ -94,7 +95,7 @@ enum mds_status {
     MDS_NOT_RISING = 10,    /* the place is not above the one before it */
     MDS_INSIDE_FIND = 11,   /* the place is inside what was found before it */
     MDS_SPACE_PENDING = 12, /* columns of a tab are pending, and the call is not one that takes space */
-    MDS_BAD_KIND = 13,      /* a call, or an HTML block, has no known kind */
+    MDS_BAD_KIND = 13,      /* a call or a block has no known kind */
     MDS_BAD_STATE = 14      /* a line start has numbers that none has on these bytes */
 };
 
@@ -586,6 +587,86 @@ enum mds_alignment { MDS_ALIGN_NONE = 0, MDS_ALIGN_LEFT = 1, MDS_ALIGN_CENTER = 
  *     alignments[0] == MDS_ALIGN_NONE && alignments[1] == MDS_ALIGN_CENTER
  */
 struct mds_text mds_scan_table_head(const void *bytes, size_t length, uint8_t *alignments, size_t capacity);
+
+/* ---- Pages ---- */
+
+/* What stands in a page: containers, which begin and end, and leaf blocks in them. Blank lines, which are no block, stand
+ * in a row as one. */
+enum mds_block_kind {
+    MDS_BLOCK_END = 0,         /* the innermost container that has begun ends */
+    MDS_BLOCK_QUOTE = 1,       /* a block quote begins (5.1) */
+    MDS_BLOCK_ITEM = 2,        /* a list item begins (5.2) */
+    MDS_BLOCK_BLANK = 3,       /* blank lines (4.9) */
+    MDS_BLOCK_BREAK = 4,       /* a thematic break (4.1) */
+    MDS_BLOCK_HEADING = 5,     /* an ATX heading (4.2) */
+    MDS_BLOCK_SETEXT = 6,      /* a setext heading (4.3) */
+    MDS_BLOCK_INDENTED = 7,    /* indented code (4.4) */
+    MDS_BLOCK_FENCED = 8,      /* fenced code (4.5) */
+    MDS_BLOCK_HTML = 9,        /* an HTML block (4.6) */
+    MDS_BLOCK_TABLE = 10,      /* a table (GitHub Flavored Markdown 0.29, 4.10) */
+    MDS_BLOCK_DEFINITION = 11, /* a link reference definition (4.7) */
+    MDS_BLOCK_PARAGRAPH = 12   /* a paragraph (4.8) */
+};
+
+/* A container that begins, the end of one, or a leaf block. */
+struct mds_block {
+    uint32_t kind;       /* of enum mds_block_kind */
+    uint32_t number;     /* the level of a heading; the start of a list item; of HTML its kind, of enum mds_html_kind */
+    uint8_t byte;        /* of a list item its bullet or delimiter; of fenced code the byte of its fence */
+    uint8_t width;       /* of a list item how many columns its later lines are indented by */
+    size_t count;        /* of fenced code how many bytes its fence has; of a table how many columns it has */
+    size_t indent;       /* of a leaf block the columns of space in its first line after its containers, at most four */
+    size_t line, lines;  /* of a leaf block how many lines of the page stand before it, and how many it has */
+    size_t start, bytes; /* of a leaf block the place of its first line, and how many bytes its lines have */
+    size_t place;        /* of a container that begins the place of its marker; of a leaf block that of what stands in
+                          * its first line after its containers and `indent` */
+};
+
+/* How many blocks there are, and whether they are written. */
+struct mds_blocks {
+    uint32_t status;
+    size_t count; /* how many they are, where the status is MDS_OK or MDS_TOO_SHORT */
+};
+
+/* All blocks of a page, in order. A container stands before the leaf blocks in it, and its end after them; they nest, and
+ * each that begins ends. The lines of the leaf blocks, joined, are the page. Of a paragraph that begins with link
+ * reference definitions each of these is a leaf block, and what is left of it the last. Most pages have fewer blocks than
+ * lines. Where the buffer is too short it is left as it was, and `count` says how many blocks it needs room for. Memory is
+ * asked for, for the blocks and while the page is read: MDS_NO_MEMORY. (3, 4, 5)
+ *
+ *     struct mds_block blocks[4];
+ *     mds_scan_blocks("# A\n\n> b\nc", 10, blocks, 4).count == 5
+ *     mds_scan_blocks("# A\n> b\nc", 9, blocks, 4).status == MDS_OK
+ *     blocks[0].kind == MDS_BLOCK_HEADING && blocks[0].number == 1 && blocks[0].lines == 1
+ *     blocks[1].kind == MDS_BLOCK_QUOTE && blocks[1].place == 4
+ *     blocks[2].kind == MDS_BLOCK_PARAGRAPH && blocks[2].line == 1 && blocks[2].lines == 2 && blocks[2].place == 6
+ *     blocks[3].kind == MDS_BLOCK_END
+ */
+struct mds_blocks mds_scan_blocks(const void *bytes, size_t length, struct mds_block *blocks, size_t capacity);
+
+/* The content of a leaf block of mds_scan_blocks. Of a paragraph or a heading it is the text for inline scanners: what its
+ * lines have after their containers, without the spaces and tabs before it, without the closing `#` of a heading and
+ * the underline, and without white space at the end; the other line endings stay. Of a definition it is all of it. Of
+ * code and HTML it is the lines after their containers, of code without its indent and its fences; columns of a tab that
+ * is cut are spaces. A thematic break, blank lines and a table have none.
+ *
+ * `containers` are the containers that the block stands in, outermost first, each as the block with which it began: those
+ * that have begun before it and not ended. Its first line goes on with `kept` of them, and begins the others: `kept` are
+ * as many as had begun and not ended after the last leaf block, or the last end, before it.
+ *
+ * `taken` is how many bytes its lines have; most often so much room is enough. MDS_PAST_END where they don't stand in the
+ * page, MDS_BAD_KIND where the numbers of `block` are those of no leaf block, or one of `containers` begins none. Memory
+ * is asked for: MDS_NO_MEMORY. (2.2, 4.2 to 4.8)
+ *
+ *     struct mds_block blocks[3];
+ *     uint8_t buffer[7];
+ *     mds_scan_blocks("> a\n>\tb", 7, blocks, 3).count == 3
+ *     mds_block_content("> a\n>\tb", 7, &blocks[1], blocks, 1, 0, buffer, 7).length == 3
+ *     memcmp(buffer, "a\nb", 3) == 0
+ */
+struct mds_text mds_block_content(
+    const void *bytes, size_t length, const struct mds_block *block, const struct mds_block *containers,
+    size_t container_count, size_t kept, uint8_t *buffer, size_t capacity);
 
 /* ---- Parts of inline text ---- */
 

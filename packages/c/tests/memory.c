@@ -1,7 +1,8 @@
-/* Memory refused. Six functions may answer MDS_NO_MEMORY: on each of their inputs here the first, second, .. request is refused
- * until none is left. The call then answers MDS_NO_MEMORY, tells nothing more and writes nothing, or it has the same answer as
- * with ample memory; and it frees what it was given. The other functions make no request, and neither do these six where the
- * header says so. The linker puts the functions __wrap_.. in the place of the C library's (--wrap). */
+/* Memory refused. Eight functions may answer MDS_NO_MEMORY: on each of their inputs here the first, second, .. request is refused
+ * until none is left, by itself and with all that follow. The call then answers MDS_NO_MEMORY, tells nothing more and writes
+ * nothing, or it has the same answer as with ample memory; and it frees what it was given. The other functions make no request,
+ * and neither do these eight where the header says so. The linker puts the functions __wrap_.. in the place of the C library's
+ * (--wrap). */
 #include "checks.h"
 
 #include <stdlib.h>
@@ -17,9 +18,13 @@ void __wrap_free(void *old);
 /* How many requests were made, and for how many bytes the last; which of them is refused; how many blocks are held. */
 static size_t requests, asked, refused, held;
 
+/* Whether those after it are refused too. */
+static bool all_later;
+
 static bool is_refused(size_t size) {
     asked = size;
-    return ++requests == refused;
+    requests++;
+    return requests == refused || (all_later && refused > 0 && requests > refused);
 }
 
 void *__wrap_malloc(size_t size) {
@@ -153,6 +158,49 @@ static struct told long_html_run(size_t room) {
     return of_html(text, 2 * MANY, places, MANY, room);
 }
 
+static struct told of_blocks(const char *page, size_t length, size_t room) {
+    size_t capacity = room / sizeof(struct mds_block);
+    struct mds_block *blocks = writable(BUFFER, capacity * sizeof(*blocks));
+    struct mds_blocks found = mds_scan_blocks(given(BYTES, page, length), length, blocks, capacity);
+    return (struct told){found.status, {found.count, 0, 0}};
+}
+
+static struct told blocks(size_t room) {
+    return of_blocks("> - a\n\n[b]: c\nd\n", 16, room);
+}
+
+static struct told blocks_of_table(size_t room) {
+    return of_blocks("|a|b|\n|-|-|\n", 12, room);
+}
+
+static struct told deep_blocks(size_t room) {
+    static char page[MANY / 3];
+    memset(page, '>', sizeof(page));
+    return of_blocks(page, sizeof(page), room);
+}
+
+static struct told content_in(const char *page, size_t length, size_t depth, size_t room) {
+    static struct mds_block quotes[MANY];
+    const struct mds_block leaf = {.kind = MDS_BLOCK_PARAGRAPH, .bytes = length};
+    const void *bytes = given(BYTES, page, length), *block = given(LIST, &leaf, sizeof(leaf));
+    for (size_t i = 0; i < depth; i++)
+        quotes[i].kind = MDS_BLOCK_QUOTE;
+    const void *containers = given(OTHER_BYTES, quotes, depth * sizeof(*quotes));
+    return of_text(mds_block_content(bytes, length, block, containers, depth, 0, writable(BUFFER, room), room));
+}
+
+/* It is one run of the page: memory is asked for the containers alone. */
+static struct told content_in_many(size_t room) {
+    return content_in("> a\n", 4, MANY, room);
+}
+
+static struct told long_content(size_t room) {
+    static char page[LONG];
+    for (size_t i = 0; i < LONG; i++)
+        page[i] = "> a\n"[i % 4];
+    return content_in(page, LONG, 1, room);
+}
+
 static struct told made(call_with *call, size_t room, size_t which) {
     writable(BUFFER, 0);
     requests = held = 0, refused = which;
@@ -194,8 +242,12 @@ static void refuse_each(int line, call_with *call, size_t room, bool exact) {
     same(line, "what is held", held, 0);
     if (exact)
         same(line, "requests", wanted, 1), same(line, "bytes asked for", asked, ample.numbers[1]);
-    for (size_t which = 1; which <= wanted; which++)
+    for (size_t which = 1; which <= wanted; which++) {
         refusals += told_refusal(line, made(call, room, which), ample);
+        all_later = true;
+        refusals += told_refusal(line, made(call, room, which), ample);
+        all_later = false;
+    }
     same(line, "some request is refused", refusals > 0, true);
 }
 
@@ -215,9 +267,11 @@ static void asking(void) {
     ASKS(key), ASKS(long_key);
     ASKS(table), ASKS(wide_table);
     ASKS(html_run), ASKS(long_html_run);
+    ASKS(blocks), ASKS(blocks_of_table), ASKS(deep_blocks);
+    ASKS(content_in_many), ASKS(long_content);
 }
 
-/* What these six need no memory for. */
+/* What these eight need no memory for. */
 static void sparing(void) {
     ASKS_NOT(mds_unescape(OF("plain"), false, NULL, 0).status, MDS_TOO_SHORT);
     ASKS_NOT(mds_unescape(OF("\xff"), false, NULL, 0).status, MDS_NOT_UTF8);
@@ -241,6 +295,12 @@ static void sparing(void) {
     ASKS_NOT(mds_scan_table_head(OF("||-|"), NULL, 0).status, MDS_NOTHING);
     ASKS_NOT(mds_run_inline_html(OF("<!a>"), NULL, 0, NULL, 0).status, MDS_OK);
     ASKS_NOT(mds_run_inline_html(OF("<!a>"), (const size_t[]){1, 2}, 2, NULL, 0).status, MDS_NO_OPENER);
+    const struct mds_block leaf = {.kind = MDS_BLOCK_PARAGRAPH, .start = 1, .bytes = 2}, end = {.kind = MDS_BLOCK_END};
+    ASKS_NOT(mds_scan_blocks(OF(""), NULL, 0).status, MDS_OK);
+    ASKS_NOT(mds_block_content(OF("\na\n"), &leaf, NULL, 0, 0, writable(BUFFER, 1), 1).status, MDS_OK);
+    ASKS_NOT(mds_block_content(OF("\na\n"), &leaf, &end, 1, 0, writable(BUFFER, 1), 1).status, MDS_BAD_KIND);
+    ASKS_NOT(mds_block_content(OF("\na\n"), &end, NULL, 0, 0, writable(BUFFER, 1), 1).status, MDS_BAD_KIND);
+    ASKS_NOT(mds_block_content(OF("\na"), &leaf, NULL, 0, 0, writable(BUFFER, 1), 1).status, MDS_PAST_END);
 }
 
 static void others_on_lines(void) {

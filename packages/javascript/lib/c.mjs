@@ -36,6 +36,20 @@ export const ALIGN_LEFT = 1;
 export const ALIGN_CENTER = 2;
 export const ALIGN_RIGHT = 3;
 
+export const BLOCK_END = 0;
+export const BLOCK_QUOTE = 1;
+export const BLOCK_ITEM = 2;
+export const BLOCK_BLANK = 3;
+export const BLOCK_BREAK = 4;
+export const BLOCK_HEADING = 5;
+export const BLOCK_SETEXT = 6;
+export const BLOCK_INDENTED = 7;
+export const BLOCK_FENCED = 8;
+export const BLOCK_HTML = 9;
+export const BLOCK_TABLE = 10;
+export const BLOCK_DEFINITION = 11;
+export const BLOCK_PARAGRAPH = 12;
+
 export const HTML_RAW_TEXT = 1;
 export const HTML_COMMENT = 2;
 export const HTML_PROCESSING = 3;
@@ -186,6 +200,31 @@ export const STRUCTS = {
             titleLength: from.size(at + 56),
         }),
     },
+    block: {
+        size: 72,
+        fields: [["kind", 0, "uint32_t"], ["number", 4, "uint32_t"], ["byte", 8, "uint8_t"], ["width", 9, "uint8_t"], ["count", 16, "size_t"], ["indent", 24, "size_t"], ["line", 32, "size_t"], ["lines", 40, "size_t"], ["start", 48, "size_t"], ["bytes", 56, "size_t"], ["place", 64, "size_t"]],
+        read: (from, at) => ({
+            kind: from.uint32(at),
+            number: from.uint32(at + 4),
+            byte: from.uint8(at + 8),
+            width: from.uint8(at + 9),
+            count: from.size(at + 16),
+            indent: from.size(at + 24),
+            line: from.size(at + 32),
+            lines: from.size(at + 40),
+            start: from.size(at + 48),
+            bytes: from.size(at + 56),
+            place: from.size(at + 64),
+        }),
+    },
+    blocks: {
+        size: 16,
+        fields: [["status", 0, "uint32_t"], ["count", 8, "size_t"]],
+        read: (from, at) => ({
+            status: from.uint32(at),
+            count: from.size(at + 8),
+        }),
+    },
     part: {
         size: 32,
         fields: [["status", 0, "uint32_t"], ["end", 8, "size_t"], ["start", 16, "size_t"], ["length", 24, "size_t"]],
@@ -307,6 +346,8 @@ export const FUNCTIONS = {
     interruptsParagraph: ["mds_interrupts_paragraph", "bool", ["pointer", "size_t"]],
     scanReferenceDefinition: ["mds_scan_reference_definition", "referenceDefinition", ["pointer", "size_t", "size_t", "size_t"]],
     scanTableHead: ["mds_scan_table_head", "text", ["pointer", "size_t", "pointer", "size_t"]],
+    scanBlocks: ["mds_scan_blocks", "blocks", ["pointer", "size_t", "pointer", "size_t"]],
+    blockContent: ["mds_block_content", "text", ["pointer", "size_t", "pointer", "pointer", "size_t", "size_t", "pointer", "size_t"]],
     scanLinkDest: ["mds_scan_link_dest", "part", ["pointer", "size_t", "size_t", "size_t"]],
     scanLinkTitle: ["mds_scan_link_title", "part", ["pointer", "size_t", "size_t"]],
     scanAutolink: ["mds_scan_autolink", "part", ["pointer", "size_t", "size_t"]],

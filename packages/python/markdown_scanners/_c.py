@@ -39,6 +39,20 @@ ALIGN_LEFT = 1
 ALIGN_CENTER = 2
 ALIGN_RIGHT = 3
 
+BLOCK_END = 0
+BLOCK_QUOTE = 1
+BLOCK_ITEM = 2
+BLOCK_BLANK = 3
+BLOCK_BREAK = 4
+BLOCK_HEADING = 5
+BLOCK_SETEXT = 6
+BLOCK_INDENTED = 7
+BLOCK_FENCED = 8
+BLOCK_HTML = 9
+BLOCK_TABLE = 10
+BLOCK_DEFINITION = 11
+BLOCK_PARAGRAPH = 12
+
 HTML_RAW_TEXT = 1
 HTML_COMMENT = 2
 HTML_PROCESSING = 3
@@ -217,6 +231,42 @@ class ReferenceDefinition(Structure):
     ]
 
 
+class Block(Structure):
+    kind: int
+    number: int
+    byte: int
+    width: int
+    count: int
+    indent: int
+    line: int
+    lines: int
+    start: int
+    bytes: int
+    place: int
+    _fields_ = [
+        ("kind", c_uint32),
+        ("number", c_uint32),
+        ("byte", c_uint8),
+        ("width", c_uint8),
+        ("count", c_size_t),
+        ("indent", c_size_t),
+        ("line", c_size_t),
+        ("lines", c_size_t),
+        ("start", c_size_t),
+        ("bytes", c_size_t),
+        ("place", c_size_t),
+    ]
+
+
+class Blocks(Structure):
+    status: int
+    count: int
+    _fields_ = [
+        ("status", c_uint32),
+        ("count", c_size_t),
+    ]
+
+
 class Part(Structure):
     status: int
     end: int
@@ -352,6 +402,8 @@ FUNCTIONS: dict[str, tuple[Any, tuple[Any, ...]]] = {
     "interrupts_paragraph": (c_bool, (c_void_p, c_size_t)),
     "scan_reference_definition": (ReferenceDefinition, (c_void_p, c_size_t, c_size_t, c_size_t)),
     "scan_table_head": (Text, (c_void_p, c_size_t, c_void_p, c_size_t)),
+    "scan_blocks": (Blocks, (c_void_p, c_size_t, c_void_p, c_size_t)),
+    "block_content": (Text, (c_void_p, c_size_t, c_void_p, c_void_p, c_size_t, c_size_t, c_void_p, c_size_t)),
     "scan_link_dest": (Part, (c_void_p, c_size_t, c_size_t, c_size_t)),
     "scan_link_title": (Part, (c_void_p, c_size_t, c_size_t)),
     "scan_autolink": (Part, (c_void_p, c_size_t, c_size_t)),

@@ -39,6 +39,20 @@ pub const ALIGN_LEFT: u32 = 1;
 pub const ALIGN_CENTER: u32 = 2;
 pub const ALIGN_RIGHT: u32 = 3;
 
+pub const BLOCK_END: u32 = 0;
+pub const BLOCK_QUOTE: u32 = 1;
+pub const BLOCK_ITEM: u32 = 2;
+pub const BLOCK_BLANK: u32 = 3;
+pub const BLOCK_BREAK: u32 = 4;
+pub const BLOCK_HEADING: u32 = 5;
+pub const BLOCK_SETEXT: u32 = 6;
+pub const BLOCK_INDENTED: u32 = 7;
+pub const BLOCK_FENCED: u32 = 8;
+pub const BLOCK_HTML: u32 = 9;
+pub const BLOCK_TABLE: u32 = 10;
+pub const BLOCK_DEFINITION: u32 = 11;
+pub const BLOCK_PARAGRAPH: u32 = 12;
+
 pub const HTML_RAW_TEXT: u32 = 1;
 pub const HTML_COMMENT: u32 = 2;
 pub const HTML_PROCESSING: u32 = 3;
@@ -171,6 +185,29 @@ pub struct ReferenceDefinition {
 
 #[repr(C)]
 #[derive(Clone, Copy, Debug, Default, PartialEq, Eq)]
+pub struct Block {
+    pub kind: u32,
+    pub number: u32,
+    pub byte: u8,
+    pub width: u8,
+    pub count: usize,
+    pub indent: usize,
+    pub line: usize,
+    pub lines: usize,
+    pub start: usize,
+    pub bytes: usize,
+    pub place: usize,
+}
+
+#[repr(C)]
+#[derive(Clone, Copy, Debug, Default, PartialEq, Eq)]
+pub struct Blocks {
+    pub status: u32,
+    pub count: usize,
+}
+
+#[repr(C)]
+#[derive(Clone, Copy, Debug, Default, PartialEq, Eq)]
 pub struct Part {
     pub status: u32,
     pub end: usize,
@@ -296,6 +333,17 @@ extern "C" {
         max_next: usize,
     ) -> ReferenceDefinition;
     pub fn mds_scan_table_head(bytes: *const c_void, length: usize, alignments: *mut u8, capacity: usize) -> Text;
+    pub fn mds_scan_blocks(bytes: *const c_void, length: usize, blocks: *mut Block, capacity: usize) -> Blocks;
+    pub fn mds_block_content(
+        bytes: *const c_void,
+        length: usize,
+        block: *const Block,
+        containers: *const Block,
+        container_count: usize,
+        kept: usize,
+        buffer: *mut u8,
+        capacity: usize,
+    ) -> Text;
     pub fn mds_scan_link_dest(bytes: *const c_void, length: usize, start: usize, max_next: usize) -> Part;
     pub fn mds_scan_link_title(bytes: *const c_void, length: usize, start: usize) -> Part;
     pub fn mds_scan_autolink(bytes: *const c_void, length: usize, start: usize) -> Part;

@@ -1,0 +1,304 @@
+/* The blocks of pages and their content: the examples of CommonMark 0.31.2, by their numbers, whose blocks and texts are those of
+ * the HTML that stands there; refused numbers; and made pages, of which the blocks nest and their lines, joined, are the page. */
+#include "checks.h"
+
+#include <stdio.h>
+#include <string.h>
+
+enum { MOST = 48, LONGEST = 64 };
+
+static const char *const words[] = {
+    "end", "quote", "item", "blank", "break", "heading", "setext", "indented", "fenced", "html", "table", "definition", "paragraph"};
+
+/* Containers with the place of their marker, an item with its bullet or delimiter, its start and its width too; leaf blocks with
+ * their first line and their last, and the number that belongs to them. A quote of two lines is `quote@0 paragraph:1-2 end`. */
+static const struct row {
+    int example;
+    const char *page, *blocks, *contents;
+} rows[] = {
+    {5, "- foo\n\n\t\tbar\n", "item-0,2@0 paragraph:1-1 blank:2-2 indented:3-3 end", "foo||  bar\n|"},
+    {6, ">\t\tfoo\n", "quote@0 indented:1-1 end", "  foo\n|"},
+    {7, "-\t\tfoo\n", "item-0,2@0 indented:1-1 end", "  foo\n|"},
+    {9, " - foo\n   - bar\n\t - baz\n",
+        "item-0,3@1 paragraph:1-1 item-0,2@10 paragraph:2-2 item-0,2@18 paragraph:3-3 end end end", "foo|bar|baz|"},
+    {43, "***\n---\n___\n", "break:1-1 break:2-2 break:3-3", "|||"},
+    {62, "# foo\n## foo\n### foo\n#### foo\n##### foo\n###### foo\n",
+        "heading1:1-1 heading2:2-2 heading3:3-3 heading4:4-4 heading5:5-5 heading6:6-6", "foo|foo|foo|foo|foo|foo|"},
+    {71, "## foo ##\n  ###   bar    ###\n", "heading2:1-1 heading3:2-2", "foo|bar|"},
+    {80, "Foo *bar*\n=========\n\nFoo *bar*\n---------\n", "setext1:1-2 blank:3-3 setext2:4-5", "Foo *bar*||Foo *bar*|"},
+    {81, "Foo *bar\nbaz*\n====\n", "setext1:1-3", "Foo *bar\nbaz*|"},
+    {92, "> Foo\n---\n", "quote@0 paragraph:1-1 end break:2-2", "Foo||"},
+    {107, "    a simple\n      indented code block\n", "indented:1-2", "a simple\n  indented code block\n|"},
+    {108, "  - foo\n\n    bar\n", "item-0,4@2 paragraph:1-1 blank:2-2 paragraph:3-3 end", "foo||bar|"},
+    {111, "    chunk1\n\n    chunk2\n  \n \n \n    chunk3\n", "indented:1-7", "chunk1\n\nchunk2\n\n\n\nchunk3\n|"},
+    {119, "```\n<\n >\n```\n", "fenced`3:1-4", "<\n >\n|"},
+    {120, "~~~\n<\n >\n~~~\n", "fenced~3:1-4", "<\n >\n|"},
+    {124, "````\naaa\n```\n``````\n", "fenced`4:1-4", "aaa\n```\n|"},
+    {131, " ```\n aaa\naaa\n```\n", "fenced`3:1-4", "aaa\naaa\n|"},
+    {148, "<table><tr><td>\n<pre>\n**Hello**,\n\n_world_.\n</pre>\n</td></tr></table>\n",
+        "html6:1-3 blank:4-4 paragraph:5-6 html6:7-7",
+        "<table><tr><td>\n<pre>\n**Hello**,\n||_world_.\n</pre>|</td></tr></table>\n|"},
+    {192, "[foo]: /url \"title\"\n\n[foo]\n", "definition:1-1 blank:2-2 paragraph:3-3", "[foo]: /url \"title\"||[foo]|"},
+    {196, "[foo]: /url '\ntitle\nline1\nline2\n'\n\n[foo]\n", "definition:1-5 blank:6-6 paragraph:7-7",
+        "[foo]: /url '\ntitle\nline1\nline2\n'||[foo]|"},
+    {215, "[foo]: /url\nbar\n===\n[foo]\n", "definition:1-1 setext1:2-3 paragraph:4-4", "[foo]: /url|bar|[foo]|"},
+    {216, "[foo]: /url\n===\n[foo]\n", "definition:1-1 paragraph:2-3", "[foo]: /url|===\n[foo]|"},
+    {217, "[foo]: /foo-url \"foo\"\n[bar]: /bar-url\n  \"bar\"\n[baz]: /baz-url\n\n[foo],\n[bar],\n[baz]\n",
+        "definition:1-1 definition:2-3 definition:4-4 blank:5-5 paragraph:6-8",
+        "[foo]: /foo-url \"foo\"|[bar]: /bar-url\n\"bar\"|[baz]: /baz-url||[foo],\n[bar],\n[baz]|"},
+    {218, "[foo]\n\n> [foo]: /url\n", "paragraph:1-1 blank:2-2 quote@7 definition:3-3 end", "[foo]||[foo]: /url|"},
+    {222, "  aaa\n bbb\n", "paragraph:1-2", "aaa\nbbb|"},
+    {228, "> # Foo\n> bar\n> baz\n", "quote@0 heading1:1-1 paragraph:2-3 end", "Foo|bar\nbaz|"},
+    {233, "> bar\nbaz\n> foo\n", "quote@0 paragraph:1-3 end", "bar\nbaz\nfoo|"},
+    {235, "> - foo\n- bar\n", "quote@0 item-0,2@2 paragraph:1-1 end end item-0,2@8 paragraph:2-2 end", "foo|bar|"},
+    {237, "> ```\nfoo\n```\n", "quote@0 fenced`3:1-1 end paragraph:2-2 fenced`3:3-3", "|foo||"},
+    {252, ">     code\n\n>    not code\n",
+        "quote@0 indented:1-1 end blank:2-2 quote@12 paragraph:3-3 end", "code\n||not code|"},
+    {254, "1.  A paragraph\n    with two lines.\n\n        indented code\n\n    > A block quote.\n",
+        "item.1,4@0 paragraph:1-2 blank:3-3 indented:4-4 blank:5-5 quote@64 paragraph:6-6 end end",
+        "A paragraph\nwith two lines.||indented code\n||A block quote.|"},
+    {278, "-\n  foo\n-\n  ```\n  bar\n  ```\n-\n      baz\n",
+        "item-0,2@0 blank:1-1 paragraph:2-2 end item-0,2@8 blank:3-3 fenced`3:4-6 end item-0,2@28 blank:7-7 indented:8-8 end",
+        "|foo||bar\n||baz\n|"},
+    {280, "-\n\n  foo\n", "item-0,2@0 blank:1-1 end blank:2-2 paragraph:3-3", "||foo|"},
+    {302, "- foo\n- bar\n+ baz\n",
+        "item-0,2@0 paragraph:1-1 end item-0,2@6 paragraph:2-2 end item+0,2@12 paragraph:3-3 end", "foo|bar|baz|"},
+    {303, "1. foo\n2. bar\n3) baz\n",
+        "item.1,3@0 paragraph:1-1 end item.2,3@7 paragraph:2-2 end item)3,3@14 paragraph:3-3 end", "foo|bar|baz|"},
+    /* GitHub Flavored Markdown 0.29, section 4.10 */
+    {198, "| foo | bar |\n| --- | --- |\n| baz | bim |\n", "table2:1-3", "|"},
+};
+
+static char said[4096];
+
+static void say(const char *text, size_t length) {
+    size_t at = strlen(said);
+    memcpy(said + at, text, length), said[at + length] = 0;
+}
+
+static void describe(const struct mds_block *block, char *text) {
+    const char *word = words[block->kind];
+    size_t first = block->line + 1, last = block->line + block->lines;
+    switch (block->kind) {
+    case MDS_BLOCK_END: strcpy(text, word); break;
+    case MDS_BLOCK_QUOTE: sprintf(text, "%s@%zu", word, block->place); break;
+    case MDS_BLOCK_ITEM: sprintf(text, "%s%c%u,%u@%zu", word, block->byte, block->number, block->width, block->place); break;
+    case MDS_BLOCK_FENCED: sprintf(text, "%s%c%zu:%zu-%zu", word, block->byte, block->count, first, last); break;
+    case MDS_BLOCK_TABLE: sprintf(text, "%s%zu:%zu-%zu", word, block->count, first, last); break;
+    default:
+        if (block->number > 0)
+            sprintf(text, "%s%u:%zu-%zu", word, block->number, first, last);
+        else
+            sprintf(text, "%s:%zu-%zu", word, first, last);
+    }
+}
+
+static void is_said(int example, const char *wanted) {
+    same(example, said, strcmp(said, wanted) == 0, true);
+}
+
+/* The blocks of the page, which are written where there is room for all of them, and nowhere else. */
+static size_t blocks_of(int example, const char *page, size_t length, struct mds_block *blocks) {
+    const void *bytes = given(BYTES, page, length);
+    size_t count = mds_scan_blocks(bytes, length, NULL, 0).count, size = count * sizeof(*blocks);
+    same(example, "fits", count <= MOST, true);
+    for (size_t less = 0; less < 2 && less <= count; less++) {
+        void *buffer = writable(BUFFER, size);
+        struct mds_blocks told = mds_scan_blocks(bytes, length, buffer, count - less);
+        same(example, "status", told.status, less ? MDS_TOO_SHORT : MDS_OK);
+        same(example, "count", told.count, count);
+        same(example, "is_left", is_left(BUFFER, less ? 0 : size), true);
+        if (!less)
+            memcpy(blocks, buffer, size);
+    }
+    return count;
+}
+
+/* The content of a block, which is written where there is room for it. */
+static size_t content_of(
+    int example, const char *page, size_t length, const struct mds_block *block, const struct mds_block *open, size_t depth,
+    size_t kept, char *text) {
+    const void *bytes = given(BYTES, page, length), *leaf = given(LIST, block, sizeof(*block));
+    const struct mds_block *containers = given(OTHER_BYTES, open, depth * sizeof(*open));
+    struct mds_text found = mds_block_content(bytes, length, leaf, containers, depth, kept, NULL, 0);
+    size_t needed = found.length;
+    same(example, "taken", found.taken, block->bytes);
+    for (size_t less = 0; less < 2 && less <= needed; less++) {
+        uint8_t *buffer = writable(BUFFER, needed);
+        found = mds_block_content(bytes, length, leaf, containers, depth, kept, buffer, needed - less);
+        same(example, "status", found.status, less ? MDS_TOO_SHORT : MDS_OK);
+        same(example, "length", found.length, needed);
+        same(example, "is_left", is_left(BUFFER, less ? 0 : needed), true);
+        if (!less)
+            memcpy(text, buffer, needed);
+    }
+    return needed;
+}
+
+/* Goes through the blocks of a page with the containers that are open. What is said then are the contents. */
+static void contents_of(int example, const char *page, size_t length, const struct mds_block *blocks, size_t count) {
+    struct mds_block open[MOST];
+    size_t depth = 0, kept = 0;
+    char text[4 * LONGEST * LONGEST];
+    said[0] = 0;
+    for (size_t i = 0; i < count; i++) {
+        if (blocks[i].kind == MDS_BLOCK_END)
+            kept = --depth;
+        else if (blocks[i].kind <= MDS_BLOCK_ITEM)
+            open[depth++] = blocks[i];
+        else {
+            size_t found = content_of(example, page, length, &blocks[i], open, depth, kept, text);
+            say(text, found), say("|", 1), kept = depth;
+        }
+    }
+    same(example, "containers that are open", depth, 0);
+}
+
+static void examples(void) {
+    struct mds_block blocks[MOST];
+    for (size_t i = 0; i < sizeof(rows) / sizeof(*rows); i++) {
+        const struct row *row = &rows[i];
+        size_t length = strlen(row->page), count = blocks_of(row->example, row->page, length, blocks);
+        said[0] = 0;
+        for (size_t j = 0; j < count; j++) {
+            char text[128];
+            describe(&blocks[j], text), say(" ", j > 0), say(text, strlen(text));
+        }
+        is_said(row->example, row->blocks);
+        contents_of(row->example, row->page, length, blocks, count);
+        is_said(row->example, row->contents);
+    }
+}
+
+/* Places are those of the bytes that they name. */
+static void places(void) {
+    static const char page[] = "> - a\n\n   b\n";
+    struct mds_block blocks[MOST];
+    SAME(blocks_of(0, page, sizeof(page) - 1, blocks), 7);
+    SAME(blocks[0].place, 0), SAME(blocks[1].place, 2);
+    SAME(blocks[2].start, 0), SAME(blocks[2].bytes, 6), SAME(blocks[2].place, 4), SAME(blocks[2].indent, 0);
+    SAME(blocks[5].start, 6), SAME(blocks[5].bytes, 1), SAME(blocks[5].place, 6), SAME(blocks[5].line, 1);
+    SAME(blocks[6].start, 7), SAME(blocks[6].bytes, 5), SAME(blocks[6].place, 10), SAME(blocks[6].indent, 3);
+    SAME(mds_scan_blocks(NULL, 0, NULL, 0).status, MDS_OK), SAME(mds_scan_blocks(NULL, 0, NULL, 0).count, 0);
+}
+
+/* What stands in a page of 8 bytes with these numbers, in a container of this kind. */
+static void refused(int line, struct mds_block block, uint32_t container, uint32_t status) {
+    struct mds_block open = {.kind = container};
+    const void *bytes = given(BYTES, "a\nb\nc\nd\n", 8), *leaf = given(LIST, &block, sizeof(block));
+    const void *containers = given(OTHER_BYTES, &open, sizeof(open));
+    struct mds_text found = mds_block_content(bytes, 8, leaf, containers, 1, 1, writable(BUFFER, 8), 8);
+    same(line, "status", found.status, status);
+    same(line, "is_left", is_left(BUFFER, status == MDS_OK ? 8 : 0), true);
+    same(line, "taken", found.taken, status == MDS_OK ? block.bytes : 0);
+    same(line, "length", status != MDS_OK && found.length > 0, false);
+}
+
+static void refusals(void) {
+    const struct mds_block paragraph = {.kind = MDS_BLOCK_PARAGRAPH, .start = 2, .bytes = 4};
+    struct mds_block block = paragraph;
+    refused(__LINE__, block, MDS_BLOCK_QUOTE, MDS_OK);
+    refused(__LINE__, block, MDS_BLOCK_ITEM, MDS_OK);
+    for (uint32_t kind = 0; kind < 16; kind++)
+        refused(__LINE__, block, kind, kind == 1 || kind == 2 ? MDS_OK : MDS_BAD_KIND);
+    refused(__LINE__, block, UINT32_MAX, MDS_BAD_KIND);
+    block.bytes = 6, refused(__LINE__, block, MDS_BLOCK_QUOTE, MDS_OK);
+    block.bytes = 7, refused(__LINE__, block, MDS_BLOCK_QUOTE, MDS_PAST_END);
+    block.bytes = SIZE_MAX, refused(__LINE__, block, MDS_BLOCK_QUOTE, MDS_PAST_END);
+    block.start = SIZE_MAX, refused(__LINE__, block, MDS_BLOCK_QUOTE, MDS_PAST_END);
+    block.bytes = 0, refused(__LINE__, block, MDS_BLOCK_QUOTE, MDS_PAST_END);
+    block.start = 8, refused(__LINE__, block, MDS_BLOCK_QUOTE, MDS_OK);
+    block.start = 9, refused(__LINE__, block, MDS_BLOCK_QUOTE, MDS_PAST_END);
+    block = paragraph, block.number = 1, refused(__LINE__, block, MDS_BLOCK_QUOTE, MDS_BAD_KIND);
+    block = paragraph, block.byte = '`', refused(__LINE__, block, MDS_BLOCK_QUOTE, MDS_BAD_KIND);
+    block = paragraph, block.count = 1, refused(__LINE__, block, MDS_BLOCK_QUOTE, MDS_BAD_KIND);
+    block = paragraph;
+    for (block.kind = 0; block.kind < 16; block.kind++) {
+        bool is_plain = block.kind >= MDS_BLOCK_BLANK && block.kind <= MDS_BLOCK_PARAGRAPH && block.kind != MDS_BLOCK_HEADING
+            && block.kind != MDS_BLOCK_SETEXT && block.kind != MDS_BLOCK_HTML;
+        refused(__LINE__, block, MDS_BLOCK_QUOTE, is_plain ? MDS_OK : MDS_BAD_KIND);
+    }
+    for (block.number = 0; block.number < 10; block.number++) {
+        bool is_level = block.number >= 1 && block.number <= 6, is_html = block.number >= 1 && block.number <= 7;
+        block.kind = MDS_BLOCK_HEADING, refused(__LINE__, block, MDS_BLOCK_QUOTE, is_level ? MDS_OK : MDS_BAD_KIND);
+        block.kind = MDS_BLOCK_SETEXT, refused(__LINE__, block, MDS_BLOCK_QUOTE, is_level ? MDS_OK : MDS_BAD_KIND);
+        block.kind = MDS_BLOCK_HTML, refused(__LINE__, block, MDS_BLOCK_QUOTE, is_html ? MDS_OK : MDS_BAD_KIND);
+    }
+    block.number = 257, refused(__LINE__, block, MDS_BLOCK_QUOTE, MDS_BAD_KIND);
+}
+
+static uint64_t seed = 9;
+
+static size_t made(size_t below) {
+    seed ^= seed << 13, seed ^= seed >> 7, seed ^= seed << 17;
+    return seed % below;
+}
+
+/* A page of the pieces that blocks begin with. */
+static size_t make_page(char *page) {
+    static const char *const pieces[] = {
+        "> ", "- ", "1. ", "\n", "\n\n", "\r", "\t", "    ", "  ", "a", "# b", "```", "===", "---", "[c]: d", "<div>", "|-|", "\xff"};
+    size_t length = 0, wanted = made(LONGEST);
+    for (;;) {
+        const char *piece = pieces[made(sizeof(pieces) / sizeof(*pieces))];
+        if (length + strlen(piece) > wanted)
+            return length;
+        memcpy(page + length, piece, strlen(piece)), length += strlen(piece);
+    }
+}
+
+static void made_pages(void) {
+    char page[LONGEST];
+    struct mds_block blocks[4 * LONGEST];
+    for (size_t i = 0; i < 20000; i++) {
+        size_t length = make_page(page), place = 0, line = 0, depth = 0;
+        at_front = i % 2;
+        size_t count = mds_scan_blocks(given(BYTES, page, length), length, blocks, 4 * LONGEST).count;
+        for (size_t j = 0; j < count; j++) {
+            bool is_leaf = blocks[j].kind > MDS_BLOCK_ITEM;
+            depth += blocks[j].kind == MDS_BLOCK_END ? SIZE_MAX : !is_leaf;
+            SAME(depth <= LONGEST, true);
+            SAME(!is_leaf || (blocks[j].start == place && blocks[j].line == line), true);
+            SAME(blocks[j].kind == MDS_BLOCK_END || blocks[j].place < length || blocks[j].kind == MDS_BLOCK_BLANK, true);
+            place += blocks[j].bytes, line += blocks[j].lines;
+        }
+        SAME(place, length), SAME(depth, 0);
+        if (count <= MOST)
+            contents_of(0, page, length, blocks, count);
+    }
+}
+
+/* Whatever numbers a block and its containers have, a call is safe. */
+static void wrong_numbers(void) {
+    char page[LONGEST];
+    for (size_t i = 0; i < 100000; i++) {
+        size_t length = make_page(page), numbers[] = {0, 1, length, length + 1, SIZE_MAX, 255};
+        struct mds_block blocks[4];
+        for (size_t j = 0; j < 4; j++) {
+            size_t *fields[] = {&blocks[j].count, &blocks[j].indent, &blocks[j].line, &blocks[j].lines, &blocks[j].place};
+            blocks[j] = (struct mds_block){.kind = (uint32_t)made(14), .number = (uint32_t)made(8), .byte = (uint8_t)made(256)};
+            blocks[j].width = (uint8_t)made(made(2) ? 256 : 4), blocks[j].start = made(length + 1);
+            blocks[j].bytes = made(length - blocks[j].start + 1);
+            for (size_t k = 0; k < 5; k++)
+                *fields[k] = made(2) ? 0 : numbers[made(6)];
+            blocks[j].kind = j && made(8) ? (uint32_t)(1 + made(2)) : blocks[j].kind;
+        }
+        at_front = i % 2;
+        size_t kept = made(4) ? made(4) : SIZE_MAX, room = made(LONGEST);
+        const void *bytes = given(BYTES, page, length), *containers = given(OTHER_BYTES, blocks + 1, 3 * sizeof(*blocks));
+        const void *leaf = given(LIST, blocks, sizeof(*blocks));
+        struct mds_text found = mds_block_content(bytes, length, leaf, containers, 3, kept, writable(BUFFER, room), room);
+        bool is_ok = found.status == MDS_OK, is_told = is_ok || found.status == MDS_TOO_SHORT;
+        SAME(is_told || found.status == MDS_BAD_KIND, true);
+        SAME(is_left(BUFFER, is_ok ? found.length : 0), true);
+        SAME(found.taken, is_told ? blocks[0].bytes : 0);
+    }
+}
+
+int main(void) {
+    examples(), places(), refusals();
+    at_front = true;
+    examples(), places(), refusals();
+    made_pages(), wrong_numbers();
+    return report("blocks");
+}
