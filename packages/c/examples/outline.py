@@ -19,7 +19,6 @@ no definition has, those in block quotes and lists too. Each line begins with th
 It is no full CommonMark parser: all brackets before a label make a full reference, those with a link in them too.
 The status is 0; 1 where a label has no definition; 2 where the outline can't be had.
 """
-SPACE = b" \t\v\f"
 BACKTICKS = re.compile(b"`+")
 
 
@@ -76,14 +75,11 @@ class Outline:
         label = mds.scan_link_label(text, place + 1, end + 1)
         return (label.text, mds.label_key(label.text), label.end - place) if label else (b"", b"", 0)
 
-    def define(self, line, text, place):
-        """Adds the definition at the place in a paragraph, and answers its end, or 0. (4.7)"""
-        found = mds.scan_reference_definition(text, place)
-        if not found:
-            return 0
+    def define(self, line, text):
+        """Adds the definition that this text is, which begins in this line. (4.7)"""
+        found = mds.scan_reference_definition(text)
         label = mds.scan_link_label(text, found.label.start).text
         self.definitions.append((line, label, mds.label_key(label), mds.unescape(text, *found.destination)))
-        return found.end
 
     def inline_length(self, text, place, guard, spans):
         """How many bytes the escape, code span, autolink or HTML at the place takes; else 1. (2.4, 6.1, 6.5, 6.6)"""
@@ -97,10 +93,8 @@ class Outline:
         html = guard.scan(place + 2) if text[place + 1 : place + 2] in (b"!", b"?") else None
         return html - place if html else 1
 
-    def read_text(self, line, level, text):
-        """Adds the full references of a text that begins in this line; where a level is given it is a heading. (6.3)"""
-        if level:
-            self.output.append(b"%d: %b %b\n" % (line, b"#" * level, text.replace(b"\n", b" ")))
+    def read_text(self, line, text):
+        """Adds the full references of a text that begins in this line. (6.3)"""
         guard, spans = mds.HtmlScanGuard(text), CodeSpans(text)
         place = depth = 0
         while place < len(text):
@@ -113,6 +107,24 @@ class Outline:
             line += text.count(b"\n", place, place + taken)
             place += taken
 
+    def read_block(self, page, block):
+        """Reads a heading, a definition, a paragraph or a table, which has its lines for a text. (4.2, 4.3, 4.7, 4.8)"""
+        line, text = block.line + 1, b"\n".join(it.rstrip() for it in block.content().splitlines())
+        if block.level:
+            self.output.append(b"%d: %b %b\n" % (line, b"#" * block.level, text.replace(b"\n", b" ")))
+        if block.kind == mds.BlockKind.DEFINITION:
+            self.define(line, text)
+        elif block.kind == mds.BlockKind.TABLE:
+            self.read_text(line, page[block.start : block.stop])
+        elif block.level or block.kind == mds.BlockKind.PARAGRAPH:
+            self.read_text(line, text)
+
+    def read(self, page):
+        """Goes through the blocks of a page, and answers as `report`."""
+        for block in mds.scan_blocks(page):
+            self.read_block(page, block)
+        return self.report()
+
     def report(self):
         """All that is printed, and how many labels have no definition."""
         known = {key for _, _, key, _ in self.definitions}
@@ -121,141 +133,6 @@ class Outline:
             self.output.append(b"%d: [%b]: %b\n" % (line, label, target.replace(b"\n", b" ")))
         self.output += [b"%d: [%b] has no definition\n" % (line, label) for line, label, _ in missing]
         return b"".join(self.output), len(missing)
-
-
-class Reader:
-    """Goes through a page line by line: `open` has the columns by which the lines of each open list item are indented,
-    0 of a block quote; `paragraph` the lines of the open paragraph, without markers and indent; `fence` is that of the
-    open code block, and `html` the kind of the open HTML block, or None. Where the innermost item has only a marker, the
-    line `blank_end` ends it if that is blank."""
-
-    def __init__(self, page):
-        self.page, self.outline, self.at, self.end = page, Outline(), mds.LineStart(page), 0
-        self.number, self.begun_at = 0, 0
-        self.open, self.blank_end, self.paragraph, self.fence, self.html = [], 0, [], None, None
-
-    def read(self):
-        while self.end < len(self.page):
-            begin, self.end = self.end, mds.scan_line(self.page, self.end)
-            self.at = mds.LineStart(self.page, begin, self.end)
-            self.number += 1
-            self.read_line()
-        self.close_beyond(0)
-        return self.outline.report()
-
-    def end_paragraph(self, level):
-        """Ends the paragraph, or heading of this level, and answers whether it is more than definitions. (4.3, 4.7)"""
-        text = b"".join(line + b"\n" for line in self.paragraph)
-        place = 0
-        while end := self.outline.define(self.begun_at, text, place):
-            self.begun_at += text.count(b"\n", place, end)
-            place = end
-        text = text[place:]
-        self.outline.read_text(self.begun_at, level if text else 0, text.removesuffix(b"\n"))
-        self.paragraph = []
-        return bool(text)
-
-    def close_beyond(self, depth):
-        """Closes what is open beyond so many containers. A paragraph may then begin in this line."""
-        self.end_paragraph(0)
-        self.begun_at = self.number
-        del self.open[depth:]
-        self.fence = self.html = None
-
-    def is_blank(self):
-        return mds.scan_blank_line(self.page, self.at.place, self.end) is not None
-
-    def goes_on(self, depth):
-        """Whether the line goes on this container, whose marker or indent is then taken. (5.1, 5.2)"""
-        before, indent = self.at.copy(), self.open[depth]
-        space = self.at.upto(indent or 4)
-        ended = depth + 1 == len(self.open) and self.blank_end == self.number and self.is_blank()
-        on = space == indent or self.is_blank()
-        if indent == 0:
-            on = space < 4 and self.at.quote()
-        if ended or not on:
-            self.at = before
-        return on and not ended
-
-    def opens_container(self, depth):
-        """Opens what container begins here. An item that ends a paragraph has a text, and the number 1. (5.2)"""
-        before, space = self.at.copy(), self.at.upto(4)
-        indent = 0
-        if space == 4 or not self.at.quote():
-            item = self.at.list_item(space)
-            counts_on = item and item.start != 1 and item.delimiter in b".)"
-            ends_paragraph = self.paragraph and depth == len(self.open)
-            if space == 4 or not item or (ends_paragraph and (counts_on or self.is_blank())):
-                self.at = before
-                return False
-            indent = item.indent
-        self.close_beyond(depth)
-        self.open.append(indent)
-        self.blank_end = self.number + 1 if self.is_blank() else 0
-        return True
-
-    def atx_text(self, level):
-        """The text of an ATX heading, without its opening and its closing sequence. (4.2)"""
-        text = self.page[self.at.place + level : self.end].strip(SPACE + b"\r\n")
-        front = text.rstrip(b"#")
-        return front.rstrip(SPACE) if not front or front[-1] in SPACE else text
-
-    def html_kind(self):
-        """The kind of the HTML block that begins at the place, or None. A tag alone can't interrupt a paragraph. (4.6)"""
-        kind = mds.scan_html_block_start(self.page, self.at.place, self.end)
-        return None if self.paragraph and kind == mds.HtmlBlockKind.TAG_ALONE else kind
-
-    def read_html(self):
-        """A line of the open HTML block, which it may end. (4.6)"""
-        if mds.ends_html_block(self.page, self.at.place, self.end, kind=self.html):
-            self.html = None
-
-    def read_block(self, depth):
-        """Whether the rest of a line makes a heading, is a thematic break, or begins code or HTML. (4.1 to 4.6)"""
-        rest = self.page, self.at.place, self.end
-        level, underline = mds.scan_atx_heading(*rest), mds.scan_setext_heading(*rest)
-        fence, html = mds.scan_code_fence(*rest), self.html_kind()
-        underlines = underline and self.paragraph and depth == len(self.open)
-        if underlines and self.end_paragraph(underline.level):
-            return True
-        if not level and not fence and not html and not mds.scan_hrule(*rest):
-            return False
-        self.close_beyond(depth)
-        self.fence, self.html = fence and (fence.byte, fence.end - self.at.place), html
-        if level:
-            self.outline.read_text(self.number, level, self.atx_text(level))
-        return True
-
-    def closes_fence(self):
-        byte, count = self.fence
-        return mds.scan_closing_code_fence(self.page, self.at.place, self.end, byte=byte, count=count) is not None
-
-    def read_leaf(self, depth):
-        """What stands behind a line's containers. A paragraph goes on without those that are not there. (4.8, 5.1)"""
-        indented = self.at.upto(4) == 4
-        if self.is_blank() or (indented and not self.paragraph):
-            self.close_beyond(depth)
-        elif indented or not self.read_block(depth):
-            if not self.paragraph:
-                self.close_beyond(depth)
-            self.paragraph.append(self.page[self.at.place : self.end].lstrip(SPACE).rstrip(SPACE + b"\r\n"))
-
-    def read_line(self):
-        depth = 0
-        while depth < len(self.open) and self.goes_on(depth):
-            depth += 1
-        if depth < len(self.open) and (self.html or self.fence):
-            self.close_beyond(depth)
-        if self.fence:
-            indented = self.at.upto(4) == 4
-            if not indented and self.closes_fence():
-                self.fence = None
-        elif not self.html:
-            while self.opens_container(depth):
-                depth = len(self.open)
-            self.read_leaf(depth)
-        if self.html:
-            self.read_html()
 
 
 def read_page(words):
@@ -277,7 +154,7 @@ def main(words):
         sys.stderr.write(HELP)
         return 2
     try:
-        report, missing = Reader(read_page(words)).read()
+        report, missing = Outline().read(read_page(words))
     except MemoryError:
         fail("memory", "refused")
     try:

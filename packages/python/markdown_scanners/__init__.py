@@ -99,6 +99,7 @@ from .line_scanners import (
     scan_while,
     scan_whitespace_in_line,
 )
+from .pages import Block, BlockKind, BlockQuote, Container, Item, scan_blocks
 from .runs import CallKind, LineAnswer, line_rest, run_inline_html, run_line
 from .skips import Skips
 
@@ -107,7 +108,11 @@ __all__ = [
     "AlertKind",
     "Alignment",
     "BadSkipsError",
+    "Block",
+    "BlockKind",
+    "BlockQuote",
     "CallKind",
+    "Container",
     "DelimiterRun",
     "EmptyError",
     "Entity",
@@ -116,6 +121,7 @@ __all__ = [
     "HtmlScanGuard",
     "Indent",
     "InsideFindError",
+    "Item",
     "Label",
     "Line",
     "LineAnswer",
@@ -158,6 +164,7 @@ __all__ = [
     "scan_autolink",
     "scan_blank_line",
     "scan_blockquote_start",
+    "scan_blocks",
     "scan_ch",
     "scan_ch_repeat",
     "scan_closing_code_fence",

@@ -18,7 +18,7 @@ outline = loaded()
 
 
 def prints(page):
-    return outline.Reader(page.encode()).read()[0].decode()
+    return outline.Outline().read(page.encode())[0].decode()
 
 
 def lines_run(page):

@@ -11,6 +11,8 @@ def of_str(page: str) -> None:
     assert_type(mds.scan_entity(page), Optional[mds.Entity[str]])
     assert_type(mds.scan_link_label(page), Optional[mds.Label[str]])
     assert_type(mds.line_rest(mds.LineStart(page)), str)
+    assert_type(mds.scan_blocks(page), Iterator[mds.Block[str]])
+    assert_type([it.content() for it in mds.scan_blocks(page)], list[str])
 
 
 def of_bytes(page: bytes) -> None:
@@ -18,6 +20,8 @@ def of_bytes(page: bytes) -> None:
     assert_type(mds.scan_entity(page), Optional[mds.Entity[bytes]])
     assert_type(mds.scan_html_tag_over_lines(page, skips=mds.Skips(page)), Optional[mds.Tag[bytes]])
     assert_type(mds.line_rest(mds.LineStart(page)), bytes)
+    assert_type([it.content() for it in mds.scan_blocks(page)], list[bytes])
+    assert_type([it.containers for it in mds.scan_blocks(page)], list[tuple[mds.Container, ...]])
 
 
 def of_buffers(array: bytearray, view: memoryview, mapped: mmap) -> None:

@@ -1,0 +1,169 @@
+"""The blocks of a page, and their content. Sections in brackets are those of CommonMark 0.31.2."""
+from __future__ import annotations
+
+from ctypes import addressof
+from enum import IntEnum
+from typing import Any, Callable, Generic, Iterator, NamedTuple, Optional, Union, overload
+
+from . import _c
+from ._library import function, writer
+from ._pages import Buffer, Made, Page, front, text_for
+from .errors import stated
+from .inline import HtmlBlockKind
+
+_scan_blocks: Callable[..., _c.Blocks] = function("scan_blocks")
+_block_content: Callable[..., tuple[Any, bytes]] = writer("block_content")
+
+
+class BlockKind(IntEnum):
+    """The kind of a leaf block."""
+
+    BLANK = _c.BLOCK_BLANK  #: blank lines in a row, which are no block (4.9)
+    BREAK = _c.BLOCK_BREAK  #: a thematic break (4.1)
+    HEADING = _c.BLOCK_HEADING  #: an ATX heading (4.2)
+    SETEXT = _c.BLOCK_SETEXT  #: a setext heading (4.3)
+    INDENTED = _c.BLOCK_INDENTED  #: indented code (4.4)
+    FENCED = _c.BLOCK_FENCED  #: fenced code (4.5)
+    HTML = _c.BLOCK_HTML  #: an HTML block (4.6)
+    TABLE = _c.BLOCK_TABLE  #: a table (GitHub Flavored Markdown 0.29, 4.10)
+    DEFINITION = _c.BLOCK_DEFINITION  #: a link reference definition (4.7)
+    PARAGRAPH = _c.BLOCK_PARAGRAPH  #: a paragraph (4.8)
+
+
+_KINDS = {int(it): it for it in BlockKind}
+
+
+class BlockQuote(NamedTuple):
+    """A block quote. (5.1)"""
+
+    place: int  #: where its marker stands
+
+
+class Item(NamedTuple):
+    """A list item. (5.2)"""
+
+    place: int  #: where its marker stands
+    delimiter: int  #: its bullet `-`, `+` or `*`, or what ends its number, `.` or `)`
+    start: int  #: its number, 0 of a bullet
+    width: int  #: how many columns its later lines are indented by
+
+
+Container = Union[BlockQuote, Item]
+
+
+class Block(Generic[Made]):
+    """A leaf block, in its containers."""
+
+    __slots__ = ("kind", "containers", "kept", "line", "lines", "start", "stop", "place", "indent", "number", "_page", "_given")
+
+    kind: BlockKind
+    containers: tuple[Container, ...]  #: those that it stands in, outermost first
+    kept: int  #: how many of these its first line goes on with; it begins the others
+    line: int  #: how many lines of the page stand before it
+    lines: int  #: how many lines it has
+    start: int  #: the place of its first line
+    stop: int  #: the place behind its last line
+    place: int  #: the place of what its first line has behind its containers and `indent`
+    indent: int  #: the columns of space there, at most four
+    number: int  #: as its kind has one; see `level`, `html_kind`, `fence` and `columns`
+    _page: tuple[Any, int, Optional[int]]
+    _given: tuple[Any, Any]
+
+    def __repr__(self) -> str:
+        return f"<{self.kind.name} of {self.lines} lines from line {self.line} on>"
+
+    @property
+    def level(self) -> Optional[int]:
+        """The level of a heading, 1 to 6."""
+        return self.number if self.kind in (BlockKind.HEADING, BlockKind.SETEXT) else None
+
+    @property
+    def html_kind(self) -> Optional[HtmlBlockKind]:
+        """The kind of an HTML block."""
+        return HtmlBlockKind(self.number) if self.kind == BlockKind.HTML else None
+
+    @property
+    def fence(self) -> Optional[tuple[int, int]]:
+        """Of fenced code the byte of its fence, and how many of it stand there."""
+        return (self._given[0].byte, self._given[0].count) if self.kind == BlockKind.FENCED else None
+
+    @property
+    def columns(self) -> Optional[int]:
+        """How many columns a table has."""
+        return self._given[0].count if self.kind == BlockKind.TABLE else None
+
+    def content(self) -> Made:
+        r"""Of a paragraph, a heading or a definition its text, without what stands for containers and without white space at the
+        ends of all and before each line. Of code and HTML their lines, without containers, indent and fences. Else nothing.
+
+        >>> [block.content() for block in scan_blocks("> # A #\n> b\n  c")]
+        ['A', 'b\nc']
+        """
+        address, length, _held = front(*self._page)
+        leaf, began = self._given
+        containers = (_c.Block * len(began))(*began)
+        given = addressof(leaf), addressof(containers), len(began), self.kept
+        found, text = _block_content(address, length, *given, leaf.bytes)
+        stated(found.status)
+        made: Made = text_for(self._page[0], text)
+        return made
+
+
+@overload
+def scan_blocks(data: str, at: int = 0, end: Optional[int] = None) -> Iterator[Block[str]]: ...
+@overload
+def scan_blocks(data: Buffer, at: int = 0, end: Optional[int] = None) -> Iterator[Block[bytes]]: ...
+def scan_blocks(data: Page, at: int = 0, end: Optional[int] = None) -> Iterator[Block[Any]]:
+    r"""The leaf blocks of a page, from the first to the last, with the containers that they stand in. Their lines, joined, are
+    the page. A paragraph that begins with link reference definitions comes in parts, each definition as a block of its own.
+
+    >>> [(it.kind.name, it.line, len(it.containers)) for it in scan_blocks("# A\n> - b\n\n[c]: d\ne")]
+    [('HEADING', 0, 0), ('PARAGRAPH', 1, 2), ('BLANK', 2, 0), ('DEFINITION', 3, 0), ('PARAGRAPH', 4, 0)]
+    """
+    address, length, origin = front(data, at, end)
+    count = length // 32 + 8
+    while True:
+        blocks = (_c.Block * count)()
+        found = _scan_blocks(address, length, addressof(blocks), count)
+        if found.status != _c.TOO_SHORT:
+            break
+        count = found.count
+    stated(found.status)
+    return _leaves((data, at, end), origin, blocks, found.count)
+
+
+def _leaves(page: tuple[Any, int, Optional[int]], origin: int, blocks: Any, count: int) -> Iterator[Block[Any]]:
+    """The leaf blocks, with the containers that are open. These are copied where they have changed since the block before."""
+    began: list[_c.Block] = []
+    containers: list[Container] = []
+    same: Optional[tuple[tuple[Container, ...], tuple[_c.Block, ...]]] = ((), ())
+    kept = 0
+    for it in map(blocks.__getitem__, range(count)):
+        kind = it.kind
+        if kind == _c.BLOCK_END:
+            began.pop()
+            containers.pop()
+            kept, same = len(began), None
+        elif kind in _KINDS:
+            if same is None:
+                same = tuple(containers), tuple(began)
+            yield _leaf(page, origin, it, kept, *same)
+            kept = len(began)
+        else:
+            began.append(it)
+            containers.append(_container(origin + it.place, it))
+            same = None
+
+
+def _container(place: int, it: Any) -> Container:
+    return BlockQuote(place) if it.kind == _c.BLOCK_QUOTE else Item(place, it.byte, it.number, it.width)
+
+
+def _leaf(page: Any, origin: int, it: Any, kept: int, containers: tuple[Container, ...], began: tuple[Any, ...]) -> Block[Any]:
+    made: Block[Any] = Block()
+    made.kind, made.number, made.indent = _KINDS[it.kind], it.number, it.indent
+    made.containers, made.kept = containers, kept
+    made.line, made.lines = it.line, it.lines
+    made.start, made.stop, made.place = origin + it.start, origin + (it.start + it.bytes), origin + it.place
+    made._page, made._given = page, (it, began)
+    return made

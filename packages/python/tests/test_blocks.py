@@ -1,0 +1,100 @@
+"""The blocks of pages and their content, on the rows of packages/c/tests/blocks.c: examples of CommonMark 0.31.2 by their numbers.
+What C would say is made of the leaf blocks and their containers."""
+import ast
+import re
+import unittest
+from pathlib import Path
+
+import markdown_scanners as mds
+from markdown_scanners import BlockKind, BlockQuote, Item
+
+ROWS = Path(__file__).resolve().parents[2] / "c/tests/blocks.c"
+WORDS = r'((?:"(?:[^"\\]|\\.)*"\s*)+)'
+NUMBERED = {BlockKind.HEADING, BlockKind.SETEXT, BlockKind.HTML}
+
+
+def rows():
+    """Each example with its page, its blocks and their contents."""
+    for number, *words in re.findall(rf"^    \{{(\d+), {WORDS},\s*{WORDS},\s*{WORDS}\}},$", ROWS.read_text(), re.M):
+        yield int(number), *[ast.literal_eval(f"({it})") for it in words]
+
+
+def word_of(container, at):
+    if isinstance(container, BlockQuote):
+        return f"quote@{container.place - at}"
+    return f"item{chr(container.delimiter)}{container.start},{container.width}@{container.place - at}"
+
+
+def leaf_word(block):
+    more = block.number if block.kind in NUMBERED else block.columns or ""
+    if block.fence:
+        more = f"{chr(block.fence[0])}{block.fence[1]}"
+    return f"{block.kind.name.lower()}{more}:{block.line + 1}-{block.line + block.lines}"
+
+
+def described(page, at=0, end=None):
+    """What begins and ends, and what stands there; and the contents."""
+    said, contents, depth = [], [], 0
+    for block in mds.scan_blocks(page, at, end):
+        said += ["end"] * (depth - block.kept) + [word_of(it, at) for it in block.containers[block.kept :]] + [leaf_word(block)]
+        contents.append(block.content())
+        depth = len(block.containers)
+    return " ".join(said + ["end"] * depth), contents
+
+
+class Blocks(unittest.TestCase):
+    def test_rows(self):
+        """As C has them, of a page by itself, inside of other bytes, in a buffer and as a str among other characters."""
+        found = list(rows())
+        self.assertEqual(len(found), ROWS.read_text().count('\n    {') - ROWS.read_text().count("\n    {\n"))
+        for number, page, blocks, contents in found:
+            data = page.encode()
+            wanted = blocks, [it.encode() for it in contents.split("|")[:-1]]
+            self.assertEqual(described(data), wanted, number)
+            self.assertEqual(described(b"# x\xff" + data + b"> y", 4, 4 + len(data)), wanted, number)
+            self.assertEqual(described(bytearray(data)), wanted, number)
+            self.assertEqual(described(page), (blocks, contents.split("|")[:-1]), number)
+            self.assertEqual(described("é🍔" + page + "- é", 2, 2 + len(page)), (blocks, contents.split("|")[:-1]), number)
+
+    def test_fields(self):
+        first, second, third = mds.scan_blocks("> é\n\n1) ```` é\n")
+        self.assertEqual((first.start, first.stop, first.place, first.indent, first.kept), (0, 4, 2, 0, 0))
+        self.assertEqual((second.kind, second.start, second.stop, second.containers, second.kept), (BlockKind.BLANK, 4, 5, (), 0))
+        self.assertEqual((third.start, third.stop, third.place, third.line, third.lines), (5, 15, 8, 2, 1))
+        self.assertEqual((first.containers, third.containers), ((BlockQuote(0),), (Item(5, ord(")"), 1, 3),)))
+        self.assertEqual((third.fence, third.level, third.html_kind, third.columns), ((ord("`"), 4), None, None, None))
+        self.assertEqual([it.level for it in mds.scan_blocks(b"### a\nb\n---")], [3, 2])
+        self.assertEqual([it.html_kind for it in mds.scan_blocks(b"<!-- a -->")], [mds.HtmlBlockKind.COMMENT])
+        self.assertEqual([it.columns for it in mds.scan_blocks(b"|a|b|\n|-|-|")], [2])
+
+    def test_no_page(self):
+        self.assertEqual(list(mds.scan_blocks(b"")), [])
+        self.assertRaises(TypeError, mds.scan_blocks, None)
+        self.assertRaises(IndexError, mds.scan_blocks, b"a", 2)
+        self.assertRaises(mds.LoneSurrogateError, mds.scan_blocks, "\ud800")
+
+    def test_content_of_any_bytes(self):
+        self.assertEqual([it.content() for it in mds.scan_blocks(b"> \xff\n>\t\t\xfe\n\n>\t\tc")], [b"\xff\n\xfe", b"", b"  c"])
+
+    def test_content_longer_than_its_lines(self):
+        """Of each tab one column is indent. (4.5)"""
+        (block,) = mds.scan_blocks(" ```\n" + "\ta\n" * 2000)
+        self.assertEqual(block.content(), "   a\n" * 2000)
+
+    def test_page_that_has_changed(self):
+        page = bytearray(b"a\nb\n")
+        (block,) = mds.scan_blocks(page)
+        page[0] = ord("c")
+        self.assertEqual(block.content(), b"c\nb")
+        del page[2:]
+        self.assertRaises(mds.RefusalError, block.content)
+
+    def test_deep(self):
+        """Each container is open in one leaf block, and copied once."""
+        (block,) = mds.scan_blocks(b">" * 100000 + b"a")
+        self.assertEqual((len(block.containers), block.place, block.content()), (100000, 100000, b"a"))
+        self.assertEqual(sum(1 for _ in mds.scan_blocks(b"> a\n\n" * 10000)), 20000)
+
+
+if __name__ == "__main__":
+    unittest.main()
