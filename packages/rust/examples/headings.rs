@@ -1,28 +1,17 @@
-//! Prints the ATX headings of a Markdown file, each behind the number of its line. (CommonMark 0.31.2, 4.2)
-//!
-//! It goes by single lines: those of code, of HTML blocks and of containers are not told apart.
+//! Prints the headings of a Markdown file, each after the number of its line: also those in block quotes and list items, and not
+//! what looks like one in code. (CommonMark 0.31.2, 4.2 and 4.3)
 
 use std::path::Path;
 use std::{env, fs, process};
 
-use markdown_scanners::{scan_atx_heading, scan_line, LineStart};
-
-/// The line without its indent, where a heading begins in it.
-fn heading(line: &[u8]) -> Option<&[u8]> {
-    let mut start = LineStart::new(line);
-    start.scan_space_upto(3);
-    let rest = &line[start.bytes_scanned()..];
-    scan_atx_heading(rest).map(|_| rest)
-}
+use markdown_scanners::{scan_blocks, BlockKind};
 
 fn print_headings(page: &[u8]) {
-    let (mut place, mut number) = (0, 0);
-    while place < page.len() {
-        let line = &page[place..][..scan_line(&page[place..])];
-        place += line.len();
-        number += 1;
-        if let Some(found) = heading(line) {
-            println!("{number}: {}", String::from_utf8_lossy(found).trim_end());
+    for block in scan_blocks(page) {
+        if let BlockKind::Heading(level) | BlockKind::Setext(level) = block.kind {
+            let content = block.content();
+            let lines: Vec<_> = String::from_utf8_lossy(&content).lines().map(|it| it.trim_end().to_owned()).collect();
+            println!("{}: {} {}", block.lines.start + 1, "#".repeat(level as usize), lines.join(" "));
         }
     }
 }

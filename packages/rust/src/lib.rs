@@ -11,6 +11,7 @@ mod blocks;
 mod inline;
 mod labels;
 mod line;
+mod pages;
 #[allow(unsafe_code)]
 mod raw;
 mod runs;
@@ -21,6 +22,7 @@ pub use blocks::*;
 pub use inline::*;
 pub use labels::*;
 pub use line::LineStart;
+pub use pages::{scan_blocks, Block, BlockKind, Blocks, Container};
 pub use raw::Skip;
 pub use runs::{line_rest, run_inline_html, run_line, HtmlRun, HtmlStop, LineAnswer, LineCall, LineRun, LineStop};
 pub use spans::*;

@@ -289,3 +289,26 @@ pub(crate) fn run_inline_html(bytes: &[u8], places: &[usize], ends: &mut [usize]
     }
     run
 }
+
+pub(crate) fn scan_blocks(bytes: &[u8], blocks: &mut [ffi::Block]) -> ffi::Blocks {
+    let (listed, capacity) = (blocks.as_mut_ptr(), blocks.len());
+    // SAFETY: each pointer and length are those of one slice, and what is written is a `&mut` of its own.
+    let found = unsafe { ffi::mds_scan_blocks(front(bytes), bytes.len(), listed, capacity) };
+    if found.status == ffi::NO_MEMORY {
+        refused();
+    }
+    found
+}
+
+pub(crate) fn block_content(
+    bytes: &[u8],
+    block: &ffi::Block,
+    containers: &[ffi::Block],
+    kept: usize,
+    buffer: &mut [u8],
+) -> Text {
+    let (listed, many) = (containers.as_ptr(), containers.len());
+    let (room, capacity) = (buffer.as_mut_ptr(), buffer.len());
+    // SAFETY: each pointer and length are those of one slice, the block is a `&`, and what is written is a `&mut` of its own.
+    told(unsafe { ffi::mds_block_content(front(bytes), bytes.len(), block, listed, many, kept, room, capacity) })
+}

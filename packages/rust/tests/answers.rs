@@ -322,3 +322,60 @@ fn runs() {
         assert_eq!((run.answers, run.stop), (vec![Some(12)], Some((1, stop))));
     }
 }
+
+/// The kinds of the leaf blocks, with their first lines, how many containers they go on with, and how many they stand in.
+fn told(page: &[u8]) -> Vec<(BlockKind, usize, usize, usize)> {
+    scan_blocks(page).map(|it| (it.kind, it.lines.start, it.kept, it.containers().len())).collect()
+}
+
+fn contents(page: &str) -> Vec<String> {
+    scan_blocks(page.as_bytes()).map(|it| String::from_utf8(it.content()).unwrap()).collect()
+}
+
+/// Examples of CommonMark 0.31.2 by their numbers, and of tables.
+#[test]
+fn blocks() {
+    use BlockKind::*;
+    use HeadingLevel::*;
+    assert_eq!(told(b""), []);
+    assert_eq!(told(b"***\n"), [(Break, 0, 0, 0)]);
+    assert_eq!(told(b"## foo ##\n\nbar\n---"), [(Heading(H2), 0, 0, 0), (Blank, 1, 0, 0), (Setext(H2), 2, 0, 0)]);
+    assert_eq!(told(b"````\n```\n"), [(Fenced(4, b'`'), 0, 0, 0)]); // as 124
+    assert_eq!(told(b"<!-- a -->\n"), [(Html(HtmlBlockKind::Comment), 0, 0, 0)]);
+    assert_eq!(told(b"| a |\n| - |\n| b |"), [(Table(1), 0, 0, 0)]);
+    let wanted = [(Definition, 0, 0, 0), (Setext(H1), 1, 0, 0), (Paragraph, 3, 0, 0)];
+    assert_eq!(told(b"[foo]: /url\nbar\n===\n[foo]\n"), wanted); // 215
+    assert_eq!(told(b"> bar\nbaz\n> foo\n"), [(Paragraph, 0, 0, 1)]); // 233
+    let wanted = [(Paragraph, 0, 0, 1), (Blank, 1, 1, 1), (Indented, 2, 1, 1)];
+    assert_eq!(told(b"- foo\n\n\t\tbar\n"), wanted); // 5
+    let wanted = [(Blank, 0, 0, 1), (Blank, 1, 0, 0), (Paragraph, 2, 0, 0)];
+    assert_eq!(told(b"-\n\n  foo\n"), wanted); // 280
+    assert_eq!(contents("- foo\n\n\t\tbar\n"), ["foo", "", "  bar\n"]);
+    assert_eq!(contents("> bar\nbaz\n> foo\n"), ["bar\nbaz\nfoo"]);
+    assert_eq!(contents(" ```\n aaa\naaa\n```\n"), ["aaa\naaa\n"]); // 131
+}
+
+#[test]
+fn places_of_blocks() {
+    let page = b"> - a\n\n   b\n 12) c";
+    let blocks: Vec<_> = scan_blocks(page).collect();
+    let quote = Container::Quote { place: 0 };
+    let bullet = Container::Item { place: 2, delimiter: b'-', start: 0, width: 2 };
+    assert_eq!(blocks[0].containers(), [quote, bullet]);
+    assert_eq!((blocks[0].range.clone(), blocks[0].place, blocks[0].indent), (0..6, 4, 0));
+    assert_eq!((blocks[2].range.clone(), blocks[2].place, blocks[2].indent), (7..18, 10, 3));
+    assert_eq!((blocks.len(), blocks[2].lines.clone()), (3, 2..4)); // the number of an item that ends a paragraph is 1
+    let other: Vec<_> = scan_blocks(b" 12) c").collect();
+    assert_eq!(other[0].containers(), [Container::Item { place: 1, delimiter: b')', start: 12, width: 5 }]);
+}
+
+/// More blocks and containers than the room that is tried first.
+#[test]
+fn many_blocks() {
+    let page = [">".repeat(1000), "a\n".into(), "\n- ".repeat(500)].concat();
+    let blocks: Vec<_> = scan_blocks(page.as_bytes()).collect();
+    assert_eq!((blocks[0].containers().len(), blocks[0].content()), (1000, b"a".to_vec()));
+    assert_eq!(blocks.iter().map(|it| it.range.len()).sum::<usize>(), page.len());
+    let code = [b" ```\n".to_vec(), b"\ta\n".repeat(100)].concat(); // of each tab one column is indent (4.5)
+    assert_eq!(scan_blocks(&code).next().unwrap().content(), b"   a\n".repeat(100));
+}

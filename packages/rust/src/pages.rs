@@ -1,0 +1,214 @@
+//! The blocks of a page, and their content. Sections in brackets are those of CommonMark 0.31.2.
+
+use alloc::sync::Arc;
+use alloc::vec;
+use alloc::vec::{IntoIter, Vec};
+use core::ops::Range;
+
+use crate::raw::{self, ffi};
+use crate::values::{HeadingLevel, HtmlBlockKind};
+
+/// The kind of a leaf block.
+#[derive(Clone, Copy, Debug, PartialEq, Eq, Hash)]
+pub enum BlockKind {
+    /// Blank lines in a row, which are no block. (4.9)
+    Blank,
+    /// A thematic break. (4.1)
+    Break,
+    /// An ATX heading. (4.2)
+    Heading(HeadingLevel),
+    /// A setext heading. (4.3)
+    Setext(HeadingLevel),
+    /// Indented code. (4.4)
+    Indented,
+    /// Fenced code, with how many bytes of which its fence has. (4.5)
+    Fenced(usize, u8),
+    /// An HTML block. (4.6)
+    Html(HtmlBlockKind),
+    /// A table with so many columns. (GitHub Flavored Markdown 0.29, 4.10)
+    Table(usize),
+    /// A link reference definition. (4.7)
+    Definition,
+    /// A paragraph. (4.8)
+    Paragraph,
+}
+
+/// A container of blocks.
+#[derive(Clone, Copy, Debug, PartialEq, Eq, Hash)]
+pub enum Container {
+    /// A block quote. (5.1)
+    Quote {
+        /// Where its marker stands.
+        place: usize,
+    },
+    /// A list item. (5.2)
+    Item {
+        /// Where its marker stands.
+        place: usize,
+        /// Its bullet, or what ends its number.
+        delimiter: u8,
+        /// Its number, 0 of a bullet.
+        start: u32,
+        /// How many columns its later lines are indented by.
+        width: u8,
+    },
+}
+
+/// A leaf block, in its containers.
+#[derive(Clone, Debug)]
+pub struct Block<'a> {
+    /// Its kind.
+    pub kind: BlockKind,
+    /// Its lines, counted from 0.
+    pub lines: Range<usize>,
+    /// The bytes of its lines.
+    pub range: Range<usize>,
+    /// The columns of space that its first line has after its containers, at most four.
+    pub indent: usize,
+    /// Where that stands which its first line has after that space.
+    pub place: usize,
+    /// How many of its containers its first line goes on with. It begins the others.
+    pub kept: usize,
+    page: &'a [u8],
+    told: ffi::Block,
+    open: Arc<Open>,
+}
+
+/// The containers that are open, as C has them too.
+#[derive(Clone, Debug, Default)]
+struct Open {
+    told: Vec<ffi::Block>,
+    containers: Vec<Container>,
+}
+
+impl Block<'_> {
+    /// The containers that it stands in, outermost first.
+    ///
+    /// ```
+    /// use markdown_scanners::{scan_blocks, Container};
+    /// let item = Container::Item { place: 2, delimiter: b'-', start: 0, width: 2 };
+    /// let block = scan_blocks(b"> - a").next().unwrap();
+    /// assert_eq!(block.containers(), [Container::Quote { place: 0 }, item]);
+    /// ```
+    #[must_use]
+    pub fn containers(&self) -> &[Container] {
+        &self.open.containers
+    }
+
+    /// Of a paragraph, a heading or a definition its text, without what stands for containers and without white space at the
+    /// ends of all and before each line. Of code and HTML their lines, without containers, indent and fences. Else nothing.
+    ///
+    /// ```
+    /// let blocks: Vec<_> = markdown_scanners::scan_blocks(b"> # A #\n> b\n  c").collect();
+    /// assert_eq!((blocks[0].content(), blocks[1].content()), (b"A".to_vec(), b"b\nc".to_vec()));
+    /// ```
+    #[must_use]
+    pub fn content(&self) -> Vec<u8> {
+        let mut made = vec![0; self.range.len()];
+        loop {
+            let text = raw::block_content(self.page, &self.told, &self.open.told, self.kept, &mut made);
+            let is_short = text.status == ffi::TOO_SHORT;
+            made.resize(text.length, 0);
+            if !is_short {
+                return made;
+            }
+        }
+    }
+}
+
+/// The leaf blocks of a page.
+#[derive(Clone, Debug)]
+pub struct Blocks<'a> {
+    page: &'a [u8],
+    told: IntoIter<ffi::Block>,
+    open: Arc<Open>,
+    kept: usize,
+}
+
+/// The leaf blocks of a page, from the first to the last, with the containers that they stand in. Their lines, joined, are the
+/// page. A paragraph that begins with link reference definitions comes in parts, each definition as a block of its own.
+///
+/// ```
+/// use markdown_scanners::{scan_blocks, BlockKind, HeadingLevel};
+/// let blocks = scan_blocks(b"[a]: b\nC\n===\n> - d");
+/// let told: Vec<_> = blocks.map(|it| (it.kind, it.lines.start, it.containers().len())).collect();
+/// let setext = BlockKind::Setext(HeadingLevel::H1);
+/// assert_eq!(told, [(BlockKind::Definition, 0, 0), (setext, 1, 0), (BlockKind::Paragraph, 3, 2)]);
+/// ```
+#[must_use]
+pub fn scan_blocks(page: &[u8]) -> Blocks<'_> {
+    let mut told = vec![ffi::Block::default(); page.len() / 32 + 8];
+    loop {
+        let found = raw::scan_blocks(page, &mut told);
+        let is_short = found.status == ffi::TOO_SHORT;
+        told.resize(found.count, ffi::Block::default());
+        if !is_short {
+            return Blocks { page, told: told.into_iter(), open: Arc::default(), kept: 0 };
+        }
+    }
+}
+
+impl<'a> Iterator for Blocks<'a> {
+    type Item = Block<'a>;
+
+    fn next(&mut self) -> Option<Block<'a>> {
+        loop {
+            let told = self.told.next()?;
+            if let Some(kind) = kind_of(&told) {
+                return Some(self.leaf(kind, told));
+            }
+            let open = Arc::make_mut(&mut self.open);
+            if told.kind == ffi::BLOCK_END {
+                open.told.pop();
+                open.containers.pop();
+                self.kept = open.told.len();
+            } else {
+                open.told.push(told);
+                open.containers.push(container_of(&told));
+            }
+        }
+    }
+}
+
+impl<'a> Blocks<'a> {
+    fn leaf(&mut self, kind: BlockKind, told: ffi::Block) -> Block<'a> {
+        let kept = core::mem::replace(&mut self.kept, self.open.told.len());
+        Block {
+            kind,
+            lines: told.line..told.line + told.lines,
+            range: told.start..told.start + told.bytes,
+            indent: told.indent,
+            place: told.place,
+            kept,
+            page: self.page,
+            told,
+            open: self.open.clone(),
+        }
+    }
+}
+
+fn container_of(told: &ffi::Block) -> Container {
+    let place = told.place;
+    if told.kind == ffi::BLOCK_QUOTE {
+        return Container::Quote { place };
+    }
+    Container::Item { place, delimiter: told.byte, start: told.number, width: told.width }
+}
+
+/// The kind of a leaf block.
+fn kind_of(told: &ffi::Block) -> Option<BlockKind> {
+    let level = || HeadingLevel::try_from(told.number as usize).ok();
+    Some(match told.kind {
+        ffi::BLOCK_BLANK => BlockKind::Blank,
+        ffi::BLOCK_BREAK => BlockKind::Break,
+        ffi::BLOCK_HEADING => BlockKind::Heading(level()?),
+        ffi::BLOCK_SETEXT => BlockKind::Setext(level()?),
+        ffi::BLOCK_INDENTED => BlockKind::Indented,
+        ffi::BLOCK_FENCED => BlockKind::Fenced(told.count, told.byte),
+        ffi::BLOCK_HTML => BlockKind::Html(HtmlBlockKind::of(told.number)?),
+        ffi::BLOCK_TABLE => BlockKind::Table(told.count),
+        ffi::BLOCK_DEFINITION => BlockKind::Definition,
+        ffi::BLOCK_PARAGRAPH => BlockKind::Paragraph,
+        _ => return None,
+    })
+}
