@@ -1,9 +1,8 @@
 /**
- * Prints the ATX headings of a Markdown file, each behind the number of its line. (CommonMark 0.31.2, 4.2)
+ * Prints the headings of a Markdown file, each after the number of its line: also those in block quotes and list items, and not what
+ * looks like one in code. (CommonMark 0.31.2, 4.2 and 4.3)
  *
  *     node headings.mjs FILE.md
- *
- * It goes by single lines: those of code, of HTML blocks and of containers are not told apart.
  */
 import { readFile } from "node:fs/promises";
 import { argv, exit } from "node:process";
@@ -11,15 +10,10 @@ import { load } from "../markdown_scanners.mjs"; // where the package is install
 
 /** @param {import("../markdown_scanners.mjs").Text<Uint8Array>} page */
 function printHeadings(page) {
-    for (let place = 0, number = 1; place < page.length; number++) {
-        const end = page.scanLine(place);
-        const start = page.lineStart(place, end);
-        start.upto(3);
-        if (page.scanAtxHeading(start.place, end)) {
-            const heading = new TextDecoder().decode(page.bytes.subarray(start.place, end));
-            console.log(`${number}: ${heading.trimEnd()}`);
-        }
-        place = end;
+    for (const block of page.scanBlocks()) {
+        if (!block.level) continue;
+        const lines = new TextDecoder().decode(block.content()).split(/[ \t]*(?:\r\n|\r|\n)/);
+        console.log(`${block.line + 1}: ${"#".repeat(block.level)} ${lines.join(" ")}`);
     }
 }
 

@@ -4,7 +4,7 @@ import { Block, NONE } from "./engine.mjs";
 import { isAnswer } from "./errors.mjs";
 import { byteOf, bytesOf, flagOf, optionsOf, sizeOf } from "./given.mjs";
 import { LineStart } from "./line_start.mjs";
-import { Source } from "./source.mjs";
+import { Pages } from "./pages.mjs";
 
 /** @typedef {{ end: number, delimiter: string, start: number, indent: number }} ListItem `indent` is that of marker and space */
 /** @typedef {{ end: number, level: number }} Underline */
@@ -21,9 +21,9 @@ const ALIGNMENTS = { [c.ALIGN_NONE]: "none", [c.ALIGN_LEFT]: "left", [c.ALIGN_CE
  * The scanners of lines and blocks. Each begins at the place `at`, and reads up to the place `end` at most; options stand behind
  * these. What stands alone in an answer is the place behind what was scanned; null says that nothing of the kind stands there.
  * @template {string | Uint8Array} Made
- * @extends {Source<Made>}
+ * @extends {Pages<Made>}
  */
-export class Blocks extends Source {
+export class Blocks extends Pages {
     /** Whether the bytes are UTF-8. */
     isUtf8(at = 0, end = this.length) {
         return /** @type {boolean} */ (this.scan("isUtf8", at, end));

@@ -40,12 +40,15 @@ test("what a memory has no room for is refused, and less is given", () => {
 });
 
 test("memory that is refused within a call has an error, and the next call has it", () => {
+    const [leaf] = scanners.text("> a\n".repeat(100)).scanBlocks();
     const calls = [
         () => scanners.text("a &amp; b").unescape(),
         () => scanners.text("[a\n b]").scanLinkLabel(1),
         () => scanners.labelKey("Straße"),
         () => scanners.text("|-|").scanTableHead(),
         () => scanners.text("<!a>").runInlineHtml([2]),
+        () => [...scanners.text("> a\n".repeat(100)).scanBlocks()].map((it) => it.line),
+        () => leaf.content(),
     ];
     for (const call of calls) {
         const wanted = call();

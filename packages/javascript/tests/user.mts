@@ -11,9 +11,11 @@ const made: [string, Uint8Array] = [page.unescape(6, undefined, { inTable: false
 const label: { end: number; text: string; start: number | null } | null = page.scanLinkLabel(7);
 const title: { start: number; stop: number } | null | undefined = page.scanReferenceDefinition(0, 3, { maxNext: 3 })?.title;
 const run: "*" | "_" | undefined = page.scanDelimiterRun(0, 3, { begin: 0 })?.character;
+const contents: string[] = Array.from(page.scanBlocks(), (it) => it.content());
+const places: number[][] = Array.from(bytes.scanBlocks(), (it) => it.containers.map((container) => container.place));
 const name: string = new NotUtf8("none").name;
 console.log(level, isQuote, made[0], made[1].length, label?.text, page.scanLinkDest(10, 11)?.end, name);
-console.log(title?.start, run, page.scanCodeSpan()?.stop, scanners.isUnicodeWhitespace("a"), scanners.isUnicodePunctuation(33));
+console.log(contents, places, title?.start, run, page.scanCodeSpan()?.stop, scanners.isUnicodeWhitespace("a"), scanners.isUnicodePunctuation(33));
 
 // @ts-expect-error a place is a number
 page.scanLine("0");

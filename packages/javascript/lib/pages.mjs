@@ -1,0 +1,222 @@
+/** The blocks of a page, and their content. Sections in brackets are those of CommonMark 0.31.2. */
+import * as c from "./c.mjs";
+import { isAnswer } from "./errors.mjs";
+import { Source } from "./source.mjs";
+
+/** @typedef {"break" | "heading" | "setext" | "indented" | "fenced" | "html" | "table" | "definition" | "paragraph"} RealKind */
+/** @typedef {"blank" | RealKind} BlockKind blank lines in a row are no block, and come as one */
+/** @typedef {{ kind: "quote", place: number }} BlockQuote its marker stands at the place (5.1) */
+/** @typedef {{ kind: "item", place: number, delimiter: string, start: number, width: number }} Item (5.2) */
+/** @typedef {BlockQuote | Item} Container */
+
+/** @type {Record<number, BlockKind>} */
+const KINDS = {
+    [c.BLOCK_BLANK]: "blank",
+    [c.BLOCK_BREAK]: "break",
+    [c.BLOCK_HEADING]: "heading",
+    [c.BLOCK_SETEXT]: "setext",
+    [c.BLOCK_INDENTED]: "indented",
+    [c.BLOCK_FENCED]: "fenced",
+    [c.BLOCK_HTML]: "html",
+    [c.BLOCK_TABLE]: "table",
+    [c.BLOCK_DEFINITION]: "definition",
+    [c.BLOCK_PARAGRAPH]: "paragraph",
+};
+const { size: SIZE, read } = c.STRUCTS.block;
+const HALF = 2 ** 32;
+
+/** Structs that were copied from the module's memory. */
+class Rows {
+    /** @param {Uint8Array} bytes */
+    constructor(bytes) {
+        this.bytes = bytes;
+        this.view = new DataView(bytes.buffer, bytes.byteOffset, bytes.length);
+    }
+
+    /** @param {number} at */
+    uint8(at) {
+        return this.view.getUint8(at);
+    }
+
+    /** @param {number} at */
+    uint32(at) {
+        return this.view.getUint32(at, true);
+    }
+
+    /** @param {number} at */
+    size(at) {
+        return this.uint32(at) + this.uint32(at + 4) * HALF;
+    }
+
+    /**
+     * The bytes of one of them.
+     * @param {number} index
+     */
+    row(index) {
+        return this.bytes.subarray(index * SIZE, (index + 1) * SIZE);
+    }
+}
+
+/**
+ * A leaf block, in its containers.
+ * @template {string | Uint8Array} Made
+ */
+export class Leaf {
+    #content;
+
+    /**
+     * @param {Source<Made>} source
+     * @param {number} from where the page begins, in bytes
+     * @param {any} told
+     * @param {Container[]} containers
+     * @param {number} kept
+     * @param {() => Made} content
+     */
+    constructor(source, from, told, containers, kept, content) {
+        /** @type {BlockKind} */
+        this.kind = KINDS[told.kind];
+        /** The containers that it stands in, outermost first. */
+        this.containers = containers;
+        /** How many of these its first line goes on with; it begins the others. */
+        this.kept = kept;
+        /** How many lines of the page stand before it, and how many it has. */
+        this.line = told.line;
+        this.lines = told.lines;
+        /** The place of its first line, and the one after its last. */
+        this.start = source.placeOf(from + told.start);
+        this.stop = source.placeOf(from + told.start + told.bytes);
+        /** The columns of space in its first line after its containers, at most four, and the place after these. */
+        this.indent = told.indent;
+        this.place = source.placeOf(from + told.place);
+        /** The level of a heading, 1 to 6. */
+        this.level = this.kind === "heading" || this.kind === "setext" ? told.number : null;
+        /** Of an HTML block the number of its start condition. (4.6) */
+        this.htmlKind = this.kind === "html" ? told.number : null;
+        /** Of fenced code the character of its fence, and how many stand there. */
+        this.fence = this.kind === "fenced" ? { character: String.fromCharCode(told.byte), count: told.count } : null;
+        /** How many columns a table has. */
+        this.columns = this.kind === "table" ? told.count : null;
+        this.#content = content;
+    }
+
+    /**
+     * Of a paragraph, a heading or a definition its text, without what stands for containers and without white space at the ends of
+     * all and before each line. Of code and HTML their lines, without containers, indent and fences. Else nothing.
+     */
+    content() {
+        return this.#content();
+    }
+}
+
+/**
+ * The blocks of a text.
+ * @template {string | Uint8Array} Made
+ * @extends {Source<Made>}
+ */
+export class Pages extends Source {
+    /**
+     * The leaf blocks of the page between two places, from the first to the last, with the containers that they stand in. Their
+     * lines, joined, are the page. A paragraph that begins with link reference definitions comes in parts, each definition as a
+     * block of its own. (3, 4, 5)
+     */
+    scanBlocks(at = 0, end = this.length) {
+        const [from, to] = this.limits(at, end);
+        return this.#leaves(from, to, this.#rows(from, to));
+    }
+
+    /**
+     * @param {number} from
+     * @param {number} to
+     */
+    #rows(from, to) {
+        for (let room = Math.ceil((to - from) / 32) + 8; ; ) {
+            this.engine.bring(this.block);
+            const at = this.engine.room(room * SIZE);
+            const { status, count } = this.engine.calls.scanBlocks(this.block.address + from, to - from, at, room);
+            if (status !== c.TOO_SHORT) {
+                isAnswer(status);
+                return new Rows(this.engine.heap.bytes.slice(at, at + count * SIZE));
+            }
+            room = count;
+        }
+    }
+
+    /**
+     * The leaf blocks, with the containers that are open. These are copied where they have changed since the block before.
+     * @param {number} from
+     * @param {number} to
+     * @param {Rows} rows
+     */
+    *#leaves(from, to, rows) {
+        /** @type {{ index: number, container: Container }[]} */
+        const open = [];
+        let kept = 0;
+        /** @type {{ index: number, container: Container }[] | null} */
+        let same = null;
+        for (let index = 0; index * SIZE < rows.bytes.length; index++) {
+            const told = read(rows, index * SIZE);
+            if (told.kind in KINDS) {
+                same ??= [...open];
+                yield this.#leaf(from, to, rows, index, told, same, kept);
+                kept = open.length;
+                continue;
+            }
+            same = null;
+            if (told.kind !== c.BLOCK_END) open.push({ index, container: this.#container(from, told) });
+            else {
+                open.pop();
+                kept = open.length;
+            }
+        }
+    }
+
+    /**
+     * @param {number} from
+     * @param {number} to
+     * @param {Rows} rows
+     * @param {number} index
+     * @param {any} told
+     * @param {{ index: number, container: Container }[]} open
+     * @param {number} kept
+     */
+    #leaf(from, to, rows, index, told, open, kept) {
+        const structs = [index, ...open.map((it) => it.index)].map((it) => rows.row(it));
+        const content = () => this.#content(from, to, structs, kept, told.bytes);
+        return new Leaf(this, from, told, open.map((it) => it.container), kept, content);
+    }
+
+    /**
+     * @param {number} from
+     * @param {any} told
+     * @returns {Container}
+     */
+    #container(from, told) {
+        const place = this.placeOf(from + told.place);
+        if (told.kind === c.BLOCK_QUOTE) return { kind: "quote", place };
+        return { kind: "item", place, delimiter: String.fromCharCode(told.byte), start: told.number, width: told.width };
+    }
+
+    /**
+     * The content of a leaf block, whose struct stands before those of its containers.
+     * @param {number} from
+     * @param {number} to
+     * @param {Uint8Array[]} structs
+     * @param {number} kept
+     * @param {number} size
+     */
+    #content(from, to, structs, kept, size) {
+        for (let room = size; ; ) {
+            this.engine.bring(this.block);
+            const at = this.engine.room(structs.length * SIZE);
+            const buffer = this.engine.room(room);
+            structs.forEach((it, index) => this.engine.heap.bytes.set(it, at + index * SIZE));
+            const given = [at, at + SIZE, structs.length - 1, kept, buffer, room];
+            const { status, length } = this.engine.calls.blockContent(this.block.address + from, to - from, ...given);
+            if (status !== c.TOO_SHORT) {
+                isAnswer(status);
+                return this.made(this.engine.heap.bytes.subarray(buffer, buffer + length));
+            }
+            room = length;
+        }
+    }
+}
