@@ -1,7 +1,7 @@
 /** What is seen, as elements. Each answer is a button, which knows its answer. */
 import { CONTRACTS } from "./contracts.mjs";
 
-const BEGINS = /^(heading|underline|break|fence .$|HTML:|table|paragraph|indented)/;
+const BEGINS = /^(heading|underline|break|fence .$|HTML:|header|definition|paragraph|indented)/;
 
 /**
  * @param {string} tag

@@ -2,7 +2,7 @@
 
 /** The bytes that a backslash escapes. (2.4) */
 const PUNCTUATION = new Set([..."!\"#$%&'()*+,-./:;<=>?@[\\]^_`{|}~"].map((it) => it.charCodeAt(0)));
-const [LF, BACKSLASH, BACKTICK, LESS, OPEN, CLOSE, PAREN, COLON] = [..."\n\\`<[](:"].map((it) => it.charCodeAt(0));
+const [LF, BACKSLASH, BACKTICK, LESS, OPEN, CLOSE, PAREN] = [..."\n\\`<[]("].map((it) => it.charCodeAt(0));
 const [EXCLAMATION, QUESTION] = [..."!?"].map((it) => it.charCodeAt(0));
 
 /** Lines of a text, one behind another with LF between them, and where they stand in the page. */
@@ -52,7 +52,7 @@ export class Joined {
     }
 }
 
-/** Goes through such a text: link reference definitions at its front (4.7), and then what stands in it. */
+/** Goes through such a text, which is a link reference definition (4.7), or has what stands in inline text. */
 export class Inline {
     /** @type {Set<number>} */
     #unclosed = new Set();
@@ -108,33 +108,15 @@ export class Inline {
         return this.bytes[end] === LF ? this.text.scanWhitespaceInLine(end + 1) : end;
     }
 
-    /**
-     * The place behind the title that begins here and ends its line, or null. (4.7)
-     * @param {number} place
-     */
-    #titleEnd(place) {
-        const title = this.text.scanLinkTitle(place);
-        if (!title) return null;
-        const behind = this.text.scanWhitespaceInLine(title.end);
-        return behind === this.bytes.length || this.bytes[behind] === LF ? behind : null;
-    }
-
-    /** Takes the definition that begins at the place, and says whether there is one. (4.7) */
+    /** Notes the definition that the text is. (4.7) */
     definition() {
-        const label = this.label(this.place);
-        if (!label || this.bytes[label.end] !== COLON) return false;
-        const start = this.#spaceEnd(label.end + 1);
-        const part = this.text.scanLinkDest(start);
-        if (!part || part.end === start) return false;
-        const space = this.text.scanWhitespaceInLine(part.end);
-        const title = this.#spaceEnd(part.end);
-        const isAlone = space === this.bytes.length || this.bytes[space] === LF;
-        const end = (title > part.end ? this.#titleEnd(title) : null) ?? (isAlone ? space : null);
-        if (end === null) return false;
-        const target = decode(this.text.unescape(part.start, part.stop));
-        this.note("definition", this.place, end, "scanLinkLabel", [this.place + 1], plain(label), { label: label.text, key: label.key, target });
-        this.place = Math.min(end + 1, this.bytes.length);
-        return true;
+        const found = this.text.scanReferenceDefinition();
+        const label = found && this.label(found.label.start - 1);
+        if (!label) return;
+        const target = decode(this.text.unescape(found.destination.start, found.destination.stop));
+        const given = [found.label.start];
+        this.note("definition", 0, found.end, "scanLinkLabel", given, plain(label), { label: label.text, key: label.key, target });
+        this.place = found.end;
     }
 
     /** Goes through what is left of the text. */

@@ -18,26 +18,26 @@ const labels = (text) => read(text).found.map(({ kind, key, target }) => [kind, 
 test("an underline of definitions alone is text", () => {
     // The specification's example at the end of 4.7: the underline begins the paragraph that the reference goes on.
     const text = "[foo]: /url\n===\n[foo]\n";
-    assert.deepEqual(blocks(text), ["paragraph", "paragraph", "goes on"]);
+    assert.deepEqual(blocks(text), ["definition", "paragraph", "goes on"]);
     assert.deepEqual(headings(text), []);
     assert.deepEqual(labels(text), [["definition", "foo", "/url"], ["shortcut", "foo", "/url"]]);
-    assert.deepEqual(blocks("[foo]: /url\n===\n"), ["paragraph", "paragraph"]);
-    assert.deepEqual(blocks("[foo]: /url\n[bar]: /url\n===\n"), ["paragraph", "goes on", "paragraph"]);
-    assert.deepEqual(blocks("> [foo]: /url\n> ===\n"), ["paragraph", "paragraph"]);
-    assert.deepEqual(blocks("- [foo]: /url\n  ===\n"), ["paragraph", "paragraph"]);
+    assert.deepEqual(blocks("[foo]: /url\n===\n"), ["definition", "paragraph"]);
+    assert.deepEqual(blocks("[foo]: /url\n[bar]:\n/url\n===\n"), ["definition", "definition", "goes on", "paragraph"]);
+    assert.deepEqual(blocks("> [foo]: /url\n> ===\n"), ["definition", "paragraph"]);
+    assert.deepEqual(blocks("- [foo]: /url\n  ===\n"), ["definition", "paragraph"]);
 });
 
 test("and may itself have an underline, or be a thematic break", () => {
     assert.deepEqual(headings("[foo]: /url\n===\n===\n"), [[2, 1, "==="]]); // 4.3
     assert.deepEqual(headings("[foo]: /url\n===\n---\n"), [[2, 2, "==="]]);
-    assert.deepEqual(blocks("[foo]: /url\n---\n"), ["paragraph", "break"]); // 4.1: no heading can be made of it
+    assert.deepEqual(blocks("[foo]: /url\n---\n"), ["definition", "break"]); // 4.1: no heading can be made of it
     assert.deepEqual(headings("[foo]: /url\n---\n"), []);
 });
 
 test("an underline of more than definitions makes a heading of the rest", () => {
     const text = "[foo]: /url\nbar\n===\n[foo]\n"; // 4.7
     assert.deepEqual(headings(text), [[2, 1, "bar"]]);
-    assert.deepEqual(blocks(text), ["paragraph", "goes on", "underline of 2", "paragraph"]);
+    assert.deepEqual(blocks(text), ["definition", "paragraph", "underline of 1", "paragraph"]);
     assert.deepEqual(labels(text), [["definition", "foo", "/url"], ["shortcut", "foo", "/url"]]);
 });
 
@@ -51,7 +51,7 @@ test("of a long line no more is sent than what is drawn", () => {
         assert.ok(JSON.stringify(row).length < 50_000);
     }
     const wide = read(`${"|a".repeat(1000)}\n${"|-".repeat(1000)}\n${"|b".repeat(1000)}`).lines.map((it) => rowOf("|", it).block);
-    assert.deepEqual(wide.map((it) => it.name), ["paragraph", "table of 1000", "row of 1000"]);
+    assert.deepEqual(wide.map((it) => it.name), ["header of 1000", "table of 1000", "row of 1000"]);
     assert.deepEqual([wide[1].answer.alignments, wide[2].answer].map((it) => [it.length, it[200]]), [[201, "…"], [201, "…"]]);
     const [line] = read("> a\n").lines;
     const { taken, ...row } = rowOf("> a\n", line);

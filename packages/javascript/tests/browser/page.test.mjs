@@ -444,7 +444,7 @@ test("a file with an underline of definitions alone is drawn", async () => {
     await settled("drawn");
     await type("[foo]: /url\n===\n[foo]\n");
     const rows = await browser.ask(drawnRows);
-    assert.deepEqual(rows.map((it) => [it.text, it.block.name]), [["[foo]: /url", "paragraph"], ["===", "paragraph"], ["[foo]", "goes on"]]);
+    assert.deepEqual(rows.map((it) => [it.text, it.block.name]), [["[foo]: /url", "definition"], ["===", "paragraph"], ["[foo]", "goes on"]]);
     assert.deepEqual(faults, []);
 });
 
