@@ -5,6 +5,13 @@ pub mod Emails
 pub mod Emphasis
 pub mod EmphasisBounds
 pub mod EmphasisLaws
+pub mod InlineLaws
+pub mod Inlines
 pub mod LastStrings
 pub mod LineBreaks
 pub mod LinkTails
+pub mod Links
+pub mod PieceBytes
+pub mod Pieces
+pub mod Readings
+pub mod Sources

@@ -2,11 +2,19 @@
 //! chapter 6.
 #![tactic(auto)]
 
+mod angles;
 pub mod code_content;
 pub mod code_spans;
+pub mod cut;
 pub mod delimiter_runs;
 pub mod emails;
 pub mod emphasis;
 pub mod guarded_code_spans;
 pub mod line_breaks;
 pub mod link_tails;
+mod link_targets;
+pub mod links;
+mod piece_at;
+mod piece_scanner;
+pub mod pieces;
+mod reading;

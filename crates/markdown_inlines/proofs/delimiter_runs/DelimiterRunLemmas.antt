@@ -85,7 +85,8 @@ same_run : {byte byte' count count' : ℕ} {opens opens' closes closes' : Bool} 
     (record { byte = byte'; count = count'; can_open = opens'; can_close = closes' })
 same_run b n o c = λ i. record { byte = b i; count = n i; can_open = o i; can_close = c i }
 
-byte_at : (text : List ℕ) (place : ℕ) (run : DelimiterRun) → IsDelimiterRun text place run → run.byte ≡ get_or text place 0
+-- its byte stands at the place
+pub byte_at : (text : List ℕ) (place : ℕ) (run : DelimiterRun) → IsDelimiterRun text place run → run.byte ≡ get_or text place 0
 byte_at text place run is =
     subst (λ k. run.byte ≡ get_or text k 0) (omega arith)
     (sym (eqb-true (get_or (drop place text) 0 0) run.byte

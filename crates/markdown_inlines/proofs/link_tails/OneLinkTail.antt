@@ -11,7 +11,7 @@ use Rattle.markdown_inlines.specs.LinkTails.{IsClosing, IsTitledEnd, IsTailEnd, 
 use Rattle.markdown_inlines.specs.declared.link_tails.LinkTail.{LinkTail}
 use Rattle.markdown_inlines.proofs.link_tails.LinkTailLemmas.{closing_only, closing_solid, no_destination}
 
-same_range : {a b : Range ℕ} → a.start ≡ b.start → a.end ≡ b.end → a ≡ b
+pub same_range : {a b : Range ℕ} → a.start ≡ b.start → a.end ≡ b.end → a ≡ b
 same_range start end = λ i. record { start = start i; end = end i }
 
 same_tail : {a b : LinkTail} → a.destination ≡ b.destination → a.title ≡ b.title → a.len ≡ b.len → a ≡ b

@@ -1,0 +1,4 @@
+pub mod CutLemmas
+pub mod SourceLemmas
+pub mod LinkLaws
+pub mod OneCut

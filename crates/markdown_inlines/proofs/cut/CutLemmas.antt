@@ -1,0 +1,88 @@
+-- Pieces read one after another.
+use Rattle.std.proofs.Common.{ℕ, Bool, true, false, List, [], ◌∷◌, ◌++◌, ◌≡◌, ◌≤◌, ◌∙◌, if◌then◌else◌, nat_lt, length, arith, refl, ap, inl, inr}
+use Rattle.std.proofs.lemmas.List.{append_assoc}
+use Rattle.std.proofs.lemmas.Bool.{ltb-true, ltb-false}
+use Rattle.markdown_inlines.specs.Links.{Known}
+use Rattle.markdown_inlines.specs.Inlines.{Reading, at_start, AreRead, IsRead, IsPieceAt, text_between}
+use Rattle.markdown_inlines.specs.Pieces.{BeginsAt, HasOnlyText, IsNext}
+use Rattle.markdown_inlines.specs.declared.pieces.Piece.{Piece}
+use Rattle.markdown_inlines.specs.declared.pieces.PieceKind.{PieceKind}
+use Rattle.markdown_inlines.specs.declared.pieces.PieceKind.TheVariants as K
+
+-- What is read on from a place, with these pieces before it, is read from the beginning.
+abbrev pub ReadsOn : Known → List ℕ → ℕ → Reading → List Piece → Type 0
+ReadsOn known text place reading pieces =
+    (later : List Piece) (last : Reading) → AreRead known place reading later last
+    → AreRead known 0 (at_start text) (pieces ++ later) last
+
+-- a piece that begins at a place begins there where the text before it has been read
+begins_here : (text : List ℕ) (from place : ℕ) (kind : PieceKind) (len : ℕ) → BeginsAt text from place kind len
+    → BeginsAt text place place kind len
+begins_here text from place K.Text len is = is
+begins_here text from place K.Escape len is = is
+begins_here text from place K.HardBreak len is = is
+begins_here text from place K.SoftBreak len is = is
+begins_here text from place K.Reference len is = is
+begins_here text from place (K.Code backticks) len is = (λ before. absurd (omega (arith, before)), is.1)
+begins_here text from place K.Uri len is = is
+begins_here text from place K.Email len is = is
+begins_here text from place K.Html len is = is
+begins_here text from place (K.Delimiters run) len is = is
+begins_here text from place K.LinkOpener len is = is
+begins_here text from place K.ImageOpener len is = is
+begins_here text from place K.Closer len is = is
+
+pub next_piece_at : (text : List ℕ) (from : ℕ) (piece : Piece) → IsNext text from piece → IsPieceAt text piece
+next_piece_at text from piece is = record {
+  len = is.len;
+  begins = begins_here text from piece.start piece.kind is.len is.begins;
+  end_is = is.ends;
+}
+
+-- the next piece is read, and the text before it
+pub read_next : (known : Known) (from end : ℕ) (reading next : Reading) (piece : Piece) → IsNext reading.text from piece
+    → IsRead piece.kind known reading (record piece { end = end }) next → (later : List Piece) (last : Reading)
+    → AreRead known end next later last
+    → AreRead known from reading (text_between from piece.start ++ record piece { end = end } ∷ later) last
+read_next known from end reading next piece is read later last rest = by (nat_lt from piece.start) refl
+  where
+    by : (test : Bool) → nat_lt from piece.start ≡ test
+        → AreRead known from reading
+        ((if test then record { kind = K.Text; start = from; end = piece.start } ∷ [] else []) ++ record piece { end = end } ∷ later) last
+    by true some = (
+      refl,
+      reading,
+      (
+        record {
+          some = ltb-true from piece.start some;
+          only_text = is.only_text;
+          ends = inr (piece.kind, is.len, is.begins);
+        },
+        refl,
+      ),
+      (refl, next, read, rest),
+    )
+    by false none = (omega (arith, ltb-false from piece.start none, is.later), next, read, rest)
+
+-- text alone is read up to the end
+pub read_out : (known : Known) (from : ℕ) (reading : Reading) → from ≤ length reading.text
+    → HasOnlyText reading.text from (length reading.text)
+    → AreRead known from reading (text_between from (length reading.text)) reading
+read_out known from reading within only = by (nat_lt from (length reading.text)) refl
+  where
+    by : (test : Bool) → nat_lt from (length reading.text) ≡ test
+        → AreRead known from reading
+        (if test then record { kind = K.Text; start = from; end = length reading.text } ∷ [] else []) reading
+    by true some = (
+      refl,
+      reading,
+      (record { some = ltb-true from (length reading.text) some; only_text = only; ends = inl refl }, refl),
+      (refl, refl),
+    )
+    by false none = (omega (arith, ltb-false from (length reading.text) none, within), refl)
+
+-- pieces behind others, and more behind these
+pub added : (pieces between later : List Piece) (piece : Piece) (all : List Piece)
+    → all ≡ (pieces ++ between) ++ piece ∷ [] → all ++ later ≡ pieces ++ (between ++ piece ∷ later)
+added pieces between later piece all is =
+    ap (λ (l : List Piece). l ++ later) is ∙ (append_assoc (pieces ++ between) (piece ∷ []) later ∙ append_assoc pieces between (piece ∷ later))

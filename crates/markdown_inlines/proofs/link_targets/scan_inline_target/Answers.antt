@@ -1,0 +1,16 @@
+use Rattle.std.proofs.Common.{sym, subst}
+use Rattle.markdown_scanners_tree.proofs.ForCallers.{place_of_rest}
+use Rattle.std.specs.Option.{IfNone}
+use Rattle.markdown_scanners_tree.proofs.PrefixLemmas.{from_place}
+use Rattle.markdown_inlines.specs.LinkTails.{IsLinkTail}
+use Rattle.markdown_inlines.specs.Links.{HasNoTail}
+use Rattle.markdown_inlines.proofs.link_targets.scan_inline_target.Goals as goal
+
+pub returns-in_err-tail-clause-none : goal.returns-in_err-tail-clause-none
+returns-in_err-tail-clause-none c = subst (λ r. IfNone r (HasNoTail c.args.bytes.now c.args.place)) (sym c.from_residual.ensures)
+    (λ tail is. c.in_err-tail.ensures.found tail (subst (λ rest. IsLinkTail 32 rest tail) (sym (from_place c.args.bytes.now c.args.place)) is))
+
+pub returns-clause-boundary : goal.returns-clause-boundary
+returns-clause-boundary c = λ utf8 at.
+    place_of_rest _ c.args.bytes.now c.args.place c.in_ok-tail.tail.len (from_place c.args.bytes.now c.args.place) utf8 (λ _. at)
+    c.in_ok-tail.ensures.after

@@ -1,0 +1,37 @@
+use Rattle.std.proofs.Common.{ap, sym, ◌∙◌, ◌∷◌, ◌+◌, ◌<◌, subst, arith, drop}
+use Rattle.std.proofs.lemmas.List.{drop_more}
+use Rattle.html_entities.specs.Entities.{html_entity}
+use Rattle.markdown_scanners_tree.specs.scanners.entities.CharacterReference.{StartsWithReference}
+use Rattle.markdown_scanners_tree.proofs.PrefixLemmas.{from_place}
+use Rattle.markdown_inlines.specs.Pieces.{BeginsAt}
+use Rattle.markdown_inlines.proofs.pieces.Openings.{begins_class, byte_class, only_reference}
+use Rattle.markdown_inlines.proofs.pieces.References.{no_reference, some_reference}
+use Rattle.markdown_inlines.proofs.piece_at.reference_at.Goals as goal
+
+pub returns-then-len-eq0 : goal.returns-then-len-eq0
+returns-then-len-eq0 c = record {
+  found = λ from r begins.
+      (let bytes = c.args.bytes.now in
+      let place = c.args.place in
+      let same = sym (ap byte_class c.requires.opens) ∙ begins_class bytes from place r.0 r.1 begins in
+      only_reference (λ kind. BeginsAt bytes from place kind r.1 → ⊥) r.0 same
+      (λ is. no_reference html_entity _ c.scan_entity-len.result.0 c.scan_entity-len.result.1 c.scan_entity-len.ensures.found c.if-len-eq0.true
+      r.1 is.meaning (subst (λ t. StartsWithReference html_entity t r.1 is.meaning) (sym (from_place bytes place)) is.is_reference))
+      begins);
+}
+
+pub returns : goal.returns
+returns c = record {
+  found = λ from.
+      (let bytes = c.args.bytes.now in
+      let place = c.args.place in
+      let some : 0 < c.scan_entity-len.result.0 = omega (arith, c.if-len-eq0.false) in
+      let there = some_reference html_entity _ c.scan_entity-len.result.0 c.scan_entity-len.result.1 c.scan_entity-len.ensures.found
+      c.scan_entity-len.ensures.empty some in
+      record {
+        after = drop (place + 1) bytes;
+        meaning = there.0;
+        opens = drop_more bytes place 0 c.requires.within ∙ ap (λ b. b ∷ drop (place + 1) bytes) c.requires.opens;
+        is_reference = subst (λ t. StartsWithReference html_entity t c.scan_entity-len.result.0 there.0) (from_place bytes place) there.1;
+      });
+}

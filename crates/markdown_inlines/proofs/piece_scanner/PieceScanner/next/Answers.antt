@@ -1,0 +1,16 @@
+use Rattle.std.proofs.Common.{arith}
+use Rattle.markdown_inlines.proofs.piece_scanner.PieceScanner.next.Goals as goal
+use Rattle.markdown_inlines.proofs.piece_scanner.PieceScanner.next.Goals.{in-Some, in-None}
+
+pub invariant_of-self : goal.invariant_of-self
+invariant_of-self c = elim c.match-piece.branch [
+  | in-Some w ↦ (
+      let within = rw w.in-Some.is at c.next_piece-piece.ensures.within in
+      let stays_true = rw w.in-Some.is at c.next_piece-piece.ensures.stays_true in
+      (c.self.invariant.0, rw w.self-is within.1, rw w.self-is stays_true)
+      )
+  | in-None w ↦ (
+      let stays_true = rw w.in-None.is at c.next_piece-piece.ensures.stays_true_to_end in
+      (c.self.invariant.0, rw w.self-is (omega arith), rw w.self-is stays_true)
+      )
+]

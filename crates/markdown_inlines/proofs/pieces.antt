@@ -1,0 +1,6 @@
+pub mod NoSkipTags
+pub mod OnePiece
+pub mod Openings
+pub mod PieceEnds
+pub mod References
+pub mod TextRuns

@@ -1,0 +1,223 @@
+-- Bytes that are passed over begin no piece: plain bytes, the rest of a backtick string, and of spaces before no line ending.
+use Rattle.std.proofs.Common.{◌≡◌, ℕ, ◌+◌, ◌-◌, ◌<◌, ◌≤◌, ◌==◌, ◌⊎◌, Bool, true, false, cond, List, ◌∷◌, length, take, drop, get_or}
+use Rattle.std.proofs.Common.{refl, sym, ap, ◌∙◌, subst, arith, inl, inr, Some}
+use Rattle.std.specs.List.{prefix_len}
+use Rattle.std.proofs.lemmas.Bool.{cases_Bool, cases_lt, eqb-true}
+use Rattle.std.proofs.lemmas.List.{drop_more, drop-drop, get_or-drop, length-drop}
+use Rattle.std.proofs.Math.ListN.{get_or-eq_default}
+use Rattle.std.proofs.lemmas.List.Sums.{prefix_len_is, prefix_len_passes, prefix_len_stops, prefix_len-le-length}
+use Rattle.markdown_scanners_tree.specs.Bytes.{line_ending}
+use Rattle.markdown_scanners_tree.proofs.PrefixLemmas.{from_place}
+use Rattle.markdown_inlines.specs.LineBreaks.{IsLineBreak}
+use Rattle.markdown_inlines.specs.PieceBytes.{is_plain, run_length}
+use Rattle.markdown_inlines.specs.Pieces.{BeginsAt, HasOnlyText}
+use Rattle.markdown_inlines.specs.declared.line_breaks.LineBreak.{LineBreak}
+use Rattle.markdown_inlines.specs.declared.pieces.PieceKind.{PieceKind}
+use Rattle.markdown_inlines.specs.declared.pieces.PieceKind.TheVariants.{HardBreak, SoftBreak}
+use Rattle.markdown_inlines.proofs.line_breaks.LineBreakLemmas.{before_is_hard, before_length, before_only, break_found}
+use Rattle.markdown_inlines.proofs.pieces.Openings.{begins_class, byte_class, only_break, only_code, plain_begins_none}
+
+abbrev is_byte : ℕ → ℕ → Bool
+is_byte byte b = b == byte
+
+-- the bytes of a run
+run_passes : (test : ℕ → Bool) (bytes : List ℕ) (place j : ℕ) → j < prefix_len test (drop place bytes)
+    → test (get_or bytes (place + j) 0) ≡ true
+run_passes test bytes place j inside =
+    ap test (sym (get_or-drop place bytes j 0)) ∙ prefix_len_passes test (drop place bytes) j 0 inside
+
+run_byte : (byte : ℕ) (bytes : List ℕ) (place p : ℕ) → place ≤ p → p < place + prefix_len (λ b. b == byte) (drop place bytes)
+    → get_or bytes p 0 ≡ byte
+run_byte byte bytes place p low high =
+    let at : place + (p - place) ≡ p = omega (arith, low) in
+    ap (λ k. get_or bytes k 0) (sym at)
+    ∙ eqb-true _ byte (run_passes (λ b. b == byte) bytes place (p - place) (omega (arith, low, high)))
+
+run_stops : (test : ℕ → Bool) (bytes : List ℕ) (place : ℕ) → place + prefix_len test (drop place bytes) < length bytes
+    → test (get_or bytes (place + prefix_len test (drop place bytes)) 0) ≡ false
+run_stops test bytes place inside =
+    ap test (sym (get_or-drop place bytes (prefix_len test (drop place bytes)) 0))
+    ∙ prefix_len_stops test (drop place bytes) 0 (omega (arith, inside, length-drop place bytes))
+
+-- ---- plain bytes
+module _ (bytes : List ℕ) (place plain : ℕ) (counted : plain ≡ prefix_len is_plain (take (length bytes - place) (drop place bytes))) where
+  plain_at : (p : ℕ) → place ≤ p → p < place + plain → is_plain (get_or bytes p 0) ≡ true
+  plain_at p low high =
+      let at : place + (p - place) ≡ p = omega (arith, low) in
+      let all : plain ≡ prefix_len is_plain (drop place bytes) = counted ∙ ap (prefix_len is_plain) (from_place bytes place) in
+      ap (λ k. is_plain (get_or bytes k 0)) (sym at) ∙ run_passes is_plain bytes place (p - place) (omega (arith, low, high, all))
+
+  pub plain_text : HasOnlyText bytes place (place + plain)
+  plain_text p low high kind len = plain_begins_none bytes place p (plain_at p low high) kind len
+
+  plain_none : (from p : ℕ) → place ≤ p → p < place + plain → (kind : PieceKind) (len : ℕ) → ¬ BeginsAt bytes from p kind len
+  plain_none from p low high kind len = plain_begins_none bytes from p (plain_at p low high) kind len
+
+  pub plain_apart : 0 < plain → get_or bytes (place + plain - 1) 0 ≡ 96 → ⊥
+  plain_apart some is =
+      let plain_there = plain_at (place + plain - 1) (omega (arith, some)) (omega (arith, some)) in
+      let lost : true ≡ false = sym plain_there ∙ ap is_plain is in
+      cc
+
+-- ---- the rest of a backtick string
+code_none : (bytes : List ℕ) (from p : ℕ) → from < p → get_or bytes p 0 ≡ 96 → get_or bytes (p - 1) 0 ≡ 96
+    → (kind : PieceKind) (len : ℕ) → ¬ BeginsAt bytes from p kind len
+code_none bytes from p later here before kind len begins =
+    only_code (λ k. BeginsAt bytes from p k len → ⊥) kind (sym (ap byte_class here) ∙ begins_class bytes from p kind len begins)
+    (λ backticks is. is.0 later before) begins
+
+-- ---- the rest of spaces
+spaced_length : (text rest : List ℕ) → text ≡ 32 ∷ rest → before_length text ≡ prefix_len (λ b. b == 32) text
+spaced_length text rest is = subst (λ t. before_length t ≡ prefix_len (λ b. b == 32) t) (sym is) refl
+
+either_break : (bytes : List ℕ) (from place len : ℕ) (is_hard : Bool)
+    → ((kind : PieceKind) (n : ℕ) → ¬ BeginsAt bytes from place kind n)
+    → IsLineBreak (drop place bytes) (record { is_hard = is_hard; len = len }) → ⊥
+either_break bytes from place len true none is = none HardBreak len is
+either_break bytes from place len false none is = none SoftBreak len is
+
+module _ (bytes : List ℕ) (from place run q : ℕ) (counted : run ≡ prefix_len (λ b. b == 32) (drop place bytes))
+    (none : (kind : PieceKind) (n : ℕ) → ¬ BeginsAt bytes from place kind n) (low : place < q) (high : q < place + run) where
+  run_within : run ≤ length (drop place bytes)
+  run_within = omega (arith, counted, prefix_len-le-length (λ b. b == 32) (drop place bytes))
+
+  fits : place + run ≤ length bytes
+  fits = omega (arith, run_within, length-drop place bytes, low, high)
+
+  space_at : (p : ℕ) → place ≤ p → p < place + run → get_or bytes p 0 ≡ 32
+  space_at p above below = run_byte 32 bytes place p above (omega (arith, counted, below))
+
+  spaces_at : (p : ℕ) → place ≤ p → p < place + run → drop p bytes ≡ 32 ∷ drop (p + 1) bytes
+  spaces_at p above below =
+      drop_more bytes p 0 (omega (arith, below, fits)) ∙ ap (λ b. b ∷ drop (p + 1) bytes) (space_at p above below)
+
+  left_spaces : prefix_len (λ b. b == 32) (drop q bytes) ≡ place + run - q
+  left_spaces =
+      prefix_len_is (λ b. b == 32) (drop q bytes) (place + run - q) 0 (omega (arith, length-drop q bytes, fits, high))
+      (λ k inside. ap (λ b. b == 32) (get_or-drop q bytes k 0 ∙ space_at (q + k) (omega (arith, low)) (omega (arith, inside, high))))
+      (λ inside.
+      let at : q + (place + run - q) ≡ place + prefix_len (λ b. b == 32) (drop place bytes) = omega (arith, high, counted) in
+      ap (λ b. b == 32) (get_or-drop q bytes (place + run - q) 0 ∙ ap (λ k. get_or bytes k 0) at)
+      ∙ run_stops (λ b. b == 32) bytes place (omega (arith, inside, length-drop q bytes, counted, high)))
+
+  break_none : (break : LineBreak) → IsLineBreak (drop q bytes) break → ⊥
+  break_none break is =
+      let text = drop place bytes in
+      let only = before_only (drop q bytes) is.before is.after is.ending break.is_hard is.parts is.is_before is.ends in
+      let before : before_length (drop q bytes) ≡ place + run - q =
+      spaced_length (drop q bytes) (drop (q + 1) bytes) (spaces_at q (omega (arith, low)) high) ∙ left_spaces in
+      let there : q + (place + run - q) ≡ place + run = omega (arith, high) in
+      let after : is.after ≡ drop run text =
+      only.1 ∙ ap (λ k. drop k (drop q bytes)) before ∙ drop-drop (place + run - q) q bytes ∙ ap (λ k. drop k bytes) there
+      ∙ sym (drop-drop run place bytes) in
+      let spaces = prefix_len (λ b. b == 32) (drop is.ending is.after) in
+      let ends : Some is.ending ≡ line_ending (take (length text - run) (drop run text)) =
+      sym is.ends ∙ ap line_ending (after ∙ sym (from_place text run)) in
+      let spaced : spaces ≡ prefix_len (λ b. b == 32) (take (length text - (run + is.ending)) (drop (run + is.ending) text)) =
+      ap (prefix_len (λ b. b == 32)) (ap (drop is.ending) after ∙ drop-drop is.ending run text ∙ sym (from_place text (run + is.ending))) in
+      let all : run ≡ before_length text =
+      counted ∙ sym (spaced_length text (drop (place + 1) bytes) (spaces_at place (omega arith) (omega (arith, low, high)))) in
+      let goes_on : run + is.ending + spaces < length text =
+      omega (arith, is.goes_on, is.counted, only.0, before, length-drop q bytes, length-drop place bytes, low, high, fits) in
+      either_break bytes from place (run + is.ending + spaces) (before_is_hard text) none
+      (break_found text run is.ending spaces all run_within ends spaced goes_on)
+
+  space_none : (kind : PieceKind) (len : ℕ) → ¬ BeginsAt bytes from q kind len
+  space_none kind len begins =
+      let here = space_at q (omega (arith, low)) high in
+      let same = sym (ap byte_class here) ∙ begins_class bytes from q kind len begins in
+      only_break (λ k. BeginsAt bytes from q k len → ⊥) kind same
+      (λ is.
+      let first = sym (ap (λ t. get_or t 0 0) (spaces_at q (omega (arith, low)) high)) ∙ ap (λ t. get_or t 0 0) is.parts in
+      omega (arith, first))
+      (λ is. break_none _ is) (λ is. break_none _ is) begins
+
+-- ---- what is passed over
+run_cases : (b : ℕ) (bs : List ℕ) (run : ℕ) → run ≡ run_length (b ∷ bs)
+    → ((b ≡ 96) × (run ≡ prefix_len (λ c. c == 96) (b ∷ bs)))
+    ⊎ (((b ≡ 32) × (run ≡ prefix_len (λ c. c == 32) (b ∷ bs))) ⊎ ((b ≡ 96 → ⊥) × (run ≡ 1)))
+run_cases b bs run is =
+    let ticks = prefix_len (λ c. c == 96) (b ∷ bs) in
+    let spaces = prefix_len (λ c. c == 32) (b ∷ bs) in
+    elim (cases_Bool (b == 96)) [
+      | inl tick ↦ inl (eqb-true b 96 tick, is ∙ ap (λ t. cond t ticks (cond (b == 32) spaces 1)) tick)
+      | inr no_tick ↦ elim (cases_Bool (b == 32)) [
+        | inl space ↦ inr (inl (
+          eqb-true b 32 space,
+          is ∙ ap (λ t. cond t ticks (cond (b == 32) spaces 1)) no_tick ∙ ap (λ t. cond t spaces 1) space,
+        ))
+        | inr other ↦ inr (inr (
+          λ same. (let lost : true ≡ false = sym (ap (λ x. x == 96) same) ∙ no_tick in cc),
+          is ∙ ap (λ t. cond t ticks (cond (b == 32) spaces 1)) no_tick ∙ ap (λ t. cond t spaces 1) other,
+        ))
+      ]
+    ]
+
+module _ (bytes : List ℕ) (place run plain : ℕ) (low : place < length bytes)
+    (counted : run ≡ run_length (take (length bytes - place) (drop place bytes))) (some : 0 < run)
+    (passed : plain ≡ prefix_len is_plain (take (length bytes - (place + run)) (drop (place + run) bytes))) where
+  here : drop place bytes ≡ get_or bytes place 0 ∷ drop (place + 1) bytes
+  here = drop_more bytes place 0 low
+
+  case_of_run : ((get_or bytes place 0 ≡ 96) × (run ≡ prefix_len (λ c. c == 96) (drop place bytes)))
+      ⊎ (((get_or bytes place 0 ≡ 32) × (run ≡ prefix_len (λ c. c == 32) (drop place bytes))) ⊎ ((get_or bytes place 0 ≡ 96 → ⊥) × (run ≡ 1)))
+  case_of_run = elim
+      (run_cases (get_or bytes place 0) (drop (place + 1) bytes) run (counted ∙ ap run_length (from_place bytes place ∙ here))) [
+        | inl is ↦ inl (is.0, is.1 ∙ ap (prefix_len (λ c. c == 96)) (sym here))
+        | inr (inl is) ↦ inr (inl (is.0, is.1 ∙ ap (prefix_len (λ c. c == 32)) (sym here)))
+        | inr (inr is) ↦ inr (inr is)
+      ]
+
+  run_none : (from p : ℕ) → from ≤ place → place < p → p < place + run
+      → ((kind : PieceKind) (len : ℕ) → ¬ BeginsAt bytes from place kind len)
+      → (kind : PieceKind) (len : ℕ) → ¬ BeginsAt bytes from p kind len
+  run_none from p below above inside none kind len = elim case_of_run [
+    | inl is ↦ code_none bytes from p (omega (arith, below, above))
+        (run_byte 96 bytes place p (omega (arith, above)) (omega (arith, is.1, inside)))
+        (run_byte 96 bytes place (p - 1) (omega (arith, above)) (omega (arith, is.1, inside, above))) kind len
+    | inr (inl is) ↦ space_none bytes from place run p is.1 none above inside kind len
+    | inr (inr is) ↦ λ begins. omega (arith, is.1, above, inside)
+  ]
+
+  pub passed_text : (from : ℕ) → from ≤ place → HasOnlyText bytes from place
+      → ((kind : PieceKind) (len : ℕ) → ¬ BeginsAt bytes from place kind len) → HasOnlyText bytes from (place + run + plain)
+  passed_text from below only none p above inside kind len = elim (cases_lt p place) [
+    | inl before ↦ only p above before kind len
+    | inr not_before ↦ elim (cases_lt place p) [
+      | inl after ↦ elim (cases_lt p (place + run)) [
+        | inl within ↦ run_none from p below after within none kind len
+        | inr behind ↦ plain_none bytes (place + run) plain passed from p behind inside kind len
+      ]
+      | inr not_after ↦ (
+          let same : place ≡ p = omega (arith, not_before, not_after) in
+          subst (λ k. ¬ BeginsAt bytes from k kind len) same (none kind len)
+          )
+    ]
+  ]
+
+  run_apart : get_or bytes (place + run) 0 ≡ 96 → get_or bytes (place + run - 1) 0 ≡ 96 → ⊥
+  run_apart at before = elim case_of_run [
+    | inl is ↦ elim (cases_lt (place + run) (length bytes)) [
+      | inl inside ↦ (
+          let stops = run_stops (λ c. c == 96) bytes place (omega (arith, inside, is.1)) in
+          let there : place + run ≡ place + prefix_len (λ c. c == 96) (drop place bytes) = omega (arith, is.1) in
+          let lost : true ≡ false = sym (ap (λ c. c == 96) at) ∙ ap (λ k. get_or bytes k 0 == 96) there ∙ stops in
+          cc
+          )
+      | inr past ↦ omega (arith, at, get_or-eq_default bytes 0 past)
+    ]
+    | inr (inl is) ↦ omega (arith, before, run_byte 32 bytes place (place + run - 1) (omega (arith, some)) (omega (arith, is.1, some)))
+    | inr (inr is) ↦ (
+        let there : place + run - 1 ≡ place = omega (arith, is.1) in
+        is.0 (ap (λ k. get_or bytes k 0) (sym there) ∙ before)
+        )
+  ]
+
+  pub passed_apart : get_or bytes (place + run + plain) 0 ≡ 96 → get_or bytes (place + run + plain - 1) 0 ≡ 96 → ⊥
+  passed_apart at before = elim (cases_lt 0 plain) [
+    | inl more ↦ plain_apart bytes (place + run) plain passed more before
+    | inr no_more ↦ (
+        let same : place + run + plain ≡ place + run = omega (arith, no_more) in
+        run_apart (ap (λ k. get_or bytes k 0) (sym same) ∙ at) (ap (λ k. get_or bytes (k - 1) 0) (sym same) ∙ before)
+        )
+  ]

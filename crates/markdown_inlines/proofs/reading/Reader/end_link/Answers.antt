@@ -1,0 +1,56 @@
+use Rattle.std.proofs.Common.{◌≡◌, ◌≤◌, ◌<◌, ◌-◌, ◌∙◌, if◌then◌else◌, List, sym, subst, ap, arith, length, drop, reverse, take, Some}
+use Rattle.std.proofs.lemmas.List.{length-set, length-take, length-drop, take_all}
+use Rattle.std.proofs.lemmas.List.Elements.{All-take}
+use Rattle.markdown_inlines.specs.Emphasis.{emphasis_of}
+use Rattle.markdown_inlines.specs.Inlines.{Reading, with_link}
+use Rattle.markdown_inlines.specs.Readings.{AreOpen}
+use Rattle.markdown_inlines.specs.EmphasisBounds.{AreOfDelimiters, IsOfDelimiters}
+use Rattle.markdown_inlines.specs.declared.emphasis.Delimiters.{Delimiters}
+use Rattle.markdown_inlines.proofs.reading.ReadingLemmas.{more_open, with_link_is}
+use Rattle.markdown_inlines.proofs.reading.Reader.end_link.Goals as goal
+use Rattle.markdown_inlines.proofs.reading.Reader.end_link.Goals.{then-link, else-link}
+
+pub invariant_of-self-2 : goal.invariant_of-self-2
+invariant_of-self-2 c =
+    let outer = subst (λ (r : Reading). AreOpen r.text r.openers c.args.opener.runs c.args.opener.number) (sym c.self.view_is) c.requires.outer in
+    let few : c.args.opener.runs ≤ length c.self.inside.runs.items = subst (λ (r : Reading). c.args.opener.runs ≤ length r.runs) (sym
+    c.self.view_is) c.requires.few in
+    let known : c.args.opener.number < length c.self.inside.links.items = subst (λ (r : Reading). c.args.opener.number < length r.links) (sym
+    c.self.view_is) c.requires.known in (
+      subst AreOfDelimiters (sym c.truncate.ensures.items)
+          (All-take (λ (d : Delimiters). IsOfDelimiters d.run) c.args.opener.runs c.self.inside.runs.items c.self.invariant.0),
+      more_open c.self.inside.text.now (reverse c.self.inside.openers.items) c.args.opener.runs c.args.opener.number _ _
+          (omega (
+            arith,
+            few,
+            c.truncate.ensures.len,
+            ap (λ (l : List Delimiters). length l) c.truncate.ensures.items,
+            length-take
+                c.args.opener.runs c.self.inside.runs.items,
+          ))
+          (omega (arith, known, length-set c.self.inside.links.items c.args.opener.number (Some c.args.link))) outer,
+    )
+
+pub returns : goal.returns
+returns c =
+    let runs = c.self.inside.runs.items in
+    let behind = c.args.opener.runs in
+    let reading : Reading = record {
+      text = c.self.inside.text.now;
+      openers = reverse c.self.inside.openers.items;
+      runs = runs;
+      last_link = c.self.inside.last_link;
+      links = c.self.inside.links.items;
+      emphasis = c.self.inside.emphasis.items;
+    } in
+    let last : c.if-link.self ≡ (if c.args.link.is_image then c.self.inside.last_link else c.args.link.source.start) =
+    elim c.if-link.branch [
+      | then-link w ↦ w.self-is ∙ ap (λ b. if b then c.self.inside.last_link else c.args.link.source.start) (sym w.if-link.true)
+      | else-link w ↦ w.self-is ∙ ap (λ b. if b then c.self.inside.last_link else c.args.link.source.start) (sym w.if-link.false)
+    ] in
+    let found : c.in_ok-found.found.items ≡ emphasis_of (drop behind runs) =
+    c.in_ok-found.ensures ∙ ap emphasis_of (ap (λ (l : List Delimiters). take (length l - behind) (drop behind l)) c.deref.ensures.value
+    ∙ take_all (length runs - behind) (drop behind runs) (omega (arith, length-drop behind runs))) in
+    with_link_is c.args.link c.args.opener reading c.truncate.new.self.items c.if-link.self c.in_ok-found.found.items
+    c.append.new.self.items c.truncate.ensures.items last found c.in_ok-append.ensures.items
+    ∙ ap (λ (r : Reading). with_link c.args.link c.args.opener r.openers r) c.self.view_is

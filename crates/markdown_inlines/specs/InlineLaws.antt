@@ -1,0 +1,15 @@
+-- What holds of a text cut into its inlines, without the procedure that cuts it. (CommonMark 0.31.2, section 6.3)
+use Rattle.std.specs.Prelude.{ℕ, false, List, ◌≡◌, ◌⊎◌, ◌≤◌, Option, Some, slice_get}
+use Rattle.markdown_inlines.specs.declared.links.Link.{Link}
+
+-- the opener of this number begins this link, which is no image
+abbrev pub IsLinkOf : List (Option Link) → ℕ → Link → Type 0
+IsLinkOf links number link = (slice_get links number ≡ Some (Some link)) × (link.is_image ≡ false)
+
+-- one ends before the other begins
+abbrev pub StandApart : Link → Link → Type 0
+StandApart a b = (a.source.end ≤ b.source.start) ⊎ (b.source.end ≤ a.source.start)
+
+-- Links may not contain other links, at any level of nesting.
+abbrev pub HoldNoLinks : List (Option Link) → Type 0
+HoldNoLinks links = (m n : ℕ) (a b : Link) → ¬ (m ≡ n) → IsLinkOf links m a → IsLinkOf links n b → StandApart a b

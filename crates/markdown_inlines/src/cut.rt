@@ -1,0 +1,102 @@
+//! A text cut into its inlines. (CommonMark 0.31.2, chapter 6)
+ghost use Rattle.std.specs.Prelude.{◌≡◌, ◌++◌, ◌<◌, ◌≤◌, ◌+◌, length, IfOk, OnOk};
+ghost use Rattle.std.specs.Str.{IsCharBoundary};
+ghost use Rattle.markdown_inlines.specs.Inlines.{IsCut, IsRead, IsPieceAt, text_between};
+ghost use Rattle.markdown_inlines.specs.Sources.{AreSources};
+
+use crate::emphasis::Emphasis;
+use crate::links::{Labels, Link};
+use crate::piece_scanner::PieceScanner;
+use crate::pieces::{Piece, PieceKind};
+use crate::reading::Reader;
+use std::alloc::{AllocError, Global};
+
+/// A text cut into its pieces, and what they make together.
+#[derive(Drop)]
+pub struct Cut {
+    /// The pieces, one after another: joined, they are the text.
+    pub pieces: Vec<Piece>,
+    /// Of each opener among them, in order, the link or image that it begins, if it begins one.
+    pub links: Vec<Option<Link>>,
+    /// The emphasis: that of a link text where its link ends, and all other at the end. Each is in
+    /// the order of `find_emphasis`.
+    pub emphasis: Vec<Emphasis>,
+}
+
+/// Cuts the content of a block into its inlines, of which the labels say which links are defined.
+///
+/// The time is linear in the length of the text. Memory is asked for by the pieces, the links and
+/// the emphasis, and by a label whose white space is not one space each.
+///
+/// # Errors
+///
+/// `AllocError` where that memory is refused.
+pub fn cut_inlines<L: Labels>(alloc: Global, text: &str, labels: &L) -> Result<Cut, AllocError>
+    // It is cut as the definition has it.
+    ensures cut { IfOk result (λ cut. IsCut text.now (L.known labels.now)
+        cut.pieces.items cut.links.items cut.emphasis.items) }
+
+    // Each piece has some bytes of the text, which may be cut on both sides of it; joined, they are
+    // the text.
+    ensures sources { IfOk result (λ cut.
+        AreSources text.now cut.pieces.items (length text.now)) }
+{
+    let mut scanner = PieceScanner::new(alloc, text)?;
+    let mut reader = Reader::new(alloc, text);
+    let mut pieces = Vec::new(alloc);
+    let mut place = 0;
+    while let Some(piece) = scanner.next(alloc) {
+        push_text(&mut pieces, place, piece.start)?;
+        place = read_piece(alloc, labels, &mut reader, piece)?;
+        pieces.push(Piece {
+            end: place,
+            ..piece
+        })?;
+        scanner.read_to(place);
+    }
+    push_text(&mut pieces, place, text.len())?;
+    let (links, emphasis) = reader.finish(alloc)?;
+    Ok(Cut {
+        pieces,
+        links,
+        emphasis,
+    })
+}
+
+// Adds the text from one place up to another, if there is any.
+fn push_text(pieces: &mut Vec<Piece>, from: usize, to: usize) -> Result<(), AllocError>
+    ensures { OnOk result (pieces.new.items ≡ pieces.old.items ++ text_between from to) }
+{
+    if from < to {
+        pieces.push(Piece {
+            kind: PieceKind::Text,
+            start: from,
+            end: to,
+        })?;
+    }
+    Ok(())
+}
+
+// Reads a piece that isn't text, and answers where it ends: after the link, if it ends one.
+fn read_piece<L: Labels>(
+    alloc: Global,
+    labels: &L,
+    reader: &mut Reader,
+    piece: Piece,
+) -> Result<usize, AllocError>
+    requires here { IsPieceAt reader.old.text piece }
+    requires some { piece.start < piece.end }
+    requires within { piece.end ≤ length reader.old.text }
+    requires boundary { IsCharBoundary reader.old.text piece.end }
+    ensures read { IfOk result (λ end. IsRead piece.kind (L.known labels.now) reader.old
+        (record piece { end = end }) reader.new) }
+    ensures text { OnOk result (reader.new.text ≡ reader.old.text) }
+    ensures within { IfOk result (λ end. (piece.end ≤ end) × (end ≤ length reader.old.text)) }
+    ensures boundary { IfOk result (λ end. IsCharBoundary reader.old.text end) }
+{
+    if matches!(piece.kind, PieceKind::Closer) {
+        return reader.close(alloc, labels, piece);
+    }
+    reader.read(piece)?;
+    Ok(piece.end)
+}

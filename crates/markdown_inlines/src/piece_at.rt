@@ -1,0 +1,184 @@
+//! What begins at a place of a text. (CommonMark 0.31.2, chapter 6)
+ghost use Rattle.std.specs.Prelude.{ℕ, false, ◌≡◌, ◌≢◌, ◌⊎◌, ◌↔◌, ◌+◌, ◌-◌, ◌<◌, ◌≤◌, length, drop, slice_index, get_or, IfSome, IsTrue};
+ghost use Rattle.memchr.specs.Find.{occurs_at};
+ghost use Rattle.markdown_scanners_tree.specs.Ascii.{ampersand, asterisk, backslash, backtick, underscore};
+ghost use Rattle.markdown_scanners_tree.specs.SomeExactly.{SomeExactly};
+ghost use Rattle.markdown_scanners_tree.specs.inline_html.Guard.{IsTrueGuard};
+ghost use Rattle.markdown_inlines.specs.Pieces.{BeginsAt, IsEscape};
+ghost use Rattle.markdown_inlines.specs.PieceBytes.{opens_break, opens_bracket, opens_long};
+
+use crate::angles::angle_at;
+use crate::delimiter_runs::scan_delimiter_run;
+use crate::guarded_code_spans::CodeSpans;
+use crate::line_breaks::scan_line_break;
+use crate::pieces::PieceKind;
+use html_entities::HtmlEntities;
+use markdown_scanners_tree::inline_html::HtmlScanGuard;
+use markdown_scanners_tree::scanners::{is_ascii_punctuation, scan_entity};
+use std::alloc::Global;
+
+// The kind and the length of what begins at the place, which stands within no backtick string.
+pub(crate) fn piece_at(
+    alloc: Global,
+    text: &str,
+    codes: &CodeSpans,
+    guard: &mut HtmlScanGuard,
+    place: usize,
+) -> Option<(PieceKind, usize)>
+    requires within { place < length text.now }
+    requires spans { codes.now ≡ text.now }
+    requires true_guard { IsTrueGuard text.now guard.old (place + 2) }
+    ensures found { (from : ℕ)
+        → (slice_index text.now place ≡ backtick → from < place
+        → get_or text.now (place - 1) 0 ≢ backtick)
+        → SomeExactly (λ r. BeginsAt text.now from place r.0 r.1) result }
+    ensures stays_true { (q : ℕ) → place + 2 < q → IfSome result (λ r. place + r.1 ≤ q)
+        → IsTrueGuard text.now guard.new q }
+{
+    let bytes = text.as_bytes();
+    match bytes[place] {
+        b'<' => angle_at(alloc, bytes, guard, place),
+        b'`' => code_at(codes, place),
+        b'*' | b'_' => delimiters_at(text, place),
+        _ => short_piece_at(bytes, place),
+    }
+}
+
+// What begins with a byte other than `<`, a backtick or a delimiter.
+fn short_piece_at(bytes: &[u8], place: usize) -> Option<(PieceKind, usize)>
+    requires within { place < length bytes.now }
+    requires short { opens_long (slice_index bytes.now place) ≡ false }
+    ensures found { (from : ℕ)
+        → SomeExactly (λ r. BeginsAt bytes.now from place r.0 r.1) result }
+{
+    let byte = bytes[place];
+    if byte == b'\\' {
+        escape_at(bytes, place)
+    } else if opens_break(byte) {
+        break_at(bytes, place)
+    } else if opens_bracket(byte) {
+        bracket_at(bytes, place)
+    } else if byte == b'&' {
+        reference_at(bytes, place)
+    } else {
+        None
+    }
+}
+
+// Whether a line break may begin with the byte.
+fn opens_break(byte: u8) -> bool
+    ensures { result ≡ opens_break byte }
+{
+    matches!(byte, b'\\' | b' ' | b'\n' | b'\r')
+}
+
+// Whether the byte is a bracket, or the exclamation mark before one.
+fn opens_bracket(byte: u8) -> bool
+    ensures { result ≡ opens_bracket byte }
+{
+    matches!(byte, b'!' | b'[' | b']')
+}
+
+// The code span at the place, where a backtick stands.
+fn code_at(codes: &CodeSpans, place: usize) -> Option<(PieceKind, usize)>
+    requires within { place < length codes.now }
+    requires opens { slice_index codes.now place ≡ backtick }
+    ensures found { (from : ℕ)
+        → (from < place → get_or codes.now (place - 1) 0 ≢ backtick)
+        → SomeExactly (λ r. BeginsAt codes.now from place r.0 r.1) result }
+{
+    let span = codes.scan(place)?;
+    Some((PieceKind::Code(span.content.start), span.len))
+}
+
+// The delimiter run at the place, where a delimiter stands.
+fn delimiters_at(text: &str, place: usize) -> Option<(PieceKind, usize)>
+    requires within { place < length text.now }
+    requires opens { (slice_index text.now place ≡ asterisk)
+        ⊎ (slice_index text.now place ≡ underscore) }
+    ensures found { (from : ℕ)
+        → SomeExactly (λ r. BeginsAt text.now from place r.0 r.1) result }
+{
+    let run = scan_delimiter_run(text, place)?;
+    Some((PieceKind::Delimiters(run), run.count))
+}
+
+// The escape at the place, where a backslash stands, or else the hard line break.
+fn escape_at(bytes: &[u8], place: usize) -> Option<(PieceKind, usize)>
+    requires within { place < length bytes.now }
+    requires opens { slice_index bytes.now place ≡ backslash }
+    ensures found { (from : ℕ)
+        → SomeExactly (λ r. BeginsAt bytes.now from place r.0 r.1) result }
+{
+    if is_escape(&bytes[place..]) {
+        Some((PieceKind::Escape, 2))
+    } else {
+        break_at(bytes, place)
+    }
+}
+
+// Whether an escape stands at the front.
+fn is_escape(rest: &[u8]) -> bool
+    ensures { IsTrue result ↔ IsEscape rest.now 2 }
+{
+    match rest {
+        [b'\\', escaped, ..] => is_ascii_punctuation(*escaped),
+        _ => false,
+    }
+}
+
+// The line break at the place, where no escape stands.
+fn break_at(bytes: &[u8], place: usize) -> Option<(PieceKind, usize)>
+    requires within { place < length bytes.now }
+    requires opens { IsTrue (opens_break (slice_index bytes.now place)) }
+    requires no_escape { ¬ IsEscape (drop place bytes.now) 2 }
+    ensures found { (from : ℕ)
+        → SomeExactly (λ r. BeginsAt bytes.now from place r.0 r.1) result }
+{
+    let line_break = scan_line_break(&bytes[place..])?;
+    if line_break.is_hard {
+        Some((PieceKind::HardBreak, line_break.len))
+    } else {
+        Some((PieceKind::SoftBreak, line_break.len))
+    }
+}
+
+// The character reference at the place, where an ampersand stands.
+fn reference_at(bytes: &[u8], place: usize) -> Option<(PieceKind, usize)>
+    requires within { place < length bytes.now }
+    requires opens { slice_index bytes.now place ≡ ampersand }
+    ensures found { (from : ℕ)
+        → SomeExactly (λ r. BeginsAt bytes.now from place r.0 r.1) result }
+{
+    let len = scan_entity(&bytes[place..], &HtmlEntities).0;
+    if len == 0 {
+        return None;
+    }
+    Some((PieceKind::Reference, len))
+}
+
+// What a bracket at the place begins, or an exclamation mark there.
+fn bracket_at(bytes: &[u8], place: usize) -> Option<(PieceKind, usize)>
+    requires within { place < length bytes.now }
+    requires opens { IsTrue (opens_bracket (slice_index bytes.now place)) }
+    ensures found { (from : ℕ)
+        → SomeExactly (λ r. BeginsAt bytes.now from place r.0 r.1) result }
+{
+    if stands_at(bytes, place, b"[") {
+        Some((PieceKind::LinkOpener, 1))
+    } else if stands_at(bytes, place, b"![") {
+        Some((PieceKind::ImageOpener, 2))
+    } else if stands_at(bytes, place, b"]") {
+        Some((PieceKind::Closer, 1))
+    } else {
+        None
+    }
+}
+
+// Whether these bytes stand at the place.
+fn stands_at(bytes: &[u8], place: usize, part: &[u8]) -> bool
+    requires { place < length bytes.now }
+    ensures { result ≡ occurs_at bytes.now part.now place }
+{
+    bytes[place..].starts_with(part)
+}

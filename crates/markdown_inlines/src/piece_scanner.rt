@@ -1,0 +1,179 @@
+//! Looking for the pieces of a text, from left to right.
+ghost use Rattle.std.specs.Prelude.{ℕ, ◌≡◌, ◌≢◌, ◌+◌, ◌-◌, ◌<◌, ◌≤◌, length, get_or, IfOk, IfSome, IfNone};
+ghost use Rattle.std.specs.List.{prefix_len};
+ghost use Rattle.std.specs.Str.{IsCharBoundary};
+ghost use Rattle.markdown_scanners_tree.specs.Ascii.{backtick};
+ghost use Rattle.markdown_scanners_tree.specs.inline_html.Guard.{IsTrueGuard};
+ghost use Rattle.markdown_inlines.specs.Pieces.{BeginsAt, ReadText, IsNext, HasOnlyText};
+ghost use Rattle.markdown_inlines.specs.PieceBytes.{is_plain, run_length};
+ghost use Rattle.markdown_inlines.specs.declared.pieces.PieceKind.{PieceKind};
+
+use crate::guarded_code_spans::CodeSpans;
+use crate::piece_at::piece_at;
+use crate::pieces::Piece;
+use markdown_scanners_tree::inline_html::HtmlScanGuard;
+use markdown_scanners_tree::scanners::scan_ch_repeat;
+use std::alloc::{AllocError, Global};
+use std::marker::Model;
+
+// A text, the place up to which it has been read, and what is known of code spans and HTML after that.
+#[derive(Drop)]
+pub(crate) struct PieceScanner<'a> {
+    text: &'a str,
+    place: usize,
+    codes: CodeSpans<'a>,
+    guard: HtmlScanGuard,
+}
+
+impl<'a> Model for PieceScanner<'a> {
+    ghost Value = { ReadText };
+
+    ghost view = { λ s. record { text = s.text.now; place = s.place } };
+
+    ghost invariant = { λ s. (s.codes ≡ s.text.now) × (s.place ≤ length s.text.now)
+        × IsTrueGuard s.text.now s.guard (s.place + 2) };
+}
+
+impl<'a> PieceScanner<'a> {
+    // Nothing is read.
+    pub(crate) fn new(alloc: Global, text: &'a str) -> Result<PieceScanner<'a>, AllocError>
+        ensures start { IfOk result (λ s. s ≡ record { text = text.now; place = 0 }) }
+    {
+        let codes = CodeSpans::new(alloc, text.as_bytes())?;
+        Ok(PieceScanner {
+            text,
+            place: 0,
+            codes,
+            guard: HtmlScanGuard::new(),
+        })
+    }
+
+    // The place up to which the text has been read.
+    pub(crate) fn place(&self) -> usize
+        ensures place { result ≡ self.now.place }
+        ensures within { result ≤ length self.now.text }
+    {
+        self.place
+    }
+
+    // Reads up to a later place.
+    pub(crate) fn read_to(&mut self, place: usize)
+        requires later { self.old.place ≤ place }
+        requires within { place ≤ length self.old.text }
+        ensures { self.new ≡ record self.old { place = place } }
+    {
+        self.place = place;
+    }
+
+    // Reads up to the end of the next piece that isn't text, or to the end of the text where there
+    // is none. No memory is asked for.
+    pub(crate) fn next(&mut self, alloc: Global) -> Option<Piece>
+        // The next piece is answered, and the text is read up to its end.
+        ensures found { IfSome result (IsNext self.old.text self.old.place) }
+        ensures read { IfSome result (λ piece.
+            self.new ≡ record self.old { place = piece.end }) }
+
+        // It is part of the text, which may be cut on both sides of it.
+        ensures within { IfSome result (λ piece. (piece.start < piece.end)
+            × (piece.end ≤ length self.old.text)) }
+        ensures boundary { IfSome result (λ piece. IsCharBoundary self.old.text piece.start
+            × IsCharBoundary self.old.text piece.end) }
+
+        // Else all that is left is text.
+        ensures none { IfNone result
+            (HasOnlyText self.old.text self.old.place (length self.old.text)) }
+        ensures all { IfNone result
+            (self.new ≡ record self.old { place = length self.old.text }) }
+    {
+        let piece = next_piece(alloc, self.text, &self.codes, &mut self.guard, self.place);
+        self.place = match &piece {
+            Some(piece) => piece.end,
+            None => self.text.len(),
+        };
+        piece
+    }
+}
+
+// The next piece from a place on that isn't text.
+fn next_piece(
+    alloc: Global,
+    text: &str,
+    codes: &CodeSpans,
+    guard: &mut HtmlScanGuard,
+    from: usize,
+) -> Option<Piece>
+    requires within { from ≤ length text.now }
+    requires spans { codes.now ≡ text.now }
+    requires true_guard { IsTrueGuard text.now guard.old (from + 2) }
+    ensures found { IfSome result (IsNext text.now from) }
+    ensures within { IfSome result (λ piece. (piece.start < piece.end)
+        × (piece.end ≤ length text.now)) }
+    ensures boundary { IfSome result (λ piece. IsCharBoundary text.now piece.start
+        × IsCharBoundary text.now piece.end) }
+    ensures none { IfNone result (HasOnlyText text.now from (length text.now)) }
+    ensures stays_true { IfSome result (λ piece.
+        IsTrueGuard text.now guard.new (piece.end + 2)) }
+    ensures stays_true_to_end { IfNone result
+        (IsTrueGuard text.now guard.new (length text.now + 2)) }
+{
+    let bytes = text.as_bytes();
+    let mut place = from + plain_len(&bytes[from..]);
+    while place < bytes.len() {
+        if let Some((kind, len)) = piece_at(alloc, text, codes, guard, place) {
+            return Some(Piece {
+                kind,
+                start: place,
+                end: place + len,
+            });
+        }
+        place = past_text(bytes, place);
+    }
+    None
+}
+
+// The next place at which a piece may begin, after one at which none does.
+fn past_text(bytes: &[u8], place: usize) -> usize
+    requires within { place < length bytes.now }
+    ensures later { place < result }
+    ensures within { result ≤ length bytes.now }
+    ensures text { (from : ℕ) → from ≤ place → HasOnlyText bytes.now from place
+        → ((kind : PieceKind) (len : ℕ) → ¬ BeginsAt bytes.now from place kind len)
+        → HasOnlyText bytes.now from result }
+    ensures apart { get_or bytes.now result 0 ≡ backtick
+        → get_or bytes.now (result - 1) 0 ≢ backtick }
+{
+    let next = place + run_len(&bytes[place..]);
+    next + plain_len(&bytes[next..])
+}
+
+// How many bytes of a backtick string or of a run of spaces stand at the front, or 1 for another
+// byte.
+fn run_len(rest: &[u8]) -> usize
+    requires some { 0 < length rest.now }
+    ensures run { result ≡ run_length rest.now }
+    ensures within { (0 < result) × (result ≤ length rest.now) }
+{
+    match rest[0] {
+        b'`' => scan_ch_repeat(rest, b'`'),
+        b' ' => scan_ch_repeat(rest, b' '),
+        _ => 1,
+    }
+}
+
+// How many bytes at the front begin nothing but text.
+fn plain_len(bytes: &[u8]) -> usize
+    ensures count { result ≡ prefix_len is_plain bytes.now }
+    ensures within { result ≤ length bytes.now }
+{
+    bytes.iter().take_while(|b| is_plain(**b)).count()
+}
+
+// Whether no piece but text begins with the byte.
+fn is_plain(byte: u8) -> bool
+    ensures { result ≡ is_plain byte }
+{
+    !matches!(
+        byte,
+        b'\\' | b'&' | b'`' | b'<' | b'[' | b'!' | b']' | b'*' | b'_' | b' ' | b'\n' | b'\r'
+    )
+}

@@ -1,0 +1,203 @@
+//! What is known of a text that is read from left to right: which brackets may begin links, and which
+//! delimiter runs emphasis. (CommonMark 0.31.2, "Parsing strategy", phase 2)
+ghost use Rattle.std.specs.Prelude.{◌≡◌, ◌++◌, ◌<◌, ◌≤◌, ◌+◌, ℕ, List, [], ◌∷◌, length, IfOk, IfSome, IfNone, OnOk};
+ghost use Rattle.std.specs.Str.{IsCharBoundary};
+ghost use Rattle.markdown_inlines.specs.Emphasis.{emphasis_of};
+ghost use Rattle.markdown_inlines.specs.Inlines.{Reading, at_start, with_piece, with_run, with_opener, with_link, may_begin, IsClosed};
+ghost use Rattle.markdown_inlines.specs.Readings.{AreOpen, HasRuns};
+
+use crate::delimiter_runs::DelimiterRun;
+use crate::emphasis::{Delimiters, Emphasis, find_emphasis};
+use crate::link_targets::scan_target;
+use crate::links::{Labels, Link};
+use crate::pieces::{Piece, PieceKind};
+use std::alloc::{AllocError, Global};
+use std::marker::Model;
+
+/// A bracket that may begin a link or an image.
+#[derive(Clone, Copy)]
+pub(crate) struct Opener {
+    // Where it stands, with the exclamation mark before it.
+    start: usize,
+    // Where the link text begins.
+    text: usize,
+    is_image: bool,
+    // How many delimiter runs stand before it that are in no link text.
+    runs: usize,
+    // How many openers stand before it.
+    number: usize,
+}
+
+// What is known of the pieces that have been read.
+#[derive(Drop)]
+pub(crate) struct Reader<'a> {
+    text: &'a str,
+    openers: Vec<Opener>,
+    runs: Vec<Delimiters>,
+    last_link: usize,
+    links: Vec<Option<Link>>,
+    emphasis: Vec<Emphasis>,
+}
+
+impl<'a> Model for Reader<'a> {
+    ghost use Rattle.std.specs.Prelude.{reverse, length};
+    ghost use Rattle.markdown_inlines.specs.Inlines.{Reading};
+    ghost use Rattle.markdown_inlines.specs.EmphasisBounds.{AreOfDelimiters};
+    ghost use Rattle.markdown_inlines.specs.Readings.{AreOpen};
+
+    ghost Value = { Reading };
+
+    ghost view = { λ r. record {
+      text = r.text.now;
+      openers = reverse r.openers.items;
+      runs = r.runs.items;
+      last_link = r.last_link;
+      links = r.links.items;
+      emphasis = r.emphasis.items;
+    } };
+
+    ghost invariant = { λ r. AreOfDelimiters r.runs.items
+        × AreOpen r.text.now (reverse r.openers.items) (length r.runs.items) (length r.links.items) };
+}
+
+impl<'a> Reader<'a> {
+    // No piece is read.
+    pub(crate) fn new(alloc: Global, text: &'a str) -> Reader<'a>
+        ensures start { result ≡ at_start text.now }
+    {
+        Reader {
+            text,
+            openers: Vec::new(alloc),
+            runs: Vec::new(alloc),
+            last_link: 0,
+            links: Vec::new(alloc),
+            emphasis: Vec::new(alloc),
+        }
+    }
+
+    // Reads a piece that is no right bracket.
+    pub(crate) fn read(&mut self, piece: Piece) -> Result<(), AllocError>
+        requires runs { HasRuns piece.kind }
+        requires within { IsCharBoundary self.old.text piece.end }
+        ensures { OnOk result (self.new ≡ with_piece piece.kind piece self.old) }
+    {
+        match piece.kind {
+            PieceKind::Delimiters(run) => self.runs.push(Delimiters {
+                start: piece.start,
+                end: piece.end,
+                run,
+            })?,
+            PieceKind::LinkOpener => self.open(false, piece)?,
+            PieceKind::ImageOpener => self.open(true, piece)?,
+            _ => (),
+        }
+        Ok(())
+    }
+
+    // Reads an opener.
+    fn open(&mut self, is_image: bool, piece: Piece) -> Result<(), AllocError>
+        requires within { IsCharBoundary self.old.text piece.end }
+        ensures { OnOk result (self.new ≡ with_opener is_image piece self.old) }
+    {
+        let opener = Opener {
+            start: piece.start,
+            text: piece.end,
+            is_image,
+            runs: self.runs.len(),
+            number: self.links.len(),
+        };
+        self.links.push(None)?;
+        self.openers.push(opener)?;
+        Ok(())
+    }
+
+    // Reads a right bracket, and answers the place after the link that it ends, or after itself.
+    pub(crate) fn close<L: Labels>(
+        &mut self,
+        alloc: Global,
+        labels: &L,
+        bracket: Piece,
+    ) -> Result<usize, AllocError>
+        requires bracket { bracket.end ≡ bracket.start + 1 }
+        requires after { IsCharBoundary self.old.text bracket.end }
+        ensures closed { IfOk result (λ end. IsClosed (L.known labels.now) self.old.openers self.old
+            bracket.start end self.new) }
+        ensures within { IfOk result (λ end. (bracket.start < end) × (end ≤ length self.old.text)) }
+        ensures boundary { IfOk result (λ end. IsCharBoundary self.old.text end) }
+        ensures text { OnOk result (self.new.text ≡ self.old.text) }
+    {
+        let Some(opener) = self.pop() else {
+            return Ok(bracket.end);
+        };
+        if !self.may_begin(opener) {
+            return Ok(bracket.end);
+        }
+        match scan_target(alloc, self.text, labels, opener.text, bracket.start)? {
+            None => Ok(bracket.end),
+            Some((target, end)) => {
+                let link = Link {
+                    is_image: opener.is_image,
+                    source: opener.start..end,
+                    text: opener.text..bracket.start,
+                    target,
+                };
+                self.end_link(alloc, opener, link)?;
+                Ok(end)
+            }
+        }
+    }
+
+    // Takes the innermost opener away.
+    fn pop(&mut self) -> Option<Opener>
+        ensures some { IfSome result (λ opener.
+            self.old ≡ record self.new { openers = opener ∷ self.new.openers }) }
+        ensures few { IfSome result (λ opener. opener.runs ≤ length self.new.runs) }
+        ensures known { IfSome result (λ opener. opener.number < length self.new.links) }
+        ensures boundary { IfSome result (λ opener. IsCharBoundary self.new.text opener.text) }
+        ensures outer { IfSome result (λ opener.
+            AreOpen self.new.text self.new.openers opener.runs opener.number) }
+        ensures none { IfNone result ((self.old.openers ≡ []) × (self.new ≡ self.old)) }
+    {
+        self.openers.pop()
+    }
+
+    // Whether the opener may begin a link or an image.
+    fn may_begin(&self, opener: Opener) -> bool
+        ensures { result ≡ may_begin opener self.now }
+    {
+        opener.is_image || opener.start >= self.last_link
+    }
+
+    // Reads the end of a link. Its opener is no longer among the others.
+    fn end_link(&mut self, alloc: Global, opener: Opener, link: Link) -> Result<(), AllocError>
+        requires few { opener.runs ≤ length self.old.runs }
+        requires known { opener.number < length self.old.links }
+        requires outer { AreOpen self.old.text self.old.openers opener.runs opener.number }
+        ensures { OnOk result (self.new ≡ with_link link opener self.old.openers self.old) }
+    {
+        let mut found = find_emphasis(alloc, &self.runs[opener.runs..])?;
+        self.emphasis.append(&mut found)?;
+        self.runs.truncate(opener.runs);
+        self.last_link = if link.is_image {
+            self.last_link
+        } else {
+            link.source.start
+        };
+        self.links[opener.number] = Some(link);
+        Ok(())
+    }
+
+    // The emphasis of the text, and the link that each opener begins.
+    pub(crate) fn finish(
+        mut self,
+        alloc: Global,
+    ) -> Result<(Vec<Option<Link>>, Vec<Emphasis>), AllocError>
+        ensures links { IfOk result (λ r. r.0.items ≡ self.entry.links) }
+        ensures emphasis { IfOk result (λ r. r.1.items
+            ≡ self.entry.emphasis ++ emphasis_of self.entry.runs) }
+    {
+        let mut found = find_emphasis(alloc, &self.runs)?;
+        self.emphasis.append(&mut found)?;
+        Ok((self.links, self.emphasis))
+    }
+}
