@@ -1,8 +1,17 @@
-//! Tests of `markdown_inlines`: rows of CommonMark 0.31.2, sections 2.1, 6.1 to 6.3, 6.5, 6.7 and 6.8.
+//! Tests of `markdown_inlines`: rows of CommonMark 0.31.2, sections 2.1, 2.4 and 2.5, and chapter 6.
 ghost use Rattle.std.specs.Prelude.{◌≤◌, ◌+◌, length, IfSome};
 ghost use Rattle.markdown_inlines.specs.DelimiterRuns.{IsDelimiterRun};
 
+mod cuts;
 mod emphasis;
+mod escapes;
+mod html;
+mod images;
+mod links;
+mod mixed;
+mod others;
+mod references;
+mod whole_texts;
 
 use crate::asserts::{assert_same, found, is_none, made};
 use markdown_inlines::code_content::code_text;

@@ -2,6 +2,7 @@
 ghost use Rattle.std.specs.Prelude.{◌<◌, ◌≤◌, ◌+◌, length, IfOk};
 ghost use Rattle.markdown_inlines.specs.EmphasisBounds.{AreOfDelimiters};
 
+use super::html::html_of;
 use super::run_at;
 use crate::asserts::{assert_text, made};
 use markdown_inlines::emphasis::{Delimiters, Emphasis, find_emphasis};
@@ -197,41 +198,32 @@ fn is_delimiter(place: usize, start: usize, count: usize) -> bool {
     start <= place && place - start < count
 }
 
-// Adds the tag, if the place is the first of the delimiters.
-fn push_tag(out: &mut String, is_first: bool, tag: &str) -> Result<(), AllocError> {
-    if is_first {
-        out.push_str(tag)?;
-    }
-    Ok(())
-}
-
-// Adds the character at a place, or in the stead of a delimiter the tag that it begins.
-fn push_char(
-    out: &mut String,
-    place: usize,
-    c: char,
-    emphasis: &[Emphasis],
-) -> Result<(), AllocError> {
+/// The tag that a delimiter at the place begins, which is empty at the second of two; or nothing, where
+/// none stands there that is in emphasis.
+pub(super) fn tag_at(place: usize, emphasis: &[Emphasis]) -> Option<&'static str> {
     for it in emphasis {
         let (start, end) = match it.count {
             1 => ("<em>", "</em>"),
             _ => ("<strong>", "</strong>"),
         };
         if is_delimiter(place, it.opening, it.count) {
-            return push_tag(out, place == it.opening, start);
+            return Some(if place == it.opening { start } else { "" });
         }
         if is_delimiter(place, it.closing, it.count) {
-            return push_tag(out, place == it.closing, end);
+            return Some(if place == it.closing { end } else { "" });
         }
     }
-    out.push(c)
+    None
 }
 
 // The text with elements for its emphasis.
 fn with_elements(alloc: Global, text: &str, emphasis: &[Emphasis]) -> Result<String, AllocError> {
     let mut out = String::new(alloc);
     for (place, c) in text.char_indices() {
-        push_char(&mut out, place, c, emphasis)?;
+        match tag_at(place, emphasis) {
+            Some(tag) => out.push_str(tag)?,
+            None => out.push(c)?,
+        }
     }
     Ok(out)
 }
@@ -241,5 +233,15 @@ fn emphasis_stands_as_the_specification_has_it(rt: HostRuntime) {
     for (text, wanted) in ROWS {
         let emphasis = made(&rt, emphasis_of(rt.alloc(), text));
         assert_text(&rt, with_elements(rt.alloc(), text, &emphasis), wanted);
+    }
+}
+
+// A quotation mark is written otherwise in HTML.
+#[test]
+fn texts_have_the_same_emphasis(rt: HostRuntime) {
+    for (text, wanted) in ROWS {
+        if !text.contains('"') {
+            assert_text(&rt, html_of(rt.alloc(), text, &[]), wanted);
+        }
     }
 }

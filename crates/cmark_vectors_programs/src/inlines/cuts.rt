@@ -1,0 +1,90 @@
+//! Of one text the pieces, the links and the emphasis, by their places.
+use super::html::Definitions;
+use crate::asserts::{assert_same, made};
+use markdown_inlines::cut::cut_inlines;
+use markdown_inlines::delimiter_runs::DelimiterRun;
+use markdown_inlines::emphasis::Emphasis;
+use markdown_inlines::links::{Link, LinkTarget};
+use markdown_inlines::pieces::{Piece, PieceKind};
+
+const LABELS: Definitions = Definitions {
+    rows: &[("c", "/c", None), ("g h", "/g", None)],
+};
+
+// A piece from one place up to another.
+const fn piece(kind: PieceKind, start: usize, end: usize) -> Piece {
+    Piece { kind, start, end }
+}
+
+// A run of one delimiter, which opens emphasis or closes it.
+const fn run(can_open: bool, start: usize) -> Piece {
+    let run = DelimiterRun {
+        byte: b'*',
+        count: 1,
+        can_open,
+        can_close: !can_open,
+    };
+    piece(PieceKind::Delimiters(run), start, start.saturating_add(1))
+}
+
+#[test]
+fn pieces_are_joined_to_their_text(rt: HostRuntime) {
+    let text = "a *b* \\*&amp;`` c ``<d:e>\\\nf<g@h><i>";
+    let cut = made(&rt, cut_inlines(rt.alloc(), text, &LABELS));
+    let wanted = [
+        piece(PieceKind::Text, 0, 2),
+        run(true, 2),
+        piece(PieceKind::Text, 3, 4),
+        run(false, 4),
+        piece(PieceKind::Text, 5, 6),
+        piece(PieceKind::Escape, 6, 8),
+        piece(PieceKind::Reference, 8, 13),
+        piece(PieceKind::Code(2), 13, 20),
+        piece(PieceKind::Text, 20, 25),
+        piece(PieceKind::HardBreak, 25, 27),
+        piece(PieceKind::Text, 27, 28),
+        piece(PieceKind::Email, 28, 33),
+        piece(PieceKind::Html, 33, 36),
+    ];
+    assert_same(&rt, cut.pieces.as_slice(), &wanted);
+    let emphasis = [Emphasis {
+        opening: 2,
+        closing: 4,
+        count: 1,
+    }];
+    assert_same(&rt, cut.emphasis.as_slice(), &emphasis);
+    assert_same(&rt, cut.links.len(), 0);
+}
+
+#[test]
+fn openers_have_their_links(rt: HostRuntime) {
+    let text = "[ [a](b 'c')![d][g\n h][c][][c] [e]";
+    let cut = made(&rt, cut_inlines(rt.alloc(), text, &LABELS));
+    let link = |is_image, source, text, target| {
+        Some(Link {
+            is_image,
+            source,
+            text,
+            target,
+        })
+    };
+    let wanted = [
+        None,
+        link(false, 2..12, 3..4, LinkTarget::Inline(6..7, Some(9..10))),
+        link(true, 12..22, 14..15, LinkTarget::Full(17..21)),
+        link(false, 22..27, 23..24, LinkTarget::Collapsed),
+        link(false, 27..30, 28..29, LinkTarget::Shortcut),
+        None,
+    ];
+    assert_same(&rt, cut.links.as_slice(), wanted.as_slice());
+    let closer = Some(piece(PieceKind::Closer, 4, 12));
+    assert_same(&rt, cut.pieces.get(4).copied(), closer);
+}
+
+#[test]
+fn a_text_may_be_empty(rt: HostRuntime) {
+    let cut = made(&rt, cut_inlines(rt.alloc(), "", &LABELS));
+    assert_same(&rt, cut.pieces.len(), 0);
+    assert_same(&rt, cut.links.len(), 0);
+    assert_same(&rt, cut.emphasis.len(), 0);
+}

@@ -1,0 +1,310 @@
+//! The inlines of a text as HTML, as the specification shows them.
+ghost use Rattle.std.specs.List.{list_any};
+ghost use Rattle.std.specs.Str.{bytes_eq};
+
+use super::emphasis::tag_at;
+use crate::asserts::{assert_same, made};
+use html_entities::HtmlEntities;
+use markdown_inlines::code_content::code_text;
+use markdown_inlines::cut::{Cut, cut_inlines};
+use markdown_inlines::links::{Labels, Link, LinkTarget};
+use markdown_inlines::pieces::{Piece, PieceKind};
+use markdown_scanners_tree::scanners::unescape;
+use markdown_values::strings::CowStr;
+use std::alloc::{AllocError, Global};
+use std::process::Abort;
+
+/// A link reference definition: its label as the text has it, its destination and its title.
+pub(super) type Definition = (&'static str, &'static str, Option<&'static str>);
+
+/// The number of an example, its text, and the HTML of it.
+pub(super) type Row = (u32, &'static str, &'static str);
+
+/// The same with the definitions of its page.
+pub(super) type DefinedRow = (u32, &'static str, &'static [Definition], &'static str);
+
+/// Examples have their HTML.
+pub(super) fn assert_rows(rt: &impl Abort, alloc: Global, rows: &[Row]) {
+    for (number, text, wanted) in rows {
+        let html = made(rt, html_of(alloc, text, &[]));
+        assert_same(rt, (*number, html.as_str()), (*number, *wanted));
+    }
+}
+
+/// Examples have their HTML, with definitions.
+pub(super) fn assert_defined(rt: &impl Abort, alloc: Global, rows: &[DefinedRow]) {
+    for (number, text, definitions, wanted) in rows {
+        let html = made(rt, html_of(alloc, text, definitions));
+        assert_same(rt, (*number, html.as_str()), (*number, *wanted));
+    }
+}
+
+/// The link reference definitions of a page.
+#[derive(Drop)]
+pub(super) struct Definitions {
+    pub(super) rows: &'static [Definition],
+}
+
+impl Labels for Definitions {
+    ghost known = { λ it name. list_any (λ row. bytes_eq row.0.now name) it.rows.now };
+
+    fn is_defined(&self, label: &str) -> bool {
+        self.rows.iter().any(|row| row.0 == label)
+    }
+}
+
+// A text that is cut.
+#[derive(Drop)]
+struct Page<'a> {
+    alloc: Global,
+    text: &'a str,
+    definitions: &'static [Definition],
+    cut: &'a Cut,
+}
+
+// What is written of it so far.
+#[derive(Drop)]
+struct Html {
+    out: String,
+    // In how many image descriptions it ends: there the text alone is written.
+    images: usize,
+    // How many openers were read.
+    openers: usize,
+}
+
+/// The text as HTML, where a page has these definitions.
+pub(super) fn html_of(
+    alloc: Global,
+    text: &str,
+    definitions: &'static [Definition],
+) -> Result<String, AllocError> {
+    let labels = Definitions { rows: definitions };
+    let cut = cut_inlines(alloc, text, &labels)?;
+    let mut html = Html {
+        out: String::new(alloc),
+        images: 0,
+        openers: 0,
+    };
+    let page = Page {
+        alloc,
+        text,
+        definitions,
+        cut: &cut,
+    };
+    for piece in &cut.pieces {
+        page.push_piece(&mut html, *piece)?;
+    }
+    Ok(html.out)
+}
+
+impl Page<'_> {
+    // The text from one place up to another.
+    fn between(&self, start: usize, end: usize) -> &str {
+        match self.text.get(start..end) {
+            Some(part) => part,
+            None => "",
+        }
+    }
+
+    fn push_piece(&self, html: &mut Html, piece: Piece) -> Result<(), AllocError> {
+        let source = self.between(piece.start, piece.end);
+        match piece.kind {
+            PieceKind::Text => html.push_text(source),
+            PieceKind::Escape | PieceKind::Reference => {
+                html.push_text(self.resolved(source)?.as_str())
+            }
+            PieceKind::HardBreak => html.push_tag("<br />\n"),
+            PieceKind::SoftBreak => html.push_text("\n"),
+            PieceKind::Code(backticks) => self.push_code(html, source, backticks),
+            PieceKind::Uri => html.push_autolink("", source),
+            PieceKind::Email => html.push_autolink("mailto:", source),
+            PieceKind::Html => html.push_tag(source),
+            PieceKind::Delimiters(_) => self.push_delimiters(html, piece.start, source),
+            PieceKind::LinkOpener | PieceKind::ImageOpener => self.push_opener(html, source),
+            PieceKind::Closer => self.push_closer(html, piece.start, source),
+        }
+    }
+
+    // The text with its escapes and references resolved.
+    fn resolved<'b>(&self, text: &'b str) -> Result<CowStr<'b>, AllocError> {
+        unescape(self.alloc, CowStr::from(text), false, &HtmlEntities)
+    }
+
+    fn push_code(&self, html: &mut Html, source: &str, backticks: usize) -> Result<(), AllocError> {
+        let end = source.len().saturating_sub(backticks);
+        let content = source.get(backticks..end).unwrap_or("");
+        html.push_tag("<code>")?;
+        html.push_text(code_text(self.alloc, content)?.as_str())?;
+        html.push_tag("</code>")
+    }
+
+    fn push_delimiters(&self, html: &mut Html, start: usize, run: &str) -> Result<(), AllocError> {
+        for (place, c) in run.char_indices() {
+            match tag_at(start.saturating_add(place), &self.cut.emphasis) {
+                Some(tag) => html.push_tag(tag)?,
+                None => html.push_char(c)?,
+            }
+        }
+        Ok(())
+    }
+
+    // The links stand in the order of their openers.
+    fn push_opener(&self, html: &mut Html, source: &str) -> Result<(), AllocError> {
+        let number = html.openers;
+        html.openers = number.saturating_add(1);
+        match self.cut.links.get(number) {
+            Some(Some(link)) => self.push_start(html, link),
+            _ => html.push_text(source),
+        }
+    }
+
+    fn push_start(&self, html: &mut Html, link: &Link) -> Result<(), AllocError> {
+        let (destination, title) = self.target_of(link);
+        let address = self.resolved(destination)?;
+        if link.is_image {
+            html.push_attribute("<img src=\"", address.as_str(), "\" alt=\"")?;
+            html.images = html.images.saturating_add(1);
+            return Ok(());
+        }
+        html.push_attribute("<a href=\"", address.as_str(), "\"")?;
+        self.push_title(html, title)?;
+        html.push_tag(">")
+    }
+
+    fn push_title(&self, html: &mut Html, title: Option<&str>) -> Result<(), AllocError> {
+        let Some(title) = title else {
+            return Ok(());
+        };
+        if html.images == 0 {
+            html.push_tag(" title=\"")?;
+            html.push_text(self.resolved(title)?.as_str())?;
+            html.push_tag("\"")?;
+        }
+        Ok(())
+    }
+
+    fn push_closer(&self, html: &mut Html, start: usize, source: &str) -> Result<(), AllocError> {
+        match self.link_to(start) {
+            Some(link) => self.push_end(html, link),
+            None => html.push_text(source),
+        }
+    }
+
+    // The link whose text ends at the place.
+    fn link_to(&self, place: usize) -> Option<&Link> {
+        self.cut
+            .links
+            .iter()
+            .flatten()
+            .find(|link| link.text.end == place)
+    }
+
+    fn push_end(&self, html: &mut Html, link: &Link) -> Result<(), AllocError> {
+        if !link.is_image {
+            return html.push_tag("</a>");
+        }
+        html.images = html.images.saturating_sub(1);
+        html.push_tag("\"")?;
+        self.push_title(html, self.target_of(link).1)?;
+        html.push_tag(" />")
+    }
+
+    // The destination and the title of a link, as they are written.
+    fn target_of(&self, link: &Link) -> (&str, Option<&str>) {
+        match &link.target {
+            LinkTarget::Inline(destination, title) => (
+                self.between(destination.start, destination.end),
+                title
+                    .as_ref()
+                    .map(|title| self.between(title.start, title.end)),
+            ),
+            LinkTarget::Full(label) => self.defined_by(label.start, label.end),
+            LinkTarget::Collapsed | LinkTarget::Shortcut => {
+                self.defined_by(link.text.start, link.text.end)
+            }
+        }
+    }
+
+    // What the definition has whose label stands in the text.
+    fn defined_by(&self, start: usize, end: usize) -> (&str, Option<&str>) {
+        let label = self.between(start, end);
+        for (name, destination, title) in self.definitions {
+            if name.split_whitespace().eq(label.split_whitespace()) {
+                return (destination, *title);
+            }
+        }
+        ("", None)
+    }
+}
+
+impl Html {
+    fn push_tag(&mut self, tag: &str) -> Result<(), AllocError> {
+        if self.images == 0 {
+            self.out.push_str(tag)?;
+        }
+        Ok(())
+    }
+
+    fn push_text(&mut self, text: &str) -> Result<(), AllocError> {
+        for c in text.chars() {
+            self.push_char(c)?;
+        }
+        Ok(())
+    }
+
+    fn push_char(&mut self, c: char) -> Result<(), AllocError> {
+        match c {
+            '&' => self.out.push_str("&amp;"),
+            '<' => self.out.push_str("&lt;"),
+            '>' => self.out.push_str("&gt;"),
+            '"' => self.out.push_str("&quot;"),
+            _ => self.out.push(c),
+        }
+    }
+
+    fn push_autolink(&mut self, scheme: &str, source: &str) -> Result<(), AllocError> {
+        let address = source.trim_start_matches('<').trim_end_matches('>');
+        self.push_tag("<a href=\"")?;
+        self.push_attribute(scheme, address, "\">")?;
+        self.push_text(address)?;
+        self.push_tag("</a>")
+    }
+
+    // An address, with what stands before it and after it.
+    fn push_attribute(
+        &mut self,
+        before: &str,
+        address: &str,
+        after: &str,
+    ) -> Result<(), AllocError> {
+        if self.images > 0 {
+            return Ok(());
+        }
+        self.out.push_str(before)?;
+        for byte in address.bytes() {
+            self.push_address_byte(byte)?;
+        }
+        self.out.push_str(after)
+    }
+
+    // A byte of an address, percent-encoded where it stands in none.
+    fn push_address_byte(&mut self, byte: u8) -> Result<(), AllocError> {
+        if byte.is_ascii_alphanumeric() || b"-_.+!*'(),%#@?=;:/$~".contains(&byte) {
+            return self.out.push(char::from(byte));
+        }
+        if byte == b'&' {
+            return self.out.push_str("&amp;");
+        }
+        self.out.push('%')?;
+        self.push_digit(byte >> 4)?;
+        self.push_digit(byte & 15)
+    }
+
+    fn push_digit(&mut self, digit: u8) -> Result<(), AllocError> {
+        let digits = b"0123456789ABCDEF";
+        match digits.get(usize::from(digit)) {
+            Some(byte) => self.out.push(char::from(*byte)),
+            None => Ok(()),
+        }
+    }
+}
