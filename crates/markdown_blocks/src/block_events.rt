@@ -3,7 +3,8 @@
 ghost use Rattle.std.specs.Prelude.{◌≡◌, ◌∷◌, ◌<◌, ◌≤◌, ◌+◌, ◌-◌, ◌^◌, ◌↔◌, [], List, ℕ, length, take, drop, IsTrue, IfSome, IfNone};
 ghost use Rattle.markdown_scanners_tree.specs.scanners.TextLines.{lines_of};
 ghost use Rattle.markdown_blocks.specs.containers.Containers.{marker_place, after_marker};
-ghost use Rattle.markdown_blocks.specs.events.Events.{Event, LeafBlock, AreLeaves, leaf_of, first_lines, first_of, later_lines, first_rest, seen_event, seen_leaf};
+ghost use Rattle.markdown_blocks.specs.events.Events.{Event, LeafBlock, AreLeaves, leaf_of, first_lines, first_of, later_lines, first_rest};
+ghost use Rattle.markdown_blocks.specs.events.Events.{seen_event, seen_leaf};
 ghost use Rattle.markdown_blocks.specs.events.Given.{GivesBlock, block_left, block_events_left};
 ghost use Rattle.markdown_blocks.specs.taken.Lines.{IsTaken};
 

@@ -9,7 +9,7 @@ returns-then-eq-clause-told g c =
     (g.W.Write.contents c.tell_page.new.output) (stop_of c.tell_page.result) (sym c.eq.ensures ∙ c.if-eq.true)
     (page_ends c.args.form c.args.pages c.args.name.now g.R.Read.remaining g.R.StepReader.reads c.args.input.now c.tell_page.new.input (g.W.Write.contents c.args.output.now)
     (g.W.Write.contents c.tell_page.new.output) c.as_str.result.now (c.as_str.ensures.value ∙ c.in_ok-title.ensures) c.tell_page.result
-      c.tell_page.ensures.told c.tell_page.ensures.read c.tell_page.ensures.ended
+    c.tell_page.ensures.told c.tell_page.ensures.read c.tell_page.ensures.ended
     c.tell_page.ensures.begun c.tell_page.ensures.failed c.tell_page.ensures.reads)
 
 pub returns-in-Err-clause-told : goal.returns-in-Err-clause-told
@@ -24,7 +24,7 @@ returns-clause-told g c =
     c.in-Ok.ensures
     (page_ends c.args.form c.args.pages c.args.name.now g.F.File.Read.remaining g.F.File.StepReader.reads c.in-Ok.file c.tell_page-2.new.input (g.W.Write.contents c.args.output.now)
     (g.W.Write.contents c.tell_page-2.new.output) c.as_str-2.result.now (c.as_str-2.ensures.value ∙ c.in_ok-title.ensures) c.tell_page-2.result
-      c.tell_page-2.ensures.told c.tell_page-2.ensures.read c.tell_page-2.ensures.ended
+    c.tell_page-2.ensures.told c.tell_page-2.ensures.read c.tell_page-2.ensures.ended
     c.tell_page-2.ensures.begun c.tell_page-2.ensures.failed c.tell_page-2.ensures.reads)
 
 pub returns-in_err-title-clause-told : goal.returns-in_err-title-clause-told

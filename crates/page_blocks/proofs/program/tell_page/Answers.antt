@@ -22,7 +22,7 @@ pub loop-telling-init : goal.loop-telling-init
 loop-telling-init g c = record {
   begun = begun-first c.args.form c.args.title.now (g.R.Read.remaining c.args.input.now) (g.W.Write.contents c.args.output.now)
       (g.W.Write.contents c.write_text.new.output) c.new-telling.result c.new-unread.result.text.items c.in_ok-write_text.ensures.written
-        c.new-unread.ensures.text c.new-telling.ensures.told c.new-telling.ensures.form;
+      c.new-unread.ensures.text c.new-telling.ensures.told c.new-telling.ensures.form;
   empty = c.new-telling.ensures.nothing;
   reads = (0, omega (arith, c.new-unread.ensures.reads), no_read c.args.input.now);
   lines = omega (
