@@ -11,6 +11,8 @@ pub mod LastStrings
 pub mod LineBreaks
 pub mod LinkTails
 pub mod Links
+pub mod Marks
+pub mod Output
 pub mod PieceBytes
 pub mod Pieces
 pub mod Readings

@@ -45,6 +45,13 @@ IsLabelAfter text place close = (occurs_at text (codes "[") place ≡ true) × (
 abbrev pub IsKnownAfter : List ℕ → Known → ℕ → ℕ → Type 0
 IsKnownAfter text known place close = (occurs_at text (codes "[") place ≡ true) × IsKnownLabel text known (place + 1) close
 
+-- the label that stands there, with its brackets, is defined
+pub record IsFullLabel (text : List ℕ) (known : Known) (place : ℕ) (label : Range ℕ) : Type 0 where
+  pub bracket : ℕ
+  pub known_after : IsKnownAfter text known place bracket
+  pub begins : label.start ≡ place
+  pub ends : label.end ≡ bracket + 1
+
 -- No tail of an inline link follows, and no label.
 abbrev pub HasNoTail : List ℕ → ℕ → Type 0
 HasNoTail text place = (tail : LinkTail) → ¬ IsLinkTail most_parentheses (drop place text) tail
@@ -59,7 +66,7 @@ IsTarget text known from close (Inline destination title) end =
     (tail : LinkTail) × IsLinkTail most_parentheses (drop (close + 1) text) tail
     × (Inline destination title ≡ inline_target (close + 1) tail) × (end ≡ close + 1 + tail.len)
 IsTarget text known from close (Full label) end =
-    HasNoTail text (close + 1) × IsKnownAfter text known (close + 1) label.end × (label.start ≡ close + 1 + 1) × (end ≡ label.end + 1)
+    HasNoTail text (close + 1) × IsFullLabel text known (close + 1) label × (end ≡ label.end)
 IsTarget text known from close Collapsed end =
     HasNoTail text (close + 1) × HasNoLabelAfter text (close + 1) × (occurs_at text (codes "[]") (close + 1) ≡ true)
     × IsKnownLabel text known from close × (end ≡ close + 3)

@@ -2,7 +2,8 @@
 ghost use Rattle.std.specs.Prelude.{◌≡◌, ◌++◌, ◌<◌, ◌≤◌, ◌+◌, length, IfOk, OnOk};
 ghost use Rattle.std.specs.Str.{IsCharBoundary};
 ghost use Rattle.markdown_inlines.specs.Inlines.{IsCut, IsRead, IsPieceAt, text_between};
-ghost use Rattle.markdown_inlines.specs.Sources.{AreSources};
+ghost use Rattle.markdown_inlines.specs.Readings.{AreBefore};
+ghost use Rattle.markdown_inlines.specs.Sources.{AreSources, AreLinkSources, IsSource};
 
 use crate::emphasis::Emphasis;
 use crate::links::{Labels, Link};
@@ -40,6 +41,9 @@ pub fn cut_inlines<L: Labels>(alloc: Global, text: &str, labels: &L) -> Result<C
     // the text.
     ensures sources { IfOk result (λ cut.
         AreSources text.now cut.pieces.items (length text.now)) }
+
+    // The text may be cut on both sides of each part of a link.
+    ensures links { IfOk result (λ cut. AreLinkSources text.now cut.links.items) }
 {
     let mut scanner = PieceScanner::new(alloc, text)?;
     let mut reader = Reader::new(alloc, text);
@@ -85,9 +89,8 @@ fn read_piece<L: Labels>(
     piece: Piece,
 ) -> Result<usize, AllocError>
     requires here { IsPieceAt reader.old.text piece }
-    requires some { piece.start < piece.end }
-    requires within { piece.end ≤ length reader.old.text }
-    requires boundary { IsCharBoundary reader.old.text piece.end }
+    requires source { IsSource reader.old.text piece }
+    requires before { AreBefore reader.old.openers piece.start }
     ensures read { IfOk result (λ end. IsRead piece.kind (L.known labels.now) reader.old
         (record piece { end = end }) reader.new) }
     ensures text { OnOk result (reader.new.text ≡ reader.old.text) }

@@ -7,6 +7,7 @@ ghost use Rattle.markdown_values.specs.strings.Text.{cow_text};
 ghost use Rattle.markdown_scanners_tree.specs.SomeExactly.{SomeExactly};
 ghost use Rattle.markdown_inlines.specs.LinkTails.{IsLinkTail};
 ghost use Rattle.markdown_inlines.specs.Links.{IsTarget, IsLabelAt, IsKnownLabel, HasNoTail, HasNoLabelAfter, inline_target};
+ghost use Rattle.markdown_inlines.specs.Sources.{IsTargetSource};
 ghost use Rattle.markdown_inlines.specs.declared.link_tails.LinkTail.{LinkTail};
 ghost use Rattle.markdown_inlines.specs.declared.links.LinkTarget.TheVariants.{Full};
 
@@ -36,13 +37,14 @@ pub(crate) fn scan_target<L: Labels>(
     ensures within { IfOk result (λ found. IfSome found (λ r.
         (close < r.1) × (r.1 ≤ length text.now))) }
     ensures boundary { IfOk result (λ found. IfSome found (λ r. IsCharBoundary text.now r.1)) }
+    ensures source { IfOk result (λ found. IfSome found (λ r. IsTargetSource text.now r.0)) }
 {
     let after = close + 1;
     if let Some((target, end)) = scan_inline_target(text.as_bytes(), after) {
         return Ok(Some((target, end)));
     }
     match scan_label_after(alloc, text, after)? {
-        Some((end, name)) => Ok(full_target(labels, after + 1, end, name.as_str())),
+        Some((bracket, name)) => Ok(full_target(labels, after, bracket, name.as_str())),
         None => scan_reference(alloc, text, labels, from, close),
     }
 }
@@ -56,6 +58,8 @@ fn scan_inline_target(bytes: &[u8], place: usize) -> Option<(LinkTarget, usize)>
     ensures within { IfSome result (λ r. (place ≤ r.1) × (r.1 ≤ length bytes.now)) }
     ensures boundary { IfSome result (λ r. IsUtf8 bytes.now → IsCharBoundary bytes.now place
         → IsCharBoundary bytes.now r.1) }
+    ensures source { IfSome result (λ r. IsUtf8 bytes.now → IsCharBoundary bytes.now place
+        → IsTargetSource bytes.now r.0) }
 {
     let tail = scan_link_tail(&bytes[place..], MOST_NESTED)?;
     let title = match tail.title {
@@ -66,20 +70,20 @@ fn scan_inline_target(bytes: &[u8], place: usize) -> Option<(LinkTarget, usize)>
     Some((LinkTarget::Inline(destination, title), place + tail.len))
 }
 
-// Where a full reference link leads whose label stands from a place, just after its left bracket, up to
-// the right bracket at another, and the place after that.
+// Where a full reference link leads whose label stands from its left bracket at a place up to its right
+// bracket at another, and the place after that.
 fn full_target<L: Labels>(
     labels: &L,
     start: usize,
-    close: usize,
+    bracket: usize,
     name: &str,
 ) -> Option<(LinkTarget, usize)>
-    requires { close + 1 < 2 ^ 64 }
+    requires { bracket + 1 < 2 ^ 64 }
     ensures { result ≡ (if L.known labels.now name.now
-        then Some (Full (record { start = start; end = close }), close + 1) else None) }
+        then Some (Full (record { start = start; end = bracket + 1 }), bracket + 1) else None) }
 {
     if labels.is_defined(name) {
-        Some((LinkTarget::Full(start..close), close + 1))
+        Some((LinkTarget::Full(start..bracket + 1), bracket + 1))
     } else {
         None
     }
@@ -102,6 +106,7 @@ fn scan_reference<L: Labels>(
     ensures within { IfOk result (λ found. IfSome found (λ r.
         (close < r.1) × (r.1 ≤ length text.now))) }
     ensures boundary { IfOk result (λ found. IfSome found (λ r. IsCharBoundary text.now r.1)) }
+    ensures source { IfOk result (λ found. IfSome found (λ r. IsTargetSource text.now r.0)) }
 {
     if !is_known(alloc, text, labels, from, close)? {
         return Ok(None);

@@ -32,7 +32,7 @@ pub struct Link {
 pub enum LinkTarget {
     /// Parentheses follow: where the raw text of its destination stands, and that of its title.
     Inline(Range<usize>, Option<Range<usize>>),
-    /// A label follows that is defined: where it stands, between its brackets.
+    /// A label follows that is defined: where it stands, with its brackets.
     Full(Range<usize>),
     /// `[]` follows, and the link text is a label that is defined.
     Collapsed,

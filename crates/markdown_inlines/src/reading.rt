@@ -4,7 +4,8 @@ ghost use Rattle.std.specs.Prelude.{◌≡◌, ◌++◌, ◌<◌, ◌≤◌, ◌
 ghost use Rattle.std.specs.Str.{IsCharBoundary};
 ghost use Rattle.markdown_inlines.specs.Emphasis.{emphasis_of};
 ghost use Rattle.markdown_inlines.specs.Inlines.{Reading, at_start, with_piece, with_run, with_opener, with_link, may_begin, IsClosed};
-ghost use Rattle.markdown_inlines.specs.Readings.{AreOpen, HasRuns};
+ghost use Rattle.markdown_inlines.specs.Readings.{AreOpen, AreBefore, HasRuns, IsOpenerSource};
+ghost use Rattle.markdown_inlines.specs.Sources.{IsSource, IsLinkSource, AreLinkSources};
 
 use crate::delimiter_runs::DelimiterRun;
 use crate::emphasis::{Delimiters, Emphasis, find_emphasis};
@@ -44,6 +45,7 @@ impl<'a> Model for Reader<'a> {
     ghost use Rattle.markdown_inlines.specs.Inlines.{Reading};
     ghost use Rattle.markdown_inlines.specs.EmphasisBounds.{AreOfDelimiters};
     ghost use Rattle.markdown_inlines.specs.Readings.{AreOpen};
+    ghost use Rattle.markdown_inlines.specs.Sources.{AreLinkSources};
 
     ghost Value = { Reading };
 
@@ -57,7 +59,8 @@ impl<'a> Model for Reader<'a> {
     } };
 
     ghost invariant = { λ r. AreOfDelimiters r.runs.items
-        × AreOpen r.text.now (reverse r.openers.items) (length r.runs.items) (length r.links.items) };
+        × AreOpen r.text.now (reverse r.openers.items) (length r.runs.items) (length r.links.items)
+        × AreLinkSources r.text.now r.links.items };
 }
 
 impl<'a> Reader<'a> {
@@ -78,7 +81,7 @@ impl<'a> Reader<'a> {
     // Reads a piece that is no right bracket.
     pub(crate) fn read(&mut self, piece: Piece) -> Result<(), AllocError>
         requires runs { HasRuns piece.kind }
-        requires within { IsCharBoundary self.old.text piece.end }
+        requires source { IsSource self.old.text piece }
         ensures { OnOk result (self.new ≡ with_piece piece.kind piece self.old) }
     {
         match piece.kind {
@@ -96,7 +99,7 @@ impl<'a> Reader<'a> {
 
     // Reads an opener.
     fn open(&mut self, is_image: bool, piece: Piece) -> Result<(), AllocError>
-        requires within { IsCharBoundary self.old.text piece.end }
+        requires source { IsSource self.old.text piece }
         ensures { OnOk result (self.new ≡ with_opener is_image piece self.old) }
     {
         let opener = Opener {
@@ -119,7 +122,8 @@ impl<'a> Reader<'a> {
         bracket: Piece,
     ) -> Result<usize, AllocError>
         requires bracket { bracket.end ≡ bracket.start + 1 }
-        requires after { IsCharBoundary self.old.text bracket.end }
+        requires source { IsSource self.old.text bracket }
+        requires before { AreBefore self.old.openers bracket.start }
         ensures closed { IfOk result (λ end. IsClosed (L.known labels.now) self.old.openers self.old
             bracket.start end self.new) }
         ensures within { IfOk result (λ end. (bracket.start < end) × (end ≤ length self.old.text)) }
@@ -153,7 +157,7 @@ impl<'a> Reader<'a> {
             self.old ≡ record self.new { openers = opener ∷ self.new.openers }) }
         ensures few { IfSome result (λ opener. opener.runs ≤ length self.new.runs) }
         ensures known { IfSome result (λ opener. opener.number < length self.new.links) }
-        ensures boundary { IfSome result (λ opener. IsCharBoundary self.new.text opener.text) }
+        ensures source { IfSome result (IsOpenerSource self.new.text) }
         ensures outer { IfSome result (λ opener.
             AreOpen self.new.text self.new.openers opener.runs opener.number) }
         ensures none { IfNone result ((self.old.openers ≡ []) × (self.new ≡ self.old)) }
@@ -173,6 +177,7 @@ impl<'a> Reader<'a> {
         requires few { opener.runs ≤ length self.old.runs }
         requires known { opener.number < length self.old.links }
         requires outer { AreOpen self.old.text self.old.openers opener.runs opener.number }
+        requires source { IsLinkSource self.old.text link }
         ensures { OnOk result (self.new ≡ with_link link opener self.old.openers self.old) }
     {
         let mut found = find_emphasis(alloc, &self.runs[opener.runs..])?;
@@ -193,6 +198,7 @@ impl<'a> Reader<'a> {
         alloc: Global,
     ) -> Result<(Vec<Option<Link>>, Vec<Emphasis>), AllocError>
         ensures links { IfOk result (λ r. r.0.items ≡ self.entry.links) }
+        ensures sources { IfOk result (λ r. AreLinkSources self.entry.text r.0.items) }
         ensures emphasis { IfOk result (λ r. r.1.items
             ≡ self.entry.emphasis ++ emphasis_of self.entry.runs) }
     {

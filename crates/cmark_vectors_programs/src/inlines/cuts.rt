@@ -4,6 +4,7 @@ use crate::asserts::{assert_same, made};
 use markdown_inlines::cut::cut_inlines;
 use markdown_inlines::delimiter_runs::DelimiterRun;
 use markdown_inlines::emphasis::Emphasis;
+use markdown_inlines::inlines::{Inline, find_inlines};
 use markdown_inlines::links::{Link, LinkTarget};
 use markdown_inlines::pieces::{Piece, PieceKind};
 
@@ -71,7 +72,7 @@ fn openers_have_their_links(rt: HostRuntime) {
     let wanted = [
         None,
         link(false, 2..12, 3..4, LinkTarget::Inline(6..7, Some(9..10))),
-        link(true, 12..22, 14..15, LinkTarget::Full(17..21)),
+        link(true, 12..22, 14..15, LinkTarget::Full(16..22)),
         link(false, 22..27, 23..24, LinkTarget::Collapsed),
         link(false, 27..30, 28..29, LinkTarget::Shortcut),
         None,
@@ -87,4 +88,24 @@ fn a_text_may_be_empty(rt: HostRuntime) {
     assert_same(&rt, cut.pieces.len(), 0);
     assert_same(&rt, cut.links.len(), 0);
     assert_same(&rt, cut.emphasis.len(), 0);
+}
+
+#[test]
+fn inlines_stand_in_order(rt: HostRuntime) {
+    let found = made(&rt, find_inlines(rt.alloc(), "***a** [b](c) ]", &LABELS));
+    let text = |start: usize, end: usize| Inline::Leaf(piece(PieceKind::Text, start, end));
+    let wanted = [
+        text(0, 1),
+        Inline::StartEmphasis(1, 2),
+        text(3, 4),
+        Inline::EndEmphasis(4, 2),
+        text(6, 7),
+        Inline::StartLink(0),
+        text(8, 9),
+        Inline::EndLink(piece(PieceKind::Closer, 9, 13)),
+        text(13, 14),
+        Inline::Leaf(piece(PieceKind::Closer, 14, 15)),
+    ];
+    assert_same(&rt, found.inlines.as_slice(), &wanted);
+    assert_same(&rt, found.links.len(), 1);
 }

@@ -2,11 +2,10 @@
 ghost use Rattle.std.specs.List.{list_any};
 ghost use Rattle.std.specs.Str.{bytes_eq};
 
-use super::emphasis::tag_at;
 use crate::asserts::{assert_same, made};
 use html_entities::HtmlEntities;
 use markdown_inlines::code_content::code_text;
-use markdown_inlines::cut::{Cut, cut_inlines};
+use markdown_inlines::inlines::{Inline, Inlines, find_inlines};
 use markdown_inlines::links::{Labels, Link, LinkTarget};
 use markdown_inlines::pieces::{Piece, PieceKind};
 use markdown_scanners_tree::scanners::unescape;
@@ -53,13 +52,13 @@ impl Labels for Definitions {
     }
 }
 
-// A text that is cut.
+// A text and its inlines.
 #[derive(Drop)]
 struct Page<'a> {
     alloc: Global,
     text: &'a str,
     definitions: &'static [Definition],
-    cut: &'a Cut,
+    found: &'a Inlines,
 }
 
 // What is written of it so far.
@@ -68,8 +67,6 @@ struct Html {
     out: String,
     // In how many image descriptions it ends: there the text alone is written.
     images: usize,
-    // How many openers were read.
-    openers: usize,
 }
 
 /// The text as HTML, where a page has these definitions.
@@ -79,20 +76,19 @@ pub(super) fn html_of(
     definitions: &'static [Definition],
 ) -> Result<String, AllocError> {
     let labels = Definitions { rows: definitions };
-    let cut = cut_inlines(alloc, text, &labels)?;
+    let found = find_inlines(alloc, text, &labels)?;
     let mut html = Html {
         out: String::new(alloc),
         images: 0,
-        openers: 0,
     };
     let page = Page {
         alloc,
         text,
         definitions,
-        cut: &cut,
+        found: &found,
     };
-    for piece in &cut.pieces {
-        page.push_piece(&mut html, *piece)?;
+    for inline in &found.inlines {
+        page.push_inline(&mut html, *inline)?;
     }
     Ok(html.out)
 }
@@ -106,10 +102,27 @@ impl Page<'_> {
         }
     }
 
+    fn push_inline(&self, html: &mut Html, inline: Inline) -> Result<(), AllocError> {
+        match inline {
+            Inline::Leaf(piece) => self.push_piece(html, piece),
+            Inline::StartEmphasis(_, 2) => html.push_tag("<strong>"),
+            Inline::StartEmphasis(_, _) => html.push_tag("<em>"),
+            Inline::EndEmphasis(_, 2) => html.push_tag("</strong>"),
+            Inline::EndEmphasis(_, _) => html.push_tag("</em>"),
+            Inline::StartLink(number) => match self.found.links.get(number) {
+                Some(Some(link)) => self.push_start(html, link),
+                _ => Ok(()),
+            },
+            Inline::EndLink(closer) => match self.link_to(closer.start) {
+                Some(link) => self.push_end(html, link),
+                None => Ok(()),
+            },
+        }
+    }
+
     fn push_piece(&self, html: &mut Html, piece: Piece) -> Result<(), AllocError> {
         let source = self.between(piece.start, piece.end);
         match piece.kind {
-            PieceKind::Text => html.push_text(source),
             PieceKind::Escape | PieceKind::Reference => {
                 html.push_text(self.resolved(source)?.as_str())
             }
@@ -119,9 +132,7 @@ impl Page<'_> {
             PieceKind::Uri => html.push_autolink("", source),
             PieceKind::Email => html.push_autolink("mailto:", source),
             PieceKind::Html => html.push_tag(source),
-            PieceKind::Delimiters(_) => self.push_delimiters(html, piece.start, source),
-            PieceKind::LinkOpener | PieceKind::ImageOpener => self.push_opener(html, source),
-            PieceKind::Closer => self.push_closer(html, piece.start, source),
+            _ => html.push_text(source),
         }
     }
 
@@ -136,26 +147,6 @@ impl Page<'_> {
         html.push_tag("<code>")?;
         html.push_text(code_text(self.alloc, content)?.as_str())?;
         html.push_tag("</code>")
-    }
-
-    fn push_delimiters(&self, html: &mut Html, start: usize, run: &str) -> Result<(), AllocError> {
-        for (place, c) in run.char_indices() {
-            match tag_at(start.saturating_add(place), &self.cut.emphasis) {
-                Some(tag) => html.push_tag(tag)?,
-                None => html.push_char(c)?,
-            }
-        }
-        Ok(())
-    }
-
-    // The links stand in the order of their openers.
-    fn push_opener(&self, html: &mut Html, source: &str) -> Result<(), AllocError> {
-        let number = html.openers;
-        html.openers = number.saturating_add(1);
-        match self.cut.links.get(number) {
-            Some(Some(link)) => self.push_start(html, link),
-            _ => html.push_text(source),
-        }
     }
 
     fn push_start(&self, html: &mut Html, link: &Link) -> Result<(), AllocError> {
@@ -183,16 +174,9 @@ impl Page<'_> {
         Ok(())
     }
 
-    fn push_closer(&self, html: &mut Html, start: usize, source: &str) -> Result<(), AllocError> {
-        match self.link_to(start) {
-            Some(link) => self.push_end(html, link),
-            None => html.push_text(source),
-        }
-    }
-
     // The link whose text ends at the place.
     fn link_to(&self, place: usize) -> Option<&Link> {
-        self.cut
+        self.found
             .links
             .iter()
             .flatten()
@@ -218,7 +202,9 @@ impl Page<'_> {
                     .as_ref()
                     .map(|title| self.between(title.start, title.end)),
             ),
-            LinkTarget::Full(label) => self.defined_by(label.start, label.end),
+            LinkTarget::Full(label) => {
+                self.defined_by(label.start.saturating_add(1), label.end.saturating_sub(1))
+            }
             LinkTarget::Collapsed | LinkTarget::Shortcut => {
                 self.defined_by(link.text.start, link.text.end)
             }

@@ -1,9 +1,11 @@
 -- Pieces read one after another.
-use Rattle.std.proofs.Common.{ℕ, Bool, true, false, List, [], ◌∷◌, ◌++◌, ◌≡◌, ◌≤◌, ◌∙◌, if◌then◌else◌, nat_lt, length, arith, refl, ap, inl, inr}
+use Rattle.std.proofs.Common.{sym, subst, ℕ, Bool, true, false, List, [], ◌∷◌, ◌++◌, ◌≡◌, ◌≤◌, ◌∙◌, if◌then◌else◌, nat_lt, length, arith, refl, ap, inl, inr}
 use Rattle.std.proofs.lemmas.List.{append_assoc}
 use Rattle.std.proofs.lemmas.Bool.{ltb-true, ltb-false}
 use Rattle.markdown_inlines.specs.Links.{Known}
-use Rattle.markdown_inlines.specs.Inlines.{Reading, at_start, AreRead, IsRead, IsPieceAt, text_between}
+use Rattle.markdown_inlines.specs.Readings.{AreBefore}
+use Rattle.markdown_inlines.specs.declared.reading.Opener.{Opener}
+use Rattle.markdown_inlines.specs.Inlines.{IsClosed, with_opener, Reading, at_start, AreRead, IsRead, IsPieceAt, text_between}
 use Rattle.markdown_inlines.specs.Pieces.{BeginsAt, HasOnlyText, IsNext}
 use Rattle.markdown_inlines.specs.declared.pieces.Piece.{Piece}
 use Rattle.markdown_inlines.specs.declared.pieces.PieceKind.{PieceKind}
@@ -86,3 +88,47 @@ pub added : (pieces between later : List Piece) (piece : Piece) (all : List Piec
     → all ≡ (pieces ++ between) ++ piece ∷ [] → all ++ later ≡ pieces ++ (between ++ piece ∷ later)
 added pieces between later piece all is =
     ap (λ (l : List Piece). l ++ later) is ∙ (append_assoc (pieces ++ between) (piece ∷ []) later ∙ append_assoc pieces between (piece ∷ later))
+
+-- openers that begin at a place or before it begin at a later one or before it
+pub before_later : (openers : List Opener) (place later : ℕ) → place ≤ later → AreBefore openers place → AreBefore openers later
+before_later [] place later is before = tt
+before_later (opener ∷ outer) place later is before = (omega (arith, is, before.0), before_later outer place later is before.1)
+
+closed_before : (known : Known) (openers : List Opener) (reading next : Reading) (close end place : ℕ)
+    → IsClosed known openers reading close end next → AreBefore openers place → AreBefore reading.openers place
+    → AreBefore next.openers place
+closed_before known [] reading next close end place is before all =
+    subst (λ (r : Reading). AreBefore r.openers place) (sym is.1) all
+closed_before known (opener ∷ outer) reading next close end place (inl link) before all =
+    subst (λ (r : Reading). AreBefore r.openers place) (sym link.next_is) before.1
+closed_before known (opener ∷ outer) reading next close end place (inr none) before all =
+    subst (λ (r : Reading). AreBefore r.openers place) (sym none.next_is) before.1
+
+module _ (known : Known) (reading next : Reading) (piece : Piece) (some : piece.start ≤ piece.end)
+    (before : AreBefore reading.openers piece.start) where
+  stays : next ≡ reading → AreBefore next.openers piece.end
+  stays same = subst (λ (r : Reading). AreBefore r.openers piece.end) (sym same) (before_later reading.openers piece.start piece.end some before)
+
+  begun : (is_image : Bool) → next ≡ with_opener is_image piece reading → AreBefore next.openers piece.end
+  begun is_image same =
+      subst (λ (r : Reading). AreBefore r.openers piece.end) (sym same)
+      (omega arith, before_later reading.openers piece.start piece.end some before)
+
+  -- the openers that are left when a piece is read begin at its end or before it
+  pub read_before : (kind : PieceKind) → IsRead kind known reading piece next → AreBefore next.openers piece.end
+  read_before K.Text is = stays is.1
+  read_before K.Escape is = stays is.1
+  read_before K.HardBreak is = stays is.1
+  read_before K.SoftBreak is = stays is.1
+  read_before K.Reference is = stays is.1
+  read_before (K.Code backticks) is = stays is.1
+  read_before K.Uri is = stays is.1
+  read_before K.Email is = stays is.1
+  read_before K.Html is = stays is.1
+  read_before (K.Delimiters run) is =
+      subst (λ (r : Reading). AreBefore r.openers piece.end) (sym is.1) (before_later reading.openers piece.start piece.end some before)
+  read_before K.LinkOpener is = begun false is.1
+  read_before K.ImageOpener is = begun true is.1
+  read_before K.Closer is =
+      before_later next.openers piece.start piece.end some
+      (closed_before known reading.openers reading next piece.start piece.end piece.start is.1 before before)

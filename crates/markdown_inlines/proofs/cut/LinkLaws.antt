@@ -123,7 +123,7 @@ module _ (piece : Piece) (reading : Reading) (holds : Holds reading piece.start)
 
 ends_after : (text : List ℕ) (known : Known) (from close : ℕ) (target : LinkTarget) (end : ℕ) → IsTarget text known from close target end → close < end
 ends_after text known from close (Inline destination title) end is = omega (arith, is.3)
-ends_after text known from close (Full label) end is = omega (arith, is.3, is.1.1.1.closed)
+ends_after text known from close (Full label) end is = omega (arith, is.2, is.1.ends, is.1.known_after.1.1.closed)
 ends_after text known from close Collapsed end is = omega (arith, is.4)
 ends_after text known from close Shortcut end is = omega (arith, is.4)
 

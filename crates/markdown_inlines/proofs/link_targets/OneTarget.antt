@@ -26,15 +26,16 @@ module _ (text : List ℕ) (known : Known) (from close : ℕ) where
   one_full : (label label' : Range ℕ) (end end' : ℕ) → IsTo (Full label) end → IsTo (Full label') end'
       → Same (Full label) (Full label') end end'
   one_full label label' end end' is is' =
-      let here = is.1.1 in
-      let here' = is'.1.1 in
-      let same = (one_label_at text (close + 1 + 1) label.end label'.end here.0 here'.0 here.1 here'.1).0 in
-      (ap (λ l. Full l) (same_range (is.2 ∙ sym is'.2) same), omega (arith, is.3, is'.3, same))
+      let here = is.1.known_after.1 in
+      let here' = is'.1.known_after.1 in
+      let same = (one_label_at text (close + 1 + 1) is.1.bracket is'.1.bracket here.0 here'.0 here.1 here'.1).0 in
+      let ends : label.end ≡ label'.end = omega (arith, is.1.ends, is'.1.ends, same) in
+      (ap (λ l. Full l) (same_range (is.1.begins ∙ sym is'.1.begins) ends), is.2 ∙ (ends ∙ sym is'.2))
 
   -- a label follows, or none does
   followed : (label : Range ℕ) (end : ℕ) → IsTo (Full label) end
       → HasNoLabelAfter text (close + 1) → ⊥
-  followed label end is none = none label.end (is.1.0, is.1.1.0, is.1.1.1)
+  followed label end is none = none is.1.bracket (let after = is.1.known_after in (after.0, after.1.0, after.1.1))
 
   pub one_target : (target target' : LinkTarget) (end end' : ℕ) → IsTo target end → IsTo target' end' → Same target target' end end'
   one_target (Inline d t) (Inline d' t') end end' is is' = one_inline d d' t t' end end' is is'

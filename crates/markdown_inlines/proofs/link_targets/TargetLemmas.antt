@@ -1,5 +1,5 @@
 -- Labels at a place, and the targets of links.
-use Rattle.std.proofs.Common.{ℕ, nat_eq, nat_lt, IsTrue, ◌↔◌, Bool, true, false, List, ◌≡◌, ◌≤◌, ◌+◌, ◌∙◌, sym, ap, subst, arith, refl, drop}
+use Rattle.std.proofs.Common.{◌-◌, take, ℕ, nat_eq, nat_lt, IsTrue, ◌↔◌, Bool, true, false, List, ◌≡◌, ◌≤◌, ◌+◌, ◌∙◌, sym, ap, subst, arith, refl, drop}
 use Rattle.std.proofs.Common.{length, codes, Option, Some, None}
 use Rattle.std.proofs.Common.{if◌then◌else◌}
 use Rattle.std.specs.Option.{IfNone}
@@ -11,7 +11,10 @@ use Rattle.markdown_scanners_tree.specs.linklabel.Label.{Label, Bracketed, IsLab
 use Rattle.markdown_scanners_tree.specs.linklabel.Label.{bracketed, kept_units}
 use Rattle.markdown_scanners_tree.specs.Kept.{kept_text}
 use Rattle.markdown_scanners_tree.proofs.ForCallers.{one_label_unskipped, place_of_rest, cut_behind_front, front_found}
-use Rattle.markdown_inlines.specs.Links.{Known, IsLabelAt, IsKnownLabel, IsTarget, HasNoTail, HasNoLabelAfter}
+use Rattle.std.specs.declared.ops.Range.{Range}
+use Rattle.markdown_scanners_tree.proofs.PrefixLemmas.{from_place}
+use Rattle.markdown_scanners_tree.specs.scanners.reference_definitions.ReferenceDefinition.{IsCutAt}
+use Rattle.markdown_inlines.specs.Links.{shifted, Known, IsLabelAt, IsKnownLabel, IsTarget, HasNoTail, HasNoLabelAfter}
 use Rattle.markdown_inlines.specs.declared.links.LinkTarget.{LinkTarget}
 use Rattle.markdown_inlines.specs.declared.links.LinkTarget.TheVariants.{Inline, Full, Collapsed, Shortcut}
 
@@ -32,6 +35,16 @@ pub cut_behind_bytes : (text front : List ℕ) (place : ℕ) → IsUtf8 text →
 cut_behind_bytes text front place utf8 at begins ascii =
     place_of_rest _ text place (length front) refl utf8 (λ _. at)
     (λ rest. cut_behind_front (drop place text) (length front) rest (front_found (drop place text) front begins ascii))
+
+-- where the rest of a text may be cut, so may the text
+pub moved_cut : (text : List ℕ) (place : ℕ) (range : Range ℕ) → IsUtf8 text → IsCharBoundary text place
+    → (IsUtf8 (take (length text - place) (drop place text)) → IsCutAt (take (length text - place) (drop place text)) range)
+    → IsCutAt text (shifted place range)
+moved_cut text place range utf8 at cut =
+    let rest = from_place text place in (
+      place_of_rest _ text place range.start rest utf8 (λ _. at) (λ u. (cut u).0),
+      place_of_rest _ text place range.end rest utf8 (λ _. at) (λ u. (cut u).1),
+    )
 
 -- a label has its right bracket at least
 pub label_some : (answers : List ℕ → ℕ → Type 0) (source : List ℕ) (label : Label) → IsLabel answers source false label → 1 ≤ label.len
@@ -68,7 +81,7 @@ module _ (text : List ℕ) (known : Known) (from close : ℕ) where
     pub no_target : HasNoLabelAfter text (close + 1) → ¬ IsKnownLabel text known from close
         → (target : LinkTarget) (end : ℕ) → ¬ IsTarget text known from close target end
     no_target unlabelled unknown (Inline destination title) end is = untailed is.0 is.1
-    no_target unlabelled unknown (Full label) end is = unlabelled label.end (let after = is.1 in (after.0, after.1.0, after.1.1))
+    no_target unlabelled unknown (Full label) end is = unlabelled is.1.bracket (let after = is.1.known_after in (after.0, after.1.0, after.1.1))
     no_target unlabelled unknown Collapsed end is = unknown is.3
     no_target unlabelled unknown Shortcut end is = unknown is.3
 
@@ -77,8 +90,8 @@ module _ (text : List ℕ) (known : Known) (from close : ℕ) where
         → known name ≡ false → (target : LinkTarget) (to : ℕ) → ¬ IsTarget text known from close target to
     no_full end name begins is unknown (Inline destination title) to target = untailed target.0 target.1
     no_full end name begins is unknown (Full label) to target =
-        let after = target.1 in
-        let same = (one_label_at text (close + 1 + 1) end label.end name after.1.0 is after.1.1).1 in
+        let after = target.1.known_after in
+        let same = (one_label_at text (close + 1 + 1) end target.1.bracket name after.1.0 is after.1.1).1 in
         let both = sym unknown ∙ (ap known same ∙ after.1.2) in
         cc
     no_full end name begins is unknown Collapsed to target = target.1 end (begins, name, is)
@@ -86,16 +99,16 @@ module _ (text : List ℕ) (known : Known) (from close : ℕ) where
 
     pub full_or_none : (end : ℕ) (name : List ℕ) (answer : Option (LinkTarget × ℕ))
         → occurs_at text (codes "[") (close + 1) ≡ true → IsLabelAt text (close + 1 + 1) end name
-        → answer ≡ (if known name then Some (Full (record { start = close + 1 + 1; end = end }), end + 1) else None)
+        → answer ≡ (if known name then Some (Full (record { start = close + 1; end = end + 1 }), end + 1) else None)
         → SomeExactly (λ (r : LinkTarget × ℕ). IsTarget text known from close r.0 r.1) answer
     full_or_none end name answer begins is e = full_by (known name) refl e
       where
         full_by : (test : Bool) → known name ≡ test
-            → answer ≡ (if test then Some (Full (record { start = close + 1 + 1; end = end }), end + 1) else None)
+            → answer ≡ (if test then Some (Full (record { start = close + 1; end = end + 1 }), end + 1) else None)
             → SomeExactly (λ (r : LinkTarget × ℕ). IsTarget text known from close r.0 r.1) answer
         full_by true defined same =
             subst (SomeExactly (λ (r : LinkTarget × ℕ). IsTarget text known from close r.0 r.1)) (sym same)
-            (untailed, (begins, (name, is, defined)), refl, refl)
+            (untailed, record { bracket = end; known_after = (begins, (name, is, defined)); begins = refl; ends = refl }, refl)
         full_by false unknown same =
             subst (SomeExactly (λ (r : LinkTarget × ℕ). IsTarget text known from close r.0 r.1)) (sym same)
             (λ r. no_full end name begins is unknown r.0 r.1)

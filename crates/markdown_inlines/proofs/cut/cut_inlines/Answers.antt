@@ -3,9 +3,10 @@ use Rattle.std.proofs.lemmas.Str.{IsCharBoundary-start, IsCharBoundary-end}
 use Rattle.std.specs.Str.{IsCharBoundary}
 use Rattle.markdown_inlines.specs.Inlines.{Reading, at_start, AreRead, text_between}
 use Rattle.markdown_inlines.specs.Pieces.{IsNext, HasOnlyText, ReadText}
-use Rattle.markdown_inlines.specs.Sources.{AreSources}
+use Rattle.markdown_inlines.specs.Readings.{AreBefore}
+use Rattle.markdown_inlines.specs.Sources.{AreSources, AreLinkSources}
 use Rattle.markdown_inlines.specs.declared.pieces.Piece.{Piece}
-use Rattle.markdown_inlines.proofs.cut.CutLemmas.{next_piece_at, read_next, read_out, added}
+use Rattle.markdown_inlines.proofs.cut.CutLemmas.{next_piece_at, read_next, read_out, added, before_later, read_before}
 use Rattle.markdown_inlines.proofs.cut.SourceLemmas.{source_added, text_added}
 use Rattle.markdown_inlines.proofs.cut.cut_inlines.Goals as goal
 
@@ -21,6 +22,7 @@ loop-piece-init g c =
       subst (λ (l : List Piece). AreSources c.args.text.now l 0) (sym c.new-pieces.ensures.items)
           (record { each = λ k d inside. absurd (omega (arith, inside)); joined = refl }),
       IsCharBoundary-start c.args.text.now c.utf8.text,
+      subst (λ (r : Reading). AreBefore r.openers 0) (sym start) tt,
     )
 
 pub read_piece-requires-clause-here : goal.read_piece-requires-clause-here
@@ -29,15 +31,22 @@ read_piece-requires-clause-here g c =
     next_piece_at c.loop-piece.reader.text c.loop-piece.scanner.place c.in-Some.piece
     (subst (λ text. IsNext text c.loop-piece.scanner.place c.in-Some.piece) (ap (λ (s : ReadText). s.text) is.0 ∙ sym is.1) c.in-Some.ensures.found)
 
-pub read_piece-requires-clause-within : goal.read_piece-requires-clause-within
-read_piece-requires-clause-within g c =
+pub read_piece-requires-clause-source : goal.read_piece-requires-clause-source
+read_piece-requires-clause-source g c =
     let is = c.loop-piece.invariant in
-    subst (λ text. c.in-Some.piece.end ≤ length text) (ap (λ (s : ReadText). s.text) is.0 ∙ sym is.1) c.in-Some.ensures.within.1
+    let text = ap (λ (s : ReadText). s.text) is.0 ∙ sym is.1 in
+    record {
+      some = c.in-Some.ensures.within.0;
+      begins = subst (λ t. IsCharBoundary t c.in-Some.piece.start) text c.in-Some.ensures.boundary.0;
+      ends = subst (λ t. IsCharBoundary t c.in-Some.piece.end) text c.in-Some.ensures.boundary.1;
+    }
 
-pub read_piece-requires-clause-boundary : goal.read_piece-requires-clause-boundary
-read_piece-requires-clause-boundary g c =
+pub read_piece-requires-clause-before : goal.read_piece-requires-clause-before
+read_piece-requires-clause-before g c =
     let is = c.loop-piece.invariant in
-    subst (λ text. IsCharBoundary text c.in-Some.piece.end) (ap (λ (s : ReadText). s.text) is.0 ∙ sym is.1) c.in-Some.ensures.boundary.1
+    let later : c.loop-piece.place ≤ c.in-Some.piece.start =
+    subst (λ (s : ReadText). s.place ≤ c.in-Some.piece.start) is.0 c.in-Some.ensures.found.later in
+    before_later c.loop-piece.reader.openers c.loop-piece.place c.in-Some.piece.start later is.6
 
 pub read_to-requires-clause-later : goal.read_to-requires-clause-later
 read_to-requires-clause-later g c =
@@ -89,6 +98,8 @@ loop-piece-preserved g c =
           (text_added text c.loop-piece.pieces.items from piece.start is.4 here.later is.5 begins)
           (record { some = omega (arith, c.in-Some.ensures.within.0, c.in_ok-place.ensures.within.0); begins = begins; ends = ends })),
       ends,
+      read_before known reading next (record piece { end = end }) (omega (arith, c.in-Some.ensures.within.0, c.in_ok-place.ensures.within.0))
+          (before_later reading.openers from piece.start here.later is.6) piece.kind c.in_ok-place.ensures.read,
     )
 
 pub returns : goal.returns
@@ -113,4 +124,5 @@ returns g c =
       };
       sources = subst (λ (l : List Piece). AreSources text l (length text)) (sym c.in_ok-push_text-2.ensures)
           (text_added text c.loop-piece.pieces.items from (length text) is.4 is.2 is.5 (IsCharBoundary-end text));
+      links = subst (λ t. AreLinkSources t c.in_ok-links.links.items) is.1 c.in_ok-links.ensures.sources;
     }

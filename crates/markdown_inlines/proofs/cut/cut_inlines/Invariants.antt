@@ -1,5 +1,6 @@
 use Rattle.std.proofs.Common.{◌≡◌, ◌≤◌, ◌-◌, length}
 use Rattle.std.specs.Str.{IsCharBoundary}
+use Rattle.markdown_inlines.specs.Readings.{AreBefore}
 use Rattle.markdown_inlines.specs.Sources.{AreSources}
 use Rattle.markdown_inlines.proofs.cut.CutLemmas.{ReadsOn}
 use Rattle.markdown_inlines.proofs.cut.cut_inlines.Given as goal
@@ -9,6 +10,7 @@ invariant-loop-piece g l =
     (l.scanner ≡ record { text = l.text; place = l.place }) × (l.reader.text ≡ l.text) × (l.place ≤ length l.text)
     × ReadsOn (g.L.Labels.known l.labels) l.text l.place l.reader l.pieces.items
     × AreSources l.text l.pieces.items l.place × IsCharBoundary l.text l.place
+    × AreBefore l.reader.openers l.place
 
 abbrev pub decreases-loop-piece : goal.decreases-loop-piece
 decreases-loop-piece g l = length l.text - l.place

@@ -4,7 +4,11 @@ use Rattle.std.specs.Option.{IfNone}
 use Rattle.markdown_scanners_tree.proofs.PrefixLemmas.{from_place}
 use Rattle.markdown_inlines.specs.LinkTails.{IsLinkTail}
 use Rattle.markdown_inlines.specs.Links.{HasNoTail}
+use Rattle.std.specs.Option.{IfSome}
+use Rattle.markdown_scanners_tree.specs.scanners.reference_definitions.ReferenceDefinition.{IsCutAt}
+use Rattle.markdown_inlines.proofs.link_targets.TargetLemmas.{moved_cut}
 use Rattle.markdown_inlines.proofs.link_targets.scan_inline_target.Goals as goal
+use Rattle.markdown_inlines.proofs.link_targets.scan_inline_target.Goals.{in-Some, in-None}
 
 pub returns-in_err-tail-clause-none : goal.returns-in_err-tail-clause-none
 returns-in_err-tail-clause-none c = subst (λ r. IfNone r (HasNoTail c.args.bytes.now c.args.place)) (sym c.from_residual.ensures)
@@ -14,3 +18,17 @@ pub returns-clause-boundary : goal.returns-clause-boundary
 returns-clause-boundary c = λ utf8 at.
     place_of_rest _ c.args.bytes.now c.args.place c.in_ok-tail.tail.len (from_place c.args.bytes.now c.args.place) utf8 (λ _. at)
     c.in_ok-tail.ensures.after
+
+pub returns-clause-source : goal.returns-clause-source
+returns-clause-source c = λ utf8 at.
+    let text = c.args.bytes.now in
+    let place = c.args.place in
+    let tail = c.in_ok-tail.tail in (
+      moved_cut text place tail.destination utf8 at c.in_ok-tail.ensures.destination_cut,
+      elim c.match-tail.branch [
+        | in-Some w ↦
+            subst (λ title. IfSome title (IsCutAt text)) (sym w.title-is)
+            (moved_cut text place w.in-Some.title utf8 at (rw w.in-Some.is at c.in_ok-tail.ensures.title_cut))
+        | in-None w ↦ subst (λ title. IfSome title (IsCutAt text)) (sym w.title-is) tt
+      ],
+    )

@@ -1,6 +1,9 @@
-use Rattle.std.proofs.Common.{◌≡◌, ◌≤◌, ◌<◌, ◌-◌, ◌∙◌, if◌then◌else◌, List, sym, subst, ap, arith, length, drop, reverse, take, Some}
+use Rattle.std.proofs.Common.{◌≡◌, ◌≤◌, ◌<◌, ◌-◌, ◌∙◌, if◌then◌else◌, List, sym, subst, ap, arith, length, drop, reverse, take, Option, Some}
 use Rattle.std.proofs.lemmas.List.{length-set, length-take, length-drop, take_all}
-use Rattle.std.proofs.lemmas.List.Elements.{All-take}
+use Rattle.std.proofs.lemmas.List.Elements.{All-take, All-set}
+use Rattle.std.specs.Option.{IfSome}
+use Rattle.markdown_inlines.specs.Sources.{IsLinkSource}
+use Rattle.markdown_inlines.specs.declared.links.Link.{Link}
 use Rattle.markdown_inlines.specs.Emphasis.{emphasis_of}
 use Rattle.markdown_inlines.specs.Inlines.{Reading, with_link}
 use Rattle.markdown_inlines.specs.Readings.{AreOpen}
@@ -29,6 +32,9 @@ invariant_of-self-2 c =
                 c.args.opener.runs c.self.inside.runs.items,
           ))
           (omega (arith, known, length-set c.self.inside.links.items c.args.opener.number (Some c.args.link))) outer,
+      All-set (λ (link : Option Link). IfSome link (IsLinkSource c.self.inside.text.now)) c.self.inside.links.items c.args.opener.number
+          (Some c.args.link) (subst (λ (r : Reading). IsLinkSource r.text c.args.link) (sym c.self.view_is) c.requires.source)
+          c.self.invariant.2,
     )
 
 pub returns : goal.returns

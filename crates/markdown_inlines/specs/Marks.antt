@@ -1,0 +1,35 @@
+-- What begins and ends at each byte of a text, by its links and its emphasis.
+use Rattle.std.specs.Prelude.{ℕ, Bool, false, ◌==◌, ◌&&◌, ◌||◌, ◌+◌, ◌<◌, List, [], ◌∷◌, ◌≡◌, length, get_or, Option, Some, None, if◌then◌else◌}
+use Rattle.std.specs.List.{list_any}
+use Rattle.markdown_inlines.specs.declared.emphasis.Emphasis.{Emphasis}
+use Rattle.markdown_inlines.specs.declared.links.Link.{Link}
+use Rattle.markdown_inlines.specs.declared.marks.Mark.{Mark}
+use Rattle.markdown_inlines.specs.declared.marks.Mark.TheVariants as M
+
+-- the mark at a place by emphasis, which has one delimiter on each side, or two if it is strong; where it has none there, another
+abbrev pub mark_by : Emphasis → ℕ → Mark → Mark
+mark_by emphasis place other =
+    if place == emphasis.opening then (if emphasis.count == 2 then M.OpensStrong else M.OpensEmphasis)
+    else if place == emphasis.closing then (if emphasis.count == 2 then M.ClosesStrong else M.ClosesEmphasis)
+    else if emphasis.count == 2 && (place == emphasis.opening + 1 || place == emphasis.closing + 1) then M.Second
+    else other
+
+abbrev pub marks_by : List Emphasis → ℕ → Mark
+marks_by [] place = M.Nothing
+marks_by (emphasis ∷ more) place = mark_by emphasis place (marks_by more place)
+
+-- the link text of a link ends at a place
+abbrev pub ends_at : ℕ → Option Link → Bool
+ends_at place None = false
+ends_at place (Some link) = place == link.text.end
+
+abbrev pub ends_link : List (Option Link) → ℕ → Bool
+ends_link links place = list_any (ends_at place) links
+
+abbrev pub mark_at : List (Option Link) → List Emphasis → ℕ → Mark
+mark_at links emphasis place = if ends_link links place then M.EndsLink else marks_by emphasis place
+
+-- These are the marks of the bytes of a text of a length.
+pub record AreMarks (links : List (Option Link)) (emphasis : List Emphasis) (len : ℕ) (marks : List Mark) : Type 0 where
+  pub counted : length marks ≡ len
+  pub each : (place : ℕ) → place < len → get_or marks place M.Nothing ≡ mark_at links emphasis place

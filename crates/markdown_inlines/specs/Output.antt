@@ -1,0 +1,74 @@
+-- The inlines of a text in order, by its cut. (CommonMark 0.31.2, chapter 6)
+use Rattle.std.specs.Prelude.{ℕ, Bool, ◌+◌, ◌-◌, List, [], ◌∷◌, ◌++◌, ◌≡◌, get_or, Option, None, if◌then◌else◌}
+use Rattle.std.specs.List.{flat_map, range_with_len}
+use Rattle.std.specs.Option.{is_some}
+use Rattle.markdown_inlines.specs.Inlines.{IsCut}
+use Rattle.markdown_inlines.specs.Links.{Known}
+use Rattle.markdown_inlines.specs.Marks.{mark_at}
+use Rattle.markdown_inlines.specs.declared.emphasis.Emphasis.{Emphasis}
+use Rattle.markdown_inlines.specs.declared.inlines.Inline.{Inline}
+use Rattle.markdown_inlines.specs.declared.inlines.Inline.TheVariants as I
+use Rattle.markdown_inlines.specs.declared.links.Link.{Link}
+use Rattle.markdown_inlines.specs.declared.marks.Mark.{Mark}
+use Rattle.markdown_inlines.specs.declared.marks.Mark.TheVariants as M
+use Rattle.markdown_inlines.specs.declared.pieces.Piece.{Piece}
+use Rattle.markdown_inlines.specs.declared.pieces.PieceKind.{PieceKind}
+use Rattle.markdown_inlines.specs.declared.pieces.PieceKind.TheVariants as K
+
+-- the byte at a place, as text
+abbrev pub byte_at : ℕ → Inline
+byte_at place = I.Leaf (record { kind = K.Text; start = place; end = place + 1 })
+
+-- what a delimiter with this mark is: the second of two is part of the first
+abbrev pub delimiter_with : Mark → ℕ → List Inline
+delimiter_with M.OpensEmphasis place = I.StartEmphasis place 1 ∷ []
+delimiter_with M.OpensStrong place = I.StartEmphasis place 2 ∷ []
+delimiter_with M.ClosesEmphasis place = I.EndEmphasis place 1 ∷ []
+delimiter_with M.ClosesStrong place = I.EndEmphasis place 2 ∷ []
+delimiter_with M.Second place = []
+delimiter_with mark place = byte_at place ∷ []
+
+abbrev pub delimiter_at : List (Option Link) → List Emphasis → ℕ → List Inline
+delimiter_at links emphasis place = delimiter_with (mark_at links emphasis place) place
+
+-- the delimiters from one place up to another
+abbrev pub delimiters_between : List (Option Link) → List Emphasis → ℕ → ℕ → List Inline
+delimiters_between links emphasis from to = flat_map (delimiter_at links emphasis) (range_with_len from (to - from))
+
+-- the opener with this number begins a link
+abbrev pub begins_link : List (Option Link) → ℕ → Bool
+begins_link links number = is_some (get_or links number None)
+
+abbrev pub opener_as : List (Option Link) → ℕ → Piece → Inline
+opener_as links number piece = if begins_link links number then I.StartLink number else I.Leaf piece
+
+-- the right bracket with this mark
+abbrev pub closer_with : Mark → Piece → Inline
+closer_with M.EndsLink piece = I.EndLink piece
+closer_with mark piece = I.Leaf piece
+
+-- what a piece is, before which this number of openers stand
+abbrev pub inlines_at : PieceKind → List (Option Link) → List Emphasis → ℕ → Piece → List Inline
+inlines_at (K.Delimiters run) links emphasis number piece = delimiters_between links emphasis piece.start piece.end
+inlines_at K.LinkOpener links emphasis number piece = opener_as links number piece ∷ []
+inlines_at K.ImageOpener links emphasis number piece = opener_as links number piece ∷ []
+inlines_at K.Closer links emphasis number piece = closer_with (mark_at links emphasis piece.start) piece ∷ []
+inlines_at kind links emphasis number piece = I.Leaf piece ∷ []
+
+-- one more opener, if the piece is one
+abbrev pub counted : PieceKind → ℕ → ℕ
+counted K.LinkOpener number = number + 1
+counted K.ImageOpener number = number + 1
+counted kind number = number
+
+abbrev pub inlines_from : List (Option Link) → List Emphasis → ℕ → List Piece → List Inline
+inlines_from links emphasis number [] = []
+inlines_from links emphasis number (piece ∷ later) =
+    inlines_at piece.kind links emphasis number piece ++ inlines_from links emphasis (counted piece.kind number) later
+
+-- These are the inlines of a text, and the links that its openers begin.
+pub record AreInlines (text : List ℕ) (known : Known) (inlines : List Inline) (links : List (Option Link)) : Type 0 where
+  pub pieces : List Piece
+  pub emphasis : List Emphasis
+  pub cut : IsCut text known pieces links emphasis
+  pub inlines_are : inlines ≡ inlines_from links emphasis 0 pieces

@@ -1,0 +1,98 @@
+//! What begins and ends at each byte of a text, by its links and its emphasis.
+ghost use Rattle.std.specs.Prelude.{◌≡◌, ◌==◌, ◌<◌, ℕ, length, get_or, IfOk, if◌then◌else◌};
+ghost use Rattle.markdown_inlines.specs.Marks.{AreMarks, mark_by, marks_by, ends_link, mark_at};
+ghost use Rattle.markdown_inlines.specs.declared.marks.Mark.TheVariants.{Nothing, EndsLink};
+
+use crate::emphasis::Emphasis;
+use crate::links::Link;
+use std::alloc::{AllocError, Global};
+
+/// What a byte of a text begins or ends.
+#[derive(Clone, Copy, Debug, PartialEq, Eq)]
+pub enum Mark {
+    /// Nothing.
+    Nothing,
+    /// It is the delimiter that emphasis begins with.
+    OpensEmphasis,
+    /// It is the first of the two that strong emphasis begins with.
+    OpensStrong,
+    /// It is the delimiter that emphasis ends with.
+    ClosesEmphasis,
+    /// It is the first of the two that strong emphasis ends with.
+    ClosesStrong,
+    /// It is the second of two.
+    Second,
+    /// It is the right bracket after a link text.
+    EndsLink,
+}
+
+// The marks of the bytes of a text of this length.
+pub(crate) fn marks_of(
+    alloc: Global,
+    len: usize,
+    links: &[Option<Link>],
+    emphasis: &[Emphasis],
+) -> Result<Vec<Mark>, AllocError>
+    ensures { IfOk result (λ marks.
+        AreMarks links.now emphasis.now len marks.items) }
+{
+    let mut marks = vec![in alloc; Mark::Nothing; len]?;
+    mark_emphasis(&mut marks, emphasis);
+    mark_links(&mut marks, links);
+    Ok(marks)
+}
+
+// Marks where emphasis begins and ends.
+fn mark_emphasis(marks: &mut [Mark], emphasis: &[Emphasis])
+    requires { (k : ℕ) → get_or marks.old k Nothing ≡ Nothing }
+    ensures marked { (k : ℕ) → k < length marks.old
+        → get_or marks.new k Nothing ≡ marks_by emphasis.now k }
+    ensures length { length marks.new ≡ length marks.old }
+{
+    let mut index = emphasis.len();
+    while index > 0 {
+        index -= 1;
+        mark_both_sides(marks, emphasis[index]);
+    }
+}
+
+// Marks where one emphasis begins and ends.
+fn mark_both_sides(marks: &mut [Mark], emphasis: Emphasis)
+    ensures marked { (k : ℕ) → k < length marks.old
+        → get_or marks.new k Nothing ≡ mark_by emphasis k (get_or marks.old k Nothing) }
+    ensures length { length marks.new ≡ length marks.old }
+{
+    if emphasis.count == 2 {
+        put(marks, emphasis.opening.saturating_add(1), Mark::Second);
+        put(marks, emphasis.closing.saturating_add(1), Mark::Second);
+        put(marks, emphasis.closing, Mark::ClosesStrong);
+        put(marks, emphasis.opening, Mark::OpensStrong);
+    } else {
+        put(marks, emphasis.closing, Mark::ClosesEmphasis);
+        put(marks, emphasis.opening, Mark::OpensEmphasis);
+    }
+}
+
+// Marks where links end.
+fn mark_links(marks: &mut [Mark], links: &[Option<Link>])
+    ensures marked { (k : ℕ) → k < length marks.old → get_or marks.new k Nothing
+        ≡ (if ends_link links.now k then EndsLink else get_or marks.old k Nothing) }
+    ensures length { length marks.new ≡ length marks.old }
+{
+    for link in links {
+        if let Some(link) = link {
+            put(marks, link.text.end, Mark::EndsLink);
+        }
+    }
+}
+
+// Puts a mark at a place, if it is within them.
+fn put(marks: &mut [Mark], place: usize, mark: Mark)
+    ensures put { (k : ℕ) → k < length marks.old → get_or marks.new k Nothing
+        ≡ (if k == place then mark else get_or marks.old k Nothing) }
+    ensures length { length marks.new ≡ length marks.old }
+{
+    if place < marks.len() {
+        marks[place] = mark;
+    }
+}
