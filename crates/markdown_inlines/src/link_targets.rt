@@ -44,7 +44,7 @@ pub(crate) fn scan_target<L: Labels>(
         return Ok(Some((target, end)));
     }
     match scan_label_after(alloc, text, after)? {
-        Some((bracket, name)) => Ok(full_target(labels, after, bracket, name.as_str())),
+        Some((bracket, name)) => full_target(labels, after, bracket, name.as_str()),
         None => scan_reference(alloc, text, labels, from, close),
     }
 }
@@ -77,15 +77,15 @@ fn full_target<L: Labels>(
     start: usize,
     bracket: usize,
     name: &str,
-) -> Option<(LinkTarget, usize)>
+) -> Result<Option<(LinkTarget, usize)>, AllocError>
     requires { bracket + 1 < 2 ^ 64 }
-    ensures { result ≡ (if L.known labels.now name.now
-        then Some (Full (record { start = start; end = bracket + 1 }), bracket + 1) else None) }
+    ensures { IfOk result (λ found. found ≡ (if L.known labels.now name.now
+        then Some (Full (record { start = start; end = bracket + 1 }), bracket + 1) else None)) }
 {
-    if labels.is_defined(name) {
-        Some((LinkTarget::Full(start..bracket + 1), bracket + 1))
+    if labels.is_defined(name)? {
+        Ok(Some((LinkTarget::Full(start..bracket + 1), bracket + 1)))
     } else {
-        None
+        Ok(None)
     }
 }
 
@@ -132,7 +132,7 @@ fn is_known<L: Labels>(
         IsTrue known ↔ IsKnownLabel text.now (L.known labels.now) from close) }
 {
     match scan_label(alloc, text, from)? {
-        Some((end, name)) if end == close => Ok(labels.is_defined(name.as_str())),
+        Some((end, name)) if end == close => labels.is_defined(name.as_str()),
         _ => Ok(false),
     }
 }

@@ -1,17 +1,18 @@
 //! Links and images. (CommonMark 0.31.2, sections 6.3 and 6.4)
+use std::alloc::AllocError;
 use std::ops::Range;
 
 /// Which link reference definitions a page has.
 pub trait Labels {
-    ghost use Rattle.std.specs.Prelude.{◌≡◌, ℕ, Bool, List};
+    ghost use Rattle.std.specs.Prelude.{◌≡◌, ℕ, Bool, List, IfOk};
 
     /// Whether a label is defined, which is a function of its text.
     ghost known: { Self → List ℕ → Bool };
 
     /// Whether the label is defined. Each run of white space in it is one space, and none stands at its ends; its letters
-    /// are as they stand in the text, so that it is matched by `LinkLabel`.
-    fn is_defined(&self, label: &str) -> bool
-        ensures { result ≡ known self.now label.now };
+    /// are as they stand in the text, so that it is matched by `LinkLabel`, for which memory may be refused.
+    fn is_defined(&self, label: &str) -> Result<bool, AllocError>
+        ensures { IfOk result (λ is_defined. is_defined ≡ known self.now label.now) };
 }
 
 /// A link or an image.

@@ -47,8 +47,8 @@ pub(super) struct Definitions {
 impl Labels for Definitions {
     ghost known = { λ it name. list_any (λ row. bytes_eq row.0.now name) it.rows.now };
 
-    fn is_defined(&self, label: &str) -> bool {
-        self.rows.iter().any(|row| row.0 == label)
+    fn is_defined(&self, label: &str) -> Result<bool, AllocError> {
+        Ok(self.rows.iter().any(|row| row.0 == label))
     }
 }
 

@@ -1,4 +1,5 @@
 use Rattle.std.proofs.Common.{◌∙◌, subst, ap}
+use Rattle.std.proofs.lemmas.Result.{IfOk-weaker}
 use Rattle.markdown_values.specs.strings.Text.{cow_text}
 use Rattle.markdown_inlines.specs.Links.{IsLabelAt}
 use Rattle.markdown_inlines.proofs.link_targets.TargetLemmas.{known_label, ends_elsewhere}
@@ -11,8 +12,9 @@ returns-in-Some g c =
     let known = g.L.Labels.known c.args.labels.now in
     let found = rw c.in-Some.is at c.in_ok-end.ensures.found in
     let here = subst (λ end. IsLabelAt c.args.text.now c.args.from end name) c.if-end-close.true found in
-    known_label c.args.text.now known c.args.from c.args.close name c.is_defined.result here
-    (c.is_defined.ensures ∙ ap known c.as_str.ensures)
+    IfOk-weaker c.is_defined.result _ _
+    (λ is_defined holds. known_label c.args.text.now known c.args.from c.args.close name is_defined here (holds ∙ ap known c.as_str.ensures))
+    c.is_defined.ensures
 
 pub returns-in_default : goal.returns-in_default
 returns-in_default g c = (

@@ -16,10 +16,11 @@ returns-in-Some-2-clause-found g c =
     let end = c.in-Some-2.bracket in
     let untailed = rw c.in_default.is at c.scan_inline_target.ensures.none in
     let label = rw c.in-Some-2.is at c.in_ok-bracket.ensures.found in
-    full_or_none text known c.args.from close (subst (λ t. HasNoTail t (close + 1)) c.as_bytes.ensures.value untailed) end
-    (cow_text c.in-Some-2.name) c.full_target.result label.0 label.1
-    (c.full_target.ensures
-    ∙ ap (λ name. if known name then Some (Full (record { start = close + 1; end = end + 1 }), end + 1) else None) c.as_str.ensures)
+    let none_before = subst (λ t. HasNoTail t (close + 1)) c.as_bytes.ensures.value untailed in
+    IfOk-weaker c.full_target.result _ _
+    (λ found is. full_or_none text known c.args.from close none_before end (cow_text c.in-Some-2.name) found label.0 label.1
+    (is ∙ ap (λ name. if known name then Some (Full (record { start = close + 1; end = end + 1 }), end + 1) else None) c.as_str.ensures))
+    c.full_target.ensures
 
 pub returns-in-None-clause-found : goal.returns-in-None-clause-found
 returns-in-None-clause-found g c =
