@@ -1,15 +1,24 @@
 //! The events of a page in words.
 use markdown_blocks::blocks::BlockKind;
-use markdown_blocks::containers::Container;
+use markdown_blocks::containers::{BlockExtensions, Container};
 use markdown_blocks::events::BlockEvent;
-use markdown_blocks::page_events::page_events;
+use markdown_blocks::page_events::page_events_ext;
 use std::alloc::{AllocError, Global};
 
 /// A page's events, one behind another: a container with how many bytes of the page stand before its
 /// marker, a leaf block with its first line and its last, and `end` where a container ends.
 pub fn shown_events(alloc: Global, page: &[u8]) -> Result<String, AllocError> {
+    shown_events_ext(alloc, page, BlockExtensions::none())
+}
+
+/// The same with these extensions on.
+pub fn shown_events_ext(
+    alloc: Global,
+    page: &[u8],
+    extensions: BlockExtensions,
+) -> Result<String, AllocError> {
     let mut text = String::new(alloc);
-    for event in page_events(alloc, page) {
+    for event in page_events_ext(alloc, page, extensions) {
         if !text.is_empty() {
             text.push_str("; ")?;
         }
@@ -22,6 +31,7 @@ pub fn shown_events(alloc: Global, page: &[u8]) -> Result<String, AllocError> {
 fn show(text: &mut String, event: BlockEvent) -> Result<(), AllocError> {
     match event {
         BlockEvent::Start(Container::Quote, place) => write!(text, "quote {place}"),
+        BlockEvent::Start(Container::Footnote, place) => write!(text, "footnote {place}"),
         BlockEvent::Start(Container::Item(_), place) => write!(text, "item {place}"),
         BlockEvent::Block(leaf) => {
             let first = leaf.line as u128 + 1;

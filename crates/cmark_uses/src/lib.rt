@@ -6,6 +6,7 @@ pub mod contents;
 pub mod definitions;
 pub mod events;
 pub mod extensions;
+pub mod footnotes;
 pub mod headings;
 pub mod html;
 pub mod labels;

@@ -10,6 +10,8 @@ mod events;
 #[cfg(test)]
 mod extensions;
 #[cfg(test)]
+mod footnotes;
+#[cfg(test)]
 mod inlines;
 #[cfg(test)]
 mod lists;

@@ -2,13 +2,14 @@
 ghost use Rattle.std.specs.Prelude.{◌≡◌, ◌∷◌, ◌++◌, List, IfOk};
 ghost use Rattle.std.specs.List.{filter_map};
 ghost use Rattle.std.specs.Option.{option_to_list};
+ghost use Rattle.markdown_blocks.specs.containers.Containers.{no_extensions};
 ghost use Rattle.markdown_blocks.specs.events.Events.{Event, seen_event};
 ghost use Rattle.markdown_blocks.specs.first_blocks.Alerts.{AreAlertsOf, alert_at};
 ghost use Rattle.markdown_blocks.specs.first_blocks.FirstBlocks.{seen_first};
 ghost use Rattle.markdown_blocks.specs.first_blocks.Waiting.{firsts_behind};
 
 use crate::blocks::BlockKind;
-use crate::containers::Container;
+use crate::containers::{BlockExtensions, Container};
 use crate::events::{BlockEvent, Blocks};
 use crate::first_blocks::{FirstBlock, FirstBlocks};
 use crate::lists::keep;
@@ -52,9 +53,20 @@ impl<'a> FirstBlock<'a> {
 
 /// The alerts of a page, in order.
 pub fn alerts_of_page(alloc: Global, page: &[u8]) -> Result<Vec<Alert>, AllocError>
-    ensures { IfOk result (λ alerts. AreAlertsOf page.now alerts.items) }
+    ensures { IfOk result (λ alerts. AreAlertsOf no_extensions page.now alerts.items) }
 {
-    let mut blocks = Blocks::new(alloc, page);
+    alerts_of_page_ext(alloc, page, BlockExtensions::none())
+}
+
+/// The same with these extensions on.
+pub fn alerts_of_page_ext(
+    alloc: Global,
+    page: &[u8],
+    extensions: BlockExtensions,
+) -> Result<Vec<Alert>, AllocError>
+    ensures { IfOk result (λ alerts. AreAlertsOf extensions page.now alerts.items) }
+{
+    let mut blocks = Blocks::new_ext(alloc, page, extensions);
     let mut firsts = FirstBlocks::new();
     let mut found = Vec::new(alloc);
     while let Some(event) = blocks.next(alloc)? {

@@ -9,7 +9,7 @@ ghost use Rattle.markdown_blocks.specs.events.Given.{GivesBlock, block_left, blo
 ghost use Rattle.markdown_blocks.specs.taken.Lines.{IsTaken};
 
 use crate::blocks::BlockKind;
-use crate::containers::{Container, Outer, go_on, scan_container};
+use crate::containers::{BlockExtensions, Container, Outer, go_on, scan_container};
 use crate::definitions::take_definition;
 use crate::events::BlockEvent;
 use crate::leaf::Leaf;
@@ -140,7 +140,7 @@ impl<'a> BlockEvents<'a> {
     {
         let indent = self.start.scan_space_upto(4);
         let place = self.front + self.start.bytes_scanned();
-        scan_container(self.line, &mut self.start, indent);
+        scan_container(self.line, &mut self.start, indent, BlockExtensions::all());
         place
     }
 
@@ -251,7 +251,7 @@ fn first_rest<'a>(lines: &'a [u8], containers: &[Container]) -> (Rest<'a>, usize
             0,
         );
     };
-    let (_, mut start) = go_on(line, &Outer::new(containers));
+    let (_, mut start) = go_on(line, &Outer::new(BlockExtensions::none(), containers));
     let rest = scan_rest(line, &mut start);
     let before = line.len().saturating_sub(rest.text.len());
     (rest, before)

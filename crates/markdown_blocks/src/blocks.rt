@@ -3,7 +3,7 @@ ghost use Rattle.std.specs.Prelude.{◌≡◌, ◌↔◌, ◌++◌, ◌∷◌, [
 ghost use Rattle.markdown_values.specs.declared.values.HeadingLevel.{HeadingLevel};
 ghost use Rattle.markdown_scanners_tree.specs.SomeExactly.{SomeExactly};
 ghost use Rattle.markdown_scanners_tree.specs.scanners.TextLines.{lines_of};
-ghost use Rattle.markdown_blocks.specs.blocks.Leaves.{Begins, IsUnderline, EndsParagraph, ClosesFence, HasIndent};
+ghost use Rattle.markdown_blocks.specs.blocks.Leaves.{Begins, IsUnderline, EndsParagraph, ClosesFence, HasIndent, Interrupts};
 ghost use Rattle.markdown_blocks.specs.blocks.Leaves.{In, IsLazy, StopsBefore, StopsBehind, EndsAsHtml, GoesOnIndented};
 ghost use Rattle.markdown_blocks.specs.blocks.Leaves.{IsHead, BeginsNoTable, LeavesBehind};
 ghost use Rattle.markdown_blocks.specs.blocks.Endings.{IsEnd, IsNextLine, IsUnderlineIn};
@@ -13,8 +13,9 @@ ghost use Rattle.markdown_blocks.specs.containers.Containers.{behind, IsInside};
 ghost use Rattle.markdown_blocks.specs.declared.blocks.BlockKind.TheVariants.{Paragraph};
 ghost use Rattle.markdown_blocks.specs.taken.Lines.{IsTaken, IsNext};
 
-use crate::containers::{Outer, go_on};
+use crate::containers::{BlockExtensions, Outer, go_on};
 use crate::definitions::has_text;
+use crate::footnotes::footnote_label;
 use crate::kinds::{is_blank, kind_of};
 use crate::line::Line;
 use crate::rest::Rest;
@@ -121,7 +122,7 @@ pub(crate) fn scan_block(
 /// follow, or none follow since the input has ended.
 pub(crate) fn is_over(text: &[u8], block: Block, outer: &Outer, has_ended: bool) -> bool
     ensures { (lines : List (List ℕ)) → IsTaken text.now block.taken lines
-        → (IsTrue result ↔ IsOver outer.now block.kind has_ended
+        → (IsTrue result ↔ IsOver outer.now.containers block.kind has_ended
         (lines_of (drop block.taken.bytes text.now))) }
 {
     if has_ended {
@@ -156,7 +157,7 @@ fn take_until<'a>(text: &'a [u8], first: Taken, outer: &'a Outer<'a>, ending: En
 fn take_through(text: &[u8], first: Taken, outer: &Outer, ending: Ending) -> Taken
     ensures { (lines : List (List ℕ)) → IsTaken text.now first lines
         → (more : List (List ℕ)) × IsTaken text.now result (lines ++ more)
-        × StopsBehind outer.now (IsEnd outer.now ending) more
+        × StopsBehind outer.now.containers (IsEnd outer.now ending) more
         (lines_of (drop result.bytes text.now)) }
 {
     let taken = take_until(text, first, outer, ending);
@@ -172,7 +173,7 @@ fn take_through(text: &[u8], first: Taken, outer: &Outer, ending: Ending) -> Tak
 fn take_html(text: &[u8], first: Taken, outer: &Outer, kind: HtmlBlockKind, rest: &Rest) -> Taken
     ensures { (lines : List (List ℕ)) → IsTaken text.now first lines
         → (more : List (List ℕ)) × IsTaken text.now result (lines ++ more)
-        × EndsAsHtml outer.now kind rest.now more (lines_of (drop result.bytes text.now)) }
+        × EndsAsHtml outer.now.containers kind rest.now more (lines_of (drop result.bytes text.now)) }
 {
     if kind.ends_before_blank() {
         return take_until(text, first, outer, Ending::Html(kind));
@@ -187,7 +188,7 @@ fn take_html(text: &[u8], first: Taken, outer: &Outer, kind: HtmlBlockKind, rest
 fn take_indented<'a>(text: &'a [u8], first: Taken, outer: &'a Outer<'a>) -> Taken
     ensures { (lines : List (List ℕ)) → IsTaken text.now first lines
         → (more : List (List ℕ)) × IsTaken text.now result (lines ++ more)
-        × GoesOnIndented outer.now more (lines_of (drop result.bytes text.now)) }
+        × GoesOnIndented outer.now.containers more (lines_of (drop result.bytes text.now)) }
 {
     let mut taken = first;
     let mut seen = first;
@@ -337,7 +338,7 @@ fn ends(line: &Line, ending: Ending) -> bool
     };
     match ending {
         Ending::Text => !is_blank(rest.text),
-        Ending::Paragraph => ends_paragraph(rest),
+        Ending::Paragraph => ends_paragraph(rest, line.outer().extensions()),
         Ending::Fence(count, byte) => closes_fence(rest, count, byte),
         Ending::Html(kind) => ends_html_block(rest.text, kind),
     }
@@ -345,7 +346,7 @@ fn ends(line: &Line, ending: Ending) -> bool
 
 // Whether the line stands in the containers.
 fn is_inside(line: &[u8], outer: &Outer) -> bool
-    ensures { IsTrue result ↔ IsInside outer.now line.now }
+    ensures { IsTrue result ↔ IsInside outer.now.containers line.now }
 {
     let (kept, _) = go_on(line, outer);
     kept == outer.count()
@@ -353,7 +354,7 @@ fn is_inside(line: &[u8], outer: &Outer) -> bool
 
 // Whether the line stands in the containers, behind an indent of four columns.
 fn is_indented(line: &Line) -> bool
-    ensures { IsTrue result ↔ In line.now.outer HasIndent line.now.bytes }
+    ensures { IsTrue result ↔ In line.now.outer.containers HasIndent line.now.bytes }
 {
     match line.rest_inside() {
         Some(rest) => rest.indent == 4,
@@ -364,7 +365,8 @@ fn is_indented(line: &Line) -> bool
 // Whether the rest of a line, after fewer containers than those of the paragraph before it, goes on with
 // that.
 fn is_lazy(line: &Line) -> bool
-    ensures { IsTrue result ↔ IsLazy (behind line.now.outer line.now.bytes).state }
+    ensures { IsTrue result ↔ IsLazy line.now.outer.extensions
+        (behind line.now.outer.containers line.now.bytes).state }
 {
     if line.begins_container() {
         return false;
@@ -376,12 +378,12 @@ fn is_lazy(line: &Line) -> bool
     if rest.indent == 4 {
         return true;
     }
-    !interrupts_paragraph(rest.text)
+    !interrupts(rest.text, line.outer().extensions())
 }
 
 // Whether a line with this after its containers goes on with no paragraph.
-fn ends_paragraph(rest: &Rest) -> bool
-    ensures { IsTrue result ↔ EndsParagraph rest.now }
+fn ends_paragraph(rest: &Rest, extensions: BlockExtensions) -> bool
+    ensures { IsTrue result ↔ EndsParagraph extensions rest.now }
 {
     if is_blank(rest.text) {
         return true;
@@ -389,7 +391,14 @@ fn ends_paragraph(rest: &Rest) -> bool
     if underline_level(rest).is_some() {
         return true;
     }
-    rest.indent != 4 && interrupts_paragraph(rest.text)
+    rest.indent != 4 && interrupts(rest.text, extensions)
+}
+
+// Whether the text interrupts a paragraph, behind fewer than four columns of space.
+fn interrupts(text: &[u8], extensions: BlockExtensions) -> bool
+    ensures { IsTrue result ↔ Interrupts extensions text.now }
+{
+    interrupts_paragraph(text) || (extensions.footnotes && footnote_label(text).is_some())
 }
 
 // The level of the setext heading whose underline it is.
@@ -407,13 +416,13 @@ fn underline_level(rest: &Rest) -> Option<HeadingLevel>
 fn underline_in(line: &Line) -> Option<Underline>
     ensures found { IfSome result (λ r. IsUnderlineIn line.now.outer r line.now.bytes) }
     ensures none { IfNone result ((level : HeadingLevel)
-        → ¬ In line.now.outer (IsUnderline level) line.now.bytes) }
+        → ¬ In line.now.outer.containers (IsUnderline level) line.now.bytes) }
 {
     let rest = line.rest_inside()?;
     let level = underline_level(rest)?;
     Some(Underline {
         level,
-        interrupts: interrupts_paragraph(rest.text),
+        interrupts: interrupts(rest.text, line.outer().extensions()),
     })
 }
 

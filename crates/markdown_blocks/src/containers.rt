@@ -1,9 +1,11 @@
-//! Block quotes and list items: how far a line goes on with those that are open, and what it begins.
-//! (CommonMark 0.31.2, sections 5.1 and 5.2)
+//! Block quotes, list items and footnote definitions: how far a line goes on with those that are
+//! open, and what it begins. (CommonMark 0.31.2, sections 5.1 and 5.2; GitHub Docs, footnotes)
 ghost use Rattle.std.specs.Prelude.{◌≡◌, ◌<◌, ◌≤◌, length, false, Some, None, IfSome, IfNone};
+ghost use Rattle.markdown_scanners_tree.specs.line.Outcome.{item_outcome};
 ghost use Rattle.markdown_scanners_tree.specs.line.State.{space_within, after_space};
-ghost use Rattle.markdown_blocks.specs.containers.Containers.{begun_behind, behind, behind_quote, goes_on_blank, within, within_quote};
+ghost use Rattle.markdown_blocks.specs.containers.Containers.{begun_behind, behind, behind_quote, goes_on_blank, item_of, within, within_quote};
 
+use crate::footnotes::scan_footnote;
 use crate::kinds::is_blank;
 use markdown_scanners_tree::line::LineStart;
 use std::marker::Model;
@@ -26,27 +28,57 @@ pub enum Container {
     Quote,
     /// A list item.
     Item(ListItem),
+    /// A footnote definition. Begins only where the extension is on.
+    Footnote,
 }
 
 const _: () = prove!(size_of::<Container>() <= 16);
 
-/// The open containers, the outermost first; from a place on they are items that go on with blank
-/// lines, so that such a line is not tried for each of them. Contracts see the list of containers.
+/// The extensions that change how a page is cut into containers and blocks, of which none is on
+/// unless it is asked for.
+#[derive(Clone, Copy)]
+pub struct BlockExtensions {
+    /// Footnote definitions, as on GitHub: `[^label]:`, and what stands after it or is indented by
+    /// four columns.
+    pub footnotes: bool,
+}
+
+impl BlockExtensions {
+    ghost use Rattle.std.specs.Prelude.{◌≡◌};
+    ghost use Rattle.markdown_blocks.specs.containers.Containers.{all_extensions, no_extensions};
+
+    /// None of them.
+    pub fn none() -> BlockExtensions
+        ensures { result ≡ no_extensions }
+    {
+        BlockExtensions { footnotes: false }
+    }
+
+    /// All of them.
+    pub fn all() -> BlockExtensions
+        ensures { result ≡ all_extensions }
+    {
+        BlockExtensions { footnotes: true }
+    }
+}
+
+/// The extensions that are on, and the open containers, the outermost first; from a place on they go
+/// on with blank lines, so that such a line is not tried for each of them.
 #[derive(Drop)]
 pub(crate) struct Outer<'a> {
+    extensions: BlockExtensions,
     containers: &'a [Container],
     plain: usize,
 }
 
 impl<'a> Model for Outer<'a> {
-    ghost use Rattle.std.specs.Prelude.{◌≡◌, List, drop, true};
+    ghost use Rattle.std.specs.Prelude.{◌≡◌, drop, true};
     ghost use Rattle.std.specs.List.{list_all};
-    ghost use Rattle.markdown_blocks.specs.containers.Containers.{goes_on_blank};
-    ghost use Rattle.markdown_blocks.specs.declared.containers.Container.{Container};
+    ghost use Rattle.markdown_blocks.specs.containers.Containers.{Outer, goes_on_blank};
 
-    ghost Value = { List Container };
+    ghost Value = { Outer };
 
-    ghost view = { λ o. o.containers.now };
+    ghost view = { λ o. record { extensions = o.extensions; containers = o.containers.now } };
 
     ghost invariant = { λ o. list_all goes_on_blank (drop o.plain o.containers.now) ≡ true };
 }
@@ -54,9 +86,9 @@ impl<'a> Model for Outer<'a> {
 impl<'a> Outer<'a> {
     ghost use Rattle.std.specs.Prelude.{◌≡◌, length};
 
-    /// These containers.
-    pub(crate) fn new(containers: &'a [Container]) -> Outer<'a>
-        ensures { result ≡ containers.now }
+    /// These containers, with these extensions on.
+    pub(crate) fn new(extensions: BlockExtensions, containers: &'a [Container]) -> Outer<'a>
+        ensures { result ≡ record { extensions = extensions; containers = containers.now } }
     {
         let mut plain = containers.len();
         while plain > 0 {
@@ -65,21 +97,32 @@ impl<'a> Outer<'a> {
             }
             plain -= 1;
         }
-        Outer { containers, plain }
+        Outer {
+            extensions,
+            containers,
+            plain,
+        }
     }
 
     /// How many they are.
     pub(crate) fn count(&self) -> usize
-        ensures { result ≡ length self.now }
+        ensures { result ≡ length self.now.containers }
     {
         self.containers.len()
     }
 
     /// All of them.
     pub(crate) fn containers(&self) -> &'a [Container]
-        ensures { result.now ≡ self.now }
+        ensures { result.now ≡ self.now.containers }
     {
         self.containers
+    }
+
+    /// The extensions that are on.
+    pub(crate) fn extensions(&self) -> BlockExtensions
+        ensures { result ≡ self.now.extensions }
+    {
+        self.extensions
     }
 }
 
@@ -90,14 +133,15 @@ fn goes_on_blank(container: Container) -> bool
     match container {
         Container::Quote => false,
         Container::Item(item) => !item.begun,
+        Container::Footnote => true,
     }
 }
 
 /// How many of the open containers the line goes on with, and its place behind them.
 pub(crate) fn go_on<'a>(line: &'a [u8], outer: &Outer) -> (usize, LineStart<'a>)
-    ensures kept { result.0 ≡ (behind outer.now line.now).kept }
-    ensures few { result.0 ≤ length outer.now }
-    ensures state { result.1 ≡ (behind outer.now line.now).state }
+    ensures kept { result.0 ≡ (behind outer.now.containers line.now).kept }
+    ensures few { result.0 ≤ length outer.now.containers }
+    ensures state { result.1 ≡ (behind outer.now.containers line.now).state }
     ensures bytes { result.1.bytes ≡ line.now }
 {
     let mut start = LineStart::new(line);
@@ -136,6 +180,8 @@ pub(crate) fn pass(
     match container {
         Container::Item(item) if blank => { if item.begun { None } else { Some(true) } }
         Container::Item(item) => pass_indent(start, item.width as usize),
+        Container::Footnote if blank => Some(true),
+        Container::Footnote => pass_indent(start, 4),
         Container::Quote => pass_quote(line, start),
     }
 }
@@ -181,12 +227,17 @@ fn pass_quote(line: &[u8], start: &mut LineStart) -> Option<bool>
 
 /// Passes the marker of the container that begins at the place, behind so many columns of space, if
 /// one does.
-pub(crate) fn scan_container(line: &[u8], start: &mut LineStart, indent: usize) -> Option<Container>
+pub(crate) fn scan_container<'a>(
+    line: &'a [u8],
+    start: &mut LineStart<'a>,
+    indent: usize,
+    extensions: BlockExtensions,
+) -> Option<Container>
     requires bytes { start.old.bytes ≡ line.now }
     requires near { indent ≤ 4 }
     ensures found { IfSome result (λ container.
-        begun_behind indent start.old ≡ Some (container, start.new)) }
-    ensures none { IfNone result (begun_behind indent start.old ≡ None) }
+        begun_behind extensions indent start.old ≡ Some (container, start.new)) }
+    ensures none { IfNone result (begun_behind extensions indent start.old ≡ None) }
     ensures unchanged { IfNone result (start.new ≡ start.old) }
     ensures bytes { start.new.bytes ≡ line.now }
     ensures rises { IfSome result (λ _. start.old.place < start.new.place) }
@@ -197,6 +248,24 @@ pub(crate) fn scan_container(line: &[u8], start: &mut LineStart, indent: usize) 
     if start.scan_blockquote_marker() {
         return Some(Container::Quote);
     }
+    if let Some(item) = scan_item(line, start, indent) {
+        return Some(item);
+    }
+    scan_footnote(line, start, extensions)
+}
+
+// Passes the marker of the list item that begins at the place, behind so many columns of space, if
+// one does.
+fn scan_item(line: &[u8], start: &mut LineStart, indent: usize) -> Option<Container>
+    requires bytes { start.old.bytes ≡ line.now }
+    requires near { indent ≤ 4 }
+    ensures found { IfSome result (λ container.
+        item_of (item_outcome indent start.old) ≡ Some (container, start.new)) }
+    ensures none { IfNone result (item_of (item_outcome indent start.old) ≡ None) }
+    ensures unchanged { IfNone result (start.new ≡ start.old) }
+    ensures bytes { start.new.bytes ≡ line.now }
+    ensures rises { IfSome result (λ _. start.old.place < start.new.place) }
+{
     let (delimiter, number, width) = start.scan_list_marker_with_indent(indent)?;
     Some(Container::Item(ListItem {
         delimiter,

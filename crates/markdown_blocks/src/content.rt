@@ -12,7 +12,7 @@ ghost use Rattle.markdown_blocks.specs.content.Segments.{Rising, place_at, place
 mod parts;
 
 use crate::blocks::BlockKind;
-use crate::containers::{Container, Outer};
+use crate::containers::{BlockExtensions, Container, Outer};
 use crate::content::parts::{LinePart, Parts};
 use std::alloc::{AllocError, Global};
 use std::marker::Model;
@@ -72,7 +72,7 @@ pub fn content_of<'a>(
     ensures lent { (parts : List Part) → AreParts kind containers.now kept (lines_of lines.now) parts
         → AreOneRun parts → IsOk result }
 {
-    let outer = Outer::new(containers);
+    let outer = Outer::new(BlockExtensions::none(), containers);
     let parts = Parts::of(lines, kind, &outer, kept);
     if let Some((begin, end)) = run_of(parts) {
         return Ok(lent(alloc, &lines[begin..end], kind, begin));

@@ -10,7 +10,7 @@ ghost use Rattle.markdown_blocks.specs.taken.Lines.{IsTaken};
 ghost use Rattle.markdown_blocks.specs.walk.Walk.{IsGathered};
 
 use crate::blocks::{Block, BlockKind};
-use crate::containers::{Container, Outer, go_on};
+use crate::containers::{BlockExtensions, Container, Outer, go_on};
 use crate::info::without_front;
 use crate::rest::scan_rest;
 use crate::taken::Taken;
@@ -90,7 +90,7 @@ pub(crate) fn has_text(
     ensures { IfOk result (λ told. (line : List ℕ) (later : List (List ℕ))
         → IsTaken text.now first (line ∷ [])
         → IsTaken text.now taken (line ∷ later)
-        → (IsTrue told ↔ HasText (content_of outer.now words.now later))) }
+        → (IsTrue told ↔ HasText (content_of outer.now.containers words.now later))) }
 {
     if begins_with_text(words) {
         return Ok(true);
@@ -155,7 +155,8 @@ pub fn add_content(
     let Some((_, first)) = Taken::nothing().next(lines) else {
         return Ok(());
     };
-    add_lines(content, lines, first, count, &Outer::new(containers), text)
+    let outer = Outer::new(BlockExtensions::none(), containers);
+    add_lines(content, lines, first, count, &outer, text)
 }
 
 // Adds the content of a paragraph of so many lines, of which the first is taken, and has this text.
@@ -168,7 +169,7 @@ fn add_lines(
     words: &[u8],
 ) -> Result<(), AllocError>
     ensures { OnOk result ((line : List ℕ) → IsTaken text.now first (line ∷ [])
-        → content.new.items ≡ content.old.items ++ content_of outer.now words.now
+        → content.new.items ≡ content.old.items ++ content_of outer.now.containers words.now
         (take (count - 1) (lines_of (drop first.bytes text.now)))) }
 {
     content.extend_from_slice(without_front(words))?;
@@ -185,7 +186,7 @@ fn add_lines(
 
 // What the line has in the containers.
 fn words_in<'a>(line: &'a [u8], outer: &Outer) -> &'a [u8]
-    ensures { result.now ≡ words_in outer.now line.now }
+    ensures { result.now ≡ words_in outer.now.containers line.now }
 {
     let (_, mut start) = go_on(line, outer);
     without_front(scan_rest(line, &mut start).text)

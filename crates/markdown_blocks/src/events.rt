@@ -1,11 +1,12 @@
 //! The blocks of a page as events: containers that begin and end, and the leaf blocks in them.
 ghost use Rattle.std.specs.Prelude.{◌≡◌, ◌⊎◌, ◌<◌, ◌≤◌, [], ◌∷◌, List, length, take, drop, None, IfOk, IfErr, IfSome, IfNone, OnOk};
 ghost use Rattle.std.specs.Option.{option_map};
+ghost use Rattle.markdown_blocks.specs.containers.Containers.{no_extensions};
 ghost use Rattle.markdown_blocks.specs.events.Events.{Event, IsEventsOf, seen_event};
 ghost use Rattle.markdown_blocks.specs.events.Given.{Left, Gives, begun_of, block_events_left, events_left};
 
 pub use crate::block_events::BlockEvents;
-use crate::containers::Container;
+use crate::containers::{BlockExtensions, Container};
 pub use crate::leaf::Leaf;
 use crate::taken::Taken;
 use crate::walk::Walk;
@@ -43,7 +44,8 @@ impl<'a> Model for Blocks<'a> {
 
     ghost view = { λ b. record {
       text = drop b.before.bytes b.page.now;
-      containers = b.walk;
+      extensions = b.walk.extensions;
+      containers = b.walk.containers;
       begun = b.begun;
       line = b.before.lines;
       start = b.before.bytes;
@@ -52,19 +54,28 @@ impl<'a> Model for Blocks<'a> {
 
     ghost invariant = { λ b.
         (b.before.bytes ≤ length b.page.now)
-        × (b.block ≡ None → (b.begun ≡ length b.walk) ⊎ (drop b.before.bytes b.page.now ≡ []))
-        × IfSome b.block (λ block. 0 < block_events_left b.walk block) };
+        × (b.block ≡ None → (b.begun ≡ length b.walk.containers) ⊎ (drop b.before.bytes b.page.now ≡ []))
+        × IfSome b.block (λ block. 0 < block_events_left b.walk.containers block) };
 }
 
 impl<'a> Blocks<'a> {
-    /// The events of a page.
+    /// The events of a page, with no extension on.
     pub fn new(alloc: Global, page: &'a [u8]) -> Blocks<'a>
-        ensures page { (events : List Event) → Gives result events → IsEventsOf page.now events }
+        ensures page { (events : List Event) → Gives result events
+            → IsEventsOf no_extensions page.now events }
+    {
+        Blocks::new_ext(alloc, page, BlockExtensions::none())
+    }
+
+    /// The events of a page, with these extensions on.
+    pub fn new_ext(alloc: Global, page: &'a [u8], extensions: BlockExtensions) -> Blocks<'a>
+        ensures page { (events : List Event) → Gives result events
+            → IsEventsOf extensions page.now events }
     {
         Blocks {
             page,
             before: Taken::nothing(),
-            walk: Walk::new(alloc),
+            walk: Walk::new_ext(alloc, extensions),
             begun: 0,
             block: None,
             content: Vec::new(alloc),

@@ -3,6 +3,7 @@
 ghost use Rattle.std.specs.Prelude.{◌≡◌, ◌∷◌, ◌++◌, List, None, IfOk};
 ghost use Rattle.std.specs.List.{filter_map};
 ghost use Rattle.std.specs.Option.{option_map, option_to_list};
+ghost use Rattle.markdown_blocks.specs.containers.Containers.{no_extensions};
 ghost use Rattle.markdown_blocks.specs.events.Events.{Event, seen_event};
 ghost use Rattle.markdown_blocks.specs.first_blocks.FirstBlocks.{firsts_of, seen_first};
 ghost use Rattle.markdown_blocks.specs.first_blocks.Tasks.{AreTasksOf, task_at};
@@ -10,7 +11,7 @@ ghost use Rattle.markdown_blocks.specs.first_blocks.Waiting.{first_at, firsts_be
 ghost use Rattle.markdown_blocks.specs.lists.Lists.{Nodes, flatten};
 
 use crate::blocks::BlockKind;
-use crate::containers::Container;
+use crate::containers::{BlockExtensions, Container};
 use crate::events::{BlockEvent, Blocks, Leaf};
 use crate::lists::keep;
 use markdown_scanners_tree::line::LineStart;
@@ -117,9 +118,20 @@ impl<'a> FirstBlock<'a> {
 
 /// The markers of the task list items of a page, in order.
 pub fn tasks_of_page(alloc: Global, page: &[u8]) -> Result<Vec<Task>, AllocError>
-    ensures { IfOk result (λ tasks. AreTasksOf page.now tasks.items) }
+    ensures { IfOk result (λ tasks. AreTasksOf no_extensions page.now tasks.items) }
 {
-    let mut blocks = Blocks::new(alloc, page);
+    tasks_of_page_ext(alloc, page, BlockExtensions::none())
+}
+
+/// The same with these extensions on.
+pub fn tasks_of_page_ext(
+    alloc: Global,
+    page: &[u8],
+    extensions: BlockExtensions,
+) -> Result<Vec<Task>, AllocError>
+    ensures { IfOk result (λ tasks. AreTasksOf extensions page.now tasks.items) }
+{
+    let mut blocks = Blocks::new_ext(alloc, page, extensions);
     let mut firsts = FirstBlocks::new();
     let mut found = Vec::new(alloc);
     while let Some(event) = blocks.next(alloc)? {

@@ -10,6 +10,7 @@ pub mod content;
 pub mod definitions;
 pub mod events;
 pub mod first_blocks;
+pub mod footnotes;
 pub mod info;
 mod kinds;
 mod leaf;

@@ -28,9 +28,9 @@ impl<'a> Model for Line<'a> {
     ghost view = { λ l. record { outer = l.outer.now; bytes = l.bytes.now } };
 
     ghost invariant = { λ l.
-        (IsTrue l.is_inside ↔ IsInside l.outer.now l.bytes.now)
-        × (l.rest ≡ rest_in l.outer.now l.bytes.now)
-        × (l.after ≡ after_space 4 (behind l.outer.now l.bytes.now).state)
+        (IsTrue l.is_inside ↔ IsInside l.outer.now.containers l.bytes.now)
+        × (l.rest ≡ rest_in l.outer.now.containers l.bytes.now)
+        × (l.after ≡ after_space 4 (behind l.outer.now.containers l.bytes.now).state)
         × (l.after.bytes ≡ l.bytes.now) };
 }
 
@@ -59,9 +59,9 @@ impl<'a> Line<'a> {
 
     /// What it has after the containers, if it stands in all of them.
     pub(crate) fn rest_inside(&self) -> Option<&Rest<'a>>
-        ensures rest { IfSome result (λ rest. rest.now ≡ rest_in self.now.outer self.now.bytes) }
-        ensures inside { IfSome result (λ _. IsInside self.now.outer self.now.bytes) }
-        ensures none { IfNone result (¬ IsInside self.now.outer self.now.bytes) }
+        ensures rest { IfSome result (λ rest. rest.now ≡ rest_in self.now.outer.containers self.now.bytes) }
+        ensures inside { IfSome result (λ _. IsInside self.now.outer.containers self.now.bytes) }
+        ensures none { IfNone result (¬ IsInside self.now.outer.containers self.now.bytes) }
     {
         if self.is_inside {
             return Some(&self.rest);
@@ -71,19 +71,20 @@ impl<'a> Line<'a> {
 
     /// What it has after the containers that it goes on with.
     pub(crate) fn rest(&self) -> &Rest<'a>
-        ensures { result.now ≡ rest_in self.now.outer self.now.bytes }
+        ensures { result.now ≡ rest_in self.now.outer.containers self.now.bytes }
     {
         &self.rest
     }
 
     /// Whether it begins a container after those that it goes on with.
     pub(crate) fn begins_container(&self) -> bool
-        ensures { result ≡ is_some (begun_at (behind self.now.outer self.now.bytes).state) }
+        ensures { result ≡ is_some (begun_at self.now.outer.extensions
+            (behind self.now.outer.containers self.now.bytes).state) }
     {
         let rest = self.rest();
         let Ok(mut start) = self.after.clone() else {
             return false;
         };
-        scan_container(self.bytes, &mut start, rest.indent).is_some()
+        scan_container(self.bytes, &mut start, rest.indent, self.outer.extensions()).is_some()
     }
 }

@@ -8,10 +8,12 @@ ghost use Rattle.markdown_scanners_tree.specs.NoSkips.{SkipsNothing};
 ghost use Rattle.markdown_scanners_tree.specs.SomeExactly.{SomeExactly};
 ghost use Rattle.markdown_scanners_tree.specs.linklabel.Key.{key_bytes};
 ghost use Rattle.markdown_scanners_tree.specs.linklabel.Label.{Label, IsLabelInBytes};
+ghost use Rattle.markdown_blocks.specs.containers.Containers.{no_extensions};
 ghost use Rattle.markdown_blocks.specs.definitions.Definitions.{IsDefinition};
 ghost use Rattle.markdown_blocks.specs.link_definitions.LinkDefinitions.{Named, Target, Known, HasDefinitions, Names, IsNamed};
 ghost use Rattle.markdown_blocks.specs.link_definitions.LinkDefinitions.{AreAddedUpTo, first_of, known_as, known_before, slice, target_of};
 
+use crate::containers::BlockExtensions;
 use crate::definitions::scan_definition;
 use crate::walk::Walk;
 use caseless::default_case_fold_str;
@@ -93,11 +95,25 @@ impl<'a> LinkDefinitions<'a> {
 
     /// Those of a page, in one pass over it.
     pub fn of_page(alloc: Global, page: &'a [u8]) -> Result<LinkDefinitions<'a>, AllocError>
-        ensures first { IfOk result (λ known. (named : List Named) × HasDefinitions page.now named
+        ensures first { IfOk result (λ known. (named : List Named)
+            × HasDefinitions no_extensions page.now named
+            × ((label : List ℕ) → known_as known label ≡ first_of label named)) }
+    {
+        LinkDefinitions::of_page_ext(alloc, page, BlockExtensions::none())
+    }
+
+    /// The same with these extensions on.
+    pub fn of_page_ext(
+        alloc: Global,
+        page: &'a [u8],
+        extensions: BlockExtensions,
+    ) -> Result<LinkDefinitions<'a>, AllocError>
+        ensures first { IfOk result (λ known. (named : List Named)
+            × HasDefinitions extensions page.now named
             × ((label : List ℕ) → known_as known label ≡ first_of label named)) }
     {
         let mut known = LinkDefinitions::new(alloc);
-        let mut walk = Walk::new(alloc);
+        let mut walk = Walk::new_ext(alloc, extensions);
         let mut content = Vec::new(alloc);
         let mut before = 0;
         while let Some(step) = walk.next_block(alloc, &mut content, &page[before..], true)? {

@@ -2,13 +2,14 @@
 //! (CommonMark 0.31.2, section 5.3)
 ghost use Rattle.std.specs.Prelude.{◌≡◌, ◌++◌, ◌∷◌, [], List, length, reverse, IfOk, IfErr, OnOk};
 ghost use Rattle.std.specs.Option.{option_to_list};
+ghost use Rattle.markdown_blocks.specs.containers.Containers.{no_extensions};
 ghost use Rattle.markdown_blocks.specs.events.Events.{Event, seen_event, seen_leaf, leaf, ends};
 ghost use Rattle.markdown_blocks.specs.lists.Lists.{AreListsOf, Nodes, flatten, lists_of};
 ghost use Rattle.markdown_blocks.specs.lists.Tracked.{Tracked, at_start, read, start_read, closed, lists_behind, joins, loosened, list_begun, begun};
 ghost use Rattle.markdown_blocks.specs.lists.Tracked.{level_within};
 
 use crate::blocks::BlockKind;
-use crate::containers::Container;
+use crate::containers::{BlockExtensions, Container};
 use crate::events::{BlockEvent, Blocks, Leaf};
 use std::alloc::{AllocError, Global};
 use std::marker::Model;
@@ -39,11 +40,12 @@ struct OpenList {
     line: usize,
 }
 
-// A container that has begun and not ended, or the page: whether it is an item, whether a blank
-// line stands between two of its blocks that are in no list together, and its last block's list.
+// A container that has begun and not ended, or the page: whether it ends with its last block, as an
+// item does, whether a blank line stands between two of its blocks that are in no list together, and
+// its last block's list.
 #[derive(Clone, Copy)]
 struct Level {
-    is_item: bool,
+    ends_with_block: bool,
     is_parted: bool,
     list: Option<OpenList>,
 }
@@ -90,7 +92,7 @@ impl Lists {
             is_blank: false,
             is_fresh: true,
             level: Level {
-                is_item: false,
+                ends_with_block: false,
                 is_parted: false,
                 list: None,
             },
@@ -201,7 +203,7 @@ impl Lists {
             ..outer
         };
         self.is_fresh = false;
-        if !inner.is_item {
+        if !inner.ends_with_block {
             self.end = self.line;
             self.is_blank = false;
         }
@@ -235,7 +237,7 @@ fn list_begun(container: Container, line: usize) -> Option<OpenList>
     ensures { result ≡ list_begun container line }
 {
     match container {
-        Container::Quote => None,
+        Container::Quote | Container::Footnote => None,
         Container::Item(item) => Some(OpenList {
             delimiter: item.delimiter,
             is_loose: false,
@@ -266,7 +268,7 @@ fn level_within(container: Container) -> Level
     ensures { result ≡ level_within container }
 {
     Level {
-        is_item: matches!(container, Container::Item(_)),
+        ends_with_block: !matches!(container, Container::Quote),
         is_parted: false,
         list: None,
     }
@@ -274,9 +276,20 @@ fn level_within(container: Container) -> Level
 
 /// The lists of a page, each where it ends.
 pub fn lists_of_page(alloc: Global, page: &[u8]) -> Result<Vec<ListBlock>, AllocError>
-    ensures { IfOk result (λ lists. AreListsOf page.now lists.items) }
+    ensures { IfOk result (λ lists. AreListsOf no_extensions page.now lists.items) }
 {
-    let mut blocks = Blocks::new(alloc, page);
+    lists_of_page_ext(alloc, page, BlockExtensions::none())
+}
+
+/// The same with these extensions on.
+pub fn lists_of_page_ext(
+    alloc: Global,
+    page: &[u8],
+    extensions: BlockExtensions,
+) -> Result<Vec<ListBlock>, AllocError>
+    ensures { IfOk result (λ lists. AreListsOf extensions page.now lists.items) }
+{
+    let mut blocks = Blocks::new_ext(alloc, page, extensions);
     let mut lists = Lists::new(alloc);
     let mut found = Vec::new(alloc);
     while let Some(event) = blocks.next(alloc)? {

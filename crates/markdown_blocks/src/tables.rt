@@ -58,7 +58,7 @@ fn separates(before: u8, byte: u8) -> bool
 /// How many columns a table has whose delimiter row the line is.
 pub(crate) fn delimiter_columns(alloc: Global, line: &Line) -> Result<Option<usize>, AllocError>
     ensures { IfOk result (λ found. SomeExactly
-        (λ columns. In line.now.outer (IsDelimiter columns) line.now.bytes) found) }
+        (λ columns. In line.now.outer.containers (IsDelimiter columns) line.now.bytes) found) }
 {
     let Some(rest) = line.rest_inside() else {
         return Ok(None);

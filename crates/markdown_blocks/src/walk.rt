@@ -1,13 +1,12 @@
 //! A page cut into blocks, from the first to the last.
 ghost use Rattle.std.specs.Prelude.{◌≡◌, ◌<◌, ◌≤◌, ◌+◌, [], List, ℕ, length, take, drop, IsTrue, IfOk, IfErr, IfSome, IfNone, OnOk};
-ghost use Rattle.markdown_blocks.specs.blocks.Pages.{NoneIsOver};
-ghost use Rattle.markdown_blocks.specs.containers.Containers.{behind, settled, settled_last};
-ghost use Rattle.markdown_blocks.specs.declared.containers.Container.{Container};
+ghost use Rattle.markdown_blocks.specs.blocks.Pages.{NoneIsOver, root};
+ghost use Rattle.markdown_blocks.specs.containers.Containers.{behind, no_extensions, settled, settled_last};
 ghost use Rattle.markdown_scanners_tree.specs.line.State.{LineState};
 ghost use Rattle.markdown_blocks.specs.walk.Walk.{IsOpening, IsStep, IsContentOf};
 
 use crate::blocks::{is_over, scan_block};
-use crate::containers::{Container, ListItem, Outer, go_on, scan_container};
+use crate::containers::{BlockExtensions, Container, ListItem, Outer, go_on, scan_container};
 use crate::definitions::gather_content;
 use crate::rest::{Rest, scan_rest};
 pub use crate::step::Step;
@@ -17,18 +16,22 @@ use std::alloc::{AllocError, Global};
 use std::marker::Model;
 use std::mem::swap;
 
-/// How far a page is cut into blocks: the containers that are open before the next one, outermost first.
+/// How far a page is cut into blocks: the containers that are open before the next one, outermost
+/// first, and the extensions that are on.
 #[derive(Drop)]
 pub struct Walk {
+    extensions: BlockExtensions,
     open: Vec<Container>,
     // Those that were open before the last block; its room is used again.
     closed: Vec<Container>,
 }
 
 impl Model for Walk {
-    ghost Value = { List Container };
+    ghost use Rattle.markdown_blocks.specs.containers.Containers.{Outer};
 
-    ghost view = { λ walk. walk.open.items };
+    ghost Value = { Outer };
+
+    ghost view = { λ walk. record { extensions = walk.extensions; containers = walk.open.items } };
 }
 
 // What a line has after its containers: how many of those that were open it goes on with, its place
@@ -41,11 +44,19 @@ struct Opened<'a> {
 }
 
 impl Walk {
-    /// Before the first block of a page: no container is open.
+    /// Before the first block of a page: no container is open, and no extension is on.
     pub fn new(alloc: Global) -> Walk
-        ensures none { result ≡ [] }
+        ensures none { result ≡ root no_extensions }
+    {
+        Walk::new_ext(alloc, BlockExtensions::none())
+    }
+
+    /// The same with these extensions on.
+    pub fn new_ext(alloc: Global, extensions: BlockExtensions) -> Walk
+        ensures none { result ≡ root extensions }
     {
         Walk {
+            extensions,
             open: Vec::new(alloc),
             closed: Vec::new(alloc),
         }
@@ -53,7 +64,7 @@ impl Walk {
 
     /// The containers that are open, outermost first.
     pub fn containers(&self) -> &[Container]
-        ensures containers { result.now ≡ self.now }
+        ensures containers { result.now ≡ self.now.containers }
     {
         &self.open
     }
@@ -78,12 +89,12 @@ impl Walk {
             (more : List (List ℕ)) → (IsTrue has_ended → more ≡ [])
             → IsStep self.old lines.now more step self.new)) }
         ensures content { IfOk result (λ found. IfSome found (λ step.
-            IsContentOf step self.new content.new.items)) }
+            IsContentOf step self.new.containers content.new.items)) }
         ensures some { IfOk result (λ found. IfSome found (λ step. 0 < step.block.taken.bytes)) }
         ensures within { IfOk result (λ found. IfSome found (λ step.
             step.block.taken.bytes ≤ length lines.now)) }
         ensures few { IfOk result (λ found. IfSome found (λ step.
-            length self.new ≤ step.kept + step.block.taken.bytes)) }
+            length self.new.containers ≤ step.kept + step.block.taken.bytes)) }
         ensures none { IfOk result (λ found.
             IfNone found (NoneIsOver self.old lines.now has_ended)) }
         ensures all { IfOk result (λ found. IfNone found (IsTrue has_ended → lines.now ≡ [])) }
@@ -95,9 +106,9 @@ impl Walk {
         };
         self.closed.clear();
         self.closed.extend_from_slice(&self.open)?;
-        let opened = open_containers(&mut self.closed, line)?;
+        let opened = open_containers(&mut self.closed, line, self.extensions)?;
         let rest = opened.rest;
-        let outer = Outer::new(&self.closed);
+        let outer = Outer::new(self.extensions, &self.closed);
         let block = scan_block(alloc, lines, first, &outer, &rest)?;
         if !is_over(lines, block, &outer, has_ended) {
             return Ok(None);
@@ -117,19 +128,24 @@ impl Walk {
 }
 
 // Closes the containers that the line does not go on with, and opens those that it begins.
-fn open_containers<'a>(outer: &mut Vec<Container>, line: &'a [u8]) -> Result<Opened<'a>, AllocError>
+fn open_containers<'a>(
+    outer: &mut Vec<Container>,
+    line: &'a [u8],
+    extensions: BlockExtensions,
+) -> Result<Opened<'a>, AllocError>
     ensures opening { IfOk result (λ o.
-        IsOpening outer.old.items line.now outer.new.items o.kept o.rest) }
+        IsOpening (record { extensions = extensions; containers = outer.old.items }) line.now
+        outer.new.items o.kept o.rest) }
     ensures place { IfOk result (λ o. o.start ≡ (behind outer.old.items line.now).state) }
     ensures bytes { IfOk result (λ o. o.start.bytes ≡ line.now) }
     ensures few { IfOk result (λ o. length outer.new.items ≤ o.kept + length line.now) }
 {
-    let (kept, mut start) = go_on(line, &Outer::new(outer));
+    let (kept, mut start) = go_on(line, &Outer::new(extensions, outer));
     let before = start.clone()?;
     keep(outer, kept)?;
     let count = outer.len();
     let mut rest = scan_rest(line, &mut start);
-    while let Some(container) = scan_container(line, &mut start, rest.indent) {
+    while let Some(container) = scan_container(line, &mut start, rest.indent, extensions) {
         outer.push(container)?;
         rest = scan_rest(line, &mut start);
     }
@@ -160,6 +176,7 @@ fn settled(container: Container) -> Container
 {
     match container {
         Container::Quote => Container::Quote,
+        Container::Footnote => Container::Footnote,
         Container::Item(item) => Container::Item(ListItem {
             begun: false,
             ..item

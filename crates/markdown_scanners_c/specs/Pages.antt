@@ -9,8 +9,9 @@ use Rattle.markdown_blocks.specs.content.Content.{IsContent, Placed}
 use Rattle.markdown_blocks.specs.declared.blocks.BlockKind.{BlockKind}
 use Rattle.markdown_blocks.specs.declared.blocks.BlockKind.TheVariants.{Blank, Break, Heading, Setext, Indented, Fenced, Html, Table}
 use Rattle.markdown_blocks.specs.declared.blocks.BlockKind.TheVariants.{Definition, Paragraph}
+use Rattle.markdown_blocks.specs.containers.Containers.{no_extensions}
 use Rattle.markdown_blocks.specs.declared.containers.Container.{Container}
-use Rattle.markdown_blocks.specs.declared.containers.Container.TheVariants.{Quote, Item}
+use Rattle.markdown_blocks.specs.declared.containers.Container.TheVariants.{Quote, Item, Footnote}
 use Rattle.markdown_blocks.specs.events.Events.{Event, starts, leaf, ends, LeafBlock, IsEventsOf}
 use Rattle.markdown_scanners_c.specs.Buffer.{IsWritten}
 use Rattle.markdown_scanners_c.specs.Status.{bad_kind, no_memory, past_end}
@@ -29,6 +30,10 @@ block_quote = 1
 
 abbrev pub list_item : ℕ
 list_item = 2
+
+-- a footnote definition, which begins on no page that is told here
+abbrev pub footnote : ℕ
+footnote = 13
 
 -- of a leaf block the number of its kind; the level of a heading, or the start condition of HTML; the byte of a fence; and how many
 -- of it a fence has, or a table columns
@@ -63,6 +68,7 @@ of_kind it = record {
 -- a container whose marker stands at the place: of a list item its bullet or delimiter, its start, and the indent of its text
 abbrev pub container_told : Container → ℕ → Block
 container_told Quote place = record (of_kind (record { kind = block_quote; number = 0; byte = 0; count = 0 })) { place = place }
+container_told Footnote place = record (of_kind (record { kind = footnote; number = 0; byte = 0; count = 0 })) { place = place }
 container_told (Item item) place = record (of_kind (record { kind = list_item; number = item.start; byte = item.delimiter; count = 0 })) {
   width = item.width;
   place = place;
@@ -87,7 +93,7 @@ event_told ends = of_kind (record { kind = container_end; number = 0; byte = 0; 
 abbrev pub IsPageTold : List ℕ → List Block → List Block → BlockCount → Type 0
 IsPageTold page old new told =
     ((told.status ≡ no_memory) × (told.count ≡ 0) × (new ≡ old))
-    ⊎ ((events : List Event) × IsEventsOf page events × IsWritten (map event_told events) old new told.status told.count)
+    ⊎ ((events : List Event) × IsEventsOf no_extensions page events × IsWritten (map event_told events) old new told.status told.count)
 
 -- the kind that a block's numbers name
 abbrev pub kind_in : Block → Kind

@@ -6,6 +6,7 @@ ghost use Rattle.markdown_values.specs.values.Headings.{heading_number};
 ghost use Rattle.markdown_scanners_tree.specs.declared.scanners.html_kinds.HtmlBlockKind.{HtmlBlockKind as HtmlKind};
 ghost use Rattle.markdown_scanners_tree.specs.scanners.TextLines.{lines_of};
 ghost use Rattle.markdown_scanners_tree.specs.scanners.html_kinds.HtmlKinds.{condition_number};
+ghost use Rattle.markdown_blocks.specs.containers.Containers.{no_extensions};
 ghost use Rattle.markdown_blocks.specs.content.Content.{IsContent, Placed};
 ghost use Rattle.markdown_blocks.specs.declared.blocks.BlockKind.{BlockKind as LeafKind};
 ghost use Rattle.markdown_blocks.specs.events.Events.{Event, IsEventsOf, seen_event, seen_leaf};
@@ -50,6 +51,9 @@ const TABLE: u32 = 10;
 const DEFINITION: u32 = 11;
 
 const PARAGRAPH: u32 = 12;
+
+// Begins on no page that is told here, where no extension is on.
+const FOOTNOTE: u32 = 13;
 
 /// `struct mds_block` of C: a container that begins, the end of one, or a leaf block.
 #[repr(C)]
@@ -101,7 +105,7 @@ pub extern "C" fn mds_scan_blocks(alloc: Global, page: &[u8], blocks: &mut [Bloc
 
 // The blocks of a page.
 fn told_blocks(alloc: Global, page: &[u8]) -> Result<Vec<Block>, AllocError>
-    ensures { IfOk result (λ told. (events : List Event) × IsEventsOf page.now events
+    ensures { IfOk result (λ told. (events : List Event) × IsEventsOf no_extensions page.now events
         × (told.items ≡ map event_told events)) }
 {
     let mut told = Vec::new(alloc);
@@ -146,6 +150,10 @@ fn container_told(container: Container, place: usize) -> Block
         Container::Quote => Block {
             place,
             ..of_kind(plain_kind(BLOCK_QUOTE))
+        },
+        Container::Footnote => Block {
+            place,
+            ..of_kind(plain_kind(FOOTNOTE))
         },
         Container::Item(item) => {
             let kind = Kind {

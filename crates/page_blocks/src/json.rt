@@ -140,6 +140,7 @@ pub(crate) fn push_container_json(text: &mut String, container: Container) -> Re
 {
     match container {
         Container::Quote => text.push_str("\"quote\""),
+        Container::Footnote => text.push_str("\"footnote\""),
         Container::Item(item) => {
             text.push_str("\"item\"")?;
             push_marker_json(text, item.delimiter, item.start)?;

@@ -4,10 +4,9 @@ use Rattle.std.proofs.lemmas.List.{append_cancel_left}
 use Rattle.markdown_values.specs.declared.values.HeadingLevel.{HeadingLevel}
 use Rattle.markdown_scanners_tree.specs.declared.scanners.html_kinds.HtmlBlockKind.{HtmlBlockKind}
 use Rattle.markdown_scanners_tree.specs.scanners.TextLines.{lines_of}
-use Rattle.markdown_blocks.specs.containers.Containers.{Rest}
+use Rattle.markdown_blocks.specs.containers.Containers.{Outer, Rest}
 use Rattle.markdown_blocks.specs.declared.blocks.BlockKind.{BlockKind}
 use Rattle.markdown_blocks.specs.declared.blocks.BlockKind.TheVariants.{Blank, Break, Heading, Indented, Fenced, Html, Setext, Table, Definition, Paragraph}
-use Rattle.markdown_blocks.specs.declared.containers.Container.{Container}
 use Rattle.markdown_blocks.specs.declared.taken.Taken.{Taken}
 use Rattle.markdown_blocks.specs.taken.Lines.{IsTaken, IsNext}
 use Rattle.markdown_blocks.specs.blocks.Leaves.{Begins, IsBlank, Underlines, OutOr, LeavesBehind, ClosesFence}
@@ -16,9 +15,9 @@ use Rattle.markdown_blocks.specs.blocks.Pages.{IsBlockOf}
 use Rattle.markdown_blocks.proofs.blocks.ParagraphLemmas.{Reached}
 use Rattle.markdown_blocks.proofs.taken.TakenLemmas.{Until, Through, taken-next}
 
-module _ (text : List ℕ) (outer : List Container) (line : List ℕ) (rest : Rest) (first : Taken) (h : IsTaken text first (line ∷ [])) where
+module _ (text : List ℕ) (outer : Outer) (line : List ℕ) (rest : Rest) (first : Taken) (h : IsTaken text first (line ∷ [])) where
   -- blank lines
-  pub blank_block : (taken : Taken) → Begins Blank rest → Until (OutOr outer (λ r. ¬ IsBlank r)) text first taken
+  pub blank_block : (taken : Taken) → Begins Blank rest → Until (OutOr outer.containers (λ r. ¬ IsBlank r)) text first taken
       → IsBlockOf text outer line rest (record { kind = Blank; taken = taken })
   blank_block taken begins until =
       let u = until (line ∷ []) h in record { later = u.0; taken = u.1; leaf = (begins, u.2) }
@@ -39,8 +38,8 @@ module _ (text : List ℕ) (outer : List Container) (line : List ℕ) (rest : Re
   one_line (Heading level) begins blank indented fenced html paragraph = record { later = []; taken = h; leaf = (begins, refl) }
 
   -- fenced code
-  pub fenced_block : (count byte : ℕ) (taken : Taken) → Begins (Fenced count byte) rest → Through (OutOr outer
-      (ClosesFence count byte)) text outer first taken
+  pub fenced_block : (count byte : ℕ) (taken : Taken) → Begins (Fenced count byte) rest → Through (OutOr outer.containers
+      (ClosesFence count byte)) text outer.containers first taken
       → IsBlockOf text outer line rest (record { kind = Fenced count byte; taken = taken })
   fenced_block count byte taken begins through =
       let u = through (line ∷ []) h in record { later = u.0; taken = u.1; leaf = (begins, u.2) }
@@ -48,7 +47,7 @@ module _ (text : List ℕ) (outer : List Container) (line : List ℕ) (rest : Re
   -- indented code
   pub indented_block : (taken : Taken) → Begins Indented rest
       → ((lines : List (List ℕ)) → IsTaken text first lines
-      → (more : List (List ℕ)) × IsTaken text taken (lines ++ more) × GoesOnIndented outer more (lines_of (drop taken.bytes text)))
+      → (more : List (List ℕ)) × IsTaken text taken (lines ++ more) × GoesOnIndented outer.containers more (lines_of (drop taken.bytes text)))
       → IsBlockOf text outer line rest (record { kind = Indented; taken = taken })
   indented_block taken begins goes =
       let g = goes (line ∷ []) h in record { later = g.0; taken = g.1; leaf = (begins, g.2) }
@@ -57,7 +56,7 @@ module _ (text : List ℕ) (outer : List Container) (line : List ℕ) (rest : Re
   pub html_block : (kind : HtmlBlockKind) (taken : Taken) → Begins (Html kind) rest
       → ((lines : List (List ℕ)) → IsTaken text first lines
       → (more : List (List ℕ)) × IsTaken text taken (lines ++ more)
-      × EndsAsHtml outer kind rest more (lines_of (drop taken.bytes text)))
+      × EndsAsHtml outer.containers kind rest more (lines_of (drop taken.bytes text)))
       → IsBlockOf text outer line rest (record { kind = Html kind; taken = taken })
   html_block kind taken begins goes =
       let g = goes (line ∷ []) h in record { later = g.0; taken = g.1; leaf = (begins, g.2) }
@@ -80,7 +79,7 @@ module _ (text : List ℕ) (outer : List Container) (line : List ℕ) (rest : Re
     pub paragraph_block : (taken : Taken) → Reached outer rest.text text first taken
         → ((later : List (List ℕ)) → IsTaken text taken (line ∷ later)
         → OnFirst (LeavesBehind outer rest.text later) (lines_of (drop taken.bytes text))
-        × OnFirst (λ l. (level : HeadingLevel) → ¬ Underlines outer rest.text later level l) (lines_of (drop taken.bytes text)))
+        × OnFirst (λ l. (level : HeadingLevel) → ¬ Underlines outer.containers rest.text later level l) (lines_of (drop taken.bytes text)))
         → IsBlockOf text outer line rest (record { kind = Paragraph; taken = taken })
     paragraph_block taken reached stops =
         let r = reached line h in
@@ -93,7 +92,7 @@ module _ (text : List ℕ) (outer : List Container) (line : List ℕ) (rest : Re
 
     pub setext_block : (last : List ℕ) (level : HeadingLevel) (taken more : Taken) → Reached outer rest.text text first taken
         → IsNext text taken last more
-        → ((later : List (List ℕ)) → IsTaken text taken (line ∷ later) → Underlines outer rest.text later level last)
+        → ((later : List (List ℕ)) → IsTaken text taken (line ∷ later) → Underlines outer.containers rest.text later level last)
         → IsBlockOf text outer line rest (record { kind = Setext level; taken = more })
     setext_block last level taken more reached next underlines =
         let r = reached line h in

@@ -6,8 +6,7 @@ use Rattle.std.proofs.lemmas.Bool.Decides.{eqb_tells}
 use Rattle.std.proofs.Math.Dec.{eqb}
 use Rattle.markdown_scanners_tree.specs.Bytes.{is_blank}
 use Rattle.markdown_scanners_tree.specs.scanners.TextLines.{lines_of}
-use Rattle.markdown_blocks.specs.containers.Containers.{behind, IsInside, rest_in}
-use Rattle.markdown_blocks.specs.declared.containers.Container.{Container}
+use Rattle.markdown_blocks.specs.containers.Containers.{Outer, behind, IsInside, rest_in}
 use Rattle.markdown_blocks.specs.declared.blocks.Ending.TheVariants.{Text}
 use Rattle.markdown_blocks.specs.declared.taken.Taken.{Taken}
 use Rattle.markdown_blocks.specs.taken.Lines.{IsTaken, IsNext}
@@ -19,48 +18,51 @@ all-append : (P : List ℕ → Type 0) (xs ys : List (List ℕ)) → AllByRecurs
 all-append P [] ys all more = more
 all-append P (x ∷ xs) ys all more = (all.0, all-append P xs ys all.1 more)
 
-module _ (outer : List Container) where
+module _ (outer : Outer) where
   abbrev Inside : List ℕ → Type 0
-  Inside line = ¬ EndsIndented outer line
+  Inside line = ¬ EndsIndented outer.containers line
 
-  blank_line_inside : (line : List ℕ) → IsBlankIn outer line → Inside line
+  blank_line_inside : (line : List ℕ) → IsBlankIn outer.containers line → Inside line
   blank_line_inside line blank (inl out) = out blank.0
   blank_line_inside line blank (inr here) = here.1.0 blank.1
 
   -- a line with text, and an indent or none
-  pub code_inside : (line : List ℕ) → In outer HasIndent line → ¬ EndsIndented outer line
+  pub code_inside : (line : List ℕ) → In outer.containers HasIndent line → ¬ EndsIndented outer.containers line
   code_inside line here (inl out) = out here.0
   code_inside line here (inr near) = near.1.1 here.1
 
-  pub code_has_text : (line : List ℕ) → IsEnd outer Text line → In outer HasIndent line → ¬ IsBlankIn outer line
+  pub code_has_text : (line : List ℕ) → IsEnd outer Text line → In outer.containers HasIndent line → ¬ IsBlankIn outer.containers line
   code_has_text line (inl out) here blank = out here.0
   code_has_text line (inr text) here blank = text.1 blank.1
 
-  pub text_ends : (line : List ℕ) → IsEnd outer Text line → ¬ In outer HasIndent line → EndsIndented outer line
+  pub text_ends : (line : List ℕ) → IsEnd outer Text line → ¬ In outer.containers HasIndent line → EndsIndented outer.containers line
   text_ends line (inl out) near = inl out
   text_ends line (inr text) near = inr (text.0, (text.1, λ indent. near (text.0, indent)))
 
   -- a line that ends nothing by its text is blank
-  pub blank_told : (line : List ℕ) → ¬ IsEnd outer Text line → IsBlankIn outer line
-  blank_told line none = by (eqb_tells (behind outer line).kept (length outer)) (cases_Bool (is_blank (rest_in outer line).text))
+  pub blank_told : (line : List ℕ) → ¬ IsEnd outer Text line → IsBlankIn outer.containers line
+  blank_told line none = by (eqb_tells (behind outer.containers line).kept (length outer.containers))
+      (cases_Bool (is_blank (rest_in outer.containers line).text))
     where
-      by : ((eqb (behind outer line).kept (length outer) ≡ true) × IsInside outer line) ⊎ ((eqb (behind outer line).kept (length outer) ≡ false) ×
-          (¬ IsInside outer line))
-          → (is_blank (rest_in outer line).text ≡ true) ⊎ (is_blank (rest_in outer line).text ≡ false) → IsBlankIn outer line
+      by : ((eqb (behind outer.containers line).kept (length outer.containers) ≡ true) × IsInside outer.containers line)
+          ⊎ ((eqb (behind outer.containers line).kept (length outer.containers) ≡ false) ×
+          (¬ IsInside outer.containers line))
+          → (is_blank (rest_in outer.containers line).text ≡ true) ⊎ (is_blank (rest_in outer.containers line).text ≡ false) → IsBlankIn outer.containers line
       by (inr out) blank = absurd (none (inl out.1))
       by (inl here) (inl blank) = (here.1, blank)
       by (inl here) (inr text) = absurd (none (inr (here.1, λ blank. let both : true ≡ false = sym blank ∙ text in cc)))
 
-  blank_inside : (blanks : List (List ℕ)) → AllByRecursion (IsBlankIn outer) blanks → AllByRecursion Inside blanks
+  blank_inside : (blanks : List (List ℕ)) → AllByRecursion (IsBlankIn outer.containers) blanks → AllByRecursion Inside blanks
   blank_inside [] all = tt
   blank_inside (b ∷ blanks) all = (blank_line_inside b all.0, blank_inside blanks all.1)
 
-  last-push : (xs : List (List ℕ)) (line : List ℕ) → ¬ IsBlankIn outer line → LastHasText outer (xs ++ line ∷ [])
+  last-push : (xs : List (List ℕ)) (line : List ℕ) → ¬ IsBlankIn outer.containers line → LastHasText outer.containers (xs ++ line ∷ [])
   last-push [] line text = text
   last-push (x ∷ []) line text = text
   last-push (x ∷ y ∷ xs) line text = last-push (y ∷ xs) line text
 
-  no_more-blank : (blanks rest : List (List ℕ)) → AllByRecursion (IsBlankIn outer) blanks → NoMoreIndented outer rest → NoMoreIndented outer (blanks ++ rest)
+  no_more-blank : (blanks rest : List (List ℕ)) → AllByRecursion (IsBlankIn outer.containers) blanks → NoMoreIndented outer.containers rest
+      → NoMoreIndented outer.containers (blanks ++ rest)
   no_more-blank [] rest all none = none
   no_more-blank (b ∷ blanks) rest all none = inl (all.0, no_more-blank blanks rest all.1 none)
 
@@ -71,8 +73,8 @@ module _ (outer : List Container) where
     pub is_taken : IsTaken text taken (lines ++ more)
     pub is_seen : IsTaken text seen ((lines ++ more) ++ blanks)
     pub inside : AllByRecursion Inside more
-    pub last : LastHasText outer more
-    pub all_blank : AllByRecursion (IsBlankIn outer) blanks
+    pub last : LastHasText outer.containers more
+    pub all_blank : AllByRecursion (IsBlankIn outer.containers) blanks
     pub behind : lines_of (drop taken.bytes text) ≡ blanks ++ lines_of (drop seen.bytes text)
 
   module _ (text : List ℕ) (lines : List (List ℕ)) where
@@ -89,7 +91,7 @@ module _ (outer : List Container) where
           behind = refl;
         }
 
-    pub seen-blank : (taken seen more : Taken) (l : List ℕ) → Seen text lines taken seen → IsNext text seen l more → IsBlankIn outer l
+    pub seen-blank : (taken seen more : Taken) (l : List ℕ) → Seen text lines taken seen → IsNext text seen l more → IsBlankIn outer.containers l
         → Seen text lines taken more
     seen-blank taken seen more l s n blank = record {
       more = s.more;
@@ -98,11 +100,12 @@ module _ (outer : List Container) where
       is_seen = rw (← append_assoc) (taken-next text seen more ((lines ++ s.more) ++ s.blanks) l s.is_seen n);
       inside = s.inside;
       last = s.last;
-      all_blank = all-push (IsBlankIn outer) s.blanks l s.all_blank blank;
+      all_blank = all-push (IsBlankIn outer.containers) s.blanks l s.all_blank blank;
       behind = s.behind ∙ ap (λ r. s.blanks ++ r) n.parts ∙ sym (append_assoc s.blanks (l ∷ []) (lines_of (drop more.bytes text)));
     }
 
-    pub seen-code : (taken seen more : Taken) (l : List ℕ) → Seen text lines taken seen → IsNext text seen l more → IsEnd outer Text l → In outer HasIndent l
+    pub seen-code : (taken seen more : Taken) (l : List ℕ) → Seen text lines taken seen → IsNext text seen l more → IsEnd outer Text l
+        → In outer.containers HasIndent l
         → Seen text lines more more
     seen-code taken seen more l s n has_text indent =
         let all : IsTaken text more (lines ++ (s.more ++ (s.blanks ++ l ∷ []))) =
@@ -120,8 +123,8 @@ module _ (outer : List Container) where
         }
 
     -- the code ends where its taken lines do
-    pub seen-ends : (taken seen : Taken) → Seen text lines taken seen → NoMoreIndented outer (lines_of (drop seen.bytes text))
-        → (more : List (List ℕ)) × IsTaken text taken (lines ++ more) × GoesOnIndented outer more (lines_of (drop taken.bytes text))
+    pub seen-ends : (taken seen : Taken) → Seen text lines taken seen → NoMoreIndented outer.containers (lines_of (drop seen.bytes text))
+        → (more : List (List ℕ)) × IsTaken text taken (lines ++ more) × GoesOnIndented outer.containers more (lines_of (drop taken.bytes text))
     seen-ends taken seen s none = (
       s.more,
       s.is_taken,

@@ -4,7 +4,7 @@ use Rattle.std.specs.Prelude.{MatchBool}
 use Rattle.std.specs.List.{AllByRecursion}
 use Rattle.markdown_scanners_tree.specs.declared.scanners.html_kinds.HtmlBlockKind.{HtmlBlockKind}
 use Rattle.markdown_scanners_tree.specs.scanners.html_kinds.HtmlKinds.{ends_before_blank}
-use Rattle.markdown_blocks.specs.containers.Containers.{Rest, IsInside}
+use Rattle.markdown_blocks.specs.containers.Containers.{Outer, Rest, IsInside}
 use Rattle.markdown_blocks.specs.declared.blocks.BlockKind.{BlockKind}
 use Rattle.markdown_blocks.specs.declared.blocks.BlockKind.TheVariants.{Blank, Break, Heading, Setext, Indented, Fenced, Html, Table, Definition, Paragraph}
 use Rattle.markdown_blocks.specs.declared.containers.Container.{Container}
@@ -149,7 +149,7 @@ base_other (Table columns) h = cc
 base_other Definition h = refl
 base_other Paragraph h = cc
 
-module _ (outer : List Container) (first : Rest) where
+module _ (outer : Outer) (first : Rest) where
   pub begins : (kind : BlockKind) (lines rest : List (List ℕ)) → IsLeaf outer kind first lines rest → Begins (base kind) first
   unfolding base
   begins Blank lines rest leaf = leaf.0
@@ -171,9 +171,9 @@ module _ (outer : List Container) (first : Rest) where
     one_other Break h leaf leaf' = leaf.1 ∙ sym leaf'.1
     one_other (Heading level) h leaf leaf' = leaf.1 ∙ sym leaf'.1
     one_other (Setext level) h leaf leaf' = cc
-    one_other Indented h leaf leaf' = one_indented outer a b rest rest' same leaf.1 leaf'.1
-    one_other (Fenced n byte) h leaf leaf' = one_behind outer _ a b rest rest' same leaf.1 leaf'.1
-    one_other (Html html) h leaf leaf' = one_html outer html first a b rest rest' same leaf.1 leaf'.1
+    one_other Indented h leaf leaf' = one_indented outer.containers a b rest rest' same leaf.1 leaf'.1
+    one_other (Fenced n byte) h leaf leaf' = one_behind outer.containers _ a b rest rest' same leaf.1 leaf'.1
+    one_other (Html html) h leaf leaf' = one_html outer.containers html first a b rest rest' same leaf.1 leaf'.1
     one_other (Table columns) h leaf leaf' = cc
     one_other Definition h leaf leaf' = leaf.1 ∙ sym leaf'.1
     one_other Paragraph h leaf leaf' = cc

@@ -6,11 +6,10 @@ use Rattle.std.proofs.lemmas.List.{append_cancel_left}
 use Rattle.markdown_scanners_tree.specs.declared.scanners.html_kinds.HtmlBlockKind.{HtmlBlockKind}
 use Rattle.markdown_scanners_tree.specs.scanners.TextLines.{lines_of}
 use Rattle.markdown_scanners_tree.specs.scanners.html_kinds.HtmlKinds.{ends_before_blank}
-use Rattle.markdown_blocks.specs.containers.Containers.{Rest, IsInside}
+use Rattle.markdown_blocks.specs.containers.Containers.{Outer, Rest, IsInside}
 use Rattle.markdown_blocks.specs.declared.blocks.BlockKind.{BlockKind}
 use Rattle.markdown_blocks.specs.declared.blocks.BlockKind.TheVariants.{Blank, Break, Heading, Setext, Indented, Fenced, Html, Table, Definition, Paragraph}
 use Rattle.markdown_blocks.specs.declared.blocks.Ending.TheVariants.{Text}
-use Rattle.markdown_blocks.specs.declared.containers.Container.{Container}
 use Rattle.markdown_blocks.specs.declared.taken.Taken.{Taken}
 use Rattle.markdown_blocks.specs.taken.Lines.{IsTaken, IsNext}
 use Rattle.markdown_blocks.specs.blocks.Endings.{IsEnd}
@@ -18,7 +17,7 @@ use Rattle.markdown_blocks.specs.blocks.Leaves.{IsBlankIn, OnFirst, StopsBefore,
 use Rattle.markdown_blocks.specs.blocks.Over.{ShowEnd, IsOver}
 use Rattle.markdown_blocks.proofs.blocks.IndentedLemmas.{blank_told}
 
-module _ (outer : List Container) (more : List (List ℕ)) where
+module _ (outer : Outer) (more : List (List ℕ)) where
   first-over : (P : List ℕ → Type 0) (rest : List (List ℕ)) → rest ≢ [] → OnFirst P rest → OnFirst P (rest ++ more)
   first-over P [] some h = absurd (some refl)
   first-over P (line ∷ rest) some h = h
@@ -26,11 +25,13 @@ module _ (outer : List Container) (more : List (List ℕ)) where
   before-over : (P : List ℕ → Type 0) (lines rest : List (List ℕ)) → rest ≢ [] → StopsBefore P lines rest → StopsBefore P lines (rest ++ more)
   before-over P lines rest some s = record { none = s.none; stopped = first-over P rest some s.stopped }
 
-  behind-over : (P : List ℕ → Type 0) (lines rest : List (List ℕ)) → rest ≢ [] → StopsBehind outer P lines rest → StopsBehind outer P lines (rest ++ more)
+  behind-over : (P : List ℕ → Type 0) (lines rest : List (List ℕ)) → rest ≢ [] → StopsBehind outer.containers P lines rest
+      → StopsBehind outer.containers P lines (rest ++ more)
   behind-over P lines rest some (inl h) = inl (h.0, h.1, h.2, record { none = h.3.none; stopped = h.3.stopped }, h.4)
-  behind-over P lines rest some (inr h) = inr (before-over P lines rest some h.0, first-over (λ line. ¬ IsInside outer line) rest some h.1)
+  behind-over P lines rest some (inr h) = inr (before-over P lines rest some h.0, first-over (λ line. ¬ IsInside outer.containers line) rest some h.1)
 
-  indented-over : (rest : List (List ℕ)) → ¬ AllByRecursion (IsBlankIn outer) rest → NoMoreIndented outer rest → NoMoreIndented outer (rest ++ more)
+  indented-over : (rest : List (List ℕ)) → ¬ AllByRecursion (IsBlankIn outer.containers) rest → NoMoreIndented outer.containers rest
+      → NoMoreIndented outer.containers (rest ++ more)
   indented-over [] some none = absurd (some tt)
   indented-over (line ∷ rest) some (inl h) = inl (h.0, indented-over rest (λ all. some (h.0, all)) h.1)
   indented-over (line ∷ rest) some (inr ends) = inr ends
@@ -39,19 +40,19 @@ module _ (outer : List Container) (more : List (List ℕ)) where
   in_either true f g h = f h
   in_either false f g h = g h
 
-  html-over : (kind : HtmlBlockKind) (first : Rest) (later rest : List (List ℕ)) → rest ≢ [] → EndsAsHtml outer kind first later rest
-      → EndsAsHtml outer kind first later (rest ++ more)
+  html-over : (kind : HtmlBlockKind) (first : Rest) (later rest : List (List ℕ)) → rest ≢ [] → EndsAsHtml outer.containers kind first later rest
+      → EndsAsHtml outer.containers kind first later (rest ++ more)
   html-over kind first later rest some ends =
-      in_either (ends_before_blank kind) (before-over (OutOr outer (EndsHtml kind)) later rest some) by ends
+      in_either (ends_before_blank kind) (before-over (OutOr outer.containers (EndsHtml kind)) later rest some) by ends
     where
-      by : (EndsHtml kind first × (later ≡ [])) ⊎ ((¬ EndsHtml kind first) × StopsBehind outer (OutOr outer (EndsHtml kind)) later rest)
+      by : (EndsHtml kind first × (later ≡ [])) ⊎ ((¬ EndsHtml kind first) × StopsBehind outer.containers (OutOr outer.containers (EndsHtml kind)) later rest)
           → (EndsHtml kind first × (later ≡ [])) ⊎ ((¬ EndsHtml kind first)
-          × StopsBehind outer (OutOr outer (EndsHtml kind)) later (rest ++ more))
+          × StopsBehind outer.containers (OutOr outer.containers (EndsHtml kind)) later (rest ++ more))
       by (inl h) = inl h
-      by (inr h) = inr (h.0, behind-over (OutOr outer (EndsHtml kind)) later rest some h.1)
+      by (inr h) = inr (h.0, behind-over (OutOr outer.containers (EndsHtml kind)) later rest some h.1)
 
   -- the block ends there
-  pub leaf-over : (kind : BlockKind) (first : Rest) (later rest : List (List ℕ)) → ShowEnd outer kind rest → IsLeaf outer kind first later rest
+  pub leaf-over : (kind : BlockKind) (first : Rest) (later rest : List (List ℕ)) → ShowEnd outer.containers kind rest → IsLeaf outer kind first later rest
       → IsLeaf outer kind first later (rest ++ more)
   leaf-over Blank first later rest some leaf = (leaf.0, before-over _ later rest some leaf.1)
   leaf-over Indented first later rest some leaf =
@@ -69,24 +70,25 @@ module _ (outer : List Container) (more : List (List ℕ)) where
   leaf-over Definition first later rest some leaf = leaf
 
   -- it does so where its end is seen, or where no line follows
-  pub leaf-more : (kind : BlockKind) (first : Rest) (later rest : List (List ℕ)) (has_ended : Bool) → IsOver outer kind has_ended rest
+  pub leaf-more : (kind : BlockKind) (first : Rest) (later rest : List (List ℕ)) (has_ended : Bool) → IsOver outer.containers kind has_ended rest
       → (IsTrue has_ended → more ≡ []) → IsLeaf outer kind first later rest → IsLeaf outer kind first later (rest ++ more)
   leaf-more kind first later rest has_ended (inl ended) none leaf = rw (none ended, append-nil) leaf
   leaf-more kind first later rest has_ended (inr shown) none leaf = leaf-over kind first later rest shown leaf
 
 -- what shows the end
-module _ (outer : List Container) (has_ended : Bool) (open_yet : has_ended ≡ false) where
+module _ (outer : Outer) (has_ended : Bool) (open_yet : has_ended ≡ false) where
   -- a test of lines
-  pub over_told : (kind : BlockKind) (rest : List (List ℕ)) (seen : Bool) → (IsTrue seen → ShowEnd outer kind rest) × (ShowEnd outer kind rest → IsTrue seen)
-      → (IsTrue seen → IsOver outer kind has_ended rest) × (IsOver outer kind has_ended rest → IsTrue seen)
+  pub over_told : (kind : BlockKind) (rest : List (List ℕ)) (seen : Bool) → (IsTrue seen → ShowEnd outer.containers kind rest)
+      × (ShowEnd outer.containers kind rest → IsTrue seen)
+      → (IsTrue seen → IsOver outer.containers kind has_ended rest) × (IsOver outer.containers kind has_ended rest → IsTrue seen)
   over_told kind rest seen tells = (λ t. inr (tells.0 t), by)
     where
-      by : IsOver outer kind has_ended rest → IsTrue seen
+      by : IsOver outer.containers kind has_ended rest → IsTrue seen
       by (inl ended) = let both : true ≡ false = sym ended ∙ open_yet in cc
       by (inr shown) = tells.1 shown
 
   pub any_told : (kind : BlockKind) (rest : List (List ℕ)) (seen : Bool) → kind ≢ Indented → (IsTrue seen → rest ≢ []) × (rest ≢ [] → IsTrue seen)
-      → (IsTrue seen → ShowEnd outer kind rest) × (ShowEnd outer kind rest → IsTrue seen)
+      → (IsTrue seen → ShowEnd outer.containers kind rest) × (ShowEnd outer.containers kind rest → IsTrue seen)
   any_told Indented rest seen other tells = absurd (other refl)
   any_told Blank rest seen other tells = tells
   any_told Break rest seen other tells = tells
@@ -98,17 +100,17 @@ module _ (outer : List Container) (has_ended : Bool) (open_yet : has_ended ≡ f
   any_told Definition rest seen other tells = tells
   any_told Paragraph rest seen other tells = tells
 
-module _ (outer : List Container) where
-  text_told : (line : List ℕ) → IsEnd outer Text line → ¬ IsBlankIn outer line
+module _ (outer : Outer) where
+  text_told : (line : List ℕ) → IsEnd outer Text line → ¬ IsBlankIn outer.containers line
   text_told line (inl out) blank = out blank.0
   text_told line (inr text) blank = text.1 blank.1
 
-  all-blank : (lines : List (List ℕ)) → AllByRecursion (λ line. ¬ IsEnd outer Text line) lines → AllByRecursion (IsBlankIn outer) lines
+  all-blank : (lines : List (List ℕ)) → AllByRecursion (λ line. ¬ IsEnd outer Text line) lines → AllByRecursion (IsBlankIn outer.containers) lines
   all-blank [] none = tt
   all-blank (line ∷ lines) none = (blank_told outer line none.0, all-blank lines none.1)
 
-  not-blank : (lines : List (List ℕ)) (line : List ℕ) (rest : List (List ℕ)) → ¬ IsBlankIn outer line
-      → ¬ AllByRecursion (IsBlankIn outer) (lines ++ line ∷ rest)
+  not-blank : (lines : List (List ℕ)) (line : List ℕ) (rest : List (List ℕ)) → ¬ IsBlankIn outer.containers line
+      → ¬ AllByRecursion (IsBlankIn outer.containers) (lines ++ line ∷ rest)
   not-blank [] line rest text all = text all.0
   not-blank (blank ∷ lines) line rest text all = not-blank lines line rest text all.1
 
@@ -120,18 +122,18 @@ module _ (outer : List Container) where
         (sym h.parts ∙ s.parts ∙ append_assoc lines blanks (lines_of (drop seen.bytes text)))
 
     text_shows : (line : List ℕ) (rest : List (List ℕ)) → lines_of (drop seen.bytes text) ≡ line ∷ rest
-        → ShowEnd outer Indented (lines_of (drop taken.bytes text))
+        → ShowEnd outer.containers Indented (lines_of (drop taken.bytes text))
     text_shows line rest is =
         let here : IsEnd outer Text line = rw is at stops.stopped in
         rw (behind, is) (not-blank blanks line rest (text_told line here))
 
-    blank_shows : lines_of (drop seen.bytes text) ≡ [] → ¬ ShowEnd outer Indented (lines_of (drop taken.bytes text))
+    blank_shows : lines_of (drop seen.bytes text) ≡ [] → ¬ ShowEnd outer.containers Indented (lines_of (drop taken.bytes text))
     blank_shows none shown = shown (rw (behind, none, append-nil) (all-blank blanks stops.none))
 
     -- a test whether they go on
     pub seen_told : (found : Option (Bor (List ℕ) × Taken)) (seen_some : Bool) → seen_some ≡ is_some found
         → IfSome found (λ r. IsNext text seen r.0.now r.1) → IfNone found (lines_of (drop seen.bytes text) ≡ [])
-        → (IsTrue seen_some → ShowEnd outer Indented (lines_of (drop taken.bytes text)))
-        × (ShowEnd outer Indented (lines_of (drop taken.bytes text)) → IsTrue seen_some)
+        → (IsTrue seen_some → ShowEnd outer.containers Indented (lines_of (drop taken.bytes text)))
+        × (ShowEnd outer.containers Indented (lines_of (drop taken.bytes text)) → IsTrue seen_some)
     seen_told (Some r) seen_some is next none = (λ t. text_shows r.0.now _ next.parts, λ shown. is)
     seen_told None seen_some is next none = (λ t. let both : false ≡ true = sym is ∙ t in cc, λ shown. absurd (blank_shows none shown))

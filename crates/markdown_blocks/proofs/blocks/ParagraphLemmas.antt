@@ -9,11 +9,10 @@ use Rattle.markdown_scanners_tree.specs.Ascii.{equals_sign, hyphen}
 use Rattle.markdown_scanners_tree.specs.Bytes.{is_blank, is_line_ending, is_white_space_in_line}
 use Rattle.markdown_scanners_tree.specs.scanners.Headings.{underline_byte}
 use Rattle.markdown_blocks.specs.declared.blocks.Underline.{Underline}
-use Rattle.markdown_blocks.specs.declared.containers.Container.{Container}
 use Rattle.markdown_blocks.specs.declared.taken.Taken.{Taken}
 use Rattle.markdown_blocks.specs.definitions.Content.{content_of}
 use Rattle.markdown_blocks.specs.definitions.Definitions.{HasText}
-use Rattle.markdown_blocks.specs.containers.Containers.{rest_in}
+use Rattle.markdown_blocks.specs.containers.Containers.{Outer, rest_in}
 use Rattle.markdown_blocks.specs.taken.Lines.{IsTaken, IsNext}
 use Rattle.markdown_blocks.specs.blocks.Endings.{IsUnderlineIn}
 use Rattle.markdown_blocks.specs.blocks.Leaves.{In, IsUnderline, LeavesParagraph, LeavesBehind, NoneBehind}
@@ -53,7 +52,7 @@ not_blank bytes level byte (b ∷ run) rest of parts all some blank =
     let text : is_blank (b ∷ (run ++ rest)) ≡ false = marked b (run ++ rest) either in
     let both : true ≡ false = sym blank ∙ ap is_blank parts ∙ text in cc
 
-module _ (outer : List Container) (words : List ℕ) where
+module _ (outer : Outer) (words : List ℕ) where
   -- a line that goes on with no paragraph of these lines goes on with none
   pub leaves_any : (before : List (List ℕ)) (line : List ℕ) → LeavesBehind outer words before line → LeavesParagraph outer line
   leaves_any before line (inl out) = inl out
@@ -63,10 +62,11 @@ module _ (outer : List Container) (words : List ℕ) where
 
   -- an underline behind definitions alone, if it interrupts no paragraph
   pub text_goes_on : (before : List (List ℕ)) (underline : Underline) (line : List ℕ) → IsUnderlineIn outer underline line → underline.interrupts ≡ false
-      → (¬ HasText (content_of outer words before)) → ¬ LeavesBehind outer words before line
+      → (¬ HasText (content_of outer.containers words before)) → ¬ LeavesBehind outer words before line
   text_goes_on before underline line is goes none (inl out) = out.0 is.underlines.0
   text_goes_on before underline line is goes none (inr (inside, inl blank)) =
-      let under = is.underlines.1.2 in not_blank (rest_in outer line).text underline.level under.byte under.run under.rest under.of_level under.is_run.parts
+      let under = is.underlines.1.2 in not_blank (rest_in outer.containers line).text underline.level under.byte under.run under.rest under.of_level
+          under.is_run.parts
       under.is_run.all under.at_least_one blank
   text_goes_on before underline line is goes none (inr (inside, inr (inl under))) = none under.1
   text_goes_on before underline line is goes none (inr (inside, inr (inr interrupts))) =
@@ -77,7 +77,8 @@ module _ (outer : List Container) (words : List ℕ) where
   goes_on before line none leaves = none (leaves_any before line leaves)
 
   -- a line that goes on with no paragraph, and is no underline
-  pub leaves_so : (before : List (List ℕ)) (line : List ℕ) → LeavesParagraph outer line → ((level : HeadingLevel) → ¬ In outer (IsUnderline level) line)
+  pub leaves_so : (before : List (List ℕ)) (line : List ℕ) → LeavesParagraph outer line
+      → ((level : HeadingLevel) → ¬ In outer.containers (IsUnderline level) line)
       → LeavesBehind outer words before line
   leaves_so before line (inl out) none = inl out
   leaves_so before line (inr (inside, inl blank)) none = inr (inside, inl blank)

@@ -1,16 +1,18 @@
 -- A line goes on with containers, one after the other, and begins others.
 use Rattle.std.proofs.Common.{suc, zero, ◌≤◌, List, [], ◌∷◌, ℕ, ◌-◌, take, drop, IsTrue, ◌↔◌, Bool}
-use Rattle.std.specs.Prelude.{IfSome, IfNone}
+use Rattle.std.specs.Prelude.{IfSome, IfNone, if◌then◌else◌}
 use Rattle.std.proofs.Common.{true, false, ◌==◌, ◌≡◌, ◌<◌, length, Option, Some, None, is_some, refl, sym, ap, subst, ◌∙◌, arith}
 use Rattle.std.specs.List.{list_all}
 use Rattle.markdown_scanners_tree.specs.Ascii.{greater_than_sign}
 use Rattle.markdown_scanners_tree.specs.Bytes.{begins_with, is_blank}
 use Rattle.markdown_scanners_tree.specs.line.Outcome.{Outcome, after_quote, item_outcome}
 use Rattle.markdown_scanners_tree.specs.line.State.{LineState, unscanned, space_within, after_space}
-use Rattle.markdown_blocks.specs.declared.containers.Container.TheVariants.{Quote, Item}
+use Rattle.markdown_blocks.specs.declared.containers.Container.TheVariants.{Quote, Item, Footnote}
+use Rattle.markdown_blocks.specs.declared.containers.BlockExtensions.{BlockExtensions}
 use Rattle.markdown_blocks.specs.declared.containers.Container.{Container}
 use Rattle.markdown_blocks.proofs.taken.TakenLemmas.{slice_behind}
-use Rattle.markdown_blocks.specs.containers.Containers.{goes_on_blank, go_on, Behind, behind_quote, begun_at, begun_behind, item_of, within_quote}
+use Rattle.markdown_blocks.specs.containers.Containers.{goes_on_blank, go_on, Behind, behind_quote, all_extensions, begun_at, begun_behind, either_begun, footnote_by, footnote_of, item_of, within_quote}
+use Rattle.markdown_blocks.specs.containers.Footnotes.{footnote_label}
 
 -- less than four columns
 pub near : (indent : ℕ) → indent < 4 → (indent == 4) ≡ false
@@ -29,29 +31,43 @@ quote_passed s t after indent blank columns is few marked passed empty =
     subst (λ n. within_quote (behind_quote n (after_space 4 s)) ≡ Some (blank, after)) columns
     (subst (λ z. within_quote (behind_quote indent z) ≡ Some (blank, after)) is here)
 
-item_told : (found : Outcome (ℕ × ℕ × ℕ)) (after : LineState) (delimiter start width : ℕ) (begun : Bool) → Some (delimiter, start, width) ≡ found.answer
+pub item_told : (found : Outcome (ℕ × ℕ × ℕ)) (after : LineState) (delimiter start width : ℕ) (begun : Bool) → Some (delimiter, start, width) ≡ found.answer
     → after ≡ found.state → begun ≡ is_blank (unscanned after)
     → item_of found ≡ Some (Item (record { delimiter = delimiter; start = start; width = width; begun = begun }), after)
 item_told found after delimiter start width begun answers is blank = rw (← answers, ← is, blank) refl
 
-pub item_here : (indent : ℕ) (s t after : LineState) (delimiter start width : ℕ) (begun : Bool) → (indent == 4) ≡ false → begins_with
-    (λ b. b == greater_than_sign) (unscanned s) ≡ false
-    → t ≡ s → Some (delimiter, start, width) ≡ (item_outcome indent t).answer → after ≡ (item_outcome indent t).state → begun ≡ is_blank (unscanned after)
-    → begun_behind indent s ≡ Some (Item (record { delimiter = delimiter; start = start; width = width; begun = begun }), after)
-item_here indent s t after delimiter start width begun far other same found is blank =
-    rw (far, other) (item_told (item_outcome indent s) after delimiter start width begun
-    (subst (λ z. Some (delimiter, start, width) ≡ (item_outcome indent z).answer) same found) (subst (λ z. after ≡
-    (item_outcome indent z).state) same is) blank)
+-- no block quote begins there
+pub begun_other : (asked : BlockExtensions) (indent : ℕ) (s t : LineState) → (indent == 4) ≡ false
+    → begins_with (λ b. b == greater_than_sign) (unscanned s) ≡ false → t ≡ s
+    → begun_behind asked indent s ≡ either_begun (item_of (item_outcome indent t)) (footnote_of asked t)
+begun_other asked indent s t far other same =
+    rw (far, other) (ap (λ z. either_begun (item_of (item_outcome indent z)) (footnote_of asked z)) (sym same))
+
+-- what begins with some extensions on begins with all of them
+begun_more : (far here on : Bool) (quote item footnote : Option (Container × LineState)) (r : Container × LineState)
+    → (if far then None else if here then quote else either_begun item (if on then footnote else None)) ≡ Some r
+    → (if far then None else if here then quote else either_begun item footnote) ≡ Some r
+begun_more true here on quote item footnote r is = is
+begun_more false true on quote item footnote r is = is
+begun_more false false on quote (Some begun) footnote r is = is
+begun_more false false true quote None footnote r is = is
+begun_more false false false quote None footnote r is = cc
+
+pub begun_by_all : (asked : BlockExtensions) (s : LineState) (r : Container × LineState) → begun_at asked s ≡ Some r → begun_at all_extensions s ≡ Some r
+begun_by_all asked s r is =
+    let t = after_space 4 s in
+    begun_more (space_within 4 s == 4) (begins_with (λ b. b == greater_than_sign) (unscanned t)) asked.footnotes (Some (Quote, after_quote t))
+    (item_of (item_outcome (space_within 4 s) t)) (footnote_by t (footnote_label (unscanned t))) r is
 
 -- the container that a line begins, where its rest is passed
-pub begun_told : (s t after : LineState) (indent : ℕ) (r : Option Container) → indent ≡ space_within 4 s → t ≡ after_space 4 s
-    → IfSome r (λ container. begun_behind indent t ≡ Some (container, after)) → IfNone r (begun_behind indent t ≡ None)
-    → is_some r ≡ is_some (begun_at s)
-begun_told s t after indent r columns is found none = subst (λ n. is_some r ≡ is_some (begun_behind n (after_space 4 s))) columns
-    (subst (λ z. is_some r ≡ is_some (begun_behind indent z)) is (by r found none))
+pub begun_told : (asked : BlockExtensions) (s t after : LineState) (indent : ℕ) (r : Option Container) → indent ≡ space_within 4 s → t ≡ after_space 4 s
+    → IfSome r (λ container. begun_behind asked indent t ≡ Some (container, after)) → IfNone r (begun_behind asked indent t ≡ None)
+    → is_some r ≡ is_some (begun_at asked s)
+begun_told asked s t after indent r columns is found none = subst (λ n. is_some r ≡ is_some (begun_behind asked n (after_space 4 s))) columns
+    (subst (λ z. is_some r ≡ is_some (begun_behind asked indent z)) is (by r found none))
   where
-    by : (r : Option Container) → IfSome r (λ container. begun_behind indent t ≡ Some (container, after)) → IfNone r (begun_behind indent t ≡ None)
-        → is_some r ≡ is_some (begun_behind indent t)
+    by : (r : Option Container) → IfSome r (λ container. begun_behind asked indent t ≡ Some (container, after)) → IfNone r (begun_behind asked indent t ≡ None)
+        → is_some r ≡ is_some (begun_behind asked indent t)
     by None found none = sym (ap is_some none)
     by (Some container) found none = sym (ap is_some found)
 
@@ -72,6 +88,7 @@ blank_at line s p blank same place is = is ∙ ap is_blank (slice_behind line p)
 pub plain_on : (cs : List Container) (s : LineState) → list_all goes_on_blank cs ≡ true → go_on true cs s ≡ record { kept = length cs; state = s }
 plain_on [] s all = refl
 plain_on (Quote ∷ cs) s all = cc
+plain_on (Footnote ∷ cs) s all = ap (λ (b : Behind). record { kept = suc b.kept; state = b.state }) (plain_on cs s all)
 plain_on (Item item ∷ cs) s all = by item.begun refl (plain_on cs s)
   where
     by : (begun : Bool) → item.begun ≡ begun → (list_all goes_on_blank cs ≡ true → go_on true cs s ≡ record { kept = length cs; state = s })

@@ -11,12 +11,13 @@ use Rattle.markdown_blocks.proofs.block_events.GivenLemmas.{none_given}
 use Rattle.markdown_blocks.proofs.events.OneEvents.{one_list_of_blocks}
 use Rattle.markdown_blocks.proofs.definitions.DefinitionLemmas.{no_text}
 use Rattle.markdown_blocks.proofs.taken.TakenLemmas.{lines_bytes}
-use Rattle.markdown_blocks.specs.containers.Containers.{Rest, behind, settled_last}
+use Rattle.markdown_blocks.specs.containers.Containers.{Outer, Rest, behind, settled_last}
 use Rattle.markdown_blocks.specs.declared.blocks.BlockKind.{BlockKind}
+use Rattle.markdown_blocks.specs.declared.containers.BlockExtensions.{BlockExtensions}
 use Rattle.markdown_blocks.specs.declared.containers.Container.{Container}
 use Rattle.markdown_blocks.specs.declared.step.Step.{Step}
 use Rattle.markdown_blocks.specs.declared.taken.Taken.{Taken}
-use Rattle.markdown_blocks.specs.blocks.Pages.{Piece, IsPiece, AreBlocks, lines_in}
+use Rattle.markdown_blocks.specs.blocks.Pages.{Piece, IsPiece, AreBlocks, lines_in, root}
 use Rattle.markdown_blocks.specs.events.Events.{Event, leaf, ends, LeafBlock, Part, AreLeaves, AreLeavesOf, part_of, piece_content}
 use Rattle.markdown_blocks.specs.events.Events.{started, piece_events, AreEvents, open_after, IsEventsOf}
 use Rattle.markdown_blocks.specs.events.Given.{BlockLeft, GivesBlock, block_left, block_events_left, Pending, Left, Gives}
@@ -44,9 +45,9 @@ gathered_leaves outer kind part content gathered (block ∷ more) (inr plain) (s
     absurd (no_text found.0 (subst (λ t. IsDefinition t found.0) plain.0 found.1))
 gathered_leaves outer kind part content gathered (block ∷ more) (inr plain) (some, inr own) = (some, inr (plain.1, own.1, own.2))
 
-module _ (text : List ℕ) (containers : List Container) (line start : ℕ) where
+module _ (text : List ℕ) (asked : BlockExtensions) (containers : List Container) (line start : ℕ) where
   abbrev at : ℕ → Option Pending → Left
-  at begun next = record { text = text; containers = containers; begun = begun; line = line; start = start; next = next }
+  at begun next = record { text = text; extensions = asked; containers = containers; begun = begun; line = line; start = start; next = next }
 
   -- an event of the block that is read, and the rest of its events
   pub block_event : (begun then : ℕ) (content : List ℕ) (old new : BlockLeft) (event : Event)
@@ -116,73 +117,77 @@ module _ (text : List ℕ) (containers : List Container) (line start : ℕ) wher
       ap (λ es. ends ∷ es) (all_ended less last events g) ∙ ap (λ n. replicate n ends) (sym more) in
       subst (λ es. Gives (at begun None) es) (sym all) (ended_page begun last)
 
-module _ (old new : List Container) (lines : List ℕ) (more : List (List ℕ)) (step : Step) (s : IsStep old lines more step new) where
-  begun_is : drop step.kept new ≡ s.piece.begun
-  begun_is = ap (drop step.kept) s.open_now ∙ drop_at s.piece.kept s.piece.begun step.kept (sym s.counted)
+module _ (old new : Outer) (lines : List ℕ) (more : List (List ℕ)) (step : Step) (s : IsStep old lines more step new) where
+  begun_is : drop step.kept new.containers ≡ s.piece.begun
+  begun_is = ap (λ (o : Outer). drop step.kept o.containers) s.open_now ∙ drop_at s.piece.kept s.piece.begun step.kept (sym s.counted)
 
-  module _ (before : Taken) (content : List ℕ) (c : IsContentOf step new content) where
+  module _ (before : Taken) (content : List ℕ) (c : IsContentOf step new.containers content) where
     -- the leaf blocks of the step are those of its piece
-    piece_leaves : (leaves : List LeafBlock) → AreLeaves new step.block.kind (block_left step before (length old)).part content leaves
+    piece_leaves : (leaves : List LeafBlock) → AreLeaves new.containers step.block.kind (block_left step before (length old.containers)).part content leaves
         → AreLeavesOf before.lines before.bytes s.piece leaves
     piece_leaves leaves are =
         let whole : IsGathered (piece_content s.piece) content =
         subst (λ (w : Rest). IsGathered (content_in s.piece.kind (s.piece.kept ++ s.piece.begun) w.text s.piece.later) content) (sym s.words)
         (subst (λ k. IsGathered (content_in k (s.piece.kept ++ s.piece.begun) step.text.now s.piece.later) content) (sym s.kind)
-        (subst (λ cs. IsGathered (content_in step.block.kind cs step.text.now s.piece.later) content) s.open_now
+        (subst (λ (o : Outer). IsGathered (content_in step.block.kind o.containers step.text.now s.piece.later) content) s.open_now
         (c s.piece.first s.piece.later s.all))) in
-        let part_is : (block_left step before (length old)).part ≡ part_of before.lines before.bytes s.piece =
+        let part_is : (block_left step before (length old.containers)).part ≡ part_of before.lines before.bytes s.piece =
         ap (λ ls. the_part (rest_of step) ls) s.all ∙ ap (λ w. the_part w (s.piece.first ∷ s.piece.later)) (sym s.words) in
         gathered_leaves (s.piece.kept ++ s.piece.begun) s.piece.kind (part_of before.lines before.bytes s.piece) (piece_content s.piece) content leaves whole
         (subst (λ p. AreLeaves (s.piece.kept ++ s.piece.begun) s.piece.kind p content leaves) part_is
-        (subst (λ k. AreLeaves (s.piece.kept ++ s.piece.begun) k (block_left step before (length old)).part content leaves) (sym s.kind)
-        (subst (λ cs. AreLeaves cs step.block.kind (block_left step before (length old)).part content leaves) s.open_now are)))
+        (subst (λ k. AreLeaves (s.piece.kept ++ s.piece.begun) k (block_left step before (length old.containers)).part content leaves) (sym s.kind)
+        (subst (λ (o : Outer). AreLeaves o.containers step.block.kind (block_left step before (length old.containers)).part content leaves) s.open_now are)))
       where
         the_part : Rest → List (List ℕ) → Part
         the_part words lines = record { line = before.lines; start = before.bytes; words = words; lines = lines }
 
     -- its events are
-    piece_given : (events : List Event) → (g : GivesBlock new content (block_left step before (length old)) events)
-        → events ≡ piece_events old before.bytes s.piece g.leaves
+    piece_given : (events : List Event) → (g : GivesBlock new.containers content (block_left step before (length old.containers)) events)
+        → events ≡ piece_events old.containers before.bytes s.piece g.leaves
     piece_given events g =
         g.given
-        ∙ ap (λ n. replicate (length old - n) ends ++ started before.bytes step.start (drop step.kept new) ++ map leaf g.leaves) s.counted
-        ∙ ap (λ cs. replicate (length old - length s.piece.kept) ends ++ started before.bytes step.start cs ++ map leaf g.leaves) begun_is
-        ∙ ap (λ p. replicate (length old - length s.piece.kept) ends ++ started before.bytes p s.piece.begun ++ map leaf g.leaves) s.place
+        ∙ ap (λ n. replicate (length old.containers - n) ends ++ started before.bytes step.start (drop step.kept new.containers) ++ map leaf g.leaves) s.counted
+        ∙ ap (λ cs. replicate (length old.containers - length s.piece.kept) ends ++ started before.bytes step.start cs ++ map leaf g.leaves) begun_is
+        ∙ ap (λ p. replicate (length old.containers - length s.piece.kept) ends ++ started before.bytes p s.piece.begun ++ map leaf g.leaves) s.place
 
-    pub step_events : (events : List Event) → GivesBlock new content (block_left step before (length old)) events
+    pub step_events : (events : List Event) → GivesBlock new.containers content (block_left step before (length old.containers)) events
         → (leaves : List LeafBlock) × AreLeavesOf before.lines before.bytes s.piece leaves
-        × (events ≡ piece_events old before.bytes s.piece leaves)
+        × (events ≡ piece_events old.containers before.bytes s.piece leaves)
     step_events events g = (g.leaves, piece_leaves g.leaves g.are_leaves, piece_given events g)
 
-module _ (old new : List Container) (lines : List ℕ) (step : Step) (s : IsStep old lines [] step new) where
+module _ (old new : Outer) (lines : List ℕ) (step : Step) (s : IsStep old lines [] step new) where
   -- the first line goes on with containers that were open, and they stay open
-  pub step_kept : (step.kept ≤ length old) × (step.kept ≤ length new)
+  pub step_kept : (step.kept ≤ length old.containers) × (step.kept ≤ length new.containers)
   step_kept =
       let counted = s.counted in
-      let here : length s.piece.kept ≡ length (take (behind old s.piece.first).kept old) =
-      ap length s.is_piece.opened.goes_on ∙ kept_fewer (take (behind old s.piece.first).kept old) in
-      let few = length-take (behind old s.piece.first).kept old in
-      let longer : length new ≡ length s.piece.kept + length s.piece.begun = ap length s.open_now ∙ length-append s.piece.kept s.piece.begun in
+      let here : length s.piece.kept ≡ length (take (behind old.containers s.piece.first).kept old.containers) =
+      ap length s.is_piece.opened.goes_on ∙ kept_fewer (take (behind old.containers s.piece.first).kept old.containers) in
+      let few = length-take (behind old.containers s.piece.first).kept old.containers in
+      let longer : length new.containers ≡ length s.piece.kept + length s.piece.begun = ap (λ (o : Outer). length o.containers) s.open_now
+          ∙ length-append s.piece.kept s.piece.begun in
       (omega (arith, counted, here, few), omega (arith, counted, longer))
 
-  module _ (before : Taken) (content : List ℕ) (c : IsContentOf step new content) where
+  module _ (before : Taken) (content : List ℕ) (c : IsContentOf step new.containers content) where
     -- the block that is read
-    pub block_read : (begun : ℕ) (text : List ℕ) → begun ≡ length old → text ≡ drop step.block.taken.bytes lines → (events : List Event)
+    pub block_read : (begun : ℕ) (text : List ℕ) → begun ≡ length old.containers → text ≡ drop step.block.taken.bytes lines → (events : List Event)
         → Gives (record {
           text = text;
-          containers = new;
+          extensions = new.extensions;
+          containers = new.containers;
           begun = begun;
           line = before.lines + step.block.taken.lines;
           start = before.bytes + step.block.taken.bytes;
           next = Some (record { block = block_left step before begun; content = content });
         }) events
-        → Gives (record { text = lines; containers = old; begun = begun; line = before.lines; start = before.bytes; next = None }) events
+        → Gives (record { text = lines; extensions = old.extensions; containers = old.containers; begun = begun; line = before.lines; start =
+            before.bytes; next = None }) events
     block_read begun text open_before behind_is events given_then =
         let line_now = before.lines + step.block.taken.lines in
         let start_now = before.bytes + step.block.taken.bytes in
         let g = subst (λ n. Gives (record {
           text = text;
-          containers = new;
+          extensions = new.extensions;
+          containers = new.containers;
           begun = begun;
           line = line_now;
           start = start_now;
@@ -198,7 +203,7 @@ module _ (old new : List Container) (lines : List ℕ) (step : Step) (s : IsStep
           joined = ap (λ ls. (s.piece.first ∷ s.piece.later) ++ ls) later ∙ sym s.taken.parts;
           each = (
             subst (λ ls. IsPiece old s.piece (ls ++ [])) (sym later) s.is_piece,
-            subst (λ cs. AreBlocks cs g.pieces []) s.open_now g.each,
+            subst (λ o. AreBlocks o g.pieces []) s.open_now g.each,
           );
           pending = [];
           is_pending = refl;
@@ -208,11 +213,12 @@ module _ (old new : List Container) (lines : List ℕ) (step : Step) (s : IsStep
             g.blocks,
             piece_leaves old new lines [] step s before content c block.leaves block.are_leaves,
             ap (λ es. es ++ g.blocks) (piece_given old new lines [] step s before content c g.pending block),
-            subst (λ n. AreEvents (s.piece.kept ++ s.piece.begun) n (before.bytes + length (concat (s.piece.first ∷ s.piece.later))) g.pieces g.blocks) line_then
+            subst (λ n. AreEvents (s.piece.kept ++ s.piece.begun) n (before.bytes + length (concat (s.piece.first ∷ s.piece.later))) g.pieces g.blocks)
+                line_then
                 (subst (λ n. AreEvents (s.piece.kept ++ s.piece.begun) line_now n g.pieces g.blocks) start_then
-                (subst (λ cs. AreEvents cs line_now start_now g.pieces g.blocks) s.open_now g.are_events)),
+                (subst (λ (o : Outer). AreEvents o.containers line_now start_now g.pieces g.blocks) s.open_now g.are_events)),
           );
-          given = g.given ∙ ap (λ cs. (g.pending ++ g.blocks) ++ replicate (open_after (length cs) g.pieces) ends) s.open_now;
+          given = g.given ∙ ap (λ (o : Outer). (g.pending ++ g.blocks) ++ replicate (open_after (length o.containers) g.pieces) ends) s.open_now;
         }
 
 -- nothing is read
@@ -226,8 +232,9 @@ all_begun begun open_now bytes rest (inl all) some within = all
 all_begun begun open_now bytes rest (inr none) some within = absurd (omega (arith, some, within, ap length none))
 
 -- a page has one list of events
-pub one_list_of_events : (page : List ℕ) (events others : List Event) → IsEventsOf page events → IsEventsOf page others → events ≡ others
-one_list_of_events page events others h h' =
-    let pieces = one_page [] h.0 h'.0 (h.2.joined ∙ sym h'.2.joined) h.2.each h'.2.each in
+pub one_list_of_events : (asked : BlockExtensions) (page : List ℕ) (events others : List Event) → IsEventsOf asked page events
+    → IsEventsOf asked page others → events ≡ others
+one_list_of_events asked page events others h h' =
+    let pieces = one_page (root asked) h.0 h'.0 (h.2.joined ∙ sym h'.2.joined) h.2.each h'.2.each in
     let blocks = one_list_of_blocks [] 0 0 h'.0 h.1 h'.1 (subst (λ ps. AreEvents [] 0 0 ps h.1) pieces h.3) h'.3 in
     h.4 ∙ ap (λ es. es ++ replicate (open_after 0 h.0) ends) blocks ∙ ap (λ ps. h'.1 ++ replicate (open_after 0 ps) ends) pieces ∙ sym h'.4

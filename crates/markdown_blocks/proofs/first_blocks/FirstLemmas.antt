@@ -5,6 +5,7 @@ use Rattle.std.specs.List.{filter_map}
 use Rattle.std.specs.Option.{option_map, option_to_list}
 use Rattle.markdown_blocks.proofs.events.EventLemmas.{one_list_of_events}
 use Rattle.markdown_blocks.proofs.lists.PageLemmas.{events_of_nodes}
+use Rattle.markdown_blocks.specs.declared.containers.BlockExtensions.{BlockExtensions}
 use Rattle.markdown_blocks.specs.declared.containers.Container.{Container}
 use Rattle.markdown_blocks.specs.events.Events.{Event, ends, LeafBlock, IsEventsOf}
 use Rattle.markdown_blocks.specs.events.Given.{Left, Gives}
@@ -83,15 +84,15 @@ page_firsts nodes = ap (firsts_behind None) (sym (append-nil (flatten nodes))) �
 
 -- What a page shows at its first blocks, and what is found of it where these events are left and this container waits for its
 -- first block.
-module _ {A : Type 0} (find : First → Option A) where
+module _ {A : Type 0} (find : First → Option A) (asked : BlockExtensions) where
   abbrev pub IsShown : List ℕ → List A → Type 0
-  IsShown page all = (nodes : Nodes) × IsEventsOf page (flatten nodes) × (all ≡ filter_map find (firsts_of nodes))
+  IsShown page all = (nodes : Nodes) × IsEventsOf asked page (flatten nodes) × (all ≡ filter_map find (firsts_of nodes))
 
   abbrev pub IsFoundSoFar : List ℕ → Left → Option Container → List A → Type 0
-  IsFoundSoFar page left waiting found = (events : List Event) → Gives left events → (all : List Event) × IsEventsOf page all
+  IsFoundSoFar page left waiting found = (events : List Event) → Gives left events → (all : List Event) × IsEventsOf asked page all
       × ((nodes : Nodes) → all ≡ flatten nodes → filter_map find (firsts_of nodes) ≡ found ++ filter_map find (firsts_behind waiting events))
 
-  pub found_at_start : (page : List ℕ) (left : Left) → ((events : List Event) → Gives left events → IsEventsOf page events)
+  pub found_at_start : (page : List ℕ) (left : Left) → ((events : List Event) → Gives left events → IsEventsOf asked page events)
       → IsFoundSoFar page left None []
   found_at_start page left gives events g =
       (events, gives events g, λ nodes same. ap (filter_map find) (sym (page_firsts nodes) ∙ ap (firsts_behind None) (sym same)))
@@ -115,10 +116,10 @@ module _ {A : Type 0} (find : First → Option A) where
       → Gives left [] → IsShown page found
   found_at_end page left waiting found so_far none =
       let before = so_far [] none in
-      let n = events_of_nodes page before.0 before.1 in
-      (n.0, subst (IsEventsOf page) n.1 before.1, sym (before.2 n.0 n.1 ∙ append-nil found))
+      let n = events_of_nodes asked page before.0 before.1 in
+      (n.0, subst (IsEventsOf asked page) n.1 before.1, sym (before.2 n.0 n.1 ∙ append-nil found))
 
   pub one_shown : (page : List ℕ) (all others : List A) → IsShown page all → IsShown page others → all ≡ others
   one_shown page all others h h' =
-      let same = one_list_of_events page (flatten h.0) (flatten h'.0) h.1 h'.1 in
+      let same = one_list_of_events asked page (flatten h.0) (flatten h'.0) h.1 h'.1 in
       h.2 ∙ ap (filter_map find) (sym (page_firsts h.0) ∙ ap (firsts_behind None) same ∙ page_firsts h'.0) ∙ sym h'.2

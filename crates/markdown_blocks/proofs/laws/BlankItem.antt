@@ -12,14 +12,15 @@ use Rattle.markdown_scanners_tree.proofs.PrefixLemmas.{both_true, list_all-impli
 use Rattle.markdown_scanners_tree.proofs.line.ItemSpaces.{end-blank, or_true}
 use Rattle.markdown_blocks.specs.containers.Containers.{Rest, behind, Opens, rest_at, rest_in, settled_last}
 use Rattle.markdown_blocks.specs.declared.blocks.BlockKind.TheVariants.{Blank}
+use Rattle.markdown_blocks.specs.declared.containers.BlockExtensions.{BlockExtensions}
 use Rattle.markdown_blocks.specs.declared.containers.Container.{Container}
 use Rattle.markdown_blocks.specs.blocks.Leaves.{IsBlank, OutOr, OnFirst, IsLeaf}
-use Rattle.markdown_blocks.specs.blocks.Pages.{Piece, lines_in, AreOpened, AreBlocks}
+use Rattle.markdown_blocks.specs.blocks.Pages.{Piece, lines_in, root, AreOpened, AreBlocks}
 use Rattle.markdown_blocks.specs.laws.Held.{has_no_tab, IsHeldIn}
 use Rattle.markdown_blocks.specs.laws.Items.{Lead, IsLead, width_of, item_by, begun_by, IsItemLine, IsMarkerAlone, IsIndentedLine, IsLessIndented}
 use Rattle.markdown_blocks.specs.laws.Items.{AreInBlankItem}
 use Rattle.markdown_blocks.proofs.laws.AlikeLemmas.{same_rest}
-use Rattle.markdown_blocks.proofs.laws.HeldLaw.{Begins, first_opened, next_blocks}
+use Rattle.markdown_blocks.proofs.laws.HeldLaw.{Begins, first_opened, next_blocks, opened}
 use Rattle.markdown_blocks.proofs.laws.ItemPlaces.{item_begins, item_goes_on, item_stays_out, begun_same, still_text}
 use Rattle.markdown_blocks.proofs.laws.MarkerPlaces.{behind_marker, at_tail, begun_there}
 use Rattle.markdown_blocks.proofs.laws.Places.{IsAt, at_space, alike_at, not_true}
@@ -80,19 +81,20 @@ module _ (lead : Lead) (is : IsLead lead) (one : lead.gap ≡ 1) (line changed :
   none_further : further_spaces after ≡ 0
   none_further = let here : is_blank (unscanned after) ≡ true = ap is_blank at_after.text ∙ empty.blank in rw here refl
 
-  pub blank_begins : Begins (begun_by lead) line changed
-  blank_begins =
+  pub blank_begins : (asked : BlockExtensions) → Begins asked (begun_by lead) line changed
+  blank_begins asked =
       let width : lead.indent + length lead.marker + 1 + 0 ≡ width_of lead = omega (arith, one) in
       let blank : is_blank (unscanned next) ≡ true = ap is_blank at_next.text ∙ empty.blank in (
         next,
-        begun_there lead is changed line i.parts next 0 (width_of lead) true (not_true (is_thematic_break (lead.marker ++ line)) i.no_break)
+        begun_there lead is changed line i.parts asked next 0 (width_of lead) true (not_true (is_thematic_break (lead.marker ++ line)) i.no_break)
             end_follows none_further refl width blank,
         alike_at line next (passed + 0 + 0) at_next (inl empty.no_tab),
       )
 
-module _ (lead : Lead) where
+module _ (asked : BlockExtensions) (lead : Lead) where
   abbrev IsNext : Piece → Piece → Type 0
-  IsNext p q = IsHeldIn (IsIndentedLine (width_of lead)) (IsIndentedLine (width_of lead)) (IsLessIndented (width_of lead)) (item_by lead ∷ p.kept) p.begun p q
+  IsNext p q = IsHeldIn (IsIndentedLine (width_of lead)) (IsIndentedLine (width_of lead)) (IsLessIndented asked (width_of lead))
+      (item_by lead ∷ p.kept) p.begun p q
 
   abbrev Text : List ℕ → Type 0
   Text line = IsTrue (not (is_blank line))
@@ -104,19 +106,19 @@ module _ (lead : Lead) where
   same_settled (suc (suc n)) = refl
 
   begun_opened : (line : List ℕ) (kept begun : List Container) (rest : Rest) → is_blank line ≡ false
-      → AreOpened (item_by lead ∷ []) line kept begun rest → AreOpened (begun_by lead ∷ []) line kept begun rest
+      → AreOpened (opened asked (item_by lead ∷ [])) line kept begun rest → AreOpened (opened asked (begun_by lead ∷ [])) line kept begun rest
   begun_opened line kept begun rest text o =
       let same = begun_same lead [] line text in
       record {
         goes_on = o.goes_on ∙ ap (λ b. settled_last (take b.kept (item_by lead ∷ []))) (sym same)
             ∙ same_settled (behind (begun_by lead ∷ []) line).kept;
         place = o.place;
-        begins = subst (λ b. Opens b.state begun o.place) (sym same) o.begins;
+        begins = subst (λ b. Opens asked b.state begun o.place) (sym same) o.begins;
         is_rest = o.is_rest;
       }
 
   begun_blocks : (pieces others : List Piece) → AllZip IsNext pieces others → OnFirst Text (lines_in pieces)
-      → AreBlocks (item_by lead ∷ []) others [] → AreBlocks (begun_by lead ∷ []) others []
+      → AreBlocks (opened asked (item_by lead ∷ [])) others [] → AreBlocks (opened asked (begun_by lead ∷ [])) others []
   begun_blocks [] [] z text h = tt
   begun_blocks [] (q ∷ others) z text h = absurd z
   begun_blocks (p ∷ pieces) [] z text h = absurd z
@@ -147,7 +149,8 @@ module _ (lead : Lead) where
   first_ends (p ∷ pieces) (q ∷ others) z text h = ends_there p.first q.first (not_true (is_blank p.first) text) z.0.first h
 
   blank_leaf : (pieces others : List Piece) (words : Rest) (later : List (List ℕ)) → AllZip IsNext pieces others → OnFirst Text (lines_in pieces)
-      → IsLeaf [] Blank words later (lines_in pieces ++ []) → later ≡ [] → IsLeaf (begun_by lead ∷ []) Blank words [] (lines_in others ++ [])
+      → IsLeaf (root asked) Blank words later (lines_in pieces ++ []) → later ≡ []
+          → IsLeaf (opened asked (begun_by lead ∷ [])) Blank words [] (lines_in others ++ [])
   blank_leaf pieces others words later z text leaf none =
       (leaf.0, record { none = tt; stopped = first_ends pieces others z text leaf.1.stopped })
 
@@ -157,33 +160,35 @@ no_lines R [] (line ∷ others) none z = absurd z
 no_lines R (line ∷ lines) others none z = cc
 
 -- the blocks in the item
-pub blank_item_blocks : (lead : Lead) → IsLead lead → (pieces others : List Piece) → AreInBlankItem lead pieces others → AreBlocks [] pieces []
-    → AreBlocks [] others []
-blank_item_blocks lead is [] others z h = absurd z
-blank_item_blocks lead is (p ∷ pieces) [] z h = absurd z
-blank_item_blocks lead is (p ∷ pieces) (q ∷ others) (one, single, i, z) h =
+pub blank_item_blocks : (asked : BlockExtensions) (lead : Lead) → IsLead lead → (pieces others : List Piece) → AreInBlankItem asked lead pieces others
+    → AreBlocks (root asked) pieces []
+    → AreBlocks (root asked) others []
+blank_item_blocks asked lead is [] others z h = absurd z
+blank_item_blocks asked lead is (p ∷ pieces) [] z h = absurd z
+blank_item_blocks asked lead is (p ∷ pieces) (q ∷ others) (one, single, i, z) h =
     let w = width_of lead in
     let outside : p.kept ++ p.begun ≡ [] = ap (λ cs. cs ++ p.begun) h.0.opened.goes_on ∙ single.outside in
-    let leaf : IsLeaf [] Blank p.words p.later (lines_in pieces ++ []) =
-    subst (λ k. IsLeaf [] k p.words p.later (lines_in pieces ++ [])) single.kind
-    (subst (λ cs. IsLeaf cs p.kind p.words p.later (lines_in pieces ++ [])) outside h.0.leaf) in
+    let leaf : IsLeaf (root asked) Blank p.words p.later (lines_in pieces ++ []) =
+    subst (λ k. IsLeaf (root asked) k p.words p.later (lines_in pieces ++ [])) single.kind
+    (subst (λ cs. IsLeaf (opened asked cs) p.kind p.words p.later (lines_in pieces ++ [])) outside h.0.leaf) in
     let there : begun_by lead ∷ [] ≡ q.kept ++ q.begun =
     ap (λ cs. begun_by lead ∷ cs) (sym single.outside) ∙ ap (λ cs. cs ++ begun_by lead ∷ p.begun) (sym i.kept_are)
     ∙ ap (λ cs. q.kept ++ cs) (sym i.begun_are) in
     let none : [] ≡ q.later = sym (no_lines _ p.later q.later single.alone i.later) in
     let kind : Blank ≡ q.kind = sym (i.kind ∙ single.kind) in
-    let held : IsLeaf (begun_by lead ∷ []) Blank p.words [] (lines_in others ++ []) =
-    blank_leaf lead pieces others p.words p.later z single.text_follows leaf single.alone in
-    let next : AreBlocks (item_by lead ∷ []) others [] =
-    next_blocks (item_by lead) (IsItemLine lead) (IsIndentedLine w) (IsLessIndented w) refl (item_begins lead is) (item_goes_on lead)
-    (item_stays_out lead) [] pieces others z (subst (λ cs. AreBlocks cs pieces []) outside h.1) in (
+    let held : IsLeaf (opened asked (begun_by lead ∷ [])) Blank p.words [] (lines_in others ++ []) =
+    blank_leaf asked lead pieces others p.words p.later z single.text_follows leaf single.alone in
+    let next : AreBlocks (opened asked (item_by lead ∷ [])) others [] =
+    next_blocks asked (item_by lead) (IsItemLine lead) (IsIndentedLine w) (IsLessIndented asked w) refl
+    (λ line changed i. item_begins lead is line changed i asked) (item_goes_on lead) (item_stays_out lead asked) [] pieces others z
+        (subst (λ cs. AreBlocks (opened asked cs) pieces []) outside h.1) in (
       record {
-        opened = first_opened (begun_by lead) (IsMarkerAlone lead) (IsIndentedLine w) (IsLessIndented w) p q
-            (blank_begins lead is one p.first q.first i.first) i h.0.opened;
-        leaf = subst (λ cs. IsLeaf cs q.kind q.words q.later (lines_in others ++ [])) there
-            (subst (λ k. IsLeaf (begun_by lead ∷ []) k q.words q.later (lines_in others ++ [])) kind
-            (subst (λ ls. IsLeaf (begun_by lead ∷ []) Blank q.words ls (lines_in others ++ [])) none
-            (subst (λ r. IsLeaf (begun_by lead ∷ []) Blank r [] (lines_in others ++ [])) (sym i.words) held)));
+        opened = first_opened asked (begun_by lead) (IsMarkerAlone lead) (IsIndentedLine w) (IsLessIndented asked w) p q
+            (blank_begins lead is one p.first q.first i.first asked) i h.0.opened;
+        leaf = subst (λ cs. IsLeaf (opened asked cs) q.kind q.words q.later (lines_in others ++ [])) there
+            (subst (λ k. IsLeaf (opened asked (begun_by lead ∷ [])) k q.words q.later (lines_in others ++ [])) kind
+            (subst (λ ls. IsLeaf (opened asked (begun_by lead ∷ [])) Blank q.words ls (lines_in others ++ [])) none
+            (subst (λ r. IsLeaf (opened asked (begun_by lead ∷ [])) Blank r [] (lines_in others ++ [])) (sym i.words) held)));
       },
-      subst (λ cs. AreBlocks cs others []) there (begun_blocks lead pieces others z single.text_follows next),
+      subst (λ cs. AreBlocks (opened asked cs) others []) there (begun_blocks asked lead pieces others z single.text_follows next),
     )

@@ -3,11 +3,12 @@ use Rattle.std.proofs.Common.{ℕ, suc, ◌≡◌, ◌⊎◌, List, [], ◌∷�
 use Rattle.std.specs.List.{AllZip}
 use Rattle.markdown_scanners_tree.specs.line.ItemRules.{start_of}
 use Rattle.markdown_scanners_tree.specs.line.State.{LineState}
-use Rattle.markdown_blocks.specs.containers.Containers.{begun_at, behind, IsInside, Opens, settled, settled_last}
+use Rattle.markdown_blocks.specs.containers.Containers.{Outer, begun_at, behind, IsInside, Opens, settled, settled_last}
 use Rattle.markdown_blocks.specs.declared.blocks.BlockKind.TheVariants.{Paragraph}
+use Rattle.markdown_blocks.specs.declared.containers.BlockExtensions.{BlockExtensions}
 use Rattle.markdown_blocks.specs.declared.containers.Container.{Container}
 use Rattle.markdown_blocks.specs.blocks.Leaves.{IsLazy, IsLeaf}
-use Rattle.markdown_blocks.specs.blocks.Pages.{Piece, lines_in, AreOpened, IsPiece, AreBlocks}
+use Rattle.markdown_blocks.specs.blocks.Pages.{Piece, lines_in, root, AreOpened, IsPiece, AreBlocks}
 use Rattle.markdown_blocks.specs.definitions.Content.{words_in}
 use Rattle.markdown_blocks.specs.laws.Held.{Change, HasSameWords, IsHeldIn, AreIn}
 use Rattle.markdown_blocks.proofs.laws.AlikeLemmas.{Alike, alike_back, same_rest}
@@ -29,8 +30,8 @@ zip_append R (line ∷ lines) [] lines' others' z z' = absurd z
 zip_append R (line ∷ lines) (moved ∷ others) lines' others' z z' = (z.0, zip_append R lines others lines' others' z.1 z')
 
 -- the first line of the container, where the line stands behind its marker
-abbrev pub Begins : Container → List ℕ → List ℕ → Type 0
-Begins c line moved = (next : LineState) × (begun_at (start_of moved) ≡ Some (c, next)) × Alike (start_of line) next
+abbrev pub Begins : BlockExtensions → Container → List ℕ → List ℕ → Type 0
+Begins asked c line moved = (next : LineState) × (begun_at asked (start_of moved) ≡ Some (c, next)) × Alike (start_of line) next
 
 -- another line, which stands in the container as the line does without
 abbrev pub GoesOn : Container → List ℕ → List ℕ → Type 0
@@ -38,17 +39,23 @@ GoesOn c line moved = (outer : List Container) → ((behind (c ∷ outer) moved)
     × Alike (behind outer line).state (behind (c ∷ outer) moved).state
 
 -- a line of a paragraph, which stands outside as a lazy one
-abbrev pub StaysOut : Container → List ℕ → Type 0
-StaysOut c moved = (outer : List Container) → (¬ IsInside (c ∷ outer) moved) × IsLazy (behind (c ∷ outer) moved).state
+abbrev pub StaysOut : BlockExtensions → Container → List ℕ → Type 0
+StaysOut asked c moved = (outer : List Container) → (¬ IsInside (c ∷ outer) moved) × IsLazy asked (behind (c ∷ outer) moved).state
 
-moves : (c : Container) (line moved : List ℕ) → GoesOn c line moved → (outer : List Container) → Moves outer (c ∷ outer) line moved
-moves c line moved on outer =
+-- with these extensions on these containers are open
+abbrev pub opened : BlockExtensions → List Container → Outer
+opened asked cs = record { extensions = asked; containers = cs }
+
+moves : (asked : BlockExtensions) (c : Container) (line moved : List ℕ) → GoesOn c line moved → (outer : List Container)
+    → Moves (opened asked outer) (opened asked (c ∷ outer)) line moved
+moves asked c line moved on outer =
     let kept = (on outer).0 in
     let state = (on outer).1 in
     record {
+      same = refl;
       inside = (λ i. omega (arith, kept, i), λ i. omega (arith, kept, i));
       rest = same_rest _ _ state;
-      begins = (alike_none _ _ (same_begun _ _ state), alike_none _ _ (same_begun _ _ (alike_back _ _ state)));
+      begins = (alike_none _ _ (same_begun asked _ _ state), alike_none _ _ (same_begun asked _ _ (alike_back _ _ state)));
     }
 
 settled_cons : (c : Container) (cs : List Container) → settled c ≡ c → settled_last (c ∷ cs) ≡ c ∷ settled_last cs
@@ -56,19 +63,21 @@ settled_cons c [] steady = ap (λ d. d ∷ []) steady
 settled_cons c (d ∷ cs) steady = refl
 
 -- the first line begins the container
-pub first_opened : (c : Container) (First Later Lazy : Change) (p q : Piece) → Begins c p.first q.first
-    → IsHeldIn First Later Lazy [] (c ∷ p.begun) p q → AreOpened [] p.first p.kept p.begun p.words → AreOpened [] q.first q.kept q.begun q.words
-first_opened c First Later Lazy p q here i h =
-    let opens = same_opens p.begun (start_of p.first) here.0 h.place here.2 h.begins in
+pub first_opened : (asked : BlockExtensions) (c : Container) (First Later Lazy : Change) (p q : Piece) → Begins asked c p.first q.first
+    → IsHeldIn First Later Lazy [] (c ∷ p.begun) p q → AreOpened (root asked) p.first p.kept p.begun p.words
+    → AreOpened (root asked) q.first q.kept q.begun q.words
+first_opened asked c First Later Lazy p q here i h =
+    let opens = same_opens asked p.begun (start_of p.first) here.0 h.place here.2 h.begins in
     record {
       goes_on = i.kept_are;
       place = opens.0;
-      begins = subst (λ cs. Opens (start_of q.first) cs opens.0) (sym i.begun_are) (here.0, here.1, opens.1);
+      begins = subst (λ cs. Opens asked (start_of q.first) cs opens.0) (sym i.begun_are) (here.0, here.1, opens.1);
       is_rest = i.words ∙ h.is_rest ∙ same_rest h.place opens.0 opens.2;
     }
 
-module _ (c : Container) (First Later Lazy : Change) (steady : settled c ≡ c) (begins : (line moved : List ℕ) → First line moved → Begins c line moved)
-    (on : (line moved : List ℕ) → Later line moved → GoesOn c line moved) (out : (line moved : List ℕ) → Lazy line moved → StaysOut c moved) where
+module _ (asked : BlockExtensions) (c : Container) (First Later Lazy : Change) (steady : settled c ≡ c)
+    (begins : (line moved : List ℕ) → First line moved → Begins asked c line moved)
+    (on : (line moved : List ℕ) → Later line moved → GoesOn c line moved) (out : (line moved : List ℕ) → Lazy line moved → StaysOut asked c moved) where
   -- a block behind the first in the container, and a line behind the first of a block
   abbrev IsNext : Piece → Piece → Type 0
   IsNext p q = IsHeldIn Later Later Lazy (c ∷ p.kept) p.begun p q
@@ -80,8 +89,8 @@ module _ (c : Container) (First Later Lazy : Change) (steady : settled c ≡ c) 
 
   module _ (outer : List Container) where
     later_moves : (p q : Piece) → outer ≡ p.kept ++ p.begun → c ∷ outer ≡ q.kept ++ q.begun → (line moved : List ℕ) → IsLater p q line moved
-        → LaterMoves outer (c ∷ outer) p.kind line moved
-    later_moves p q here there line moved (inl h) = inl (moves c line moved (on line moved h) outer)
+        → LaterMoves (opened asked outer) (opened asked (c ∷ outer)) p.kind line moved
+    later_moves p q here there line moved (inl h) = inl (moves asked c line moved (on line moved h) outer)
     later_moves p q here there line moved (inr h) = inr (
       h.0,
       (out line moved h.1 outer).0,
@@ -90,10 +99,10 @@ module _ (c : Container) (First Later Lazy : Change) (steady : settled c ≡ c) 
     )
 
     abbrev MovesOrOut : Change
-    MovesOrOut line moved = Moves outer (c ∷ outer) line moved ⊎ (¬ IsInside (c ∷ outer) moved)
+    MovesOrOut line moved = Moves (opened asked outer) (opened asked (c ∷ outer)) line moved ⊎ (¬ IsInside (c ∷ outer) moved)
 
     each_moves : (p q : Piece) (line moved : List ℕ) → IsLater p q line moved → MovesOrOut line moved
-    each_moves p q line moved (inl h) = inl (moves c line moved (on line moved h) outer)
+    each_moves p q line moved (inl h) = inl (moves asked c line moved (on line moved h) outer)
     each_moves p q line moved (inr h) = inr (out line moved h.1 outer).0
 
     follow_each : (pieces others : List Piece) → AllZip IsNext pieces others → AllZip MovesOrOut (lines_in pieces ++ []) (lines_in others ++ [])
@@ -102,7 +111,7 @@ module _ (c : Container) (First Later Lazy : Change) (steady : settled c ≡ c) 
     follow_each (p ∷ pieces) [] z = absurd z
     follow_each (p ∷ pieces) (q ∷ others) z =
         let lines : AllZip MovesOrOut (p.first ∷ p.later) (q.first ∷ q.later) = (
-          inl (moves c p.first q.first (on p.first q.first z.0.first) outer),
+          inl (moves asked c p.first q.first (on p.first q.first z.0.first) outer),
           zip_map (IsLater p q) MovesOrOut (each_moves p q) p.later q.later z.0.later,
         ) in
         let more = follow_each pieces others z.1 in
@@ -114,56 +123,60 @@ module _ (c : Container) (First Later Lazy : Change) (steady : settled c ≡ c) 
         joined r rs = append_assoc (r.first ∷ r.later) (lines_in rs) []
 
     follow_first : (pieces others : List Piece) → AllZip IsNext pieces others
-        → FirstTwo (Moves outer (c ∷ outer)) (lines_in pieces ++ []) (lines_in others ++ [])
+        → FirstTwo (Moves (opened asked outer) (opened asked (c ∷ outer))) (lines_in pieces ++ []) (lines_in others ++ [])
     follow_first [] [] z = tt
     follow_first [] (q ∷ others) z = absurd z
     follow_first (p ∷ pieces) [] z = absurd z
-    follow_first (p ∷ pieces) (q ∷ others) z = moves c p.first q.first (on p.first q.first z.0.first) outer
+    follow_first (p ∷ pieces) (q ∷ others) z = moves asked c p.first q.first (on p.first q.first z.0.first) outer
 
     follow : (pieces others : List Piece) → AllZip IsNext pieces others
-        → Follows outer (c ∷ outer) (lines_in pieces ++ []) (lines_in others ++ [])
+        → Follows (opened asked outer) (opened asked (c ∷ outer)) (lines_in pieces ++ []) (lines_in others ++ [])
     follow pieces others z = record { first = follow_first pieces others z; each = follow_each pieces others z }
 
   -- the block in the container
   module _ (p q : Piece) (pieces others : List Piece) (z : AllZip IsNext pieces others) where
     leaf_in : (Start : Change) (kept begun : List Container) → IsHeldIn Start Later Lazy kept begun p q → kept ++ begun ≡ c ∷ (p.kept ++ p.begun)
-        → IsLeaf (p.kept ++ p.begun) p.kind p.words p.later (lines_in pieces ++ [])
-        → IsLeaf (q.kept ++ q.begun) q.kind q.words q.later (lines_in others ++ [])
+        → IsLeaf (opened asked (p.kept ++ p.begun)) p.kind p.words p.later (lines_in pieces ++ [])
+        → IsLeaf (opened asked (q.kept ++ q.begun)) q.kind q.words q.later (lines_in others ++ [])
     leaf_in Start kept begun i open_now leaf =
         let outer = p.kept ++ p.begun in
         let there : c ∷ outer ≡ q.kept ++ q.begun =
         sym open_now ∙ ap (λ cs. cs ++ begun) (sym i.kept_are) ∙ ap (λ cs. q.kept ++ cs) (sym i.begun_are) in
-        let moved : IsLeaf (c ∷ outer) p.kind p.words q.later (lines_in others ++ []) =
-        leaf_moves outer (c ∷ outer) p.words p.later q.later (lines_in pieces ++ []) (lines_in others ++ []) (follow outer pieces others z) p.kind
-        (zip_map (IsLater p q) (LaterMoves outer (c ∷ outer) p.kind) (later_moves outer p q refl there) p.later q.later i.later) leaf in
-        subst (λ cs. IsLeaf cs q.kind q.words q.later (lines_in others ++ [])) there
-        (subst (λ w. IsLeaf (c ∷ outer) q.kind w q.later (lines_in others ++ [])) (sym i.words)
-        (subst (λ k. IsLeaf (c ∷ outer) k p.words q.later (lines_in others ++ [])) (sym i.kind) moved))
+        let moved : IsLeaf (opened asked (c ∷ outer)) p.kind p.words q.later (lines_in others ++ []) =
+        leaf_moves (opened asked outer) (opened asked (c ∷ outer)) p.words p.later q.later (lines_in pieces ++ []) (lines_in others ++ [])
+            (follow outer pieces others z) p.kind
+        (zip_map (IsLater p q) (LaterMoves (opened asked outer) (opened asked (c ∷ outer)) p.kind)
+            (later_moves outer p q refl there) p.later q.later i.later) leaf in
+        subst (λ cs. IsLeaf (opened asked cs) q.kind q.words q.later (lines_in others ++ [])) there
+        (subst (λ w. IsLeaf (opened asked (c ∷ outer)) q.kind w q.later (lines_in others ++ [])) (sym i.words)
+        (subst (λ k. IsLeaf (opened asked (c ∷ outer)) k p.words q.later (lines_in others ++ [])) (sym i.kind) moved))
 
-    next_piece : (outer : List Container) → IsNext p q → IsPiece outer p (lines_in pieces ++ []) → IsPiece (c ∷ outer) q (lines_in others ++ [])
+    next_piece : (outer : List Container) → IsNext p q → IsPiece (opened asked outer) p (lines_in pieces ++ [])
+        → IsPiece (opened asked (c ∷ outer)) q (lines_in others ++ [])
     next_piece outer i h =
         let here = on p.first q.first i.first outer in
-        let opens = same_opens p.begun (behind outer p.first).state (behind (c ∷ outer) q.first).state h.opened.place here.1 h.opened.begins in
+        let opens = same_opens asked p.begun (behind outer p.first).state (behind (c ∷ outer) q.first).state h.opened.place here.1 h.opened.begins in
         record {
           opened = record {
             goes_on = i.kept_are ∙ ap (λ cs. c ∷ cs) h.opened.goes_on ∙ sym (settled_cons c (take (behind outer p.first).kept outer) steady)
                 ∙ ap (λ n. settled_last (take n (c ∷ outer))) (sym here.0);
             place = opens.0;
-            begins = subst (λ cs. Opens (behind (c ∷ outer) q.first).state cs opens.0) (sym i.begun_are) opens.1;
+            begins = subst (λ cs. Opens asked (behind (c ∷ outer) q.first).state cs opens.0) (sym i.begun_are) opens.1;
             is_rest = i.words ∙ h.opened.is_rest ∙ same_rest h.opened.place opens.0 opens.2;
           };
           leaf = leaf_in Later (c ∷ p.kept) p.begun i refl h.leaf;
         }
 
-    first_piece : IsHeldIn First Later Lazy [] (c ∷ p.begun) p q → IsPiece [] p (lines_in pieces ++ []) → IsPiece [] q (lines_in others ++ [])
+    first_piece : IsHeldIn First Later Lazy [] (c ∷ p.begun) p q → IsPiece (root asked) p (lines_in pieces ++ [])
+        → IsPiece (root asked) q (lines_in others ++ [])
     first_piece i h = record {
-      opened = first_opened c First Later Lazy p q (begins p.first q.first i.first) i h.opened;
+      opened = first_opened asked c First Later Lazy p q (begins p.first q.first i.first) i h.opened;
       leaf = leaf_in First [] (c ∷ p.begun) i (ap (λ cs. c ∷ (cs ++ p.begun)) (sym h.opened.goes_on)) h.leaf;
     }
 
   -- the blocks in the container
-  pub next_blocks : (outer : List Container) (pieces others : List Piece) → AllZip IsNext pieces others → AreBlocks outer pieces []
-      → AreBlocks (c ∷ outer) others []
+  pub next_blocks : (outer : List Container) (pieces others : List Piece) → AllZip IsNext pieces others → AreBlocks (opened asked outer) pieces []
+      → AreBlocks (opened asked (c ∷ outer)) others []
   next_blocks outer [] [] z h = tt
   next_blocks outer [] (q ∷ others) z h = absurd z
   next_blocks outer (p ∷ pieces) [] z h = absurd z
@@ -171,10 +184,10 @@ module _ (c : Container) (First Later Lazy : Change) (steady : settled c ≡ c) 
       let there : c ∷ (p.kept ++ p.begun) ≡ q.kept ++ q.begun =
       ap (λ cs. cs ++ p.begun) (sym z.0.kept_are) ∙ ap (λ cs. q.kept ++ cs) (sym z.0.begun_are) in (
         next_piece p q pieces others z.1 outer z.0 h.0,
-        subst (λ cs. AreBlocks cs others []) there (next_blocks (p.kept ++ p.begun) pieces others z.1 h.1),
+        subst (λ cs. AreBlocks (opened asked cs) others []) there (next_blocks (p.kept ++ p.begun) pieces others z.1 h.1),
       )
 
-  pub held_blocks : (pieces others : List Piece) → AreIn c First Later Lazy pieces others → AreBlocks [] pieces [] → AreBlocks [] others []
+  pub held_blocks : (pieces others : List Piece) → AreIn c First Later Lazy pieces others → AreBlocks (root asked) pieces [] → AreBlocks (root asked) others []
   held_blocks [] [] z h = tt
   held_blocks [] (q ∷ others) z h = absurd z
   held_blocks (p ∷ pieces) [] z h = absurd z
@@ -183,7 +196,7 @@ module _ (c : Container) (First Later Lazy : Change) (steady : settled c ≡ c) 
       let there : c ∷ (p.kept ++ p.begun) ≡ q.kept ++ q.begun =
       ap (λ cs. c ∷ (cs ++ p.begun)) none ∙ ap (λ cs. cs ++ c ∷ p.begun) (sym z.0.kept_are) ∙ ap (λ cs. q.kept ++ cs) (sym z.0.begun_are) in (
         first_piece p q pieces others z.1 z.0 h.0,
-        subst (λ cs. AreBlocks cs others []) there (next_blocks (p.kept ++ p.begun) pieces others z.1 h.1),
+        subst (λ cs. AreBlocks (opened asked cs) others []) there (next_blocks (p.kept ++ p.begun) pieces others z.1 h.1),
       )
 
 -- the lines of the blocks, each beside the line that stands for it

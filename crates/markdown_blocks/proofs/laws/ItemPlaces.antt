@@ -12,6 +12,7 @@ use Rattle.markdown_scanners_tree.specs.line.State.{LineState, unscanned, rest_o
 use Rattle.markdown_scanners_tree.specs.scanners.Breaks.{is_thematic_break}
 use Rattle.markdown_scanners_tree.proofs.line.SpaceLemmas.{none_at_front}
 use Rattle.markdown_blocks.specs.containers.Containers.{within, behind, rest_at}
+use Rattle.markdown_blocks.specs.declared.containers.BlockExtensions.{BlockExtensions}
 use Rattle.markdown_blocks.specs.declared.containers.Container.{Container}
 use Rattle.markdown_blocks.specs.blocks.Leaves.{HasIndent, IsLazy}
 use Rattle.markdown_blocks.specs.laws.Held.{KeepsTabs}
@@ -96,12 +97,12 @@ module _ (lead : Lead) (is : IsLead lead) (line changed : List ℕ) (i : IsItemL
       let bytes : is_blank (unscanned after) ≡ false = ap is_blank at_further.text ∙ blank_spaces g line ∙ has_text in
       rw bytes spaces_are
 
-  pub item_begins : Begins (item_by lead) line changed
-  item_begins =
+  pub item_begins : (asked : BlockExtensions) → Begins asked (item_by lead) line changed
+  item_begins asked =
       let width : lead.indent + length lead.marker + 1 + g ≡ width_of lead = omega (arith, is.some) in
       let text : is_blank (unscanned next) ≡ false = ap is_blank at_text.text ∙ has_text in (
         next,
-        begun_there lead is changed (spaces lead.gap ++ line) i.parts next g (width_of lead) false
+        begun_there lead is changed (spaces lead.gap ++ line) i.parts asked next g (width_of lead) false
             (not_true (is_thematic_break (marked_line lead line)) i.no_break) space_follows further_are refl width text,
         line_alike,
       )
@@ -141,8 +142,9 @@ module _ (lead : Lead) where
   item_goes_on line changed (inl h) = indented_on line changed (not_true (is_blank line) h.0) h.1 h.2
   item_goes_on line changed (inr h) = subst (λ bs. GoesOn (item_by lead) line bs) (sym h.1) (blank_on line h.0)
 
-  pub item_stays_out : (line bare : List ℕ) → IsLessIndented (width_of lead) line bare → StaysOut (item_by lead) bare
-  item_stays_out line bare q outer =
+  pub item_stays_out : (asked : BlockExtensions) (line bare : List ℕ) → IsLessIndented asked (width_of lead) line bare
+      → StaysOut asked (item_by lead) bare
+  item_stays_out asked line bare q outer =
       let width = width_of lead in
       let at = subst (λ bs. IsAt (start_of bare) bs 0) q.bare_parts (at_start bare) in
       let plain = not_true (begins_with is_space_or_tab q.rest) q.text in
@@ -153,7 +155,7 @@ module _ (lead : Lead) where
       ap (λ b. within (item_by lead) b (start_of bare)) blank ∙ rw less refl in
       let there : behind (item_by lead ∷ outer) bare ≡ record { kept = 0; state = start_of bare } = ap (step_on outer (start_of bare)) none in
       let kept : (behind (item_by lead ∷ outer) bare).kept ≡ 0 = ap (λ b. b.kept) there in
-      (λ inside. omega (arith, kept, inside), subst (λ b. IsLazy b.state) (sym there) q.goes_on)
+      (λ inside. omega (arith, kept, inside), subst (λ b. IsLazy asked b.state) (sym there) q.goes_on)
 
   -- a line with text stands in the item as in one of which the first line alone is read
   pub begun_same : (outer : List Container) (line : List ℕ) → is_blank line ≡ false

@@ -5,15 +5,14 @@ use Rattle.std.specs.List.{AllByRecursion, AllZip, flat_map}
 use Rattle.std.proofs.lemmas.List.Concat.{flat_map-append}
 use Rattle.markdown_values.specs.declared.values.HeadingLevel.{HeadingLevel}
 use Rattle.markdown_scanners_tree.specs.declared.scanners.html_kinds.HtmlBlockKind.{HtmlBlockKind}
-use Rattle.markdown_scanners_tree.specs.scanners.Interrupts.{InterruptsParagraph}
 use Rattle.markdown_scanners_tree.specs.scanners.html_kinds.HtmlKinds.{ends_before_blank}
-use Rattle.markdown_blocks.specs.containers.Containers.{Rest, rest_in, begun_at, behind, IsInside}
+use Rattle.markdown_blocks.specs.containers.Containers.{Outer, Rest, rest_in, begun_at, behind, IsInside}
 use Rattle.markdown_blocks.specs.declared.blocks.BlockKind.{BlockKind}
 use Rattle.markdown_blocks.specs.declared.blocks.BlockKind.TheVariants.{Blank, Break, Heading, Setext, Indented, Fenced, Html, Table, Definition, Paragraph}
 use Rattle.markdown_blocks.specs.declared.containers.Container.{Container}
 use Rattle.markdown_blocks.specs.blocks.Tables.{IsDelimiter}
 use Rattle.markdown_blocks.specs.blocks.Leaves.{IsBlank, HasIndent, Begins, EndsParagraph, ClosesFence, EndsHtml}
-use Rattle.markdown_blocks.specs.blocks.Leaves.{IsUnderline, IsLazy, In, OutOr, Leaves, EndsContent, LeavesParagraph, LeavesBehind, Underlines, IsHead, IsRow}
+use Rattle.markdown_blocks.specs.blocks.Leaves.{IsUnderline, Interrupts, IsLazy, In, OutOr, Leaves, EndsContent, LeavesParagraph, LeavesBehind, Underlines, IsHead, IsRow}
 use Rattle.markdown_blocks.specs.info.Info.{without_front}
 use Rattle.markdown_blocks.specs.definitions.Content.{content_of, words_in}
 use Rattle.markdown_blocks.specs.definitions.Definitions.{HasText}
@@ -21,44 +20,53 @@ use Rattle.markdown_blocks.specs.blocks.Leaves.{OnFirst, BeginsNoTable, NoneBehi
 use Rattle.markdown_blocks.specs.blocks.Leaves.{StopsBehind, EndsIndented, NoMoreIndented, LastHasText, EndsAsHtml, IsLeaf}
 
 -- what is read of the second line behind the other containers is what is read of the first behind these
-pub record Moves (outer other : List Container) (line moved : List ℕ) : Type 0 where
-  pub inside : IsInside outer line ↔ IsInside other moved
-  pub rest : rest_in outer line ≡ rest_in other moved
-  pub begins : (begun_at (behind outer line).state ≡ None) ↔ (begun_at (behind other moved).state ≡ None)
+pub record Moves (outer other : Outer) (line moved : List ℕ) : Type 0 where
+  pub same : outer.extensions ≡ other.extensions
+  pub inside : IsInside outer.containers line ↔ IsInside other.containers moved
+  pub rest : rest_in outer.containers line ≡ rest_in other.containers moved
+  pub begins : (begun_at outer.extensions (behind outer.containers line).state ≡ None) ↔
+      (begun_at other.extensions (behind other.containers moved).state ≡ None)
 
-pub moves_back : (outer other : List Container) (line moved : List ℕ) → Moves outer other line moved → Moves other outer moved line
+pub moves_back : (outer other : Outer) (line moved : List ℕ) → Moves outer other line moved → Moves other outer moved line
 moves_back outer other line moved m =
-    record { inside = (m.inside.1, m.inside.0); rest = sym m.rest; begins = (m.begins.1, m.begins.0) }
+    record { same = sym m.same; inside = (m.inside.1, m.inside.0); rest = sym m.rest; begins = (m.begins.1, m.begins.0) }
 
 -- what is told of one line
-module _ (outer other : List Container) (line moved : List ℕ) (m : Moves outer other line moved) where
-  in_moves : (P : Rest → Type 0) → In outer P line → In other P moved
+module _ (outer other : Outer) (line moved : List ℕ) (m : Moves outer other line moved) where
+  in_moves : (P : Rest → Type 0) → In outer.containers P line → In other.containers P moved
   in_moves P h = (m.inside.0 h.0, subst P m.rest h.1)
 
-  out_moves : (P : Rest → Type 0) → OutOr outer P line → OutOr other P moved
+  out_moves : (P : Rest → Type 0) → OutOr outer.containers P line → OutOr other.containers P moved
   out_moves P (inl out) = inl (λ i. out (m.inside.1 i))
   out_moves P (inr here) = inr (in_moves P here)
 
-  lazy_moves : IsLazy (behind outer line).state → IsLazy (behind other moved).state
+  lazy_moves : IsLazy outer.extensions (behind outer.containers line).state → IsLazy other.extensions (behind other.containers moved).state
   lazy_moves h = (
     m.begins.0 h.0,
     subst (λ (r : Rest). ¬ IsBlank r) m.rest h.1,
-    subst (λ (r : Rest). HasIndent r ⊎ (¬ InterruptsParagraph r.text)) m.rest h.2,
+    subst (λ x. HasIndent (rest_in other.containers moved) ⊎ (¬ Interrupts x (rest_in other.containers moved).text)) m.same
+        (subst (λ (r : Rest). HasIndent r ⊎ (¬ Interrupts outer.extensions r.text)) m.rest h.2),
   )
 
   row_moves : IsRow outer line → IsRow other moved
   row_moves h = (m.begins.0 h.0, in_moves (Begins Paragraph) h.1)
 
-leaves_by : (outer other : List Container) (line moved : List ℕ) → Moves outer other line moved → (P : Rest → Type 0)
+leaves_by : (outer other : Outer) (line moved : List ℕ) → Moves outer other line moved → (P : Rest → Type 0)
     → Leaves outer P line → Leaves other P moved
 leaves_by outer other line moved m P (inl h) =
     inl (λ i. h.0 (m.inside.1 i), λ lazy. h.1 (lazy_moves other outer moved line (moves_back outer other line moved m) lazy))
 leaves_by outer other line moved m P (inr h) = inr (in_moves outer other line moved m P h)
 
-leaves_moves : (outer other : List Container) (line moved : List ℕ) → Moves outer other line moved → LeavesParagraph outer line → LeavesParagraph other moved
-leaves_moves outer other line moved m = leaves_by outer other line moved m EndsParagraph
+leaves_moves : (outer other : Outer) (line moved : List ℕ) → Moves outer other line moved → LeavesParagraph outer line → LeavesParagraph other moved
+leaves_moves outer other line moved m h =
+    subst (λ x. Leaves other (EndsParagraph x) moved) m.same (leaves_by outer other line moved m (EndsParagraph outer.extensions) h)
 
-head_moves : (outer other : List Container) (line moved : List ℕ) → Moves outer other line moved → (text : List ℕ) (columns : ℕ)
+content_leaves : (outer other : Outer) (line moved : List ℕ) → Moves outer other line moved → (content : List ℕ)
+    → Leaves outer (EndsContent outer.extensions content) line → Leaves other (EndsContent other.extensions content) moved
+content_leaves outer other line moved m content h =
+    subst (λ x. Leaves other (EndsContent x content) moved) m.same (leaves_by outer other line moved m (EndsContent outer.extensions content) h)
+
+head_moves : (outer other : Outer) (line moved : List ℕ) → Moves outer other line moved → (text : List ℕ) (columns : ℕ)
     → IsHead outer text columns line → IsHead other text columns moved
 head_moves outer other line moved m text columns h = (
   λ leaves. h.0 (leaves_moves other outer moved line (moves_back outer other line moved m) leaves),
@@ -118,17 +126,18 @@ stops_moves R S P Q from to lines others rest after z two stops = record {
   stopped = first_moves S P Q to rest after two stops.stopped;
 }
 
-module _ (outer other : List Container) where
+module _ (outer other : Outer) where
   -- the lines behind a block: none but the first needs to be read as before, where it stands outside
   pub record Follows (rest after : List (List ℕ)) : Type 0 where
     pub first : FirstTwo (Moves outer other) rest after
-    pub each : AllZip (λ line moved. Moves outer other line moved ⊎ (¬ IsInside other moved)) rest after
+    pub each : AllZip (λ line moved. Moves outer other line moved ⊎ (¬ IsInside other.containers moved)) rest after
 
   -- a line behind the first of a block of this kind, which may be a lazy one in a paragraph
   abbrev pub LaterMoves : BlockKind → List ℕ → List ℕ → Type 0
   LaterMoves kind line moved =
       Moves outer other line moved
-      ⊎ ((kind ≡ Paragraph) × (¬ IsInside other moved) × IsLazy (behind other moved).state × (words_in outer line ≡ words_in other moved))
+      ⊎ ((kind ≡ Paragraph) × (¬ IsInside other.containers moved) × IsLazy other.extensions (behind other.containers moved).state
+          × (words_in outer.containers line ≡ words_in other.containers moved))
 
   all_move : (kind : BlockKind) → ¬ (kind ≡ Paragraph) → (lines others : List (List ℕ)) → AllZip (LaterMoves kind) lines others
       → AllZip (Moves outer other) lines others
@@ -143,10 +152,10 @@ module _ (outer other : List Container) where
 
   -- back and forth
   module _ (line moved : List ℕ) (m : Moves outer other line moved) where
-    out_back : (P : Rest → Type 0) → OutOr other P moved → OutOr outer P line
+    out_back : (P : Rest → Type 0) → OutOr other.containers P moved → OutOr outer.containers P line
     out_back P = out_moves other outer moved line (moves_back outer other line moved m) P
 
-    in_back : (P : Rest → Type 0) → In other P moved → In outer P line
+    in_back : (P : Rest → Type 0) → In other.containers P moved → In outer.containers P line
     in_back P = in_moves other outer moved line (moves_back outer other line moved m) P
 
     leaves_back : LeavesParagraph other moved → LeavesParagraph outer line
@@ -154,11 +163,11 @@ module _ (outer other : List Container) where
 
   module _ (P : Rest → Type 0) (lines others rest after : List (List ℕ)) (z : AllZip (Moves outer other) lines others)
       (two : FirstTwo (Moves outer other) rest after) where
-    out_stops : StopsBefore (OutOr outer P) lines rest → StopsBefore (OutOr other P) others after
-    out_stops = stops_moves (Moves outer other) (Moves outer other) (OutOr outer P) (OutOr other P) (λ l k m h. out_back l k m P h)
+    out_stops : StopsBefore (OutOr outer.containers P) lines rest → StopsBefore (OutOr other.containers P) others after
+    out_stops = stops_moves (Moves outer other) (Moves outer other) (OutOr outer.containers P) (OutOr other.containers P) (λ l k m h. out_back l k m P h)
         (λ l k m h. out_moves outer other l k m P h) lines others rest after z two
 
-    out_behind : StopsBehind outer (OutOr outer P) lines rest → StopsBehind other (OutOr other P) others after
+    out_behind : StopsBehind outer.containers (OutOr outer.containers P) lines rest → StopsBehind other.containers (OutOr other.containers P) others after
     out_behind (inl h) =
         let zipped : AllZip (Moves outer other) (h.0 ++ h.1 ∷ []) others = subst (λ ls. AllZip (Moves outer other) ls others) h.2 z in
         let cut = zip_last (Moves outer other) h.0 h.1 others zipped in
@@ -171,17 +180,19 @@ module _ (outer other : List Container) where
         )
       where
         stops_here : (before before' : List (List ℕ)) (last last' : List ℕ) → AllZip (Moves outer other) before before' → Moves outer other last last'
-            → StopsBefore (OutOr outer P) before (last ∷ rest) → StopsBefore (OutOr other P) before' (last' ∷ after)
+            → StopsBefore (OutOr outer.containers P) before (last ∷ rest) → StopsBefore (OutOr other.containers P) before' (last' ∷ after)
         stops_here before before' last last' zs m =
-            stops_moves (Moves outer other) (Moves outer other) (OutOr outer P) (OutOr other P) (λ l k n h. out_back l k n P h)
+            stops_moves (Moves outer other) (Moves outer other) (OutOr outer.containers P) (OutOr other.containers P) (λ l k n h. out_back l k n P h)
             (λ l k n h. out_moves outer other l k n P h) before before' (last ∷ rest) (last' ∷ after) zs m
     out_behind (inr h) = inr (
       out_stops h.0,
-      first_moves (Moves outer other) (λ l. ¬ IsInside outer l) (λ l. ¬ IsInside other l) (λ l k m out i. out (m.inside.1 i)) rest after two h.1,
+      first_moves (Moves outer other) (λ l. ¬ IsInside outer.containers l) (λ l. ¬ IsInside other.containers l)
+          (λ l k m out i. out (m.inside.1 i)) rest after two h.1,
     )
 
   -- indented code
-  last_moves : (lines others : List (List ℕ)) → AllZip (Moves outer other) lines others → LastHasText outer lines → LastHasText other others
+  last_moves : (lines others : List (List ℕ)) → AllZip (Moves outer other) lines others → LastHasText outer.containers lines
+      → LastHasText other.containers others
   last_moves [] [] z h = tt
   last_moves [] (moved ∷ others) z h = absurd z
   last_moves (line ∷ lines) [] z h = absurd z
@@ -190,8 +201,8 @@ module _ (outer other : List Container) where
   last_moves (line ∷ next ∷ lines) (moved ∷ []) z h = absurd z.1
   last_moves (line ∷ next ∷ lines) (moved ∷ next' ∷ others) z h = last_moves (next ∷ lines) (next' ∷ others) z.1 h
 
-  more_moves : (rest after : List (List ℕ)) → AllZip (λ line moved. Moves outer other line moved ⊎ (¬ IsInside other moved)) rest after
-      → NoMoreIndented outer rest → NoMoreIndented other after
+  more_moves : (rest after : List (List ℕ)) → AllZip (λ line moved. Moves outer other line moved ⊎ (¬ IsInside other.containers moved)) rest after
+      → NoMoreIndented outer.containers rest → NoMoreIndented other.containers after
   more_moves [] [] z h = tt
   more_moves [] (moved ∷ after) z h = absurd z
   more_moves (line ∷ rest) [] z h = absurd z
@@ -207,11 +218,12 @@ module _ (outer other : List Container) where
 
   module _ (kind : HtmlBlockKind) (first : Rest) (lines others rest after : List (List ℕ)) (z : AllZip (Moves outer other) lines others)
       (two : FirstTwo (Moves outer other) rest after) where
-    html_moves : EndsAsHtml outer kind first lines rest → EndsAsHtml other kind first others after
+    html_moves : EndsAsHtml outer.containers kind first lines rest → EndsAsHtml other.containers kind first others after
     html_moves = match_moves (ends_before_blank kind) (out_stops (EndsHtml kind) lines others rest after z two) by
       where
-        by : (EndsHtml kind first × (lines ≡ [])) ⊎ ((¬ EndsHtml kind first) × StopsBehind outer (OutOr outer (EndsHtml kind)) lines rest)
-            → (EndsHtml kind first × (others ≡ [])) ⊎ ((¬ EndsHtml kind first) × StopsBehind other (OutOr other (EndsHtml kind)) others after)
+        by : (EndsHtml kind first × (lines ≡ [])) ⊎ ((¬ EndsHtml kind first) × StopsBehind outer.containers (OutOr outer.containers (EndsHtml kind)) lines rest)
+            → (EndsHtml kind first × (others ≡ [])) ⊎ ((¬ EndsHtml kind first) × StopsBehind other.containers
+                (OutOr other.containers (EndsHtml kind)) others after)
         by (inl h) = inl (h.0, none_moves (Moves outer other) lines others h.1 z)
         by (inr h) = inr (h.0, out_behind (EndsHtml kind) lines others rest after z two h.1)
 
@@ -228,21 +240,22 @@ module _ (outer other : List Container) where
       (λ l. (columns : ℕ) → ¬ IsHead other first.text columns l) (no_head first kind)
 
   -- the content of a paragraph
-  words_move : (kind : BlockKind) (line moved : List ℕ) → LaterMoves kind line moved → words_in outer line ≡ words_in other moved
+  words_move : (kind : BlockKind) (line moved : List ℕ) → LaterMoves kind line moved → words_in outer.containers line ≡ words_in other.containers moved
   words_move kind line moved (inl m) = ap (λ (r : Rest). without_front r.text) m.rest
   words_move kind line moved (inr lazy) = lazy.3
 
   content_moves : (kind : BlockKind) (text : List ℕ) (lines others : List (List ℕ)) → AllZip (LaterMoves kind) lines others
-      → content_of outer text lines ≡ content_of other text others
+      → content_of outer.containers text lines ≡ content_of other.containers text others
   content_moves kind text lines others z = ap (λ t. without_front text ++ t) (joined lines others z)
     where
-      joined : (lines others : List (List ℕ)) → AllZip (LaterMoves kind) lines others → flat_map (words_in outer) lines ≡ flat_map (words_in other) others
+      joined : (lines others : List (List ℕ)) → AllZip (LaterMoves kind) lines others
+          → flat_map (words_in outer.containers) lines ≡ flat_map (words_in other.containers) others
       joined [] [] z = refl
       joined [] (moved ∷ others) z = absurd z
       joined (line ∷ lines) [] z = absurd z
       joined (line ∷ lines) (moved ∷ others) z =
-          ap (λ t. t ++ flat_map (words_in outer) lines) (words_move kind line moved z.0)
-          ∙ ap (λ t. words_in other moved ++ t) (joined lines others z.1)
+          ap (λ t. t ++ flat_map (words_in outer.containers) lines) (words_move kind line moved z.0)
+          ∙ ap (λ t. words_in other.containers moved ++ t) (joined lines others z.1)
 
   content_step : (containers : List Container) (text : List ℕ) (before : List (List ℕ)) (line : List ℕ)
       → content_of containers text (before ++ line ∷ []) ≡ content_of containers text before ++ words_in containers line
@@ -252,24 +265,25 @@ module _ (outer other : List Container) where
       ∙ sym (append_assoc (without_front text) (flat_map (words_in containers) before) (words_in containers line))
 
   -- a line behind this content
-  behind_back : (kind : BlockKind) (line moved content : List ℕ) → LaterMoves kind line moved → Leaves other (EndsContent content) moved
-      → Leaves outer (EndsContent content) line
-  behind_back kind line moved content (inl m) h = leaves_by other outer moved line (moves_back outer other line moved m) (EndsContent content) h
+  behind_back : (kind : BlockKind) (line moved content : List ℕ) → LaterMoves kind line moved → Leaves other (EndsContent other.extensions content) moved
+      → Leaves outer (EndsContent outer.extensions content) line
+  behind_back kind line moved content (inl m) h = content_leaves other outer moved line (moves_back outer other line moved m) content h
   behind_back kind line moved content (inr lazy) (inl h) = absurd (h.1 lazy.2)
   behind_back kind line moved content (inr lazy) (inr h) = absurd (lazy.1 h.0)
 
   none_behind : (kind : BlockKind) (text : List ℕ) (before before' lines others : List (List ℕ))
-      → content_of outer text before ≡ content_of other text before' → AllZip (LaterMoves kind) lines others
+      → content_of outer.containers text before ≡ content_of other.containers text before' → AllZip (LaterMoves kind) lines others
       → NoneBehind (LeavesBehind outer text) before lines → NoneBehind (LeavesBehind other text) before' others
   none_behind kind text before before' [] [] same z h = tt
   none_behind kind text before before' [] (moved ∷ others) same z h = absurd z
   none_behind kind text before before' (line ∷ lines) [] same z h = absurd z
   none_behind kind text before before' (line ∷ lines) (moved ∷ others) same z h = (
-    λ leaves. h.0 (subst (λ content. Leaves outer (EndsContent content) line) (sym same)
-        (behind_back kind line moved (content_of other text before') z.0 leaves)),
+    λ leaves. h.0 (subst (λ content. Leaves outer (EndsContent outer.extensions content) line) (sym same)
+        (behind_back kind line moved (content_of other.containers text before') z.0 leaves)),
     none_behind kind text (before ++ line ∷ []) (before' ++ moved ∷ []) lines others
-        (content_step outer text before line ∙ ap (λ t. t ++ words_in outer line) same
-        ∙ ap (λ t. content_of other text before' ++ t) (words_move kind line moved z.0) ∙ sym (content_step other text before' moved)) z.1 h.1,
+        (content_step outer.containers text before line ∙ ap (λ t. t ++ words_in outer.containers line) same
+        ∙ ap (λ t. content_of other.containers text before' ++ t) (words_move kind line moved z.0)
+            ∙ sym (content_step other.containers text before' moved)) z.1 h.1,
   )
 
   stops_at : (kind : BlockKind) (text : List ℕ) (lines others rest after : List (List ℕ)) → AllZip (LaterMoves kind) lines others
@@ -277,13 +291,13 @@ module _ (outer other : List Container) where
   stops_at kind text lines others rest after z two h = record {
     none = none_behind kind text [] [] lines others refl z h.none;
     stopped = first_moves (Moves outer other) (LeavesBehind outer text lines) (LeavesBehind other text others)
-        (λ l k m leaves. subst (λ content. Leaves other (EndsContent content) k) (content_moves kind text lines others z)
-        (leaves_by outer other l k m (EndsContent (content_of outer text lines)) leaves)) rest after two h.stopped;
+        (λ l k m leaves. subst (λ content. Leaves other (EndsContent other.extensions content) k) (content_moves kind text lines others z)
+        (content_leaves outer other l k m (content_of outer.containers text lines) leaves)) rest after two h.stopped;
   }
 
   none_under : (kind : BlockKind) (text : List ℕ) (lines others : List (List ℕ)) → AllZip (LaterMoves kind) lines others
-      → (line moved : List ℕ) → Moves outer other line moved → ((level : HeadingLevel) → ¬ Underlines outer text lines level line)
-      → (level : HeadingLevel) → ¬ Underlines other text others level moved
+      → (line moved : List ℕ) → Moves outer other line moved → ((level : HeadingLevel) → ¬ Underlines outer.containers text lines level line)
+      → (level : HeadingLevel) → ¬ Underlines other.containers text others level moved
   none_under kind text lines others z line moved m none level h =
       none level (in_back line moved m (IsUnderline level) h.0, subst HasText (sym (content_moves kind text lines others z)) h.1)
 
@@ -348,7 +362,7 @@ module _ (outer other : List Container) where
         let zipped = all_move Indented (λ e. cc) lines others z in (
           leaf.0,
           record {
-            inside = all_moves (Moves outer other) (λ l. ¬ EndsIndented outer l) (λ l. ¬ EndsIndented other l)
+            inside = all_moves (Moves outer other) (λ l. ¬ EndsIndented outer.containers l) (λ l. ¬ EndsIndented other.containers l)
                 (λ l k m none ends. none (out_back l k m (λ r. (¬ IsBlank r) × (¬ HasIndent r)) ends)) lines others zipped leaf.1.inside;
             last = last_moves lines others zipped leaf.1.last;
             stopped = more_moves rest after f.each leaf.1.stopped;
@@ -363,7 +377,7 @@ module _ (outer other : List Container) where
       leaf.0,
       no_table first Paragraph lines others (first_two (LaterMoves Paragraph) lines others z) leaf.1,
       stops_at Paragraph first.text lines others rest after z f.first leaf.2,
-      first_moves (Moves outer other) (λ l. (level : HeadingLevel) → ¬ Underlines outer first.text lines level l)
-          (λ l. (level : HeadingLevel) → ¬ Underlines other first.text others level l)
+      first_moves (Moves outer other) (λ l. (level : HeadingLevel) → ¬ Underlines outer.containers first.text lines level l)
+          (λ l. (level : HeadingLevel) → ¬ Underlines other.containers first.text others level l)
           (none_under Paragraph first.text lines others z) rest after f.first leaf.3,
     )

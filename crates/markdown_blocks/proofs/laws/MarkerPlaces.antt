@@ -13,7 +13,8 @@ use Rattle.markdown_scanners_tree.specs.scanners.list_items.ListItem.{IsListMark
 use Rattle.markdown_scanners_tree.specs.scanners.list_items.ListMarker.{Marker, list_marker}
 use Rattle.markdown_scanners_tree.proofs.PrefixLemmas.{both_true}
 use Rattle.markdown_scanners_tree.proofs.line.ItemLemmas.{marker-is}
-use Rattle.markdown_blocks.specs.containers.Containers.{begun_at, begun_behind, item_of}
+use Rattle.markdown_blocks.specs.containers.Containers.{begun_at, begun_behind, either_begun, footnote_of, item_of}
+use Rattle.markdown_blocks.specs.declared.containers.BlockExtensions.{BlockExtensions}
 use Rattle.markdown_blocks.specs.declared.containers.Container.TheVariants.{Item}
 use Rattle.markdown_blocks.specs.laws.Items.{Lead, IsLead}
 use Rattle.markdown_blocks.proofs.containers.ContainerLemmas.{near}
@@ -63,7 +64,7 @@ module _ (lead : Lead) (is : IsLead lead) (changed tail : List ℕ) (parts : cha
   at_tail = at_bytes before_marker lead.marker tail (0 + lead.indent) at_marker
 
   -- the item that begins there
-  module _ (next : LineState) (further width : ℕ) (begun : Bool) (no_break : is_thematic_break (lead.marker ++ tail) ≡ false)
+  module _ (asked : BlockExtensions) (next : LineState) (further width : ℕ) (begun : Bool) (no_break : is_thematic_break (lead.marker ++ tail) ≡ false)
       (follows : space_or_end_follows behind_marker ≡ true) (further_are : further_spaces (after_space 1 behind_marker) ≡ further)
       (is_next : after_space further (after_space 1 behind_marker) ≡ next) (width_is : lead.indent + length lead.marker + 1 + further ≡ width)
       (blank : is_blank (unscanned next) ≡ begun) where
@@ -74,15 +75,15 @@ module _ (lead : Lead) (is : IsLead lead) (changed tail : List ℕ) (parts : cha
         ap list_marker at_marker.text ∙ marker-is lead.marker tail lead.delimiter lead.start is.is_marker (λ one. no_break) in
         ap (item_outcome_by lead.indent before_marker) here ∙ rw (follows, further_are, is_next, width_is) refl
 
-    begun_here : begun_behind lead.indent before_marker
+    begun_here : begun_behind asked lead.indent before_marker
         ≡ Some (Item (record { delimiter = lead.delimiter; begun = begun; width = width; start = lead.start }), next)
     begun_here =
         let far : (lead.indent == 4) ≡ false = near lead.indent (omega (arith, is.few)) in
         let other : begins_with (λ b. b == greater_than_sign) (unscanned before_marker) ≡ false =
         ap (begins_with (λ b. b == greater_than_sign)) at_marker.text ∙ plain.1 in
-        rw (far, other) (ap item_of found_here
-        ∙ ap (λ b. Some (Item (record { delimiter = lead.delimiter; begun = b; width = width; start = lead.start }), next)) blank)
+        rw (far, other) (ap (λ f. either_begun f (footnote_of asked before_marker)) (ap item_of found_here
+        ∙ ap (λ b. Some (Item (record { delimiter = lead.delimiter; begun = b; width = width; start = lead.start }), next)) blank))
 
-    pub begun_there : begun_at (start_of changed)
+    pub begun_there : begun_at asked (start_of changed)
         ≡ Some (Item (record { delimiter = lead.delimiter; begun = begun; width = width; start = lead.start }), next)
-    begun_there = ap (λ n. begun_behind n before_marker) indent_there ∙ begun_here
+    begun_there = ap (λ n. begun_behind asked n before_marker) indent_there ∙ begun_here

@@ -7,7 +7,8 @@ use Rattle.markdown_scanners_tree.specs.Bytes.{begins_with, is_blank, is_space_o
 use Rattle.markdown_scanners_tree.specs.line.ItemRules.{start_of}
 use Rattle.markdown_scanners_tree.specs.line.Outcome.{after_quote, item_outcome}
 use Rattle.markdown_scanners_tree.specs.line.State.{LineState, unscanned, bytes_further, space_within, after_space}
-use Rattle.markdown_blocks.specs.containers.Containers.{behind_quote, begun_at, begun_behind, within, within_quote, behind, IsInside, item_of}
+use Rattle.markdown_blocks.specs.containers.Containers.{behind_quote, begun_at, begun_behind, either_begun, footnote_of, within, within_quote, behind, IsInside, item_of}
+use Rattle.markdown_blocks.specs.declared.containers.BlockExtensions.{BlockExtensions}
 use Rattle.markdown_blocks.specs.declared.containers.Container.{Container}
 use Rattle.markdown_blocks.specs.declared.containers.Container.TheVariants.{Quote}
 use Rattle.markdown_blocks.specs.blocks.Leaves.{IsLazy}
@@ -61,9 +62,9 @@ module _ (line quoted : List ℕ) (q : IsQuoted line quoted) where
       let far : (space_within 4 (start_of quoted) == 4) ≡ false = near (space_within 4 (start_of quoted)) (omega (arith, indent_there, q.few)) in
       rw (far, marker_there) refl
 
-  pub begun_there : begun_at (start_of quoted) ≡ Some (Quote, place_in)
+  pub begun_there : (asked : BlockExtensions) → begun_at asked (start_of quoted) ≡ Some (Quote, place_in)
   unfolding place_in
-  begun_there =
+  begun_there asked =
       let far : (space_within 4 (start_of quoted) == 4) ≡ false = near (space_within 4 (start_of quoted)) (omega (arith, indent_there, q.few)) in
       rw (far, marker_there) refl
 
@@ -94,17 +95,18 @@ no_marker_by true here s other none = refl
 no_marker_by false true s other none = cc
 no_marker_by false false s other none = refl
 
-no_marker_of : (indent : ℕ) (s : LineState) → begun_behind indent s ≡ None → behind_quote indent s ≡ None
-no_marker_of indent s none =
-    no_marker_by (indent == 4) (begins_with (λ b. b == greater_than_sign) (unscanned s)) (after_quote s) (item_of (item_outcome indent s)) none
+no_marker_of : (asked : BlockExtensions) (indent : ℕ) (s : LineState) → begun_behind asked indent s ≡ None → behind_quote indent s ≡ None
+no_marker_of asked indent s none =
+    no_marker_by (indent == 4) (begins_with (λ b. b == greater_than_sign) (unscanned s)) (after_quote s)
+    (either_begun (item_of (item_outcome indent s)) (footnote_of asked s)) none
 
-module _ (line bare : List ℕ) (q : IsBare line bare) (outer : List Container) where
+module _ (asked : BlockExtensions) (line bare : List ℕ) (q : IsBare asked line bare) (outer : List Container) where
   outside_there : behind (Quote ∷ outer) bare ≡ record { kept = 0; state = start_of bare }
   outside_there = ap (λ found. step_on outer (start_of bare) (within_quote found))
-      (no_marker_of (space_within 4 (start_of bare)) (after_space 4 (start_of bare)) q.goes_on.0)
+      (no_marker_of asked (space_within 4 (start_of bare)) (after_space 4 (start_of bare)) q.goes_on.0)
 
   pub bare_outside : ¬ IsInside (Quote ∷ outer) bare
   bare_outside inside = let kept : (behind (Quote ∷ outer) bare).kept ≡ 0 = ap (λ b. b.kept) outside_there in omega (arith, kept, inside)
 
-  pub bare_lazy : IsLazy (behind (Quote ∷ outer) bare).state
-  bare_lazy = subst (λ b. IsLazy b.state) (sym outside_there) q.goes_on
+  pub bare_lazy : IsLazy asked (behind (Quote ∷ outer) bare).state
+  bare_lazy = subst (λ b. IsLazy asked b.state) (sym outside_there) q.goes_on

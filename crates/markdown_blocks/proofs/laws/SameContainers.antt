@@ -1,16 +1,18 @@
 -- At two places with the same text behind them a line goes on with the same containers, and begins the same.
-use Rattle.std.proofs.Common.{ℕ, suc, Bool, true, false, ◌==◌, ◌+◌, ◌≡◌, List, [], ◌∷◌, Option, Some, None, refl, sym, ap, ◌∙◌, subst}
+use Rattle.std.proofs.Common.{ℕ, suc, Bool, true, false, ◌==◌, ◌+◌, ◌≡◌, List, [], ◌∷◌, length, Option, Some, None, refl, sym, ap, ◌∙◌, subst}
 use Rattle.std.specs.Prelude.{if◌then◌else◌, ⊤}
 use Rattle.markdown_scanners_tree.specs.Ascii.{greater_than_sign}
 use Rattle.markdown_scanners_tree.specs.Bytes.{begins_with, is_blank}
 use Rattle.markdown_scanners_tree.specs.line.Outcome.{Outcome, after_quote, further_spaces, item_outcome}
 use Rattle.markdown_scanners_tree.specs.line.Outcome.{item_outcome_after, item_outcome_by, not_found, space_or_end_follows}
-use Rattle.markdown_scanners_tree.specs.line.State.{LineState, unscanned, bytes_further, space_within, after_space}
+use Rattle.markdown_scanners_tree.specs.line.State.{LineState, unscanned, rest_of, leading_spaces, bytes_further, space_within, after_space}
 use Rattle.markdown_scanners_tree.specs.scanners.list_items.ListMarker.{Marker, list_marker}
-use Rattle.markdown_blocks.specs.containers.Containers.{behind_quote, begun_at, begun_behind, item_of, within, within_quote, go_on, Behind, Opens}
+use Rattle.markdown_blocks.specs.containers.Containers.{behind_quote, begun_at, begun_behind, either_begun, footnote_by, footnote_of, item_of, within, within_quote, go_on, Behind, Opens}
+use Rattle.markdown_blocks.specs.containers.Footnotes.{after_columns, footnote_label}
+use Rattle.markdown_blocks.specs.declared.containers.BlockExtensions.{BlockExtensions}
 use Rattle.markdown_blocks.specs.declared.containers.Container.{Container}
-use Rattle.markdown_blocks.specs.declared.containers.Container.TheVariants.{Quote, Item}
-use Rattle.markdown_blocks.proofs.laws.AlikeLemmas.{Alike, space_alike, bytes_alike, same_quote, same_further, same_end, same_space}
+use Rattle.markdown_blocks.specs.declared.containers.Container.TheVariants.{Quote, Item, Footnote}
+use Rattle.markdown_blocks.proofs.laws.AlikeLemmas.{Alike, space_alike, bytes_alike, same_left, same_quote, same_further, same_end, same_space}
 
 either_alike : (b c : Bool) (s t s' t' : LineState) → b ≡ c → Alike s t → Alike s' t' → Alike (if b then s else s') (if c then t else t')
 either_alike true c s t s' t' same a a' = rw (← same) a
@@ -98,25 +100,49 @@ either_found : {A : Type 0} (b c : Bool) (f g f' g' : Option (A × LineState)) �
 either_found true c f g f' g' same h h' = rw (← same) h
 either_found false c f g f' g' same h h' = rw (← same) h'
 
-begun_alike : (indent : ℕ) (s t : LineState) → Alike s t → FoundAlike (begun_behind indent s) (begun_behind indent t)
-begun_alike indent s t a =
+-- footnote definitions
+columns_alike : (s t : LineState) → Alike s t → Alike (after_columns s) (after_columns t)
+columns_alike s t a =
+    subst (λ n. Alike (after_space n s) (after_columns t)) (sym (ap leading_spaces (same_left s t a))) (space_alike s t a (leading_spaces (rest_of t)))
+
+label_alike : (s t : LineState) (label : Option (List ℕ)) → Alike s t → FoundAlike (footnote_by s label) (footnote_by t label)
+label_alike s t None a = tt
+label_alike s t (Some l) a =
+    (refl, columns_alike (bytes_further (length l + 4) s) (bytes_further (length l + 4) t) (bytes_alike s t a (length l + 4)))
+
+footnote_alike : (asked : BlockExtensions) (s t : LineState) → Alike s t → FoundAlike (footnote_of asked s) (footnote_of asked t)
+footnote_alike asked s t a =
+    either_found asked.footnotes asked.footnotes (footnote_by s (footnote_label (unscanned s))) (footnote_by t (footnote_label (unscanned t))) None None refl
+    (subst (λ l. FoundAlike (footnote_by s (footnote_label (unscanned s))) (footnote_by t l)) (ap footnote_label a.text)
+    (label_alike s t (footnote_label (unscanned s)) a)) tt
+
+first_alike : (f g f' g' : Option (Container × LineState)) → FoundAlike f g → FoundAlike f' g' → FoundAlike (either_begun f f') (either_begun g g')
+first_alike None None f' g' h h' = h'
+first_alike None (Some q) f' g' h h' = absurd h
+first_alike (Some p) None f' g' h h' = absurd h
+first_alike (Some p) (Some q) f' g' h h' = h
+
+begun_alike : (asked : BlockExtensions) (indent : ℕ) (s t : LineState) → Alike s t → FoundAlike (begun_behind asked indent s) (begun_behind asked indent t)
+begun_alike asked indent s t a =
     either_found (indent == 4) (indent == 4) None None _ _ refl tt
     (either_found (begins_with (λ b. b == greater_than_sign) (unscanned s)) (begins_with (λ b. b == greater_than_sign) (unscanned t))
-    (Some (Quote, after_quote s)) (Some (Quote, after_quote t)) (item_of (item_outcome indent s)) (item_of (item_outcome indent t))
-    (same_quote s t a) (refl, quote_alike s t a) (found_item (item_outcome indent s) (item_outcome indent t) (same_item indent s t a)))
+    (Some (Quote, after_quote s)) (Some (Quote, after_quote t)) (either_begun (item_of (item_outcome indent s)) (footnote_of asked s))
+    (either_begun (item_of (item_outcome indent t)) (footnote_of asked t)) (same_quote s t a) (refl, quote_alike s t a)
+    (first_alike (item_of (item_outcome indent s)) (item_of (item_outcome indent t)) (footnote_of asked s) (footnote_of asked t)
+    (found_item (item_outcome indent s) (item_outcome indent t) (same_item indent s t a)) (footnote_alike asked s t a)))
 
-pub same_begun : (s t : LineState) → Alike s t → FoundAlike (begun_at s) (begun_at t)
-same_begun s t a =
-    subst (λ n. FoundAlike (begun_at s) (begun_behind n (after_space 4 t))) (same_space s t a 4)
-    (begun_alike (space_within 4 s) (after_space 4 s) (after_space 4 t) (space_alike s t a 4))
+pub same_begun : (asked : BlockExtensions) (s t : LineState) → Alike s t → FoundAlike (begun_at asked s) (begun_at asked t)
+same_begun asked s t a =
+    subst (λ n. FoundAlike (begun_at asked s) (begun_behind asked n (after_space 4 t))) (same_space s t a 4)
+    (begun_alike asked (space_within 4 s) (after_space 4 s) (after_space 4 t) (space_alike s t a 4))
 
-pub same_opens : (begun : List Container) (s t after : LineState) → Alike s t → Opens s begun after
-    → (other : LineState) × Opens t begun other × Alike after other
-same_opens [] s t after a o =
-    (t, (alike_none (begun_at s) (begun_at t) (same_begun s t a) o.0, refl), subst (λ z. Alike z t) (sym o.1) a)
-same_opens (c ∷ begun) s t after a o =
-    let next = alike_some (begun_at s) (begun_at t) (c, o.0) (same_begun s t a) o.1 in
-    let more = same_opens begun o.0 next.0 after next.2 o.2 in
+pub same_opens : (asked : BlockExtensions) (begun : List Container) (s t after : LineState) → Alike s t → Opens asked s begun after
+    → (other : LineState) × Opens asked t begun other × Alike after other
+same_opens asked [] s t after a o =
+    (t, (alike_none (begun_at asked s) (begun_at asked t) (same_begun asked s t a) o.0, refl), subst (λ z. Alike z t) (sym o.1) a)
+same_opens asked (c ∷ begun) s t after a o =
+    let next = alike_some (begun_at asked s) (begun_at asked t) (c, o.0) (same_begun asked s t a) o.1 in
+    let more = same_opens asked begun o.0 next.0 after next.2 o.2 in
     (more.0, (next.0, next.1, more.1), more.2)
 
 -- the containers that the line goes on with there
@@ -147,6 +173,10 @@ same_within (Item item) false s t a =
     either_found (space_within item.width s == item.width) (space_within item.width t == item.width)
     (Some (false, after_space item.width s)) (Some (false, after_space item.width t)) None None
     (ap (λ n. n == item.width) (same_space s t a item.width)) (refl, space_alike s t a item.width) tt
+same_within Footnote true s t a = (refl, a)
+same_within Footnote false s t a =
+    either_found (space_within 4 s == 4) (space_within 4 t == 4) (Some (false, after_space 4 s)) (Some (false, after_space 4 t)) None None
+    (ap (λ n. n == 4) (same_space s t a 4)) (refl, space_alike s t a 4) tt
 
 abbrev Go : List Container → Type 0
 Go inner = (blank : Bool) (s t : LineState) → Alike s t → ((go_on blank inner s).kept ≡ (go_on blank inner t).kept)

@@ -17,9 +17,9 @@ use Rattle.markdown_scanners_tree.specs.linklabel.Key.{key_bytes}
 use Rattle.markdown_scanners_tree.specs.linklabel.Label.{Label, IsLabel, IsLabelInBytes}
 use Rattle.markdown_scanners_tree.specs.NoSkips.{SkipsNothing}
 use Rattle.markdown_scanners_tree.proofs.ForCallers.{one_label_unskipped}
-use Rattle.markdown_blocks.specs.blocks.Pages.{Piece, IsPage, IsPiece, AreBlocks, lines_in}
-use Rattle.markdown_blocks.specs.containers.Containers.{Rest}
-use Rattle.markdown_blocks.specs.declared.containers.Container.{Container}
+use Rattle.markdown_blocks.specs.blocks.Pages.{Piece, IsPage, IsPiece, AreBlocks, lines_in, root}
+use Rattle.markdown_blocks.specs.containers.Containers.{Outer, Rest}
+use Rattle.markdown_blocks.specs.declared.containers.BlockExtensions.{BlockExtensions}
 use Rattle.markdown_blocks.specs.declared.step.Step.{Step}
 use Rattle.markdown_blocks.specs.definitions.Content.{content_in}
 use Rattle.markdown_blocks.specs.definitions.Definitions.{AreDefinitions, IsDefinition}
@@ -176,37 +176,37 @@ gathered_named content gathered named (inr plain) names = at names.definitions n
 -- ---- the definitions of a page
 
 -- what the blocks name that are left, where these containers are open
-pub record Left (open_now : List Container) (text : List ℕ) (named : List Named) : Type 0 where
+pub record Left (open_now : Outer) (text : List ℕ) (named : List Named) : Type 0 where
   pub pieces : List Piece
   pub joined : lines_in pieces ≡ lines_of text
   pub each : AreBlocks open_now pieces []
   pub are_named : AreNamedIn pieces named
 
-pub none_left : (open_now : List Container) (text : List ℕ) → text ≡ [] → Left open_now text []
+pub none_left : (open_now : Outer) (text : List ℕ) → text ≡ [] → Left open_now text []
 none_left open_now text last = record { pieces = []; joined = sym (ap lines_of last); each = tt; are_named = refl }
 
-pub whole_page : (page : List ℕ) (named : List Named) → Left [] page named → HasDefinitions page named
-whole_page page named left = record {
+pub whole_page : (asked : BlockExtensions) (page : List ℕ) (named : List Named) → Left (root asked) page named → HasDefinitions asked page named
+whole_page asked page named left = record {
   pieces = left.pieces;
   is_page = record { joined = left.joined; each = left.each };
   are_named = left.are_named;
 }
 
-pub block_named : (old new : List Container) (lines : List ℕ) (step : Step) (content : List ℕ) (here later : List Named)
-    → IsStep old lines [] step new → IsContentOf step new content → Names content here
+pub block_named : (old new : Outer) (lines : List ℕ) (step : Step) (content : List ℕ) (here later : List Named)
+    → IsStep old lines [] step new → IsContentOf step new.containers content → Names content here
     → Left new (drop step.block.taken.bytes lines) later → Left old lines (here ++ later)
 block_named old new lines step content here later s c names left =
     let gathered : IsGathered (piece_content s.piece) content =
     subst (λ (w : Rest). IsGathered (content_in s.piece.kind (s.piece.kept ++ s.piece.begun) w.text s.piece.later) content) (sym s.words)
     (subst (λ k. IsGathered (content_in k (s.piece.kept ++ s.piece.begun) step.text.now s.piece.later) content) (sym s.kind)
-    (subst (λ cs. IsGathered (content_in step.block.kind cs step.text.now s.piece.later) content) s.open_now
+    (subst (λ (o : Outer). IsGathered (content_in step.block.kind o.containers step.text.now s.piece.later) content) s.open_now
     (c s.piece.first s.piece.later s.all))) in
     record {
       pieces = s.piece ∷ left.pieces;
       joined = ap (λ ls. (s.piece.first ∷ s.piece.later) ++ ls) left.joined ∙ sym s.taken.parts;
       each = (
         subst (λ ls. IsPiece old s.piece (ls ++ [])) (sym left.joined) s.is_piece,
-        subst (λ cs. AreBlocks cs left.pieces []) s.open_now left.each,
+        subst (λ o. AreBlocks o left.pieces []) s.open_now left.each,
       );
       are_named = (here, later, gathered_named (piece_content s.piece) content here gathered names, left.are_named, refl);
     }
@@ -252,7 +252,8 @@ one_named_in (piece ∷ pieces) named others are are' =
     are.4 ∙ ap (λ here. here ++ are.1) (one_names (piece_content piece) are.0 are'.0 are.2 are'.2)
     ∙ ap (λ more. are'.0 ++ more) (one_named_in pieces are.1 are'.1 are.3 are'.3) ∙ sym are'.4
 
-pub one_list_of_named : (page : List ℕ) (named others : List Named) → HasDefinitions page named → HasDefinitions page others → named ≡ others
-one_list_of_named page named others h h' =
-    let same = one_page [] h.pieces h'.pieces (h.is_page.joined ∙ sym h'.is_page.joined) h.is_page.each h'.is_page.each in
+pub one_list_of_named : (asked : BlockExtensions) (page : List ℕ) (named others : List Named) → HasDefinitions asked page named
+    → HasDefinitions asked page others → named ≡ others
+one_list_of_named asked page named others h h' =
+    let same = one_page (root asked) h.pieces h'.pieces (h.is_page.joined ∙ sym h'.is_page.joined) h.is_page.each h'.is_page.each in
     one_named_in h'.pieces named others (subst (λ ps. AreNamedIn ps named) same h.are_named) h'.are_named

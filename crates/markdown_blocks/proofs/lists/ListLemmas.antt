@@ -3,7 +3,7 @@ use Rattle.std.proofs.Common.{ℕ, suc, Bool, true, false, not, ◌&&◌, ◌||�
 use Rattle.std.proofs.Common.{refl, sym, ap, ◌∙◌, append_assoc}
 use Rattle.std.specs.Option.{option_map, option_to_list}
 use Rattle.markdown_blocks.specs.declared.containers.Container.{Container}
-use Rattle.markdown_blocks.specs.declared.containers.Container.TheVariants.{Quote, Item}
+use Rattle.markdown_blocks.specs.declared.containers.Container.TheVariants.{Quote, Item, Footnote}
 use Rattle.markdown_blocks.specs.declared.lists.Level.{Level}
 use Rattle.markdown_blocks.specs.declared.lists.ListBlock.{ListBlock}
 use Rattle.markdown_blocks.specs.declared.lists.OpenList.{OpenList}
@@ -13,7 +13,7 @@ use Rattle.markdown_blocks.specs.lists.Lists.{Child, ends_blank, last_end}
 use Rattle.markdown_blocks.proofs.lists.Followed.{is_item_of, item_list, longer, list_behind, list_before, lists_followed, parted_followed}
 use Rattle.markdown_blocks.proofs.lists.Followed.{lists_are_followed, parted_is_followed}
 use Rattle.markdown_blocks.specs.lists.Lists.{end_of, ends_blank_line, leaf_child, container_child, child_unless, children, lists_of}
-use Rattle.markdown_blocks.specs.lists.Tracked.{at_start, Tracked, list_now, joins, loosened, list_begun, begun, is_item, level_within, leaf_read, lists_behind}
+use Rattle.markdown_blocks.specs.lists.Tracked.{at_start, Tracked, list_now, joins, loosened, list_begun, begun, ends_with_block, level_within, leaf_read, lists_behind}
 
 or_false : (b : Bool) → (b || false) ≡ b
 or_false true = refl
@@ -36,7 +36,7 @@ append_nil [] = refl
 append_nil (x ∷ xs) = ap (λ ys. x ∷ ys) (append_nil xs)
 
 abbrev level_of : Bool → Bool → Option OpenList → Level
-level_of item parted list = record { is_item = item; is_parted = parted; list = list }
+level_of item parted list = record { ends_with_block = item; is_parted = parted; list = list }
 
 abbrev at : ℕ → ℕ → Bool → Bool → Level → List Level → Tracked
 at line end blank fresh level outer = record {
@@ -99,11 +99,13 @@ list_ended : (c : Container) (list : Option OpenList) (end : ℕ) (outer : List 
     → (if joins list c then None else now list end outer)
     ≡ (if is_item_of (now list end outer) (Some c) then None else now list end outer)
 list_ended Quote list end outer = refl
+list_ended Footnote list end outer = refl
 list_ended (Item i) None end outer = refl
 list_ended (Item i) (Some l) end outer = refl
 
 joined : (c : Container) (list : Option OpenList) (end : ℕ) (outer : List Level) → joins list c ≡ is_item_of (now list end outer) (Some c)
 joined Quote list end outer = refl
+joined Footnote list end outer = refl
 joined (Item i) None end outer = refl
 joined (Item i) (Some l) end outer = refl
 
@@ -112,6 +114,7 @@ list_then : (c : Container) (list : Option OpenList) (blank : Bool) (outer : Lis
     → now (loosened (begun (level_of false false list) c blank child.line).list child.is_parted) child.end outer
     ≡ (if is_item_of (now list before outer) (Some c) then longer (now list before outer) blank child else item_list (length outer) child (Some c))
 list_then Quote list blank outer before child = refl
+list_then Footnote list blank outer before child = refl
 list_then (Item i) None blank outer before child = refl
 list_then (Item i) (Some l) blank outer before child = alike (l.delimiter == i.delimiter)
   where
@@ -122,12 +125,14 @@ list_then (Item i) (Some l) blank outer before child = alike (l.delimiter == i.d
     alike false = refl
 
 end_is : (c : Container) (line passed : ℕ) (content : List Child)
-    → (if is_item c then last_end line content else passed) ≡ end_of c line passed content
+    → (if ends_with_block c then last_end line content else passed) ≡ end_of c line passed content
 end_is Quote line passed content = refl
+end_is Footnote line passed content = refl
 end_is (Item i) line passed content = refl
 
-blank_is : (c : Container) (content : List Child) → (is_item c && ends_blank false content) ≡ ends_blank_line c content
+blank_is : (c : Container) (content : List Child) → (ends_with_block c && ends_blank false content) ≡ ends_blank_line c content
 blank_is Quote content = refl
+blank_is Footnote content = refl
 blank_is (Item i) content = refl
 
 -- the lists of nodes, and those behind the end of what they stand in
@@ -191,17 +196,17 @@ module _ (c : Container) (place : ℕ) (inner nodes : Nodes) (found_in : AreFoun
       let level = begun (level_of item parted list) c blank line in
       let before = option_to_list (if joins list c then None else now list end outer) in
       let behind = flatten nodes ++ tail outer later in
-      let end_now = if is_item c then last_end line content else passed in
-      let blank_now = is_item c && ends_blank false content in
+      let end_now = if ends_with_block c then last_end line content else passed in
+      let blank_now = ends_with_block c && ends_blank false content in
       let list_then_now = loosened level.list child.is_parted in
       let among = child.inside in
       let closing : Bool → List ListBlock = λ p.
-      lists_after (level ∷ outer) passed (last_end line content) (ends_blank false content) (is_item c) p behind in
+      lists_after (level ∷ outer) passed (last_end line content) (ends_blank false content) (ends_with_block c) p behind in
       let behind_child : Option ListBlock → Bool → ℕ → Bool → List ListBlock = λ o b e q.
       told outer o (b || begins_blank nodes) others far e item (parted || q) later in
       ap (λ es. before ++ lists_behind (at line line false true (level_within c) (level ∷ outer)) es)
       (append_assoc (flatten inner) (ends ∷ flatten nodes) (tail outer later))
-      ∙ ap (λ ls. before ++ ls) (found_in line line false true (is_item c) false None (level ∷ outer) behind)
+      ∙ ap (λ ls. before ++ ls) (found_in line line false true (ends_with_block c) false None (level ∷ outer) behind)
       ∙ ap (λ ls. before ++ (ls ++ closing (parted_followed (suc (length outer)) None false content))) (lists_are_followed (suc (length outer)) content)
       ∙ ap (λ p. before ++ (among ++ closing p)) (parted_is_followed (suc (length outer)) content)
       ∙ ap (λ ls. before ++ (among ++ ls)) (found passed end_now blank_now false item level.is_parted list_then_now outer later)

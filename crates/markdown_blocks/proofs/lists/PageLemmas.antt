@@ -5,9 +5,10 @@ use Rattle.std.specs.Prelude.{map, replicate}
 use Rattle.std.proofs.lemmas.List.{length-take}
 use Rattle.markdown_blocks.proofs.events.EventLemmas.{kept_fewer, one_list_of_events}
 use Rattle.markdown_blocks.proofs.lists.ListLemmas.{page_lists}
-use Rattle.markdown_blocks.specs.blocks.Pages.{Piece, IsPiece, AreBlocks}
+use Rattle.markdown_blocks.specs.blocks.Pages.{Piece, IsPiece, AreBlocks, open_behind, root}
 use Rattle.markdown_scanners_tree.specs.line.State.{LineState}
-use Rattle.markdown_blocks.specs.containers.Containers.{behind, marker_place, after_marker}
+use Rattle.markdown_blocks.specs.containers.Containers.{Outer, behind, marker_place, after_marker}
+use Rattle.markdown_blocks.specs.declared.containers.BlockExtensions.{BlockExtensions}
 use Rattle.markdown_blocks.specs.declared.containers.Container.{Container}
 use Rattle.markdown_blocks.specs.declared.lists.ListBlock.{ListBlock}
 use Rattle.markdown_blocks.specs.events.Events.{Event, starts, leaf, ends, LeafBlock, started, AreEvents, open_after, IsEventsOf}
@@ -60,48 +61,51 @@ nest_none : (depth : ℕ) → AreNested depth (replicate depth ends)
 nest_none zero = (nothing, refl)
 nest_none (suc depth) = nest_end depth (replicate depth ends) (nest_none depth)
 
-kept_few : (outer : List Container) (piece : Piece) (rest : List (List ℕ)) → IsPiece outer piece rest → length piece.kept ≤ length outer
+kept_few : (outer : Outer) (piece : Piece) (rest : List (List ℕ)) → IsPiece outer piece rest → length piece.kept ≤ length outer.containers
 kept_few outer piece rest p =
-    let count = (behind outer piece.first).kept in
-    let here : length piece.kept ≡ length (take count outer) = ap length p.opened.goes_on ∙ kept_fewer (take count outer) in
-    omega (arith, here, length-take count outer)
+    let count = (behind outer.containers piece.first).kept in
+    let here : length piece.kept ≡ length (take count outer.containers) = ap length p.opened.goes_on ∙ kept_fewer (take count outer.containers) in
+    omega (arith, here, length-take count outer.containers)
 
 -- the events of a piece, and those after it
 regroup : (x y z blocks all : List Event) → x ++ y ++ z ++ blocks ++ all ≡ x ++ (y ++ (z ++ (blocks ++ all)))
 regroup x y z blocks all =
     append_assoc (x ++ y ++ z) blocks all ∙ append_assoc (x ++ y) z (blocks ++ all) ∙ append_assoc x y (z ++ (blocks ++ all))
 
-events_nested : (pieces : List Piece) (outer : List Container) (line start : ℕ) (blocks : List Event) → AreBlocks outer pieces []
-    → AreEvents outer line start pieces blocks
-    → AreNested (length outer) (blocks ++ replicate (open_after (length outer) pieces) ends)
-events_nested [] outer line start blocks each are = subst (λ es. AreNested (length outer) (es ++ replicate (length outer) ends)) (sym are) (nest_none (length outer))
+events_nested : (pieces : List Piece) (outer : Outer) (line start : ℕ) (blocks : List Event) → AreBlocks outer pieces []
+    → AreEvents outer.containers line start pieces blocks
+    → AreNested (length outer.containers) (blocks ++ replicate (open_after (length outer.containers) pieces) ends)
+events_nested [] outer line start blocks each are = subst (λ es. AreNested (length outer.containers) (es ++ replicate (length outer.containers) ends))
+    (sym are) (nest_none (length outer.containers))
 events_nested (piece ∷ later) outer line start blocks each are =
     let few = kept_few outer piece _ each.0 in
     let inside = piece.kept ++ piece.begun in
     let all = replicate (open_after (length inside) later) ends in
-    let gone = replicate (length outer - length piece.kept) ends in
-    let new = started start (behind outer piece.first).state piece.begun in
-    let n = events_nested later inside _ _ are.1 each.1 are.4 in
-    subst (AreNested (length outer)) (sym (ap (λ es. es ++ all) are.3 ∙ regroup gone new (map leaf are.0) are.1 all))
-    (nest_ends (length outer - length piece.kept) (length piece.kept) (length outer) _ (omega (arith, few))
-    (nest_starts piece.begun start (behind outer piece.first).state (length piece.kept) (length inside) _
+    let gone = replicate (length outer.containers - length piece.kept) ends in
+    let new = started start (behind outer.containers piece.first).state piece.begun in
+    let n = events_nested later (open_behind outer piece) _ _ are.1 each.1 are.4 in
+    subst (AreNested (length outer.containers)) (sym (ap (λ es. es ++ all) are.3 ∙ regroup gone new (map leaf are.0) are.1 all))
+    (nest_ends (length outer.containers - length piece.kept) (length piece.kept) (length outer.containers) _ (omega (arith, few))
+    (nest_starts piece.begun start (behind outer.containers piece.first).state (length piece.kept) (length inside) _
     (sym (length-append piece.kept piece.begun)) (nest_leaves are.0 (length inside) (are.1 ++ all) n)))
 
 -- the events of a page are those of nodes
-pub events_of_nodes : (page : List ℕ) (events : List Event) → IsEventsOf page events → (nodes : Nodes) × (events ≡ flatten nodes)
-events_of_nodes page events h =
-    let n = events_nested h.0 [] 0 0 h.1 h.2.each h.3 in
+pub events_of_nodes : (asked : BlockExtensions) (page : List ℕ) (events : List Event) → IsEventsOf asked page events → (nodes : Nodes)
+    × (events ≡ flatten nodes)
+events_of_nodes asked page events h =
+    let n = events_nested h.0 (root asked) 0 0 h.1 h.2.each h.3 in
     (n.0, h.4 ∙ n.1)
 
 -- what the lists of such nodes are, the page's are
-pub lists_are : (page : List ℕ) (all : List Event) (found : List ListBlock) → IsEventsOf page all
-    → ((nodes : Nodes) → all ≡ flatten nodes → lists_of nodes ≡ found) → AreListsOf page found
-lists_are page all found events same =
-    let n = events_of_nodes page all events in
-    (n.0, subst (IsEventsOf page) n.1 events, sym (same n.0 n.1))
+pub lists_are : (asked : BlockExtensions) (page : List ℕ) (all : List Event) (found : List ListBlock) → IsEventsOf asked page all
+    → ((nodes : Nodes) → all ≡ flatten nodes → lists_of nodes ≡ found) → AreListsOf asked page found
+lists_are asked page all found events same =
+    let n = events_of_nodes asked page all events in
+    (n.0, subst (IsEventsOf asked page) n.1 events, sym (same n.0 n.1))
 
 -- a page has one list of lists
-pub one_list_of_lists : (page : List ℕ) (lists others : List ListBlock) → AreListsOf page lists → AreListsOf page others → lists ≡ others
-one_list_of_lists page lists others h h' =
-    let same = one_list_of_events page (flatten h.0) (flatten h'.0) h.1 h'.1 in
+pub one_list_of_lists : (asked : BlockExtensions) (page : List ℕ) (lists others : List ListBlock) → AreListsOf asked page lists
+    → AreListsOf asked page others → lists ≡ others
+one_list_of_lists asked page lists others h h' =
+    let same = one_list_of_events asked page (flatten h.0) (flatten h'.0) h.1 h'.1 in
     h.2 ∙ sym (page_lists h.0) ∙ ap (lists_behind at_start) same ∙ page_lists h'.0 ∙ sym h'.2

@@ -6,9 +6,8 @@ use mir.Val.{bool_byte}
 use Rattle.markdown_values.specs.declared.values.Alignment.{Alignment}
 use Rattle.markdown_scanners_tree.proofs.ForCallers.{one_row}
 use Rattle.markdown_scanners_tree.specs.line.State.{LineState}
-use Rattle.markdown_blocks.specs.containers.Containers.{Rest, rest_at, begun_at, behind, IsInside, rest_in}
+use Rattle.markdown_blocks.specs.containers.Containers.{Outer, Rest, rest_at, begun_at, behind, IsInside, rest_in}
 use Rattle.markdown_blocks.specs.declared.blocks.BlockKind.TheVariants.{Paragraph}
-use Rattle.markdown_blocks.specs.declared.containers.Container.{Container}
 use Rattle.markdown_blocks.specs.blocks.Leaves.{Begins, IsRow, In, IsHead, LeavesParagraph}
 use Rattle.markdown_blocks.specs.blocks.Tables.{separates, separators, ends_separated, cells, IsDelimiter}
 
@@ -47,12 +46,12 @@ few_more true count i n one few = omega (arith, one, few)
 few_more false count i n one few = omega (arith, one, few)
 
 -- a test of a line in which none begins
-pub row_told : (outer : List Container) (line : List ℕ) (s : LineState) (rest : Rest) (r : Bool) → s ≡ (behind outer line).state → rest ≡ rest_at s
-    → IsInside outer line → begun_at s ≡ None → (IsTrue r → Begins Paragraph rest) × (Begins Paragraph rest → IsTrue r)
+pub row_told : (outer : Outer) (line : List ℕ) (s : LineState) (rest : Rest) (r : Bool) → s ≡ (behind outer.containers line).state → rest ≡ rest_at s
+    → IsInside outer.containers line → begun_at outer.extensions s ≡ None → (IsTrue r → Begins Paragraph rest) × (Begins Paragraph rest → IsTrue r)
     → (IsTrue r → IsRow outer line) × (IsRow outer line → IsTrue r)
 row_told outer line s rest r same is inside none tells =
-    let at : rest ≡ rest_at (behind outer line).state = is ∙ ap rest_at same in (
-      λ t. (subst (λ z. begun_at z ≡ None) same none, (inside, subst (Begins Paragraph) at (tells.0 t))),
+    let at : rest ≡ rest_at (behind outer.containers line).state = is ∙ ap rest_at same in (
+      λ t. (subst (λ z. begun_at outer.extensions z ≡ None) same none, (inside, subst (Begins Paragraph) at (tells.0 t))),
       λ row. tells.1 (subst (Begins Paragraph) (sym at) row.1.1),
     )
 
@@ -63,13 +62,13 @@ one_number rest columns other d o =
     o.4 ∙ ap (λ (row : ℕ × List Alignment). length row.1) (sym same) ∙ sym d.4
 
 -- a line that is the delimiter row of no table
-pub no_delimiter : (outer : List Container) (text line : List ℕ) → ((columns : ℕ) → ¬ In outer (IsDelimiter columns) line)
+pub no_delimiter : (outer : Outer) (text line : List ℕ) → ((columns : ℕ) → ¬ In outer.containers (IsDelimiter columns) line)
     → (columns : ℕ) → ¬ IsHead outer text columns line
 no_delimiter outer text line none columns head = none columns head.1
 
 -- or of a table of so many columns
-module _ (outer : List Container) (text line : List ℕ) (columns : ℕ) (found : In outer (IsDelimiter columns) line) where
+module _ (outer : Outer) (text line : List ℕ) (columns : ℕ) (found : In outer.containers (IsDelimiter columns) line) where
   pub no_head : (cells text ≡ columns → LeavesParagraph outer line) → (other : ℕ) → ¬ IsHead outer text other line
   no_head leaves other head =
-      let same : other ≡ columns = one_number (rest_in outer line) columns other found.1 head.1.1 in
+      let same : other ≡ columns = one_number (rest_in outer.containers line) columns other found.1 head.1.1 in
       head.0 (leaves (head.2 ∙ same))

@@ -4,7 +4,7 @@ use Rattle.std.proofs.Common.{drop, Some, None, refl, sym, ap, ◌∙◌, subst,
 use Rattle.std.proofs.lemmas.List.{take_all}
 use Rattle.markdown_scanners_tree.specs.line.State.{LineState, after_space}
 use Rattle.markdown_scanners_tree.specs.scanners.TextLines.{lines_of}
-use Rattle.markdown_blocks.specs.containers.Containers.{Rest, rest_at, behind, begun_at, begun_behind, Opens, settled, settled_last}
+use Rattle.markdown_blocks.specs.containers.Containers.{Outer, Rest, rest_at, behind, begun_at, begun_behind, Opens, settled, settled_last}
 use Rattle.markdown_blocks.specs.declared.blocks.Block.{Block}
 use Rattle.markdown_blocks.specs.declared.containers.Container.{Container}
 use Rattle.markdown_blocks.specs.blocks.Leaves.{IsLeaf}
@@ -24,35 +24,37 @@ settled-push (a ∷ []) c = refl
 settled-push (a ∷ b ∷ outer) c = ap (λ cs. a ∷ cs) (settled-push (b ∷ outer) c)
 
 -- the containers that the line has begun so far, and the rest of it
-pub record Opening (old : List Container) (line : List ℕ) (now : List Container) (count : ℕ) (rest : Rest) (start : LineState) : Type 0 where
+pub record Opening (old : Outer) (line : List ℕ) (now : List Container) (count : ℕ) (rest : Rest) (start : LineState) : Type 0 where
   pub kept : List Container
   pub begun : List Container
   pub place : LineState
   pub open_now : now ≡ kept ++ begun
   pub counted : count ≡ length kept
-  pub goes_on : kept ≡ settled_last (take (behind old line).kept old)
+  pub goes_on : kept ≡ settled_last (take (behind old.containers line).kept old.containers)
   pub is_rest : rest ≡ rest_at place
   pub state : start ≡ after_space 4 place
-  pub goes : (more : List Container) (after : LineState) → Opens place more after → Opens (behind old line).state (begun ++ more) after
+  pub goes : (more : List Container) (after : LineState) → Opens old.extensions place more after
+      → Opens old.extensions (behind old.containers line).state (begun ++ more) after
 
-module _ (old : List Container) (line : List ℕ) where
-  pub opening-first : (now : List Container) (count kept : ℕ) (rest : Rest) (s start : LineState) → count ≡ length now → kept ≡ (behind old line).kept
-      → now ≡ settled_last (take kept old) → s ≡ (behind old line).state → rest ≡ rest_at s → start ≡ after_space 4 s
+module _ (old : Outer) (line : List ℕ) where
+  pub opening-first : (now : List Container) (count kept : ℕ) (rest : Rest) (s start : LineState) → count ≡ length now
+      → kept ≡ (behind old.containers line).kept
+      → now ≡ settled_last (take kept old.containers) → s ≡ (behind old.containers line).state → rest ≡ rest_at s → start ≡ after_space 4 s
       → Opening old line now count rest start
   opening-first now count kept rest s start counts keeps left at is state = record {
     kept = now;
     begun = [];
-    place = (behind old line).state;
+    place = (behind old.containers line).state;
     open_now = sym (append-nil now);
     counted = counts;
-    goes_on = subst (λ n. now ≡ settled_last (take n old)) keeps left;
+    goes_on = subst (λ n. now ≡ settled_last (take n old.containers)) keeps left;
     is_rest = subst (λ z. rest ≡ rest_at z) at is;
     state = subst (λ z. start ≡ after_space 4 z) at state;
     goes = λ more after h. h;
   }
 
   pub opening-next : (now more_now : List Container) (count : ℕ) (rest more : Rest) (start next after : LineState) (c : Container)
-      → Opening old line now count rest start → begun_behind rest.indent start ≡ Some (c, next) → more_now ≡ now ++ c ∷ []
+      → Opening old line now count rest start → begun_behind old.extensions rest.indent start ≡ Some (c, next) → more_now ≡ now ++ c ∷ []
       → more ≡ rest_at next → after ≡ after_space 4 next → Opening old line more_now count more after
   opening-next now more_now count rest left start next after c o found grown is state = record {
     kept = o.kept;
@@ -66,12 +68,12 @@ module _ (old : List Container) (line : List ℕ) where
     goes = λ more last h. rw append_assoc (o.goes (c ∷ more) last (next, here, h));
   }
     where
-      here : begun_at o.place ≡ Some (c, next)
-      here = subst (λ n. begun_behind n (after_space 4 o.place) ≡ Some (c, next)) (ap (λ (r : Rest). r.indent) o.is_rest)
-          (subst (λ z. begun_behind rest.indent z ≡ Some (c, next)) o.state found)
+      here : begun_at old.extensions o.place ≡ Some (c, next)
+      here = subst (λ n. begun_behind old.extensions n (after_space 4 o.place) ≡ Some (c, next)) (ap (λ (r : Rest). r.indent) o.is_rest)
+          (subst (λ z. begun_behind old.extensions rest.indent z ≡ Some (c, next)) o.state found)
 
   pub opening-done : (now : List Container) (count : ℕ) (rest : Rest) (start : LineState) → Opening old line now count rest start
-      → begun_behind rest.indent start ≡ None → IsOpening old line now count rest
+      → begun_behind old.extensions rest.indent start ≡ None → IsOpening old line now count rest
   opening-done now count rest start o none = record {
     kept = o.kept;
     begun = o.begun;
@@ -85,12 +87,12 @@ module _ (old : List Container) (line : List ℕ) where
     };
   }
     where
-      here : begun_at o.place ≡ None
-      here = subst (λ n. begun_behind n (after_space 4 o.place) ≡ None) (ap (λ (r : Rest). r.indent) o.is_rest)
-          (subst (λ z. begun_behind rest.indent z ≡ None) o.state none)
+      here : begun_at old.extensions o.place ≡ None
+      here = subst (λ n. begun_behind old.extensions n (after_space 4 o.place) ≡ None) (ap (λ (r : Rest). r.indent) o.is_rest)
+          (subst (λ z. begun_behind old.extensions rest.indent z ≡ None) o.state none)
 
 -- a block has a byte, and no more than the text
-pub some_bytes : (text : List ℕ) (outer : List Container) (line : List ℕ) (words : Rest) (block : Block) → IsBlockOf text outer line words block
+pub some_bytes : (text : List ℕ) (outer : Outer) (line : List ℕ) (words : Rest) (block : Block) → IsBlockOf text outer line words block
     → (0 < block.taken.bytes) × (block.taken.bytes ≤ length text) × (block.taken.lines ≤ block.taken.bytes)
 some_bytes text outer line words block h =
     let counted = h.taken.counted in let few = block.taken.few in let within = h.taken.within in (omega arith, within, few)
@@ -101,19 +103,26 @@ pub kept_settled : (old now popped after : List Container) (kept : ℕ) (last c 
 kept_settled old now popped after kept last c short same is settles grown =
     grown ∙ ap (λ x. popped ++ x ∷ []) settles ∙ sym (settled-push popped last) ∙ ap settled_last (sym is ∙ sym (take_all kept now short) ∙ same)
 
+-- the extensions that are on, and these containers
+abbrev pub with_open : Outer → List Container → Outer
+with_open old inner = record { extensions = old.extensions; containers = inner }
+
 -- the block at the front of the lines is a step
-pub step_here : (old inner : List Container) (line lines : List ℕ) (more : List (List ℕ)) (step : Step) → IsOpening old line inner step.kept (rest_of step)
-    → step.line.now ≡ line → step.start ≡ (behind old line).state → step.lines.now ≡ take step.block.taken.bytes lines
-    → (b : IsBlockOf lines inner line (rest_of step) step.block)
-    → IsLeaf inner step.block.kind (rest_of step) b.later (lines_of (drop step.block.taken.bytes lines) ++ more) → IsStep old lines more step inner
+pub step_here : (old : Outer) (inner : List Container) (line lines : List ℕ) (more : List (List ℕ)) (step : Step)
+    → IsOpening old line inner step.kept (rest_of step)
+    → step.line.now ≡ line → step.start ≡ (behind old.containers line).state → step.lines.now ≡ take step.block.taken.bytes lines
+    → (b : IsBlockOf lines (with_open old inner) line (rest_of step) step.block)
+    → IsLeaf (with_open old inner) step.block.kind (rest_of step) b.later (lines_of (drop step.block.taken.bytes lines) ++ more)
+    → IsStep old lines more step (with_open old inner)
 step_here old inner line lines more step o first place own b leaf = record {
   piece = record { kept = o.kept; begun = o.begun; words = rest_of step; kind = step.block.kind; first = line; later = b.later };
   is_piece = record {
     opened = o.opened;
-    leaf = subst (λ cs. IsLeaf cs step.block.kind (rest_of step) b.later (lines_of (drop step.block.taken.bytes lines) ++ more)) o.open_now leaf;
+    leaf = subst (λ cs. IsLeaf (with_open old cs) step.block.kind (rest_of step) b.later (lines_of (drop step.block.taken.bytes lines) ++ more)) o.open_now
+        leaf;
   };
   taken = b.taken;
-  open_now = o.open_now;
+  open_now = ap (with_open old) o.open_now;
   counted = o.counted;
   kind = refl;
   words = refl;
@@ -132,19 +141,20 @@ content_here lines text block inner line later gathered t is first others all =
     subst (λ ls. IsGathered (content_in block.kind inner text ls) gathered) (let ls : later ≡ others = cc in ls) is
 
 -- it is not over, so that no block at the front is
-pub none_over : (old inner : List Container) (line lines : List ℕ) (has_ended : Bool) (count : ℕ) (words : Rest) (block : Block)
-    → IsOpening old line inner count words → IsBlockOf lines inner line words block
+pub none_over : (old : Outer) (inner : List Container) (line lines : List ℕ) (has_ended : Bool) (count : ℕ) (words : Rest) (block : Block)
+    → IsOpening old line inner count words → IsBlockOf lines (with_open old inner) line words block
     → ¬ IsOver inner block.kind has_ended (lines_of (drop block.taken.bytes lines)) → NoneIsOver old lines has_ended
 none_over old inner line lines has_ended count words block o b open_yet piece rest parts is over =
     let here : Piece = record { kept = o.kept; begun = o.begun; words = words; kind = block.kind; first = line; later = b.later } in
     let left : List (List ℕ) = lines_of (drop block.taken.bytes lines) in
-    let here_is : IsPiece old here left = record { opened = o.opened; leaf = subst (λ cs. IsLeaf cs block.kind words b.later left) o.open_now b.leaf } in
+    let here_is : IsPiece old here left = record { opened = o.opened; leaf = subst
+        (λ cs. IsLeaf (with_open old cs) block.kind words b.later left) o.open_now b.leaf } in
     let one = one_piece old here piece left rest (sym b.taken.parts ∙ parts) here_is is in
     let over_here : IsOver (o.kept ++ o.begun) block.kind has_ended rest =
     subst (λ p. IsOver (p.kept ++ p.begun) p.kind has_ended rest) (sym one.0) over in
     open_yet (subst (λ cs. IsOver cs block.kind has_ended left) (sym o.open_now)
     (subst (λ ls. IsOver (o.kept ++ o.begun) block.kind has_ended ls) (sym one.1) over_here))
 
-pub none_left : (old : List Container) (lines : List ℕ) (has_ended : Bool) → lines_of lines ≡ [] → NoneIsOver old lines has_ended
+pub none_left : (old : Outer) (lines : List ℕ) (has_ended : Bool) → lines_of lines ≡ [] → NoneIsOver old lines has_ended
 none_left old lines has_ended none piece rest parts is over =
     let both : ◌≡◌ {A = List (List ℕ)} [] ((piece.first ∷ piece.later) ++ rest) = sym none ∙ parts in cc

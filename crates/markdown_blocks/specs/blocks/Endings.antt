@@ -1,37 +1,36 @@
 -- What a scan for the end of a block looks for in a line.
 use Rattle.std.specs.Prelude.{ℕ, List, IsTrue, ◌↔◌}
 use Rattle.markdown_values.specs.declared.values.HeadingLevel.{HeadingLevel}
-use Rattle.markdown_scanners_tree.specs.scanners.Interrupts.{InterruptsParagraph}
-use Rattle.markdown_blocks.specs.containers.Containers.{Rest, rest_in}
+use Rattle.markdown_blocks.specs.containers.Containers.{Outer, Rest, rest_in}
 use Rattle.markdown_blocks.specs.declared.blocks.Ending.{Ending}
 use Rattle.markdown_blocks.specs.declared.blocks.Ending.TheVariants.{Text, Paragraph, Fence, Html}
 use Rattle.markdown_blocks.specs.declared.blocks.NextLine.{NextLine}
 use Rattle.markdown_blocks.specs.declared.blocks.NextLine.TheVariants as next
 use Rattle.markdown_blocks.specs.declared.blocks.Underline.{Underline}
-use Rattle.markdown_blocks.specs.declared.containers.Container.{Container}
-use Rattle.markdown_blocks.specs.blocks.Leaves.{IsBlank, EndsParagraph, ClosesFence, EndsHtml, In, OutOr, IsUnderline}
+use Rattle.markdown_blocks.specs.declared.containers.BlockExtensions.{BlockExtensions}
+use Rattle.markdown_blocks.specs.blocks.Leaves.{IsBlank, EndsParagraph, ClosesFence, EndsHtml, In, Interrupts, OutOr, IsUnderline}
 use Rattle.markdown_blocks.specs.blocks.Leaves.{LeavesParagraph, LeavesBehind, Underlines}
 
 -- what a line has in the open containers where it ends the block
-abbrev pub Ends : Ending → Rest → Type 0
-Ends Text rest = ¬ IsBlank rest
-Ends Paragraph rest = EndsParagraph rest
-Ends (Fence count byte) rest = ClosesFence count byte rest
-Ends (Html kind) rest = EndsHtml kind rest
+abbrev pub Ends : BlockExtensions → Ending → Rest → Type 0
+Ends asked Text rest = ¬ IsBlank rest
+Ends asked Paragraph rest = EndsParagraph asked rest
+Ends asked (Fence count byte) rest = ClosesFence count byte rest
+Ends asked (Html kind) rest = EndsHtml kind rest
 
 -- the line ends it: by that, or since it does not stand in them and is no lazy line of a paragraph
-abbrev pub IsEnd : List Container → Ending → List ℕ → Type 0
+abbrev pub IsEnd : Outer → Ending → List ℕ → Type 0
 IsEnd outer Paragraph line = LeavesParagraph outer line
-IsEnd outer ending line = OutOr outer (Ends ending) line
+IsEnd outer ending line = OutOr outer.containers (Ends outer.extensions ending) line
 
 -- the line is an underline in the containers, of this level, and interrupts a paragraph where it is said
-pub record IsUnderlineIn (outer : List Container) (underline : Underline) (line : List ℕ) : Type 0 where
-  pub underlines : In outer (IsUnderline underline.level) line
-  pub interrupts : IsTrue underline.interrupts ↔ InterruptsParagraph (rest_in outer line).text
+pub record IsUnderlineIn (outer : Outer) (underline : Underline) (line : List ℕ) : Type 0 where
+  pub underlines : In outer.containers (IsUnderline underline.level) line
+  pub interrupts : IsTrue underline.interrupts ↔ Interrupts outer.extensions (rest_in outer.containers line).text
 
 -- what the line is to a paragraph whose first line has this text, with these later lines before it
-abbrev pub IsNextLine : List Container → List ℕ → List (List ℕ) → List ℕ → NextLine → Type 0
+abbrev pub IsNextLine : Outer → List ℕ → List (List ℕ) → List ℕ → NextLine → Type 0
 IsNextLine outer text before line next.GoesOn = ¬ LeavesBehind outer text before line
-IsNextLine outer text before line (next.Underlines level) = Underlines outer text before level line
+IsNextLine outer text before line (next.Underlines level) = Underlines outer.containers text before level line
 IsNextLine outer text before line next.Ends =
-    LeavesBehind outer text before line × ((level : HeadingLevel) → ¬ Underlines outer text before level line)
+    LeavesBehind outer text before line × ((level : HeadingLevel) → ¬ Underlines outer.containers text before level line)

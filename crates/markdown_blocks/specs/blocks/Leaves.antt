@@ -1,5 +1,5 @@
 -- Where the blocks of a page begin and end, line by line, in their containers. (CommonMark 0.31.2, chapter 4)
-use Rattle.std.specs.Prelude.{ℕ, List, [], ◌∷◌, ◌++◌, ◌≡◌, ◌⊎◌, ⊤, None, IsTrue, MatchBool}
+use Rattle.std.specs.Prelude.{ℕ, ◌&&◌, List, [], ◌∷◌, ◌++◌, ◌≡◌, ◌⊎◌, ⊤, None, is_some, IsTrue, MatchBool}
 use Rattle.std.specs.List.{AllByRecursion}
 use Rattle.markdown_values.specs.declared.values.HeadingLevel.{HeadingLevel}
 use Rattle.markdown_scanners_tree.specs.Bytes.{is_blank}
@@ -10,7 +10,9 @@ use Rattle.markdown_scanners_tree.specs.scanners.Fences.{IsCodeFence, IsClosingC
 use Rattle.markdown_scanners_tree.specs.scanners.Headings.{IsAtxHeading, IsSetextUnderline}
 use Rattle.markdown_scanners_tree.specs.scanners.Interrupts.{InterruptsParagraph}
 use Rattle.markdown_scanners_tree.specs.scanners.html_kinds.HtmlKinds.{IsHtmlBlockStart, ends_before_blank, is_html_end}
-use Rattle.markdown_blocks.specs.containers.Containers.{Rest, rest_at, begun_at, behind, IsInside, rest_in}
+use Rattle.markdown_blocks.specs.containers.Containers.{Outer, Rest, rest_at, begun_at, behind, IsInside, rest_in}
+use Rattle.markdown_blocks.specs.containers.Footnotes.{footnote_label}
+use Rattle.markdown_blocks.specs.declared.containers.BlockExtensions.{BlockExtensions}
 use Rattle.markdown_blocks.specs.declared.blocks.BlockKind.{BlockKind}
 use Rattle.markdown_blocks.specs.declared.blocks.BlockKind.TheVariants.{Blank, Break, Heading, Setext, Indented, Fenced, Html, Table, Definition, Paragraph}
 use Rattle.markdown_blocks.specs.declared.containers.Container.{Container}
@@ -52,17 +54,21 @@ Begins kind rest = (¬ IsBlank rest) × (¬ HasIndent rest) × BeginsAt kind res
 abbrev pub IsUnderline : HeadingLevel → Rest → Type 0
 IsUnderline level rest = (¬ HasIndent rest) × (n : ℕ) × IsSetextUnderline rest.text n level
 
+-- with these extensions on a text, behind fewer than four columns of space, interrupts a paragraph (4.8)
+abbrev pub Interrupts : BlockExtensions → List ℕ → Type 0
+Interrupts asked text = InterruptsParagraph text ⊎ IsTrue (asked.footnotes && is_some (footnote_label text))
+
 -- it goes on with no paragraph: it is blank, an underline, or interrupts it (4.8)
-abbrev pub EndsParagraph : Rest → Type 0
-EndsParagraph rest =
-    IsBlank rest ⊎ (((level : HeadingLevel) × IsUnderline level rest) ⊎ ((¬ HasIndent rest) × InterruptsParagraph rest.text))
+abbrev pub EndsParagraph : BlockExtensions → Rest → Type 0
+EndsParagraph asked rest =
+    IsBlank rest ⊎ (((level : HeadingLevel) × IsUnderline level rest) ⊎ ((¬ HasIndent rest) × Interrupts asked rest.text))
 
 -- It goes on with no paragraph that has this content before it: it is blank, an underline behind text, or interrupts it. Behind
 -- definitions alone an underline is text. (4.3, 4.7)
-abbrev pub EndsContent : List ℕ → Rest → Type 0
-EndsContent content rest =
+abbrev pub EndsContent : BlockExtensions → List ℕ → Rest → Type 0
+EndsContent asked content rest =
     IsBlank rest
-    ⊎ ((((level : HeadingLevel) × IsUnderline level rest) × HasText content) ⊎ ((¬ HasIndent rest) × InterruptsParagraph rest.text))
+    ⊎ ((((level : HeadingLevel) × IsUnderline level rest) × HasText content) ⊎ ((¬ HasIndent rest) × Interrupts asked rest.text))
 
 -- it closes fenced code with this fence (4.5)
 abbrev pub ClosesFence : ℕ → ℕ → Rest → Type 0
@@ -74,9 +80,9 @@ EndsHtml kind rest = IsTrue (is_html_end kind rest.text)
 
 -- The line is lazy, with this rest behind fewer containers than the paragraph before it stands in: the rest begins no container,
 -- and it is text that does not interrupt a paragraph. (5.1, laziness; 5.2, rule 5; "Parsing strategy", phase 1)
-abbrev pub IsLazy : LineState → Type 0
-IsLazy s =
-    (begun_at s ≡ None) × (¬ IsBlank (rest_at s)) × (HasIndent (rest_at s) ⊎ (¬ InterruptsParagraph (rest_at s).text))
+abbrev pub IsLazy : BlockExtensions → LineState → Type 0
+IsLazy asked s =
+    (begun_at asked s ≡ None) × (¬ IsBlank (rest_at s)) × (HasIndent (rest_at s) ⊎ (¬ Interrupts asked (rest_at s).text))
 
 -- the line stands in the open containers, and what it has behind them has the property
 abbrev pub In : List Container → (Rest → Type 0) → List ℕ → Type 0
@@ -87,16 +93,19 @@ abbrev pub OutOr : List Container → (Rest → Type 0) → List ℕ → Type 0
 OutOr outer P line = (¬ IsInside outer line) ⊎ In outer P line
 
 -- the line neither stands in them nor is lazy, or what it has behind them has the property
-abbrev pub Leaves : List Container → (Rest → Type 0) → List ℕ → Type 0
-Leaves outer P line = ((¬ IsInside outer line) × (¬ IsLazy (behind outer line).state)) ⊎ In outer P line
+abbrev pub Leaves : Outer → (Rest → Type 0) → List ℕ → Type 0
+Leaves outer P line =
+    ((¬ IsInside outer.containers line) × (¬ IsLazy outer.extensions (behind outer.containers line).state))
+    ⊎ In outer.containers P line
 
 -- the line goes on with no paragraph in them
-abbrev pub LeavesParagraph : List Container → List ℕ → Type 0
-LeavesParagraph outer line = Leaves outer EndsParagraph line
+abbrev pub LeavesParagraph : Outer → List ℕ → Type 0
+LeavesParagraph outer line = Leaves outer (EndsParagraph outer.extensions) line
 
 -- the line goes on with no paragraph in them whose first line has this text, and which has these later lines before it
-abbrev pub LeavesBehind : List Container → List ℕ → List (List ℕ) → List ℕ → Type 0
-LeavesBehind outer text before line = Leaves outer (EndsContent (content_of outer text before)) line
+abbrev pub LeavesBehind : Outer → List ℕ → List (List ℕ) → List ℕ → Type 0
+LeavesBehind outer text before line =
+    Leaves outer (EndsContent outer.extensions (content_of outer.containers text before)) line
 
 -- the line makes a heading of this level of that paragraph (4.3)
 abbrev pub Underlines : List Container → List ℕ → List (List ℕ) → HeadingLevel → List ℕ → Type 0
@@ -104,13 +113,14 @@ Underlines outer text before level line = In outer (IsUnderline level) line × H
 
 -- In them the line is the delimiter row of a table of so many columns, behind a line with this text: that has as many cells, and
 -- it would go on with a paragraph of that. (GitHub Flavored Markdown 0.29, section 4.10)
-abbrev pub IsHead : List Container → List ℕ → ℕ → List ℕ → Type 0
+abbrev pub IsHead : Outer → List ℕ → ℕ → List ℕ → Type 0
 IsHead outer text columns line =
-    (¬ LeavesParagraph outer line) × In outer (IsDelimiter columns) line × (cells text ≡ columns)
+    (¬ LeavesParagraph outer line) × In outer.containers (IsDelimiter columns) line × (cells text ≡ columns)
 
 -- a row of a table: it stands in the containers, is not blank, and begins no container and no other block (the same section)
-abbrev pub IsRow : List Container → List ℕ → Type 0
-IsRow outer line = (begun_at (behind outer line).state ≡ None) × In outer (Begins Paragraph) line
+abbrev pub IsRow : Outer → List ℕ → Type 0
+IsRow outer line =
+    (begun_at outer.extensions (behind outer.containers line).state ≡ None) × In outer.containers (Begins Paragraph) line
 
 -- the first of the lines, if there is one
 abbrev pub OnFirst : (List ℕ → Type 0) → List (List ℕ) → Type 0
@@ -118,7 +128,7 @@ OnFirst P [] = ⊤
 OnFirst P (line ∷ lines) = P line
 
 -- the first of the lines is the delimiter row of no table behind a line with this rest
-abbrev pub BeginsNoTable : List Container → Rest → List (List ℕ) → Type 0
+abbrev pub BeginsNoTable : Outer → Rest → List (List ℕ) → Type 0
 BeginsNoTable outer first = OnFirst (λ line. (columns : ℕ) → ¬ IsHead outer first.text columns line)
 
 -- the lines are all up to the first that has the property, or to the last line
@@ -174,21 +184,21 @@ EndsAsHtml outer kind first later rest =
     ((EndsHtml kind first × (later ≡ [])) ⊎ ((¬ EndsHtml kind first) × StopsBehind outer (OutOr outer (EndsHtml kind)) later rest))
 
 -- In these containers a line with this rest and the later lines are a block of this kind, and this rest of the page follows.
-abbrev pub IsLeaf : List Container → BlockKind → Rest → List (List ℕ) → List (List ℕ) → Type 0
-IsLeaf outer Blank first later rest = Begins Blank first × StopsBefore (OutOr outer (λ r. ¬ IsBlank r)) later rest
-IsLeaf outer Indented first later rest = Begins Indented first × GoesOnIndented outer later rest
+abbrev pub IsLeaf : Outer → BlockKind → Rest → List (List ℕ) → List (List ℕ) → Type 0
+IsLeaf outer Blank first later rest = Begins Blank first × StopsBefore (OutOr outer.containers (λ r. ¬ IsBlank r)) later rest
+IsLeaf outer Indented first later rest = Begins Indented first × GoesOnIndented outer.containers later rest
 IsLeaf outer (Fenced count byte) first later rest =
-    Begins (Fenced count byte) first × StopsBehind outer (OutOr outer (ClosesFence count byte)) later rest
-IsLeaf outer (Html kind) first later rest = Begins (Html kind) first × EndsAsHtml outer kind first later rest
+    Begins (Fenced count byte) first × StopsBehind outer.containers (OutOr outer.containers (ClosesFence count byte)) later rest
+IsLeaf outer (Html kind) first later rest = Begins (Html kind) first × EndsAsHtml outer.containers kind first later rest
 IsLeaf outer (Table columns) first later rest =
     Begins Paragraph first
     × (head : List ℕ) × (rows : List (List ℕ)) × (later ≡ head ∷ rows)
     × IsHead outer first.text columns head × StopsBefore (λ line. ¬ IsRow outer line) rows rest
 IsLeaf outer Paragraph first later rest =
     Begins Paragraph first × BeginsNoTable outer first later × StopsAt (LeavesBehind outer first.text) later rest
-    × OnFirst (λ line. (level : HeadingLevel) → ¬ Underlines outer first.text later level line) rest
+    × OnFirst (λ line. (level : HeadingLevel) → ¬ Underlines outer.containers first.text later level line) rest
 IsLeaf outer (Setext level) first later rest =
     Begins Paragraph first
     × (middle : List (List ℕ)) × (last : List ℕ) × (later ≡ middle ++ last ∷ []) × BeginsNoTable outer first middle
-    × StopsAt (LeavesBehind outer first.text) middle (last ∷ rest) × Underlines outer first.text middle level last
+    × StopsAt (LeavesBehind outer first.text) middle (last ∷ rest) × Underlines outer.containers first.text middle level last
 IsLeaf outer kind first later rest = Begins kind first × (later ≡ [])

@@ -1,4 +1,5 @@
--- Block quotes and list items, line by line. (CommonMark 0.31.2, sections 5.1 and 5.2, and "Parsing strategy", phase 1)
+-- Block quotes, list items and footnote definitions, line by line.
+-- (CommonMark 0.31.2, sections 5.1 and 5.2, and "Parsing strategy", phase 1; GitHub Docs, footnotes)
 use Rattle.std.specs.Prelude.{ℕ, suc, Bool, true, false, not, ◌==◌, ◌≡◌, List, [], ◌∷◌, length, Option, Some, None, if◌then◌else◌}
 use Rattle.std.specs.Option.{option_map}
 use Rattle.markdown_scanners_tree.specs.Ascii.{greater_than_sign}
@@ -6,8 +7,10 @@ use Rattle.markdown_scanners_tree.specs.Bytes.{begins_with, is_blank}
 use Rattle.markdown_scanners_tree.specs.line.ItemRules.{start_of}
 use Rattle.markdown_scanners_tree.specs.line.Outcome.{Outcome, after_quote, item_outcome}
 use Rattle.markdown_scanners_tree.specs.line.State.{LineState, unscanned, space_within, after_space}
+use Rattle.markdown_blocks.specs.containers.Footnotes.{footnote_label, behind_footnote}
+use Rattle.markdown_blocks.specs.declared.containers.BlockExtensions.{BlockExtensions}
 use Rattle.markdown_blocks.specs.declared.containers.Container.{Container}
-use Rattle.markdown_blocks.specs.declared.containers.Container.TheVariants.{Quote, Item}
+use Rattle.markdown_blocks.specs.declared.containers.Container.TheVariants.{Quote, Item, Footnote}
 
 -- what a line has behind its containers: at most four columns of space, and the text behind them
 pub record Rest : Type 0 where
@@ -29,36 +32,59 @@ abbrev pub item_of : Outcome (ℕ × ℕ × ℕ) → Option (Container × LineSt
 item_of found =
     option_map (λ r. (Item (record { delimiter = r.0; start = r.1; width = r.2; begun = is_blank (unscanned found.state) }), found.state)) found.answer
 
--- the container whose marker stands here, behind so much space, and what is left of the line behind it (5.1, 5.2)
-abbrev pub begun_behind : ℕ → LineState → Option (Container × LineState)
-begun_behind indent s =
+-- with these extensions on the footnote definition whose marker stands here, and what is left of the line behind it
+abbrev pub footnote_by : LineState → Option (List ℕ) → Option (Container × LineState)
+footnote_by s label = option_map (λ l. (Footnote, behind_footnote l s)) label
+
+abbrev pub footnote_of : BlockExtensions → LineState → Option (Container × LineState)
+footnote_of asked s = if asked.footnotes then footnote_by s (footnote_label (unscanned s)) else None
+
+-- the first of two, if it is there, or the second
+abbrev pub either_begun : (first second : Option (Container × LineState)) → Option (Container × LineState)
+either_begun None second = second
+either_begun (Some begun) second = Some begun
+
+-- with these extensions on the container whose marker stands here, behind so much space, and what is left of the line behind it
+-- (5.1, 5.2)
+abbrev pub begun_behind : BlockExtensions → ℕ → LineState → Option (Container × LineState)
+begun_behind asked indent s =
     if indent == 4 then None
     else if begins_with (λ b. b == greater_than_sign) (unscanned s) then Some (Quote, after_quote s)
-    else item_of (item_outcome indent s)
+    else either_begun (item_of (item_outcome indent s)) (footnote_of asked s)
 
 -- the container that the rest of a line begins
-abbrev pub begun_at : LineState → Option (Container × LineState)
-begun_at s = begun_behind (space_within 4 s) (after_space 4 s)
+abbrev pub begun_at : BlockExtensions → LineState → Option (Container × LineState)
+begun_at asked s = begun_behind asked (space_within 4 s) (after_space 4 s)
 
--- the place in the line of that container's marker, and what is left of the line after the marker
+-- no extension, and all of them
+abbrev pub no_extensions : BlockExtensions
+no_extensions = record { footnotes = false }
+
+abbrev pub all_extensions : BlockExtensions
+all_extensions = record { footnotes = true }
+
+-- The place in the line of that container's marker, and what is left of the line after the marker. It is the same whichever of
+-- the extensions with which a container begins there are on.
 abbrev pub marker_place : LineState → ℕ
 marker_place s = (after_space 4 s).place
 
 abbrev pub after_marker : LineState → LineState
 after_marker s =
-    elim (begun_at s) [
+    elim (begun_at all_extensions s) [
       | Some r ↦ r.1
       | None ↦ after_space 4 s
     ]
 
 -- The rest of a line goes on with a container: with a block quote where its marker stands, with an item where the rest is
--- indented as the item's text is, or blank. An item that begins with a blank line does not go on with a second one. What is
--- left of the line then, and whether that is blank.
+-- indented as the item's text is, or blank, and with a footnote definition where it has four columns of space, or is blank. An
+-- item that begins with a blank line does not go on with a second one. What is left of the line then, and whether that is blank.
 abbrev pub within_quote : Option LineState → Option (Bool × LineState)
 within_quote behind = option_map (λ s. (is_blank (unscanned s), s)) behind
 
 abbrev pub within : Container → Bool → LineState → Option (Bool × LineState)
 within Quote blank s = within_quote (behind_quote (space_within 4 s) (after_space 4 s))
+within Footnote true s = Some (true, s)
+within Footnote false s = if space_within 4 s == 4 then Some (false, after_space 4 s) else None
 within (Item item) true s = if item.begun then None else Some (true, s)
 within (Item item) false s =
     if space_within item.width s == item.width then Some (false, after_space item.width s) else None
@@ -66,6 +92,7 @@ within (Item item) false s =
 -- a blank line goes on with the container, whatever space it has
 abbrev pub goes_on_blank : Container → Bool
 goes_on_blank Quote = false
+goes_on_blank Footnote = true
 goes_on_blank (Item item) = not item.begun
 
 -- how many of the containers a line goes on with, the outermost first, and what is left of it behind them
@@ -85,9 +112,14 @@ go_on blank (c ∷ inner) s =
 abbrev pub behind : List Container → List ℕ → Behind
 behind outer line = go_on (is_blank line) outer (start_of line)
 
+-- the containers that are open, the outermost first, and the extensions that are on
+pub record Outer : Type 0 where
+  pub extensions : BlockExtensions
+  pub containers : List Container
+
 -- a line where these containers are open
 pub record Line : Type 0 where
-  pub outer : List Container
+  pub outer : Outer
   pub bytes : List ℕ
 
 -- the line goes on with all of them
@@ -98,14 +130,15 @@ IsInside outer line = (behind outer line).kept ≡ length outer
 abbrev pub rest_in : List Container → List ℕ → Rest
 rest_in outer line = rest_at (behind outer line).state
 
--- the rest of a line begins these containers, one in the other, and no further one
-abbrev pub Opens : LineState → List Container → LineState → Type 0
-Opens s [] after = (begun_at s ≡ None) × (after ≡ s)
-Opens s (c ∷ inner) after = (next : LineState) × (begun_at s ≡ Some (c, next)) × Opens next inner after
+-- with these extensions on the rest of a line begins these containers, one in the other, and no further one
+abbrev pub Opens : BlockExtensions → LineState → List Container → LineState → Type 0
+Opens asked s [] after = (begun_at asked s ≡ None) × (after ≡ s)
+Opens asked s (c ∷ inner) after = (next : LineState) × (begun_at asked s ≡ Some (c, next)) × Opens asked next inner after
 
 -- An item of which a second line is read, and the last of open containers so.
 abbrev pub settled : Container → Container
 settled Quote = Quote
+settled Footnote = Footnote
 settled (Item item) = Item (record item { begun = false })
 
 abbrev pub settled_last : List Container → List Container

@@ -15,7 +15,7 @@ first_parts (Some p) = seen_part p ∷ []
 abbrev pub parts_left : Parts → List Part
 parts_left p =
     first_parts p.first
-    ++ later_parts p.cut.kind p.cut.outer.now p.cut.indent p.read.bytes
+    ++ later_parts p.cut.kind p.cut.outer.now.containers p.cut.indent p.read.bytes
     (take (p.count - p.read.lines) (lines_of (drop p.read.bytes p.lines.now)))
 
 -- joined, the parts are these bytes, which stand one after the other from this place on

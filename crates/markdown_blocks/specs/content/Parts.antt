@@ -8,11 +8,11 @@ use Rattle.markdown_scanners_tree.specs.line.ItemRules.{start_of}
 use Rattle.markdown_scanners_tree.specs.line.Outcome.{after_all_space}
 use Rattle.markdown_scanners_tree.specs.line.State.{LineState, unscanned, space_within, after_space}
 use Rattle.markdown_blocks.specs.blocks.Leaves.{In, ClosesFence}
-use Rattle.markdown_blocks.specs.containers.Containers.{begun_at, behind, within}
+use Rattle.markdown_blocks.specs.containers.Containers.{all_extensions, begun_at, behind, within}
 use Rattle.markdown_blocks.specs.declared.blocks.BlockKind.{BlockKind}
 use Rattle.markdown_blocks.specs.declared.blocks.BlockKind.TheVariants.{Blank, Break, Heading, Setext, Indented, Fenced, Html, Table}
 use Rattle.markdown_blocks.specs.declared.containers.Container.{Container}
-use Rattle.markdown_blocks.specs.declared.containers.Container.TheVariants.{Quote, Item}
+use Rattle.markdown_blocks.specs.declared.containers.Container.TheVariants.{Quote, Item, Footnote}
 use Rattle.markdown_blocks.specs.info.Info.{behind_fence, without_end, without_front}
 
 -- a part of a line: so many columns of a tab that is cut, which are spaces (2.2), and the bytes from this place on
@@ -32,17 +32,19 @@ moved before p = record { columns = p.columns; place = before + p.place; bytes =
 -- the place after the markers of so many containers that begin one in the other, as far as they do
 abbrev pub after_markers : ℕ → LineState → LineState
 after_markers zero s = s
-after_markers (suc n) s = elim (begun_at s) [ Some r ↦ after_markers n r.1 | None ↦ s ]
+after_markers (suc n) s = elim (begun_at all_extensions s) [ Some r ↦ after_markers n r.1 | None ↦ s ]
 
 -- the place in a block's first line after these containers: it goes on with the first of them, so many, and begins the others
 abbrev pub first_place : ℕ → List Container → List ℕ → LineState
 first_place kept outer line = after_markers (length outer - kept) (behind (take kept outer) line).state
 
--- of a blank line as much of an item's indent as is there is left out (5.2)
+-- of a blank line as much of the indent of an item or a footnote definition as is there is left out (5.2)
 abbrev pub after_indent : Container → Bool → LineState → LineState
 after_indent Quote blank s = s
 after_indent (Item item) false s = s
 after_indent (Item item) true s = after_space item.width s
+after_indent Footnote false s = s
+after_indent Footnote true s = after_space 4 s
 
 -- the place in a line of code or HTML after the containers that it goes on with
 abbrev pub after_containers : Bool → List Container → LineState → LineState

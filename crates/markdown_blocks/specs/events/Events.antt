@@ -8,6 +8,7 @@ use Rattle.markdown_blocks.specs.blocks.Pages.{Piece, IsPage}
 use Rattle.markdown_blocks.specs.containers.Containers.{Rest, rest_in, behind, marker_place, after_marker}
 use Rattle.markdown_blocks.specs.declared.blocks.BlockKind.{BlockKind}
 use Rattle.markdown_blocks.specs.declared.blocks.BlockKind.TheVariants.{Definition}
+use Rattle.markdown_blocks.specs.declared.containers.BlockExtensions.{BlockExtensions}
 use Rattle.markdown_blocks.specs.declared.containers.Container.{Container}
 use Rattle.markdown_blocks.specs.declared.events.BlockEvent.{BlockEvent}
 use Rattle.markdown_blocks.specs.declared.events.BlockEvent.TheVariants.{Start, Block, End}
@@ -133,10 +134,10 @@ abbrev pub open_after : ℕ → List Piece → ℕ
 open_after depth [] = depth
 open_after depth (piece ∷ later) = open_after (length (piece.kept ++ piece.begun)) later
 
--- the events of a page: those of its pieces, and then all containers end
-abbrev pub IsEventsOf : List ℕ → List Event → Type 0
-IsEventsOf page events =
-    (pieces : List Piece) × (blocks : List Event) × IsPage page pieces × AreEvents [] 0 0 pieces blocks
+-- the events of a page with these extensions on: those of its pieces, and then all containers end
+abbrev pub IsEventsOf : BlockExtensions → List ℕ → List Event → Type 0
+IsEventsOf asked page events =
+    (pieces : List Piece) × (blocks : List Event) × IsPage asked page pieces × AreEvents [] 0 0 pieces blocks
     × (events ≡ blocks ++ replicate (open_after 0 pieces) ends)
 
 -- what an event of the library says

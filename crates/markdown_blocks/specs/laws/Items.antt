@@ -1,4 +1,5 @@
--- List items as rules say them, of lines and blocks alone. (CommonMark 0.31.2, section 5.2, list items)
+-- List items as rules say them, of lines and blocks alone, with whatever extensions on.
+-- (CommonMark 0.31.2, section 5.2, list items)
 use Rattle.std.specs.Prelude.{ℕ, true, false, not, ◌≡◌, ◌≤◌, ◌<◌, ◌+◌, ◌⊎◌, ◌++◌, List, [], ◌∷◌, length, replicate, IsTrue}
 use Rattle.std.specs.List.{list_all, AllZip}
 use Rattle.markdown_scanners_tree.specs.Ascii.{space}
@@ -8,6 +9,7 @@ use Rattle.markdown_scanners_tree.specs.scanners.Breaks.{is_thematic_break}
 use Rattle.markdown_scanners_tree.specs.scanners.list_items.ListItem.{IsListMarker}
 use Rattle.markdown_blocks.specs.containers.Containers.{rest_at}
 use Rattle.markdown_blocks.specs.declared.blocks.BlockKind.TheVariants.{Blank}
+use Rattle.markdown_blocks.specs.declared.containers.BlockExtensions.{BlockExtensions}
 use Rattle.markdown_blocks.specs.declared.containers.Container.{Container}
 use Rattle.markdown_blocks.specs.declared.containers.Container.TheVariants.{Item}
 use Rattle.markdown_blocks.specs.blocks.Leaves.{HasIndent, IsLazy, OnFirst}
@@ -56,7 +58,7 @@ IsIndentedLine width line changed =
     ⊎ (IsTrue (is_blank line) × (changed ≡ line))
 
 -- A later line with fewer spaces, as paragraph continuation text. (rule 5)
-pub record IsLessIndented (width : ℕ) (line bare : List ℕ) : Type 0 where
+pub record IsLessIndented (asked : BlockExtensions) (width : ℕ) (line bare : List ℕ) : Type 0 where
   pub spaces : ℕ
   pub left : ℕ
   pub rest : List ℕ
@@ -65,13 +67,13 @@ pub record IsLessIndented (width : ℕ) (line bare : List ℕ) : Type 0 where
   pub fewer : left < width
   pub text : IsTrue (not (begins_with is_space_or_tab rest))
   pub some : IsTrue (not (is_blank rest))
-  pub goes_on : IsLazy (start_of bare)
+  pub goes_on : IsLazy asked (start_of bare)
 
 -- The blocks are one list item of these: their lines behind a marker and its spaces, which stand before the first line, and as many
 -- spaces before the others. (rules 1, 2, 4 and 5)
-abbrev pub AreInItem : Lead → List Piece → List Piece → Type 0
-AreInItem lead =
-    AreIn (item_by lead) (IsItemLine lead) (IsIndentedLine (width_of lead)) (IsLessIndented (width_of lead))
+abbrev pub AreInItem : BlockExtensions → Lead → List Piece → List Piece → Type 0
+AreInItem asked lead =
+    AreIn (item_by lead) (IsItemLine lead) (IsIndentedLine (width_of lead)) (IsLessIndented asked (width_of lead))
 
 -- the item where its first line alone is read, which is blank behind the marker
 abbrev pub begun_by : Lead → Container
@@ -92,11 +94,12 @@ pub record IsSingleBlank (piece : Piece) (pieces : List Piece) : Type 0 where
 
 -- The blocks are one list item of these, which begin with a single blank line: a marker stands before that, and one more space than
 -- the marker is wide before the others. (rule 3)
-abbrev pub AreInBlankItem : Lead → List Piece → List Piece → Type 0
-AreInBlankItem lead [] others = ⊥
-AreInBlankItem lead (piece ∷ pieces) [] = ⊥
-AreInBlankItem lead (piece ∷ pieces) (held ∷ others) =
+abbrev pub AreInBlankItem : BlockExtensions → Lead → List Piece → List Piece → Type 0
+AreInBlankItem asked lead [] others = ⊥
+AreInBlankItem asked lead (piece ∷ pieces) [] = ⊥
+AreInBlankItem asked lead (piece ∷ pieces) (held ∷ others) =
     (lead.gap ≡ 1) × IsSingleBlank piece pieces
-    × IsHeldIn (IsMarkerAlone lead) (IsIndentedLine (width_of lead)) (IsLessIndented (width_of lead)) [] (begun_by lead ∷ piece.begun) piece held
-    × AllZip (λ p q. IsHeldIn (IsIndentedLine (width_of lead)) (IsIndentedLine (width_of lead)) (IsLessIndented (width_of lead))
-    (item_by lead ∷ p.kept) p.begun p q) pieces others
+    × IsHeldIn (IsMarkerAlone lead) (IsIndentedLine (width_of lead)) (IsLessIndented asked (width_of lead)) []
+    (begun_by lead ∷ piece.begun) piece held
+    × AllZip (λ p q. IsHeldIn (IsIndentedLine (width_of lead)) (IsIndentedLine (width_of lead))
+    (IsLessIndented asked (width_of lead)) (item_by lead ∷ p.kept) p.begun p q) pieces others

@@ -2,7 +2,7 @@
 use Rattle.std.specs.Prelude.{ℕ, Bool, true, false, not, ◌&&◌, ◌||◌, ◌==◌, List, [], ◌∷◌, ◌++◌, length, Option, Some, None, if◌then◌else◌}
 use Rattle.std.specs.Option.{option_map, option_to_list}
 use Rattle.markdown_blocks.specs.declared.containers.Container.{Container}
-use Rattle.markdown_blocks.specs.declared.containers.Container.TheVariants.{Quote, Item}
+use Rattle.markdown_blocks.specs.declared.containers.Container.TheVariants.{Quote, Item, Footnote}
 use Rattle.markdown_blocks.specs.declared.lists.Level.{Level}
 use Rattle.markdown_blocks.specs.declared.lists.ListBlock.{ListBlock}
 use Rattle.markdown_blocks.specs.declared.lists.OpenList.{OpenList}
@@ -26,7 +26,7 @@ at_start = record {
   end = 0;
   is_blank = false;
   is_fresh = true;
-  level = record { is_item = false; is_parted = false; list = None };
+  level = record { ends_with_block = false; is_parted = false; list = None };
   outer = [];
 }
 
@@ -47,6 +47,7 @@ closed s = option_map (list_now (length s.outer) s.end) s.level.list
 -- the container is an item of the list
 abbrev pub joins : Option OpenList → Container → Bool
 joins list Quote = false
+joins list Footnote = false
 joins None (Item item) = false
 joins (Some list) (Item item) = list.delimiter == item.delimiter
 
@@ -56,6 +57,7 @@ loosened (Some list) loose = Some (record list { is_loose = list.is_loose || loo
 
 abbrev pub list_begun : Container → ℕ → Option OpenList
 list_begun Quote line = None
+list_begun Footnote line = None
 list_begun (Item item) line = Some (record { delimiter = item.delimiter; is_loose = false; start = item.start; line = line })
 
 -- a container in which this one begins, behind a blank line or not and so many lines
@@ -65,13 +67,14 @@ begun outer container blank line = record outer {
   list = if joins outer.list container then loosened outer.list blank else list_begun container line;
 }
 
--- the container itself
-abbrev pub is_item : Container → Bool
-is_item Quote = false
-is_item (Item item) = true
+-- the container itself: an item or a footnote definition ends with its last block
+abbrev pub ends_with_block : Container → Bool
+ends_with_block Quote = false
+ends_with_block (Item item) = true
+ends_with_block Footnote = true
 
 abbrev pub level_within : Container → Level
-level_within container = record { is_item = is_item container; is_parted = false; list = None }
+level_within container = record { ends_with_block = ends_with_block container; is_parted = false; list = None }
 
 -- what an event shows to have ended, and the state behind it
 pub record Read : Type 0 where
@@ -87,7 +90,7 @@ leaf_read false block s = record {
     end = line_behind block;
     is_blank = false;
     is_fresh = false;
-    level = record { is_item = s.level.is_item; is_parted = s.level.is_parted || s.is_blank; list = None };
+    level = record { ends_with_block = s.level.ends_with_block; is_parted = s.level.is_parted || s.is_blank; list = None };
     outer = s.outer;
   };
 }
@@ -98,8 +101,8 @@ end_read (level ∷ outer) s = record {
   list = closed s;
   state = record {
     line = s.line;
-    end = if s.level.is_item then s.end else s.line;
-    is_blank = s.level.is_item && s.is_blank;
+    end = if s.level.ends_with_block then s.end else s.line;
+    is_blank = s.level.ends_with_block && s.is_blank;
     is_fresh = false;
     level = record level { list = loosened level.list s.level.is_parted };
     outer = outer;

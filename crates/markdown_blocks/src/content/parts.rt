@@ -2,14 +2,14 @@
 ghost use Rattle.std.specs.Prelude.{◌≡◌, ◌↔◌, ◌+◌, ◌-◌, ◌<◌, ◌≤◌, List, true, drop, length, take, IsTrue, None, Some};
 ghost use Rattle.markdown_scanners_tree.specs.scanners.TextLines.{lines_of};
 ghost use Rattle.markdown_blocks.specs.blocks.Leaves.{ClosesFence, In};
-ghost use Rattle.markdown_blocks.specs.containers.Containers.{begun_at};
+ghost use Rattle.markdown_blocks.specs.containers.Containers.{all_extensions, begun_at};
 ghost use Rattle.markdown_blocks.specs.content.Parts.{AreInner, IsLeftOut, after_containers, after_indent, first_place, heading_part, later_place, part_at};
 ghost use Rattle.markdown_blocks.specs.content.Parts.{place_inside, text_place, without_closing, without_signs};
 ghost use Rattle.markdown_blocks.specs.content.Seen.{IsFirstIn, IsIn, seen_part};
 ghost use Rattle.markdown_blocks.specs.declared.containers.Container.{Container};
 
 use crate::blocks::{BlockKind, closes_fence};
-use crate::containers::{Container, Outer, go_on, pass, scan_container};
+use crate::containers::{BlockExtensions, Container, Outer, go_on, pass, scan_container};
 use crate::info::{without_end, without_front};
 use crate::kinds::is_blank;
 use crate::line::Line;
@@ -61,7 +61,7 @@ impl<'a> Parts<'a> {
         outer: &'a Outer<'a>,
         kept: usize,
     ) -> Parts<'a>
-        ensures parts { AreParts kind outer.now kept (lines_of lines.now) (parts_left result) }
+        ensures parts { AreParts kind outer.now.containers kept (lines_of lines.now) (parts_left result) }
         ensures lines { result.lines.now ≡ lines.now }
     {
         let Some((line, read)) = Taken::nothing().next(lines) else {
@@ -190,7 +190,7 @@ impl<'a> Parts<'a> {
 
 // How many of the lines are read and content: of those after the first all, or all but the last.
 fn count_inner(lines: &[u8], first: Taken, kind: BlockKind, outer: &Outer) -> usize
-    ensures { AreInner kind outer.now (lines_of (drop first.bytes lines.now))
+    ensures { AreInner kind outer.now.containers (lines_of (drop first.bytes lines.now))
         (take (result - first.lines) (lines_of (drop first.bytes lines.now))) }
 {
     let mut read = first;
@@ -206,7 +206,7 @@ fn count_inner(lines: &[u8], first: Taken, kind: BlockKind, outer: &Outer) -> us
 
 // Whether the line is the last of its block, and no content.
 fn is_left_out(line: &[u8], is_last: bool, kind: BlockKind, outer: &Outer) -> bool
-    ensures { IsTrue result ↔ (IsTrue is_last × IsLeftOut kind outer.now line.now) }
+    ensures { IsTrue result ↔ (IsTrue is_last × IsLeftOut kind outer.now.containers line.now) }
 {
     if !is_last {
         return false;
@@ -220,7 +220,7 @@ fn is_left_out(line: &[u8], is_last: bool, kind: BlockKind, outer: &Outer) -> bo
 
 // Whether the line closes fenced code in the containers.
 fn is_closing_fence(line: &[u8], count: usize, byte: u8, outer: &Outer) -> bool
-    ensures { IsTrue result ↔ In outer.now (ClosesFence count byte) line.now }
+    ensures { IsTrue result ↔ In outer.now.containers (ClosesFence count byte) line.now }
 {
     let line = Line::new(line, outer);
     match line.rest_inside() {
@@ -235,7 +235,7 @@ fn first_place<'a>(line: &'a [u8], containers: &[Container], kept: usize) -> Lin
     ensures bytes { result.bytes ≡ line.now }
 {
     let (before, begun) = containers.split_at(kept.min(containers.len()));
-    let (_, mut start) = go_on(line, &Outer::new(before));
+    let (_, mut start) = go_on(line, &Outer::new(BlockExtensions::none(), before));
     let mut left = begun.len();
     while left > 0 {
         if !pass_marker(line, &mut start) {
@@ -247,11 +247,11 @@ fn first_place<'a>(line: &'a [u8], containers: &[Container], kept: usize) -> Lin
 }
 
 // Passes the marker of a container that begins at the place, if one does.
-fn pass_marker(line: &[u8], start: &mut LineStart) -> bool
+fn pass_marker<'a>(line: &'a [u8], start: &mut LineStart<'a>) -> bool
     requires { start.old.bytes ≡ line.now }
     ensures passed { IsTrue result → (container : Container)
-        × (begun_at start.old ≡ Some (container, start.new)) }
-    ensures none { ¬ IsTrue result → (begun_at start.old ≡ None) }
+        × (begun_at all_extensions start.old ≡ Some (container, start.new)) }
+    ensures none { ¬ IsTrue result → (begun_at all_extensions start.old ≡ None) }
     ensures unchanged { ¬ IsTrue result → (start.new ≡ start.old) }
     ensures bytes { start.new.bytes ≡ line.now }
 {
@@ -259,7 +259,7 @@ fn pass_marker(line: &[u8], start: &mut LineStart) -> bool
         return false;
     };
     let indent = start.scan_space_upto(4);
-    let Some(_) = scan_container(line, start, indent) else {
+    let Some(_) = scan_container(line, start, indent, BlockExtensions::all()) else {
         *start = before;
         return false;
     };
@@ -268,7 +268,7 @@ fn pass_marker(line: &[u8], start: &mut LineStart) -> bool
 
 // The place in a later line of a block after its containers.
 fn later_place<'a>(line: &'a [u8], kind: BlockKind, outer: &Outer) -> LineStart<'a>
-    ensures place { result ≡ later_place kind outer.now line.now }
+    ensures place { result ≡ later_place kind outer.now.containers line.now }
     ensures bytes { result.bytes ≡ line.now }
 {
     match kind {
@@ -315,6 +315,10 @@ fn pass_indent_left(start: &mut LineStart, container: Container, blank: bool) ->
     match container {
         Container::Item(item) if blank => {
             start.scan_space_upto(item.width as usize);
+            start.remaining_space() == 0 && start.is_at_eol()
+        }
+        Container::Footnote if blank => {
+            start.scan_space_upto(4);
             start.remaining_space() == 0 && start.is_at_eol()
         }
         _ => false,

@@ -8,14 +8,14 @@ use Rattle.std.proofs.lemmas.List.Folds.{concat-append}
 use Rattle.markdown_scanners_tree.specs.declared.scanners.reference_definitions.ReferenceDefinition.{ReferenceDefinition}
 use Rattle.markdown_scanners_tree.specs.line.State.{LineState}
 use Rattle.markdown_scanners_tree.specs.scanners.TextLines.{lines_of}
-use Rattle.markdown_blocks.specs.containers.Containers.{behind, after_marker}
+use Rattle.markdown_blocks.specs.containers.Containers.{Outer, behind, after_marker, no_extensions}
 use Rattle.markdown_blocks.specs.declared.blocks.BlockKind.{BlockKind}
 use Rattle.markdown_blocks.specs.declared.blocks.BlockKind.TheVariants.{Definition}
 use Rattle.markdown_blocks.specs.declared.containers.Container.{Container}
 use Rattle.markdown_blocks.specs.declared.step.Step.{Step}
 use Rattle.markdown_blocks.specs.declared.taken.Taken.{Taken}
 use Rattle.markdown_blocks.specs.definitions.Definitions.{IsDefinition}
-use Rattle.markdown_blocks.specs.blocks.Pages.{Piece, IsPage, IsPiece, AreBlocks, lines_in}
+use Rattle.markdown_blocks.specs.blocks.Pages.{Piece, IsPage, IsPiece, AreBlocks, lines_in, root}
 use Rattle.markdown_blocks.specs.events.Events.{Event, leaf, ends, LeafBlock, Part, AreLeaves, AreLeavesOf, AreEvents, IsEventsOf}
 use Rattle.markdown_blocks.specs.events.Events.{first_lines, later_lines, leaf_of, lines_taken, open_after, part_of, piece_content, piece_events, started}
 use Rattle.markdown_blocks.specs.events.Given.{GivesBlock, block_left}
@@ -117,14 +117,14 @@ behind-piece outer piece leaves line start are =
     ∙ behind-started piece.begun start (behind outer piece.first).state (place line start) (map leaf leaves)
     ∙ behind-leaves leaves (piece.kept ++ piece.begun) piece.kind (part_of line start piece) (piece_content piece) (place line start) refl are
 
-module _ (form : Form) (outer now : List Container) (before : Taken) (lists : Tracked) (step : Step) (lines : List ℕ) (more : List (List ℕ))
-    (s : IsStep outer lines more step now) (content : List ℕ) (given : List Event) (gathered : IsContentOf step now content)
-    (gives : GivesBlock now content (block_left step before (length outer)) given) where
+module _ (form : Form) (outer now : Outer) (before : Taken) (lists : Tracked) (step : Step) (lines : List ℕ) (more : List (List ℕ))
+    (s : IsStep outer lines more step now) (content : List ℕ) (given : List Event) (gathered : IsContentOf step now.containers content)
+    (gives : GivesBlock now.containers content (block_left step before (length outer.containers)) given) where
   abbrev so_far : Printed
   so_far = record { at = place_of before; lists = lists }
 
   leaves_are : (leaves : List LeafBlock) × AreLeavesOf before.lines before.bytes s.piece leaves
-      × (given ≡ piece_events outer before.bytes s.piece leaves)
+      × (given ≡ piece_events outer.containers before.bytes s.piece leaves)
   leaves_are = step_events outer now lines more step s before content gathered given gives
 
   -- the page is printed as far as the step's block goes
@@ -132,7 +132,7 @@ module _ (form : Form) (outer now : List Container) (before : Taken) (lists : Tr
       → next.at ≡ place (before.lines + length (s.piece.first ∷ s.piece.later)) (before.bytes + length (concat (s.piece.first ∷ s.piece.later)))
   step_place next is =
       ap (λ (p : Printed). p.at) is ∙ at-behind so_far given ∙ ap (behind_all (place_of before)) leaves_are.2
-      ∙ behind-piece outer s.piece leaves_are.0 before.lines before.bytes leaves_are.1
+      ∙ behind-piece outer.containers s.piece leaves_are.0 before.lines before.bytes leaves_are.1
 
   pub step_size : (next : Printed) → next ≡ after_all so_far given
       → (next.at.lines ≡ before.lines + step.block.taken.lines) × (next.at.bytes ≡ before.bytes + step.block.taken.bytes)
@@ -151,7 +151,7 @@ module _ (form : Form) (outer now : List Container) (before : Taken) (lists : Tr
   front_with later rest is each = (
     ap (λ ls. ls ++ more) s.taken.parts ∙ append_assoc (s.piece.first ∷ s.piece.later) (lines_of (drop step.block.taken.bytes lines)) more
         ∙ ap (λ ls. (s.piece.first ∷ s.piece.later) ++ ls) is ∙ sym (append_assoc (s.piece.first ∷ s.piece.later) (lines_in later) rest),
-    (subst (IsPiece outer s.piece) is s.is_piece, subst (λ cs. AreBlocks cs later rest) s.open_now each),
+    (subst (IsPiece outer s.piece) is s.is_piece, subst (λ o. AreBlocks o later rest) s.open_now each),
   )
 
   pub telling-next : (page text longer : List ℕ) (next : Printed) → next ≡ after_all so_far given
@@ -161,9 +161,9 @@ module _ (form : Form) (outer now : List Container) (before : Taken) (lists : Tr
   unfolding GoesOnTelling left
   telling-next page text longer next is_next tells goes later events rest is each are =
       let front = front_with later rest is each in
-      let others = subst (λ cs. AreEvents cs (before.lines + length (s.piece.first ∷ s.piece.later))
+      let others = subst (λ (o : Outer). AreEvents o.containers (before.lines + length (s.piece.first ∷ s.piece.later))
       (before.bytes + length (concat (s.piece.first ∷ s.piece.later))) later events) s.open_now
-      (subst (λ (q : Place). AreEvents now q.lines q.bytes later events) (step_place next is_next) are) in
+      (subst (λ (q : Place). AreEvents now.containers q.lines q.bytes later events) (step_place next is_next) are) in
       let whole = goes (s.piece ∷ later) (given ++ events) rest front.0 front.1
       (leaves_are.0, events, leaves_are.1, ap (λ es. es ++ events) leaves_are.2, others) in
       record {
@@ -176,25 +176,25 @@ module _ (form : Form) (outer now : List Container) (before : Taken) (lists : Tr
             ∙ append_assoc text (lines_of_events form so_far given) _
             ∙ ap (λ t. text ++ t) (sym (lines-append form so_far given events)) ∙ whole.lines;
         so_far = ap (λ (q : Printed). after_all q events) is_next ∙ sym (after-append so_far given events) ∙ whole.so_far;
-        open_now = ap (λ (cs : List Container). open_after (length cs) later) s.open_now ∙ whole.open_now;
+        open_now = ap (λ (o : Outer). open_after (length o.containers) later) s.open_now ∙ whole.open_now;
       }
 
-pub telling-first : (form : Form) (page : List ℕ) (p : Printed) (outer : List Container) (text : List ℕ) → p ≡ the_front → outer ≡ [] → text ≡ []
+pub telling-first : (form : Form) (page : List ℕ) (p : Printed) (outer : Outer) (text : List ℕ) → p ≡ the_front → outer ≡ root no_extensions → text ≡ []
     → GoesOnTelling form page text p outer (lines_of page)
 unfolding GoesOnTelling
 telling-first form page p outer text front none empty later events rest is each are = record {
   pieces = later;
   events = events;
-  are_its_blocks = record { joined = sym is; each = subst (λ cs. AreBlocks cs later rest) none each };
+  are_its_blocks = record { joined = sym is; each = subst (λ o. AreBlocks o later rest) none each };
   are_their_events = subst (λ (q : Printed). AreEvents [] q.at.lines q.at.bytes later events) front
-      (subst (λ cs. AreEvents cs p.at.lines p.at.bytes later events) none are);
+      (subst (λ (o : Outer). AreEvents o.containers p.at.lines p.at.bytes later events) none are);
   lines = ap (λ t. t ++ lines_of_events form p events) empty ∙ ap (λ (q : Printed). lines_of_events form q events) front;
   so_far = ap (λ (q : Printed). after_all q events) front;
-  open_now = ap (λ (cs : List Container). open_after (length cs) later) none;
+  open_now = ap (λ (o : Outer). open_after (length o.containers) later) none;
 }
 
 -- the text, in this form, prints blocks at the front of the page
-pub telling-front : (form other : Form) (page text words : List ℕ) (p : Printed) (outer : List Container) (lines : List (List ℕ)) → form ≡ other
+pub telling-front : (form other : Form) (page text words : List ℕ) (p : Printed) (outer : Outer) (lines : List (List ℕ)) → form ≡ other
     → text ≡ words → GoesOnTelling form page text p outer lines → TellsFront other page words
 unfolding GoesOnTelling
 telling-front form other page text words p outer lines same is goes =
@@ -217,20 +217,20 @@ to_end form p events later =
     ∙ ap (λ (q : Printed). lines_of_events form p (events ++ later) ++ ended_line form (closed q.lists)) (sym (after-append p events later))
 
 -- with the last lines it prints the whole page
-pub telling-page : (form : Form) (page text longer : List ℕ) (p : Printed) (outer : List Container)
-    → longer ≡ text ++ last_lines form p (length outer) → GoesOnTelling form page text p outer [] → TellsPage form page longer
+pub telling-page : (form : Form) (page text longer : List ℕ) (p : Printed) (outer : Outer)
+    → longer ≡ text ++ last_lines form p (length outer.containers) → GoesOnTelling form page text p outer [] → TellsPage form page longer
 unfolding GoesOnTelling
 telling-page form page text longer p outer tells goes =
     let whole = goes [] [] [] refl tt refl in
     let last : List Event = replicate (open_after 0 whole.pieces) ends in
-    let is_page : IsPage page whole.pieces =
+    let is_page : IsPage no_extensions page whole.pieces =
     record { joined = sym (append-nil _) ∙ whole.are_its_blocks.joined; each = whole.are_its_blocks.each } in
-    let are : IsEventsOf page (whole.events ++ last) = (whole.pieces, whole.events, is_page, whole.are_their_events, refl) in
-    let nodes = events_of_nodes page (whole.events ++ last) are in
+    let are : IsEventsOf no_extensions page (whole.events ++ last) = (whole.pieces, whole.events, is_page, whole.are_their_events, refl) in
+    let nodes = events_of_nodes no_extensions page (whole.events ++ last) are in
     record {
       events = whole.events ++ last;
       are_its_events = are;
-      are_its_lists = (nodes.0, subst (IsEventsOf page) nodes.1 are, ap (lists_behind at_start) nodes.1 ∙ page_lists nodes.0);
+      are_its_lists = (nodes.0, subst (IsEventsOf no_extensions page) nodes.1 are, ap (lists_behind at_start) nodes.1 ∙ page_lists nodes.0);
       lines = tells ∙ ap (λ n. text ++ last_lines form p n) whole.open_now
           ∙ ap (λ (q : Printed). text ++ lines_to_end form q last) whole.so_far
           ∙ ap (λ t. t ++ lines_to_end form (after_all the_front whole.events) last) (sym (append-nil text) ∙ whole.lines)

@@ -6,7 +6,7 @@ use Rattle.markdown_scanners_tree.specs.scanners.html_kinds.HtmlKinds.{condition
 use Rattle.markdown_blocks.specs.declared.blocks.BlockKind.{BlockKind}
 use Rattle.markdown_blocks.specs.declared.blocks.BlockKind.TheVariants.{Blank, Break, Heading, Setext, Indented, Fenced, Html, Table, Definition, Paragraph}
 use Rattle.markdown_blocks.specs.declared.containers.Container.{Container}
-use Rattle.markdown_blocks.specs.declared.containers.Container.TheVariants.{Quote, Item}
+use Rattle.markdown_blocks.specs.declared.containers.Container.TheVariants.{Quote, Item, Footnote}
 use Rattle.markdown_blocks.specs.declared.lists.ListBlock.{ListBlock}
 use Rattle.markdown_blocks.specs.info.Info.{info_of}
 use Rattle.page_blocks.specs.declared.printing.Front.{Front}
@@ -66,5 +66,6 @@ kind_json Paragraph first = codes "\"paragraph\""
 -- the kind of a container; of an item its marker too, and by how many columns its text is indented
 abbrev pub container_json : Container → List ℕ
 container_json Quote = codes "\"quote\""
+container_json Footnote = codes "\"footnote\""
 container_json (Item item) =
     codes "\"item\"" ++ marker_json item.delimiter item.start ++ codes ",\"indent\":" ++ decimal item.width

@@ -1,7 +1,7 @@
 -- How a page is printed block by block.
 use Rattle.std.specs.Prelude.{ℕ, ◌≡◌, List, [], ◌++◌, length, string_bytes}
 use Rattle.markdown_blocks.specs.blocks.Pages.{Piece, AreBlocks, IsFront, lines_in}
-use Rattle.markdown_blocks.specs.declared.containers.Container.{Container}
+use Rattle.markdown_blocks.specs.containers.Containers.{Outer, no_extensions}
 use Rattle.markdown_blocks.specs.events.Events.{Event, AreEvents, open_after}
 use Rattle.page_blocks.specs.declared.page.Telling.{Telling}
 use Rattle.page_blocks.specs.declared.words.Form.{Form}
@@ -13,7 +13,7 @@ use Rattle.page_blocks.specs.printer.Printers.{printed_of}
 pub record IsPrinted (form : Form) (page text : List ℕ) (p : Printed) (depth : ℕ) (rest : List (List ℕ)) : Type 0 where
   pub pieces : List Piece
   pub events : List Event
-  pub are_its_blocks : IsFront page pieces rest
+  pub are_its_blocks : IsFront no_extensions page pieces rest
   pub are_their_events : AreEvents [] 0 0 pieces events
   pub lines : text ≡ lines_of_events form the_front events
   pub so_far : p ≡ after_all the_front events
@@ -21,11 +21,11 @@ pub record IsPrinted (form : Form) (page text : List ℕ) (p : Printed) (depth :
 
 -- The text prints a page as far as these lines, before which the page is printed so far and these containers are open: whatever
 -- blocks the first of them are, with the lines of their events it prints blocks at the front of the page.
-unfoldable pub GoesOnTelling : Form → List ℕ → List ℕ → Printed → List Container → List (List ℕ) → Type 0
+unfoldable pub GoesOnTelling : Form → List ℕ → List ℕ → Printed → Outer → List (List ℕ) → Type 0
 GoesOnTelling form page text p outer lines =
     (later : List Piece) (events : List Event) (rest : List (List ℕ)) → lines ≡ lines_in later ++ rest → AreBlocks outer later rest
-    → AreEvents outer p.at.lines p.at.bytes later events
-    → IsPrinted form page (text ++ lines_of_events form p events) (after_all p events) (open_after (length outer) later) rest
+    → AreEvents outer.containers p.at.lines p.at.bytes later events
+    → IsPrinted form page (text ++ lines_of_events form p events) (after_all p events) (open_after (length outer.containers) later) rest
 
 -- what was written, and then the lines that are not yet written, print the page as far as these lines
 abbrev pub HasTold : List ℕ → List ℕ → Telling → List (List ℕ) → Type 0

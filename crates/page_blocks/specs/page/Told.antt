@@ -8,8 +8,9 @@ use Rattle.markdown_scanners_tree.specs.Ascii.{line_feed}
 use Rattle.markdown_scanners_tree.specs.scanners.html_kinds.HtmlKinds.{condition_number}
 use Rattle.markdown_blocks.specs.declared.blocks.BlockKind.{BlockKind}
 use Rattle.markdown_blocks.specs.declared.blocks.BlockKind.TheVariants.{Blank, Break, Heading, Setext, Indented, Fenced, Html, Table, Definition, Paragraph}
+use Rattle.markdown_blocks.specs.containers.Containers.{no_extensions}
 use Rattle.markdown_blocks.specs.declared.containers.Container.{Container}
-use Rattle.markdown_blocks.specs.declared.containers.Container.TheVariants.{Quote, Item}
+use Rattle.markdown_blocks.specs.declared.containers.Container.TheVariants.{Quote, Item, Footnote}
 use Rattle.markdown_blocks.specs.declared.lists.ListBlock.{ListBlock}
 use Rattle.markdown_blocks.specs.events.Events.{Event, starts, leaf, ends, LeafBlock, AreEvents, IsEventsOf}
 use Rattle.markdown_blocks.specs.lists.Lists.{AreListsOf}
@@ -49,6 +50,7 @@ kind_text Paragraph first = codes "paragraph"
 -- the word for a container, with an item's bullet or delimiter and the number that it starts at
 abbrev pub container_text : Container → List ℕ
 container_text Quote = codes "quote"
+container_text Footnote = codes "footnote"
 container_text (Item item) = codes "item " ++ encode_utf8 item.delimiter ++ codes " " ++ decimal item.start
 
 -- the same in a form: words, or JSON
@@ -199,8 +201,8 @@ title_of Json pages name = if nat_lt 1 pages then page_json name ++ line_end Jso
 -- The text has the lines of the events of the page in this form, and of its lists. (chapter 3, and section 5.3)
 pub record TellsPage (form : Form) (input text : List ℕ) : Type 0 where
   pub events : List Event
-  pub are_its_events : IsEventsOf input events
-  pub are_its_lists : AreListsOf input (lists_behind at_start events)
+  pub are_its_events : IsEventsOf no_extensions input events
+  pub are_its_lists : AreListsOf no_extensions input (lists_behind at_start events)
   pub lines : text ≡ page_lines form events
 
 -- known bytes grow by the title and by a text that has the lines of the page
@@ -212,7 +214,7 @@ pub record TellsFront (form : Form) (input text : List ℕ) : Type 0 where
   pub pieces : List Piece
   pub rest : List (List ℕ)
   pub events : List Event
-  pub are_its_blocks : IsFront input pieces rest
+  pub are_its_blocks : IsFront no_extensions input pieces rest
   pub are_their_events : AreEvents [] 0 0 pieces events
   pub lines : text ≡ lines_of_events form the_front events
 

@@ -9,4 +9,4 @@ returns-in-Paragraph c =
 pub returns-in-Paragraph-ending : goal.returns-in-Paragraph-ending
 returns-in-Paragraph-ending c =
     rw c.in-Paragraph-ending.is (leaves_inside c.args.line.now.outer c.args.line.now.bytes c.in-Some.rest.now c.in-Some.ensures.rest
-    c.in-Some.ensures.inside _ c.ends_paragraph.ensures)
+    c.in-Some.ensures.inside _ (rw (c.extensions.ensures, c.outer.ensures) at c.ends_paragraph.ensures))

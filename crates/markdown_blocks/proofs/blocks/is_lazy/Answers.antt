@@ -5,8 +5,8 @@ use Rattle.markdown_blocks.proofs.blocks.is_lazy.Goals as goal
 
 pub returns : goal.returns
 returns c =
-    lazy_tells (behind c.args.line.now.outer c.args.line.now.bytes).state
+    lazy_tells c.args.line.now.outer.extensions (behind c.args.line.now.outer.containers c.args.line.now.bytes).state
     (record { indent = c.rest.inside.indent; text = c.rest.inside.text.now }) c.is_blank.result (c.rest.view_is ∙ c.rest-rest.ensures)
-    c.is_blank.ensures c.interrupts_paragraph.result
+    c.is_blank.ensures c.interrupts.result
     (begun_none c.begins_container.result _ c.begins_container.ensures c.if-begins_container.false) c.if-is_blank.false c.if-rest-eq4.false
-    c.interrupts_paragraph.ensures
+    (rw (c.extensions.ensures, c.outer.ensures) at c.interrupts.ensures)

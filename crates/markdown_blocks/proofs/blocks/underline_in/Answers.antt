@@ -12,5 +12,5 @@ returns-in_err-level-clause-none c =
 pub returns-clause-found : goal.returns-clause-found
 returns-clause-found c =
     underline_inside c.args.line.now.outer c.args.line.now.bytes (record { indent = c.rest.inside.indent; text = c.rest.inside.text.now })
-    (c.rest.view_is ∙ c.in_ok-rest.ensures.rest) c.in_ok-rest.ensures.inside c.in_ok-level.level c.interrupts_paragraph.result
-    (subst (IsUnderline c.in_ok-level.level) (sym c.rest.view_is) c.in_ok-level.ensures) c.interrupts_paragraph.ensures
+    (c.rest.view_is ∙ c.in_ok-rest.ensures.rest) c.in_ok-rest.ensures.inside c.in_ok-level.level c.interrupts.result
+    (subst (IsUnderline c.in_ok-level.level) (sym c.rest.view_is) c.in_ok-level.ensures) (rw (c.extensions.ensures, c.outer.ensures) at c.interrupts.ensures)

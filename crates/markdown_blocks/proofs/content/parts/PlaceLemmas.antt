@@ -10,11 +10,11 @@ use Rattle.markdown_scanners_tree.specs.Bytes.{begins_with, is_at_line_end, is_s
 use Rattle.markdown_scanners_tree.specs.line.State.{LineState, unscanned, rest_of, leading_spaces, space_within, after_space, columns_further}
 use Rattle.markdown_scanners_tree.proofs.line.SpaceLemmas.{none_at_front}
 use Rattle.markdown_scanners_tree.proofs.line.StepLemmas.{no_space_taken, rest-none}
-use Rattle.markdown_blocks.specs.containers.Containers.{begun_at, begun_behind, behind, behind_quote, within, within_quote}
+use Rattle.markdown_blocks.specs.containers.Containers.{all_extensions, begun_at, begun_behind, behind, behind_quote, within, within_quote}
 use Rattle.markdown_blocks.specs.content.Parts.{after_containers, after_indent, after_markers, first_place}
 use Rattle.markdown_blocks.specs.declared.containers.Container.{Container}
 use Rattle.markdown_blocks.specs.declared.containers.ListItem.{ListItem}
-use Rattle.markdown_blocks.specs.declared.containers.Container.TheVariants.{Quote, Item}
+use Rattle.markdown_blocks.specs.declared.containers.Container.TheVariants.{Quote, Item, Footnote}
 
 -- by what the line has of the first container
 goes : Bool → Container → List Container → LineState → Option (Bool × LineState) → LineState
@@ -34,18 +34,18 @@ goes-some blank more c inner s t some = ap (goes blank c inner s) some
 marks : ℕ → LineState → Option (Container × LineState) → LineState
 marks n s found = elim found [ Some r ↦ after_markers n r.1 | None ↦ s ]
 
-pub marks-none : (n : ℕ) (s : LineState) → begun_at s ≡ None → after_markers (suc n) s ≡ s
+pub marks-none : (n : ℕ) (s : LineState) → begun_at all_extensions s ≡ None → after_markers (suc n) s ≡ s
 unfolding marks
 marks-none n s none = ap (marks n s) none
 
-pub marks-some : (n : ℕ) (s t : LineState) (c : Container) → begun_at s ≡ Some (c, t) → after_markers (suc n) s ≡ after_markers n t
+pub marks-some : (n : ℕ) (s t : LineState) (c : Container) → begun_at all_extensions s ≡ Some (c, t) → after_markers (suc n) s ≡ after_markers n t
 unfolding marks
 marks-some n s t c some = ap (marks n s) some
 
 pub marker_here : (s t : LineState) (indent : ℕ) (found : Option (Container × LineState)) → indent ≡ space_within 4 s → t ≡ after_space 4 s
-    → begun_behind indent t ≡ found → begun_at s ≡ found
+    → begun_behind all_extensions indent t ≡ found → begun_at all_extensions s ≡ found
 marker_here s t indent found columns is here =
-    subst (λ n. begun_behind n (after_space 4 s) ≡ found) columns (subst (λ z. begun_behind indent z ≡ found) is here)
+    subst (λ n. begun_behind all_extensions n (after_space 4 s) ≡ found) columns (subst (λ z. begun_behind all_extensions indent z ≡ found) is here)
 
 pub first_is : (kept few begun : ℕ) (outer before : List Container) (line : List ℕ) (s : LineState) → few ≡ min kept (length outer)
     → before ≡ take few outer → begun ≡ length outer - few → s ≡ (behind before line).state
@@ -90,6 +90,8 @@ module _ (s : LineState) (small : s.phase < 4) (none : s.pending ≡ 0) (end : i
       stays-none true Quote inner s (ap within_quote (no_quote (space_within 4 s) (after_space 4 s)
       (subst (λ t. begins_with (λ b. b == greater_than_sign) (unscanned t) ≡ false) (sym same) (end_no_quote (unscanned s) end))))
   spent (Item item ∷ inner) = item_spent item inner item.begun refl (spent inner)
+  spent (Footnote ∷ inner) =
+      goes-some true true Footnote inner s s refl ∙ ap (after_containers true inner) (stays 4) ∙ spent inner
 
 pub spent_after : (n : ℕ) (old s : LineState) → s ≡ after_space n old → s.pending ≡ 0 → is_at_line_end (unscanned s) ≡ true
     → (inner : List Container) → after_containers true inner s ≡ s

@@ -5,7 +5,7 @@ use Rattle.markdown_blocks.proofs.definitions.add_lines.Given as goal
 
 abbrev pub invariant-loop-read : goal.invariant-loop-read
 invariant-loop-read l = (line : List ℕ) → IsTaken l.text l.fn.first (line ∷ [])
-    → Read l.outer l.words l.text line l.count l.read l.fn.content.items l.content.items
+    → Read l.outer.containers l.words l.text line l.count l.read l.fn.content.items l.content.items
 
 abbrev pub decreases-loop-read : goal.decreases-loop-read
 decreases-loop-read l = l.count - l.read.lines

@@ -8,10 +8,11 @@ loop-container-init c =
     let columns = ap (λ (r : Rest). r.indent) c.scan_rest-rest.ensures.rest in (
       c.scan_rest-rest.ensures.bytes,
       grind (arith, columns),
-      opening-first c.args.outer.now.items c.args.line.now c.keep.new.outer.items _ c.go_on-kept.result.0 c.scan_rest-rest.result
+      opening-first (record { extensions = c.args.extensions; containers = c.args.outer.now.items }) c.args.line.now c.keep.new.outer.items _
+          c.go_on-kept.result.0 c.scan_rest-rest.result
           c.go_on-kept.result.1 c.scan_rest-rest.new.start (c.len-count.ensures ∙ c.keep.new.outer.ok.0)
-          (rw (c.new.ensures ∙ c.deref.ensures.value) at c.go_on-kept.ensures.kept) c.in_ok-keep.ensures
-          (rw (c.new.ensures ∙ c.deref.ensures.value) at c.go_on-kept.ensures.state) c.scan_rest-rest.ensures.rest c.scan_rest-rest.ensures.place,
+          (rw (c.new.ensures, c.deref.ensures.value) at c.go_on-kept.ensures.kept) c.in_ok-keep.ensures
+          (rw (c.new.ensures, c.deref.ensures.value) at c.go_on-kept.ensures.state) c.scan_rest-rest.ensures.rest c.scan_rest-rest.ensures.place,
       omega (arith, c.len-count.ensures, c.keep.new.outer.ok.0),
       c.scan_rest-rest.ensures.within,
     )
@@ -22,7 +23,8 @@ loop-container-preserved c =
     let grown = ap length c.in_ok-push.ensures.items ∙ length-append c.loop-container.outer.items (c.in-Some.container ∷ []) in (
       c.scan_rest-rest-in-Some.ensures.bytes,
       grind (arith, columns),
-      opening-next c.args.outer.now.items c.args.line.now c.loop-container.outer.items c.push.new.self.items _ c.loop-container.rest
+      opening-next (record { extensions = c.args.extensions; containers = c.args.outer.now.items }) c.args.line.now c.loop-container.outer.items
+          c.push.new.self.items _ c.loop-container.rest
           c.scan_rest-rest-in-Some.result c.loop-container.start c.scan_container.new.start c.scan_rest-rest-in-Some.new.start
           c.in-Some.container c.loop-container.invariant.2 (rw (ap (λ (r : Rest). r.indent) c.rest.view_is) at c.in-Some.ensures.found)
           c.in_ok-push.ensures.items c.scan_rest-rest-in-Some.ensures.rest
@@ -33,7 +35,8 @@ loop-container-preserved c =
 
 pub returns-clause-opening : goal.returns-clause-opening
 returns-clause-opening c =
-    opening-done c.args.outer.now.items c.args.line.now c.loop-container.outer.items _ c.loop-container.rest c.loop-container.start
+    opening-done (record { extensions = c.args.extensions; containers = c.args.outer.now.items }) c.args.line.now c.loop-container.outer.items _
+        c.loop-container.rest c.loop-container.start
     c.loop-container.invariant.2 (rw (ap (λ (r : Rest). r.indent) c.rest.view_is) at c.in_default.ensures.none)
 
 pub returns-clause-few : goal.returns-clause-few

@@ -1,5 +1,6 @@
 -- What is told so far, and what the blocks to come tell, is what all tell.
 use Rattle.std.proofs.Common.{List, ◌≡◌, ◌++◌, map}
+use Rattle.markdown_blocks.specs.containers.Containers.{no_extensions}
 use Rattle.markdown_blocks.specs.events.Events.{Event, IsEventsOf}
 use Rattle.markdown_blocks.specs.events.Given.{Gives, events_left}
 use Rattle.markdown_scanners_c.specs.Pages.{event_told}
@@ -7,7 +8,7 @@ use Rattle.markdown_scanners_c.proofs.pages.told_blocks.Given as goal
 
 abbrev pub invariant-loop-blocks : goal.invariant-loop-blocks
 invariant-loop-blocks l = (later : List Event) → Gives l.blocks later
-    → (all : List Event) × IsEventsOf l.page all × (map event_told all ≡ l.told.items ++ map event_told later)
+    → (all : List Event) × IsEventsOf no_extensions l.page all × (map event_told all ≡ l.told.items ++ map event_told later)
 
 abbrev pub decreases-loop-blocks : goal.decreases-loop-blocks
 decreases-loop-blocks l = events_left l.blocks

@@ -5,9 +5,9 @@ use Rattle.markdown_blocks.proofs.content.parts.InnerLemmas.{read-more, read-non
 use Rattle.markdown_blocks.proofs.content.parts.count_inner.Goals as goal
 
 pub loop-line-init : goal.loop-line-init
-loop-line-init c = read-none c.args.kind c.args.outer.now c.args.lines.now c.args.first
+loop-line-init c = read-none c.args.kind c.args.outer.now.containers c.args.lines.now c.args.first
 
 pub loop-line-preserved : goal.loop-line-preserved
 loop-line-preserved c =
-    read-more c.args.kind c.args.outer.now c.args.lines.now c.args.first c.loop-line.read c.in-Some.more c.in-Some.line.now c.loop-line.invariant
+    read-more c.args.kind c.args.outer.now.containers c.args.lines.now c.args.first c.loop-line.read c.in-Some.more c.in-Some.line.now c.loop-line.invariant
     c.in-Some.ensures.line (λ all out. not_told c.if-is_left_out.false (λ t. t) (c.is_left_out.ensures.1 (grind (arith, nat_tests), out)))

@@ -3,7 +3,7 @@ use Rattle.markdown_blocks.proofs.content.parts.InnerLemmas.{Read}
 use Rattle.markdown_blocks.proofs.content.parts.count_inner.Given as goal
 
 abbrev pub invariant-loop-line : goal.invariant-loop-line
-invariant-loop-line l = Read l.kind l.outer l.lines l.fn.first l.read
+invariant-loop-line l = Read l.kind l.outer.containers l.lines l.fn.first l.read
 
 abbrev pub decreases-loop-line : goal.decreases-loop-line
 decreases-loop-line l = length l.lines - l.read.bytes

@@ -6,3 +6,9 @@ pub returns-then-remaining_space-eq0-clause-spent : goal.returns-then-remaining_
 returns-then-remaining_space-eq0-clause-spent c = λ told inner.
     spent_after c.in-Item.item.width c.args.start.now c.scan_space_upto.new.self c.scan_space_upto.ensures.state
     (omega (arith, c.remaining_space.ensures.pending, c.if-remaining_space-eq0.true)) (c.is_at_eol.ensures.answer.0 told) inner
+
+pub returns-then-remaining_space-eq0-2-clause-spent : goal.returns-then-remaining_space-eq0-2-clause-spent
+returns-then-remaining_space-eq0-2-clause-spent c = λ told inner.
+    spent_after 4 c.args.start.now c.scan_space_upto-in-Footnote.new.self c.scan_space_upto-in-Footnote.ensures.state
+    (omega (arith, c.remaining_space-in-Footnote.ensures.pending, c.if-remaining_space-eq0-2.true))
+    (c.is_at_eol-then-remaining_space-eq0-2.ensures.answer.0 told) inner

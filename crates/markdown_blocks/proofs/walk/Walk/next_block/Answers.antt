@@ -23,10 +23,11 @@ returns-then-not-is_over-clause-all c = λ ended.
 pub returns-then-not-is_over-clause-none : goal.returns-then-not-is_over-clause-none
 returns-then-not-is_over-clause-none c =
     let one = taken-next c.args.lines.now c.nothing.result c.in-Some.first [] c.in-Some.line.now (c.nothing.ensures c.args.lines.now) c.in-Some.ensures.line in
-    let block = rw (c.new-outer.ensures ∙ c.deref-2.ensures.value) at (c.in_ok-block.ensures c.in-Some.line.now one) in
-    let over = rw (c.new-outer.ensures ∙ c.deref-2.ensures.value) at (c.is_over.ensures (c.in-Some.line.now ∷ block.later) block.taken) in
+    let block = rw (c.new-outer.ensures, c.deref-2.ensures.value) at (c.in_ok-block.ensures c.in-Some.line.now one) in
+    let over = rw (c.new-outer.ensures, c.deref-2.ensures.value) at (c.is_over.ensures (c.in-Some.line.now ∷ block.later) block.taken) in
     let opening = rw (c.in_ok-extend_from_slice.ensures.items, c.clear.ensures.items, c.deref.ensures.value) at c.in_ok-opened.ensures.opening in
-    rw (← c.self.view_is) (none_over c.self.inside.open.items c.open_containers.new.outer.items c.in-Some.line.now
+    rw (← c.self.view_is) (none_over (record { extensions = c.self.inside.extensions; containers = c.self.inside.open.items })
+        c.open_containers.new.outer.items c.in-Some.line.now
     c.args.lines.now c.args.has_ended c.in_ok-opened.opened.kept _ c.in_ok-block.block opening block (not_told c.if-not-is_over.true over.1))
 
 pub returns-clause-some : goal.returns-clause-some
@@ -42,14 +43,16 @@ returns-clause-within c =
 pub returns-clause-step : goal.returns-clause-step
 returns-clause-step c = λ more none.
     let one = taken-next c.args.lines.now c.nothing.result c.in-Some.first [] c.in-Some.line.now (c.nothing.ensures c.args.lines.now) c.in-Some.ensures.line in
-    let block = rw (c.new-outer.ensures ∙ c.deref-2.ensures.value, ← c.rest.view_is) at (c.in_ok-block.ensures c.in-Some.line.now one) in
-    let over = rw (c.new-outer.ensures ∙ c.deref-2.ensures.value) at (c.is_over.ensures (c.in-Some.line.now ∷ block.later) block.taken) in
+    let block = rw (c.new-outer.ensures, c.deref-2.ensures.value, ← c.rest.view_is) at (c.in_ok-block.ensures c.in-Some.line.now one) in
+    let over = rw (c.new-outer.ensures, c.deref-2.ensures.value) at (c.is_over.ensures (c.in-Some.line.now ∷ block.later) block.taken) in
     let opening = rw (c.in_ok-extend_from_slice.ensures.items, c.clear.ensures.items, c.deref.ensures.value, ← c.rest.view_is)
     at c.in_ok-opened.ensures.opening in
     let place = rw (c.in_ok-extend_from_slice.ensures.items, c.clear.ensures.items, c.deref.ensures.value) at c.in_ok-opened.ensures.place in
-    let leaf = leaf-more c.open_containers.new.outer.items more c.in_ok-block.block.kind _ block.later _ c.args.has_ended
+    let leaf = leaf-more (record { extensions = c.self.inside.extensions; containers = c.open_containers.new.outer.items }) more c.in_ok-block.block.kind _
+        block.later _ c.args.has_ended
     (over.0 c.if-not-is_over.false) none block.leaf in
-    rw (← c.self.view_is, c.swap.ensures.x_after) (step_here c.self.inside.open.items c.open_containers.new.outer.items
+    rw (← c.self.view_is, c.swap.ensures.x_after) (step_here (record { extensions = c.self.inside.extensions; containers = c.self.inside.open.items })
+        c.open_containers.new.outer.items
     c.in-Some.line.now c.args.lines.now more _ opening refl place refl block leaf)
 
 pub returns-clause-content : goal.returns-clause-content

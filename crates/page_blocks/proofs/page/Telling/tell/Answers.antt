@@ -40,7 +40,7 @@ all_in_front X false size all is ended = cc
 -- the page is told to its end
 ended_page : (old mid : Telling) (text longer : List ℕ) (count depth : ℕ) → length text ≤ count → mid.printer.form ≡ old.printer.form
     → ((page written : List ℕ) → HasTold page written old (lines_of (text ++ [])) → HasTold page written mid (lines_of (drop count text ++ [])))
-    → depth ≡ length mid.walk → longer ≡ string_bytes mid.printer.text ++ last_lines mid.printer.form (printed_of mid.printer) depth
+    → depth ≡ length mid.walk.containers → longer ≡ string_bytes mid.printer.text ++ last_lines mid.printer.form (printed_of mid.printer) depth
     → (page written : List ℕ) → HasTold page written old (lines_of text) → TellsPage old.printer.form page (written ++ longer)
 ended_page old mid text longer count depth all same goes_on counted tells page written goes =
     let here : HasTold page written mid [] = rw (drop_all count text all) at

@@ -5,8 +5,8 @@ use Rattle.page_blocks.proofs.page.PageLemmas.{step_size, telling-next}
 use Rattle.page_blocks.proofs.page.Telling.tell_block.Goals as goal
 
 -- the events of the step's block are printed
-printed : (c : goal.In_ok-print_block) → HasPrinted c.args.self.now.printer c.next_block.new.self c.next_block.new.content.items
-    (block_left c.in-Some.step c.args.self.now.printer.at (length c.args.self.now.walk)) c.print_block.new.self
+printed : (c : goal.In_ok-print_block) → HasPrinted c.args.self.now.printer c.next_block.new.self.containers c.next_block.new.content.items
+    (block_left c.in-Some.step c.args.self.now.printer.at (length c.args.self.now.walk.containers)) c.print_block.new.self
 printed c =
     rw (c.containers.ensures.containers, c.deref.ensures.value, c.new-events.ensures, c.containers-depth.ensures.containers)
     at c.in_ok-print_block.ensures.lines

@@ -10,7 +10,7 @@ pub returns-clause-some : goal.returns-clause-some
 returns-clause-some c =
     let s = c.args.self in
     let k = s.cut.kind in
-    let outer = s.cut.outer.now in
+    let outer = s.cut.outer.now.containers in
     let n = c.in_ok-line.ensures.line in
     let part = seen_part c.text_part-part.result in
     let is : part ≡ part_at (text_place k s.cut.indent (later_place k outer c.in_ok-line.line.now)) =

@@ -2,14 +2,14 @@ use Rattle.std.proofs.Common.{[], ◌++◌, ap, refl, sym, ◌∙◌, length, ar
 use Rattle.std.proofs.lemmas.List.{drop-drop, length-drop}
 use Rattle.markdown_blocks.proofs.taken.TakenLemmas.{slice_behind}
 use Rattle.markdown_blocks.proofs.link_definitions.NamedLemmas.{none_left, whole_page, block_named, none_later, added_before}
-use Rattle.markdown_blocks.proofs.link_definitions.LinkDefinitions.of_page.Goals as goal
+use Rattle.markdown_blocks.proofs.link_definitions.LinkDefinitions.of_page_ext.Goals as goal
 
 pub loop-content-init : goal.loop-content-init
 loop-content-init c = (
   omega (arith),
   λ later left. (
     later,
-    whole_page c.args.page.now later (rw c.new-walk.ensures.none at left),
+    whole_page c.args.extensions c.args.page.now later (rw c.new_ext-walk.ensures.none at left),
     λ label. rw c.new-known.ensures.none refl,
   ),
 )

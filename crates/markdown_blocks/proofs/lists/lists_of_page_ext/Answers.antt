@@ -3,12 +3,12 @@ use Rattle.std.specs.Option.{option_to_list}
 use Rattle.markdown_blocks.specs.events.Events.{seen_event}
 use Rattle.markdown_blocks.specs.lists.Tracked.{lists_behind}
 use Rattle.markdown_blocks.proofs.lists.PageLemmas.{lists_are}
-use Rattle.markdown_blocks.proofs.lists.lists_of_page.Goals as goal
+use Rattle.markdown_blocks.proofs.lists.lists_of_page_ext.Goals as goal
 
 pub loop-found-init : goal.loop-found-init
 loop-found-init c = λ events g. (
   events,
-  c.new-blocks.ensures.page events g,
+  c.new_ext-blocks.ensures.page events g,
   λ nodes same. rw (c.new-found.ensures.items, same) (sym (c.new-lists.ensures.lists nodes)),
 )
 
@@ -25,5 +25,5 @@ loop-found-preserved c = λ events g.
 pub returns : goal.returns
 returns c =
     let before = c.loop-found.invariant [] (rw c.in_default.is at c.in_ok-event.ensures.none) in
-    lists_are _ before.0 _ before.1 (λ nodes same. before.2 nodes same ∙ ap (λ ls. c.loop-found.found.items ++ ls) c.finish.ensures.lists
+    lists_are _ _ before.0 _ before.1 (λ nodes same. before.2 nodes same ∙ ap (λ ls. c.loop-found.found.items ++ ls) c.finish.ensures.lists
     ∙ sym c.in_ok-keep-2.ensures)
