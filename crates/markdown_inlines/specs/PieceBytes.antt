@@ -1,9 +1,9 @@
 -- The bytes that the pieces of a text begin with. (CommonMark 0.31.2, chapter 6)
-use Rattle.std.specs.Prelude.{ℕ, Bool, ◌||◌, ◌==◌, not, List, [], ◌∷◌, if◌then◌else◌}
+use Rattle.std.specs.Prelude.{ℕ, suc, Bool, ◌&&◌, ◌||◌, ◌==◌, not, List, [], ◌∷◌, if◌then◌else◌}
 use Rattle.std.specs.List.{prefix_len}
 use Rattle.markdown_scanners_tree.specs.Ascii.{ampersand, asterisk, backslash, backtick, exclamation_mark, left_bracket, less_than_sign}
 use Rattle.markdown_scanners_tree.specs.Ascii.{right_bracket, space, underscore}
-use Rattle.markdown_scanners_tree.specs.Bytes.{is_line_ending}
+use Rattle.markdown_scanners_tree.specs.Bytes.{begins_with, is_line_ending}
 
 -- a line break begins with a backslash, a space or a line ending
 abbrev pub opens_break : ℕ → Bool
@@ -19,6 +19,15 @@ opens_long b = b == less_than_sign || b == backtick || b == asterisk || b == und
 -- a byte with which no piece but text begins
 abbrev pub is_plain : ℕ → Bool
 is_plain b = not (opens_break b || opens_bracket b || opens_long b || b == ampersand)
+
+-- a space between words begins no piece, since no line ending follows
+abbrev pub is_word_space : ℕ → List ℕ → Bool
+is_word_space b after = b == space && begins_with is_plain after
+
+-- how many bytes at the front are plain, or spaces between such
+abbrev pub plain_length : List ℕ → ℕ
+plain_length [] = 0
+plain_length (b ∷ bs) = if is_plain b || is_word_space b bs then suc (plain_length bs) else 0
 
 -- how many bytes at the front are passed over where none of them begins a piece: a backtick string, spaces, or another byte
 abbrev pub run_length : List ℕ → ℕ

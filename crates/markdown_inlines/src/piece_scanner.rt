@@ -1,11 +1,10 @@
 //! Looking for the pieces of a text, from left to right.
 ghost use Rattle.std.specs.Prelude.{ℕ, ◌≡◌, ◌≢◌, ◌+◌, ◌-◌, ◌<◌, ◌≤◌, length, get_or, IfOk, IfSome, IfNone};
-ghost use Rattle.std.specs.List.{prefix_len};
 ghost use Rattle.std.specs.Str.{IsCharBoundary};
 ghost use Rattle.markdown_scanners_tree.specs.Ascii.{backtick};
 ghost use Rattle.markdown_scanners_tree.specs.inline_html.Guard.{IsTrueGuard};
 ghost use Rattle.markdown_inlines.specs.Pieces.{BeginsAt, ReadText, IsNext, HasOnlyText};
-ghost use Rattle.markdown_inlines.specs.PieceBytes.{is_plain, run_length};
+ghost use Rattle.markdown_inlines.specs.PieceBytes.{is_plain, is_word_space, plain_length, run_length};
 ghost use Rattle.markdown_inlines.specs.declared.pieces.PieceKind.{PieceKind};
 
 use crate::guarded_code_spans::CodeSpans;
@@ -162,18 +161,36 @@ fn run_len(rest: &[u8]) -> usize
 
 // How many bytes at the front begin nothing but text.
 fn plain_len(bytes: &[u8]) -> usize
-    ensures count { result ≡ prefix_len is_plain bytes.now }
+    ensures count { result ≡ plain_length bytes.now }
     ensures within { result ≤ length bytes.now }
 {
-    bytes.iter().take_while(|b| is_plain(**b)).count()
+    let mut rest = bytes;
+    while let [byte, after @ ..] = rest {
+        if !is_plain(*byte) && !is_word_space(*byte, after) {
+            break;
+        }
+        rest = after;
+    }
+    bytes.len() - rest.len()
+}
+
+// Whether the byte is a space before a plain byte.
+fn is_word_space(byte: u8, after: &[u8]) -> bool
+    ensures { result ≡ is_word_space byte after.now }
+{
+    match after {
+        [next, ..] => byte == b' ' && is_plain(*next),
+        [] => false,
+    }
 }
 
 // Whether no piece but text begins with the byte.
 fn is_plain(byte: u8) -> bool
     ensures { result ≡ is_plain byte }
 {
-    !matches!(
-        byte,
-        b'\\' | b'&' | b'`' | b'<' | b'[' | b'!' | b']' | b'*' | b'_' | b' ' | b'\n' | b'\r'
-    )
+    byte > b'`'
+        || !matches!(
+            byte,
+            b'\\' | b'&' | b'`' | b'<' | b'[' | b'!' | b']' | b'*' | b'_' | b' ' | b'\n' | b'\r'
+        )
 }

@@ -161,7 +161,7 @@ front : (text : List ℕ) (place b : ℕ) (rest : List ℕ) → drop place text 
 front text place b rest is =
     ap (λ k. get_or text k 0) (sym (add-zero place)) ∙ sym (get_or-drop place text 0 0) ∙ ap (λ t. get_or t 0 0) is
 
-not_false_true : (b : Bool) → not b ≡ false → b ≡ true
+pub not_false_true : (b : Bool) → not b ≡ false → b ≡ true
 not_false_true true e = refl
 not_false_true false e = cc
 

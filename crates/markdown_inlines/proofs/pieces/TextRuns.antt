@@ -1,21 +1,23 @@
 -- Bytes that are passed over begin no piece: plain bytes, the rest of a backtick string, and of spaces before no line ending.
-use Rattle.std.proofs.Common.{◌≡◌, ℕ, ◌+◌, ◌-◌, ◌<◌, ◌≤◌, ◌==◌, ◌⊎◌, Bool, true, false, cond, List, ◌∷◌, length, take, drop, get_or}
+use Rattle.std.proofs.Common.{◌≡◌, ℕ, zero, suc, ◌+◌, ◌-◌, ◌<◌, ◌≤◌, ◌==◌, ◌||◌, ◌⊎◌, Bool, true, false, not, cond, List, [], ◌∷◌, length}
+use Rattle.std.proofs.Common.{take, drop, get_or, add-zero}
 use Rattle.std.proofs.Common.{refl, sym, ap, ◌∙◌, subst, arith, inl, inr, Some}
 use Rattle.std.specs.List.{prefix_len}
-use Rattle.std.proofs.lemmas.Bool.{cases_Bool, cases_lt, eqb-true}
+use Rattle.std.proofs.lemmas.Bool.{cases_Bool, cases_lt, eqb-true, and_parts}
 use Rattle.std.proofs.lemmas.List.{drop_more, drop-drop, get_or-drop, length-drop}
 use Rattle.std.proofs.Math.ListN.{get_or-eq_default}
 use Rattle.std.proofs.lemmas.List.Sums.{prefix_len_is, prefix_len_passes, prefix_len_stops, prefix_len-le-length}
-use Rattle.markdown_scanners_tree.specs.Bytes.{line_ending}
+use Rattle.markdown_scanners_tree.specs.Bytes.{begins_with, line_ending}
+use Rattle.markdown_scanners_tree.proofs.ForCallers.{first-line_ending}
 use Rattle.markdown_scanners_tree.proofs.PrefixLemmas.{from_place}
 use Rattle.markdown_inlines.specs.LineBreaks.{IsLineBreak}
-use Rattle.markdown_inlines.specs.PieceBytes.{is_plain, run_length}
+use Rattle.markdown_inlines.specs.PieceBytes.{is_plain, is_word_space, opens_break, plain_length, run_length}
 use Rattle.markdown_inlines.specs.Pieces.{BeginsAt, HasOnlyText}
 use Rattle.markdown_inlines.specs.declared.line_breaks.LineBreak.{LineBreak}
 use Rattle.markdown_inlines.specs.declared.pieces.PieceKind.{PieceKind}
 use Rattle.markdown_inlines.specs.declared.pieces.PieceKind.TheVariants.{HardBreak, SoftBreak}
 use Rattle.markdown_inlines.proofs.line_breaks.LineBreakLemmas.{before_is_hard, before_length, before_only, break_found}
-use Rattle.markdown_inlines.proofs.pieces.Openings.{begins_class, byte_class, only_break, only_code, plain_begins_none}
+use Rattle.markdown_inlines.proofs.pieces.Openings.{begins_class, break_byte_class, byte_class, not_false_true, only_break, only_code, plain_begins_none, plain_class}
 
 abbrev is_byte : ℕ → ℕ → Bool
 is_byte byte b = b == byte
@@ -39,25 +41,110 @@ run_stops test bytes place inside =
     ap test (sym (get_or-drop place bytes (prefix_len test (drop place bytes)) 0))
     ∙ prefix_len_stops test (drop place bytes) 0 (omega (arith, inside, length-drop place bytes))
 
--- ---- plain bytes
-module _ (bytes : List ℕ) (place plain : ℕ) (counted : plain ≡ prefix_len is_plain (take (length bytes - place) (drop place bytes))) where
-  plain_at : (p : ℕ) → place ≤ p → p < place + plain → is_plain (get_or bytes p 0) ≡ true
-  plain_at p low high =
-      let at : place + (p - place) ≡ p = omega (arith, low) in
-      let all : plain ≡ prefix_len is_plain (drop place bytes) = counted ∙ ap (prefix_len is_plain) (from_place bytes place) in
-      ap (λ k. is_plain (get_or bytes k 0)) (sym at) ∙ run_passes is_plain bytes place (p - place) (omega (arith, low, high, all))
+-- ---- plain bytes, and spaces between words
+spaced_length : (text rest : List ℕ) → text ≡ 32 ∷ rest → before_length text ≡ prefix_len (λ b. b == 32) text
+spaced_length text rest is = subst (λ t. before_length t ≡ prefix_len (λ b. b == 32) t) (sym is) refl
 
-  pub plain_text : HasOnlyText bytes place (place + plain)
-  plain_text p low high kind len = plain_begins_none bytes place p (plain_at p low high) kind len
+not_space : (b : ℕ) → is_plain b ≡ true → (b == 32) ≡ false
+not_space b plain = elim (cases_Bool (b == 32)) [
+  | inl is ↦ absurd (let lost : true ≡ false = sym plain ∙ ap is_plain (eqb-true b 32 is) in cc)
+  | inr not ↦ not
+]
+
+no_spaces : (rest : List ℕ) → begins_with is_plain rest ≡ true → prefix_len (λ b. b == 32) rest ≡ 0
+no_spaces [] plain = refl
+no_spaces (b ∷ bs) plain = rw (not_space b plain) refl
+
+no_ending : (rest : List ℕ) (ending : ℕ) → begins_with is_plain rest ≡ true → line_ending rest ≡ Some ending → ⊥
+no_ending [] ending plain ends = let lost : true ≡ false = sym plain in cc
+no_ending (b ∷ bs) ending plain ends =
+    let opens : opens_break b ≡ true =
+    not_false_true (opens_break b) (first-line_ending (λ c. not (opens_break c)) refl refl (b ∷ bs) ending ends) in
+    omega (arith, sym (plain_class b plain) ∙ break_byte_class b opens)
+
+-- no line break begins with a space between words
+no_break : (text rest : List ℕ) → text ≡ 32 ∷ rest → begins_with is_plain rest ≡ true → (break : LineBreak) → IsLineBreak text break → ⊥
+no_break text rest parts plain break is =
+    let only = before_only text is.before is.after is.ending break.is_hard is.parts is.is_before is.ends in
+    let one : before_length text ≡ 1 =
+    spaced_length text rest parts ∙ ap (prefix_len (λ b. b == 32)) parts ∙ ap (λ n. 1 + n) (no_spaces rest plain) in
+    let after : is.after ≡ rest = only.1 ∙ ap (λ k. drop k text) one ∙ ap (drop 1) parts in
+    no_ending rest is.ending plain (ap line_ending (sym after) ∙ is.ends)
+
+word_space_none : (bytes : List ℕ) (from p : ℕ) → get_or bytes p 0 ≡ 32 → begins_with is_plain (drop (p + 1) bytes) ≡ true
+    → (kind : PieceKind) (len : ℕ) → ¬ BeginsAt bytes from p kind len
+word_space_none bytes from p here plain kind len begins =
+    let inside : p < length bytes = elim (cases_lt p (length bytes)) [
+      | inl is ↦ is
+      | inr past ↦ absurd (omega (arith, here, get_or-eq_default bytes 0 past))
+    ] in
+    let parts : drop p bytes ≡ 32 ∷ drop (p + 1) bytes = drop_more bytes p 0 inside ∙ ap (λ b. b ∷ drop (p + 1) bytes) here in
+    let same = sym (ap byte_class here) ∙ begins_class bytes from p kind len begins in
+    only_break (λ k. BeginsAt bytes from p k len → ⊥) kind same
+    (λ is.
+    let first = sym (ap (λ t. get_or t 0 0) parts) ∙ ap (λ t. get_or t 0 0) is.parts in
+    omega (arith, first))
+    (λ is. no_break (drop p bytes) (drop (p + 1) bytes) parts plain _ is)
+    (λ is. no_break (drop p bytes) (drop (p + 1) bytes) parts plain _ is) begins
+
+-- what stands at a byte of those that are passed over
+abbrev IsPassed : List ℕ → ℕ → Type 0
+IsPassed bytes j =
+    (is_plain (get_or bytes j 0) ≡ true) ⊎ ((get_or bytes j 0 ≡ 32) × (begins_with is_plain (drop (suc j) bytes) ≡ true))
+
+passed_first : (b : ℕ) (bs : List ℕ) → (is_plain b || is_word_space b bs) ≡ true → IsPassed (b ∷ bs) 0
+passed_first b bs passes = elim (cases_Bool (is_plain b)) [
+  | inl plain ↦ inl plain
+  | inr not_plain ↦ spaced (ap (λ x. x || is_word_space b bs) (sym not_plain) ∙ passes)
+]
+  where
+    spaced : is_word_space b bs ≡ true → IsPassed (b ∷ bs) 0
+    spaced is =
+        let parts = and_parts (b == 32) (begins_with is_plain bs) is in
+        inr (eqb-true b 32 parts.0, parts.1)
+
+passed_at : (bytes : List ℕ) (j : ℕ) → j < plain_length bytes → IsPassed bytes j
+passed_at [] j inside = absurd (omega (arith, inside))
+passed_at (b ∷ bs) j inside = elim (cases_Bool (is_plain b || is_word_space b bs)) [
+  | inr stops ↦ absurd (let none : plain_length (b ∷ bs) ≡ 0 = rw stops refl in omega (arith, none, inside))
+  | inl passes ↦ (let more : plain_length (b ∷ bs) ≡ suc (plain_length bs) = rw passes refl in
+      passed_of b bs j passes (passed_at bs) (omega (arith, more, inside)))
+]
+  where
+    passed_of : (b : ℕ) (bs : List ℕ) (j : ℕ) → (is_plain b || is_word_space b bs) ≡ true
+        → ((k : ℕ) → k < plain_length bs → IsPassed bs k) → j < suc (plain_length bs) → IsPassed (b ∷ bs) j
+    passed_of b bs zero passes later inside = passed_first b bs passes
+    passed_of b bs (suc k) passes later inside = later k (omega (arith, inside))
+
+module _ (bytes : List ℕ) (place plain : ℕ) (counted : plain ≡ plain_length (take (length bytes - place) (drop place bytes))) where
+  case_at : (p : ℕ) → place ≤ p → p < place + plain → IsPassed bytes p
+  case_at p low high =
+      let at : place + (p - place) ≡ p = omega (arith, low) in
+      let next : place + suc (p - place) ≡ suc p = omega (arith, low) in
+      let all : plain ≡ plain_length (drop place bytes) = counted ∙ ap plain_length (from_place bytes place) in
+      let here = get_or-drop place bytes (p - place) 0 ∙ ap (λ k. get_or bytes k 0) at in
+      let after = drop-drop (suc (p - place)) place bytes ∙ ap (λ k. drop k bytes) next in
+      elim (passed_at (drop place bytes) (p - place) (omega (arith, low, high, all))) [
+        | inl is ↦ inl (ap is_plain (sym here) ∙ is)
+        | inr is ↦ inr (sym here ∙ is.0, ap (begins_with is_plain) (sym after) ∙ is.1)
+      ]
 
   plain_none : (from p : ℕ) → place ≤ p → p < place + plain → (kind : PieceKind) (len : ℕ) → ¬ BeginsAt bytes from p kind len
-  plain_none from p low high kind len = plain_begins_none bytes from p (plain_at p low high) kind len
+  plain_none from p low high kind len =
+      let next : p + 1 ≡ suc p = omega arith in
+      elim (case_at p low high) [
+        | inl is ↦ plain_begins_none bytes from p is kind len
+        | inr is ↦ word_space_none bytes from p is.0 (ap (λ k. begins_with is_plain (drop k bytes)) next ∙ is.1) kind len
+      ]
+
+  pub plain_text : HasOnlyText bytes place (place + plain)
+  plain_text p low high kind len = plain_none place p low high kind len
 
   pub plain_apart : 0 < plain → get_or bytes (place + plain - 1) 0 ≡ 96 → ⊥
-  plain_apart some is =
-      let plain_there = plain_at (place + plain - 1) (omega (arith, some)) (omega (arith, some)) in
-      let lost : true ≡ false = sym plain_there ∙ ap is_plain is in
-      cc
+  plain_apart some is = elim (case_at (place + plain - 1) (omega (arith, some)) (omega (arith, some))) [
+    | inl plain_there ↦ (let lost : true ≡ false = sym plain_there ∙ ap is_plain is in cc)
+    | inr spaced ↦ omega (arith, spaced.0, is)
+  ]
 
 -- ---- the rest of a backtick string
 code_none : (bytes : List ℕ) (from p : ℕ) → from < p → get_or bytes p 0 ≡ 96 → get_or bytes (p - 1) 0 ≡ 96
@@ -67,9 +154,6 @@ code_none bytes from p later here before kind len begins =
     (λ backticks is. is.0 later before) begins
 
 -- ---- the rest of spaces
-spaced_length : (text rest : List ℕ) → text ≡ 32 ∷ rest → before_length text ≡ prefix_len (λ b. b == 32) text
-spaced_length text rest is = subst (λ t. before_length t ≡ prefix_len (λ b. b == 32) t) (sym is) refl
-
 either_break : (bytes : List ℕ) (from place len : ℕ) (is_hard : Bool)
     → ((kind : PieceKind) (n : ℕ) → ¬ BeginsAt bytes from place kind n)
     → IsLineBreak (drop place bytes) (record { is_hard = is_hard; len = len }) → ⊥
@@ -155,7 +239,7 @@ run_cases b bs run is =
 
 module _ (bytes : List ℕ) (place run plain : ℕ) (low : place < length bytes)
     (counted : run ≡ run_length (take (length bytes - place) (drop place bytes))) (some : 0 < run)
-    (passed : plain ≡ prefix_len is_plain (take (length bytes - (place + run)) (drop (place + run) bytes))) where
+    (passed : plain ≡ plain_length (take (length bytes - (place + run)) (drop (place + run) bytes))) where
   here : drop place bytes ≡ get_or bytes place 0 ∷ drop (place + 1) bytes
   here = drop_more bytes place 0 low
 

@@ -1,7 +1,6 @@
 use Rattle.std.proofs.Common.{◌≡◌, ◌+◌, ◌-◌, ◌≤◌, ap, subst, arith, length, take, drop, get_or, ℕ}
-use Rattle.std.specs.List.{prefix_len}
 use Rattle.markdown_scanners_tree.proofs.ForCallers.{IsTrueGuard-later}
-use Rattle.markdown_inlines.specs.PieceBytes.{is_plain}
+use Rattle.markdown_inlines.specs.PieceBytes.{plain_length}
 use Rattle.markdown_inlines.specs.Pieces.{BeginsAt, HasOnlyText}
 use Rattle.markdown_inlines.specs.declared.pieces.PieceKind.{PieceKind}
 use Rattle.markdown_inlines.proofs.line_breaks.LineBreakLemmas.{rest_within}
@@ -15,7 +14,7 @@ loop-place-init c =
     let from = c.args.from in
     let n = c.plain_len.result in
     let same = c.as_bytes-bytes.ensures.value in
-    let counted = subst (λ t. n ≡ prefix_len is_plain (take (length t - from) (drop from t))) same c.plain_len.ensures.count in
+    let counted = subst (λ t. n ≡ plain_length (take (length t - from) (drop from t))) same c.plain_len.ensures.count in
     let fits = subst (λ t. n ≤ length (take (length t - from) (drop from t))) same c.plain_len.ensures.within in (
       omega arith,
       rest_within text from n c.requires.within fits,
