@@ -48,6 +48,8 @@ pub const CALLS: &[(&str, &str)] = &[
     ("link_dest_deep", "scan_link_dest, no limit"),
     ("autolink", "scan_autolink"),
     ("wikilink", "scan_wikilink_pipe"),
+    ("inlines", "find_inlines, a paragraph"),
+    ("inlines_defined", "find_inlines, each label defined"),
     ("type_6", "starts_html_block_type_6"),
     ("type_7", "scan_html_type_7"),
     ("html_start", "scan_html_block_start"),
@@ -112,6 +114,11 @@ fn openers(text: &[u8]) -> Vec<usize> {
     after_pair(text, |first, second| first == b'<' && matches!(second, b'!' | b'?'))
 }
 
+/// After each blank line, and the end.
+fn paragraph_ends(text: &[u8]) -> Vec<usize> {
+    [after_pair(text, |first, second| first == b'\n' && second == b'\n'), vec![text.len()]].concat()
+}
+
 /// Beginnings and ends of words of up to 22 bytes.
 fn words(text: &[u8]) -> Vec<usize> {
     let mut at = vec![];
@@ -170,6 +177,7 @@ pub fn real(call: &str, text: &[u8]) -> Option<Input> {
         "type_7" | "tag" | "tag_lines" => each(text, b'<'),
         "wikilink" | "label" | "label_table" => after(text, b'['),
         "inline_html" | "inline_html_run" => openers(text),
+        "inlines" | "inlines_defined" => return Some(input(text.to_vec(), paragraph_ends(text))),
         "classes" => vec![0],
         _ => line_starts(text),
     };
@@ -308,6 +316,29 @@ pub fn hostile() -> Vec<Hostile> {
         made("50000 digits", "listitem", &[("1", 50000)], start),
         made("50000 letters", "autolink", &[("a", 50000)], start),
         made("1000 x 'a+', from each", "autolink", &[("a+", 1000)], |text| each(text, b'a')),
+        made("50000 x '*'", "inlines", &[("*", 50000)], len),
+        made("10000 x '**a '", "inlines", &[("**a ", 10000)], len),
+        made("10000 x '_a*'", "inlines", &[("_a*", 10000)], len),
+        made("10000 x '*a_ '", "inlines", &[("*a_ ", 10000)], len),
+        made("50000 x '['", "inlines", &[("[", 50000)], len),
+        made("50000 x '!['", "inlines", &[("![", 50000)], len),
+        made("50000 x ']'", "inlines", &[("]", 50000)], len),
+        made("10000 x '[a]('", "inlines", &[("[a](", 10000)], len),
+        made("10000 x '[a](<b'", "inlines", &[("[a](<b", 10000)], len),
+        made("10000 x '`a``'", "inlines", &[("`a``", 10000)], len),
+        made("50000 x '<'", "inlines", &[("<", 50000)], len),
+        made("10000 x '<a '", "inlines", &[("<a ", 10000)], len),
+        made("10000 x '<a@'", "inlines", &[("<a@", 10000)], len),
+        made("10000 x '<!--a '", "inlines", &[("<!--a ", 10000)], len),
+        made("50000 x '<?'", "inlines", &[("<?", 50000)], len),
+        made("50000 x '&a'", "inlines", &[("&a", 50000)], len),
+        made("10000 x 'a  ' and LF", "inlines", &[("a  \n", 10000)], len),
+        made("50000 x '~'", "inlines", &[("~", 50000)], len),
+        made("10000 x '[a]'", "inlines_defined", &[("[a]", 10000)], len),
+        made("10000 x '[a]['", "inlines_defined", &[("[a][", 10000)], len),
+        made("10000 x '![a][b]'", "inlines_defined", &[("![a][b]", 10000)], len),
+        made("10000 x '[[a] '", "inlines_defined", &[("[[a] ", 10000)], len),
+        made("10000 x '[*a]* '", "inlines_defined", &[("[*a]* ", 10000)], len),
         made("50000 letters", "type_6", &[("a", 50000)], start),
         made("100000 nodes", "tree_flat", &[("-", 100000)], len),
         made("100000 nodes", "tree_nested", &[("-", 100000)], len),

@@ -10,6 +10,7 @@ ghost use Rattle.std.specs.Prelude.{◌≡◌};
 mod blocks;
 mod html;
 mod inline;
+mod inlines;
 mod labels;
 mod lines;
 mod loops;
