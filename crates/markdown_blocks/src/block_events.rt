@@ -6,6 +6,7 @@ ghost use Rattle.markdown_blocks.specs.containers.Containers.{marker_place, afte
 ghost use Rattle.markdown_blocks.specs.events.Events.{Event, LeafBlock, AreLeaves, leaf_of, first_lines, first_of, later_lines, first_rest};
 ghost use Rattle.markdown_blocks.specs.events.Events.{seen_event, seen_leaf};
 ghost use Rattle.markdown_blocks.specs.events.Given.{GivesBlock, block_left, block_events_left};
+ghost use Rattle.markdown_blocks.specs.events.Used.{IsUsed, IsUsedBy};
 ghost use Rattle.markdown_blocks.specs.taken.Lines.{IsTaken};
 
 use crate::blocks::BlockKind;
@@ -102,6 +103,13 @@ impl<'a> BlockEvents<'a> {
         self.begun
     }
 
+    /// What is left of the block's content, after the definitions that are given.
+    pub fn content_left<'c>(&self, content: &'c [u8]) -> &'c [u8]
+        ensures { result.now ≡ drop self.now.used content.now }
+    {
+        content_from(content, self.used)
+    }
+
     /// Whether the block has no further event, in these containers.
     pub fn is_done(&self, containers: &[Container]) -> bool
         ensures { IsTrue result ↔ (block_events_left containers.now self.now ≡ 0) }
@@ -119,6 +127,8 @@ impl<'a> BlockEvents<'a> {
             < block_events_left containers.now self.old) }
         ensures none { IfNone result (GivesBlock containers.now content.now self.old []) }
         ensures done { IfNone result (block_events_left containers.now self.old ≡ 0) }
+        ensures used { IfSome result (λ event.
+            IsUsedBy content.now self.old.used (seen_event event) self.new.used) }
     {
         if self.ending > 0 {
             self.ending -= 1;
@@ -154,6 +164,7 @@ impl<'a> BlockEvents<'a> {
         ensures fewer { IfSome result (λ _.
             length self.new.part.lines < length self.old.part.lines) }
         ensures none { IfNone result (self.old.part.lines ≡ []) }
+        ensures used { IfSome result (λ _. IsUsed content.now self.old.used self.new.used) }
         ensures same { self.new
             ≡ record self.old { part = self.new.part; used = self.new.used } }
     {

@@ -121,19 +121,23 @@ module _ (old new : Outer) (lines : List ℕ) (more : List (List ℕ)) (step : S
   begun_is : drop step.kept new.containers ≡ s.piece.begun
   begun_is = ap (λ (o : Outer). drop step.kept o.containers) s.open_now ∙ drop_at s.piece.kept s.piece.begun step.kept (sym s.counted)
 
+  -- what is gathered is of the content of its piece
+  pub piece_gathered : (content : List ℕ) → IsContentOf step new.containers content → IsGathered (piece_content s.piece) content
+  piece_gathered content c =
+      subst (λ (w : Rest). IsGathered (content_in s.piece.kind (s.piece.kept ++ s.piece.begun) w.text s.piece.later) content) (sym s.words)
+      (subst (λ k. IsGathered (content_in k (s.piece.kept ++ s.piece.begun) step.text.now s.piece.later) content) (sym s.kind)
+      (subst (λ (o : Outer). IsGathered (content_in step.block.kind o.containers step.text.now s.piece.later) content) s.open_now
+      (c s.piece.first s.piece.later s.all)))
+
   module _ (before : Taken) (content : List ℕ) (c : IsContentOf step new.containers content) where
     -- the leaf blocks of the step are those of its piece
     piece_leaves : (leaves : List LeafBlock) → AreLeaves new.containers step.block.kind (block_left step before (length old.containers)).part content leaves
         → AreLeavesOf before.lines before.bytes s.piece leaves
     piece_leaves leaves are =
-        let whole : IsGathered (piece_content s.piece) content =
-        subst (λ (w : Rest). IsGathered (content_in s.piece.kind (s.piece.kept ++ s.piece.begun) w.text s.piece.later) content) (sym s.words)
-        (subst (λ k. IsGathered (content_in k (s.piece.kept ++ s.piece.begun) step.text.now s.piece.later) content) (sym s.kind)
-        (subst (λ (o : Outer). IsGathered (content_in step.block.kind o.containers step.text.now s.piece.later) content) s.open_now
-        (c s.piece.first s.piece.later s.all))) in
         let part_is : (block_left step before (length old.containers)).part ≡ part_of before.lines before.bytes s.piece =
         ap (λ ls. the_part (rest_of step) ls) s.all ∙ ap (λ w. the_part w (s.piece.first ∷ s.piece.later)) (sym s.words) in
-        gathered_leaves (s.piece.kept ++ s.piece.begun) s.piece.kind (part_of before.lines before.bytes s.piece) (piece_content s.piece) content leaves whole
+        gathered_leaves (s.piece.kept ++ s.piece.begun) s.piece.kind (part_of before.lines before.bytes s.piece) (piece_content s.piece) content leaves
+        (piece_gathered content c)
         (subst (λ p. AreLeaves (s.piece.kept ++ s.piece.begun) s.piece.kind p content leaves) part_is
         (subst (λ k. AreLeaves (s.piece.kept ++ s.piece.begun) k (block_left step before (length old.containers)).part content leaves) (sym s.kind)
         (subst (λ (o : Outer). AreLeaves o.containers step.block.kind (block_left step before (length old.containers)).part content leaves) s.open_now are)))

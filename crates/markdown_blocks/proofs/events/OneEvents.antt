@@ -12,7 +12,7 @@ use Rattle.markdown_blocks.specs.events.Events.{Event, LeafBlock, Part, AreLeave
 use Rattle.markdown_blocks.specs.events.Events.{part_of, piece_content, piece_events, AreEvents}
 
 -- a block has one list of leaf blocks
-one_list_of_leaves : (outer : List Container) (kind : BlockKind) (part : Part) (content : List ℕ) (leaves others : List LeafBlock)
+pub one_list_of_leaves : (outer : List Container) (kind : BlockKind) (part : Part) (content : List ℕ) (leaves others : List LeafBlock)
     → AreLeaves outer kind part content leaves → AreLeaves outer kind part content others → leaves ≡ others
 one_list_of_leaves outer kind part content [] [] are are' = refl
 one_list_of_leaves outer kind part content [] (block ∷ others) are are' = absurd (are'.0 are)

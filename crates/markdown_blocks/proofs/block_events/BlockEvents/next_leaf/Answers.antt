@@ -1,4 +1,4 @@
-use Rattle.std.proofs.Common.{◌≡◌, ◌+◌, length, drop, subst, ap, ◌∙◌, arith}
+use Rattle.std.proofs.Common.{◌≡◌, ◌+◌, length, drop, subst, ap, ◌∙◌, arith, inr}
 use Rattle.markdown_blocks.specs.declared.blocks.BlockKind.TheVariants.{Definition}
 use Rattle.markdown_blocks.specs.events.Events.{seen_leaf, leaf_of, first_lines, later_lines}
 use Rattle.markdown_blocks.specs.events.Given.{BlockLeft}
@@ -20,6 +20,11 @@ returns-in_default-clause-leaf c =
     (subst (λ (l : BlockLeft). seen_leaf c.take_lines-in_default.result ≡ leaf_of l.kind (first_lines whole.lines c.args.self.now.part)) c.take_lines.view_is
     c.take_lines-in_default.ensures.leaf)
     c.take_lines-in_default.ensures.rest
+
+pub returns-in_default-clause-used : goal.returns-in_default-clause-used
+returns-in_default-clause-used c =
+    let none = rw (c.content_from.ensures ∙ ap (λ (l : BlockLeft). drop l.used c.args.content.now) c.self.view_is) at c.in_default.ensures.none in
+    inr (none, ap (λ (l : BlockLeft). l.used) c.take_lines-in_default.ensures.rest)
 
 pub take_lines-requires-2 : goal.take_lines-requires-2
 take_lines-requires-2 c = some_taken _ c.in-Some.taken _ c.in-Some.ensures.found.3 c.in-Some.ensures.some
