@@ -9,6 +9,7 @@ pub mod Labels
 pub mod LineRests
 pub mod LineRuns
 pub mod LineStarts
+pub mod PageLists
 pub mod Pages
 pub mod Parts
 pub mod ReferenceDefinitions

@@ -16,6 +16,7 @@ mod line_rests;
 mod line_runs;
 mod line_starts;
 mod lines;
+mod page_lists;
 mod pages;
 mod reference_definitions;
 mod runs;

@@ -95,7 +95,7 @@ pub extern "C" fn mds_scan_blocks(alloc: Global, page: &[u8], blocks: &mut [Bloc
     ensures blocks { IsPageTold page.now blocks.old blocks.new result }
 {
     match told_blocks(alloc, page) {
-        Ok(told) => write_blocks(&told, blocks),
+        Ok(told) => write_front(&told, blocks),
         Err(_) => BlockCount {
             status: NO_MEMORY,
             count: 0,
@@ -116,18 +116,18 @@ fn told_blocks(alloc: Global, page: &[u8]) -> Result<Vec<Block>, AllocError>
     Ok(told)
 }
 
-// Writes the blocks at the front of the buffer, where there is room for them.
-fn write_blocks(told: &[Block], blocks: &mut [Block]) -> BlockCount
-    ensures { IsWritten told.now blocks.old blocks.new result.status result.count }
+/// Writes these at the front of the buffer, where there is room for them.
+pub(crate) fn write_front<T: Copy>(told: &[T], buffer: &mut [T]) -> BlockCount
+    ensures { IsWritten told.now buffer.old buffer.new result.status result.count }
 {
     let count = told.len();
-    if count > blocks.len() {
+    if count > buffer.len() {
         return BlockCount {
             status: TOO_SHORT,
             count,
         };
     }
-    blocks[..count].copy_from_slice(told);
+    buffer[..count].copy_from_slice(told);
     BlockCount { status: OK, count }
 }
 

@@ -1,0 +1,71 @@
+//! The lists of a page. (CommonMark 0.31.2, section 5.3)
+ghost use Rattle.std.specs.Prelude.{◌≡◌, ◌⊎◌, map, IfOk};
+ghost use Rattle.markdown_scanners_c.specs.Buffer.{IsWritten};
+ghost use Rattle.markdown_scanners_c.specs.PageLists.{AreListsTold, list_told};
+ghost use Rattle.markdown_scanners_c.specs.Status.{no_memory};
+
+use crate::pages::{BlockCount, write_front};
+use crate::status::NO_MEMORY;
+use markdown_blocks::lists::{ListBlock, lists_of_page};
+use std::alloc::{AllocError, Global};
+
+/// `struct mds_list` of C: a list of a page.
+#[repr(C)]
+#[derive(Clone, Copy)]
+pub struct PageList {
+    pub delimiter: u8,
+    pub is_loose: bool,
+    pub start: u32,
+    pub depth: usize,
+    pub line: usize,
+    pub end: usize,
+}
+
+/// Writes the lists of a page, each where it ends.
+#[unsafe(no_mangle)]
+pub extern "C" fn mds_scan_lists(alloc: Global, page: &[u8], lists: &mut [PageList]) -> BlockCount
+    ensures lists { AreListsTold page.now lists.old lists.new result }
+{
+    match lists_of_page(alloc, page) {
+        Ok(found) => write_lists(alloc, &found, lists),
+        Err(_) => BlockCount {
+            status: NO_MEMORY,
+            count: 0,
+        },
+    }
+}
+
+// Writes the lists.
+fn write_lists(alloc: Global, found: &[ListBlock], lists: &mut [PageList]) -> BlockCount
+    ensures { ((result.status ≡ no_memory) × (result.count ≡ 0) × (lists.new ≡ lists.old))
+        ⊎ IsWritten (map list_told found.now) lists.old lists.new result.status result.count }
+{
+    match lists_told(alloc, found) {
+        Ok(told) => write_front(&told, lists),
+        Err(_) => BlockCount {
+            status: NO_MEMORY,
+            count: 0,
+        },
+    }
+}
+
+// The lists, as C has them.
+fn lists_told(alloc: Global, found: &[ListBlock]) -> Result<Vec<PageList>, AllocError>
+    ensures { IfOk result (λ told. told.items ≡ map list_told found.now) }
+{
+    found.iter().map(|list| list_told(list)).collect(alloc)
+}
+
+// A list as C has it.
+fn list_told(list: &ListBlock) -> PageList
+    ensures { result ≡ list_told list.now }
+{
+    PageList {
+        delimiter: list.delimiter,
+        is_loose: list.is_loose,
+        start: list.start,
+        depth: list.depth,
+        line: list.line,
+        end: list.end,
+    }
+}
