@@ -2,7 +2,9 @@ pub mod Buffers
 pub mod DelimiterRuns
 pub mod HtmlScans
 pub mod KeyLemmas
+pub mod KnownLabelLemmas
 pub mod LabelLemmas
+pub mod LabelRooms
 pub mod LineRuns
 pub mod Meanings
 pub mod NoSpaces

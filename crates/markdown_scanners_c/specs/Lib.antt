@@ -4,7 +4,9 @@ pub mod Buffer
 pub mod DelimiterRuns
 pub mod Finds
 pub mod Guards
+pub mod Inlines
 pub mod Keys
+pub mod KnownLabels
 pub mod Labels
 pub mod LineRests
 pub mod LineRuns

@@ -1,3 +1,4 @@
+pub mod LabelRoom
 pub mod LabelText
 pub mod NoSpace
 pub mod ScanTold

@@ -4,7 +4,7 @@
  * answer what their definitions say, after CommonMark 0.31.2 (https://spec.commonmark.org/0.31.2/), whose sections stand in
  * brackets below. They are scanners: each reads from the front of the bytes that it is given, or from a place in them, and
  * says what begins there. None looks for the next construct, so a caller goes through its document and asks. But
- * mds_scan_blocks reads a page, and says which blocks it has.
+ * mds_scan_blocks reads a page, and says which blocks it has, and mds_scan_inlines the text of a block, and says which inlines.
  *
  * Bytes and texts. A pointer and a length go together; nothing has to end in a zero byte, and zero bytes are read as
  * any other. What is read may be of any type of bytes, as `char` or `uint8_t`. The pointer may be null where the length
@@ -38,7 +38,8 @@
  *
  * Cost. Each call takes time in proportion to all that it is given, at most. Of a text it reads all, since it looks
  * whether it is UTF-8; of bytes no more than it has to, most often up to the end of the line. Only a call that looks
- * for what closes or ends something goes through all of them where nothing does.
+ * for what closes or ends something goes through all of them where nothing does. mds_scan_inlines searches a tree of the labels
+ * that it is given, whose depth is the logarithm of their number.
  *
  * Examples. The comment of each function of the library ends with lines of C. Each that has no semicolon at its end is
  * true.
@@ -667,6 +668,87 @@ struct mds_blocks mds_scan_blocks(const void *bytes, size_t length, struct mds_b
 struct mds_text mds_block_content(
     const void *bytes, size_t length, const struct mds_block *block, const struct mds_block *containers,
     size_t container_count, size_t kept, uint8_t *buffer, size_t capacity);
+
+/* ---- Inlines ---- */
+
+/* What stands in the text of a block: inlines that hold no others, and where those begin and end that do. */
+enum mds_inline_kind {
+    MDS_INLINE_TEXT = 0,          /* text (6.9); delimiters in no emphasis and brackets of no link are text too */
+    MDS_INLINE_ESCAPE = 1,        /* a backslash and the punctuation that it escapes (2.4) */
+    MDS_INLINE_REFERENCE = 2,     /* a character reference (2.5) */
+    MDS_INLINE_CODE = 3,          /* a code span (6.1) */
+    MDS_INLINE_URI = 4,           /* an absolute URI in angle brackets (6.5) */
+    MDS_INLINE_EMAIL = 5,         /* an email address in angle brackets (6.5) */
+    MDS_INLINE_HTML = 6,          /* raw HTML (6.6) */
+    MDS_INLINE_SOFT_BREAK = 7,    /* a soft line break, with the spaces around it (6.8) */
+    MDS_INLINE_HARD_BREAK = 8,    /* a hard line break, with the spaces around it and the backslash that may make it (6.7) */
+    MDS_INLINE_EMPHASIS = 9,      /* emphasis begins (6.2) */
+    MDS_INLINE_EMPHASIS_END = 10, /* the innermost emphasis that has begun ends */
+    MDS_INLINE_STRONG = 11,       /* strong emphasis begins (6.2) */
+    MDS_INLINE_STRONG_END = 12,   /* the innermost strong emphasis that has begun ends */
+    MDS_INLINE_LINK = 13,         /* a link begins (6.3) */
+    MDS_INLINE_IMAGE = 14,        /* an image begins (6.4) */
+    MDS_INLINE_LINK_END = 15      /* the innermost link or image that has begun ends */
+};
+
+/* Where a link or an image leads, by what follows its text. (6.3) */
+enum mds_link_target {
+    MDS_TARGET_INLINE = 1,    /* a destination and perhaps a title in parentheses */
+    MDS_TARGET_FULL = 2,      /* a label */
+    MDS_TARGET_COLLAPSED = 3, /* `[]`; its text is the label */
+    MDS_TARGET_SHORTCUT = 4   /* neither; its text is the label */
+};
+
+/* A text of the caller's. */
+struct mds_view {
+    const void *text;
+    size_t length;
+};
+
+/* An inline that holds no others, or where one begins or ends that does. */
+struct mds_inline {
+    uint32_t kind;        /* of enum mds_inline_kind */
+    uint32_t target;      /* of a link or an image that begins: of enum mds_link_target */
+    size_t start, length; /* its place, and how many bytes it has; of emphasis those of the delimiters that begin or end it, of a
+                           * link or an image its left bracket, with the `!` of an image, or its right bracket and what follows
+                           * there that belongs to it */
+    size_t count;         /* of a code span how many backticks stand on each side of its content */
+    size_t end;           /* of a link or an image that begins the place after all of it */
+    size_t destination_start, destination_length; /* of MDS_TARGET_INLINE its destination, without angle brackets */
+    size_t title_start, title_length;             /* and its title, without the bytes around it; MDS_NONE and 0 of none */
+    size_t label_start, label_length;             /* of the other targets what stands between the brackets of the label */
+};
+
+/* How many inlines there are, and whether they are written. */
+struct mds_inlines {
+    uint32_t status;
+    size_t count; /* how many they are, where the status is MDS_OK or MDS_TOO_SHORT */
+};
+
+/* All inlines of a text, the content of a paragraph or a heading as mds_block_content has it, in order. Their bytes, joined, are
+ * the text, and they nest: each that begins ends. Text may stand in several, one after another. Destinations, titles and labels are
+ * as they are written: mds_unescape decodes the first two, and mds_scan_link_label reads the label at `label_start`.
+ *
+ * `labels` are those that are defined, each as mds_scan_link_label writes it; null and 0 where none is. What refers to a label that
+ * matches none of them, as mds_labels_match has it, is text.
+ *
+ * Where the buffer is too short it is left as it was, and `count` says how many inlines it needs room for: as many as the text has
+ * bytes at most. MDS_NOT_UTF8 where the text or a label is not UTF-8. Memory is asked for, for the text, the labels and the
+ * inlines: MDS_NO_MEMORY. (6)
+ *
+ *     struct mds_view labels[] = {{"b", 1}};
+ *     struct mds_inline inlines[7];
+ *     mds_scan_inlines("*a* [B]", 7, labels, 1, inlines, 7).count == 7
+ *     inlines[0].kind == MDS_INLINE_EMPHASIS && inlines[1].kind == MDS_INLINE_TEXT && inlines[1].start == 1
+ *     inlines[4].kind == MDS_INLINE_LINK && inlines[4].target == MDS_TARGET_SHORTCUT && inlines[4].end == 7
+ *     inlines[4].label_start == 5 && inlines[4].label_length == 1
+ *     mds_scan_inlines("[a](/b)", 7, NULL, 0, inlines, 7).count == 3
+ *     inlines[0].destination_start == 4 && inlines[0].destination_length == 2 && inlines[0].title_start == MDS_NONE
+ *     inlines[2].kind == MDS_INLINE_LINK_END && inlines[2].start == 2 && inlines[2].length == 5
+ */
+struct mds_inlines mds_scan_inlines(
+    const void *text, size_t length, const struct mds_view *labels, size_t label_count, struct mds_inline *inlines,
+    size_t capacity);
 
 /* ---- Parts of inline text ---- */
 

@@ -1,7 +1,7 @@
-/* Memory refused. Eight functions may answer MDS_NO_MEMORY: on each of their inputs here the first, second, .. request is refused
+/* Memory refused. Nine functions may answer MDS_NO_MEMORY: on each of their inputs here the first, second, .. request is refused
  * until none is left, by itself and with all that follow. The call then answers MDS_NO_MEMORY, tells nothing more and writes
  * nothing, or it has the same answer as with ample memory; and it frees what it was given. The other functions make no request,
- * and neither do these eight where the header says so. The linker puts the functions __wrap_.. in the place of the C library's
+ * and neither do these nine where the header says so. The linker puts the functions __wrap_.. in the place of the C library's
  * (--wrap). */
 #include "checks.h"
 
@@ -201,6 +201,31 @@ static struct told long_content(size_t room) {
     return content_in(page, LONG, 1, room);
 }
 
+static struct told of_inlines(const char *text, size_t length, const struct mds_view *labels, size_t count, size_t room) {
+    const struct mds_view *views = given(LIST, labels, count * sizeof(*views));
+    size_t capacity = room / sizeof(struct mds_inline);
+    struct mds_inline *inlines = writable(BUFFER, capacity * sizeof(*inlines));
+    struct mds_inlines found = mds_scan_inlines(given(BYTES, text, length), length, views, count, inlines, capacity);
+    return (struct told){found.status, {found.count, 0, 0}};
+}
+
+static struct told inlines(size_t room) {
+    return of_inlines("*a* `b` [c](d)", 14, NULL, 0, room);
+}
+
+/* Where memory for a label's key is refused, the label is looked for without it. */
+static struct told inlines_with_labels(size_t room) {
+    static const struct mds_view labels[] = {{"\xc3\x84", 2}, {"B  c", 4}, {"b c", 3}};
+    return of_inlines("[\xc3\xa4][] ![a][B\nC] [d]", 22, labels, 3, room);
+}
+
+static struct told inlines_with_many_labels(size_t room) {
+    static struct mds_view labels[MANY];
+    for (size_t i = 0; i < MANY; i++)
+        labels[i] = (struct mds_view){"abcdefghijklmnopqrstuvwxyzabcdefghijklmnopqrstuvwxyz" + i, 4};
+    return of_inlines("[DEFG]", 6, labels, MANY, room);
+}
+
 static struct told made(call_with *call, size_t room, size_t which) {
     writable(BUFFER, 0);
     requests = held = 0, refused = which;
@@ -269,9 +294,10 @@ static void asking(void) {
     ASKS(html_run), ASKS(long_html_run);
     ASKS(blocks), ASKS(blocks_of_table), ASKS(deep_blocks);
     ASKS(content_in_many), ASKS(long_content);
+    ASKS(inlines), ASKS(inlines_with_labels), ASKS(inlines_with_many_labels);
 }
 
-/* What these eight need no memory for. */
+/* What these nine need no memory for. */
 static void sparing(void) {
     ASKS_NOT(mds_unescape(OF("plain"), false, NULL, 0).status, MDS_TOO_SHORT);
     ASKS_NOT(mds_unescape(OF("\xff"), false, NULL, 0).status, MDS_NOT_UTF8);
@@ -295,6 +321,8 @@ static void sparing(void) {
     ASKS_NOT(mds_scan_table_head(OF("||-|"), NULL, 0).status, MDS_NOTHING);
     ASKS_NOT(mds_run_inline_html(OF("<!a>"), NULL, 0, NULL, 0).status, MDS_OK);
     ASKS_NOT(mds_run_inline_html(OF("<!a>"), (const size_t[]){1, 2}, 2, NULL, 0).status, MDS_NO_OPENER);
+    ASKS_NOT(mds_scan_inlines(OF("\xff"), NULL, 0, NULL, 0).status, MDS_NOT_UTF8);
+    ASKS_NOT(mds_scan_inlines(OF("a"), (const struct mds_view[]){{"b", 1}, {"\xff", 1}}, 2, NULL, 0).status, MDS_NOT_UTF8);
     const struct mds_block leaf = {.kind = MDS_BLOCK_PARAGRAPH, .start = 1, .bytes = 2}, end = {.kind = MDS_BLOCK_END};
     ASKS_NOT(mds_scan_blocks(OF(""), NULL, 0).status, MDS_OK);
     ASKS_NOT(mds_block_content(OF("\na\n"), &leaf, NULL, 0, 0, writable(BUFFER, 1), 1).status, MDS_OK);

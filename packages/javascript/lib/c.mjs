@@ -50,6 +50,28 @@ export const BLOCK_TABLE = 10;
 export const BLOCK_DEFINITION = 11;
 export const BLOCK_PARAGRAPH = 12;
 
+export const INLINE_TEXT = 0;
+export const INLINE_ESCAPE = 1;
+export const INLINE_REFERENCE = 2;
+export const INLINE_CODE = 3;
+export const INLINE_URI = 4;
+export const INLINE_EMAIL = 5;
+export const INLINE_HTML = 6;
+export const INLINE_SOFT_BREAK = 7;
+export const INLINE_HARD_BREAK = 8;
+export const INLINE_EMPHASIS = 9;
+export const INLINE_EMPHASIS_END = 10;
+export const INLINE_STRONG = 11;
+export const INLINE_STRONG_END = 12;
+export const INLINE_LINK = 13;
+export const INLINE_IMAGE = 14;
+export const INLINE_LINK_END = 15;
+
+export const TARGET_INLINE = 1;
+export const TARGET_FULL = 2;
+export const TARGET_COLLAPSED = 3;
+export const TARGET_SHORTCUT = 4;
+
 export const HTML_RAW_TEXT = 1;
 export const HTML_COMMENT = 2;
 export const HTML_PROCESSING = 3;
@@ -225,6 +247,40 @@ export const STRUCTS = {
             count: from.size(at + 8),
         }),
     },
+    view: {
+        size: 16,
+        fields: [["text", 0, "size_t"], ["length", 8, "size_t"]],
+        read: (from, at) => ({
+            text: from.size(at),
+            length: from.size(at + 8),
+        }),
+    },
+    inline: {
+        size: 88,
+        fields: [["kind", 0, "uint32_t"], ["target", 4, "uint32_t"], ["start", 8, "size_t"], ["length", 16, "size_t"], ["count", 24, "size_t"], ["end", 32, "size_t"], ["destinationStart", 40, "size_t"], ["destinationLength", 48, "size_t"], ["titleStart", 56, "size_t"], ["titleLength", 64, "size_t"], ["labelStart", 72, "size_t"], ["labelLength", 80, "size_t"]],
+        read: (from, at) => ({
+            kind: from.uint32(at),
+            target: from.uint32(at + 4),
+            start: from.size(at + 8),
+            length: from.size(at + 16),
+            count: from.size(at + 24),
+            end: from.size(at + 32),
+            destinationStart: from.size(at + 40),
+            destinationLength: from.size(at + 48),
+            titleStart: from.size(at + 56),
+            titleLength: from.size(at + 64),
+            labelStart: from.size(at + 72),
+            labelLength: from.size(at + 80),
+        }),
+    },
+    inlines: {
+        size: 16,
+        fields: [["status", 0, "uint32_t"], ["count", 8, "size_t"]],
+        read: (from, at) => ({
+            status: from.uint32(at),
+            count: from.size(at + 8),
+        }),
+    },
     part: {
         size: 32,
         fields: [["status", 0, "uint32_t"], ["end", 8, "size_t"], ["start", 16, "size_t"], ["length", 24, "size_t"]],
@@ -348,6 +404,7 @@ export const FUNCTIONS = {
     scanTableHead: ["mds_scan_table_head", "text", ["pointer", "size_t", "pointer", "size_t"]],
     scanBlocks: ["mds_scan_blocks", "blocks", ["pointer", "size_t", "pointer", "size_t"]],
     blockContent: ["mds_block_content", "text", ["pointer", "size_t", "pointer", "pointer", "size_t", "size_t", "pointer", "size_t"]],
+    scanInlines: ["mds_scan_inlines", "inlines", ["pointer", "size_t", "pointer", "size_t", "pointer", "size_t"]],
     scanLinkDest: ["mds_scan_link_dest", "part", ["pointer", "size_t", "size_t", "size_t"]],
     scanLinkTitle: ["mds_scan_link_title", "part", ["pointer", "size_t", "size_t"]],
     scanAutolink: ["mds_scan_autolink", "part", ["pointer", "size_t", "size_t"]],

@@ -53,6 +53,28 @@ BLOCK_TABLE = 10
 BLOCK_DEFINITION = 11
 BLOCK_PARAGRAPH = 12
 
+INLINE_TEXT = 0
+INLINE_ESCAPE = 1
+INLINE_REFERENCE = 2
+INLINE_CODE = 3
+INLINE_URI = 4
+INLINE_EMAIL = 5
+INLINE_HTML = 6
+INLINE_SOFT_BREAK = 7
+INLINE_HARD_BREAK = 8
+INLINE_EMPHASIS = 9
+INLINE_EMPHASIS_END = 10
+INLINE_STRONG = 11
+INLINE_STRONG_END = 12
+INLINE_LINK = 13
+INLINE_IMAGE = 14
+INLINE_LINK_END = 15
+
+TARGET_INLINE = 1
+TARGET_FULL = 2
+TARGET_COLLAPSED = 3
+TARGET_SHORTCUT = 4
+
 HTML_RAW_TEXT = 1
 HTML_COMMENT = 2
 HTML_PROCESSING = 3
@@ -267,6 +289,53 @@ class Blocks(Structure):
     ]
 
 
+class View(Structure):
+    text: int
+    length: int
+    _fields_ = [
+        ("text", c_void_p),
+        ("length", c_size_t),
+    ]
+
+
+class Inline(Structure):
+    kind: int
+    target: int
+    start: int
+    length: int
+    count: int
+    end: int
+    destination_start: int
+    destination_length: int
+    title_start: int
+    title_length: int
+    label_start: int
+    label_length: int
+    _fields_ = [
+        ("kind", c_uint32),
+        ("target", c_uint32),
+        ("start", c_size_t),
+        ("length", c_size_t),
+        ("count", c_size_t),
+        ("end", c_size_t),
+        ("destination_start", c_size_t),
+        ("destination_length", c_size_t),
+        ("title_start", c_size_t),
+        ("title_length", c_size_t),
+        ("label_start", c_size_t),
+        ("label_length", c_size_t),
+    ]
+
+
+class Inlines(Structure):
+    status: int
+    count: int
+    _fields_ = [
+        ("status", c_uint32),
+        ("count", c_size_t),
+    ]
+
+
 class Part(Structure):
     status: int
     end: int
@@ -404,6 +473,7 @@ FUNCTIONS: dict[str, tuple[Any, tuple[Any, ...]]] = {
     "scan_table_head": (Text, (c_void_p, c_size_t, c_void_p, c_size_t)),
     "scan_blocks": (Blocks, (c_void_p, c_size_t, c_void_p, c_size_t)),
     "block_content": (Text, (c_void_p, c_size_t, c_void_p, c_void_p, c_size_t, c_size_t, c_void_p, c_size_t)),
+    "scan_inlines": (Inlines, (c_void_p, c_size_t, c_void_p, c_size_t, c_void_p, c_size_t)),
     "scan_link_dest": (Part, (c_void_p, c_size_t, c_size_t, c_size_t)),
     "scan_link_title": (Part, (c_void_p, c_size_t, c_size_t)),
     "scan_autolink": (Part, (c_void_p, c_size_t, c_size_t)),

@@ -53,6 +53,28 @@ pub const BLOCK_TABLE: u32 = 10;
 pub const BLOCK_DEFINITION: u32 = 11;
 pub const BLOCK_PARAGRAPH: u32 = 12;
 
+pub const INLINE_TEXT: u32 = 0;
+pub const INLINE_ESCAPE: u32 = 1;
+pub const INLINE_REFERENCE: u32 = 2;
+pub const INLINE_CODE: u32 = 3;
+pub const INLINE_URI: u32 = 4;
+pub const INLINE_EMAIL: u32 = 5;
+pub const INLINE_HTML: u32 = 6;
+pub const INLINE_SOFT_BREAK: u32 = 7;
+pub const INLINE_HARD_BREAK: u32 = 8;
+pub const INLINE_EMPHASIS: u32 = 9;
+pub const INLINE_EMPHASIS_END: u32 = 10;
+pub const INLINE_STRONG: u32 = 11;
+pub const INLINE_STRONG_END: u32 = 12;
+pub const INLINE_LINK: u32 = 13;
+pub const INLINE_IMAGE: u32 = 14;
+pub const INLINE_LINK_END: u32 = 15;
+
+pub const TARGET_INLINE: u32 = 1;
+pub const TARGET_FULL: u32 = 2;
+pub const TARGET_COLLAPSED: u32 = 3;
+pub const TARGET_SHORTCUT: u32 = 4;
+
 pub const HTML_RAW_TEXT: u32 = 1;
 pub const HTML_COMMENT: u32 = 2;
 pub const HTML_PROCESSING: u32 = 3;
@@ -207,6 +229,37 @@ pub struct Blocks {
 }
 
 #[repr(C)]
+#[derive(Clone, Copy, Debug, PartialEq, Eq)]
+pub struct View {
+    pub text: *const c_void,
+    pub length: usize,
+}
+
+#[repr(C)]
+#[derive(Clone, Copy, Debug, Default, PartialEq, Eq)]
+pub struct Inline {
+    pub kind: u32,
+    pub target: u32,
+    pub start: usize,
+    pub length: usize,
+    pub count: usize,
+    pub end: usize,
+    pub destination_start: usize,
+    pub destination_length: usize,
+    pub title_start: usize,
+    pub title_length: usize,
+    pub label_start: usize,
+    pub label_length: usize,
+}
+
+#[repr(C)]
+#[derive(Clone, Copy, Debug, Default, PartialEq, Eq)]
+pub struct Inlines {
+    pub status: u32,
+    pub count: usize,
+}
+
+#[repr(C)]
 #[derive(Clone, Copy, Debug, Default, PartialEq, Eq)]
 pub struct Part {
     pub status: u32,
@@ -344,6 +397,14 @@ extern "C" {
         buffer: *mut u8,
         capacity: usize,
     ) -> Text;
+    pub fn mds_scan_inlines(
+        text: *const c_void,
+        length: usize,
+        labels: *const View,
+        label_count: usize,
+        inlines: *mut Inline,
+        capacity: usize,
+    ) -> Inlines;
     pub fn mds_scan_link_dest(bytes: *const c_void, length: usize, start: usize, max_next: usize) -> Part;
     pub fn mds_scan_link_title(bytes: *const c_void, length: usize, start: usize) -> Part;
     pub fn mds_scan_autolink(bytes: *const c_void, length: usize, start: usize) -> Part;

@@ -1,0 +1,10 @@
+use Rattle.std.proofs.Common.{sym}
+use Rattle.std.proofs.lemmas.Str.{is_utf8-from_IsUtf8}
+use Rattle.markdown_scanners_c.proofs.KnownLabelLemmas.{no_text}
+use Rattle.markdown_scanners_c.proofs.known_labels.is_text.Goals as goal
+
+pub returns-in-Ok : goal.returns-in-Ok
+returns-in-Ok c = sym (is_utf8-from_IsUtf8 c.args.label.now.text.now c.in-Ok.ensures.cases.1)
+
+pub returns-in-Err : goal.returns-in-Err
+returns-in-Err c = sym (no_text c.args.label.now.text.now c.in-Err.ensures.cases.0)
