@@ -76,6 +76,7 @@ from .inline import (
     starts_html_block_type_6,
     unescape,
 )
+from .inlines import Inline, InlineKind, Link, LinkTarget, scan_inlines
 from .line_start import AlertKind, LineStart, ListMarker
 from .line_scanners import (
     Indent,
@@ -120,12 +121,16 @@ __all__ = [
     "HtmlBlockKind",
     "HtmlScanGuard",
     "Indent",
+    "Inline",
+    "InlineKind",
     "InsideFindError",
     "Item",
     "Label",
     "Line",
     "LineAnswer",
     "LineStart",
+    "Link",
+    "LinkTarget",
     "ListItem",
     "ListMarker",
     "LoneSurrogateError",
@@ -180,6 +185,7 @@ __all__ = [
     "scan_html_tag",
     "scan_html_tag_over_lines",
     "scan_html_type_7",
+    "scan_inlines",
     "scan_line",
     "scan_link_dest",
     "scan_link_label",

@@ -13,6 +13,7 @@ def of_str(page: str) -> None:
     assert_type(mds.line_rest(mds.LineStart(page)), str)
     assert_type(mds.scan_blocks(page), Iterator[mds.Block[str]])
     assert_type([it.content() for it in mds.scan_blocks(page)], list[str])
+    assert_type(mds.scan_inlines(page, labels=[page]), Iterator[mds.Inline])
 
 
 def of_bytes(page: bytes) -> None:
@@ -40,6 +41,8 @@ def of_places(page: mds.Page) -> None:
     assert_type(mds.interrupts_paragraph(page), bool)
     assert_type(mds.scan_html_block_start(page), Optional[mds.HtmlBlockKind])
     assert_type([it.next for it in mds.lines(page)], list[int])
+    assert_type([it.link for it in mds.scan_inlines(page)], list[Optional[mds.Link]])
+    assert_type([it.content for it in mds.scan_inlines(page, labels=(page, "a"))], list[Optional[mds.Span]])
 
 
 of_str("&amp;")

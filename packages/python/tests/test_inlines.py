@@ -1,0 +1,132 @@
+"""The inlines of texts, on the rows of packages/c/tests/inlines.c: examples of CommonMark 0.31.2 by their numbers, of which cmark
+makes what stands beside them."""
+import ast
+import re
+import unittest
+from pathlib import Path
+
+import markdown_scanners as mds
+from markdown_scanners import InlineKind, LinkTarget, Span
+
+ROWS = Path(__file__).resolve().parents[2] / "c/tests/inlines.c"
+WORD = r'"((?:[^"\\]|\\.)*)"'
+DEFINITION = rf"\{{{WORD}, {WORD}, {WORD}\}}"
+TAGS = {
+    InlineKind.SOFT_BREAK: "\n",
+    InlineKind.HARD_BREAK: "<br>",
+    InlineKind.EMPHASIS: "<em>",
+    InlineKind.EMPHASIS_END: "</em>",
+    InlineKind.STRONG: "<strong>",
+    InlineKind.STRONG_END: "</strong>",
+    InlineKind.LINK_END: "</>",
+}
+
+
+def said(word):
+    """A string of C."""
+    return ast.literal_eval(f'"{word}"')
+
+
+def rows():
+    """Each example with its text, its definitions, and what cmark makes of it."""
+    text = ROWS.read_text()
+    for number, given, wanted in re.findall(rf"^    \{{(\d+), {WORD},\s*{WORD}\}},$", text, re.M):
+        yield int(number), said(given), [], said(wanted)
+    for number, given, definitions, *_, wanted in re.findall(rf"^    \{{(\d+), {WORD}, \{{((?:{DEFINITION}(?:, )?)+)\}},\s*{WORD}\}},$", text, re.M):
+        yield int(number), said(given), [tuple(map(said, it)) for it in re.findall(DEFINITION, definitions)], said(wanted)
+
+
+class Told:
+    """What is said of the inlines of a text, which may be bytes, and stand at a place."""
+
+    def __init__(self, data, at, end, definitions):
+        self.data, self.end, self.definitions = data, end, definitions
+        found = mds.scan_inlines(data, at, end, labels=[it[0] for it in definitions])
+        self.text = "".join(map(self.inline, found))
+
+    def part(self, start, stop):
+        found = self.data[start:stop]
+        return found if isinstance(found, str) else bytes(found).decode()
+
+    def inline(self, it):
+        if it.kind in TAGS:
+            return TAGS[it.kind]
+        if it.link:
+            return f"<{'img' if it.kind == InlineKind.IMAGE else 'a'} {self.target(it.link)}>"
+        if it.kind in (InlineKind.URI, InlineKind.EMAIL):
+            address = self.part(*it.content)
+            return f"<a {'mailto:' * (it.kind == InlineKind.EMAIL)}{address}|>{address}</>"
+        if it.kind == InlineKind.CODE:
+            return f"<code>{self.code(self.part(*it.content))}</code>"
+        text = self.part(it.start, it.stop)
+        if it.kind == InlineKind.HTML:
+            return f"<html>{text}</html>"
+        return text if it.kind == InlineKind.TEXT else mds.unescape(text)
+
+    def code(self, text):
+        text = text.replace("\n", " ")
+        return text[1:-1] if text.strip(" ") and text[0] == text[-1] == " " else text
+
+    def target(self, link):
+        if link.target == LinkTarget.INLINE:
+            parts = [self.part(*link.destination), self.part(*link.title) if link.title else ""]
+        else:
+            label = mds.scan_link_label(self.data, link.label.start, self.end)
+            assert label.end == link.label.stop + 1
+            parts = next(it[1:] for it in self.definitions if mds.labels_match(it[0], label.text))
+        return "|".join(map(mds.unescape, parts))
+
+
+class Inlines(unittest.TestCase):
+    def test_rows(self):
+        """As C has them, of a text by itself, inside of other bytes, in a buffer and as a str among other characters."""
+        found = list(rows())
+        self.assertEqual(len(found), ROWS.read_text().count("\n    {"))
+        for number, text, definitions, wanted in found:
+            data = text.encode()
+            self.assertEqual(Told(data, 0, None, definitions).text, wanted, number)
+            self.assertEqual(Told(b"*[\xff" + data + b"](b)*", 3, 3 + len(data), definitions).text, wanted, number)
+            self.assertEqual(Told(bytearray(data), 0, None, definitions).text, wanted, number)
+            self.assertEqual(Told(text, 0, None, definitions).text, wanted, number)
+            self.assertEqual(Told("é🍔[" + text + "]*é", 3, 3 + len(text), definitions).text, wanted, number)
+
+    def test_fields(self):
+        image, text, end = mds.scan_inlines("![é](<b> 'c')")
+        self.assertEqual((image.kind, image.start, image.stop, image.content), (InlineKind.IMAGE, 0, 2, None))
+        self.assertEqual(image.link, mds.Link(LinkTarget.INLINE, 13, Span(6, 7), Span(10, 11), None))
+        self.assertEqual(text, mds.Inline(InlineKind.TEXT, 2, 3, None, None))
+        self.assertEqual(end, mds.Inline(InlineKind.LINK_END, 3, 13, None, None))
+        self.assertIsNone(next(mds.scan_inlines("[a](b)")).link.title)
+        for text, target, label in (("[a][b]", LinkTarget.FULL, Span(4, 5)), ("[b][]", LinkTarget.COLLAPSED, Span(1, 2)), ("[b]", LinkTarget.SHORTCUT, Span(1, 2))):
+            self.assertEqual(next(mds.scan_inlines(text, labels=("B",))).link, mds.Link(target, len(text), None, None, label))
+        code, uri, email = mds.scan_inlines(b"``a``<bb:c><d@e>")
+        self.assertEqual([it.content for it in (code, uri, email)], [Span(2, 3), Span(6, 10), Span(12, 15)])
+
+    def test_labels(self):
+        kinds = lambda *labels: [it.kind for it in mds.scan_inlines("[Ä]", labels=labels)]
+        self.assertEqual(kinds("ä"), [InlineKind.LINK, InlineKind.TEXT, InlineKind.LINK_END])
+        self.assertEqual(kinds("b", "Ä".encode(), bytearray(b"c")), kinds("ä"))
+        self.assertEqual(kinds(*map(str, range(10000)), "ä"), kinds("ä"))
+        self.assertEqual(kinds(), [InlineKind.TEXT] * 3)
+        self.assertEqual(len(list(mds.scan_inlines("[a]", labels=iter(["a"])))), 3)
+        self.assertRaises(TypeError, mds.scan_inlines, "[a]", labels="a")
+        self.assertRaises(TypeError, mds.scan_inlines, "[a]", labels=[None])
+        self.assertRaises(mds.NotUtf8Error, mds.scan_inlines, "[a]", labels=[b"\xff"])
+        self.assertRaises(mds.LoneSurrogateError, mds.scan_inlines, "[a]", labels=["\ud800"])
+
+    def test_no_text(self):
+        self.assertEqual(list(mds.scan_inlines(b"")), [])
+        self.assertRaises(TypeError, mds.scan_inlines, None)
+        self.assertRaises(IndexError, mds.scan_inlines, b"a", 2)
+        self.assertRaises(mds.NotUtf8Error, mds.scan_inlines, b"a\xff")
+        self.assertRaises(mds.LoneSurrogateError, mds.scan_inlines, "\ud800")
+
+    def test_many(self):
+        """More than a first buffer holds, which nest."""
+        found = list(mds.scan_inlines("*a " * 5000 + "b*" * 5000))
+        self.assertEqual(sum(it.kind == InlineKind.EMPHASIS for it in found), 5000)
+        self.assertEqual(sum(it.kind == InlineKind.EMPHASIS_END for it in found), 5000)
+
+
+if __name__ == "__main__":
+    unittest.main()
