@@ -9,6 +9,7 @@ extern crate alloc;
 
 mod blocks;
 mod inline;
+mod inlines;
 mod labels;
 mod line;
 mod pages;
@@ -20,6 +21,7 @@ mod values;
 
 pub use blocks::*;
 pub use inline::*;
+pub use inlines::{scan_inlines, Inline, InlineKind, Inlines, Link, LinkTarget};
 pub use labels::*;
 pub use line::LineStart;
 pub use pages::{scan_blocks, Block, BlockKind, Blocks, Container};

@@ -5,6 +5,7 @@
 //! `&mut` overlaps nothing. What is given is read during the call alone.
 
 use alloc::alloc::handle_alloc_error;
+use alloc::vec::Vec;
 use core::alloc::Layout;
 use core::ffi::c_void;
 
@@ -311,4 +312,17 @@ pub(crate) fn block_content(
     let (room, capacity) = (buffer.as_mut_ptr(), buffer.len());
     // SAFETY: each pointer and length are those of one slice, the block is a `&`, and what is written is a `&mut` of its own.
     told(unsafe { ffi::mds_block_content(front(bytes), bytes.len(), block, listed, many, kept, room, capacity) })
+}
+
+pub(crate) fn scan_inlines(text: &str, labels: &[&str], inlines: &mut [ffi::Inline]) -> ffi::Inlines {
+    let bytes = text.as_bytes();
+    let views: Vec<_> = labels.iter().map(|it| ffi::View { text: front(it.as_bytes()), length: it.len() }).collect();
+    let (listed, capacity) = (inlines.as_mut_ptr(), inlines.len());
+    // SAFETY: each pointer and length are those of one slice, those of the views too, and what is written is a `&mut` of its own.
+    let found =
+        unsafe { ffi::mds_scan_inlines(front(bytes), bytes.len(), views.as_ptr(), views.len(), listed, capacity) };
+    if found.status == ffi::NO_MEMORY {
+        refused();
+    }
+    found
 }

@@ -379,3 +379,85 @@ fn many_blocks() {
     let code = [b" ```\n".to_vec(), b"\ta\n".repeat(100)].concat(); // of each tab one column is indent (4.5)
     assert_eq!(scan_blocks(&code).next().unwrap().content(), b"   a\n".repeat(100));
 }
+
+fn kinds_of(text: &str, labels: &[&str]) -> Vec<InlineKind> {
+    scan_inlines(text, labels).map(|it| it.kind).collect()
+}
+
+/// A text with elements for its emphasis and its links, of which each has its destination or its label.
+fn marked(text: &str, labels: &[&str]) -> String {
+    let element = |kind: &str, link: Link| match link.target {
+        LinkTarget::Inline { destination, .. } => format!("<{kind} {}>", &text[destination]),
+        LinkTarget::Full(label) | LinkTarget::Collapsed(label) | LinkTarget::Shortcut(label) => {
+            format!("<{kind} [{}]>", &text[label])
+        }
+    };
+    let marked = |it: Inline| match it.kind {
+        InlineKind::StartEmphasis => "<em>".into(),
+        InlineKind::EndEmphasis => "</em>".into(),
+        InlineKind::StartStrong => "<strong>".into(),
+        InlineKind::EndStrong => "</strong>".into(),
+        InlineKind::Code(content) => format!("<code>{}</code>", &text[content]),
+        InlineKind::StartLink(link) => element("a", link),
+        InlineKind::StartImage(link) => element("img", link),
+        InlineKind::EndLink => "</>".into(),
+        InlineKind::SoftBreak => "\n".into(),
+        InlineKind::HardBreak => "<br>".into(),
+        _ => text[it.range].into(),
+    };
+    scan_inlines(text, labels).map(marked).collect()
+}
+
+/// Examples of CommonMark 0.31.2 by their numbers.
+#[test]
+fn inlines() {
+    let rows: [(&str, &[&str], &str); 13] = [
+        ("foo\\\nbar", &[], "foo<br>bar"),                                           // 16
+        ("`` foo ` bar ``", &[], "<code> foo ` bar </code>"),                        // 329, its spaces too
+        ("foo***bar***baz", &[], "foo<em><strong>bar</strong></em>baz"),             // 416
+        ("*foo [*bar*](/url)*", &[], "<em>foo <a /url><em>bar</em></></em>"),        // 419
+        ("[link](foo(and(bar)))", &[], "<a foo(and(bar))>link</>"),                  // 496
+        ("[foo *bar](baz*)", &[], "<a baz*>foo *bar</>"),                            // 522
+        ("[foo [bar](/uri)][ref]", &["ref"], "[foo <a /uri>bar</>]<a [ref]>ref</>"), // 532
+        ("[foo][BaR]", &["bar"], "<a [BaR]>foo</>"),                                 // 539
+        ("[*foo* bar][]", &["*foo* bar"], "<a [*foo* bar]><em>foo</em> bar</>"),     // 554
+        ("[foo](not a link)", &["foo"], "<a [foo]>foo</>(not a link)"),              // 568
+        ("[foo][bar][baz]", &["baz", "foo"], "[foo]<a [baz]>bar</>"),                // 571
+        ("![foo ![bar](/url)](/url2)", &[], "<img /url2>foo <img /url>bar</></>"),   // 574
+        ("foo \n baz", &[], "foo\nbaz"),                                             // 649
+    ];
+    for (text, labels, wanted) in rows {
+        assert_eq!(marked(text, labels), wanted);
+        assert_eq!(scan_inlines(text, labels).map(|it| &text[it.range]).collect::<String>(), text);
+    }
+}
+
+#[test]
+fn parts_of_inlines() {
+    use InlineKind::*;
+    assert_eq!(kinds_of("", &["a"]), []);
+    assert_eq!(kinds_of("\\*&amp;<a>", &[]), [Escape, Reference, Html]);
+    assert_eq!(kinds_of("``a``<bb:c><d@e>", &[]), [Code(2..3), Uri(6..10), Email(12..15)]);
+    let target = |text, labels: &[&str]| match kinds_of(text, labels).swap_remove(0) {
+        StartLink(link) | StartImage(link) => (link.target, link.end),
+        kind => panic!("{kind:?}"),
+    };
+    assert_eq!(target("![a](<b> 'c')", &[]), (LinkTarget::Inline { destination: 6..7, title: Some(10..11) }, 13));
+    assert_eq!(target("[a]()", &[]), (LinkTarget::Inline { destination: 4..4, title: None }, 5));
+    assert_eq!(target("[a](b '')", &[]), (LinkTarget::Inline { destination: 4..5, title: Some(7..7) }, 9));
+    assert_eq!(target("[a][B]", &["b"]), (LinkTarget::Full(4..5), 6));
+    assert_eq!(target("[ä][]", &["", "Ä"]), (LinkTarget::Collapsed(1..3), 6));
+    assert_eq!(target("[a]", &["a", "a"]), (LinkTarget::Shortcut(1..2), 3));
+}
+
+/// More inlines than the room that is tried first, and more labels than a few.
+#[test]
+fn many_inlines() {
+    let text = ["*a ".repeat(1000), "b*".repeat(1000), "[999]".into()].concat();
+    let numbers: Vec<_> = (0..1000).map(|it| it.to_string()).collect();
+    let labels: Vec<_> = numbers.iter().map(String::as_str).collect();
+    let inlines = scan_inlines(&text, &labels);
+    assert_eq!(inlines.len(), inlines.clone().count());
+    assert_eq!(inlines.filter(|it| it.kind == InlineKind::EndEmphasis).count(), 1000);
+    assert_eq!(kinds_of(&text, &labels).last(), Some(&InlineKind::EndLink));
+}
