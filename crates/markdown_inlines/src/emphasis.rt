@@ -229,7 +229,7 @@ fn fits(closer: DelimiterRun, opener: DelimiterRun) -> bool
 fn breaks_three(opener: DelimiterRun, closer: DelimiterRun) -> bool
     ensures { result ≡ breaks_three opener closer }
 {
-    let sum = opener.count as u128 + closer.count as u128;
+    let sum = opener.count % 3 + closer.count % 3;
     (opener.can_close || closer.can_open)
         && sum % 3 == 0
         && !(opener.count % 3 == 0 && closer.count % 3 == 0)
