@@ -11,6 +11,7 @@ mod links;
 mod mixed;
 mod others;
 mod references;
+mod strikethrough;
 mod whole_texts;
 
 use crate::asserts::{assert_same, found, is_none, made};

@@ -9,3 +9,4 @@ pub use Rattle.markdown_inlines.proofs.emphasis.MadeLemmas.{emphasis_is_made}
 pub use Rattle.markdown_inlines.proofs.emphasis.NestLemmas.{emphasis_nests}
 pub use Rattle.markdown_inlines.proofs.cut.OneCut.{one_cut}
 pub use Rattle.markdown_inlines.proofs.cut.LinkLaws.{links_hold_none}
+pub use Rattle.markdown_inlines.proofs.cut.StrikethroughLaws.{none_struck_unasked}

@@ -2,3 +2,4 @@ pub mod CutLemmas
 pub mod SourceLemmas
 pub mod LinkLaws
 pub mod OneCut
+pub mod StrikethroughLaws

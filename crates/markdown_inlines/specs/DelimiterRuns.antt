@@ -1,6 +1,7 @@
--- Delimiter runs, and which of them can open and close emphasis. (CommonMark 0.31.2, section 6.2, emphasis and strong emphasis)
+-- Delimiter runs, and which of them can open and close emphasis. (CommonMark 0.31.2, section 6.2, emphasis and strong emphasis; GitHub
+-- Flavored Markdown 0.29, section 6.5, strikethrough)
 use Rattle.std.specs.Prelude.{ℕ, Bool, ◌&&◌, ◌||◌, ◌==◌, not, true, false, ◌+◌, ◌≡◌, ◌<◌, ◌⊎◌, List, take, drop, Option}
-use Rattle.std.specs.Prelude.{Some, None}
+use Rattle.std.specs.Prelude.{Some, None, IsTrue}
 use Rattle.std.specs.List.{prefix_len, last_or, slice_get}
 use Rattle.std.specs.Str.{chars}
 use Rattle.ucd_category.specs.GeneralCategory.{general_category}
@@ -8,8 +9,9 @@ use Rattle.ucd_category.specs.GeneralCategoryGroup.{in_group}
 use Rattle.ucd_category.specs.declared.GeneralCategory.{GeneralCategory}
 use Rattle.ucd_category.specs.declared.GeneralCategory.TheVariants.{SpaceSeparator}
 use Rattle.ucd_category.specs.declared.GeneralCategoryGroup.TheVariants.{Punctuation, Symbol}
-use Rattle.markdown_scanners_tree.specs.Ascii.{asterisk, underscore}
+use Rattle.markdown_scanners_tree.specs.Ascii.{asterisk, underscore, tilde}
 use Rattle.markdown_inlines.specs.declared.delimiter_runs.DelimiterRun.{DelimiterRun}
+use Rattle.markdown_inlines.specs.declared.extensions.InlineExtensions.{InlineExtensions}
 
 abbrev pub is_space_separator : GeneralCategory → Bool
 is_space_separator SpaceSeparator = true
@@ -65,3 +67,16 @@ pub record IsDelimiterRun (text : List ℕ) (place : ℕ) (run : DelimiterRun) :
   pub longest : run.count ≡ prefix_len (λ b. b == run.byte) (drop place text)
   pub opens : run.can_open ≡ can_open run.byte (char_before text place) (char_after text (place + run.count))
   pub closes : run.can_close ≡ can_close run.byte (char_before text place) (char_after text (place + run.count))
+
+-- a run of tildes begins at a place of a text, the longest there: it can open strikethrough where it is left-flanking, and close it
+-- where it is right-flanking (GitHub Flavored Markdown 0.29, 6.5)
+pub record IsTildeRun (text : List ℕ) (place : ℕ) (run : DelimiterRun) : Type 0 where
+  pub delimiter : run.byte ≡ tilde
+  pub some : 0 < run.count
+  pub longest : run.count ≡ prefix_len (λ b. b == run.byte) (drop place text)
+  pub opens : run.can_open ≡ is_left_flanking (char_before text place) (char_after text (place + run.count))
+  pub closes : run.can_close ≡ is_right_flanking (char_before text place) (char_after text (place + run.count))
+
+-- a delimiter run begins there, or a run of tildes where strikethrough is asked for
+abbrev pub IsRunOf : InlineExtensions → List ℕ → ℕ → DelimiterRun → Type 0
+IsRunOf asked text place run = IsDelimiterRun text place run ⊎ (IsTrue asked.strikethrough × IsTildeRun text place run)

@@ -1,6 +1,7 @@
--- Emphasis and strong emphasis among the delimiter runs of a text. (CommonMark 0.31.2, section 6.2, and "Parsing strategy", phase 2,
--- "process emphasis")
-use Rattle.std.specs.Prelude.{ℕ, zero, suc, Bool, ◌&&◌, ◌||◌, ◌==◌, not, ◌%◌, ◌+◌, ◌-◌, min, List, [], ◌∷◌, ◌++◌, Option, Some, None, if◌then◌else◌}
+-- Emphasis, strong emphasis and strikethrough among the delimiter runs of a text. (CommonMark 0.31.2, section 6.2, and "Parsing
+-- strategy", phase 2, "process emphasis"; GitHub Flavored Markdown 0.29, section 6.5)
+use Rattle.std.specs.Prelude.{ℕ, zero, suc, Bool, ◌&&◌, ◌||◌, ◌==◌, not, ◌%◌, ◌+◌, ◌-◌, min, nat_le, List, [], ◌∷◌, ◌++◌, Option, Some, None, if◌then◌else◌}
+use Rattle.markdown_scanners_tree.specs.Ascii.{tilde}
 use Rattle.markdown_inlines.specs.declared.delimiter_runs.DelimiterRun.{DelimiterRun}
 use Rattle.markdown_inlines.specs.declared.emphasis.Delimiters.{Delimiters}
 use Rattle.markdown_inlines.specs.declared.emphasis.Emphasis.{Emphasis}
@@ -19,16 +20,22 @@ breaks_three opener closer =
     (opener.can_close || closer.can_open) && is_multiple_of_three (opener.count + closer.count)
     && not (is_multiple_of_three opener.count && is_multiple_of_three closer.count)
 
--- an opener fits a closer of the same delimiter by that rule
+-- Strikethrough is text in a matching pair of one or two tildes; three or more create none. (GitHub Flavored Markdown 0.29, 6.5)
+abbrev pub are_pair : DelimiterRun → DelimiterRun → Bool
+are_pair opener closer = opener.count == closer.count && nat_le closer.count 2
+
+-- an opener fits a closer of the same delimiter: of tildes as a pair, of the others by the rule above
 abbrev pub fits : DelimiterRun → DelimiterRun → Bool
-fits closer opener = opener.byte == closer.byte && not (breaks_three opener closer)
+fits closer opener =
+    opener.byte == closer.byte && (if closer.byte == tilde then are_pair opener closer else not (breaks_three opener closer))
 
 -- of the openers, the innermost first, the first that fits the closer, and those around it
 abbrev pub nearest : DelimiterRun → List Delimiters → Option (Delimiters × List Delimiters)
 nearest closer [] = None
 nearest closer (opener ∷ outer) = if fits closer opener.run then Some (opener, outer) else nearest closer outer
 
--- an opener and a closer make strong emphasis where each has two delimiters left, else emphasis (rules 13 and 14)
+-- an opener and a closer make strong emphasis where each has two delimiters left, else emphasis (rules 13 and 14); of a pair of
+-- tildes all are used
 abbrev pub used : Delimiters → Delimiters → ℕ
 used opener closer = min 2 (min (left opener) (left closer))
 
@@ -37,6 +44,7 @@ made_of opener closer = record {
   opening = opener.end - used opener closer;
   closing = closer.start;
   count = used opener closer;
+  byte = closer.run.byte;
 }
 
 -- the openers that are left then: those around it, and itself with the delimiters that are left of it

@@ -1,5 +1,9 @@
--- What holds of a text cut into its inlines, without the procedure that cuts it. (CommonMark 0.31.2, section 6.3)
+-- What holds of a text cut into its inlines, without the procedure that cuts it. (CommonMark 0.31.2, section 6.3;
+-- GitHub Flavored Markdown 0.29, section 6.5)
 use Rattle.std.specs.Prelude.{ℕ, false, List, ◌≡◌, ◌⊎◌, ◌≤◌, Option, Some, slice_get}
+use Rattle.std.specs.List.{AllByRecursion}
+use Rattle.markdown_scanners_tree.specs.Ascii.{tilde}
+use Rattle.markdown_inlines.specs.declared.emphasis.Emphasis.{Emphasis}
 use Rattle.markdown_inlines.specs.declared.links.Link.{Link}
 
 -- the opener of this number begins this link, which is no image
@@ -13,3 +17,7 @@ StandApart a b = (a.source.end ≤ b.source.start) ⊎ (b.source.end ≤ a.sourc
 -- Links may not contain other links, at any level of nesting.
 abbrev pub HoldNoLinks : List (Option Link) → Type 0
 HoldNoLinks links = (m n : ℕ) (a b : Link) → ¬ (m ≡ n) → IsLinkOf links m a → IsLinkOf links n b → StandApart a b
+
+-- nothing is struck through
+abbrev pub HasNoStrikethrough : List Emphasis → Type 0
+HasNoStrikethrough emphasis = AllByRecursion (λ it. ¬ (it.byte ≡ tilde)) emphasis

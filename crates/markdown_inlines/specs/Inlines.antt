@@ -8,6 +8,7 @@ use Rattle.markdown_inlines.specs.Pieces.{BeginsAt, HasOnlyText}
 use Rattle.markdown_inlines.specs.declared.delimiter_runs.DelimiterRun.{DelimiterRun}
 use Rattle.markdown_inlines.specs.declared.emphasis.Delimiters.{Delimiters}
 use Rattle.markdown_inlines.specs.declared.emphasis.Emphasis.{Emphasis}
+use Rattle.markdown_inlines.specs.declared.extensions.InlineExtensions.{InlineExtensions}
 use Rattle.markdown_inlines.specs.declared.links.Link.{Link}
 use Rattle.markdown_inlines.specs.declared.pieces.Piece.{Piece}
 use Rattle.markdown_inlines.specs.declared.pieces.PieceKind.{PieceKind}
@@ -100,35 +101,40 @@ IsClosed known (opener ∷ outer) reading close end next =
     EndsLink known opener outer reading close end next ⊎ EndsNone known opener outer reading close end next
 
 -- Text stands from one place up to another, and ends where another piece begins, or with the whole.
-pub record IsTextPiece (text : List ℕ) (from to : ℕ) : Type 0 where
+pub record IsTextPiece (asked : InlineExtensions) (text : List ℕ) (from to : ℕ) : Type 0 where
   pub some : from < to
-  pub only_text : HasOnlyText text from to
-  pub ends : (to ≡ length text) ⊎ ((kind : PieceKind) × (len : ℕ) × BeginsAt text from to kind len)
+  pub only_text : HasOnlyText asked text from to
+  pub ends : (to ≡ length text) ⊎ ((kind : PieceKind) × (len : ℕ) × BeginsAt asked text from to kind len)
+
+-- what a text is read with: the extensions that are asked for, and the labels that are defined
+pub record Setting : Type 0 where
+  pub asked : InlineExtensions
+  pub known : Known
 
 -- a piece that begins where it is read
-pub record IsPieceAt (text : List ℕ) (piece : Piece) : Type 0 where
+pub record IsPieceAt (asked : InlineExtensions) (text : List ℕ) (piece : Piece) : Type 0 where
   pub len : ℕ
-  pub begins : BeginsAt text piece.start piece.start piece.kind len
+  pub begins : BeginsAt asked text piece.start piece.start piece.kind len
   pub end_is : piece.end ≡ piece.start + len
 
 -- The piece is read, and this is known then.
-abbrev pub IsRead : PieceKind → Known → Reading → Piece → Reading → Type 0
-IsRead K.Text known reading piece next = IsTextPiece reading.text piece.start piece.end × (next ≡ reading)
-IsRead K.Closer known reading piece next =
-    (occurs_at reading.text (codes "]") piece.start ≡ true) × IsClosed known reading.openers reading piece.start piece.end next
-IsRead kind known reading piece next = IsPieceAt reading.text piece × (next ≡ with_piece kind piece reading)
+abbrev pub IsRead : PieceKind → Setting → Reading → Piece → Reading → Type 0
+IsRead K.Text setting reading piece next = IsTextPiece setting.asked reading.text piece.start piece.end × (next ≡ reading)
+IsRead K.Closer setting reading piece next =
+    (occurs_at reading.text (codes "]") piece.start ≡ true) × IsClosed setting.known reading.openers reading piece.start piece.end next
+IsRead kind setting reading piece next = IsPieceAt setting.asked reading.text piece × (next ≡ with_piece kind piece reading)
 
 -- From a place on these pieces are read, each where the one before it ends, up to the end of the text.
-abbrev pub AreRead : Known → ℕ → Reading → List Piece → Reading → Type 0
-AreRead known place reading [] last = (place ≡ length reading.text) × (last ≡ reading)
-AreRead known place reading (piece ∷ later) last =
-    (piece.start ≡ place) × (next : Reading) × IsRead piece.kind known reading piece next × AreRead known piece.end next later last
+abbrev pub AreRead : Setting → ℕ → Reading → List Piece → Reading → Type 0
+AreRead setting place reading [] last = (place ≡ length reading.text) × (last ≡ reading)
+AreRead setting place reading (piece ∷ later) last =
+    (piece.start ≡ place) × (next : Reading) × IsRead piece.kind setting reading piece next × AreRead setting piece.end next later last
 
--- A text with these labels defined is cut into these pieces, of whose openers these links begin at some, with this emphasis.
-pub record IsCut (text : List ℕ) (known : Known) (pieces : List Piece) (links : List (Option Link)) (emphasis : List Emphasis)
+-- In a setting a text is cut into these pieces, of whose openers these links begin at some, with this emphasis.
+pub record IsCut (text : List ℕ) (setting : Setting) (pieces : List Piece) (links : List (Option Link)) (emphasis : List Emphasis)
     : Type 0 where
   pub last : Reading
-  pub read : AreRead known 0 (at_start text) pieces last
+  pub read : AreRead setting 0 (at_start text) pieces last
   pub links_are : links ≡ last.links
   pub emphasis_is : emphasis ≡ last.emphasis ++ emphasis_of last.runs
 

@@ -1,16 +1,30 @@
 -- What begins and ends at each byte of a text, by its links and its emphasis.
 use Rattle.std.specs.Prelude.{ℕ, Bool, false, ◌==◌, ◌&&◌, ◌||◌, ◌+◌, ◌<◌, List, [], ◌∷◌, ◌≡◌, length, get_or, Option, Some, None, if◌then◌else◌}
 use Rattle.std.specs.List.{list_any}
+use Rattle.markdown_scanners_tree.specs.Ascii.{tilde}
 use Rattle.markdown_inlines.specs.declared.emphasis.Emphasis.{Emphasis}
 use Rattle.markdown_inlines.specs.declared.links.Link.{Link}
 use Rattle.markdown_inlines.specs.declared.marks.Mark.{Mark}
 use Rattle.markdown_inlines.specs.declared.marks.Mark.TheVariants as M
 
--- the mark at a place by emphasis, which has one delimiter on each side, or two if it is strong; where it has none there, another
+-- the marks of the first delimiter on each side: of strikethrough, of strong emphasis, which has two, or of emphasis
+abbrev pub opening_mark : Emphasis → Mark
+opening_mark emphasis =
+    if emphasis.byte == tilde then M.OpensStrikethrough emphasis.count
+    else if emphasis.count == 2 then M.OpensStrong
+    else M.OpensEmphasis
+
+abbrev pub closing_mark : Emphasis → Mark
+closing_mark emphasis =
+    if emphasis.byte == tilde then M.ClosesStrikethrough emphasis.count
+    else if emphasis.count == 2 then M.ClosesStrong
+    else M.ClosesEmphasis
+
+-- the mark at a place by emphasis, which has one delimiter on each side, or two; where it has none there, another
 abbrev pub mark_by : Emphasis → ℕ → Mark → Mark
 mark_by emphasis place other =
-    if place == emphasis.opening then (if emphasis.count == 2 then M.OpensStrong else M.OpensEmphasis)
-    else if place == emphasis.closing then (if emphasis.count == 2 then M.ClosesStrong else M.ClosesEmphasis)
+    if place == emphasis.opening then opening_mark emphasis
+    else if place == emphasis.closing then closing_mark emphasis
     else if emphasis.count == 2 && (place == emphasis.opening + 1 || place == emphasis.closing + 1) then M.Second
     else other
 

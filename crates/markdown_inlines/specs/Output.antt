@@ -2,8 +2,7 @@
 use Rattle.std.specs.Prelude.{ℕ, Bool, ◌+◌, ◌-◌, List, [], ◌∷◌, ◌++◌, ◌≡◌, get_or, Option, None, if◌then◌else◌}
 use Rattle.std.specs.List.{flat_map, range_with_len}
 use Rattle.std.specs.Option.{is_some}
-use Rattle.markdown_inlines.specs.Inlines.{IsCut}
-use Rattle.markdown_inlines.specs.Links.{Known}
+use Rattle.markdown_inlines.specs.Inlines.{Setting, IsCut}
 use Rattle.markdown_inlines.specs.Marks.{mark_at}
 use Rattle.markdown_inlines.specs.declared.emphasis.Emphasis.{Emphasis}
 use Rattle.markdown_inlines.specs.declared.inlines.Inline.{Inline}
@@ -25,6 +24,8 @@ delimiter_with M.OpensEmphasis place = I.StartEmphasis place 1 ∷ []
 delimiter_with M.OpensStrong place = I.StartEmphasis place 2 ∷ []
 delimiter_with M.ClosesEmphasis place = I.EndEmphasis place 1 ∷ []
 delimiter_with M.ClosesStrong place = I.EndEmphasis place 2 ∷ []
+delimiter_with (M.OpensStrikethrough count) place = I.StartStrikethrough place count ∷ []
+delimiter_with (M.ClosesStrikethrough count) place = I.EndStrikethrough place count ∷ []
 delimiter_with M.Second place = []
 delimiter_with mark place = byte_at place ∷ []
 
@@ -67,8 +68,8 @@ inlines_from links emphasis number (piece ∷ later) =
     inlines_at piece.kind links emphasis number piece ++ inlines_from links emphasis (counted piece.kind number) later
 
 -- These are the inlines of a text, and the links that its openers begin.
-pub record AreInlines (text : List ℕ) (known : Known) (inlines : List Inline) (links : List (Option Link)) : Type 0 where
+pub record AreInlines (text : List ℕ) (setting : Setting) (inlines : List Inline) (links : List (Option Link)) : Type 0 where
   pub pieces : List Piece
   pub emphasis : List Emphasis
-  pub cut : IsCut text known pieces links emphasis
+  pub cut : IsCut text setting pieces links emphasis
   pub inlines_are : inlines ≡ inlines_from links emphasis 0 pieces

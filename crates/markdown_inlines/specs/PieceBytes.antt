@@ -2,7 +2,7 @@
 use Rattle.std.specs.Prelude.{ℕ, suc, Bool, ◌&&◌, ◌||◌, ◌==◌, not, List, [], ◌∷◌, if◌then◌else◌}
 use Rattle.std.specs.List.{prefix_len}
 use Rattle.markdown_scanners_tree.specs.Ascii.{ampersand, asterisk, backslash, backtick, exclamation_mark, left_bracket, less_than_sign}
-use Rattle.markdown_scanners_tree.specs.Ascii.{right_bracket, space, underscore}
+use Rattle.markdown_scanners_tree.specs.Ascii.{right_bracket, space, tilde, underscore}
 use Rattle.markdown_scanners_tree.specs.Bytes.{begins_with, is_line_ending}
 
 -- a line break begins with a backslash, a space or a line ending
@@ -12,11 +12,11 @@ opens_break b = b == backslash || b == space || is_line_ending b
 abbrev pub opens_bracket : ℕ → Bool
 opens_bracket b = b == exclamation_mark || b == left_bracket || b == right_bracket
 
--- code, an autolink, raw HTML and a delimiter run, which may take many bytes
+-- code, an autolink, raw HTML, a delimiter run and a run of tildes, which may take many bytes
 abbrev pub opens_long : ℕ → Bool
-opens_long b = b == less_than_sign || b == backtick || b == asterisk || b == underscore
+opens_long b = b == less_than_sign || b == backtick || b == asterisk || b == underscore || b == tilde
 
--- a byte with which no piece but text begins
+-- a byte with which no piece but text begins, whatever is asked for
 abbrev pub is_plain : ℕ → Bool
 is_plain b = not (opens_break b || opens_bracket b || opens_long b || b == ampersand)
 

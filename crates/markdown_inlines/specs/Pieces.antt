@@ -10,10 +10,11 @@ use Rattle.markdown_scanners_tree.specs.scanners.entities.CharacterReference.{St
 use Rattle.markdown_scanners_tree.specs.scanners.html_tag.HtmlTag.{IsTag}
 use Rattle.markdown_scanners_tree.specs.scanners.links.Autolink.{IsUriAutolink}
 use Rattle.markdown_inlines.specs.CodeSpans.{IsCodeSpan}
-use Rattle.markdown_inlines.specs.DelimiterRuns.{IsDelimiterRun}
+use Rattle.markdown_inlines.specs.DelimiterRuns.{IsRunOf}
 use Rattle.markdown_inlines.specs.Emails.{IsEmailAutolink}
 use Rattle.markdown_inlines.specs.LineBreaks.{IsLineBreak}
 use Rattle.markdown_inlines.specs.declared.code_spans.CodeSpan.{CodeSpan}
+use Rattle.markdown_inlines.specs.declared.extensions.InlineExtensions.{InlineExtensions}
 use Rattle.markdown_inlines.specs.declared.pieces.Piece.{Piece}
 use Rattle.markdown_inlines.specs.declared.pieces.PieceKind.{PieceKind}
 use Rattle.markdown_inlines.specs.declared.pieces.PieceKind.TheVariants.{Text, Escape, HardBreak, SoftBreak, Reference, Code, Uri, Email, Html}
@@ -76,39 +77,40 @@ IsNoUri rest = (len : ℕ) → ¬ IsUriPiece rest len
 abbrev pub IsNoEmail : List ℕ → Type 0
 IsNoEmail rest = (len : ℕ) → ¬ IsEmailPiece rest len
 
--- A piece of this kind and length begins at a place of a text, of which what stands before `from` is in other pieces. Of a code
--- span the backtick string isn't preceded by a backtick from there on.
-abbrev pub BeginsAt : List ℕ → ℕ → ℕ → PieceKind → ℕ → Type 0
-BeginsAt text from place Text len = ⊥
-BeginsAt text from place Escape len = IsEscape (drop place text) len
-BeginsAt text from place HardBreak len = IsLineBreak (drop place text) (record { is_hard = true; len = len })
-BeginsAt text from place SoftBreak len = IsLineBreak (drop place text) (record { is_hard = false; len = len })
-BeginsAt text from place Reference len = IsReferencePiece (drop place text) len
-BeginsAt text from place (Code backticks) len =
+-- With these extensions, a piece of this kind and length begins at a place of a text, of which what stands before `from` is in other
+-- pieces. Of a code span the backtick string isn't preceded by a backtick from there on.
+abbrev pub BeginsAt : InlineExtensions → List ℕ → ℕ → ℕ → PieceKind → ℕ → Type 0
+BeginsAt asked text from place Text len = ⊥
+BeginsAt asked text from place Escape len = IsEscape (drop place text) len
+BeginsAt asked text from place HardBreak len = IsLineBreak (drop place text) (record { is_hard = true; len = len })
+BeginsAt asked text from place SoftBreak len = IsLineBreak (drop place text) (record { is_hard = false; len = len })
+BeginsAt asked text from place Reference len = IsReferencePiece (drop place text) len
+BeginsAt asked text from place (Code backticks) len =
     (from < place → get_or text (place - 1) 0 ≢ backtick) × IsCodePiece (drop place text) backticks len
-BeginsAt text from place Uri len = IsUriPiece (drop place text) len
-BeginsAt text from place Email len = IsNoUri (drop place text) × IsEmailPiece (drop place text) len
-BeginsAt text from place Html len =
+BeginsAt asked text from place Uri len = IsUriPiece (drop place text) len
+BeginsAt asked text from place Email len = IsNoUri (drop place text) × IsEmailPiece (drop place text) len
+BeginsAt asked text from place Html len =
     IsNoUri (drop place text) × IsNoEmail (drop place text) × IsHtmlPiece text place len
-BeginsAt text from place (Delimiters run) len = IsDelimiterRun text place run × (len ≡ run.count)
-BeginsAt text from place LinkOpener len = (occurs_at text (codes "[") place ≡ true) × (len ≡ 1)
-BeginsAt text from place ImageOpener len = (occurs_at text (codes "![") place ≡ true) × (len ≡ 2)
-BeginsAt text from place Closer len = (occurs_at text (codes "]") place ≡ true) × (len ≡ 1)
+BeginsAt asked text from place (Delimiters run) len = IsRunOf asked text place run × (len ≡ run.count)
+BeginsAt asked text from place LinkOpener len = (occurs_at text (codes "[") place ≡ true) × (len ≡ 1)
+BeginsAt asked text from place ImageOpener len = (occurs_at text (codes "![") place ≡ true) × (len ≡ 2)
+BeginsAt asked text from place Closer len = (occurs_at text (codes "]") place ≡ true) × (len ≡ 1)
 
 -- nothing but text begins from one place up to another
-abbrev pub HasOnlyText : List ℕ → ℕ → ℕ → Type 0
-HasOnlyText text from to =
-    (place : ℕ) → from ≤ place → place < to → (kind : PieceKind) (len : ℕ) → ¬ BeginsAt text from place kind len
+abbrev pub HasOnlyText : InlineExtensions → List ℕ → ℕ → ℕ → Type 0
+HasOnlyText asked text from to =
+    (place : ℕ) → from ≤ place → place < to → (kind : PieceKind) (len : ℕ) → ¬ BeginsAt asked text from place kind len
 
 -- This is the next piece that is not text.
-pub record IsNext (text : List ℕ) (from : ℕ) (piece : Piece) : Type 0 where
+pub record IsNext (asked : InlineExtensions) (text : List ℕ) (from : ℕ) (piece : Piece) : Type 0 where
   pub len : ℕ
   pub later : from ≤ piece.start
-  pub only_text : HasOnlyText text from piece.start
-  pub begins : BeginsAt text from piece.start piece.kind len
+  pub only_text : HasOnlyText asked text from piece.start
+  pub begins : BeginsAt asked text from piece.start piece.kind len
   pub ends : piece.end ≡ piece.start + len
 
--- a text, and a place up to which it has been read
+-- a text, the extensions that are asked for, and a place up to which it has been read
 pub record ReadText : Type 0 where
   pub text : List ℕ
+  pub asked : InlineExtensions
   pub place : ℕ

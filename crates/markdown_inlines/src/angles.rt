@@ -4,6 +4,7 @@ ghost use Rattle.markdown_scanners_tree.specs.Ascii.{less_than_sign};
 ghost use Rattle.markdown_scanners_tree.specs.SomeExactly.{SomeExactly};
 ghost use Rattle.markdown_scanners_tree.specs.inline_html.InlineHtml.{find_at};
 ghost use Rattle.markdown_scanners_tree.specs.inline_html.Guard.{IsTrueGuard};
+ghost use Rattle.markdown_inlines.specs.declared.extensions.InlineExtensions.{InlineExtensions};
 ghost use Rattle.markdown_inlines.specs.Pieces.{BeginsAt, IsUriPiece, IsEmailPiece, IsTagPiece, IsHtmlPiece};
 
 use crate::emails::scan_email_autolink_bytes;
@@ -22,8 +23,8 @@ pub(crate) fn angle_at(
     requires within { place < length bytes.now }
     requires opens { slice_index bytes.now place ≡ less_than_sign }
     requires true_guard { IsTrueGuard bytes.now guard.old (place + 2) }
-    ensures found { (from : ℕ)
-        → SomeExactly (λ r. BeginsAt bytes.now from place r.0 r.1) result }
+    ensures found { (asked : InlineExtensions) (from : ℕ)
+        → SomeExactly (λ r. BeginsAt asked bytes.now from place r.0 r.1) result }
     ensures stays_true { (q : ℕ) → place + 2 < q → IfSome result (λ r. place + r.1 ≤ q)
         → IsTrueGuard bytes.now guard.new q }
 {

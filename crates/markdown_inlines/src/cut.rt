@@ -6,6 +6,7 @@ ghost use Rattle.markdown_inlines.specs.Readings.{AreBefore};
 ghost use Rattle.markdown_inlines.specs.Sources.{AreSources, AreLinkSources, IsSource};
 
 use crate::emphasis::Emphasis;
+use crate::extensions::InlineExtensions;
 use crate::links::{Labels, Link};
 use crate::piece_scanner::PieceScanner;
 use crate::pieces::{Piece, PieceKind};
@@ -24,7 +25,8 @@ pub struct Cut {
     pub emphasis: Vec<Emphasis>,
 }
 
-/// Cuts the content of a block into its inlines, of which the labels say which links are defined.
+/// Cuts the content of a block into its inlines, with the extensions that are asked for. The labels
+/// say which links are defined.
 ///
 /// The time is linear in the length of the text. Memory is asked for by the pieces, the links and
 /// the emphasis, and by a label whose white space is not one space each.
@@ -32,9 +34,15 @@ pub struct Cut {
 /// # Errors
 ///
 /// `AllocError` where that memory is refused.
-pub fn cut_inlines<L: Labels>(alloc: Global, text: &str, labels: &L) -> Result<Cut, AllocError>
+pub fn cut_inlines<L: Labels>(
+    alloc: Global,
+    text: &str,
+    labels: &L,
+    extensions: InlineExtensions,
+) -> Result<Cut, AllocError>
     // It is cut as the definition has it.
-    ensures cut { IfOk result (λ cut. IsCut text.now (L.known labels.now)
+    ensures cut { IfOk result (λ cut.
+        IsCut text.now (record { asked = extensions; known = L.known labels.now })
         cut.pieces.items cut.links.items cut.emphasis.items) }
 
     // Each piece has some bytes of the text, which may be cut on both sides of it; joined, they are
@@ -45,13 +53,13 @@ pub fn cut_inlines<L: Labels>(alloc: Global, text: &str, labels: &L) -> Result<C
     // The text may be cut on both sides of each part of a link.
     ensures links { IfOk result (λ cut. AreLinkSources text.now cut.links.items) }
 {
-    let mut scanner = PieceScanner::new(alloc, text)?;
+    let mut scanner = PieceScanner::new(alloc, text, extensions)?;
     let mut reader = Reader::new(alloc, text);
     let mut pieces = Vec::new(alloc);
     let mut place = 0;
     while let Some(piece) = scanner.next(alloc) {
         push_text(&mut pieces, place, piece.start)?;
-        place = read_piece(alloc, labels, &mut reader, piece)?;
+        place = read_piece(alloc, labels, extensions, &mut reader, piece)?;
         pieces.push(Piece {
             end: place,
             ..piece
@@ -85,13 +93,15 @@ fn push_text(pieces: &mut Vec<Piece>, from: usize, to: usize) -> Result<(), Allo
 fn read_piece<L: Labels>(
     alloc: Global,
     labels: &L,
+    extensions: InlineExtensions,
     reader: &mut Reader,
     piece: Piece,
 ) -> Result<usize, AllocError>
-    requires here { IsPieceAt reader.old.text piece }
+    requires here { IsPieceAt extensions reader.old.text piece }
     requires source { IsSource reader.old.text piece }
     requires before { AreBefore reader.old.openers piece.start }
-    ensures read { IfOk result (λ end. IsRead piece.kind (L.known labels.now) reader.old
+    ensures read { IfOk result (λ end. IsRead piece.kind
+        (record { asked = extensions; known = L.known labels.now }) reader.old
         (record piece { end = end }) reader.new) }
     ensures text { OnOk result (reader.new.text ≡ reader.old.text) }
     ensures within { IfOk result (λ end. (piece.end ≤ end) × (end ≤ length reader.old.text)) }

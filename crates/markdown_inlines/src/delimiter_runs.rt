@@ -1,9 +1,10 @@
-//! Delimiter runs. (CommonMark 0.31.2, section 6.2)
-ghost use Rattle.std.specs.Prelude.{◌≡◌, ◌↔◌, ◌⊎◌, ◌==◌, ◌<◌, ◌≤◌, ◌+◌, Option, ℕ, length, drop, IsTrue, IfSome};
-ghost use Rattle.markdown_scanners_tree.specs.Ascii.{asterisk, underscore};
+//! Delimiter runs. (CommonMark 0.31.2, section 6.2; GitHub Flavored Markdown 0.29, section 6.5)
+ghost use Rattle.std.specs.Prelude.{◌≡◌, ◌↔◌, ◌⊎◌, ◌==◌, ◌<◌, ◌≤◌, ◌+◌, Option, ℕ, length, drop, IsTrue, IfSome, slice_index};
+ghost use Rattle.markdown_scanners_tree.specs.Ascii.{asterisk, tilde, underscore};
 ghost use Rattle.std.specs.Str.{IsCharBoundary};
 ghost use Rattle.markdown_scanners_tree.specs.SomeExactly.{SomeExactly, IsOnly};
-ghost use Rattle.markdown_inlines.specs.DelimiterRuns.{IsDelimiterRun, can_open, is_left_flanking};
+ghost use Rattle.markdown_inlines.specs.DelimiterRuns.{IsDelimiterRun, IsTildeRun, can_open, is_left_flanking};
+ghost use Rattle.markdown_inlines.specs.DelimiterRuns.{char_before, char_after};
 ghost use Rattle.markdown_inlines.specs.DelimiterRuns.{is_white_space, is_punctuation, is_white_side, is_punctuation_side};
 
 use markdown_scanners_tree::scanners::scan_ch_repeat;
@@ -12,13 +13,13 @@ use ucd_category::{GeneralCategory, GeneralCategoryGroup};
 /// A delimiter run.
 #[derive(Clone, Copy, Debug, PartialEq, Eq)]
 pub struct DelimiterRun {
-    /// The byte that it is made of: `*` or `_`.
+    /// The byte that it is made of: `*` or `_`, or the `~` of strikethrough.
     pub byte: u8,
     /// How many bytes it has.
     pub count: usize,
-    /// Whether it can open emphasis, by the characters on its sides.
+    /// Whether it can open emphasis, or strikethrough, by the characters on its sides.
     pub can_open: bool,
-    /// Whether it can close emphasis.
+    /// Whether it can close it.
     pub can_close: bool,
 }
 
@@ -41,14 +42,42 @@ pub fn scan_delimiter_run(text: &str, place: usize) -> Option<DelimiterRun>
     }
     let byte = bytes[place];
     let count = scan_ch_repeat(&bytes[place..], byte);
-    let before = text[..place].chars().next_back();
-    let after = text[place + count..].chars().next();
+    let (before, after) = sides(text, place, count);
     Some(DelimiterRun {
         byte,
         count,
         can_open: can_open(byte, before, after),
         can_close: can_open(byte, after, before),
     })
+}
+
+// The run of tildes at a place of the text, where one stands, before which no unescaped tilde does.
+pub(crate) fn scan_tilde_run(text: &str, place: usize) -> Option<DelimiterRun>
+    requires within { place < length text.now }
+    requires opens { slice_index text.now place ≡ tilde }
+    ensures found { SomeExactly (IsTildeRun text.now place) result }
+{
+    let count = scan_ch_repeat(&text.as_bytes()[place..], b'~');
+    let (before, after) = sides(text, place, count);
+    Some(DelimiterRun {
+        byte: b'~',
+        count,
+        can_open: is_left_flanking(before, after),
+        can_close: is_left_flanking(after, before),
+    })
+}
+
+// The characters on both sides of a part of the text that begins at a place.
+fn sides(text: &str, place: usize, count: usize) -> (Option<char>, Option<char>)
+    requires begins { IsCharBoundary text.now place }
+    requires ends { IsCharBoundary text.now (place + count) }
+    requires within { place + count ≤ length text.now }
+    ensures before { result.0 ≡ char_before text.now place }
+    ensures after { result.1 ≡ char_after text.now (place + count) }
+{
+    let before = text[..place].chars().next_back();
+    let after = text[place + count..].chars().next();
+    (before, after)
 }
 
 // Whether emphasis is made of the byte.

@@ -1,8 +1,9 @@
-//! Emphasis and strong emphasis among delimiter runs. (CommonMark 0.31.2, section 6.2)
+//! Emphasis, strong emphasis and strikethrough among delimiter runs. (CommonMark 0.31.2, section 6.2;
+//! GitHub Flavored Markdown 0.29, section 6.5)
 ghost use Rattle.std.specs.Prelude.{◌≡◌, ◌++◌, ◌∷◌, ◌<◌, ◌≤◌, ◌+◌, [], List, ℕ, suc, min, length, reverse, take, get_or, None, Some, IfSome, IfNone, IfOk};
 ghost use Rattle.std.specs.Prelude.{OnOk};
-ghost use Rattle.markdown_inlines.specs.Emphasis.{left, fits, breaks_three, nearest, made_of, openers_left, closer_left, ended_by, none_ended, with_first};
-ghost use Rattle.markdown_inlines.specs.Emphasis.{ended, emphasis_from, emphasis_of};
+ghost use Rattle.markdown_inlines.specs.Emphasis.{left, fits, are_pair, breaks_three, nearest, made_of, openers_left, closer_left, ended_by};
+ghost use Rattle.markdown_inlines.specs.Emphasis.{none_ended, with_first, ended, emphasis_from, emphasis_of};
 ghost use Rattle.markdown_inlines.specs.EmphasisBounds.{AreOfDelimiters, IsOfDelimiters, AreLeft, ArePassed, kind_of};
 ghost use Rattle.markdown_inlines.specs.declared.emphasis.Delimiters.{Delimiters};
 
@@ -10,8 +11,9 @@ use crate::delimiter_runs::DelimiterRun;
 use std::alloc::{AllocError, Global};
 use std::marker::Model;
 
-// How many kinds of closers there are: by byte, whether they can open too, and their length modulo three.
-const KINDS: usize = 12;
+// How many kinds of closers there are: of `*` and `_` by byte, whether they can open too, and their
+// length modulo three; of tildes by their length, up to three.
+const KINDS: usize = 16;
 
 /// The delimiters of a run that are in no emphasis yet.
 #[derive(Clone, Copy)]
@@ -24,15 +26,18 @@ pub struct Delimiters {
     pub run: DelimiterRun,
 }
 
-/// Emphasis, or strong emphasis.
+/// Emphasis, strong emphasis, or strikethrough.
 #[derive(Clone, Copy, Debug, PartialEq, Eq)]
 pub struct Emphasis {
     /// Where its opening delimiters begin.
     pub opening: usize,
     /// Where its closing delimiters begin.
     pub closing: usize,
-    /// How many there are on each side: one of emphasis, two of strong emphasis.
+    /// How many there are on each side: one of emphasis, two of strong emphasis, one or two of
+    /// strikethrough.
     pub count: usize,
+    /// The byte of its delimiters: `*`, `_`, or the `~` of strikethrough.
+    pub byte: u8,
 }
 
 // The runs that can still open emphasis.
@@ -151,6 +156,7 @@ impl Openers {
             opening: opener.end - count,
             closing: closer.start,
             count,
+            byte: closer.run.byte,
         })
     }
 }
@@ -218,11 +224,25 @@ fn left(delimiters: Delimiters) -> usize
     delimiters.end.saturating_sub(delimiters.start)
 }
 
-// Whether an opener of the same byte fits the closer by the rule of three.
+// Whether an opener of the same byte fits the closer: as a pair of tildes, or by the rule of three.
 fn fits(closer: DelimiterRun, opener: DelimiterRun) -> bool
     ensures { result ≡ fits closer opener }
 {
-    opener.byte == closer.byte && !breaks_three(opener, closer)
+    if opener.byte != closer.byte {
+        return false;
+    }
+    if closer.byte == b'~' {
+        are_pair(opener, closer)
+    } else {
+        !breaks_three(opener, closer)
+    }
+}
+
+// Whether two runs of tildes are a pair.
+fn are_pair(opener: DelimiterRun, closer: DelimiterRun) -> bool
+    ensures { result ≡ are_pair opener closer }
+{
+    opener.count == closer.count && closer.count <= 2
 }
 
 // Whether the rule of three keeps the two runs apart.
@@ -238,8 +258,11 @@ fn breaks_three(opener: DelimiterRun, closer: DelimiterRun) -> bool
 // The kind of a closer.
 fn kind_of(run: DelimiterRun) -> usize
     ensures kind { result ≡ kind_of run }
-    ensures within { result < 12 }
+    ensures within { result < 16 }
 {
+    if run.byte == b'~' {
+        return 12 + run.count.min(3);
+    }
     let byte = if run.byte == b'_' { 2 } else { 0 };
     let both = if run.can_open { 1 } else { 0 };
     4 * (run.count % 3) + byte + both

@@ -9,6 +9,7 @@ ghost use Rattle.markdown_inlines.specs.Sources.{AreLinkSources};
 
 use crate::cut::cut_inlines;
 use crate::emphasis::Emphasis;
+use crate::extensions::InlineExtensions;
 use crate::links::{Labels, Link};
 use crate::marks::{Mark, marks_of};
 use crate::pieces::{Piece, PieceKind};
@@ -24,6 +25,10 @@ pub enum Inline {
     StartEmphasis(usize, usize),
     /// At this place it ends with as many.
     EndEmphasis(usize, usize),
+    /// At this place strikethrough begins with one tilde or two.
+    StartStrikethrough(usize, usize),
+    /// At this place it ends with as many.
+    EndStrikethrough(usize, usize),
     /// The link or image begins that has this number among `Inlines::links`.
     StartLink(usize),
     /// The innermost link or image that has begun ends with this piece.
@@ -40,7 +45,8 @@ pub struct Inlines {
     pub links: Vec<Option<Link>>,
 }
 
-/// The inlines of the content of a block, of which the labels say which links are defined.
+/// The inlines of the content of a block, with the extensions that are asked for. The labels say
+/// which links are defined.
 ///
 /// The time is linear in the length of the text. Memory is asked for by the inlines, the links and
 /// the emphasis, by one byte for each of the text, and by a label whose white space is not one
@@ -49,14 +55,20 @@ pub struct Inlines {
 /// # Errors
 ///
 /// `AllocError` where that memory is refused.
-pub fn find_inlines<L: Labels>(alloc: Global, text: &str, labels: &L) -> Result<Inlines, AllocError>
+pub fn find_inlines<L: Labels>(
+    alloc: Global,
+    text: &str,
+    labels: &L,
+    extensions: InlineExtensions,
+) -> Result<Inlines, AllocError>
     ensures inlines { IfOk result (λ r.
-        AreInlines text.now (L.known labels.now) r.inlines.items r.links.items) }
+        AreInlines text.now (record { asked = extensions; known = L.known labels.now })
+        r.inlines.items r.links.items) }
 
     // The text may be cut on both sides of each part of a link.
     ensures links { IfOk result (λ r. AreLinkSources text.now r.links.items) }
 {
-    let cut = cut_inlines(alloc, text, labels)?;
+    let cut = cut_inlines(alloc, text, labels, extensions)?;
     let marks = marks_of(alloc, text.len(), &cut.links, &cut.emphasis)?;
     let inlines = inlines_of(alloc, &cut.pieces, &marks, &cut.links)?;
     Ok(Inlines {
@@ -172,6 +184,8 @@ fn push_delimiter(inlines: &mut Vec<Inline>, mark: Mark, place: usize) -> Result
         Mark::OpensStrong => Inline::StartEmphasis(place, 2),
         Mark::ClosesEmphasis => Inline::EndEmphasis(place, 1),
         Mark::ClosesStrong => Inline::EndEmphasis(place, 2),
+        Mark::OpensStrikethrough(count) => Inline::StartStrikethrough(place, count),
+        Mark::ClosesStrikethrough(count) => Inline::EndStrikethrough(place, count),
         Mark::Second => return Ok(()),
         Mark::Nothing | Mark::EndsLink => Inline::Leaf(Piece {
             kind: PieceKind::Text,

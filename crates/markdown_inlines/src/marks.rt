@@ -1,6 +1,6 @@
 //! What begins and ends at each byte of a text, by its links and its emphasis.
 ghost use Rattle.std.specs.Prelude.{◌≡◌, ◌==◌, ◌<◌, ℕ, length, get_or, IfOk, if◌then◌else◌};
-ghost use Rattle.markdown_inlines.specs.Marks.{AreMarks, mark_by, marks_by, ends_link, mark_at};
+ghost use Rattle.markdown_inlines.specs.Marks.{AreMarks, mark_by, marks_by, ends_link, mark_at, opening_mark, closing_mark};
 ghost use Rattle.markdown_inlines.specs.declared.marks.Mark.TheVariants.{Nothing, EndsLink};
 
 use crate::emphasis::Emphasis;
@@ -20,6 +20,10 @@ pub enum Mark {
     ClosesEmphasis,
     /// It is the first of the two that strong emphasis ends with.
     ClosesStrong,
+    /// It is the first of so many tildes that strikethrough begins with.
+    OpensStrikethrough(usize),
+    /// It is the first of so many tildes that strikethrough ends with.
+    ClosesStrikethrough(usize),
     /// It is the second of two.
     Second,
     /// It is the right bracket after a link text.
@@ -65,11 +69,34 @@ fn mark_both_sides(marks: &mut [Mark], emphasis: Emphasis)
     if emphasis.count == 2 {
         put(marks, emphasis.opening.saturating_add(1), Mark::Second);
         put(marks, emphasis.closing.saturating_add(1), Mark::Second);
-        put(marks, emphasis.closing, Mark::ClosesStrong);
-        put(marks, emphasis.opening, Mark::OpensStrong);
+    }
+    put(marks, emphasis.closing, closing_mark(emphasis));
+    put(marks, emphasis.opening, opening_mark(emphasis));
+}
+
+// The mark of its first opening delimiter.
+fn opening_mark(emphasis: Emphasis) -> Mark
+    ensures { result ≡ opening_mark emphasis }
+{
+    if emphasis.byte == b'~' {
+        Mark::OpensStrikethrough(emphasis.count)
+    } else if emphasis.count == 2 {
+        Mark::OpensStrong
     } else {
-        put(marks, emphasis.closing, Mark::ClosesEmphasis);
-        put(marks, emphasis.opening, Mark::OpensEmphasis);
+        Mark::OpensEmphasis
+    }
+}
+
+// The mark of its first closing delimiter.
+fn closing_mark(emphasis: Emphasis) -> Mark
+    ensures { result ≡ closing_mark emphasis }
+{
+    if emphasis.byte == b'~' {
+        Mark::ClosesStrikethrough(emphasis.count)
+    } else if emphasis.count == 2 {
+        Mark::ClosesStrong
+    } else {
+        Mark::ClosesEmphasis
     }
 }
 

@@ -1,14 +1,16 @@
 //! What begins at a place of a text. (CommonMark 0.31.2, chapter 6)
 ghost use Rattle.std.specs.Prelude.{ℕ, false, ◌≡◌, ◌≢◌, ◌⊎◌, ◌↔◌, ◌+◌, ◌-◌, ◌<◌, ◌≤◌, length, drop, slice_index, get_or, IfSome, IsTrue};
 ghost use Rattle.memchr.specs.Find.{occurs_at};
-ghost use Rattle.markdown_scanners_tree.specs.Ascii.{ampersand, asterisk, backslash, backtick, underscore};
+ghost use Rattle.markdown_scanners_tree.specs.Ascii.{ampersand, asterisk, backslash, backtick, tilde, underscore};
 ghost use Rattle.markdown_scanners_tree.specs.SomeExactly.{SomeExactly};
 ghost use Rattle.markdown_scanners_tree.specs.inline_html.Guard.{IsTrueGuard};
 ghost use Rattle.markdown_inlines.specs.Pieces.{BeginsAt, IsEscape};
+ghost use Rattle.markdown_inlines.specs.declared.extensions.InlineExtensions.{InlineExtensions};
 ghost use Rattle.markdown_inlines.specs.PieceBytes.{opens_break, opens_bracket, opens_long};
 
 use crate::angles::angle_at;
-use crate::delimiter_runs::scan_delimiter_run;
+use crate::delimiter_runs::{scan_delimiter_run, scan_tilde_run};
+use crate::extensions::InlineExtensions;
 use crate::guarded_code_spans::CodeSpans;
 use crate::line_breaks::scan_line_break;
 use crate::pieces::PieceKind;
@@ -21,6 +23,7 @@ use std::alloc::Global;
 pub(crate) fn piece_at(
     alloc: Global,
     text: &str,
+    extensions: InlineExtensions,
     codes: &CodeSpans,
     guard: &mut HtmlScanGuard,
     place: usize,
@@ -31,7 +34,7 @@ pub(crate) fn piece_at(
     ensures found { (from : ℕ)
         → (slice_index text.now place ≡ backtick → from < place
         → get_or text.now (place - 1) 0 ≢ backtick)
-        → SomeExactly (λ r. BeginsAt text.now from place r.0 r.1) result }
+        → SomeExactly (λ r. BeginsAt extensions text.now from place r.0 r.1) result }
     ensures stays_true { (q : ℕ) → place + 2 < q → IfSome result (λ r. place + r.1 ≤ q)
         → IsTrueGuard text.now guard.new q }
 {
@@ -40,16 +43,17 @@ pub(crate) fn piece_at(
         b'<' => angle_at(alloc, bytes, guard, place),
         b'`' => code_at(codes, place),
         b'*' | b'_' => delimiters_at(text, place),
+        b'~' => tildes_at(text, extensions, place),
         _ => short_piece_at(bytes, place),
     }
 }
 
-// What begins with a byte other than `<`, a backtick or a delimiter.
+// What begins with a byte other than `<`, a backtick, a delimiter or a tilde.
 fn short_piece_at(bytes: &[u8], place: usize) -> Option<(PieceKind, usize)>
     requires within { place < length bytes.now }
     requires short { opens_long (slice_index bytes.now place) ≡ false }
-    ensures found { (from : ℕ)
-        → SomeExactly (λ r. BeginsAt bytes.now from place r.0 r.1) result }
+    ensures found { (asked : InlineExtensions) (from : ℕ)
+        → SomeExactly (λ r. BeginsAt asked bytes.now from place r.0 r.1) result }
 {
     let byte = bytes[place];
     if byte == b'\\' {
@@ -83,9 +87,9 @@ fn opens_bracket(byte: u8) -> bool
 fn code_at(codes: &CodeSpans, place: usize) -> Option<(PieceKind, usize)>
     requires within { place < length codes.now }
     requires opens { slice_index codes.now place ≡ backtick }
-    ensures found { (from : ℕ)
+    ensures found { (asked : InlineExtensions) (from : ℕ)
         → (from < place → get_or codes.now (place - 1) 0 ≢ backtick)
-        → SomeExactly (λ r. BeginsAt codes.now from place r.0 r.1) result }
+        → SomeExactly (λ r. BeginsAt asked codes.now from place r.0 r.1) result }
 {
     let span = codes.scan(place)?;
     Some((PieceKind::Code(span.content.start), span.len))
@@ -96,10 +100,24 @@ fn delimiters_at(text: &str, place: usize) -> Option<(PieceKind, usize)>
     requires within { place < length text.now }
     requires opens { (slice_index text.now place ≡ asterisk)
         ⊎ (slice_index text.now place ≡ underscore) }
-    ensures found { (from : ℕ)
-        → SomeExactly (λ r. BeginsAt text.now from place r.0 r.1) result }
+    ensures found { (asked : InlineExtensions) (from : ℕ)
+        → SomeExactly (λ r. BeginsAt asked text.now from place r.0 r.1) result }
 {
     let run = scan_delimiter_run(text, place)?;
+    Some((PieceKind::Delimiters(run), run.count))
+}
+
+// The run of tildes at the place, where one stands, if strikethrough is asked for.
+fn tildes_at(text: &str, extensions: InlineExtensions, place: usize) -> Option<(PieceKind, usize)>
+    requires within { place < length text.now }
+    requires opens { slice_index text.now place ≡ tilde }
+    ensures found { (from : ℕ)
+        → SomeExactly (λ r. BeginsAt extensions text.now from place r.0 r.1) result }
+{
+    if !extensions.strikethrough {
+        return None;
+    }
+    let run = scan_tilde_run(text, place)?;
     Some((PieceKind::Delimiters(run), run.count))
 }
 
@@ -107,8 +125,8 @@ fn delimiters_at(text: &str, place: usize) -> Option<(PieceKind, usize)>
 fn escape_at(bytes: &[u8], place: usize) -> Option<(PieceKind, usize)>
     requires within { place < length bytes.now }
     requires opens { slice_index bytes.now place ≡ backslash }
-    ensures found { (from : ℕ)
-        → SomeExactly (λ r. BeginsAt bytes.now from place r.0 r.1) result }
+    ensures found { (asked : InlineExtensions) (from : ℕ)
+        → SomeExactly (λ r. BeginsAt asked bytes.now from place r.0 r.1) result }
 {
     if is_escape(&bytes[place..]) {
         Some((PieceKind::Escape, 2))
@@ -132,8 +150,8 @@ fn break_at(bytes: &[u8], place: usize) -> Option<(PieceKind, usize)>
     requires within { place < length bytes.now }
     requires opens { IsTrue (opens_break (slice_index bytes.now place)) }
     requires no_escape { ¬ IsEscape (drop place bytes.now) 2 }
-    ensures found { (from : ℕ)
-        → SomeExactly (λ r. BeginsAt bytes.now from place r.0 r.1) result }
+    ensures found { (asked : InlineExtensions) (from : ℕ)
+        → SomeExactly (λ r. BeginsAt asked bytes.now from place r.0 r.1) result }
 {
     let line_break = scan_line_break(&bytes[place..])?;
     if line_break.is_hard {
@@ -147,8 +165,8 @@ fn break_at(bytes: &[u8], place: usize) -> Option<(PieceKind, usize)>
 fn reference_at(bytes: &[u8], place: usize) -> Option<(PieceKind, usize)>
     requires within { place < length bytes.now }
     requires opens { slice_index bytes.now place ≡ ampersand }
-    ensures found { (from : ℕ)
-        → SomeExactly (λ r. BeginsAt bytes.now from place r.0 r.1) result }
+    ensures found { (asked : InlineExtensions) (from : ℕ)
+        → SomeExactly (λ r. BeginsAt asked bytes.now from place r.0 r.1) result }
 {
     let len = scan_entity(&bytes[place..], &HtmlEntities).0;
     if len == 0 {
@@ -161,8 +179,8 @@ fn reference_at(bytes: &[u8], place: usize) -> Option<(PieceKind, usize)>
 fn bracket_at(bytes: &[u8], place: usize) -> Option<(PieceKind, usize)>
     requires within { place < length bytes.now }
     requires opens { IsTrue (opens_bracket (slice_index bytes.now place)) }
-    ensures found { (from : ℕ)
-        → SomeExactly (λ r. BeginsAt bytes.now from place r.0 r.1) result }
+    ensures found { (asked : InlineExtensions) (from : ℕ)
+        → SomeExactly (λ r. BeginsAt asked bytes.now from place r.0 r.1) result }
 {
     if stands_at(bytes, place, b"[") {
         Some((PieceKind::LinkOpener, 1))

@@ -5,8 +5,10 @@ ghost use Rattle.markdown_scanners_tree.specs.Ascii.{backtick};
 ghost use Rattle.markdown_scanners_tree.specs.inline_html.Guard.{IsTrueGuard};
 ghost use Rattle.markdown_inlines.specs.Pieces.{BeginsAt, ReadText, IsNext, HasOnlyText};
 ghost use Rattle.markdown_inlines.specs.PieceBytes.{is_plain, is_word_space, plain_length, run_length};
+ghost use Rattle.markdown_inlines.specs.declared.extensions.InlineExtensions.{InlineExtensions};
 ghost use Rattle.markdown_inlines.specs.declared.pieces.PieceKind.{PieceKind};
 
+use crate::extensions::InlineExtensions;
 use crate::guarded_code_spans::CodeSpans;
 use crate::piece_at::piece_at;
 use crate::pieces::Piece;
@@ -15,10 +17,11 @@ use markdown_scanners_tree::scanners::scan_ch_repeat;
 use std::alloc::{AllocError, Global};
 use std::marker::Model;
 
-// A text, the place up to which it has been read, and what is known of code spans and HTML after that.
+// A text with its extensions, the place up to which it has been read, and what is known of code spans and HTML after that.
 #[derive(Drop)]
 pub(crate) struct PieceScanner<'a> {
     text: &'a str,
+    extensions: InlineExtensions,
     place: usize,
     codes: CodeSpans<'a>,
     guard: HtmlScanGuard,
@@ -27,7 +30,7 @@ pub(crate) struct PieceScanner<'a> {
 impl<'a> Model for PieceScanner<'a> {
     ghost Value = { ReadText };
 
-    ghost view = { λ s. record { text = s.text.now; place = s.place } };
+    ghost view = { λ s. record { text = s.text.now; asked = s.extensions; place = s.place } };
 
     ghost invariant = { λ s. (s.codes ≡ s.text.now) × (s.place ≤ length s.text.now)
         × IsTrueGuard s.text.now s.guard (s.place + 2) };
@@ -35,12 +38,18 @@ impl<'a> Model for PieceScanner<'a> {
 
 impl<'a> PieceScanner<'a> {
     // Nothing is read.
-    pub(crate) fn new(alloc: Global, text: &'a str) -> Result<PieceScanner<'a>, AllocError>
-        ensures start { IfOk result (λ s. s ≡ record { text = text.now; place = 0 }) }
+    pub(crate) fn new(
+        alloc: Global,
+        text: &'a str,
+        extensions: InlineExtensions,
+    ) -> Result<PieceScanner<'a>, AllocError>
+        ensures start { IfOk result (λ s.
+            s ≡ record { text = text.now; asked = extensions; place = 0 }) }
     {
         let codes = CodeSpans::new(alloc, text.as_bytes())?;
         Ok(PieceScanner {
             text,
+            extensions,
             place: 0,
             codes,
             guard: HtmlScanGuard::new(),
@@ -68,7 +77,7 @@ impl<'a> PieceScanner<'a> {
     // is none. No memory is asked for.
     pub(crate) fn next(&mut self, alloc: Global) -> Option<Piece>
         // The next piece is answered, and the text is read up to its end.
-        ensures found { IfSome result (IsNext self.old.text self.old.place) }
+        ensures found { IfSome result (IsNext self.old.asked self.old.text self.old.place) }
         ensures read { IfSome result (λ piece.
             self.new ≡ record self.old { place = piece.end }) }
 
@@ -80,11 +89,18 @@ impl<'a> PieceScanner<'a> {
 
         // Else all that is left is text.
         ensures none { IfNone result
-            (HasOnlyText self.old.text self.old.place (length self.old.text)) }
+            (HasOnlyText self.old.asked self.old.text self.old.place (length self.old.text)) }
         ensures all { IfNone result
             (self.new ≡ record self.old { place = length self.old.text }) }
     {
-        let piece = next_piece(alloc, self.text, &self.codes, &mut self.guard, self.place);
+        let piece = next_piece(
+            alloc,
+            self.text,
+            self.extensions,
+            &self.codes,
+            &mut self.guard,
+            self.place,
+        );
         self.place = match &piece {
             Some(piece) => piece.end,
             None => self.text.len(),
@@ -97,6 +113,7 @@ impl<'a> PieceScanner<'a> {
 fn next_piece(
     alloc: Global,
     text: &str,
+    extensions: InlineExtensions,
     codes: &CodeSpans,
     guard: &mut HtmlScanGuard,
     from: usize,
@@ -104,12 +121,12 @@ fn next_piece(
     requires within { from ≤ length text.now }
     requires spans { codes.now ≡ text.now }
     requires true_guard { IsTrueGuard text.now guard.old (from + 2) }
-    ensures found { IfSome result (IsNext text.now from) }
+    ensures found { IfSome result (IsNext extensions text.now from) }
     ensures within { IfSome result (λ piece. (piece.start < piece.end)
         × (piece.end ≤ length text.now)) }
     ensures boundary { IfSome result (λ piece. IsCharBoundary text.now piece.start
         × IsCharBoundary text.now piece.end) }
-    ensures none { IfNone result (HasOnlyText text.now from (length text.now)) }
+    ensures none { IfNone result (HasOnlyText extensions text.now from (length text.now)) }
     ensures stays_true { IfSome result (λ piece.
         IsTrueGuard text.now guard.new (piece.end + 2)) }
     ensures stays_true_to_end { IfNone result
@@ -118,7 +135,7 @@ fn next_piece(
     let bytes = text.as_bytes();
     let mut place = from + plain_len(&bytes[from..]);
     while place < bytes.len() {
-        if let Some((kind, len)) = piece_at(alloc, text, codes, guard, place) {
+        if let Some((kind, len)) = piece_at(alloc, text, extensions, codes, guard, place) {
             return Some(Piece {
                 kind,
                 start: place,
@@ -135,9 +152,10 @@ fn past_text(bytes: &[u8], place: usize) -> usize
     requires within { place < length bytes.now }
     ensures later { place < result }
     ensures within { result ≤ length bytes.now }
-    ensures text { (from : ℕ) → from ≤ place → HasOnlyText bytes.now from place
-        → ((kind : PieceKind) (len : ℕ) → ¬ BeginsAt bytes.now from place kind len)
-        → HasOnlyText bytes.now from result }
+    ensures text { (asked : InlineExtensions) (from : ℕ) → from ≤ place
+        → HasOnlyText asked bytes.now from place
+        → ((kind : PieceKind) (len : ℕ) → ¬ BeginsAt asked bytes.now from place kind len)
+        → HasOnlyText asked bytes.now from result }
     ensures apart { get_or bytes.now result 0 ≡ backtick
         → get_or bytes.now (result - 1) 0 ≢ backtick }
 {
@@ -188,9 +206,11 @@ fn is_word_space(byte: u8, after: &[u8]) -> bool
 fn is_plain(byte: u8) -> bool
     ensures { result ≡ is_plain byte }
 {
-    byte > b'`'
-        || !matches!(
-            byte,
-            b'\\' | b'&' | b'`' | b'<' | b'[' | b'!' | b']' | b'*' | b'_' | b' ' | b'\n' | b'\r'
-        )
+    if byte > b'`' {
+        return byte != b'~';
+    }
+    !matches!(
+        byte,
+        b'\\' | b'&' | b'`' | b'<' | b'[' | b'!' | b']' | b'*' | b'_' | b' ' | b'\n' | b'\r'
+    )
 }

@@ -4,6 +4,7 @@ use crate::asserts::{assert_same, made};
 use markdown_inlines::cut::cut_inlines;
 use markdown_inlines::delimiter_runs::DelimiterRun;
 use markdown_inlines::emphasis::Emphasis;
+use markdown_inlines::extensions::InlineExtensions;
 use markdown_inlines::inlines::{Inline, find_inlines};
 use markdown_inlines::links::{Link, LinkTarget};
 use markdown_inlines::pieces::{Piece, PieceKind};
@@ -31,7 +32,10 @@ const fn run(can_open: bool, start: usize) -> Piece {
 #[test]
 fn pieces_are_joined_to_their_text(rt: HostRuntime) {
     let text = "a *b* \\*&amp;`` c ``<d:e>\\\nf<g@h><i>";
-    let cut = made(&rt, cut_inlines(rt.alloc(), text, &LABELS));
+    let cut = made(
+        &rt,
+        cut_inlines(rt.alloc(), text, &LABELS, InlineExtensions::none()),
+    );
     let wanted = [
         piece(PieceKind::Text, 0, 2),
         run(true, 2),
@@ -52,6 +56,7 @@ fn pieces_are_joined_to_their_text(rt: HostRuntime) {
         opening: 2,
         closing: 4,
         count: 1,
+        byte: b'*',
     }];
     assert_same(&rt, cut.emphasis.as_slice(), &emphasis);
     assert_same(&rt, cut.links.len(), 0);
@@ -60,7 +65,10 @@ fn pieces_are_joined_to_their_text(rt: HostRuntime) {
 #[test]
 fn openers_have_their_links(rt: HostRuntime) {
     let text = "[ [a](b 'c')![d][g\n h][c][][c] [e]";
-    let cut = made(&rt, cut_inlines(rt.alloc(), text, &LABELS));
+    let cut = made(
+        &rt,
+        cut_inlines(rt.alloc(), text, &LABELS, InlineExtensions::none()),
+    );
     let link = |is_image, source, text, target| {
         Some(Link {
             is_image,
@@ -84,7 +92,10 @@ fn openers_have_their_links(rt: HostRuntime) {
 
 #[test]
 fn a_text_may_be_empty(rt: HostRuntime) {
-    let cut = made(&rt, cut_inlines(rt.alloc(), "", &LABELS));
+    let cut = made(
+        &rt,
+        cut_inlines(rt.alloc(), "", &LABELS, InlineExtensions::none()),
+    );
     assert_same(&rt, cut.pieces.len(), 0);
     assert_same(&rt, cut.links.len(), 0);
     assert_same(&rt, cut.emphasis.len(), 0);
@@ -92,18 +103,22 @@ fn a_text_may_be_empty(rt: HostRuntime) {
 
 #[test]
 fn inlines_stand_in_order(rt: HostRuntime) {
-    let found = made(&rt, find_inlines(rt.alloc(), "***a** [b](c) ]", &LABELS));
-    let text = |start: usize, end: usize| Inline::Leaf(piece(PieceKind::Text, start, end));
+    let text = "***a** [b](c) ]";
+    let found = made(
+        &rt,
+        find_inlines(rt.alloc(), text, &LABELS, InlineExtensions::none()),
+    );
+    let leaf = |start: usize, end: usize| Inline::Leaf(piece(PieceKind::Text, start, end));
     let wanted = [
-        text(0, 1),
+        leaf(0, 1),
         Inline::StartEmphasis(1, 2),
-        text(3, 4),
+        leaf(3, 4),
         Inline::EndEmphasis(4, 2),
-        text(6, 7),
+        leaf(6, 7),
         Inline::StartLink(0),
-        text(8, 9),
+        leaf(8, 9),
         Inline::EndLink(piece(PieceKind::Closer, 9, 13)),
-        text(13, 14),
+        leaf(13, 14),
         Inline::Leaf(piece(PieceKind::Closer, 14, 15)),
     ];
     assert_same(&rt, found.inlines.as_slice(), &wanted);

@@ -5,6 +5,7 @@ ghost use Rattle.std.specs.Str.{bytes_eq};
 use crate::asserts::{assert_same, made};
 use html_entities::HtmlEntities;
 use markdown_inlines::code_content::code_text;
+use markdown_inlines::extensions::InlineExtensions;
 use markdown_inlines::inlines::{Inline, Inlines, find_inlines};
 use markdown_inlines::links::{Labels, Link, LinkTarget};
 use markdown_inlines::pieces::{Piece, PieceKind};
@@ -75,8 +76,18 @@ pub(super) fn html_of(
     text: &str,
     definitions: &'static [Definition],
 ) -> Result<String, AllocError> {
+    html_with(alloc, text, definitions, InlineExtensions::none())
+}
+
+/// The same with extensions.
+pub(super) fn html_with(
+    alloc: Global,
+    text: &str,
+    definitions: &'static [Definition],
+    extensions: InlineExtensions,
+) -> Result<String, AllocError> {
     let labels = Definitions { rows: definitions };
-    let found = find_inlines(alloc, text, &labels)?;
+    let found = find_inlines(alloc, text, &labels, extensions)?;
     let mut html = Html {
         out: String::new(alloc),
         images: 0,
@@ -109,6 +120,8 @@ impl Page<'_> {
             Inline::StartEmphasis(_, _) => html.push_tag("<em>"),
             Inline::EndEmphasis(_, 2) => html.push_tag("</strong>"),
             Inline::EndEmphasis(_, _) => html.push_tag("</em>"),
+            Inline::StartStrikethrough(_, _) => html.push_tag("<del>"),
+            Inline::EndStrikethrough(_, _) => html.push_tag("</del>"),
             Inline::StartLink(number) => match self.found.links.get(number) {
                 Some(Some(link)) => self.push_start(html, link),
                 _ => Ok(()),

@@ -4,52 +4,53 @@ use Rattle.std.proofs.lemmas.List.{append_assoc}
 use Rattle.std.proofs.lemmas.Bool.{ltb-true, ltb-false}
 use Rattle.markdown_inlines.specs.Links.{Known}
 use Rattle.markdown_inlines.specs.Readings.{AreBefore}
+use Rattle.markdown_inlines.specs.declared.extensions.InlineExtensions.{InlineExtensions}
 use Rattle.markdown_inlines.specs.declared.reading.Opener.{Opener}
-use Rattle.markdown_inlines.specs.Inlines.{IsClosed, with_opener, Reading, at_start, AreRead, IsRead, IsPieceAt, text_between}
+use Rattle.markdown_inlines.specs.Inlines.{IsClosed, with_opener, Setting, Reading, at_start, AreRead, IsRead, IsPieceAt, text_between}
 use Rattle.markdown_inlines.specs.Pieces.{BeginsAt, HasOnlyText, IsNext}
 use Rattle.markdown_inlines.specs.declared.pieces.Piece.{Piece}
 use Rattle.markdown_inlines.specs.declared.pieces.PieceKind.{PieceKind}
 use Rattle.markdown_inlines.specs.declared.pieces.PieceKind.TheVariants as K
 
 -- What is read on from a place, with these pieces before it, is read from the beginning.
-abbrev pub ReadsOn : Known → List ℕ → ℕ → Reading → List Piece → Type 0
-ReadsOn known text place reading pieces =
-    (later : List Piece) (last : Reading) → AreRead known place reading later last
-    → AreRead known 0 (at_start text) (pieces ++ later) last
+abbrev pub ReadsOn : Setting → List ℕ → ℕ → Reading → List Piece → Type 0
+ReadsOn setting text place reading pieces =
+    (later : List Piece) (last : Reading) → AreRead setting place reading later last
+    → AreRead setting 0 (at_start text) (pieces ++ later) last
 
 -- a piece that begins at a place begins there where the text before it has been read
-begins_here : (text : List ℕ) (from place : ℕ) (kind : PieceKind) (len : ℕ) → BeginsAt text from place kind len
-    → BeginsAt text place place kind len
-begins_here text from place K.Text len is = is
-begins_here text from place K.Escape len is = is
-begins_here text from place K.HardBreak len is = is
-begins_here text from place K.SoftBreak len is = is
-begins_here text from place K.Reference len is = is
-begins_here text from place (K.Code backticks) len is = (λ before. absurd (omega (arith, before)), is.1)
-begins_here text from place K.Uri len is = is
-begins_here text from place K.Email len is = is
-begins_here text from place K.Html len is = is
-begins_here text from place (K.Delimiters run) len is = is
-begins_here text from place K.LinkOpener len is = is
-begins_here text from place K.ImageOpener len is = is
-begins_here text from place K.Closer len is = is
+begins_here : (asked : InlineExtensions) (text : List ℕ) (from place : ℕ) (kind : PieceKind) (len : ℕ) → BeginsAt asked text from place kind len
+    → BeginsAt asked text place place kind len
+begins_here asked text from place K.Text len is = is
+begins_here asked text from place K.Escape len is = is
+begins_here asked text from place K.HardBreak len is = is
+begins_here asked text from place K.SoftBreak len is = is
+begins_here asked text from place K.Reference len is = is
+begins_here asked text from place (K.Code backticks) len is = (λ before. absurd (omega (arith, before)), is.1)
+begins_here asked text from place K.Uri len is = is
+begins_here asked text from place K.Email len is = is
+begins_here asked text from place K.Html len is = is
+begins_here asked text from place (K.Delimiters run) len is = is
+begins_here asked text from place K.LinkOpener len is = is
+begins_here asked text from place K.ImageOpener len is = is
+begins_here asked text from place K.Closer len is = is
 
-pub next_piece_at : (text : List ℕ) (from : ℕ) (piece : Piece) → IsNext text from piece → IsPieceAt text piece
-next_piece_at text from piece is = record {
+pub next_piece_at : (asked : InlineExtensions) (text : List ℕ) (from : ℕ) (piece : Piece) → IsNext asked text from piece → IsPieceAt asked text piece
+next_piece_at asked text from piece is = record {
   len = is.len;
-  begins = begins_here text from piece.start piece.kind is.len is.begins;
+  begins = begins_here asked text from piece.start piece.kind is.len is.begins;
   end_is = is.ends;
 }
 
 -- the next piece is read, and the text before it
-pub read_next : (known : Known) (from end : ℕ) (reading next : Reading) (piece : Piece) → IsNext reading.text from piece
-    → IsRead piece.kind known reading (record piece { end = end }) next → (later : List Piece) (last : Reading)
-    → AreRead known end next later last
-    → AreRead known from reading (text_between from piece.start ++ record piece { end = end } ∷ later) last
-read_next known from end reading next piece is read later last rest = by (nat_lt from piece.start) refl
+pub read_next : (setting : Setting) (from end : ℕ) (reading next : Reading) (piece : Piece) → IsNext setting.asked reading.text from piece
+    → IsRead piece.kind setting reading (record piece { end = end }) next → (later : List Piece) (last : Reading)
+    → AreRead setting end next later last
+    → AreRead setting from reading (text_between from piece.start ++ record piece { end = end } ∷ later) last
+read_next setting from end reading next piece is read later last rest = by (nat_lt from piece.start) refl
   where
     by : (test : Bool) → nat_lt from piece.start ≡ test
-        → AreRead known from reading
+        → AreRead setting from reading
         ((if test then record { kind = K.Text; start = from; end = piece.start } ∷ [] else []) ++ record piece { end = end } ∷ later) last
     by true some = (
       refl,
@@ -67,13 +68,13 @@ read_next known from end reading next piece is read later last rest = by (nat_lt
     by false none = (omega (arith, ltb-false from piece.start none, is.later), next, read, rest)
 
 -- text alone is read up to the end
-pub read_out : (known : Known) (from : ℕ) (reading : Reading) → from ≤ length reading.text
-    → HasOnlyText reading.text from (length reading.text)
-    → AreRead known from reading (text_between from (length reading.text)) reading
-read_out known from reading within only = by (nat_lt from (length reading.text)) refl
+pub read_out : (setting : Setting) (from : ℕ) (reading : Reading) → from ≤ length reading.text
+    → HasOnlyText setting.asked reading.text from (length reading.text)
+    → AreRead setting from reading (text_between from (length reading.text)) reading
+read_out setting from reading within only = by (nat_lt from (length reading.text)) refl
   where
     by : (test : Bool) → nat_lt from (length reading.text) ≡ test
-        → AreRead known from reading
+        → AreRead setting from reading
         (if test then record { kind = K.Text; start = from; end = length reading.text } ∷ [] else []) reading
     by true some = (
       refl,
@@ -104,7 +105,7 @@ closed_before known (opener ∷ outer) reading next close end place (inl link) b
 closed_before known (opener ∷ outer) reading next close end place (inr none) before all =
     subst (λ (r : Reading). AreBefore r.openers place) (sym none.next_is) before.1
 
-module _ (known : Known) (reading next : Reading) (piece : Piece) (some : piece.start ≤ piece.end)
+module _ (setting : Setting) (reading next : Reading) (piece : Piece) (some : piece.start ≤ piece.end)
     (before : AreBefore reading.openers piece.start) where
   stays : next ≡ reading → AreBefore next.openers piece.end
   stays same = subst (λ (r : Reading). AreBefore r.openers piece.end) (sym same) (before_later reading.openers piece.start piece.end some before)
@@ -115,7 +116,7 @@ module _ (known : Known) (reading next : Reading) (piece : Piece) (some : piece.
       (omega arith, before_later reading.openers piece.start piece.end some before)
 
   -- the openers that are left when a piece is read begin at its end or before it
-  pub read_before : (kind : PieceKind) → IsRead kind known reading piece next → AreBefore next.openers piece.end
+  pub read_before : (kind : PieceKind) → IsRead kind setting reading piece next → AreBefore next.openers piece.end
   read_before K.Text is = stays is.1
   read_before K.Escape is = stays is.1
   read_before K.HardBreak is = stays is.1
@@ -131,4 +132,4 @@ module _ (known : Known) (reading next : Reading) (piece : Piece) (some : piece.
   read_before K.ImageOpener is = begun true is.1
   read_before K.Closer is =
       before_later next.openers piece.start piece.end some
-      (closed_before known reading.openers reading next piece.start piece.end piece.start is.1 before before)
+      (closed_before setting.known reading.openers reading next piece.start piece.end piece.start is.1 before before)

@@ -5,10 +5,11 @@ use Rattle.std.specs.Prelude.{⊤, slice_get}
 use Rattle.std.proofs.lemmas.Bool.{ltb-false}
 use Rattle.markdown_inlines.specs.InlineLaws.{IsLinkOf, StandApart, HoldNoLinks}
 use Rattle.markdown_inlines.specs.Inlines.{Reading, at_start, with_opener, with_piece, with_link, may_begin, IsLink}
-use Rattle.markdown_inlines.specs.Inlines.{IsClosed, AreRead, IsCut}
+use Rattle.markdown_inlines.specs.Inlines.{Setting, IsClosed, AreRead, IsCut}
 use Rattle.markdown_inlines.specs.Links.{Known, IsTarget}
 use Rattle.markdown_inlines.specs.Pieces.{BeginsAt}
 use Rattle.markdown_inlines.specs.declared.emphasis.Emphasis.{Emphasis}
+use Rattle.markdown_inlines.specs.declared.extensions.InlineExtensions.{InlineExtensions}
 use Rattle.markdown_inlines.specs.declared.links.Link.{Link}
 use Rattle.markdown_inlines.specs.declared.links.LinkTarget.{LinkTarget}
 use Rattle.markdown_inlines.specs.declared.links.LinkTarget.TheVariants.{Inline, Full, Collapsed, Shortcut}
@@ -101,23 +102,24 @@ module _ (piece : Piece) (reading : Reading) (holds : Holds reading piece.start)
       old : (n : ℕ) (a : Link) → IsLinkOf (reading.links ++ None ∷ []) n a → IsLinkOf reading.links n a
       old n a is = (added_in reading.links n a is.0, is.1)
 
-  with_piece_holds : (text : List ℕ) (kind : PieceKind) (len : ℕ) → BeginsAt text piece.start piece.start kind len → piece.end ≡ piece.start + len
+  with_piece_holds : (asked : InlineExtensions) (text : List ℕ) (kind : PieceKind) (len : ℕ)
+      → BeginsAt asked text piece.start piece.start kind len → piece.end ≡ piece.start + len
       → Holds (with_piece kind piece reading) piece.end
-  with_piece_holds text K.Text len begins end = moved piece.end (omega (arith, end))
-  with_piece_holds text K.Escape len begins end = moved piece.end (omega (arith, end))
-  with_piece_holds text K.HardBreak len begins end = moved piece.end (omega (arith, end))
-  with_piece_holds text K.SoftBreak len begins end = moved piece.end (omega (arith, end))
-  with_piece_holds text K.Reference len begins end = moved piece.end (omega (arith, end))
-  with_piece_holds text (K.Code backticks) len begins end = moved piece.end (omega (arith, end))
-  with_piece_holds text K.Uri len begins end = moved piece.end (omega (arith, end))
-  with_piece_holds text K.Email len begins end = moved piece.end (omega (arith, end))
-  with_piece_holds text K.Html len begins end = moved piece.end (omega (arith, end))
-  with_piece_holds text (K.Delimiters run) len begins end =
+  with_piece_holds asked text K.Text len begins end = moved piece.end (omega (arith, end))
+  with_piece_holds asked text K.Escape len begins end = moved piece.end (omega (arith, end))
+  with_piece_holds asked text K.HardBreak len begins end = moved piece.end (omega (arith, end))
+  with_piece_holds asked text K.SoftBreak len begins end = moved piece.end (omega (arith, end))
+  with_piece_holds asked text K.Reference len begins end = moved piece.end (omega (arith, end))
+  with_piece_holds asked text (K.Code backticks) len begins end = moved piece.end (omega (arith, end))
+  with_piece_holds asked text K.Uri len begins end = moved piece.end (omega (arith, end))
+  with_piece_holds asked text K.Email len begins end = moved piece.end (omega (arith, end))
+  with_piece_holds asked text K.Html len begins end = moved piece.end (omega (arith, end))
+  with_piece_holds asked text (K.Delimiters run) len begins end =
       let same = moved piece.end (omega (arith, end)) in
       record { apart = same.apart; begun = same.begun; still_open = same.still_open }
-  with_piece_holds text K.LinkOpener len begins end = opened false (omega (arith, end, begins.1))
-  with_piece_holds text K.ImageOpener len begins end = opened true (omega (arith, end, begins.1))
-  with_piece_holds text K.Closer len begins end = moved piece.end (omega (arith, end))
+  with_piece_holds asked text K.LinkOpener len begins end = opened false (omega (arith, end, begins.1))
+  with_piece_holds asked text K.ImageOpener len begins end = opened true (omega (arith, end, begins.1))
+  with_piece_holds asked text K.Closer len begins end = moved piece.end (omega (arith, end))
 
 -- ---- right brackets
 
@@ -233,22 +235,22 @@ closed_holds known (opener ∷ outer) reading piece next are holds (inr is) =
 
 -- ---- the whole text
 
-read_holds : (known : Known) (reading : Reading) (piece : Piece) (next : Reading) → ReadAs known reading piece next
+read_holds : (setting : Setting) (reading : Reading) (piece : Piece) (next : Reading) → ReadAs setting reading piece next
     → Holds reading piece.start → Holds next piece.end
-read_holds known reading piece next (inl is) holds =
+read_holds setting reading piece next (inl is) holds =
     subst (λ r. Holds r piece.end) (sym is.next_is) (moved piece reading holds piece.end (omega (arith, is.is_text.some)))
-read_holds known reading piece next (inr (inl is)) holds = closed_holds known reading.openers reading piece next refl holds is.closed
-read_holds known reading piece next (inr (inr is)) holds =
+read_holds setting reading piece next (inr (inl is)) holds = closed_holds setting.known reading.openers reading piece next refl holds is.closed
+read_holds setting reading piece next (inr (inr is)) holds =
     subst (λ r. Holds r piece.end) (sym is.next_is)
-    (with_piece_holds piece reading holds reading.text piece.kind is.at.len is.at.begins is.at.end_is)
+    (with_piece_holds piece reading holds setting.asked reading.text piece.kind is.at.len is.at.begins is.at.end_is)
 
-all_hold : (known : Known) (place : ℕ) (reading : Reading) (pieces : List Piece) (last : Reading) → AreRead known place reading pieces last
+all_hold : (setting : Setting) (place : ℕ) (reading : Reading) (pieces : List Piece) (last : Reading) → AreRead setting place reading pieces last
     → Holds reading place → HoldNoLinks last.links
-all_hold known place reading [] last is holds = subst (λ (r : Reading). HoldNoLinks r.links) (sym is.1) holds.apart
-all_hold known place reading (piece ∷ later) last is holds =
-    let view = read_as known reading piece is.1 piece.kind refl is.2 in
-    let after = read_holds known reading piece is.1 view (subst (Holds reading) (sym is.0) holds) in
-    all_hold known piece.end is.1 later last is.3 after
+all_hold setting place reading [] last is holds = subst (λ (r : Reading). HoldNoLinks r.links) (sym is.1) holds.apart
+all_hold setting place reading (piece ∷ later) last is holds =
+    let view = read_as setting reading piece is.1 piece.kind refl is.2 in
+    let after = read_holds setting reading piece is.1 view (subst (Holds reading) (sym is.0) holds) in
+    all_hold setting piece.end is.1 later last is.3 after
 
 start_holds : (text : List ℕ) → Holds (at_start text) 0
 start_holds text = record {
@@ -258,7 +260,7 @@ start_holds text = record {
 }
 
 -- of the links of a text none holds another
-pub links_hold_none : (text : List ℕ) (known : Known) (pieces : List Piece) (links : List (Option Link)) (emphasis : List Emphasis)
-    → IsCut text known pieces links emphasis → HoldNoLinks links
-links_hold_none text known pieces links emphasis is =
-    subst HoldNoLinks (sym is.links_are) (all_hold known 0 (at_start text) pieces is.last is.read (start_holds text))
+pub links_hold_none : (text : List ℕ) (setting : Setting) (pieces : List Piece) (links : List (Option Link)) (emphasis : List Emphasis)
+    → IsCut text setting pieces links emphasis → HoldNoLinks links
+links_hold_none text setting pieces links emphasis is =
+    subst HoldNoLinks (sym is.links_are) (all_hold setting 0 (at_start text) pieces is.last is.read (start_holds text))

@@ -1,17 +1,20 @@
 -- The characters beside a run of delimiters, and where it ends.
-use Rattle.std.proofs.Common.{◌≡◌, ℕ, ◌+◌, ◌-◌, ◌<◌, ◌≤◌, ◌==◌, Bool, List, [], ◌∷◌, ◌++◌, length}
-use Rattle.std.proofs.Common.{drop, get_or, refl, sym, ap, ◌∙◌, subst, arith, inl, inr, Option, Some, None, append-nil}
+use Rattle.std.proofs.Common.{◌≡◌, ℕ, ◌+◌, ◌-◌, ◌<◌, ◌≤◌, ◌==◌, ◌⊎◌, Bool, List, [], ◌∷◌, ◌++◌, length}
+use Rattle.std.proofs.Common.{drop, get_or, take, refl, sym, ap, ◌∙◌, subst, arith, inl, inr, Option, Some, None, append-nil}
 use Rattle.std.specs.Prelude.{encode_utf8, MatchOption}
 use Rattle.std.specs.List.{prefix_len, last_or}
 use Rattle.std.specs.Str.{chars, IsUtf8, IsCharBoundary}
 use Rattle.std.proofs.lemmas.Bool.{cases_lt, lt-ltb, le-ltb, eqb-true, eq-eqb}
-use Rattle.std.proofs.lemmas.List.{get_or-drop, length-append, nil_from_length}
+use Rattle.std.proofs.lemmas.List.{get_or-drop, length-append, length-drop, nil_from_length, take_rest}
 use Rattle.std.proofs.lemmas.List.Sums.{prefix_len_passes, prefix_len-drop_yes}
 use Rattle.std.proofs.lemmas.Str.{chars-append, chars-nil, chars_past_char, IsUtf8-take, IsUtf8-drop, IsCharBoundary-after_ascii}
 use Rattle.std.proofs.Math.Utf8.{encode}
 use Rattle.std.proofs.Math.Seq.{take-append_seam, drop-append_seam}
+use Rattle.markdown_scanners_tree.specs.Ascii.{asterisk, tilde, underscore}
 use Rattle.markdown_inlines.specs.declared.delimiter_runs.DelimiterRun.{DelimiterRun}
-use Rattle.markdown_inlines.specs.DelimiterRuns.{IsDelimiterRun, can_open, can_close, char_before, char_after}
+use Rattle.markdown_inlines.specs.declared.extensions.InlineExtensions.{InlineExtensions}
+use Rattle.markdown_inlines.specs.DelimiterRuns.{IsDelimiterRun, IsTildeRun, IsRunOf, can_open, can_close, char_before, char_after}
+use Rattle.markdown_inlines.specs.DelimiterRuns.{is_left_flanking, is_right_flanking}
 
 -- a character begins with no continuation byte
 leads : (c : ℕ) (rest : List ℕ) → 128 ≤ get_or (encode_utf8 c ++ rest) 0 0 → 192 ≤ get_or (encode_utf8 c ++ rest) 0 0
@@ -80,18 +83,41 @@ module _ (text : List ℕ) (place count byte : ℕ) (counted : count ≡ prefix_
       subst (IsCharBoundary text) (omega (arith, some))
       (IsCharBoundary-after_ascii text (place + (count - 1)) utf8 (omega (arith, some, fits)) (omega (arith, last, ascii)))
 
+pub counted_from : (bytes text : List ℕ) (place byte count : ℕ) → bytes ≡ text
+    → count ≡ prefix_len (λ b. b == byte) (take (length bytes - place) (drop place bytes))
+    → count ≡ prefix_len (λ b. b == byte) (drop place text)
+counted_from bytes text place byte count same counted = counted ∙ ap (prefix_len (λ b. b == byte)) (take_rest bytes place ∙ ap (drop place) same)
+
+-- after a run of a byte that stands at a place a text may be cut
+module _ (bytes text : List ℕ) (place byte count : ℕ) (same : bytes ≡ text) (inside : place < length text) (there : get_or text place 0 ≡ byte)
+    (counted : count ≡ prefix_len (λ b. b == byte) (take (length bytes - place) (drop place bytes))) where
+  pub some_there : 0 < count
+  some_there = some_counted text place count byte (counted_from bytes text place byte count same counted) inside there
+
+  pub ends_there : byte < 128 → IsUtf8 text → count ≤ length (take (length bytes - place) (drop place bytes)) → IsCharBoundary text (place + count)
+  ends_there ascii utf8 fits =
+      run_ends text place count byte (counted_from bytes text place byte count same counted) some_there ascii
+      (omega (arith, fits, inside, ap length (take_rest bytes place ∙ ap (drop place) same), length-drop place text)) utf8
+
 same_run : {byte byte' count count' : ℕ} {opens opens' closes closes' : Bool} → byte ≡ byte' → count ≡ count' → opens ≡ opens' → closes ≡ closes'
     → ◌≡◌ {A = DelimiterRun} (record { byte = byte; count = count; can_open = opens; can_close = closes })
     (record { byte = byte'; count = count'; can_open = opens'; can_close = closes' })
 same_run b n o c = λ i. record { byte = b i; count = n i; can_open = o i; can_close = c i }
 
--- its byte stands at the place
-pub byte_at : (text : List ℕ) (place : ℕ) (run : DelimiterRun) → IsDelimiterRun text place run → run.byte ≡ get_or text place 0
-byte_at text place run is =
-    subst (λ k. run.byte ≡ get_or text k 0) (omega arith)
-    (sym (eqb-true (get_or (drop place text) 0 0) run.byte
-    (prefix_len_passes (λ b. b == run.byte) (drop place text) 0 0 (omega (arith, is.longest, is.some))))
+-- the byte of a run stands at its place
+byte_there : (text : List ℕ) (place byte count : ℕ) → 0 < count → count ≡ prefix_len (λ b. b == byte) (drop place text)
+    → byte ≡ get_or text place 0
+byte_there text place byte count some longest =
+    subst (λ k. byte ≡ get_or text k 0) (omega arith)
+    (sym (eqb-true (get_or (drop place text) 0 0) byte
+    (prefix_len_passes (λ b. b == byte) (drop place text) 0 0 (omega (arith, longest, some))))
     ∙ get_or-drop place text 0 0)
+
+pub byte_at : (text : List ℕ) (place : ℕ) (run : DelimiterRun) → IsDelimiterRun text place run → run.byte ≡ get_or text place 0
+byte_at text place run is = byte_there text place run.byte run.count is.some is.longest
+
+pub tilde_at : (text : List ℕ) (place : ℕ) (run : DelimiterRun) → IsTildeRun text place run → run.byte ≡ get_or text place 0
+tilde_at text place run is = byte_there text place run.byte run.count is.some is.longest
 
 -- one run begins at a place
 pub one_delimiter_run : (text : List ℕ) (place : ℕ) (a b : DelimiterRun) → IsDelimiterRun text place a → IsDelimiterRun text place b → a ≡ b
@@ -103,3 +129,39 @@ one_delimiter_run text place a b is_a is_b =
     ∙ ap (λ n. can_open b.byte (char_before text place) (char_after text (place + n))) count ∙ sym is_b.opens)
     (is_a.closes ∙ ap (λ c. can_close c (char_before text place) (char_after text (place + a.count))) byte
     ∙ ap (λ n. can_close b.byte (char_before text place) (char_after text (place + n))) count ∙ sym is_b.closes)
+
+one_tilde_run : (text : List ℕ) (place : ℕ) (a b : DelimiterRun) → IsTildeRun text place a → IsTildeRun text place b → a ≡ b
+one_tilde_run text place a b is_a is_b =
+    let byte : a.byte ≡ b.byte = is_a.delimiter ∙ sym is_b.delimiter in
+    let count : a.count ≡ b.count = is_a.longest ∙ ap (λ c. prefix_len (λ x. x == c) (drop place text)) byte ∙ sym is_b.longest in
+    same_run byte count
+    (is_a.opens ∙ ap (λ n. is_left_flanking (char_before text place) (char_after text (place + n))) count ∙ sym is_b.opens)
+    (is_a.closes ∙ ap (λ n. is_right_flanking (char_before text place) (char_after text (place + n))) count ∙ sym is_b.closes)
+
+-- where one of the two delimiters stands no run of tildes does
+pub no_tilde_run : (text : List ℕ) (place : ℕ) (run : DelimiterRun) → (get_or text place 0 ≡ asterisk) ⊎ (get_or text place 0 ≡ underscore)
+    → ¬ IsTildeRun text place run
+no_tilde_run text place run (inl there) is = omega (arith, there, tilde_at text place run is, is.delimiter)
+no_tilde_run text place run (inr there) is = omega (arith, there, tilde_at text place run is, is.delimiter)
+
+delimiter_there : (text : List ℕ) (place : ℕ) (run : DelimiterRun) → IsDelimiterRun text place run
+    → (get_or text place 0 ≡ asterisk) ⊎ (get_or text place 0 ≡ underscore)
+delimiter_there text place run is = elim is.delimiter [
+  | inl star ↦ inl (sym (byte_at text place run is) ∙ star)
+  | inr line ↦ inr (sym (byte_at text place run is) ∙ line)
+]
+
+-- where a tilde stands no other run does
+pub no_other_run : (text : List ℕ) (place : ℕ) (run : DelimiterRun) → get_or text place 0 ≡ tilde → ¬ IsDelimiterRun text place run
+no_other_run text place run there is = elim (delimiter_there text place run is) [
+  | inl star ↦ omega (arith, there, star)
+  | inr line ↦ omega (arith, there, line)
+]
+
+-- whatever is asked for, one run begins at a place
+pub one_run_of : (asked : InlineExtensions) (text : List ℕ) (place : ℕ) (a b : DelimiterRun) → IsRunOf asked text place a → IsRunOf asked text place b
+    → a ≡ b
+one_run_of asked text place a b (inl is_a) (inl is_b) = one_delimiter_run text place a b is_a is_b
+one_run_of asked text place a b (inl is_a) (inr is_b) = absurd (no_tilde_run text place b (delimiter_there text place a is_a) is_b.1)
+one_run_of asked text place a b (inr is_a) (inl is_b) = absurd (no_tilde_run text place a (delimiter_there text place b is_b) is_a.1)
+one_run_of asked text place a b (inr is_a) (inr is_b) = one_tilde_run text place a b is_a.1 is_b.1

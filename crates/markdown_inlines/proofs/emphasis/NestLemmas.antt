@@ -20,6 +20,10 @@ pub all_of : {X : Type 0} (P Q : X → Type 0) → ((x : X) → P x → Q x) →
 all_of P Q each [] all = tt
 all_of P Q each (x ∷ xs) all = (each x all.0, all_of P Q each xs all.1)
 
+pub all_at : {X : Type 0} (P : X → Type 0) (xs : List X) (y : X) (ys : List X) → AllByRecursion P (xs ++ y ∷ ys) → P y
+all_at P [] y ys all = all.0
+all_at P (x ∷ xs) y ys all = all_at P xs y ys all.1
+
 found_in : (b : Bool) (found : Delimiters × List Delimiters) (rest : Option (Delimiters × List Delimiters)) (r : Delimiters × List Delimiters)
     → (if b then Some found else rest) ≡ Some r → ((b ≡ true) × (found ≡ r)) ⊎ (rest ≡ Some r)
 found_in true found rest r is = inl (refl, (let same : Some found ≡ Some r = is in cc))

@@ -20,13 +20,14 @@ use Rattle.markdown_scanners_tree.specs.scanners.links.Autolink.{IsUriAutolink}
 use Rattle.markdown_inlines.specs.Emails.{IsEmailAutolink}
 use Rattle.markdown_inlines.specs.LineBreaks.{IsLineBreak}
 use Rattle.markdown_inlines.specs.Pieces.{BeginsAt, HasOnlyText, IsEscape, IsHtmlPiece, IsNext, IsTagPiece}
+use Rattle.markdown_inlines.specs.declared.extensions.InlineExtensions.{InlineExtensions}
 use Rattle.markdown_inlines.specs.declared.line_breaks.LineBreak.{LineBreak}
 use Rattle.markdown_inlines.specs.declared.pieces.Piece.{Piece}
 use Rattle.markdown_inlines.specs.declared.pieces.PieceKind.{PieceKind}
 use Rattle.markdown_inlines.specs.declared.pieces.PieceKind.TheVariants.{Text, Escape, HardBreak, SoftBreak, Reference, Code, Uri, Email, Html}
 use Rattle.markdown_inlines.specs.declared.pieces.PieceKind.TheVariants.{Delimiters, LinkOpener, ImageOpener, Closer}
 use Rattle.markdown_inlines.proofs.code_spans.CodeSpanLemmas.{one_code_span}
-use Rattle.markdown_inlines.proofs.delimiter_runs.DelimiterRunLemmas.{one_delimiter_run}
+use Rattle.markdown_inlines.proofs.delimiter_runs.DelimiterRunLemmas.{one_run_of}
 use Rattle.markdown_inlines.proofs.emails.EmailLemmas.{one_email}
 use Rattle.markdown_inlines.proofs.line_breaks.LineBreakLemmas.{before_length, before_only, one_line_break}
 use Rattle.markdown_inlines.proofs.pieces.NoSkipTags.{kept_of_source}
@@ -115,21 +116,21 @@ one_html text place n n' (inr found) (inr found') =
 
 -- ---- all kinds
 
-module _ (text : List ℕ) (from place len' : ℕ) where
+module _ (asked : InlineExtensions) (text : List ℕ) (from place len' : ℕ) where
   abbrev Is : PieceKind → ℕ → PieceKind → Type 0
-  Is kind len kind' = BeginsAt text from place kind' len' → (kind ≡ kind') × (len ≡ len')
+  Is kind len kind' = BeginsAt asked text from place kind' len' → (kind ≡ kind') × (len ≡ len')
 
-  same_class : (kind kind' : PieceKind) (len : ℕ) → BeginsAt text from place kind len → BeginsAt text from place kind' len'
+  same_class : (kind kind' : PieceKind) (len : ℕ) → BeginsAt asked text from place kind len → BeginsAt asked text from place kind' len'
       → kind_class kind ≡ kind_class kind'
-  same_class kind kind' len b b' = sym (begins_class text from place kind len b) ∙ begins_class text from place kind' len' b'
+  same_class kind kind' len b b' = sym (begins_class asked text from place kind len b) ∙ begins_class asked text from place kind' len' b'
 
   first_is : (bytes bytes' : List ℕ) → occurs_at text bytes place ≡ true → occurs_at text bytes' place ≡ true
       → 0 < length bytes → 0 < length bytes' → get_or bytes 0 0 ≡ get_or bytes' 0 0
   first_is bytes bytes' is is' some some' =
       sym ((OccursAt-true text bytes place is).reads 0 some) ∙ (OccursAt-true text bytes' place is').reads 0 some'
 
-  pub one_piece : (kind : PieceKind) (len : ℕ) (kind' : PieceKind) → BeginsAt text from place kind len
-      → BeginsAt text from place kind' len' → (kind ≡ kind') × (len ≡ len')
+  pub one_piece : (kind : PieceKind) (len : ℕ) (kind' : PieceKind) → BeginsAt asked text from place kind len
+      → BeginsAt asked text from place kind' len' → (kind ≡ kind') × (len ≡ len')
   one_piece Text len kind' b b' = absurd b
   one_piece Escape len kind' b b' =
       only_break (Is Escape len) kind' (same_class Escape kind' len b b')
@@ -179,7 +180,7 @@ module _ (text : List ℕ) (from place len' : ℕ) where
   one_piece (Delimiters run) len kind' b b' =
       only_delimiters (Is (Delimiters run) len) kind' (same_class (Delimiters run) kind' len b b')
       (λ run' is.
-      let same = one_delimiter_run text place run run' b.0 is.0 in
+      let same = one_run_of asked text place run run' b.0 is.0 in
       (ap (λ r. Delimiters r) same, b.1 ∙ ap (λ r. r.count) same ∙ sym is.1)) b'
   one_piece LinkOpener len kind' b b' =
       only_bracket (Is LinkOpener len) kind' (same_class LinkOpener kind' len b b')
@@ -198,10 +199,10 @@ module _ (text : List ℕ) (from place len' : ℕ) where
       (λ is. (refl, b.1 ∙ sym is.1)) b'
 
 -- the next piece begins at one place
-same_start : (text : List ℕ) (from start start' : ℕ) (kind kind' : PieceKind) (len len' : ℕ) → from ≤ start → from ≤ start'
-    → HasOnlyText text from start → HasOnlyText text from start' → BeginsAt text from start kind len
-    → BeginsAt text from start' kind' len' → start ≡ start'
-same_start text from start start' kind kind' len len' low low' only only' begins begins' = elim (cases_lt start start') [
+same_start : (asked : InlineExtensions) (text : List ℕ) (from start start' : ℕ) (kind kind' : PieceKind) (len len' : ℕ) → from ≤ start → from ≤ start'
+    → HasOnlyText asked text from start → HasOnlyText asked text from start' → BeginsAt asked text from start kind len
+    → BeginsAt asked text from start' kind' len' → start ≡ start'
+same_start asked text from start start' kind kind' len len' low low' only only' begins begins' = elim (cases_lt start start') [
   | inl less ↦ absurd (only' start low less kind len begins)
   | inr not_less ↦ elim (cases_lt start' start) [
     | inl more ↦ absurd (only start' low' more kind' len' begins')
@@ -213,11 +214,11 @@ pub same_piece : {kind kind' : PieceKind} {start start' end end' : ℕ} → kind
     → ◌≡◌ {A = Piece} (record { kind = kind; start = start; end = end }) (record { kind = kind'; start = start'; end = end' })
 same_piece kinds starts ends = λ i. record { kind = kinds i; start = starts i; end = ends i }
 
-pub one_next : (text : List ℕ) (from : ℕ) (a b : Piece) → IsNext text from a → IsNext text from b → a ≡ b
-one_next text from a b is_a is_b =
+pub one_next : (asked : InlineExtensions) (text : List ℕ) (from : ℕ) (a b : Piece) → IsNext asked text from a → IsNext asked text from b → a ≡ b
+one_next asked text from a b is_a is_b =
     let start : a.start ≡ b.start =
-    same_start text from a.start b.start a.kind b.kind is_a.len is_b.len is_a.later is_b.later is_a.only_text is_b.only_text
+    same_start asked text from a.start b.start a.kind b.kind is_a.len is_b.len is_a.later is_b.later is_a.only_text is_b.only_text
     is_a.begins is_b.begins in
-    let there = subst (λ p. BeginsAt text from p b.kind is_b.len) (sym start) is_b.begins in
-    let same = one_piece text from a.start is_b.len a.kind is_a.len b.kind is_a.begins there in
+    let there = subst (λ p. BeginsAt asked text from p b.kind is_b.len) (sym start) is_b.begins in
+    let same = one_piece asked text from a.start is_b.len a.kind is_a.len b.kind is_a.begins there in
     same_piece same.0 start (omega (arith, is_a.ends, is_b.ends, start, same.1))

@@ -9,7 +9,7 @@ use Rattle.std.proofs.lemmas.List.{get_or-drop}
 use Rattle.memchr.specs.Find.{occurs_at}
 use Rattle.memchr.proofs.lemmas.MatchLemmas.{OccursAt-true}
 use Rattle.markdown_scanners_tree.specs.Ascii.{ampersand, asterisk, backslash, backtick, exclamation_mark, left_bracket, less_than_sign}
-use Rattle.markdown_scanners_tree.specs.Ascii.{question_mark, right_bracket, space, underscore}
+use Rattle.markdown_scanners_tree.specs.Ascii.{question_mark, right_bracket, space, tilde, underscore}
 use Rattle.markdown_scanners_tree.specs.Bytes.{line_ending}
 use Rattle.markdown_scanners_tree.specs.inline_html.InlineHtml.{Nothing, end_of, ends_opener, find_at, opener_before, opening_at}
 use Rattle.markdown_scanners_tree.specs.scanners.html_tag.HtmlTag.{IsTag}
@@ -17,11 +17,12 @@ use Rattle.markdown_scanners_tree.proofs.ForCallers.{first-line_ending}
 use Rattle.markdown_inlines.specs.LineBreaks.{IsLineBreak}
 use Rattle.markdown_inlines.specs.PieceBytes.{is_plain, opens_break, opens_bracket, opens_long}
 use Rattle.markdown_inlines.specs.Pieces.{BeginsAt, IsEscape, IsHtmlPiece, IsTagPiece}
+use Rattle.markdown_inlines.specs.declared.extensions.InlineExtensions.{InlineExtensions}
 use Rattle.markdown_inlines.specs.declared.line_breaks.LineBreak.{LineBreak}
 use Rattle.markdown_inlines.specs.declared.pieces.PieceKind.{PieceKind}
 use Rattle.markdown_inlines.specs.declared.pieces.PieceKind.TheVariants.{Text, Escape, HardBreak, SoftBreak, Reference, Code, Uri, Email, Html}
 use Rattle.markdown_inlines.specs.declared.pieces.PieceKind.TheVariants.{Delimiters, LinkOpener, ImageOpener, Closer}
-use Rattle.markdown_inlines.proofs.delimiter_runs.DelimiterRunLemmas.{byte_at}
+use Rattle.markdown_inlines.proofs.delimiter_runs.DelimiterRunLemmas.{byte_at, tilde_at}
 
 -- Kinds that begin with the same bytes have one number, and so have those bytes.
 abbrev pub kind_class : PieceKind → ℕ
@@ -42,7 +43,7 @@ kind_class Closer = 6
 abbrev pub byte_class : ℕ → ℕ
 byte_class b =
     cond (opens_break b) 1 (cond (b == ampersand) 2 (cond (b == backtick) 3
-    (cond (b == less_than_sign) 4 (cond (b == asterisk || b == underscore) 5 (cond (opens_bracket b) 6 0)))))
+    (cond (b == less_than_sign) 4 (cond (b == asterisk || b == underscore || b == tilde) 5 (cond (opens_bracket b) 6 0)))))
 
 pub only_break : (P : PieceKind → Type 0) (kind : PieceKind) → 1 ≡ kind_class kind
     → P Escape → P HardBreak → P SoftBreak → P kind
@@ -267,24 +268,27 @@ pub run_class : (byte : ℕ) → (byte ≡ asterisk) ⊎ (byte ≡ underscore) �
 run_class byte (inl is) = ap byte_class is
 run_class byte (inr is) = ap byte_class is
 
-pub begins_class : (text : List ℕ) (from place : ℕ) (kind : PieceKind) (len : ℕ) → BeginsAt text from place kind len
+pub begins_class : (asked : InlineExtensions) (text : List ℕ) (from place : ℕ) (kind : PieceKind) (len : ℕ) → BeginsAt asked text from place kind len
     → byte_class (get_or text place 0) ≡ kind_class kind
-begins_class text from place Text len begins = absurd begins
-begins_class text from place Escape len begins = ap byte_class (front text place _ _ begins.parts)
-begins_class text from place HardBreak len begins = break_class text place _ begins
-begins_class text from place SoftBreak len begins = break_class text place _ begins
-begins_class text from place Reference len begins = ap byte_class (front text place _ _ begins.opens)
-begins_class text from place (Code backticks) len begins =
+begins_class asked text from place Text len begins = absurd begins
+begins_class asked text from place Escape len begins = ap byte_class (front text place _ _ begins.parts)
+begins_class asked text from place HardBreak len begins = break_class text place _ begins
+begins_class asked text from place SoftBreak len begins = break_class text place _ begins
+begins_class asked text from place Reference len begins = ap byte_class (front text place _ _ begins.opens)
+begins_class asked text from place (Code backticks) len begins =
     ap byte_class (ap (λ k. get_or text k 0) (sym (add-zero place)) ∙ sym (get_or-drop place text 0 0)
     ∙ begins.1.is_span.opens.backticks 0 begins.1.is_span.opens.some)
-begins_class text from place Uri len begins = ap byte_class (front text place _ _ begins.opens)
-begins_class text from place Email len begins = ap byte_class (front text place _ _ begins.1.opens)
-begins_class text from place Html len begins = ap byte_class (html_front text place len begins.2)
-begins_class text from place (Delimiters run) len begins =
-    ap byte_class (sym (byte_at text place run begins.0)) ∙ run_class run.byte begins.0.delimiter
-begins_class text from place LinkOpener len begins = ap byte_class (occurs_front text (codes "[") place begins.0 (omega arith))
-begins_class text from place ImageOpener len begins = ap byte_class (occurs_front text (codes "![") place begins.0 (omega arith))
-begins_class text from place Closer len begins = ap byte_class (occurs_front text (codes "]") place begins.0 (omega arith))
+begins_class asked text from place Uri len begins = ap byte_class (front text place _ _ begins.opens)
+begins_class asked text from place Email len begins = ap byte_class (front text place _ _ begins.1.opens)
+begins_class asked text from place Html len begins = ap byte_class (html_front text place len begins.2)
+begins_class asked text from place (Delimiters run) len begins =
+    elim begins.0 [
+      | inl is ↦ ap byte_class (sym (byte_at text place run is)) ∙ run_class run.byte is.delimiter
+      | inr is ↦ ap byte_class (sym (tilde_at text place run is.1) ∙ is.1.delimiter)
+    ]
+begins_class asked text from place LinkOpener len begins = ap byte_class (occurs_front text (codes "[") place begins.0 (omega arith))
+begins_class asked text from place ImageOpener len begins = ap byte_class (occurs_front text (codes "![") place begins.0 (omega arith))
+begins_class asked text from place Closer len begins = ap byte_class (occurs_front text (codes "]") place begins.0 (omega arith))
 
 -- the class of a byte that a test accepts
 pub break_byte_class : (b : ℕ) → opens_break b ≡ true → byte_class b ≡ 1
@@ -303,10 +307,10 @@ bracket_class b opens = elim (cases_Bool (b == exclamation_mark)) [
 ]
 
 -- no piece begins with a plain byte
-pub plain_begins_none : (text : List ℕ) (from place : ℕ) → is_plain (get_or text place 0) ≡ true → (kind : PieceKind) (len : ℕ)
-    → ¬ BeginsAt text from place kind len
-plain_begins_none text from place plain kind len begins =
-    no_kind kind (sym (plain_class (get_or text place 0) plain) ∙ begins_class text from place kind len begins)
+pub plain_begins_none : (asked : InlineExtensions) (text : List ℕ) (from place : ℕ) → is_plain (get_or text place 0) ≡ true → (kind : PieceKind) (len : ℕ)
+    → ¬ BeginsAt asked text from place kind len
+plain_begins_none asked text from place plain kind len begins =
+    no_kind kind (sym (plain_class (get_or text place 0) plain) ∙ begins_class asked text from place kind len begins)
 
 pub plain_from : (b : ℕ) → opens_break b ≡ false → opens_bracket b ≡ false → opens_long b ≡ false → (b ≡ ampersand → ⊥)
     → is_plain b ≡ true

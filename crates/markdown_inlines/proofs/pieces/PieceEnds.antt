@@ -22,9 +22,11 @@ use Rattle.markdown_scanners_tree.proofs.ForCallers.{cut_behind_ascii, place_of_
 use Rattle.markdown_scanners_tree.proofs.PrefixLemmas.{from_place}
 use Rattle.markdown_scanners_tree.proofs.inline_html.LeastPlaces.{first_place-FindsNeedle}
 use Rattle.markdown_scanners_tree.proofs.inline_html.ScanBounds.{end_of-bounds}
-use Rattle.markdown_inlines.specs.DelimiterRuns.{IsDelimiterRun}
+use Rattle.markdown_inlines.specs.DelimiterRuns.{IsRunOf}
 use Rattle.markdown_inlines.specs.LineBreaks.{IsLineBreak}
 use Rattle.markdown_inlines.specs.Pieces.{BeginsAt, IsCodePiece, IsHtmlPiece}
+use Rattle.markdown_inlines.specs.declared.delimiter_runs.DelimiterRun.{DelimiterRun}
+use Rattle.markdown_inlines.specs.declared.extensions.InlineExtensions.{InlineExtensions}
 use Rattle.markdown_inlines.specs.declared.line_breaks.LineBreak.{LineBreak}
 use Rattle.markdown_inlines.specs.declared.pieces.PieceKind.{PieceKind}
 use Rattle.markdown_inlines.specs.declared.pieces.PieceKind.TheVariants.{Text, Escape, HardBreak, SoftBreak, Reference, Code, Uri, Email, Html}
@@ -153,11 +155,11 @@ some_break text before [] ending len parts ends counted goes_on =
 some_break text before (c ∷ after) ending len parts ends counted goes_on =
     omega (arith, counted, some_ending (c == 10) (c == 13) (begins_with (λ b. b == 10) after) ending ends)
 
-front_ascii : (text : List ℕ) (from place : ℕ) (kind : PieceKind) (len : ℕ) → BeginsAt text from place kind len
+front_ascii : (asked : InlineExtensions) (text : List ℕ) (from place : ℕ) (kind : PieceKind) (len : ℕ) → BeginsAt asked text from place kind len
     → get_or text place 0 < 128
-front_ascii text from place kind len begins = elim (cases_lt (get_or text place 0) 128) [
+front_ascii asked text from place kind len begins = elim (cases_lt (get_or text place 0) 128) [
   | inl low ↦ low
-  | inr high ↦ absurd (no_kind kind (sym (none (get_or text place 0) high) ∙ begins_class text from place kind len begins))
+  | inr high ↦ absurd (no_kind kind (sym (none (get_or text place 0) high) ∙ begins_class asked text from place kind len begins))
 ]
   where
     none : (b : ℕ) → 128 ≤ b → byte_class b ≡ 0
@@ -165,18 +167,18 @@ front_ascii text from place kind len begins = elim (cases_lt (get_or text place 
         let other = λ (c : ℕ) (low : c < 128). ne_eqb b c (λ is. absurd (omega (arith, is, low, high))) in
         rw (other 92 (omega arith), other 32 (omega arith), other 10 (omega arith), other 13 (omega arith))
         (rw (other 38 (omega arith), other 96 (omega arith), other 60 (omega arith), other 42 (omega arith))
-        (rw (other 95 (omega arith), other 33 (omega arith), other 91 (omega arith), other 93 (omega arith)) refl))
+        (rw (other 95 (omega arith), other 33 (omega arith), other 91 (omega arith), other 93 (omega arith), other 126 (omega arith)) refl))
 
 -- a piece begins where a text may be cut
-pub starts_cut : (text : List ℕ) (from place : ℕ) (kind : PieceKind) (len : ℕ) → BeginsAt text from place kind len
+pub starts_cut : (asked : InlineExtensions) (text : List ℕ) (from place : ℕ) (kind : PieceKind) (len : ℕ) → BeginsAt asked text from place kind len
     → place ≤ length text → IsCharBoundary text place
-starts_cut text from place kind len begins within =
-    let low = front_ascii text from place kind len begins in
+starts_cut asked text from place kind len begins within =
+    let low = front_ascii asked text from place kind len begins in
     (within, λ inside high. absurd (omega (arith, low, high)))
 
-break_part : (text : List ℕ) (from place : ℕ) (kind : PieceKind) (break : LineBreak) → BeginsAt text from place kind break.len
+break_part : (asked : InlineExtensions) (text : List ℕ) (from place : ℕ) (kind : PieceKind) (break : LineBreak) → BeginsAt asked text from place kind break.len
     → place ≤ length text → IsLineBreak (drop place text) break → IsPart text place break.len
-break_part text from place kind break begins inside is =
+break_part asked text from place kind break begins inside is =
     let rest = drop place text in
     let only = before_only rest is.before is.after is.ending break.is_hard is.parts is.is_before is.ends in
     let n = length is.before in
@@ -192,7 +194,7 @@ break_part text from place kind break begins inside is =
     record {
       some = some_break rest is.before is.after is.ending break.len is.parts is.ends (omega (arith, is.counted)) is.goes_on;
       within = omega (arith, is.goes_on, length_is);
-      cut = λ utf8. place_of_rest rest text place break.len refl utf8 (λ _. starts_cut text from place kind break.len begins inside)
+      cut = λ utf8. place_of_rest rest text place break.len refl utf8 (λ _. starts_cut asked text from place kind break.len begins inside)
           (λ rest_utf8. subst (IsCharBoundary rest) (sym is.counted)
           (cut_behind_break rest n is.ending spaces only.0 (omega (arith, whole)) ends (omega (arith, within)) spaced within rest_utf8));
     }
@@ -206,43 +208,51 @@ occurs_part text bytes place occurs some ascii =
     let at = ap (λ k. get_or text k 0) index ∙ is.reads (length bytes - 1) (omega (arith, some)) in
     by_last text place (length bytes) some is.fits (omega (arith, at, ascii))
 
-run_part : (text : List ℕ) (place len : ℕ) (run : _) → IsDelimiterRun text place run → len ≡ run.count → IsPart text place len
-run_part text place len run is counted =
+run_part : (text : List ℕ) (place len : ℕ) (run : DelimiterRun) → run.byte < 128 → 0 < run.count
+    → run.count ≡ prefix_len (λ b. b == run.byte) (drop place text) → len ≡ run.count → IsPart text place len
+run_part text place len run ascii some longest counted =
     let inside = prefix_len-le-length (λ b. b == run.byte) (drop place text) in
     let length_is = length-drop place text in
-    let within : place + run.count ≤ length text = omega (arith, inside, is.longest, is.some, length_is) in
-    let ascii : run.byte < 128 = elim is.delimiter [ inl b ↦ omega (arith, b) | inr b ↦ omega (arith, b) ] in
+    let within : place + run.count ≤ length text = omega (arith, inside, longest, some, length_is) in
     record {
-      some = omega (arith, is.some, counted);
+      some = omega (arith, some, counted);
       within = omega (arith, within, counted);
       cut = λ utf8. subst (λ n. IsCharBoundary text (place + n)) (sym counted)
-          (run_ends text place run.count run.byte is.longest is.some ascii within utf8);
+          (run_ends text place run.count run.byte longest some ascii within utf8);
     }
 
-pub piece_part : (text : List ℕ) (from place : ℕ) (kind : PieceKind) (len : ℕ) → place ≤ length text
-    → BeginsAt text from place kind len → IsPart text place len
-piece_part text from place Text len inside begins = absurd begins
-piece_part text from place Escape len inside begins =
+run_of_part : (asked : InlineExtensions) (text : List ℕ) (place len : ℕ) (run : DelimiterRun) → IsRunOf asked text place run → len ≡ run.count
+    → IsPart text place len
+run_of_part asked text place len run (inl is) counted =
+    let ascii : run.byte < 128 = elim is.delimiter [ inl b ↦ omega (arith, b) | inr b ↦ omega (arith, b) ] in
+    run_part text place len run ascii is.some is.longest counted
+run_of_part asked text place len run (inr is) counted =
+    run_part text place len run (omega (arith, is.1.delimiter)) is.1.some is.1.longest counted
+
+pub piece_part : (asked : InlineExtensions) (text : List ℕ) (from place : ℕ) (kind : PieceKind) (len : ℕ) → place ≤ length text
+    → BeginsAt asked text from place kind len → IsPart text place len
+piece_part asked text from place Text len inside begins = absurd begins
+piece_part asked text from place Escape len inside begins =
     by_parts text place len begins.escaped (92 ∷ []) begins.after begins.parts begins.counted
     (punctuation_ascii begins.escaped begins.punctuation)
-piece_part text from place HardBreak len inside begins = break_part text from place HardBreak _ begins inside begins
-piece_part text from place SoftBreak len inside begins = break_part text from place SoftBreak _ begins inside begins
-piece_part text from place Reference len inside begins =
+piece_part asked text from place HardBreak len inside begins = break_part asked text from place HardBreak _ begins inside begins
+piece_part asked text from place SoftBreak len inside begins = break_part asked text from place SoftBreak _ begins inside begins
+piece_part asked text from place Reference len inside begins =
     let is = begins.is_reference in
     reference_part _ text place len is.source is.rest begins.meaning is.splits is.n_is_length is.is_reference
-piece_part text from place (Code backticks) len inside begins = code_part text place backticks len begins.1
-piece_part text from place Uri len inside begins =
+piece_part asked text from place (Code backticks) len inside begins = code_part text place backticks len begins.1
+piece_part asked text from place Uri len inside begins =
     by_parts text place len 62 (60 ∷ begins.uri) begins.is_uri.rest
     (begins.opens ∙ ap (λ t. 60 ∷ t) begins.is_uri.parts) (omega (arith, begins.counted)) (omega arith)
-piece_part text from place Email len inside begins =
+piece_part asked text from place Email len inside begins =
     let is = begins.1 in
     by_parts text place len 62 (60 ∷ is.address) is.is_address.rest
     (is.opens ∙ ap (λ t. 60 ∷ t) is.is_address.parts) (omega (arith, is.counted)) (omega arith)
-piece_part text from place Html len inside begins = html_part text place len begins.2
-piece_part text from place (Delimiters run) len inside begins = run_part text place len run begins.0 begins.1
-piece_part text from place LinkOpener len inside begins =
+piece_part asked text from place Html len inside begins = html_part text place len begins.2
+piece_part asked text from place (Delimiters run) len inside begins = run_of_part asked text place len run begins.0 begins.1
+piece_part asked text from place LinkOpener len inside begins =
     subst (IsPart text place) (sym begins.1) (occurs_part text (codes "[") place begins.0 (omega arith) (omega arith))
-piece_part text from place ImageOpener len inside begins =
+piece_part asked text from place ImageOpener len inside begins =
     subst (IsPart text place) (sym begins.1) (occurs_part text (codes "![") place begins.0 (omega arith) (omega arith))
-piece_part text from place Closer len inside begins =
+piece_part asked text from place Closer len inside begins =
     subst (IsPart text place) (sym begins.1) (occurs_part text (codes "]") place begins.0 (omega arith) (omega arith))

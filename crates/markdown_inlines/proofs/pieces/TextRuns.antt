@@ -13,6 +13,7 @@ use Rattle.markdown_scanners_tree.proofs.PrefixLemmas.{from_place}
 use Rattle.markdown_inlines.specs.LineBreaks.{IsLineBreak}
 use Rattle.markdown_inlines.specs.PieceBytes.{is_plain, is_word_space, opens_break, plain_length, run_length}
 use Rattle.markdown_inlines.specs.Pieces.{BeginsAt, HasOnlyText}
+use Rattle.markdown_inlines.specs.declared.extensions.InlineExtensions.{InlineExtensions}
 use Rattle.markdown_inlines.specs.declared.line_breaks.LineBreak.{LineBreak}
 use Rattle.markdown_inlines.specs.declared.pieces.PieceKind.{PieceKind}
 use Rattle.markdown_inlines.specs.declared.pieces.PieceKind.TheVariants.{HardBreak, SoftBreak}
@@ -71,16 +72,16 @@ no_break text rest parts plain break is =
     let after : is.after ≡ rest = only.1 ∙ ap (λ k. drop k text) one ∙ ap (drop 1) parts in
     no_ending rest is.ending plain (ap line_ending (sym after) ∙ is.ends)
 
-word_space_none : (bytes : List ℕ) (from p : ℕ) → get_or bytes p 0 ≡ 32 → begins_with is_plain (drop (p + 1) bytes) ≡ true
-    → (kind : PieceKind) (len : ℕ) → ¬ BeginsAt bytes from p kind len
-word_space_none bytes from p here plain kind len begins =
+word_space_none : (asked : InlineExtensions) (bytes : List ℕ) (from p : ℕ) → get_or bytes p 0 ≡ 32 → begins_with is_plain (drop (p + 1) bytes) ≡ true
+    → (kind : PieceKind) (len : ℕ) → ¬ BeginsAt asked bytes from p kind len
+word_space_none asked bytes from p here plain kind len begins =
     let inside : p < length bytes = elim (cases_lt p (length bytes)) [
       | inl is ↦ is
       | inr past ↦ absurd (omega (arith, here, get_or-eq_default bytes 0 past))
     ] in
     let parts : drop p bytes ≡ 32 ∷ drop (p + 1) bytes = drop_more bytes p 0 inside ∙ ap (λ b. b ∷ drop (p + 1) bytes) here in
-    let same = sym (ap byte_class here) ∙ begins_class bytes from p kind len begins in
-    only_break (λ k. BeginsAt bytes from p k len → ⊥) kind same
+    let same = sym (ap byte_class here) ∙ begins_class asked bytes from p kind len begins in
+    only_break (λ k. BeginsAt asked bytes from p k len → ⊥) kind same
     (λ is.
     let first = sym (ap (λ t. get_or t 0 0) parts) ∙ ap (λ t. get_or t 0 0) is.parts in
     omega (arith, first))
@@ -129,16 +130,16 @@ module _ (bytes : List ℕ) (place plain : ℕ) (counted : plain ≡ plain_lengt
         | inr is ↦ inr (sym here ∙ is.0, ap (begins_with is_plain) (sym after) ∙ is.1)
       ]
 
-  plain_none : (from p : ℕ) → place ≤ p → p < place + plain → (kind : PieceKind) (len : ℕ) → ¬ BeginsAt bytes from p kind len
-  plain_none from p low high kind len =
+  plain_none : (asked : InlineExtensions) (from p : ℕ) → place ≤ p → p < place + plain → (kind : PieceKind) (len : ℕ) → ¬ BeginsAt asked bytes from p kind len
+  plain_none asked from p low high kind len =
       let next : p + 1 ≡ suc p = omega arith in
       elim (case_at p low high) [
-        | inl is ↦ plain_begins_none bytes from p is kind len
-        | inr is ↦ word_space_none bytes from p is.0 (ap (λ k. begins_with is_plain (drop k bytes)) next ∙ is.1) kind len
+        | inl is ↦ plain_begins_none asked bytes from p is kind len
+        | inr is ↦ word_space_none asked bytes from p is.0 (ap (λ k. begins_with is_plain (drop k bytes)) next ∙ is.1) kind len
       ]
 
-  pub plain_text : HasOnlyText bytes place (place + plain)
-  plain_text p low high kind len = plain_none place p low high kind len
+  pub plain_text : (asked : InlineExtensions) → HasOnlyText asked bytes place (place + plain)
+  plain_text asked p low high kind len = plain_none asked place p low high kind len
 
   pub plain_apart : 0 < plain → get_or bytes (place + plain - 1) 0 ≡ 96 → ⊥
   plain_apart some is = elim (case_at (place + plain - 1) (omega (arith, some)) (omega (arith, some))) [
@@ -147,21 +148,21 @@ module _ (bytes : List ℕ) (place plain : ℕ) (counted : plain ≡ plain_lengt
   ]
 
 -- ---- the rest of a backtick string
-code_none : (bytes : List ℕ) (from p : ℕ) → from < p → get_or bytes p 0 ≡ 96 → get_or bytes (p - 1) 0 ≡ 96
-    → (kind : PieceKind) (len : ℕ) → ¬ BeginsAt bytes from p kind len
-code_none bytes from p later here before kind len begins =
-    only_code (λ k. BeginsAt bytes from p k len → ⊥) kind (sym (ap byte_class here) ∙ begins_class bytes from p kind len begins)
+code_none : (asked : InlineExtensions) (bytes : List ℕ) (from p : ℕ) → from < p → get_or bytes p 0 ≡ 96 → get_or bytes (p - 1) 0 ≡ 96
+    → (kind : PieceKind) (len : ℕ) → ¬ BeginsAt asked bytes from p kind len
+code_none asked bytes from p later here before kind len begins =
+    only_code (λ k. BeginsAt asked bytes from p k len → ⊥) kind (sym (ap byte_class here) ∙ begins_class asked bytes from p kind len begins)
     (λ backticks is. is.0 later before) begins
 
 -- ---- the rest of spaces
-either_break : (bytes : List ℕ) (from place len : ℕ) (is_hard : Bool)
-    → ((kind : PieceKind) (n : ℕ) → ¬ BeginsAt bytes from place kind n)
+either_break : (asked : InlineExtensions) (bytes : List ℕ) (from place len : ℕ) (is_hard : Bool)
+    → ((kind : PieceKind) (n : ℕ) → ¬ BeginsAt asked bytes from place kind n)
     → IsLineBreak (drop place bytes) (record { is_hard = is_hard; len = len }) → ⊥
-either_break bytes from place len true none is = none HardBreak len is
-either_break bytes from place len false none is = none SoftBreak len is
+either_break asked bytes from place len true none is = none HardBreak len is
+either_break asked bytes from place len false none is = none SoftBreak len is
 
-module _ (bytes : List ℕ) (from place run q : ℕ) (counted : run ≡ prefix_len (λ b. b == 32) (drop place bytes))
-    (none : (kind : PieceKind) (n : ℕ) → ¬ BeginsAt bytes from place kind n) (low : place < q) (high : q < place + run) where
+module _ (asked : InlineExtensions) (bytes : List ℕ) (from place run q : ℕ) (counted : run ≡ prefix_len (λ b. b == 32) (drop place bytes))
+    (none : (kind : PieceKind) (n : ℕ) → ¬ BeginsAt asked bytes from place kind n) (low : place < q) (high : q < place + run) where
   run_within : run ≤ length (drop place bytes)
   run_within = omega (arith, counted, prefix_len-le-length (λ b. b == 32) (drop place bytes))
 
@@ -203,14 +204,14 @@ module _ (bytes : List ℕ) (from place run q : ℕ) (counted : run ≡ prefix_l
       counted ∙ sym (spaced_length text (drop (place + 1) bytes) (spaces_at place (omega arith) (omega (arith, low, high)))) in
       let goes_on : run + is.ending + spaces < length text =
       omega (arith, is.goes_on, is.counted, only.0, before, length-drop q bytes, length-drop place bytes, low, high, fits) in
-      either_break bytes from place (run + is.ending + spaces) (before_is_hard text) none
+      either_break asked bytes from place (run + is.ending + spaces) (before_is_hard text) none
       (break_found text run is.ending spaces all run_within ends spaced goes_on)
 
-  space_none : (kind : PieceKind) (len : ℕ) → ¬ BeginsAt bytes from q kind len
+  space_none : (kind : PieceKind) (len : ℕ) → ¬ BeginsAt asked bytes from q kind len
   space_none kind len begins =
       let here = space_at q (omega (arith, low)) high in
-      let same = sym (ap byte_class here) ∙ begins_class bytes from q kind len begins in
-      only_break (λ k. BeginsAt bytes from q k len → ⊥) kind same
+      let same = sym (ap byte_class here) ∙ begins_class asked bytes from q kind len begins in
+      only_break (λ k. BeginsAt asked bytes from q k len → ⊥) kind same
       (λ is.
       let first = sym (ap (λ t. get_or t 0 0) (spaces_at q (omega (arith, low)) high)) ∙ ap (λ t. get_or t 0 0) is.parts in
       omega (arith, first))
@@ -252,29 +253,29 @@ module _ (bytes : List ℕ) (place run plain : ℕ) (low : place < length bytes)
         | inr (inr is) ↦ inr (inr is)
       ]
 
-  run_none : (from p : ℕ) → from ≤ place → place < p → p < place + run
-      → ((kind : PieceKind) (len : ℕ) → ¬ BeginsAt bytes from place kind len)
-      → (kind : PieceKind) (len : ℕ) → ¬ BeginsAt bytes from p kind len
-  run_none from p below above inside none kind len = elim case_of_run [
-    | inl is ↦ code_none bytes from p (omega (arith, below, above))
+  run_none : (asked : InlineExtensions) (from p : ℕ) → from ≤ place → place < p → p < place + run
+      → ((kind : PieceKind) (len : ℕ) → ¬ BeginsAt asked bytes from place kind len)
+      → (kind : PieceKind) (len : ℕ) → ¬ BeginsAt asked bytes from p kind len
+  run_none asked from p below above inside none kind len = elim case_of_run [
+    | inl is ↦ code_none asked bytes from p (omega (arith, below, above))
         (run_byte 96 bytes place p (omega (arith, above)) (omega (arith, is.1, inside)))
         (run_byte 96 bytes place (p - 1) (omega (arith, above)) (omega (arith, is.1, inside, above))) kind len
-    | inr (inl is) ↦ space_none bytes from place run p is.1 none above inside kind len
+    | inr (inl is) ↦ space_none asked bytes from place run p is.1 none above inside kind len
     | inr (inr is) ↦ λ begins. omega (arith, is.1, above, inside)
   ]
 
-  pub passed_text : (from : ℕ) → from ≤ place → HasOnlyText bytes from place
-      → ((kind : PieceKind) (len : ℕ) → ¬ BeginsAt bytes from place kind len) → HasOnlyText bytes from (place + run + plain)
-  passed_text from below only none p above inside kind len = elim (cases_lt p place) [
+  pub passed_text : (asked : InlineExtensions) (from : ℕ) → from ≤ place → HasOnlyText asked bytes from place
+      → ((kind : PieceKind) (len : ℕ) → ¬ BeginsAt asked bytes from place kind len) → HasOnlyText asked bytes from (place + run + plain)
+  passed_text asked from below only none p above inside kind len = elim (cases_lt p place) [
     | inl before ↦ only p above before kind len
     | inr not_before ↦ elim (cases_lt place p) [
       | inl after ↦ elim (cases_lt p (place + run)) [
-        | inl within ↦ run_none from p below after within none kind len
-        | inr behind ↦ plain_none bytes (place + run) plain passed from p behind inside kind len
+        | inl within ↦ run_none asked from p below after within none kind len
+        | inr behind ↦ plain_none bytes (place + run) plain passed asked from p behind inside kind len
       ]
       | inr not_after ↦ (
           let same : place ≡ p = omega (arith, not_before, not_after) in
-          subst (λ k. ¬ BeginsAt bytes from k kind len) same (none kind len)
+          subst (λ k. ¬ BeginsAt asked bytes from k kind len) same (none kind len)
           )
     ]
   ]

@@ -14,14 +14,14 @@ returns-in-Some-email_len-clause-stays_true c = λ q later outside.
     IsTrueGuard-later c.args.bytes.now c.args.guard.now (c.args.place + 2) q (omega (arith, later)) c.requires.true_guard
 
 pub returns-in-Some-email_len-clause-found : goal.returns-in-Some-email_len-clause-found
-returns-in-Some-email_len-clause-found c = λ from.
+returns-in-Some-email_len-clause-found c = λ asked from.
     let same = from_place c.args.bytes.now c.args.place in (
       λ n is. c.in_default.ensures.found n (subst (λ t. IsUriPiece t n) (sym same) is),
       subst (λ t. IsEmailPiece t c.in-Some-email_len.len) same c.in-Some-email_len.ensures.found,
     )
 
 pub returns-in-Some-html_len-clause-found : goal.returns-in-Some-html_len-clause-found
-returns-in-Some-html_len-clause-found c = λ from.
+returns-in-Some-html_len-clause-found c = λ asked from.
     let same = from_place c.args.bytes.now c.args.place in (
       λ n is. c.in_default.ensures.found n (subst (λ t. IsUriPiece t n) (sym same) is),
       λ n is. c.in_default-email_len.ensures.found n (subst (λ t. IsEmailPiece t n) (sym same) is),
@@ -29,12 +29,12 @@ returns-in-Some-html_len-clause-found c = λ from.
     )
 
 pub returns-in-None-clause-found : goal.returns-in-None-clause-found
-returns-in-None-clause-found c = λ from r begins.
+returns-in-None-clause-found c = λ asked from r begins.
     let bytes = c.args.bytes.now in
     let place = c.args.place in
     let rest = from_place bytes place in
-    let same = sym (ap byte_class c.requires.opens) ∙ begins_class bytes from place r.0 r.1 begins in
-    only_angle (λ kind. BeginsAt bytes from place kind r.1 → ⊥) r.0 same
+    let same = sym (ap byte_class c.requires.opens) ∙ begins_class asked bytes from place r.0 r.1 begins in
+    only_angle (λ kind. BeginsAt asked bytes from place kind r.1 → ⊥) r.0 same
     (λ is. c.in_default.ensures.found r.1 (subst (λ t. IsUriPiece t r.1) (sym rest) is))
     (λ is. c.in_default-email_len.ensures.found r.1 (subst (λ t. IsEmailPiece t r.1) (sym rest) is.1))
     (λ is. c.in-None.ensures.found r.1 is.2) begins

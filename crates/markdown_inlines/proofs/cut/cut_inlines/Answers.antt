@@ -1,7 +1,7 @@
 use Rattle.std.proofs.Common.{◌++◌, ◌∷◌, [], ◌≤◌, ◌∙◌, length, arith, refl, sym, subst, ap, List}
 use Rattle.std.proofs.lemmas.Str.{IsCharBoundary-start, IsCharBoundary-end}
 use Rattle.std.specs.Str.{IsCharBoundary}
-use Rattle.markdown_inlines.specs.Inlines.{Reading, at_start, AreRead, text_between}
+use Rattle.markdown_inlines.specs.Inlines.{Setting, Reading, at_start, AreRead, text_between}
 use Rattle.markdown_inlines.specs.Pieces.{IsNext, HasOnlyText, ReadText}
 use Rattle.markdown_inlines.specs.Readings.{AreBefore}
 use Rattle.markdown_inlines.specs.Sources.{AreSources, AreLinkSources}
@@ -12,13 +12,13 @@ use Rattle.markdown_inlines.proofs.cut.cut_inlines.Goals as goal
 
 pub loop-piece-init : goal.loop-piece-init
 loop-piece-init g c =
-    let known = g.L.Labels.known c.args.labels.now in
+    let setting : Setting = record { asked = c.args.extensions; known = g.L.Labels.known c.args.labels.now } in
     let start = c.new-reader.ensures.start in (
       c.in_ok-scanner.ensures.start,
       ap (λ (r : Reading). r.text) start,
       omega arith,
-      (λ later last read. subst (λ (l : List Piece). AreRead known 0 (at_start c.args.text.now) (l ++ later) last) (sym c.new-pieces.ensures.items)
-          (subst (λ (r : Reading). AreRead known 0 r later last) start read)),
+      (λ later last read. subst (λ (l : List Piece). AreRead setting 0 (at_start c.args.text.now) (l ++ later) last) (sym c.new-pieces.ensures.items)
+          (subst (λ (r : Reading). AreRead setting 0 r later last) start read)),
       subst (λ (l : List Piece). AreSources c.args.text.now l 0) (sym c.new-pieces.ensures.items)
           (record { each = λ k d inside. absurd (omega (arith, inside)); joined = refl }),
       IsCharBoundary-start c.args.text.now c.utf8.text,
@@ -28,8 +28,9 @@ loop-piece-init g c =
 pub read_piece-requires-clause-here : goal.read_piece-requires-clause-here
 read_piece-requires-clause-here g c =
     let is = c.loop-piece.invariant in
-    next_piece_at c.loop-piece.reader.text c.loop-piece.scanner.place c.in-Some.piece
-    (subst (λ text. IsNext text c.loop-piece.scanner.place c.in-Some.piece) (ap (λ (s : ReadText). s.text) is.0 ∙ sym is.1) c.in-Some.ensures.found)
+    next_piece_at c.args.extensions c.loop-piece.reader.text c.loop-piece.place c.in-Some.piece
+    (subst (λ text. IsNext c.args.extensions text c.loop-piece.place c.in-Some.piece) (sym is.1)
+    (subst (λ (s : ReadText). IsNext s.asked s.text s.place c.in-Some.piece) is.0 c.in-Some.ensures.found))
 
 pub read_piece-requires-clause-source : goal.read_piece-requires-clause-source
 read_piece-requires-clause-source g c =
@@ -71,7 +72,7 @@ loop-piece-smaller g c =
 pub loop-piece-preserved : goal.loop-piece-preserved
 loop-piece-preserved g c =
     let is = c.loop-piece.invariant in
-    let known = g.L.Labels.known c.args.labels.now in
+    let setting : Setting = record { asked = c.args.extensions; known = g.L.Labels.known c.args.labels.now } in
     let text = c.args.text.now in
     let reading = c.loop-piece.reader in
     let piece = c.in-Some.piece in
@@ -79,8 +80,9 @@ loop-piece-preserved g c =
     let from = c.loop-piece.place in
     let next = c.read_piece.new.reader in
     let between = text_between from piece.start in
-    let here : IsNext reading.text from piece =
-    subst (λ t. IsNext t from piece) (sym is.1) (subst (λ (s : ReadText). IsNext s.text s.place piece) is.0 c.in-Some.ensures.found) in
+    let here : IsNext c.args.extensions reading.text from piece =
+    subst (λ t. IsNext c.args.extensions t from piece) (sym is.1)
+    (subst (λ (s : ReadText). IsNext s.asked s.text s.place piece) is.0 c.in-Some.ensures.found) in
     let begins : IsCharBoundary text piece.start =
     subst (λ t. IsCharBoundary t piece.start) (ap (λ (s : ReadText). s.text) is.0) c.in-Some.ensures.boundary.0 in
     let ends : IsCharBoundary text end = subst (λ t. IsCharBoundary t end) is.1 c.in_ok-place.ensures.boundary in
@@ -89,35 +91,35 @@ loop-piece-preserved g c =
           ∙ ap (λ (s : ReadText). record s { place = end }) is.0),
       c.in_ok-place.ensures.text ∙ is.1,
       subst (λ t. end ≤ length t) is.1 c.in_ok-place.ensures.within.1,
-      (λ later last read. subst (λ (l : List Piece). AreRead known 0 (at_start text) l last)
+      (λ later last read. subst (λ (l : List Piece). AreRead setting 0 (at_start text) l last)
           (sym (added c.loop-piece.pieces.items between later (record piece { end = end }) c.push.new.self.items pushed))
           (is.3 (between ++ record piece { end = end } ∷ later) last
-          (read_next known from end reading next piece here c.in_ok-place.ensures.read later last read))),
+          (read_next setting from end reading next piece here c.in_ok-place.ensures.read later last read))),
       subst (λ (l : List Piece). AreSources text l end) (sym pushed)
           (source_added text (c.loop-piece.pieces.items ++ between) (record piece { end = end })
           (text_added text c.loop-piece.pieces.items from piece.start is.4 here.later is.5 begins)
           (record { some = omega (arith, c.in-Some.ensures.within.0, c.in_ok-place.ensures.within.0); begins = begins; ends = ends })),
       ends,
-      read_before known reading next (record piece { end = end }) (omega (arith, c.in-Some.ensures.within.0, c.in_ok-place.ensures.within.0))
+      read_before setting reading next (record piece { end = end }) (omega (arith, c.in-Some.ensures.within.0, c.in_ok-place.ensures.within.0))
           (before_later reading.openers from piece.start here.later is.6) piece.kind c.in_ok-place.ensures.read,
     )
 
 pub returns : goal.returns
 returns g c =
     let is = c.loop-piece.invariant in
-    let known = g.L.Labels.known c.args.labels.now in
+    let setting : Setting = record { asked = c.args.extensions; known = g.L.Labels.known c.args.labels.now } in
     let text = c.args.text.now in
     let reading = c.loop-piece.reader in
     let from = c.loop-piece.place in
-    let only : HasOnlyText reading.text from (length reading.text) =
-    subst (λ t. HasOnlyText t from (length t)) (sym is.1)
-    (subst (λ (s : ReadText). HasOnlyText s.text s.place (length s.text)) is.0 c.in_default.ensures.none) in
+    let only : HasOnlyText c.args.extensions reading.text from (length reading.text) =
+    subst (λ t. HasOnlyText c.args.extensions t from (length t)) (sym is.1)
+    (subst (λ (s : ReadText). HasOnlyText s.asked s.text s.place (length s.text)) is.0 c.in_default.ensures.none) in
     let within : from ≤ length reading.text = subst (λ t. from ≤ length t) (sym is.1) is.2 in
-    let out = subst (λ t. AreRead known from reading (text_between from (length t)) reading) is.1 (read_out known from reading within only) in
+    let out = subst (λ t. AreRead setting from reading (text_between from (length t)) reading) is.1 (read_out setting from reading within only) in
     record {
       cut = record {
         last = reading;
-        read = subst (λ (l : List Piece). AreRead known 0 (at_start text) l reading) (sym c.in_ok-push_text-2.ensures)
+        read = subst (λ (l : List Piece). AreRead setting 0 (at_start text) l reading) (sym c.in_ok-push_text-2.ensures)
             (is.3 (text_between from (length text)) reading out);
         links_are = c.in_ok-links.ensures.links;
         emphasis_is = c.in_ok-links.ensures.emphasis;

@@ -7,8 +7,8 @@ use Rattle.markdown_inlines.proofs.cut.cut_inlines.Given as goal
 
 abbrev pub invariant-loop-piece : goal.invariant-loop-piece
 invariant-loop-piece g l =
-    (l.scanner ≡ record { text = l.text; place = l.place }) × (l.reader.text ≡ l.text) × (l.place ≤ length l.text)
-    × ReadsOn (g.L.Labels.known l.labels) l.text l.place l.reader l.pieces.items
+    (l.scanner ≡ record { text = l.text; asked = l.extensions; place = l.place }) × (l.reader.text ≡ l.text) × (l.place ≤ length l.text)
+    × ReadsOn (record { asked = l.extensions; known = g.L.Labels.known l.labels }) l.text l.place l.reader l.pieces.items
     × AreSources l.text l.pieces.items l.place × IsCharBoundary l.text l.place
     × AreBefore l.reader.openers l.place
 

@@ -8,11 +8,11 @@ use Rattle.markdown_inlines.proofs.piece_at.break_at.Goals as goal
 
 pub returns-in_err-line_break : goal.returns-in_err-line_break
 returns-in_err-line_break c = record {
-  found = λ from. SomeExactly-from_none _ c.from_residual.ensures (λ r begins.
+  found = λ asked from. SomeExactly-from_none _ c.from_residual.ensures (λ r begins.
       (let bytes = c.args.bytes.now in
       let place = c.args.place in
-      let same = sym (break_byte_class (get_or bytes place 0) c.requires.opens) ∙ begins_class bytes from place r.0 r.1 begins in
-      only_break (λ kind. BeginsAt bytes from place kind r.1 → ⊥) r.0 same
+      let same = sym (break_byte_class (get_or bytes place 0) c.requires.opens) ∙ begins_class asked bytes from place r.0 r.1 begins in
+      only_break (λ kind. BeginsAt asked bytes from place kind r.1 → ⊥) r.0 same
       (λ is. c.requires.no_escape (subst (IsEscape (drop place bytes)) is.counted is))
       (λ is. c.in_err-line_break.ensures.found (record { is_hard = true; len = r.1 })
       (subst (λ t. IsLineBreak t (record { is_hard = true; len = r.1 })) (sym (from_place bytes place)) is))

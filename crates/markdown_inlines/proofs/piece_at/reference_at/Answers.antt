@@ -10,11 +10,11 @@ use Rattle.markdown_inlines.proofs.piece_at.reference_at.Goals as goal
 
 pub returns-then-len-eq0 : goal.returns-then-len-eq0
 returns-then-len-eq0 c = record {
-  found = λ from r begins.
+  found = λ asked from r begins.
       (let bytes = c.args.bytes.now in
       let place = c.args.place in
-      let same = sym (ap byte_class c.requires.opens) ∙ begins_class bytes from place r.0 r.1 begins in
-      only_reference (λ kind. BeginsAt bytes from place kind r.1 → ⊥) r.0 same
+      let same = sym (ap byte_class c.requires.opens) ∙ begins_class asked bytes from place r.0 r.1 begins in
+      only_reference (λ kind. BeginsAt asked bytes from place kind r.1 → ⊥) r.0 same
       (λ is. no_reference html_entity _ c.scan_entity-len.result.0 c.scan_entity-len.result.1 c.scan_entity-len.ensures.found c.if-len-eq0.true
       r.1 is.meaning (subst (λ t. StartsWithReference html_entity t r.1 is.meaning) (sym (from_place bytes place)) is.is_reference))
       begins);
@@ -22,7 +22,7 @@ returns-then-len-eq0 c = record {
 
 pub returns : goal.returns
 returns c = record {
-  found = λ from.
+  found = λ asked from.
       (let bytes = c.args.bytes.now in
       let place = c.args.place in
       let some : 0 < c.scan_entity-len.result.0 = omega (arith, c.if-len-eq0.false) in

@@ -18,14 +18,14 @@ loop-place-init c =
     let fits = subst (λ t. n ≤ length (take (length t - from) (drop from t))) same c.plain_len.ensures.within in (
       omega arith,
       rest_within text from n c.requires.within fits,
-      plain_text text from n counted,
+      plain_text text from n counted c.args.extensions,
       λ at later. plain_apart text from n counted (omega (arith, later)),
       IsTrueGuard-later text c.args.guard.now (from + 2) (from + n + 2) (omega arith) c.requires.true_guard,
     )
 
 part : (c : goal.In-Some) → IsPart c.args.text.now c.loop-place.place c.in-Some.len
 part c =
-    piece_part c.args.text.now c.args.from c.loop-place.place c.in-Some.kind c.in-Some.len c.loop-place.invariant.1
+    piece_part c.args.extensions c.args.text.now c.args.from c.loop-place.place c.in-Some.kind c.in-Some.len c.loop-place.invariant.1
     (c.in-Some.ensures.found c.args.from c.loop-place.invariant.3)
 
 pub overflow_add-result : goal.overflow_add-result
@@ -37,7 +37,7 @@ returns-in-Some-clause-within c = let is = part c in (omega (arith, is.some), is
 pub returns-in-Some-clause-boundary : goal.returns-in-Some-clause-boundary
 returns-in-Some-clause-boundary c =
     let is = part c in (
-      starts_cut c.args.text.now c.args.from c.loop-place.place c.in-Some.kind c.in-Some.len
+      starts_cut c.args.extensions c.args.text.now c.args.from c.loop-place.place c.in-Some.kind c.in-Some.len
           (c.in-Some.ensures.found c.args.from c.loop-place.invariant.3) c.loop-place.invariant.1,
       is.cut c.utf8.text,
     )
@@ -54,8 +54,9 @@ loop-place-preserved c =
     let next = c.past_text-place.result in
     let same = c.as_bytes-bytes.ensures.value in
     let told = c.past_text-place.ensures in
-    let only = subst (λ t. (from ≤ place) → HasOnlyText t from place
-    → ((kind : PieceKind) (len : ℕ) → ¬ BeginsAt t from place kind len) → HasOnlyText t from next) same (told.text from) in (
+    let only = subst (λ t. (from ≤ place) → HasOnlyText c.args.extensions t from place
+    → ((kind : PieceKind) (len : ℕ) → ¬ BeginsAt c.args.extensions t from place kind len) → HasOnlyText c.args.extensions t from next) same
+    (told.text c.args.extensions from) in (
       omega (arith, told.later, c.loop-place.invariant.0),
       subst (λ t. next ≤ length t) same told.within,
       only c.loop-place.invariant.0 c.loop-place.invariant.2

@@ -6,7 +6,7 @@ use Rattle.markdown_inlines.proofs.piece_scanner.next_piece.Given as goal
 -- Only text is passed, and no backtick string is cut.
 abbrev pub invariant-loop-place : goal.invariant-loop-place
 invariant-loop-place l =
-    (l.from ≤ l.place) × (l.place ≤ length l.text) × HasOnlyText l.text l.from l.place
+    (l.from ≤ l.place) × (l.place ≤ length l.text) × HasOnlyText l.extensions l.text l.from l.place
     × (get_or l.text l.place 0 ≡ 96 → l.from < l.place → get_or l.text (l.place - 1) 0 ≡ 96 → ⊥)
     × IsTrueGuard l.text l.guard (l.place + 2)
 

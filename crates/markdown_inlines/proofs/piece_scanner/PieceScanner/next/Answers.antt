@@ -1,4 +1,6 @@
-use Rattle.std.proofs.Common.{arith}
+use Rattle.std.proofs.Common.{arith, subst, length}
+use Rattle.std.specs.Option.{IfNone}
+use Rattle.markdown_inlines.specs.Pieces.{HasOnlyText, ReadText}
 use Rattle.markdown_inlines.proofs.piece_scanner.PieceScanner.next.Goals as goal
 use Rattle.markdown_inlines.proofs.piece_scanner.PieceScanner.next.Goals.{in-Some, in-None}
 
@@ -14,3 +16,8 @@ invariant_of-self c = elim c.match-piece.branch [
       (c.self.invariant.0, rw w.self-is (omega arith), rw w.self-is stays_true)
       )
 ]
+
+pub returns-clause-none : goal.returns-clause-none
+returns-clause-none c =
+    subst (λ (s : ReadText). IfNone c.next_piece-piece.result (HasOnlyText s.asked s.text s.place (length s.text))) c.self.view_is
+    c.next_piece-piece.ensures.none
