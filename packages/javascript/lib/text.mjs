@@ -1,9 +1,9 @@
 /** Inline text, HTML, and texts that are made. Sections in brackets are those of CommonMark 0.31.2. */
 import * as c from "./c.mjs";
-import { Blocks } from "./blocks.mjs";
 import { Block, NONE } from "./engine.mjs";
 import { isAnswer } from "./errors.mjs";
 import { flagOf, listOf, optionsOf, sizeOf, wrongType } from "./given.mjs";
+import { Inlines } from "./inlines.mjs";
 import { ended } from "./line_start.mjs";
 
 const ASTERISK = 42;
@@ -17,9 +17,9 @@ const LABEL_ROOM = 4 * 999;
 /**
  * A text, with the scanners of lines and blocks, and those of inline text.
  * @template {string | Uint8Array} Made
- * @extends {Blocks<Made>}
+ * @extends {Inlines<Made>}
  */
-export class Text extends Blocks {
+export class Text extends Inlines {
     /**
      * A link destination; angle brackets are not among its own bytes. Parentheses may stand in each other `maxNext` + 1 deep, 32
      * where it is not given. An empty one without brackets is one too. (6.3)

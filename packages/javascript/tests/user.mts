@@ -13,9 +13,10 @@ const title: { start: number; stop: number } | null | undefined = page.scanRefer
 const run: "*" | "_" | undefined = page.scanDelimiterRun(0, 3, { begin: 0 })?.character;
 const contents: string[] = Array.from(page.scanBlocks(), (it) => it.content());
 const places: number[][] = Array.from(bytes.scanBlocks(), (it) => it.containers.map((container) => container.place));
+const inlines: (string | undefined)[] = Array.from(page.scanInlines(0, 3, { labels: ["a", new Uint8Array([98])] }), (it) => ("link" in it ? it.link.target : it.kind));
 const name: string = new NotUtf8("none").name;
 console.log(level, isQuote, made[0], made[1].length, label?.text, page.scanLinkDest(10, 11)?.end, name);
-console.log(contents, places, title?.start, run, page.scanCodeSpan()?.stop, scanners.isUnicodeWhitespace("a"), scanners.isUnicodePunctuation(33));
+console.log(contents, places, inlines, title?.start, run, page.scanCodeSpan()?.stop, scanners.isUnicodeWhitespace("a"), scanners.isUnicodePunctuation(33));
 
 // @ts-expect-error a place is a number
 page.scanLine("0");
@@ -27,6 +28,8 @@ page.unescape(0, 3, { intable: true });
 scanners.text("a", { unit: "utf-16" });
 // @ts-expect-error there is no such option
 page.scanDelimiterRun(0, 3, { start: 0 });
+// @ts-expect-error labels are a list
+page.scanInlines(0, 3, { labels: "a" });
 // @ts-expect-error a call of a run is a list
 start.run(["quote"]);
 // @ts-expect-error what is made of a string is a string

@@ -1,0 +1,159 @@
+/** The inlines of a text. Sections in brackets are those of CommonMark 0.31.2. */
+import * as c from "./c.mjs";
+import { Blocks } from "./blocks.mjs";
+import { Block, NONE } from "./engine.mjs";
+import { isAnswer } from "./errors.mjs";
+import { bytesOf, listOf, optionsOf } from "./given.mjs";
+
+/** @typedef {import("./blocks.mjs").Span} Span */
+/** @typedef {"text" | "escape" | "reference" | "html" | "softBreak" | "hardBreak"} PlainKind delimiters in no emphasis and brackets of no link are text */
+/** @typedef {"emphasis" | "emphasisEnd" | "strong" | "strongEnd" | "linkEnd"} MarkKind what begins, or the innermost that has begun ends */
+/** @typedef {{ kind: PlainKind | MarkKind, start: number, stop: number }} PlainInline */
+/** @typedef {{ kind: "code" | "uri" | "email", start: number, stop: number, content: Span }} FilledInline between backticks or angle brackets */
+/** @typedef {{ kind: "link" | "image", start: number, stop: number, link: Link }} LinkStart its left bracket, with the `!` of an image */
+/** @typedef {PlainInline | FilledInline | LinkStart} Inline */
+
+/** @typedef {{ target: "inline", end: number, destination: Span, title: Span | null }} InlineLink a destination in parentheses (6.3) */
+/** @typedef {{ target: "full" | "collapsed" | "shortcut", end: number, label: Span }} ReferenceLink its label, or its text, which is one */
+/** @typedef {InlineLink | ReferenceLink} Link where it leads, and the place after all of it; the parts are as they are written */
+
+/** @type {Record<number, Inline["kind"]>} */
+const KINDS = {
+    [c.INLINE_TEXT]: "text",
+    [c.INLINE_ESCAPE]: "escape",
+    [c.INLINE_REFERENCE]: "reference",
+    [c.INLINE_CODE]: "code",
+    [c.INLINE_URI]: "uri",
+    [c.INLINE_EMAIL]: "email",
+    [c.INLINE_HTML]: "html",
+    [c.INLINE_SOFT_BREAK]: "softBreak",
+    [c.INLINE_HARD_BREAK]: "hardBreak",
+    [c.INLINE_EMPHASIS]: "emphasis",
+    [c.INLINE_EMPHASIS_END]: "emphasisEnd",
+    [c.INLINE_STRONG]: "strong",
+    [c.INLINE_STRONG_END]: "strongEnd",
+    [c.INLINE_LINK]: "link",
+    [c.INLINE_IMAGE]: "image",
+    [c.INLINE_LINK_END]: "linkEnd",
+};
+/** @type {Record<number, ReferenceLink["target"]>} */
+const TARGETS = { [c.TARGET_FULL]: "full", [c.TARGET_COLLAPSED]: "collapsed", [c.TARGET_SHORTCUT]: "shortcut" };
+const { size: SIZE } = c.STRUCTS.inline;
+
+/**
+ * The inlines of a text, with its lines and blocks.
+ * @template {string | Uint8Array} Made
+ * @extends {Blocks<Made>}
+ */
+export class Inlines extends Blocks {
+    /**
+     * The inlines between two places, in order: of the content of a paragraph or a heading, as a leaf block has it. Joined, they are
+     * the text, and they nest: each that begins ends. Text may stand in several, one after another.
+     *
+     * `labels` are those that are defined, each as `scanLinkLabel` answers it; what refers to a label that matches none of them is
+     * text. NotUtf8. (6)
+     * @param {number} [at]
+     * @param {number} [end]
+     * @param {{ labels?: (string | Uint8Array)[] }} [options]
+     * @returns {Generator<Inline, void, void>}
+     */
+    scanInlines(at = 0, end = this.length, options = {}) {
+        const labels = optionsOf(options, "labels").labels ?? [];
+        const [from, to] = this.limits(at, end);
+        return this.#each(from, this.#rows(from, to, new Labels(listOf("labels", labels))));
+    }
+
+    /**
+     * @param {number} from
+     * @param {number} to
+     * @param {Labels} labels
+     * @returns {Record<string, number>[]}
+     */
+    #rows(from, to, labels) {
+        const { engine } = this;
+        for (let room = Math.ceil((to - from) / 16) + 8; ; ) {
+            engine.bring(this.block, labels.block);
+            const views = engine.rows("view", labels.views());
+            const at = engine.room(room * SIZE);
+            const given = [this.block.address + from, to - from, views, labels.length, at, room];
+            const { status, count } = engine.calls.scanInlines(...given);
+            if (status !== c.TOO_SHORT) {
+                isAnswer(status);
+                return Array.from({ length: count }, (_, index) => engine.read("inline", at + index * SIZE));
+            }
+            room = count;
+        }
+    }
+
+    /**
+     * @param {number} from
+     * @param {Record<string, number>[]} rows
+     * @returns {Generator<Inline, void, void>}
+     */
+    *#each(from, rows) {
+        for (const it of rows) yield this.#inline(from, it);
+    }
+
+    /**
+     * @param {number} from
+     * @param {Record<string, number>} it
+     * @returns {any}
+     */
+    #inline(from, it) {
+        const { start, stop } = this.#span(from + it.start, it.length);
+        const kind = KINDS[it.kind];
+        if (kind === "link" || kind === "image") return { kind, start, stop, link: this.#link(from, it) };
+        if (kind !== "code" && kind !== "uri" && kind !== "email") return { kind, start, stop };
+        const sides = kind === "code" ? it.count : 1;
+        return { kind, start, stop, content: this.#span(from + it.start + sides, it.length - 2 * sides) };
+    }
+
+    /**
+     * @param {number} from
+     * @param {Record<string, number>} it
+     * @returns {Link}
+     */
+    #link(from, it) {
+        const end = this.placeOf(from + it.end);
+        if (it.target in TARGETS) return { target: TARGETS[it.target], end, label: this.#span(from + it.labelStart, it.labelLength) };
+        const title = it.titleStart === NONE ? null : this.#span(from + it.titleStart, it.titleLength);
+        return { target: "inline", end, destination: this.#span(from + it.destinationStart, it.destinationLength), title };
+    }
+
+    /**
+     * @param {number} start
+     * @param {number} length
+     * @returns {Span}
+     */
+    #span(start, length) {
+        return { start: this.placeOf(start), stop: this.placeOf(start + length) };
+    }
+}
+
+/** Labels, which stand one after another in the module's memory. */
+class Labels {
+    #lengths;
+
+    /** @param {(string | Uint8Array)[]} labels */
+    constructor(labels) {
+        const bytes = labels.map((it) => bytesOf("a label", it));
+        this.length = labels.length;
+        this.#lengths = bytes.map((it) => it.length);
+        const all = new Uint8Array(this.#lengths.reduce((sum, it) => sum + it, 0));
+        let at = 0;
+        for (const it of bytes) {
+            all.set(it, at);
+            at += it.length;
+        }
+        this.block = new Block(all);
+    }
+
+    /** Where each of them stands, as C has it. */
+    views() {
+        let at = this.block.address;
+        return this.#lengths.map((length) => {
+            at += length;
+            return { text: at - length, length };
+        });
+    }
+}

@@ -1,0 +1,94 @@
+/**
+ * The inlines of texts, on the rows of packages/c/tests/inlines.c: examples of CommonMark 0.31.2 by their numbers, of which cmark
+ * makes what stands beside them.
+ */
+import assert from "node:assert/strict";
+import { readFileSync } from "node:fs";
+import { test } from "node:test";
+import * as mds from "../markdown_scanners.mjs";
+import { MODULE } from "./module.mjs";
+import { TOP } from "./tree.mjs";
+
+const scanners = await mds.load(MODULE);
+const WORD = String.raw`("(?:[^"\\]|\\.)*")`;
+const DEFINITION = String.raw`\{${WORD}, ${WORD}, ${WORD}\}`;
+const ROW = new RegExp(String.raw`^    \{(\d+), ${WORD},\s*(?:\{((?:${DEFINITION}(?:, )?)+)\},\s*)?${WORD}\},$`, "gm");
+const source = readFileSync(new URL("packages/c/tests/inlines.c", TOP), "utf8");
+const rows = [...source.matchAll(ROW)].map(([, number, text, definitions, , , , wanted]) => {
+    const found = [...(definitions ?? "").matchAll(new RegExp(DEFINITION, "g"))];
+    return [number, JSON.parse(text), found.map((it) => it.slice(1).map(JSON.parse)), JSON.parse(wanted)];
+});
+const MARKS = {
+    softBreak: "\n",
+    hardBreak: "<br>",
+    emphasis: "<em>",
+    emphasisEnd: "</em>",
+    strong: "<strong>",
+    strongEnd: "</strong>",
+    linkEnd: "</>",
+};
+
+/** What is said of the inlines between two places of a text. */
+function described(text, definitions, at = 0, end = text.length) {
+    const part = ({ start, stop }) => Buffer.from(text.slice(start, stop)).toString();
+    const meaning = (word) => scanners.text(word).unescape();
+    const target = (link) => {
+        if (link.target === "inline") return [part(link.destination), link.title ? part(link.title) : ""];
+        const label = text.scanLinkLabel(link.label.start, end);
+        assert.equal(label.end, link.label.stop + 1);
+        return definitions.find(([it]) => scanners.labelsMatch(it, label.text)).slice(1);
+    };
+    const said = (it) => {
+        if (it.kind in MARKS) return MARKS[it.kind];
+        if (it.link) return `<${it.kind === "image" ? "img" : "a"} ${target(it.link).map(meaning).join("|")}>`;
+        if (it.kind === "code") return `<code>${part(it.content).replace(/\n/g, " ").replace(/^ (.*[^ ].*) $/, "$1")}</code>`;
+        if (it.content) return `<a ${it.kind === "email" ? "mailto:" : ""}${part(it.content)}|>${part(it.content)}</>`;
+        if (it.kind === "html") return `<html>${part(it)}</html>`;
+        return it.kind === "text" ? part(it) : meaning(part(it));
+    };
+    return Array.from(text.scanInlines(at, end, { labels: definitions.map(([it]) => it) }), said).join("");
+}
+
+test("each row, by itself, inside of other text, as bytes and in UTF-16 units", () => {
+    assert.equal(rows.length, source.match(/^ {4}\{\d+, "/gm).length);
+    for (const [number, text, definitions, wanted] of rows) {
+        const [bytes, inside] = [Buffer.from(text), `é🍔[${text}]*é`];
+        assert.equal(described(scanners.text(text), definitions), wanted, number);
+        assert.equal(described(scanners.text(bytes), definitions), wanted, number);
+        assert.equal(described(scanners.text(inside), definitions, 7, 7 + bytes.length), wanted, number);
+        assert.equal(described(scanners.text(inside, { units: "utf-16" }), definitions, 4, 4 + text.length), wanted, number);
+    }
+});
+
+test("the fields of inlines", () => {
+    const [image, text, end, ...others] = scanners.text("![é](<b> 'c')", { units: "utf-16" }).scanInlines();
+    const span = (start, stop) => ({ start, stop });
+    assert.deepEqual(image, { kind: "image", ...span(0, 2), link: { target: "inline", end: 13, destination: span(6, 7), title: span(10, 11) } });
+    assert.deepEqual([text, end, others], [{ kind: "text", ...span(2, 3) }, { kind: "linkEnd", ...span(3, 13) }, []]);
+    const first = (given, labels) => [...scanners.text(given).scanInlines(0, given.length, { labels })][0];
+    assert.equal(first("[a](b)").link.title, null);
+    assert.deepEqual(first("[a][b]", ["B"]).link, { target: "full", end: 6, label: span(4, 5) });
+    assert.deepEqual(first("[b][]", ["c", "B"]).link, { target: "collapsed", end: 5, label: span(1, 2) });
+    assert.deepEqual(first("[b]", [new Uint8Array([66])]).link, { target: "shortcut", end: 3, label: span(1, 2) });
+    const contents = Array.from(scanners.text("``a``<bb:c><d@e>").scanInlines(), (it) => it.content);
+    assert.deepEqual(contents, [span(2, 3), span(6, 10), span(12, 15)]);
+});
+
+test("many inlines and labels", () => {
+    const text = `${"*a ".repeat(5000)}${"b*".repeat(5000)}[9999]`;
+    const labels = Array.from({ length: 10_000 }, (_, index) => `${index}`);
+    const kinds = Array.from(scanners.text(text).scanInlines(0, text.length, { labels }), (it) => it.kind);
+    assert.equal(kinds.filter((it) => it === "emphasisEnd").length, 5000);
+    assert.deepEqual(kinds.slice(-3), ["link", "text", "linkEnd"]);
+    assert.deepEqual([...scanners.text("").scanInlines()], []);
+});
+
+test("what is refused of texts and labels", () => {
+    const given = (labels) => () => scanners.text("[a]").scanInlines(0, 3, { labels });
+    for (const it of ["a", {}, [1]]) assert.throws(given(it), TypeError);
+    assert.throws(given(["\ud800"]), mds.LoneSurrogate);
+    assert.throws(given([new Uint8Array([255])]), mds.NotUtf8);
+    assert.throws(() => scanners.text(new Uint8Array([255])).scanInlines(), mds.NotUtf8);
+    assert.throws(() => scanners.text("a").scanInlines(2), RangeError);
+    assert.throws(() => scanners.text("a").scanInlines(0, 1, { label: [] }), TypeError);
+});
