@@ -242,7 +242,7 @@ const JSON_OF_CONTAINERS: &[Row] = &[
     (
         b"> [a]:\n> /b\n> c\n",
         "{\"first\":1,\"last\":1,\"depth\":0,\"offset\":0,\"column\":1,\"kind\":\"quote\"}\n\
-        {\"first\":1,\"last\":2,\"depth\":1,\"offset\":0,\"column\":3,\"kind\":\"definition\",\"bytes\":12}\n\
+        {\"first\":1,\"last\":2,\"depth\":1,\"offset\":0,\"column\":3,\"kind\":\"definition\",\"label\":\"a\",\"destination\":\"/b\",\"bytes\":12}\n\
         {\"first\":3,\"last\":3,\"depth\":1,\"offset\":12,\"column\":3,\"kind\":\"paragraph\",\"bytes\":4}\n\
         {\"last\":3,\"depth\":0,\"end\":16,\"kind\":\"end\"}\n",
     ),

@@ -1,3 +1,4 @@
+pub mod definition
 pub mod info
 pub mod json
 pub mod page

@@ -1,10 +1,10 @@
-//! How info strings are printed.
-ghost use Rattle.std.specs.Prelude.{◌≡◌, ◌<◌, ◌++◌, IfOk, OnOk, false, string_bytes};
+//! How texts are printed.
+ghost use Rattle.std.specs.Prelude.{◌≡◌, ◌<◌, ◌++◌, IfOk, OnOk, codes, false, string_bytes};
 ghost use Rattle.std.specs.Fmt.{digit_glyph};
 ghost use Rattle.std.specs.List.{flat_map};
 ghost use Rattle.std.specs.Str.{is_utf8};
 ghost use Rattle.page_blocks.specs.info.Info.{is_plain, byte_text, bytes_text, escaped_byte};
-ghost use Rattle.page_blocks.specs.info.Info.{bytes_json, digits_json, hex_byte, info_json, json_text};
+ghost use Rattle.page_blocks.specs.info.Info.{bytes_json, digits_json, hex_byte, json_text, text_json};
 
 use std::alloc::{AllocError, Global};
 use std::str::from_utf8;
@@ -38,37 +38,49 @@ fn is_plain(byte: u8) -> bool
     (32..=126).contains(&byte) && byte != b'"' && byte != b'\\'
 }
 
-/// Adds an info string as the text of a JSON string, with what ends it; and where it is not UTF-8,
-/// its bytes in hexadecimal digits.
-pub(crate) fn push_info_json(
+/// Adds a text as a member of this name, and where it is not UTF-8 its bytes in hexadecimal digits
+/// as another.
+#[tactic(auto, unfolding(crate::specs::info::Info::text_json))]
+pub(crate) fn push_text_json(
     alloc: Global,
     text: &mut String,
-    info: &[u8],
+    name: &str,
+    bytes: &[u8],
 ) -> Result<(), AllocError>
-    ensures { OnOk result (string_bytes text.new ≡ string_bytes text.old ++ info_json info.now) }
+    ensures { OnOk result (string_bytes text.new
+        ≡ string_bytes text.old ++ text_json name.now bytes.now) }
 {
-    push_json_text(alloc, text, info)?;
+    write!(text, ",\"{name}\":\"")?;
+    push_json_text(alloc, text, bytes)?;
     text.push_str("\"")?;
-    push_bytes_json(text, info)
+    push_bytes_json(text, name, bytes)
 }
 
-// Adds the bytes of an info string in hexadecimal digits, where it is not UTF-8.
-fn push_bytes_json(text: &mut String, info: &[u8]) -> Result<(), AllocError>
-    ensures { OnOk result (string_bytes text.new ≡ string_bytes text.old ++ bytes_json info.now) }
+// Adds the bytes of a text of this name in hexadecimal digits, where it is not UTF-8.
+fn push_bytes_json(text: &mut String, name: &str, bytes: &[u8]) -> Result<(), AllocError>
+    ensures { OnOk result (string_bytes text.new
+        ≡ string_bytes text.old ++ bytes_json name.now bytes.now) }
 {
-    if is_text(info) {
+    if is_text(bytes) {
         return Ok(());
     }
-    push_digits(text, info)
+    push_digits(text, name, bytes)
 }
 
 // Adds them.
-fn push_digits(text: &mut String, info: &[u8]) -> Result<(), AllocError>
+fn push_digits(text: &mut String, name: &str, bytes: &[u8]) -> Result<(), AllocError>
     ensures { OnOk result (string_bytes text.new
-        ≡ string_bytes text.old ++ digits_json info.now) }
+        ≡ string_bytes text.old ++ digits_json name.now bytes.now) }
 {
-    text.push_str(",\"info_bytes\":\"")?;
-    push_hex(text, info)?;
+    write!(text, ",\"{name}_bytes\":\"")?;
+    push_hex(text, bytes)?;
+    push_quote(text)
+}
+
+// Adds a quotation mark.
+fn push_quote(text: &mut String) -> Result<(), AllocError>
+    ensures { OnOk result (string_bytes text.new ≡ string_bytes text.old ++ codes "\"") }
+{
     text.push_str("\"")
 }
 

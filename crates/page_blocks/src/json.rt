@@ -1,10 +1,13 @@
 //! Blocks and containers as JSON Lines.
-ghost use Rattle.std.specs.Prelude.{◌≡◌, ◌++◌, OnOk, decimal, string_bytes};
+ghost use Rattle.std.specs.Prelude.{◌≡◌, ◌++◌, [], None, OnOk, decimal, string_bytes};
+ghost use Rattle.std.specs.Option.{option_map};
 ghost use Rattle.page_blocks.specs.json.Json.{kind_json, container_json, front_json, marker_json, size_json};
-ghost use Rattle.page_blocks.specs.json.Json.{end_json, list_json, page_json, truth};
-ghost use Rattle.markdown_blocks.specs.declared.blocks.BlockKind.TheVariants.{Fenced};
+ghost use Rattle.page_blocks.specs.definition.Definition.{seen_definition};
+ghost use Rattle.page_blocks.specs.json.Json.{definition_json, end_json, list_json, page_json, title_json, truth, written_json};
+ghost use Rattle.markdown_blocks.specs.declared.blocks.BlockKind.TheVariants.{Definition as ADefinition, Fenced};
 
-use crate::info::{push_byte, push_info_json, push_json_text};
+use crate::definition::Definition;
+use crate::info::{push_byte, push_json_text, push_text_json};
 use crate::printing::Front;
 use markdown_blocks::blocks::BlockKind;
 use markdown_blocks::containers::Container;
@@ -81,15 +84,17 @@ pub(crate) fn push_size_json(text: &mut String, bytes: usize) -> Result<(), Allo
     write!(text, ",\"bytes\":{bytes}")
 }
 
-/// Adds the kind, and what is known of a block whose first line has this text.
+/// Adds the kind, and what is known of a block whose first line has this text, and in which this is
+/// written.
 pub(crate) fn push_kind_json(
     alloc: Global,
     text: &mut String,
     kind: BlockKind,
     words: &[u8],
+    written: Option<Definition>,
 ) -> Result<(), AllocError>
-    ensures { OnOk result (string_bytes text.new
-        ≡ string_bytes text.old ++ kind_json kind words.now) }
+    ensures { OnOk result (string_bytes text.new ≡ string_bytes text.old
+        ++ kind_json kind words.now (option_map seen_definition written.entry)) }
 {
     match kind {
         BlockKind::Blank => text.push_str("\"blank\""),
@@ -102,7 +107,7 @@ pub(crate) fn push_kind_json(
             push_number(text, "\"html\",\"condition\":", usize::from(kind.number()))
         }
         BlockKind::Table(columns) => write!(text, "\"table\",\"columns\":{columns}"),
-        BlockKind::Definition => text.push_str("\"definition\""),
+        BlockKind::Definition => push_definition(alloc, text, written),
         BlockKind::Paragraph => text.push_str("\"paragraph\""),
     }
 }
@@ -125,12 +130,61 @@ fn push_fenced(
     words: &[u8],
 ) -> Result<(), AllocError>
     ensures { OnOk result (string_bytes text.new
-        ≡ string_bytes text.old ++ kind_json (Fenced count byte) words.now) }
+        ≡ string_bytes text.old ++ kind_json (Fenced count byte) words.now None) }
 {
     write!(text, "\"fenced\",\"count\":{count},\"fence\":\"")?;
     push_byte(text, byte)?;
-    text.push_str("\",\"info\":\"")?;
-    push_info_json(alloc, text, info_of(words, byte))
+    text.push_str("\"")?;
+    push_text_json(alloc, text, "info", info_of(words, byte))
+}
+
+// Adds what is known of a definition.
+fn push_definition(
+    alloc: Global,
+    text: &mut String,
+    written: Option<Definition>,
+) -> Result<(), AllocError>
+    ensures { OnOk result (string_bytes text.new ≡ string_bytes text.old
+        ++ kind_json ADefinition [] (option_map seen_definition written.entry)) }
+{
+    text.push_str("\"definition\"")?;
+    push_written(alloc, text, written)
+}
+
+// Adds what is written in a definition, if it is known.
+fn push_written(
+    alloc: Global,
+    text: &mut String,
+    written: Option<Definition>,
+) -> Result<(), AllocError>
+    ensures { OnOk result (string_bytes text.new ≡ string_bytes text.old
+        ++ definition_json (option_map seen_definition written.entry)) }
+{
+    match written {
+        Some(written) => push_parts(alloc, text, written),
+        None => Ok(()),
+    }
+}
+
+// Adds the label of a definition, its destination, and its title, if it has one.
+fn push_parts(alloc: Global, text: &mut String, written: Definition) -> Result<(), AllocError>
+    ensures { OnOk result (string_bytes text.new
+        ≡ string_bytes text.old ++ written_json (seen_definition written.entry)) }
+{
+    push_text_json(alloc, text, "label", written.label)?;
+    push_text_json(alloc, text, "destination", written.destination)?;
+    push_title(alloc, text, written.title)
+}
+
+// Adds the title of a definition, if it has one.
+fn push_title(alloc: Global, text: &mut String, title: Option<&[u8]>) -> Result<(), AllocError>
+    ensures { OnOk result (string_bytes text.new ≡ string_bytes text.old
+        ++ title_json (option_map (λ title. title.now) title.entry)) }
+{
+    match title {
+        Some(title) => push_text_json(alloc, text, "title", title),
+        None => Ok(()),
+    }
 }
 
 /// Adds the kind of a container, with what is known of its marker.

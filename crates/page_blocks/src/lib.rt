@@ -1,6 +1,7 @@
 //! What `cmark_blocks` prints of the blocks of a page of Markdown, reads and writes.
 #![tactic(auto)]
 
+mod definition;
 pub mod files;
 pub mod help;
 mod info;

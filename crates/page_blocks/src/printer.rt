@@ -1,9 +1,11 @@
 //! The lines of a page's events and lists, from the first to the last.
 ghost use Rattle.std.specs.Prelude.{◌≡◌, ◌++◌, [], OnOk, string_bytes};
 ghost use Rattle.markdown_blocks.specs.events.Events.{seen_event};
+ghost use Rattle.page_blocks.specs.definition.Definition.{shown_of};
 ghost use Rattle.page_blocks.specs.page.Told.{after, ended_line, event_lines, last_lines, the_front};
 ghost use Rattle.page_blocks.specs.printer.Printers.{HasPrinted, printed_of};
 
+use crate::definition::{Definition, definition_of};
 use crate::printing::{push_container, push_end, push_leaf, push_list};
 use crate::words::Form;
 use markdown_blocks::containers::Container;
@@ -37,10 +39,17 @@ impl Printer {
         }
     }
 
-    /// Adds the line of the next event, and before it that of the list that it shows to have ended.
-    pub(crate) fn print(&mut self, alloc: Global, event: BlockEvent) -> Result<(), AllocError>
+    /// Adds the line of the next event, with what is written in the definition that it is, and before
+    /// it that of the list that it shows to have ended.
+    pub(crate) fn print(
+        &mut self,
+        alloc: Global,
+        event: BlockEvent,
+        written: Option<Definition>,
+    ) -> Result<(), AllocError>
         ensures lines { OnOk result (string_bytes self.new.text ≡ string_bytes self.old.text
-            ++ event_lines self.old.form (printed_of self.old) (seen_event event.entry)) }
+            ++ event_lines self.old.form (printed_of self.old)
+            (shown_of event.entry written.entry)) }
         ensures so_far { OnOk result (printed_of self.new
             ≡ after (printed_of self.old) (seen_event event.entry)) }
         ensures form { OnOk result (self.new.form ≡ self.old.form) }
@@ -53,7 +62,7 @@ impl Printer {
                 push_container(&mut self.text, self.form, self.at, depth, container, marker)
             }
             BlockEvent::Block(leaf) => {
-                push_leaf(alloc, &mut self.text, self.form, depth, leaf)?;
+                push_leaf(alloc, &mut self.text, self.form, depth, leaf, written)?;
                 self.at = Taken {
                     lines: leaf.line + leaf.lines,
                     bytes: leaf.start + leaf.bytes,
@@ -79,8 +88,10 @@ impl Printer {
             (HasPrinted self.old containers.now content.now events.entry self.new) }
         ensures form { OnOk result (self.new.form ≡ self.old.form) }
     {
+        let mut left = events.content_left(content);
         while let Some(event) = events.next(containers, content) {
-            self.print(alloc, event)?;
+            self.print(alloc, event, definition_of(event, left))?;
+            left = events.content_left(content);
         }
         Ok(())
     }
@@ -94,7 +105,7 @@ impl Printer {
     {
         let mut left = depth;
         while left > 0 {
-            self.print(alloc, BlockEvent::End)?;
+            self.print(alloc, BlockEvent::End, None)?;
             left -= 1;
         }
         push_ended(&mut self.text, self.form, self.lists.finish())

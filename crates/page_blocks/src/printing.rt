@@ -1,10 +1,13 @@
 //! The printed lines of blocks and containers.
 ghost use Rattle.std.specs.Prelude.{◌≡◌, ◌++◌, IfOk, OnOk, string_bytes};
+ghost use Rattle.std.specs.Option.{option_map};
 ghost use Rattle.markdown_blocks.specs.events.Events.{seen_leaf};
+ghost use Rattle.page_blocks.specs.definition.Definition.{seen_definition};
 ghost use Rattle.page_blocks.specs.page.Told.{kind_told, container_told, front_told, size_told, line_end};
 ghost use Rattle.page_blocks.specs.page.Told.{column_of, place_of, container_line, end_line, leaf_line, list_line};
 ghost use Rattle.page_blocks.specs.page.Told.{kind_text, container_text, fence_text, info_text, list_text, tightness, title_of};
 
+use crate::definition::Definition;
 use crate::info::push_bytes;
 use crate::json::{
     push_container_json, push_end_json, push_front_json, push_kind_json, push_list_json,
@@ -31,16 +34,18 @@ pub(crate) struct Front {
     pub(crate) column: u128,
 }
 
-/// Adds the line, in this form, of a leaf block in so many containers.
+/// Adds the line, in this form, of a leaf block in so many containers, with what is written in the
+/// definition that it is.
 pub(crate) fn push_leaf(
     alloc: Global,
     text: &mut String,
     form: Form,
     depth: usize,
     leaf: Leaf,
+    written: Option<Definition>,
 ) -> Result<(), AllocError>
-    ensures { OnOk result (string_bytes text.new
-        ≡ string_bytes text.old ++ leaf_line form depth (seen_leaf leaf.entry)) }
+    ensures { OnOk result (string_bytes text.new ≡ string_bytes text.old
+        ++ leaf_line form depth (seen_leaf leaf.entry) (option_map seen_definition written.entry)) }
 {
     let front = Front {
         first: leaf.line as u128 + 1,
@@ -50,7 +55,7 @@ pub(crate) fn push_leaf(
         column: column_of(leaf.start, leaf.place),
     };
     push_front(text, form, front)?;
-    push_kind(alloc, text, form, leaf.kind, leaf.text)?;
+    push_kind(alloc, text, form, leaf.kind, leaf.text, written)?;
     push_size(text, form, leaf.bytes)?;
     push_line_end(text, form)
 }
@@ -187,20 +192,22 @@ fn push_line_end(text: &mut String, form: Form) -> Result<(), AllocError>
     }
 }
 
-// Adds a kind, with what is known of a block whose first line has this text.
+// Adds a kind, with what is known of a block whose first line has this text, and in which this is
+// written.
 fn push_kind(
     alloc: Global,
     text: &mut String,
     form: Form,
     kind: BlockKind,
     words: &[u8],
+    written: Option<Definition>,
 ) -> Result<(), AllocError>
-    ensures { OnOk result (string_bytes text.new
-        ≡ string_bytes text.old ++ kind_told form kind words.now) }
+    ensures { OnOk result (string_bytes text.new ≡ string_bytes text.old
+        ++ kind_told form kind words.now (option_map seen_definition written.entry)) }
 {
     match form {
         Form::Words => push_kind_text(text, kind, words),
-        Form::Json => push_kind_json(alloc, text, kind, words),
+        Form::Json => push_kind_json(alloc, text, kind, words, written),
     }
 }
 

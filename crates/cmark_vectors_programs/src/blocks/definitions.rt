@@ -1,5 +1,5 @@
 //! Link reference definitions, alone and before text and underlines. (CommonMark 0.31.2, sections 4.3 and 4.7)
-use super::{Blocks, Row, assert_rows};
+use super::{Blocks, Row, assert_rows, assert_told};
 use crate::asserts::made;
 use crate::runs::{DONE, assert_run};
 use std::alloc::{AllocError, Global};
@@ -217,4 +217,50 @@ fn parentheses_nest_32_deep_at_most(rt: HostRuntime) {
         "1 1 0 definition\n2 2 0 paragraph\n",
     );
     assert_length(&rt, rt.alloc(), 1, 33, "1 2 0 setext 1\n");
+}
+
+// As JSON what is written in them: examples of CommonMark 0.31.2, section 4.7; a label that is not UTF-8; several, and one over
+// lines of a block quote.
+const JSON: &[Row] = &[
+    (
+        b"[foo]: /url \"title\"\n",
+        "{\"first\":1,\"last\":1,\"depth\":0,\"offset\":0,\"column\":1,\"kind\":\"definition\",\"label\":\"foo\",\"destination\":\"/url\",\"title\":\"title\",\"bytes\":20}\n",
+    ),
+    (
+        b"   [foo]: \n      /url  \n           'the title'  \n",
+        "{\"first\":1,\"last\":3,\"depth\":0,\"offset\":0,\"column\":4,\"kind\":\"definition\",\"label\":\"foo\",\"destination\":\"/url\",\"title\":\"the title\",\"bytes\":49}\n",
+    ),
+    (
+        b"[Foo*bar\\]]:my_(url) 'title (with parens)'\n",
+        "{\"first\":1,\"last\":1,\"depth\":0,\"offset\":0,\"column\":1,\"kind\":\"definition\",\"label\":\"Foo*bar\\u005c]\",\"destination\":\"my_(url)\",\"title\":\"title (with parens)\",\"bytes\":43}\n",
+    ),
+    (
+        b"[foo]: /url '\ntitle\nline1\nline2\n'\n",
+        "{\"first\":1,\"last\":5,\"depth\":0,\"offset\":0,\"column\":1,\"kind\":\"definition\",\"label\":\"foo\",\"destination\":\"/url\",\"title\":\"\\u000atitle\\u000aline1\\u000aline2\\u000a\",\"bytes\":34}\n",
+    ),
+    (
+        b"[foo]: <>\n",
+        "{\"first\":1,\"last\":1,\"depth\":0,\"offset\":0,\"column\":1,\"kind\":\"definition\",\"label\":\"foo\",\"destination\":\"\",\"bytes\":10}\n",
+    ),
+    (
+        b"[\xff]: <b c>\n",
+        "{\"first\":1,\"last\":1,\"depth\":0,\"offset\":0,\"column\":1,\"kind\":\"definition\",\"label\":\"�\",\"label_bytes\":\"ff\",\"destination\":\"b c\",\"bytes\":11}\n",
+    ),
+    (
+        b"[a]: /b\n[c]: /d\ne\n",
+        "{\"first\":1,\"last\":1,\"depth\":0,\"offset\":0,\"column\":1,\"kind\":\"definition\",\"label\":\"a\",\"destination\":\"/b\",\"bytes\":8}\n\
+        {\"first\":2,\"last\":2,\"depth\":0,\"offset\":8,\"column\":1,\"kind\":\"definition\",\"label\":\"c\",\"destination\":\"/d\",\"bytes\":8}\n\
+        {\"first\":3,\"last\":3,\"depth\":0,\"offset\":16,\"column\":1,\"kind\":\"paragraph\",\"bytes\":2}\n",
+    ),
+    (
+        b"> [a]: /b 'c\n> d'\n",
+        "{\"first\":1,\"last\":1,\"depth\":0,\"offset\":0,\"column\":1,\"kind\":\"quote\"}\n\
+        {\"first\":1,\"last\":2,\"depth\":1,\"offset\":0,\"column\":3,\"kind\":\"definition\",\"label\":\"a\",\"destination\":\"/b\",\"title\":\"c\\u000ad\",\"bytes\":18}\n\
+        {\"last\":2,\"depth\":0,\"end\":18,\"kind\":\"end\"}\n",
+    ),
+];
+
+#[test]
+fn json_has_what_is_written_in_definitions(rt: HostRuntime) {
+    assert_told(&rt, rt.alloc(), &["--json"], JSON);
 }

@@ -43,10 +43,12 @@ With --json each line is an object. Its members are first, last, depth and kind,
 and containers offset, how many bytes of the page stand before the first line, and column, the byte
 of that line that the text or the marker begins with, counted from 1; of a block bytes, how many
 bytes its lines have; level of a heading; count, fence and info of fenced code; condition of an HTML
-block; columns of a table; delimiter and start of an item or a list; tight of a list; and indent of
-an item, by how many columns its text is indented from the container around it. Where info is not
-UTF-8, each part of it that isn't is U+FFFD, and info_bytes has two hexadecimal digits for each of
-its bytes.
+block; columns of a table; label, destination and, if there is one, title of a definition, as they
+are written, without what stands around them; delimiter and start of an item or a list; tight of a
+list; and indent of an item, by how many columns its text is indented from the container around it.
+Where info, label, destination or title is not UTF-8, each part of it that isn't is U+FFFD, and
+info_bytes, label_bytes, destination_bytes or title_bytes has two hexadecimal digits for each of its
+bytes.
 
 Where a container ends there is an object of the kind end: last is its last line, depth how many
 containers are around it, and end how many bytes of the page stand before what follows it. Where two

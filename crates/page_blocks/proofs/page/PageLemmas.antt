@@ -16,12 +16,13 @@ use Rattle.markdown_blocks.specs.declared.step.Step.{Step}
 use Rattle.markdown_blocks.specs.declared.taken.Taken.{Taken}
 use Rattle.markdown_blocks.specs.definitions.Definitions.{IsDefinition}
 use Rattle.markdown_blocks.specs.blocks.Pages.{Piece, IsPage, IsPiece, AreBlocks, lines_in, root}
-use Rattle.markdown_blocks.specs.events.Events.{Event, leaf, ends, LeafBlock, Part, AreLeaves, AreLeavesOf, AreEvents, IsEventsOf}
+use Rattle.markdown_blocks.specs.events.Events.{Event, leaf, ends, LeafBlock, Part, AreLeaves, AreLeavesOf, IsEventsOf}
 use Rattle.markdown_blocks.specs.events.Events.{first_lines, later_lines, leaf_of, lines_taken, open_after, part_of, piece_content, piece_events, started}
 use Rattle.markdown_blocks.specs.events.Given.{GivesBlock, block_left}
+use Rattle.markdown_blocks.specs.events.Shown.{AreShown, AreShownOf, IsShownOf, Shown, end_shown, events_in}
 use Rattle.markdown_blocks.specs.lists.Tracked.{Tracked, at_start, closed, lists_behind}
 use Rattle.markdown_blocks.specs.walk.Walk.{IsStep, IsContentOf}
-use Rattle.markdown_blocks.proofs.ForCallers.{events_of_nodes, page_lists, step_events}
+use Rattle.markdown_blocks.proofs.ForCallers.{events_of_nodes, page_lists, page_shown, shown_events, step_events, step_shown}
 use Rattle.markdown_blocks.proofs.taken.TakenLemmas.{lines_bytes}
 use Rattle.page_blocks.specs.declared.words.Form.{Form}
 use Rattle.page_blocks.specs.page.Going.{GoesOnTelling}
@@ -29,16 +30,16 @@ use Rattle.page_blocks.specs.page.Told.{Place, Printed, place_of, place_after, a
 use Rattle.page_blocks.specs.page.Told.{last_lines, lines_to_end, the_front, TellsFront, TellsPage}
 
 -- events that are printed one after the other
-pub lines-append : (form : Form) (p : Printed) (events later : List Event)
-    → lines_of_events form p (events ++ later) ≡ lines_of_events form p events ++ lines_of_events form (after_all p events) later
+pub lines-append : (form : Form) (p : Printed) (shown later : List Shown)
+    → lines_of_events form p (shown ++ later) ≡ lines_of_events form p shown ++ lines_of_events form (after_all p shown) later
 lines-append form p [] later = refl
-lines-append form p (event ∷ events) later =
-    ap (λ t. event_lines form p event ++ t) (lines-append form (after p event) events later)
-    ∙ sym (append_assoc (event_lines form p event) (lines_of_events form (after p event) events) _)
+lines-append form p (one ∷ shown) later =
+    ap (λ t. event_lines form p one ++ t) (lines-append form (after p one.event) shown later)
+    ∙ sym (append_assoc (event_lines form p one) (lines_of_events form (after p one.event) shown) _)
 
-pub after-append : (p : Printed) (events later : List Event) → after_all p (events ++ later) ≡ after_all (after_all p events) later
+pub after-append : (p : Printed) (shown later : List Shown) → after_all p (shown ++ later) ≡ after_all (after_all p shown) later
 after-append p [] later = refl
-after-append p (event ∷ events) later = after-append (after p event) events later
+after-append p (one ∷ shown) later = after-append (after p one.event) shown later
 
 abbrev place : ℕ → ℕ → Place
 place lines bytes = record { lines = lines; bytes = bytes }
@@ -48,9 +49,9 @@ abbrev behind_all : Place → List Event → Place
 behind_all at [] = at
 behind_all at (event ∷ later) = behind_all (place_after at event) later
 
-at-behind : (p : Printed) (events : List Event) → (after_all p events).at ≡ behind_all p.at events
+at-behind : (p : Printed) (shown : List Shown) → (after_all p shown).at ≡ behind_all p.at (events_in shown)
 at-behind p [] = refl
-at-behind p (event ∷ later) = at-behind (after p event) later
+at-behind p (one ∷ later) = at-behind (after p one.event) later
 
 behind-ends : (count : ℕ) (at : Place) (later : List Event) → behind_all at (replicate count ends ++ later) ≡ behind_all at later
 behind-ends zero at later = refl
@@ -118,8 +119,8 @@ behind-piece outer piece leaves line start are =
     ∙ behind-leaves leaves (piece.kept ++ piece.begun) piece.kind (part_of line start piece) (piece_content piece) (place line start) refl are
 
 module _ (form : Form) (outer now : Outer) (before : Taken) (lists : Tracked) (step : Step) (lines : List ℕ) (more : List (List ℕ))
-    (s : IsStep outer lines more step now) (content : List ℕ) (given : List Event) (gathered : IsContentOf step now.containers content)
-    (gives : GivesBlock now.containers content (block_left step before (length outer.containers)) given) where
+    (s : IsStep outer lines more step now) (content : List ℕ) (given : List Event) (shown : List Shown) (gathered : IsContentOf step now.containers content)
+    (gives : GivesBlock now.containers content (block_left step before (length outer.containers)) given) (are_shown : AreShown content given shown) where
   abbrev so_far : Printed
   so_far = record { at = place_of before; lists = lists }
 
@@ -127,14 +128,19 @@ module _ (form : Form) (outer now : Outer) (before : Taken) (lists : Tracked) (s
       × (given ≡ piece_events outer.containers before.bytes s.piece leaves)
   leaves_are = step_events outer now lines more step s before content gathered given gives
 
+  written_are : AreShown (piece_content s.piece) (piece_events outer.containers before.bytes s.piece leaves_are.0) shown
+  written_are =
+      subst (λ es. AreShown (piece_content s.piece) es shown) leaves_are.2 (step_shown outer now lines more step s content gathered given shown are_shown)
+
   -- the page is printed as far as the step's block goes
-  pub step_place : (next : Printed) → next ≡ after_all so_far given
+  pub step_place : (next : Printed) → next ≡ after_all so_far shown
       → next.at ≡ place (before.lines + length (s.piece.first ∷ s.piece.later)) (before.bytes + length (concat (s.piece.first ∷ s.piece.later)))
   step_place next is =
-      ap (λ (p : Printed). p.at) is ∙ at-behind so_far given ∙ ap (behind_all (place_of before)) leaves_are.2
+      ap (λ (p : Printed). p.at) is ∙ at-behind so_far shown
+      ∙ ap (behind_all (place_of before)) (shown_events content given shown are_shown ∙ leaves_are.2)
       ∙ behind-piece outer.containers s.piece leaves_are.0 before.lines before.bytes leaves_are.1
 
-  pub step_size : (next : Printed) → next ≡ after_all so_far given
+  pub step_size : (next : Printed) → next ≡ after_all so_far shown
       → (next.at.lines ≡ before.lines + step.block.taken.lines) × (next.at.bytes ≡ before.bytes + step.block.taken.bytes)
   step_size next is = (
     ap (λ (q : Place). q.lines) (step_place next is) ∙ ap (λ n. before.lines + n) (sym s.taken.counted),
@@ -154,42 +160,42 @@ module _ (form : Form) (outer now : Outer) (before : Taken) (lists : Tracked) (s
     (subst (IsPiece outer s.piece) is s.is_piece, subst (λ o. AreBlocks o later rest) s.open_now each),
   )
 
-  pub telling-next : (page text longer : List ℕ) (next : Printed) → next ≡ after_all so_far given
-      → longer ≡ text ++ lines_of_events form so_far given
+  pub telling-next : (page text longer : List ℕ) (next : Printed) → next ≡ after_all so_far shown
+      → longer ≡ text ++ lines_of_events form so_far shown
       → GoesOnTelling form page text so_far outer (lines_of lines ++ more)
       → GoesOnTelling form page longer next now (lines_of (drop step.block.taken.bytes lines) ++ more)
   unfolding GoesOnTelling left
-  telling-next page text longer next is_next tells goes later events rest is each are =
+  telling-next page text longer next is_next tells goes later others rest is each are =
       let front = front_with later rest is each in
-      let others = subst (λ (o : Outer). AreEvents o.containers (before.lines + length (s.piece.first ∷ s.piece.later))
-      (before.bytes + length (concat (s.piece.first ∷ s.piece.later))) later events) s.open_now
-      (subst (λ (q : Place). AreEvents now.containers q.lines q.bytes later events) (step_place next is_next) are) in
-      let whole = goes (s.piece ∷ later) (given ++ events) rest front.0 front.1
-      (leaves_are.0, events, leaves_are.1, ap (λ es. es ++ events) leaves_are.2, others) in
+      let behind = subst (λ (o : Outer). AreShownOf o.containers (before.lines + length (s.piece.first ∷ s.piece.later))
+      (before.bytes + length (concat (s.piece.first ∷ s.piece.later))) later others) s.open_now
+      (subst (λ (q : Place). AreShownOf now.containers q.lines q.bytes later others) (step_place next is_next) are) in
+      let whole = goes (s.piece ∷ later) (shown ++ others) rest front.0 front.1
+      (leaves_are.0, shown, others, leaves_are.1, written_are, refl, behind) in
       record {
         pieces = whole.pieces;
-        events = whole.events;
+        shown = whole.shown;
         are_its_blocks = whole.are_its_blocks;
         are_their_events = whole.are_their_events;
-        lines = ap (λ t. t ++ lines_of_events form next events) tells
-            ∙ ap (λ (q : Printed). (text ++ lines_of_events form so_far given) ++ lines_of_events form q events) is_next
-            ∙ append_assoc text (lines_of_events form so_far given) _
-            ∙ ap (λ t. text ++ t) (sym (lines-append form so_far given events)) ∙ whole.lines;
-        so_far = ap (λ (q : Printed). after_all q events) is_next ∙ sym (after-append so_far given events) ∙ whole.so_far;
+        lines = ap (λ t. t ++ lines_of_events form next others) tells
+            ∙ ap (λ (q : Printed). (text ++ lines_of_events form so_far shown) ++ lines_of_events form q others) is_next
+            ∙ append_assoc text (lines_of_events form so_far shown) _
+            ∙ ap (λ t. text ++ t) (sym (lines-append form so_far shown others)) ∙ whole.lines;
+        so_far = ap (λ (q : Printed). after_all q others) is_next ∙ sym (after-append so_far shown others) ∙ whole.so_far;
         open_now = ap (λ (o : Outer). open_after (length o.containers) later) s.open_now ∙ whole.open_now;
       }
 
 pub telling-first : (form : Form) (page : List ℕ) (p : Printed) (outer : Outer) (text : List ℕ) → p ≡ the_front → outer ≡ root no_extensions → text ≡ []
     → GoesOnTelling form page text p outer (lines_of page)
 unfolding GoesOnTelling
-telling-first form page p outer text front none empty later events rest is each are = record {
+telling-first form page p outer text front none empty later shown rest is each are = record {
   pieces = later;
-  events = events;
+  shown = shown;
   are_its_blocks = record { joined = sym is; each = subst (λ o. AreBlocks o later rest) none each };
-  are_their_events = subst (λ (q : Printed). AreEvents [] q.at.lines q.at.bytes later events) front
-      (subst (λ (o : Outer). AreEvents o.containers p.at.lines p.at.bytes later events) none are);
-  lines = ap (λ t. t ++ lines_of_events form p events) empty ∙ ap (λ (q : Printed). lines_of_events form q events) front;
-  so_far = ap (λ (q : Printed). after_all q events) front;
+  are_their_events = subst (λ (q : Printed). AreShownOf [] q.at.lines q.at.bytes later shown) front
+      (subst (λ (o : Outer). AreShownOf o.containers p.at.lines p.at.bytes later shown) none are);
+  lines = ap (λ t. t ++ lines_of_events form p shown) empty ∙ ap (λ (q : Printed). lines_of_events form q shown) front;
+  so_far = ap (λ (q : Printed). after_all q shown) front;
   open_now = ap (λ (o : Outer). open_after (length o.containers) later) none;
 }
 
@@ -202,19 +208,19 @@ telling-front form other page text words p outer lines same is goes =
     record {
       pieces = whole.pieces;
       rest = lines;
-      events = whole.events;
+      shown = whole.shown;
       are_its_blocks = whole.are_its_blocks;
       are_their_events = whole.are_their_events;
-      lines = sym is ∙ sym (append-nil text) ∙ whole.lines ∙ ap (λ f. lines_of_events f the_front whole.events) same;
+      lines = sym is ∙ sym (append-nil text) ∙ whole.lines ∙ ap (λ f. lines_of_events f the_front whole.shown) same;
     }
 
 -- the lines to the end of a page, of which the first events are printed
-to_end : (form : Form) (p : Printed) (events later : List Event)
-    → lines_of_events form p events ++ lines_to_end form (after_all p events) later ≡ lines_to_end form p (events ++ later)
-to_end form p events later =
-    sym (append_assoc (lines_of_events form p events) (lines_of_events form (after_all p events) later) _)
-    ∙ ap (λ t. t ++ ended_line form (closed (after_all (after_all p events) later).lists)) (sym (lines-append form p events later))
-    ∙ ap (λ (q : Printed). lines_of_events form p (events ++ later) ++ ended_line form (closed q.lists)) (sym (after-append p events later))
+to_end : (form : Form) (p : Printed) (shown later : List Shown)
+    → lines_of_events form p shown ++ lines_to_end form (after_all p shown) later ≡ lines_to_end form p (shown ++ later)
+to_end form p shown later =
+    sym (append_assoc (lines_of_events form p shown) (lines_of_events form (after_all p shown) later) _)
+    ∙ ap (λ t. t ++ ended_line form (closed (after_all (after_all p shown) later).lists)) (sym (lines-append form p shown later))
+    ∙ ap (λ (q : Printed). lines_of_events form p (shown ++ later) ++ ended_line form (closed q.lists)) (sym (after-append p shown later))
 
 -- with the last lines it prints the whole page
 pub telling-page : (form : Form) (page text longer : List ℕ) (p : Printed) (outer : Outer)
@@ -222,34 +228,35 @@ pub telling-page : (form : Form) (page text longer : List ℕ) (p : Printed) (ou
 unfolding GoesOnTelling
 telling-page form page text longer p outer tells goes =
     let whole = goes [] [] [] refl tt refl in
-    let last : List Event = replicate (open_after 0 whole.pieces) ends in
+    let last : List Shown = replicate (open_after 0 whole.pieces) end_shown in
     let is_page : IsPage no_extensions page whole.pieces =
     record { joined = sym (append-nil _) ∙ whole.are_its_blocks.joined; each = whole.are_its_blocks.each } in
-    let are : IsEventsOf no_extensions page (whole.events ++ last) = (whole.pieces, whole.events, is_page, whole.are_their_events, refl) in
-    let nodes = events_of_nodes no_extensions page (whole.events ++ last) are in
+    let all : IsShownOf no_extensions page (whole.shown ++ last) = (whole.pieces, whole.shown, is_page, whole.are_their_events, refl) in
+    let are : IsEventsOf no_extensions page (events_in (whole.shown ++ last)) = page_shown no_extensions page (whole.shown ++ last) all in
+    let nodes = events_of_nodes no_extensions page (events_in (whole.shown ++ last)) are in
     record {
-      events = whole.events ++ last;
-      are_its_events = are;
+      shown = whole.shown ++ last;
+      are_its_events = all;
       are_its_lists = (nodes.0, subst (IsEventsOf no_extensions page) nodes.1 are, ap (lists_behind at_start) nodes.1 ∙ page_lists nodes.0);
       lines = tells ∙ ap (λ n. text ++ last_lines form p n) whole.open_now
           ∙ ap (λ (q : Printed). text ++ lines_to_end form q last) whole.so_far
-          ∙ ap (λ t. t ++ lines_to_end form (after_all the_front whole.events) last) (sym (append-nil text) ∙ whole.lines)
-          ∙ to_end form the_front whole.events last;
+          ∙ ap (λ t. t ++ lines_to_end form (after_all the_front whole.shown) last) (sym (append-nil text) ∙ whole.lines)
+          ∙ to_end form the_front whole.shown last;
     }
 
 -- the lines of one more container's end
 last_more : (form : Form) (p : Printed) (count less : ℕ) → count ≡ suc less
-    → last_lines form p count ≡ event_lines form p ends ++ last_lines form (after p ends) less
+    → last_lines form p count ≡ event_lines form p end_shown ++ last_lines form (after p ends) less
 last_more form p count less more =
     ap (last_lines form p) more
-    ∙ append_assoc (event_lines form p ends) (lines_of_events form (after p ends) (replicate less ends))
-    (ended_line form (closed (after_all (after p ends) (replicate less ends)).lists))
+    ∙ append_assoc (event_lines form p end_shown) (lines_of_events form (after p ends) (replicate less end_shown))
+    (ended_line form (closed (after_all (after p ends) (replicate less end_shown)).lists))
 
 pub end_step : (form same : Form) (p next : Printed) (text longer all : List ℕ) (count less : ℕ) → count ≡ suc less → same ≡ form → next ≡ after p ends
-    → longer ≡ text ++ event_lines form p ends → text ++ last_lines form p count ≡ all → longer ++ last_lines same next less ≡ all
+    → longer ≡ text ++ event_lines form p end_shown → text ++ last_lines form p count ≡ all → longer ++ last_lines same next less ≡ all
 end_step form same p next text longer all count less more form_is next_is tells whole =
     ap (λ t. t ++ last_lines same next less) tells
-    ∙ append_assoc text (event_lines form p ends) (last_lines same next less)
-    ∙ ap (λ f. text ++ (event_lines form p ends ++ last_lines f next less)) form_is
-    ∙ ap (λ (q : Printed). text ++ (event_lines form p ends ++ last_lines form q less)) next_is
+    ∙ append_assoc text (event_lines form p end_shown) (last_lines same next less)
+    ∙ ap (λ f. text ++ (event_lines form p end_shown ++ last_lines f next less)) form_is
+    ∙ ap (λ (q : Printed). text ++ (event_lines form p end_shown ++ last_lines form q less)) next_is
     ∙ ap (λ t. text ++ t) (sym (last_more form p count less more)) ∙ whole

@@ -32,14 +32,14 @@ json_text bytes = utf8_lossy (flat_map escaped_byte bytes)
 abbrev pub hex_byte : ℕ → List ℕ
 hex_byte b = digit_glyph false (b / 16) ∷ digit_glyph false (b % 16) ∷ []
 
--- the digits of the bytes of an info string
-abbrev pub digits_json : List ℕ → List ℕ
-digits_json info = codes ",\"info_bytes\":\"" ++ flat_map hex_byte info ++ codes "\""
+-- the digits of the bytes of a text, as a member of an object
+abbrev pub digits_json : List ℕ → List ℕ → List ℕ
+digits_json name text = codes ",\"" ++ name ++ codes "_bytes\":\"" ++ flat_map hex_byte text ++ codes "\""
 
 -- where it is not UTF-8
-abbrev pub bytes_json : List ℕ → List ℕ
-bytes_json info = if is_utf8 info then [] else digits_json info
+abbrev pub bytes_json : List ℕ → List ℕ → List ℕ
+bytes_json name text = if is_utf8 text then [] else digits_json name text
 
--- an info string as the text of a JSON string, with what ends it, and these digits
-abbrev pub info_json : List ℕ → List ℕ
-info_json info = json_text info ++ codes "\"" ++ bytes_json info
+-- a text as a member of this name, and then these digits
+unfoldable pub text_json : List ℕ → List ℕ → List ℕ
+text_json name text = codes ",\"" ++ name ++ codes "\":\"" ++ json_text text ++ codes "\"" ++ bytes_json name text

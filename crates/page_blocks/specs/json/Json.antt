@@ -1,5 +1,5 @@
 -- The blocks of a page as JSON Lines.
-use Rattle.std.specs.Prelude.{ℕ, Bool, true, false, not, ◌+◌, List, ◌++◌, codes, encode_utf8}
+use Rattle.std.specs.Prelude.{ℕ, Bool, true, false, not, ◌+◌, List, [], ◌++◌, Option, None, Some, codes, encode_utf8}
 use Rattle.std.specs.Fmt.{decimal}
 use Rattle.markdown_values.specs.values.Headings.{heading_number}
 use Rattle.markdown_scanners_tree.specs.scanners.html_kinds.HtmlKinds.{condition_number}
@@ -8,9 +8,10 @@ use Rattle.markdown_blocks.specs.declared.blocks.BlockKind.TheVariants.{Blank, B
 use Rattle.markdown_blocks.specs.declared.containers.Container.{Container}
 use Rattle.markdown_blocks.specs.declared.containers.Container.TheVariants.{Quote, Item, Footnote}
 use Rattle.markdown_blocks.specs.declared.lists.ListBlock.{ListBlock}
+use Rattle.markdown_blocks.specs.events.Shown.{Written}
 use Rattle.markdown_blocks.specs.info.Info.{info_of}
 use Rattle.page_blocks.specs.declared.printing.Front.{Front}
-use Rattle.page_blocks.specs.info.Info.{byte_text, info_json, json_text}
+use Rattle.page_blocks.specs.info.Info.{byte_text, json_text, text_json}
 
 -- the first line, the last one, how many containers stand around, how many bytes of the page before the first line, and which of
 -- its bytes the text or the marker begins with, at the front of an object, and the name of its kind
@@ -48,20 +49,34 @@ page_json name = codes "{\"page\":\"" ++ json_text name ++ codes "\""
 abbrev pub size_json : ℕ → List ℕ
 size_json bytes = codes ",\"bytes\":" ++ decimal bytes
 
--- the kind, and what is known of a block whose first line has this text behind its containers
-abbrev pub kind_json : BlockKind → List ℕ → List ℕ
-kind_json Blank first = codes "\"blank\""
-kind_json Break first = codes "\"break\""
-kind_json (Heading level) first = codes "\"heading\",\"level\":" ++ decimal (heading_number level)
-kind_json (Setext level) first = codes "\"setext\",\"level\":" ++ decimal (heading_number level)
-kind_json Indented first = codes "\"indented\""
-kind_json (Fenced count byte) first =
-    codes "\"fenced\",\"count\":" ++ decimal count ++ codes ",\"fence\":\"" ++ byte_text byte ++ codes "\",\"info\":\""
-    ++ info_json (info_of byte first)
-kind_json (Html kind) first = codes "\"html\",\"condition\":" ++ decimal (condition_number kind)
-kind_json (Table columns) first = codes "\"table\",\"columns\":" ++ decimal columns
-kind_json Definition first = codes "\"definition\""
-kind_json Paragraph first = codes "\"paragraph\""
+-- a definition's label, destination and title, if it has one, as they are written
+abbrev pub title_json : Option (List ℕ) → List ℕ
+title_json None = []
+title_json (Some title) = text_json (codes "title") title
+
+abbrev pub written_json : Written → List ℕ
+written_json written =
+    text_json (codes "label") written.label ++ text_json (codes "destination") written.target.destination
+    ++ title_json written.target.title
+
+abbrev pub definition_json : Option Written → List ℕ
+definition_json None = []
+definition_json (Some written) = written_json written
+
+-- the kind, and what is known of a block whose first line has this text behind its containers; of a definition what is written in it
+abbrev pub kind_json : BlockKind → List ℕ → Option Written → List ℕ
+kind_json Blank first written = codes "\"blank\""
+kind_json Break first written = codes "\"break\""
+kind_json (Heading level) first written = codes "\"heading\",\"level\":" ++ decimal (heading_number level)
+kind_json (Setext level) first written = codes "\"setext\",\"level\":" ++ decimal (heading_number level)
+kind_json Indented first written = codes "\"indented\""
+kind_json (Fenced count byte) first written =
+    codes "\"fenced\",\"count\":" ++ decimal count ++ codes ",\"fence\":\"" ++ byte_text byte ++ codes "\""
+    ++ text_json (codes "info") (info_of byte first)
+kind_json (Html kind) first written = codes "\"html\",\"condition\":" ++ decimal (condition_number kind)
+kind_json (Table columns) first written = codes "\"table\",\"columns\":" ++ decimal columns
+kind_json Definition first written = codes "\"definition\"" ++ definition_json written
+kind_json Paragraph first written = codes "\"paragraph\""
 
 -- the kind of a container; of an item its marker too, and by how many columns its text is indented
 abbrev pub container_json : Container → List ℕ

@@ -2,7 +2,8 @@
 use Rattle.std.specs.Prelude.{ℕ, ◌≡◌, List, [], ◌++◌, length, string_bytes}
 use Rattle.markdown_blocks.specs.blocks.Pages.{Piece, AreBlocks, IsFront, lines_in}
 use Rattle.markdown_blocks.specs.containers.Containers.{Outer, no_extensions}
-use Rattle.markdown_blocks.specs.events.Events.{Event, AreEvents, open_after}
+use Rattle.markdown_blocks.specs.events.Events.{open_after}
+use Rattle.markdown_blocks.specs.events.Shown.{AreShownOf, Shown}
 use Rattle.page_blocks.specs.declared.page.Telling.{Telling}
 use Rattle.page_blocks.specs.declared.words.Form.{Form}
 use Rattle.page_blocks.specs.page.Told.{Printed, lines_of_events, after_all, the_front}
@@ -12,20 +13,20 @@ use Rattle.page_blocks.specs.printer.Printers.{printed_of}
 -- then, and so many containers are open.
 pub record IsPrinted (form : Form) (page text : List ℕ) (p : Printed) (depth : ℕ) (rest : List (List ℕ)) : Type 0 where
   pub pieces : List Piece
-  pub events : List Event
+  pub shown : List Shown
   pub are_its_blocks : IsFront no_extensions page pieces rest
-  pub are_their_events : AreEvents [] 0 0 pieces events
-  pub lines : text ≡ lines_of_events form the_front events
-  pub so_far : p ≡ after_all the_front events
+  pub are_their_events : AreShownOf [] 0 0 pieces shown
+  pub lines : text ≡ lines_of_events form the_front shown
+  pub so_far : p ≡ after_all the_front shown
   pub open_now : depth ≡ open_after 0 pieces
 
 -- The text prints a page as far as these lines, before which the page is printed so far and these containers are open: whatever
 -- blocks the first of them are, with the lines of their events it prints blocks at the front of the page.
 unfoldable pub GoesOnTelling : Form → List ℕ → List ℕ → Printed → Outer → List (List ℕ) → Type 0
 GoesOnTelling form page text p outer lines =
-    (later : List Piece) (events : List Event) (rest : List (List ℕ)) → lines ≡ lines_in later ++ rest → AreBlocks outer later rest
-    → AreEvents outer.containers p.at.lines p.at.bytes later events
-    → IsPrinted form page (text ++ lines_of_events form p events) (after_all p events) (open_after (length outer.containers) later) rest
+    (later : List Piece) (shown : List Shown) (rest : List (List ℕ)) → lines ≡ lines_in later ++ rest → AreBlocks outer later rest
+    → AreShownOf outer.containers p.at.lines p.at.bytes later shown
+    → IsPrinted form page (text ++ lines_of_events form p shown) (after_all p shown) (open_after (length outer.containers) later) rest
 
 -- what was written, and then the lines that are not yet written, print the page as far as these lines
 abbrev pub HasTold : List ℕ → List ℕ → Telling → List (List ℕ) → Type 0

@@ -12,7 +12,8 @@ use Rattle.markdown_blocks.specs.containers.Containers.{no_extensions}
 use Rattle.markdown_blocks.specs.declared.containers.Container.{Container}
 use Rattle.markdown_blocks.specs.declared.containers.Container.TheVariants.{Quote, Item, Footnote}
 use Rattle.markdown_blocks.specs.declared.lists.ListBlock.{ListBlock}
-use Rattle.markdown_blocks.specs.events.Events.{Event, starts, leaf, ends, LeafBlock, AreEvents, IsEventsOf}
+use Rattle.markdown_blocks.specs.events.Events.{Event, starts, leaf, ends, LeafBlock}
+use Rattle.markdown_blocks.specs.events.Shown.{AreShownOf, IsShownOf, Shown, Written, end_shown, events_in}
 use Rattle.markdown_blocks.specs.lists.Lists.{AreListsOf}
 use Rattle.markdown_blocks.specs.lists.Tracked.{Tracked, at_start, read, closed, lists_behind}
 use Rattle.page_blocks.specs.declared.words.Form.{Form}
@@ -53,10 +54,10 @@ container_text Quote = codes "quote"
 container_text Footnote = codes "footnote"
 container_text (Item item) = codes "item " ++ encode_utf8 item.delimiter ++ codes " " ++ decimal item.start
 
--- the same in a form: words, or JSON
-abbrev pub kind_told : Form → BlockKind → List ℕ → List ℕ
-kind_told Words kind first = kind_text kind first
-kind_told Json kind first = kind_json kind first
+-- the same in a form: words, or JSON, which has what is written in a definition
+abbrev pub kind_told : Form → BlockKind → List ℕ → Option Written → List ℕ
+kind_told Words kind first written = kind_text kind first
+kind_told Json kind first written = kind_json kind first written
 
 abbrev pub container_told : Form → Container → List ℕ
 container_told Words container = container_text container
@@ -100,9 +101,10 @@ leaf_front depth block = record {
   column = column_of block.start block.place;
 }
 
-abbrev pub leaf_line : Form → ℕ → LeafBlock → List ℕ
-leaf_line form depth block =
-    front_told form (leaf_front depth block) ++ kind_told form block.kind block.text ++ size_told form block.bytes ++ line_end form
+abbrev pub leaf_line : Form → ℕ → LeafBlock → Option Written → List ℕ
+leaf_line form depth block written =
+    front_told form (leaf_front depth block) ++ kind_told form block.kind block.text written ++ size_told form block.bytes
+    ++ line_end form
 
 -- the line of a container in so many others, whose marker stands after so many bytes of the page, and its first line after so
 -- much of it
@@ -162,48 +164,49 @@ abbrev pub after : Printed → Event → Printed
 after p event = record { at = place_after p.at event; lists = (read p.lists event).state }
 
 -- the line of an event, in so many containers
-abbrev pub event_line : Form → Place → ℕ → Event → List ℕ
-event_line form at depth (starts container marker) = container_line form at depth container marker
-event_line form at depth (leaf block) = leaf_line form depth block
-event_line form at depth ends = end_line form at (depth - 1)
+abbrev pub event_line : Form → Place → ℕ → Event → Option Written → List ℕ
+event_line form at depth (starts container marker) written = container_line form at depth container marker
+event_line form at depth (leaf block) written = leaf_line form depth block written
+event_line form at depth ends written = end_line form at (depth - 1)
 
 -- and before it that of the list that the event shows to have ended, if it shows one
-abbrev pub event_lines : Form → Printed → Event → List ℕ
-event_lines form p event = ended_line form (read p.lists event).list ++ event_line form p.at (length p.lists.outer) event
+abbrev pub event_lines : Form → Printed → Shown → List ℕ
+event_lines form p shown =
+    ended_line form (read p.lists shown.event).list ++ event_line form p.at (length p.lists.outer) shown.event shown.written
 
 -- the lines of events, one after the other
-abbrev pub lines_of_events : Form → Printed → List Event → List ℕ
+abbrev pub lines_of_events : Form → Printed → List Shown → List ℕ
 lines_of_events form p [] = []
-lines_of_events form p (event ∷ later) = event_lines form p event ++ lines_of_events form (after p event) later
+lines_of_events form p (shown ∷ later) = event_lines form p shown ++ lines_of_events form (after p shown.event) later
 
 -- how far the page is printed after them
-abbrev pub after_all : Printed → List Event → Printed
+abbrev pub after_all : Printed → List Shown → Printed
 after_all p [] = p
-after_all p (event ∷ later) = after_all (after p event) later
+after_all p (shown ∷ later) = after_all (after p shown.event) later
 
 -- the lines of the last events of a page that is printed so far, and that of the list that its end ends
-abbrev pub lines_to_end : Form → Printed → List Event → List ℕ
-lines_to_end form p events = lines_of_events form p events ++ ended_line form (closed (after_all p events).lists)
+abbrev pub lines_to_end : Form → Printed → List Shown → List ℕ
+lines_to_end form p shown = lines_of_events form p shown ++ ended_line form (closed (after_all p shown).lists)
 
 -- where so many containers are open at its end
 abbrev pub last_lines : Form → Printed → ℕ → List ℕ
-last_lines form p depth = lines_to_end form p (replicate depth ends)
+last_lines form p depth = lines_to_end form p (replicate depth end_shown)
 
 -- the lines of the events of a page, and of its lists
-abbrev pub page_lines : Form → List Event → List ℕ
-page_lines form events = lines_to_end form the_front events
+abbrev pub page_lines : Form → List Shown → List ℕ
+page_lines form shown = lines_to_end form the_front shown
 
 -- what is printed before the lines of a page of this name, of so many pages: as JSON its name, where there are two or more
 abbrev pub title_of : Form → ℕ → List ℕ → List ℕ
 title_of Words pages name = []
 title_of Json pages name = if nat_lt 1 pages then page_json name ++ line_end Json else []
 
--- The text has the lines of the events of the page in this form, and of its lists. (chapter 3, and section 5.3)
+-- The text has the lines of the events of the page in this form, and of its lists. (chapter 3, and sections 4.7 and 5.3)
 pub record TellsPage (form : Form) (input text : List ℕ) : Type 0 where
-  pub events : List Event
-  pub are_its_events : IsEventsOf no_extensions input events
-  pub are_its_lists : AreListsOf no_extensions input (lists_behind at_start events)
-  pub lines : text ≡ page_lines form events
+  pub shown : List Shown
+  pub are_its_events : IsShownOf no_extensions input shown
+  pub are_its_lists : AreListsOf no_extensions input (lists_behind at_start (events_in shown))
+  pub lines : text ≡ page_lines form shown
 
 -- known bytes grow by the title and by a text that has the lines of the page
 abbrev pub IsToldTo : Form → List ℕ → List ℕ → Option (List ℕ) → Option (List ℕ) → Type 0
@@ -213,10 +216,10 @@ IsToldTo form title input old new = (text : List ℕ) × TellsPage form input te
 pub record TellsFront (form : Form) (input text : List ℕ) : Type 0 where
   pub pieces : List Piece
   pub rest : List (List ℕ)
-  pub events : List Event
+  pub shown : List Shown
   pub are_its_blocks : IsFront no_extensions input pieces rest
-  pub are_their_events : AreEvents [] 0 0 pieces events
-  pub lines : text ≡ lines_of_events form the_front events
+  pub are_their_events : AreShownOf [] 0 0 pieces shown
+  pub lines : text ≡ lines_of_events form the_front shown
 
 -- Known bytes grow by the title and by a text that has the lines of blocks at the front of what was read of the input, whatever
 -- bytes follow that.

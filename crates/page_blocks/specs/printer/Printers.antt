@@ -1,8 +1,9 @@
 -- What a printer has printed.
-use Rattle.std.specs.Prelude.{ℕ, ◌≡◌, List, ◌++◌, string_bytes}
+use Rattle.std.specs.Prelude.{ℕ, ◌≡◌, List, ◌++◌, drop, string_bytes}
 use Rattle.markdown_blocks.specs.declared.containers.Container.{Container}
 use Rattle.markdown_blocks.specs.events.Events.{Event}
 use Rattle.markdown_blocks.specs.events.Given.{BlockLeft, GivesBlock}
+use Rattle.markdown_blocks.specs.events.Shown.{AreShown, Shown}
 use Rattle.page_blocks.specs.declared.printer.Printer.{Printer}
 use Rattle.page_blocks.specs.page.Told.{Printed, place_of, lines_of_events, after_all}
 
@@ -14,5 +15,7 @@ printed_of printer = record { at = place_of printer.at; lists = printer.lists }
 pub record HasPrinted (old : Printer) (outer : List Container) (content : List ℕ) (left : BlockLeft) (new : Printer) : Type 0 where
   pub events : List Event
   pub given : GivesBlock outer content left events
-  pub lines : string_bytes new.text ≡ string_bytes old.text ++ lines_of_events old.form (printed_of old) events
-  pub so_far : printed_of new ≡ after_all (printed_of old) events
+  pub shown : List Shown
+  pub are_shown : AreShown (drop left.used content) events shown
+  pub lines : string_bytes new.text ≡ string_bytes old.text ++ lines_of_events old.form (printed_of old) shown
+  pub so_far : printed_of new ≡ after_all (printed_of old) shown

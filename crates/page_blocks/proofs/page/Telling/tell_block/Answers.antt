@@ -16,8 +16,8 @@ returns-clause-told c = λ more none page written goes.
     let h = printed c in
     rw c.in_ok-print_block.ensures.form
     (telling-next c.args.self.now.printer.form c.args.self.now.walk c.next_block.new.self c.args.self.now.printer.at c.args.self.now.printer.lists
-    c.in-Some.step c.args.lines.now more ((rw c.in-Some.is at c.in_ok-step.ensures.step) more none) c.next_block.new.content.items h.events
-    (rw c.in-Some.is at c.in_ok-step.ensures.content) h.given page (written ++ string_bytes c.args.self.now.printer.text) _
+    c.in-Some.step c.args.lines.now more ((rw c.in-Some.is at c.in_ok-step.ensures.step) more none) c.next_block.new.content.items h.events h.shown
+    (rw c.in-Some.is at c.in_ok-step.ensures.content) h.given h.are_shown page (written ++ string_bytes c.args.self.now.printer.text) _
     (printed_of c.print_block.new.self) h.so_far
     (ap (λ t. written ++ t) h.lines ∙ sym (append_assoc written (string_bytes c.args.self.now.printer.text) _)) goes)
 
@@ -25,14 +25,14 @@ pub returns-clause-lines : goal.returns-clause-lines
 returns-clause-lines c =
     let h = printed c in
     let size = step_size c.args.self.now.printer.form c.args.self.now.walk c.next_block.new.self c.args.self.now.printer.at c.args.self.now.printer.lists
-    c.in-Some.step c.args.lines.now [] ((rw c.in-Some.is at c.in_ok-step.ensures.step) [] (λ ended. refl)) c.next_block.new.content.items h.events
-    (rw c.in-Some.is at c.in_ok-step.ensures.content) h.given (printed_of c.print_block.new.self) h.so_far in
+    c.in-Some.step c.args.lines.now [] ((rw c.in-Some.is at c.in_ok-step.ensures.step) [] (λ ended. refl)) c.next_block.new.content.items h.events h.shown
+    (rw c.in-Some.is at c.in_ok-step.ensures.content) h.given h.are_shown (printed_of c.print_block.new.self) h.so_far in
     omega (arith, size.0, c.in-Some.step.block.taken.few)
 
 pub returns-clause-bytes : goal.returns-clause-bytes
 returns-clause-bytes c =
     let h = printed c in
     let size = step_size c.args.self.now.printer.form c.args.self.now.walk c.next_block.new.self c.args.self.now.printer.at c.args.self.now.printer.lists
-    c.in-Some.step c.args.lines.now [] ((rw c.in-Some.is at c.in_ok-step.ensures.step) [] (λ ended. refl)) c.next_block.new.content.items h.events
-    (rw c.in-Some.is at c.in_ok-step.ensures.content) h.given (printed_of c.print_block.new.self) h.so_far in
+    c.in-Some.step c.args.lines.now [] ((rw c.in-Some.is at c.in_ok-step.ensures.step) [] (λ ended. refl)) c.next_block.new.content.items h.events h.shown
+    (rw c.in-Some.is at c.in_ok-step.ensures.content) h.given h.are_shown (printed_of c.print_block.new.self) h.so_far in
     size.1
