@@ -669,6 +669,26 @@ struct mds_text mds_block_content(
     const void *bytes, size_t length, const struct mds_block *block, const struct mds_block *containers,
     size_t container_count, size_t kept, uint8_t *buffer, size_t capacity);
 
+/* A list of a page: items that follow each other in one container, of one bullet or delimiter. */
+struct mds_list {
+    uint8_t delimiter; /* the bullet or the delimiter of its items */
+    bool is_loose;     /* whether it is loose, and not tight */
+    uint32_t start;    /* the number of its first item, and 0 after a bullet */
+    size_t depth;      /* how many containers it stands in */
+    size_t line, end;  /* how many lines of the page stand before its first, and before what follows its last */
+};
+
+/* All lists of a page, each where it ends: a list in an item stands before the list of that item. A list is loose where a
+ * blank line stands between two of its items, or between two blocks directly in an item, and else tight. Where the buffer
+ * is too short it is left as it was, and `count` says how many lists it needs room for. Memory is asked for, for the lists
+ * and while the page is read: MDS_NO_MEMORY. (5.3)
+ *
+ *     struct mds_list lists[2];
+ *     mds_scan_lists("1. a\n2. b\n\n   c", 15, lists, 2).count == 1
+ *     lists[0].delimiter == '.' && lists[0].start == 1 && lists[0].is_loose && lists[0].end == 4
+ */
+struct mds_blocks mds_scan_lists(const void *bytes, size_t length, struct mds_list *lists, size_t capacity);
+
 /* ---- Inlines ---- */
 
 /* What stands in the text of a block: inlines that hold no others, and where those begin and end that do. */

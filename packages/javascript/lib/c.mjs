@@ -247,6 +247,18 @@ export const STRUCTS = {
             count: from.size(at + 8),
         }),
     },
+    list: {
+        size: 32,
+        fields: [["delimiter", 0, "uint8_t"], ["isLoose", 1, "bool"], ["start", 4, "uint32_t"], ["depth", 8, "size_t"], ["line", 16, "size_t"], ["end", 24, "size_t"]],
+        read: (from, at) => ({
+            delimiter: from.uint8(at),
+            isLoose: from.bool(at + 1),
+            start: from.uint32(at + 4),
+            depth: from.size(at + 8),
+            line: from.size(at + 16),
+            end: from.size(at + 24),
+        }),
+    },
     view: {
         size: 16,
         fields: [["text", 0, "size_t"], ["length", 8, "size_t"]],
@@ -404,6 +416,7 @@ export const FUNCTIONS = {
     scanTableHead: ["mds_scan_table_head", "text", ["pointer", "size_t", "pointer", "size_t"]],
     scanBlocks: ["mds_scan_blocks", "blocks", ["pointer", "size_t", "pointer", "size_t"]],
     blockContent: ["mds_block_content", "text", ["pointer", "size_t", "pointer", "pointer", "size_t", "size_t", "pointer", "size_t"]],
+    scanLists: ["mds_scan_lists", "blocks", ["pointer", "size_t", "pointer", "size_t"]],
     scanInlines: ["mds_scan_inlines", "inlines", ["pointer", "size_t", "pointer", "size_t", "pointer", "size_t"]],
     scanLinkDest: ["mds_scan_link_dest", "part", ["pointer", "size_t", "size_t", "size_t"]],
     scanLinkTitle: ["mds_scan_link_title", "part", ["pointer", "size_t", "size_t"]],

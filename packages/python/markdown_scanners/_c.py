@@ -289,6 +289,23 @@ class Blocks(Structure):
     ]
 
 
+class List(Structure):
+    delimiter: int
+    is_loose: bool
+    start: int
+    depth: int
+    line: int
+    end: int
+    _fields_ = [
+        ("delimiter", c_uint8),
+        ("is_loose", c_bool),
+        ("start", c_uint32),
+        ("depth", c_size_t),
+        ("line", c_size_t),
+        ("end", c_size_t),
+    ]
+
+
 class View(Structure):
     text: int
     length: int
@@ -473,6 +490,7 @@ FUNCTIONS: dict[str, tuple[Any, tuple[Any, ...]]] = {
     "scan_table_head": (Text, (c_void_p, c_size_t, c_void_p, c_size_t)),
     "scan_blocks": (Blocks, (c_void_p, c_size_t, c_void_p, c_size_t)),
     "block_content": (Text, (c_void_p, c_size_t, c_void_p, c_void_p, c_size_t, c_size_t, c_void_p, c_size_t)),
+    "scan_lists": (Blocks, (c_void_p, c_size_t, c_void_p, c_size_t)),
     "scan_inlines": (Inlines, (c_void_p, c_size_t, c_void_p, c_size_t, c_void_p, c_size_t)),
     "scan_link_dest": (Part, (c_void_p, c_size_t, c_size_t, c_size_t)),
     "scan_link_title": (Part, (c_void_p, c_size_t, c_size_t)),

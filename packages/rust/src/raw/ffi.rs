@@ -229,6 +229,17 @@ pub struct Blocks {
 }
 
 #[repr(C)]
+#[derive(Clone, Copy, Debug, Default, PartialEq, Eq)]
+pub struct List {
+    pub delimiter: u8,
+    pub is_loose: bool,
+    pub start: u32,
+    pub depth: usize,
+    pub line: usize,
+    pub end: usize,
+}
+
+#[repr(C)]
 #[derive(Clone, Copy, Debug, PartialEq, Eq)]
 pub struct View {
     pub text: *const c_void,
@@ -397,6 +408,7 @@ extern "C" {
         buffer: *mut u8,
         capacity: usize,
     ) -> Text;
+    pub fn mds_scan_lists(bytes: *const c_void, length: usize, lists: *mut List, capacity: usize) -> Blocks;
     pub fn mds_scan_inlines(
         text: *const c_void,
         length: usize,
