@@ -22,7 +22,8 @@ pub fn first_list(alloc: Global, page: &[u8]) -> Result<Option<ListBlock>, Alloc
 
 /// How many lists of a page are loose.
 pub fn count_loose(alloc: Global, page: &[u8]) -> Result<usize, AllocError>
-    ensures { IfOk result (λ count. (lists : List ListBlock) × AreListsOf no_extensions page.now lists
+    ensures { IfOk result (λ count. (lists : List ListBlock)
+        × AreListsOf no_extensions page.now lists
         × (count ≡ count_by (λ list. list.is_loose) lists)) }
 {
     let lists = lists_of_page(alloc, page)?;

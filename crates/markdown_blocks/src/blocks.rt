@@ -173,7 +173,8 @@ fn take_through(text: &[u8], first: Taken, outer: &Outer, ending: Ending) -> Tak
 fn take_html(text: &[u8], first: Taken, outer: &Outer, kind: HtmlBlockKind, rest: &Rest) -> Taken
     ensures { (lines : List (List ℕ)) → IsTaken text.now first lines
         → (more : List (List ℕ)) × IsTaken text.now result (lines ++ more)
-        × EndsAsHtml outer.now.containers kind rest.now more (lines_of (drop result.bytes text.now)) }
+        × EndsAsHtml outer.now.containers kind rest.now more
+        (lines_of (drop result.bytes text.now)) }
 {
     if kind.ends_before_blank() {
         return take_until(text, first, outer, Ending::Html(kind));

@@ -54,7 +54,8 @@ impl<'a> Model for Blocks<'a> {
 
     ghost invariant = { λ b.
         (b.before.bytes ≤ length b.page.now)
-        × (b.block ≡ None → (b.begun ≡ length b.walk.containers) ⊎ (drop b.before.bytes b.page.now ≡ []))
+        × (b.block ≡ None
+        → (b.begun ≡ length b.walk.containers) ⊎ (drop b.before.bytes b.page.now ≡ []))
         × IfSome b.block (λ block. 0 < block_events_left b.walk.containers block) };
 }
 

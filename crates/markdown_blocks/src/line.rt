@@ -59,7 +59,8 @@ impl<'a> Line<'a> {
 
     /// What it has after the containers, if it stands in all of them.
     pub(crate) fn rest_inside(&self) -> Option<&Rest<'a>>
-        ensures rest { IfSome result (λ rest. rest.now ≡ rest_in self.now.outer.containers self.now.bytes) }
+        ensures rest { IfSome result (λ rest.
+            rest.now ≡ rest_in self.now.outer.containers self.now.bytes) }
         ensures inside { IfSome result (λ _. IsInside self.now.outer.containers self.now.bytes) }
         ensures none { IfNone result (¬ IsInside self.now.outer.containers self.now.bytes) }
     {

@@ -18,12 +18,12 @@ use Rattle.markdown_blocks.specs.taken.Lines.{IsTaken}
 -- a marker is passed where one stands, and the space before it else
 pub marker_passed : (s t next : LineState) (indent : ℕ) (found : Option Container) → indent ≡ space_within 4 s → t ≡ after_space 4 s
     → IfSome found (λ c. begun_behind all_extensions indent t ≡ Some (c, next)) → IfNone found (begun_behind all_extensions indent t ≡ None)
-        → IfNone found (next ≡ t)
+    → IfNone found (next ≡ t)
     → next ≡ after_marker s
 marker_passed s t next indent (Some c) columns state found none same =
     let here : begun_at all_extensions s ≡ Some (c, next) =
     subst (λ n. begun_behind all_extensions n (after_space 4 s) ≡ Some (c, next)) columns
-        (subst (λ z. begun_behind all_extensions indent z ≡ Some (c, next)) state found) in
+    (subst (λ z. begun_behind all_extensions indent z ≡ Some (c, next)) state found) in
     rw (after_marker, here) refl
 marker_passed s t next indent None columns state found none same =
     let here : begun_at all_extensions s ≡ None =

@@ -66,7 +66,7 @@ module _ (outer : Outer) (words : List ℕ) where
   text_goes_on before underline line is goes none (inl out) = out.0 is.underlines.0
   text_goes_on before underline line is goes none (inr (inside, inl blank)) =
       let under = is.underlines.1.2 in not_blank (rest_in outer.containers line).text underline.level under.byte under.run under.rest under.of_level
-          under.is_run.parts
+      under.is_run.parts
       under.is_run.all under.at_least_one blank
   text_goes_on before underline line is goes none (inr (inside, inr (inl under))) = none under.1
   text_goes_on before underline line is goes none (inr (inside, inr (inr interrupts))) =

@@ -168,7 +168,7 @@ module _ (old new : Outer) (lines : List ℕ) (step : Step) (s : IsStep old line
       ap length s.is_piece.opened.goes_on ∙ kept_fewer (take (behind old.containers s.piece.first).kept old.containers) in
       let few = length-take (behind old.containers s.piece.first).kept old.containers in
       let longer : length new.containers ≡ length s.piece.kept + length s.piece.begun = ap (λ (o : Outer). length o.containers) s.open_now
-          ∙ length-append s.piece.kept s.piece.begun in
+      ∙ length-append s.piece.kept s.piece.begun in
       (omega (arith, counted, here, few), omega (arith, counted, longer))
 
   module _ (before : Taken) (content : List ℕ) (c : IsContentOf step new.containers content) where
@@ -183,8 +183,16 @@ module _ (old new : Outer) (lines : List ℕ) (step : Step) (s : IsStep old line
           start = before.bytes + step.block.taken.bytes;
           next = Some (record { block = block_left step before begun; content = content });
         }) events
-        → Gives (record { text = lines; extensions = old.extensions; containers = old.containers; begun = begun; line = before.lines; start =
-            before.bytes; next = None }) events
+        → Gives (record {
+          text = lines;
+          extensions = old.extensions;
+          containers = old.containers;
+          begun = begun;
+          line = before.lines;
+          start =
+              before.bytes;
+          next = None;
+        }) events
     block_read begun text open_before behind_is events given_then =
         let line_now = before.lines + step.block.taken.lines in
         let start_now = before.bytes + step.block.taken.bytes in

@@ -150,7 +150,7 @@ module _ (asked : BlockExtensions) (lead : Lead) where
 
   blank_leaf : (pieces others : List Piece) (words : Rest) (later : List (List ℕ)) → AllZip IsNext pieces others → OnFirst Text (lines_in pieces)
       → IsLeaf (root asked) Blank words later (lines_in pieces ++ []) → later ≡ []
-          → IsLeaf (opened asked (begun_by lead ∷ [])) Blank words [] (lines_in others ++ [])
+      → IsLeaf (opened asked (begun_by lead ∷ [])) Blank words [] (lines_in others ++ [])
   blank_leaf pieces others words later z text leaf none =
       (leaf.0, record { none = tt; stopped = first_ends pieces others z text leaf.1.stopped })
 
@@ -181,7 +181,7 @@ blank_item_blocks asked lead is (p ∷ pieces) (q ∷ others) (one, single, i, z
     let next : AreBlocks (opened asked (item_by lead ∷ [])) others [] =
     next_blocks asked (item_by lead) (IsItemLine lead) (IsIndentedLine w) (IsLessIndented asked w) refl
     (λ line changed i. item_begins lead is line changed i asked) (item_goes_on lead) (item_stays_out lead asked) [] pieces others z
-        (subst (λ cs. AreBlocks (opened asked cs) pieces []) outside h.1) in (
+    (subst (λ cs. AreBlocks (opened asked cs) pieces []) outside h.1) in (
       record {
         opened = first_opened asked (begun_by lead) (IsMarkerAlone lead) (IsIndentedLine w) (IsLessIndented asked w) p q
             (blank_begins lead is one p.first q.first i.first asked) i h.0.opened;

@@ -144,9 +144,9 @@ module _ (asked : BlockExtensions) (c : Container) (First Later Lazy : Change) (
         sym open_now ∙ ap (λ cs. cs ++ begun) (sym i.kept_are) ∙ ap (λ cs. q.kept ++ cs) (sym i.begun_are) in
         let moved : IsLeaf (opened asked (c ∷ outer)) p.kind p.words q.later (lines_in others ++ []) =
         leaf_moves (opened asked outer) (opened asked (c ∷ outer)) p.words p.later q.later (lines_in pieces ++ []) (lines_in others ++ [])
-            (follow outer pieces others z) p.kind
+        (follow outer pieces others z) p.kind
         (zip_map (IsLater p q) (LaterMoves (opened asked outer) (opened asked (c ∷ outer)) p.kind)
-            (later_moves outer p q refl there) p.later q.later i.later) leaf in
+        (later_moves outer p q refl there) p.later q.later i.later) leaf in
         subst (λ cs. IsLeaf (opened asked cs) q.kind q.words q.later (lines_in others ++ [])) there
         (subst (λ w. IsLeaf (opened asked (c ∷ outer)) q.kind w q.later (lines_in others ++ [])) (sym i.words)
         (subst (λ k. IsLeaf (opened asked (c ∷ outer)) k p.words q.later (lines_in others ++ [])) (sym i.kind) moved))

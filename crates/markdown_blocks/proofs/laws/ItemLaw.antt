@@ -115,7 +115,7 @@ pub one_list_item : (asked : BlockExtensions) (lead : Lead) (text : List ℕ) (p
     → AreInItem asked lead pieces others → IsPage asked (concat (lines_in others)) found → found ≡ others
 one_list_item asked lead text pieces others found is page z at =
     one_page (root asked) found others (at.joined ∙ item_lines asked lead text pieces others is page.joined z) at.each
-        (held_in_item asked lead is pieces others z page.each)
+    (held_in_item asked lead is pieces others z page.each)
 
 -- Rule 3: the same where these blocks begin with a single blank line, before which the marker stands.
 blank_lines_in : (asked : BlockExtensions) (lead : Lead) (pieces others : List Piece) → IsLead lead → AreInBlankItem asked lead pieces others

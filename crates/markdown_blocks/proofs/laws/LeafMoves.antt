@@ -137,7 +137,7 @@ module _ (outer other : Outer) where
   LaterMoves kind line moved =
       Moves outer other line moved
       ⊎ ((kind ≡ Paragraph) × (¬ IsInside other.containers moved) × IsLazy other.extensions (behind other.containers moved).state
-          × (words_in outer.containers line ≡ words_in other.containers moved))
+      × (words_in outer.containers line ≡ words_in other.containers moved))
 
   all_move : (kind : BlockKind) → ¬ (kind ≡ Paragraph) → (lines others : List (List ℕ)) → AllZip (LaterMoves kind) lines others
       → AllZip (Moves outer other) lines others
@@ -223,7 +223,7 @@ module _ (outer other : Outer) where
       where
         by : (EndsHtml kind first × (lines ≡ [])) ⊎ ((¬ EndsHtml kind first) × StopsBehind outer.containers (OutOr outer.containers (EndsHtml kind)) lines rest)
             → (EndsHtml kind first × (others ≡ [])) ⊎ ((¬ EndsHtml kind first) × StopsBehind other.containers
-                (OutOr other.containers (EndsHtml kind)) others after)
+            (OutOr other.containers (EndsHtml kind)) others after)
         by (inl h) = inl (h.0, none_moves (Moves outer other) lines others h.1 z)
         by (inr h) = inr (h.0, out_behind (EndsHtml kind) lines others rest after z two h.1)
 
@@ -283,7 +283,7 @@ module _ (outer other : Outer) where
     none_behind kind text (before ++ line ∷ []) (before' ++ moved ∷ []) lines others
         (content_step outer.containers text before line ∙ ap (λ t. t ++ words_in outer.containers line) same
         ∙ ap (λ t. content_of other.containers text before' ++ t) (words_move kind line moved z.0)
-            ∙ sym (content_step other.containers text before' moved)) z.1 h.1,
+        ∙ sym (content_step other.containers text before' moved)) z.1 h.1,
   )
 
   stops_at : (kind : BlockKind) (text : List ℕ) (lines others rest after : List (List ℕ)) → AllZip (LaterMoves kind) lines others

@@ -147,8 +147,11 @@ pub none_over : (old : Outer) (inner : List Container) (line lines : List ℕ) (
 none_over old inner line lines has_ended count words block o b open_yet piece rest parts is over =
     let here : Piece = record { kept = o.kept; begun = o.begun; words = words; kind = block.kind; first = line; later = b.later } in
     let left : List (List ℕ) = lines_of (drop block.taken.bytes lines) in
-    let here_is : IsPiece old here left = record { opened = o.opened; leaf = subst
-        (λ cs. IsLeaf (with_open old cs) block.kind words b.later left) o.open_now b.leaf } in
+    let here_is : IsPiece old here left = record {
+      opened = o.opened;
+      leaf = subst
+          (λ cs. IsLeaf (with_open old cs) block.kind words b.later left) o.open_now b.leaf;
+    } in
     let one = one_piece old here piece left rest (sym b.taken.parts ∙ parts) here_is is in
     let over_here : IsOver (o.kept ++ o.begun) block.kind has_ended rest =
     subst (λ p. IsOver (p.kept ++ p.begun) p.kind has_ended rest) (sym one.0) over in

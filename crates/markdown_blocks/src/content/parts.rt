@@ -61,7 +61,8 @@ impl<'a> Parts<'a> {
         outer: &'a Outer<'a>,
         kept: usize,
     ) -> Parts<'a>
-        ensures parts { AreParts kind outer.now.containers kept (lines_of lines.now) (parts_left result) }
+        ensures parts { AreParts kind outer.now.containers kept (lines_of lines.now)
+            (parts_left result) }
         ensures lines { result.lines.now ≡ lines.now }
     {
         let Some((line, read)) = Taken::nothing().next(lines) else {

@@ -36,7 +36,7 @@ loop-container-preserved c =
 pub returns-clause-opening : goal.returns-clause-opening
 returns-clause-opening c =
     opening-done (record { extensions = c.args.extensions; containers = c.args.outer.now.items }) c.args.line.now c.loop-container.outer.items _
-        c.loop-container.rest c.loop-container.start
+    c.loop-container.rest c.loop-container.start
     c.loop-container.invariant.2 (rw (ap (λ (r : Rest). r.indent) c.rest.view_is) at c.in_default.ensures.none)
 
 pub returns-clause-few : goal.returns-clause-few

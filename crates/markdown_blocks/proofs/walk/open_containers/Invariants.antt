@@ -6,7 +6,7 @@ use Rattle.markdown_blocks.proofs.walk.open_containers.Given as goal
 abbrev pub invariant-loop-container : goal.invariant-loop-container
 invariant-loop-container l =
     (l.start.bytes ≡ l.line) × (l.rest.indent ≤ 4) × Opening (record { extensions = l.extensions; containers = l.fn.outer.items }) l.line l.outer.items
-        l.count l.rest l.start
+    l.count l.rest l.start
     × (length l.outer.items ≤ l.count + l.start.place) × (l.start.place ≤ length l.line)
 
 abbrev pub decreases-loop-container : goal.decreases-loop-container

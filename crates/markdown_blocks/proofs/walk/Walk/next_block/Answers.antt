@@ -27,7 +27,7 @@ returns-then-not-is_over-clause-none c =
     let over = rw (c.new-outer.ensures, c.deref-2.ensures.value) at (c.is_over.ensures (c.in-Some.line.now ∷ block.later) block.taken) in
     let opening = rw (c.in_ok-extend_from_slice.ensures.items, c.clear.ensures.items, c.deref.ensures.value) at c.in_ok-opened.ensures.opening in
     rw (← c.self.view_is) (none_over (record { extensions = c.self.inside.extensions; containers = c.self.inside.open.items })
-        c.open_containers.new.outer.items c.in-Some.line.now
+    c.open_containers.new.outer.items c.in-Some.line.now
     c.args.lines.now c.args.has_ended c.in_ok-opened.opened.kept _ c.in_ok-block.block opening block (not_told c.if-not-is_over.true over.1))
 
 pub returns-clause-some : goal.returns-clause-some
@@ -49,10 +49,10 @@ returns-clause-step c = λ more none.
     at c.in_ok-opened.ensures.opening in
     let place = rw (c.in_ok-extend_from_slice.ensures.items, c.clear.ensures.items, c.deref.ensures.value) at c.in_ok-opened.ensures.place in
     let leaf = leaf-more (record { extensions = c.self.inside.extensions; containers = c.open_containers.new.outer.items }) more c.in_ok-block.block.kind _
-        block.later _ c.args.has_ended
+    block.later _ c.args.has_ended
     (over.0 c.if-not-is_over.false) none block.leaf in
     rw (← c.self.view_is, c.swap.ensures.x_after) (step_here (record { extensions = c.self.inside.extensions; containers = c.self.inside.open.items })
-        c.open_containers.new.outer.items
+    c.open_containers.new.outer.items
     c.in-Some.line.now c.args.lines.now more _ opening refl place refl block leaf)
 
 pub returns-clause-content : goal.returns-clause-content
