@@ -1,1 +1,10 @@
 pub mod OutputLemmas
+pub mod Spans
+pub mod MarkedLemmas
+pub mod NumberedPieces
+pub mod OpenSpans
+pub mod NestLemmas
+pub mod StandLemmas
+pub mod SettledSpans
+pub mod LaidLemmas
+pub mod Nests

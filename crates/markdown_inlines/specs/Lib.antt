@@ -12,6 +12,7 @@ pub mod LineBreaks
 pub mod LinkTails
 pub mod Links
 pub mod Marks
+pub mod Nesting
 pub mod Output
 pub mod PieceBytes
 pub mod Pieces

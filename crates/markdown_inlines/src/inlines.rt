@@ -2,6 +2,7 @@
 //! 0.31.2, chapter 6)
 ghost use Rattle.std.specs.Prelude.{◌≡◌, ◌++◌, ◌<◌, ◌≤◌, ◌+◌, ◌^◌, List, Option, length, IfOk, OnOk};
 ghost use Rattle.markdown_inlines.specs.Marks.{AreMarks};
+ghost use Rattle.markdown_inlines.specs.Nesting.{Nest, StandFrom};
 ghost use Rattle.markdown_inlines.specs.Output.{AreInlines, counted, delimiters_between, delimiter_with, inlines_at, opener_as};
 ghost use Rattle.std.specs.List.{All};
 ghost use Rattle.markdown_inlines.specs.Output.{closer_with, inlines_from};
@@ -64,6 +65,13 @@ pub fn find_inlines<L: Labels>(
     ensures inlines { IfOk result (λ r.
         AreInlines text.now (record { asked = extensions; known = L.known labels.now })
         r.inlines.items r.links.items) }
+
+    // What begins ends, the innermost first.
+    ensures nested { IfOk result (λ r. Nest r.links.items r.inlines.items) }
+
+    // Each inline begins where the one before it ends, and all together are the text.
+    ensures sources { IfOk result (λ r.
+        StandFrom r.links.items 0 r.inlines.items (length text.now)) }
 
     // The text may be cut on both sides of each part of a link.
     ensures links { IfOk result (λ r. AreLinkSources text.now r.links.items) }

@@ -22,7 +22,7 @@ use Rattle.markdown_inlines.proofs.cut.OneCut.{ReadAs, read_as}
 -- ---- the links of openers
 
 -- with another link or none at a number, each is that or was there
-put_in : (links : List (Option Link)) (number n : ℕ) (put : Option Link) (a : Link)
+pub put_in : (links : List (Option Link)) (number n : ℕ) (put : Option Link) (a : Link)
     → slice_get (slice_set links number put) n ≡ Some (Some a) → ((n ≡ number) × (put ≡ Some a)) ⊎ (slice_get links n ≡ Some (Some a))
 put_in [] number n put a is = inr is
 put_in (x ∷ links) zero zero put a is = inl (refl, (let same : Some put ≡ Some (Some a) = is in cc))
@@ -34,7 +34,7 @@ put_in (x ∷ links) (suc number) (suc n) put a is = elim (put_in links number n
 ]
 
 -- with an opener that begins none, each was there
-added_in : (links : List (Option Link)) (n : ℕ) (a : Link) → slice_get (links ++ None ∷ []) n ≡ Some (Some a)
+pub added_in : (links : List (Option Link)) (n : ℕ) (a : Link) → slice_get (links ++ None ∷ []) n ≡ Some (Some a)
     → slice_get links n ≡ Some (Some a)
 added_in [] zero a is = (let none : Some None ≡ Some (Some a) = is in cc)
 added_in [] (suc n) a is = is
@@ -123,7 +123,7 @@ module _ (piece : Piece) (reading : Reading) (holds : Holds reading piece.start)
 
 -- ---- right brackets
 
-ends_after : (text : List ℕ) (known : Known) (from close : ℕ) (target : LinkTarget) (end : ℕ) → IsTarget text known from close target end → close < end
+pub ends_after : (text : List ℕ) (known : Known) (from close : ℕ) (target : LinkTarget) (end : ℕ) → IsTarget text known from close target end → close < end
 ends_after text known from close (Inline destination title) end is = omega (arith, is.3)
 ends_after text known from close (Full label) end is = omega (arith, is.2, is.1.ends, is.1.known_after.1.1.closed)
 ends_after text known from close Collapsed end is = omega (arith, is.4)

@@ -1,0 +1,52 @@
+-- The inlines of a text nest, and stand one after another.
+use Rattle.std.proofs.Common.{ℕ, List, ◌≡◌, ◌∙◌, sym, ap, subst, Option, length}
+use Rattle.markdown_inlines.specs.Inlines.{Setting, IsCut}
+use Rattle.markdown_inlines.specs.Marks.{AreMarks}
+use Rattle.markdown_inlines.specs.Nesting.{Nest, StandFrom}
+use Rattle.markdown_inlines.specs.Output.{AreInlines, inlines_from}
+use Rattle.markdown_inlines.specs.declared.emphasis.Emphasis.{Emphasis}
+use Rattle.markdown_inlines.specs.declared.inlines.Inline.{Inline}
+use Rattle.markdown_inlines.specs.declared.links.Link.{Link}
+use Rattle.markdown_inlines.specs.declared.marks.Mark.{Mark}
+use Rattle.markdown_inlines.specs.declared.pieces.Piece.{Piece}
+use Rattle.markdown_inlines.proofs.inlines.LaidLemmas.{cut_is_laid}
+use Rattle.markdown_inlines.proofs.inlines.NestLemmas.{laid_nest}
+use Rattle.markdown_inlines.proofs.inlines.StandLemmas.{laid_stand}
+
+-- what begins in a text ends in it, and no two cross
+pub inlines_nest : (text : List ℕ) (setting : Setting) (inlines : List Inline) (links : List (Option Link)) → AreInlines text setting inlines links
+    → Nest links inlines
+inlines_nest text setting inlines links are =
+    subst (Nest links) (sym are.inlines_are)
+    (laid_nest links are.emphasis are.pieces (length text) (cut_is_laid text setting are.pieces links are.emphasis are.cut))
+
+-- each begins where the one before it ends, from the beginning of the text up to its end
+pub inlines_stand : (text : List ℕ) (setting : Setting) (inlines : List Inline) (links : List (Option Link)) → AreInlines text setting inlines links
+    → StandFrom links 0 inlines (length text)
+inlines_stand text setting inlines links are =
+    subst (λ (l : List Inline). StandFrom links 0 l (length text)) (sym are.inlines_are)
+    (laid_stand links are.emphasis are.pieces (length text) (cut_is_laid text setting are.pieces links are.emphasis are.cut))
+
+-- the inlines by the marks of a text, of which each list is also known by another name
+pub by_marks : (text : List ℕ) (setting : Setting) (pieces pieces' : List Piece) (links links' links'' : List (Option Link))
+    (emphasis emphasis' : List Emphasis) (marks marks' : List Mark) (len : ℕ) (inlines : List Inline) → pieces' ≡ pieces → links' ≡ links
+    → links'' ≡ links → emphasis' ≡ emphasis → marks' ≡ marks → IsCut text setting pieces links emphasis → AreMarks links' emphasis' len marks
+    → ((e : List Emphasis) → AreMarks links'' e (length marks') marks' → inlines ≡ inlines_from links'' e 0 pieces')
+    → AreInlines text setting inlines links
+by_marks text setting pieces pieces' links links' links'' emphasis emphasis' marks marks' len inlines p l l' e m cut are inlines_are = record {
+  pieces = pieces;
+  emphasis = emphasis;
+  cut = cut;
+  inlines_are = inlines_are emphasis moved ∙ (ap (λ (ls : List (Option Link)). inlines_from ls emphasis 0 pieces') l'
+      ∙ ap (λ (ps : List Piece). inlines_from links emphasis 0 ps) p);
+}
+  where
+    whole : AreMarks links emphasis (length marks) marks
+    whole =
+        subst (λ n. AreMarks links emphasis n marks) (sym are.counted)
+        (subst (λ (ls : List (Option Link)). AreMarks ls emphasis len marks) l (subst (λ (es : List Emphasis). AreMarks links' es len marks) e are))
+
+    moved : AreMarks links'' emphasis (length marks') marks'
+    moved =
+        subst (λ (ls : List (Option Link)). AreMarks ls emphasis (length marks') marks') (sym l')
+        (subst (λ (ms : List Mark). AreMarks links emphasis (length ms) ms) (sym m) whole)
