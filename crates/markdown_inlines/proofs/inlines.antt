@@ -8,3 +8,4 @@ pub mod StandLemmas
 pub mod SettledSpans
 pub mod LaidLemmas
 pub mod Nests
+pub mod NestRows

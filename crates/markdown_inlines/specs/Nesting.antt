@@ -10,7 +10,8 @@ abbrev pub EndsIt : List (Option Link) → Inline → Inline → Type 0
 EndsIt links (I.StartEmphasis place count) (I.EndEmphasis place' count') = count' ≡ count
 EndsIt links (I.StartStrikethrough place count) (I.EndStrikethrough place' count') = count' ≡ count
 EndsIt links (I.StartLink number) (I.EndLink piece) =
-    (link : Link) × (slice_get links number ≡ Some (Some link)) × (piece.start ≡ link.text.end) × (piece.end ≡ link.source.end)
+    (link : Link) × (slice_get links number ≡ Some (Some link))
+    × (piece.start ≡ link.text.end) × (piece.end ≡ link.source.end)
 EndsIt links start end = ⊥
 
 -- With these starts open, the innermost first, a leaf changes nothing, a start is open up to its end, and an end ends the innermost.
