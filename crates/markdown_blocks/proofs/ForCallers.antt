@@ -1,6 +1,7 @@
 -- Lemmas that other crates cite.
 pub use Rattle.markdown_blocks.proofs.blocks.OneText.{one_piece, one_page}
 pub use Rattle.markdown_blocks.proofs.containers.ContainerLemmas.{begun_by_all}
+pub use Rattle.markdown_blocks.proofs.content.ByteLemmas.{content_bytes}
 pub use Rattle.markdown_blocks.proofs.content.OneContent.{one_content, one_list_of_parts}
 pub use Rattle.markdown_blocks.proofs.definitions.DefinitionLemmas.{one_list_of_definitions}
 pub use Rattle.markdown_blocks.proofs.events.EventLemmas.{one_list_of_events, step_events}

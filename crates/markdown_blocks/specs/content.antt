@@ -1,3 +1,4 @@
+pub mod Bytes
 pub mod Content
 pub mod Left
 pub mod Parts

@@ -3,6 +3,7 @@
 ghost use Rattle.std.specs.Prelude.{◌≡◌, ◌^◌, ◌++◌, ◌+◌, ◌-◌, ◌<◌, ◌≤◌, List, length, replicate, slice_index, IfOk, IfSome, IfNone, IsOk, OnOk};
 ghost use Rattle.markdown_scanners_tree.specs.Ascii.{space};
 ghost use Rattle.markdown_scanners_tree.specs.scanners.TextLines.{lines_of};
+ghost use Rattle.markdown_blocks.specs.content.Bytes.{AreBytesOf};
 ghost use Rattle.markdown_blocks.specs.content.Content.{IsContent, content_len, content_with, text_of, words_len};
 ghost use Rattle.markdown_blocks.specs.content.Left.{IsRun, IsRunAt, parts_left};
 ghost use Rattle.markdown_blocks.specs.content.Parts.{AreOneRun, AreParts, Part};
@@ -71,6 +72,7 @@ pub fn content_of<'a>(
         IsContent kind containers.now kept (lines_of lines.now) content) }
     ensures lent { (parts : List Part) → AreParts kind containers.now kept (lines_of lines.now) parts
         → AreOneRun parts → IsOk result }
+    ensures bytes { IfOk result (λ content. AreBytesOf lines.now content) }
 {
     let outer = Outer::new(BlockExtensions::none(), containers);
     let parts = Parts::of(lines, kind, &outer, kept);

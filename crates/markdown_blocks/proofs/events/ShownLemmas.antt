@@ -11,9 +11,9 @@ use Rattle.markdown_blocks.specs.declared.containers.BlockExtensions.{BlockExten
 use Rattle.markdown_blocks.specs.declared.containers.Container.{Container}
 use Rattle.markdown_blocks.specs.declared.step.Step.{Step}
 use Rattle.markdown_blocks.specs.definitions.Definitions.{IsDefinition, most_nested}
-use Rattle.markdown_blocks.specs.events.Events.{Event, starts, leaf, ends, LeafBlock, AreEvents, IsEventsOf, open_after, part_of, piece_content, piece_events}
-use Rattle.markdown_blocks.specs.events.Shown.{AreShown, AreShownOf, IsShownOf, IsWritten, IsWrittenIn, Shown, Written, end_shown, events_in, written_of}
-use Rattle.markdown_blocks.specs.events.Used.{IsUsed, IsUsedBy}
+use Rattle.markdown_blocks.specs.events.Events.{Event, starts, leaf, ends, AreEvents, IsEventsOf, open_after, part_of, piece_content, piece_events}
+use Rattle.markdown_blocks.specs.events.Shown.{AreShown, AreShownOf, IsShownOf, IsWrittenIn, Shown, Written, end_shown, events_in, written_of}
+use Rattle.markdown_blocks.specs.events.Used.{IsUsedBy}
 use Rattle.markdown_blocks.specs.walk.Walk.{IsContentOf, IsGathered, IsStep}
 use Rattle.markdown_blocks.proofs.blocks.OneText.{one_page}
 use Rattle.markdown_blocks.proofs.definitions.DefinitionLemmas.{no_text}

@@ -1,0 +1,225 @@
+-- The bytes of a content stand in the lines at their places.
+use Rattle.std.proofs.Common.{ℕ, ◌+◌, ◌-◌, ◌<◌, ◌≤◌, ◌≡◌, List, [], ◌∷◌, ◌++◌, length, take, drop, get_or, replicate}
+use Rattle.std.proofs.Common.{refl, sym, ap, ◌∙◌, subst, inl, inr, arith, append_assoc, append-nil, length-append}
+use Rattle.std.specs.List.{AllByRecursion, concat, flat_map, range_with_len}
+use Rattle.std.proofs.lemmas.Bool.Decides.{leb_tells}
+use Rattle.std.proofs.lemmas.List.{drop-append-le, drop-drop, drop_all, get_or-append_right, get_or-drop, get_or-replicate, get_or-take, get_or_append_left}
+use Rattle.std.proofs.lemmas.List.{length-drop, length-replicate, length-take}
+use Rattle.std.proofs.lemmas.List.Folds.{concat-append}
+use Rattle.std.proofs.lemmas.List.FromFn.{get_or-range_with_len, length-range_with_len}
+use Rattle.std.proofs.Math.Seq.{drop-append_seam}
+use Rattle.markdown_scanners_tree.specs.Ascii.{number_sign, space, tab}
+use Rattle.markdown_scanners_tree.specs.line.Outcome.{after_all_space}
+use Rattle.markdown_scanners_tree.specs.line.State.{LineState, after_space, space_within, unscanned}
+use Rattle.markdown_scanners_tree.specs.scanners.TextLines.{lines_of}
+use Rattle.markdown_scanners_tree.proofs.ForCallers.{lines_joined}
+use Rattle.markdown_blocks.specs.content.Bytes.{AreBytesOf, IsByteAt}
+use Rattle.markdown_blocks.specs.content.Content.{IsContent, Placed, content_len, joined, places_of, text_of}
+use Rattle.markdown_blocks.specs.content.Parts.{AreInner, AreParts, ArePartsAt, Part, first_place, heading_part, later_parts, later_place, moved, part_at, text_place}
+use Rattle.markdown_blocks.specs.content.Seen.{IsIn}
+use Rattle.markdown_blocks.specs.declared.blocks.BlockKind.{BlockKind}
+use Rattle.markdown_blocks.specs.declared.blocks.BlockKind.TheVariants.{Blank, Break, Heading, Setext, Indented, Fenced, Html, Table, Definition, Paragraph}
+use Rattle.markdown_blocks.specs.declared.containers.Container.{Container}
+use Rattle.markdown_blocks.specs.info.Info.{behind_fence, without_front}
+use Rattle.markdown_blocks.proofs.content.ReachedLemmas.{Reached, after_all, after_some}
+use Rattle.markdown_blocks.proofs.content.ReachedPlaces.{first_reached, later_reached, text_reached}
+use Rattle.markdown_blocks.proofs.content.parts.HeadingLemmas.{heading_in, heading_is}
+
+-- a part's bytes stand in the lines at its place, and directly before them the tab of its columns, if it has any
+abbrev IsPartIn : List ℕ → Part → Type 0
+IsPartIn lines p = IsIn lines p × (0 < p.columns → (0 < p.place) × (get_or lines (p.place - 1) 0 ≡ tab))
+
+-- what is left of a line
+left_in : (line : List ℕ) (s : LineState) → Reached line s → IsPartIn line (part_at s)
+left_in line s r =
+    let size : length (unscanned s) ≡ length line - s.place = length-drop s.place s.bytes ∙ ap (λ l. length l - s.place) r.of_line in
+    let inside = r.within in
+    let end : length line ≤ s.place + length (unscanned s) = omega (arith, size) in (
+      (
+        omega (arith, size, inside),
+        ap (drop s.place) (sym r.of_line) ∙ sym (append-nil (unscanned s))
+            ∙ ap (λ t. unscanned s ++ t) (sym (drop_all (s.place + length (unscanned s)) line end)),
+      ),
+      r.behind_tab,
+    )
+
+-- what stands in a line stands in the text, before whose line so many bytes stand
+moved_in : (text line rest : List ℕ) (before : ℕ) → before ≤ length text → drop before text ≡ line ++ rest → (p : Part) → IsPartIn line p
+    → IsPartIn text (moved before p)
+moved_in text line rest before within stands p is =
+    let e = p.place + length p.bytes in
+    let inside = is.0.0 in
+    let size : length text - before ≡ length line + length rest = sym (length-drop before text) ∙ ap length stands ∙ length-append line rest in
+    let low : p.place ≤ length line = omega (arith, inside) in
+    let at : before + p.place + length p.bytes ≡ before + e = omega arith in (
+      (
+        omega (arith, inside, size, within),
+        sym (drop-drop p.place before text) ∙ ap (drop p.place) stands ∙ drop-append-le p.place line rest low ∙ ap (λ t. t ++ rest) is.0.1
+            ∙ append_assoc p.bytes (drop e line) rest
+            ∙ ap (λ t. p.bytes ++ t) (sym (drop-append-le e line rest inside) ∙ ap (drop e) (sym stands) ∙ drop-drop e before text
+            ∙ ap (λ n. drop n text) (sym at)),
+      ),
+      λ some.
+          let tab_there = is.1 some in
+          let behind = tab_there.0 in
+          let place : before + p.place - 1 ≡ before + (p.place - 1) = omega (arith, behind) in (
+            omega (arith, behind),
+            ap (λ n. get_or text n 0) place ∙ sym (get_or-drop before text (p.place - 1) 0) ∙ ap (λ t. get_or t (p.place - 1) 0) stands
+                ∙ get_or_append_left line rest 0 (p.place - 1) (omega (arith, behind, low)) ∙ tab_there.1,
+          ),
+    )
+
+first_in : (text line rest : List ℕ) → text ≡ line ++ rest → (p : Part) → IsPartIn line p → IsPartIn text p
+first_in text line rest stands p is =
+    let at : 0 + p.place ≡ p.place = omega arith in
+    subst (λ n. IsPartIn text (record { columns = p.columns; place = n; bytes = p.bytes })) at (moved_in text line rest 0 (omega arith) stands p is)
+
+-- the parts of lines that stand in the text
+later_in : (kind : BlockKind) (outer : List Container) (indent before : ℕ) (lines : List (List ℕ)) (rest text : List ℕ) → before ≤ length text
+    → drop before text ≡ concat lines ++ rest → AllByRecursion (IsPartIn text) (later_parts kind outer indent before lines)
+later_in kind outer indent before [] rest text within stands = tt
+later_in kind outer indent before (line ∷ lines) rest text within stands =
+    let here : drop before text ≡ line ++ (concat lines ++ rest) = stands ∙ append_assoc line (concat lines) rest in
+    let size : length text - before ≡ length line + length (concat lines ++ rest) =
+    sym (length-drop before text) ∙ ap length here ∙ length-append line (concat lines ++ rest) in
+    let later : drop (before + length line) text ≡ concat lines ++ rest =
+    sym (drop-drop (length line) before text) ∙ ap (drop (length line)) here ∙ drop-append_seam line (concat lines ++ rest) in (
+      moved_in text line (concat lines ++ rest) before within here _
+          (left_in line _ (text_reached line kind indent (later_place kind outer line) (later_reached line kind outer))),
+      later_in kind outer indent (before + length line) lines rest text (omega (arith, within, size)) later,
+    )
+
+-- the lines that are content are the first of the later ones
+inner_first : (kind : BlockKind) (outer : List Container) (later inner : List (List ℕ)) → AreInner kind outer later inner
+    → (rest : List (List ℕ)) × (later ≡ inner ++ rest)
+inner_first kind outer later inner (inl (last, is, out)) = (last ∷ [], is)
+inner_first kind outer later inner (inr (is, none)) = ([], sym is ∙ sym (append-nil inner))
+
+module _ (text line : List ℕ) (later : List (List ℕ)) (stands : text ≡ line ++ concat later) (outer : List Container) where
+  inner_in : (kind : BlockKind) (indent : ℕ) (inner : List (List ℕ)) → AreInner kind outer later inner
+      → AllByRecursion (IsPartIn text) (later_parts kind outer indent (length line) inner)
+  inner_in kind indent inner are =
+      let front = inner_first kind outer later inner are in
+      let rest : drop (length line) text ≡ concat inner ++ concat front.0 =
+      ap (drop (length line)) stands ∙ drop-append_seam line (concat later) ∙ ap concat front.1 ∙ concat-append inner front.0 in
+      let size = ap length stands ∙ length-append line (concat later) in
+      later_in kind outer indent (length line) inner (concat front.0) text (omega (arith, size)) rest
+
+  text_in : (kind : BlockKind) (s : LineState) → Reached line s → (parts : List Part)
+      → (inner : List (List ℕ)) × AreInner kind outer later inner
+      × (parts ≡ part_at (text_place kind 0 s) ∷ later_parts kind outer 0 (length line) inner)
+      → AllByRecursion (IsPartIn text) parts
+  text_in kind s r parts (inner, are, is) =
+      subst (AllByRecursion (IsPartIn text)) (sym is)
+      (first_in text line (concat later) stands _ (left_in line _ (text_reached line kind 0 s r)), inner_in kind 0 inner are)
+
+  none_in : (parts : List Part) → parts ≡ [] → AllByRecursion (IsPartIn text) parts
+  none_in parts none = subst (AllByRecursion (IsPartIn text)) (sym none) tt
+
+  heading_there : (s : LineState) → Reached line s → IsPartIn line (heading_part s)
+  heading_there s r =
+      let t = after_all_space (after_space 4 s) in
+      let there = after_all line (after_space 4 s) (after_some line s r 4) in
+      let after = without_front (behind_fence number_sign (unscanned t)) in (
+        subst (IsIn line) (heading_is s line (unscanned t) _ after _ 0 r.of_line refl refl refl refl)
+            (heading_in s line (unscanned t) _ after _ t.place r.of_line refl refl refl refl (ap (drop t.place) there.of_line) there.within),
+        λ some. absurd (omega (arith, some)),
+      )
+
+  at_first : (kind : BlockKind) (s : LineState) → Reached line s → (parts : List Part) → ArePartsAt kind outer s (length line) later parts
+      → AllByRecursion (IsPartIn text) parts
+  at_first Blank s r parts none = none_in parts none
+  at_first Break s r parts none = none_in parts none
+  at_first (Table columns) s r parts none = none_in parts none
+  at_first (Heading level) s r parts is =
+      subst (AllByRecursion (IsPartIn text)) (sym is) (first_in text line (concat later) stands (heading_part s) (heading_there s r), tt)
+  at_first (Fenced count byte) s r parts (inner, are, is) =
+      subst (AllByRecursion (IsPartIn text)) (sym is) (inner_in (Fenced count byte) (space_within 4 s) inner are)
+  at_first (Setext level) s r parts are = text_in (Setext level) s r parts are
+  at_first Indented s r parts are = text_in Indented s r parts are
+  at_first (Html kind) s r parts are = text_in (Html kind) s r parts are
+  at_first Definition s r parts are = text_in Definition s r parts are
+  at_first Paragraph s r parts are = text_in Paragraph s r parts are
+
+parts_in : (kind : BlockKind) (outer : List Container) (kept : ℕ) (text : List ℕ) (lines : List (List ℕ)) → text ≡ concat lines → (parts : List Part)
+    → AreParts kind outer kept lines parts → AllByRecursion (IsPartIn text) parts
+parts_in kind outer kept text [] stands parts none = subst (AllByRecursion (IsPartIn text)) (sym none) tt
+parts_in kind outer kept text (line ∷ later) stands parts are =
+    at_first text line later stands outer kind (first_place kept outer line) (first_reached line kept outer) parts are
+
+-- how many bytes a part has, and as many places
+text_size : (p : Part) → length (text_of p) ≡ p.columns + length p.bytes
+text_size p = length-append (replicate p.columns space) p.bytes ∙ ap (λ n. n + length p.bytes) (length-replicate p.columns space)
+
+places_size : (p : Part) → length (places_of p) ≡ length (text_of p)
+places_size p =
+    length-append (replicate p.columns (p.place - 1)) (range_with_len p.place (length p.bytes))
+    ∙ ap (λ n. n + length (range_with_len p.place (length p.bytes))) (length-replicate p.columns (p.place - 1))
+    ∙ ap (λ n. p.columns + n) (length-range_with_len p.place (length p.bytes)) ∙ sym (text_size p)
+
+-- the bytes of a part
+byte_in : (lines : List ℕ) (p : Part) → IsPartIn lines p → (i : ℕ) → i < length (text_of p)
+    → IsByteAt lines (get_or (text_of p) i 0) (get_or (places_of p) i 0)
+byte_in lines p is i low =
+    let size = text_size p in
+    let inside = is.0.0 in
+    elim (leb_tells p.columns i) [
+      | inl far ↦ (let j = i - p.columns in
+          let fits : j < length p.bytes = omega (arith, low, size, far.1) in
+          let byte : get_or (text_of p) i 0 ≡ get_or p.bytes j 0 =
+          get_or-append_right (replicate p.columns space) p.bytes p.columns i 0 (length-replicate p.columns space) far.1 in
+          let place : get_or (places_of p) i 0 ≡ p.place + j =
+          get_or-append_right (replicate p.columns (p.place - 1)) (range_with_len p.place (length p.bytes)) p.columns i 0
+          (length-replicate p.columns (p.place - 1)) far.1 ∙ get_or-range_with_len p.place (length p.bytes) j 0 fits in
+          let there : get_or lines (p.place + j) 0 ≡ get_or p.bytes j 0 =
+          sym (get_or-drop p.place lines j 0) ∙ ap (λ t. get_or t j 0) is.0.1
+          ∙ get_or_append_left p.bytes (drop (p.place + length p.bytes) lines) 0 j fits in (
+            omega (arith, place, fits, inside),
+            inl (byte ∙ sym there ∙ ap (λ n. get_or lines n 0) (sym place)),
+          ))
+      | inr near ↦ (let behind = is.1 (omega (arith, near.1)) in
+          let before = behind.0 in
+          let byte : get_or (text_of p) i 0 ≡ space =
+          get_or_append_left (replicate p.columns space) p.bytes 0 i (omega (arith, near.1, length-replicate p.columns space))
+          ∙ get_or-replicate p.columns i space 0 near.1 in
+          let place : get_or (places_of p) i 0 ≡ p.place - 1 =
+          get_or_append_left (replicate p.columns (p.place - 1)) (range_with_len p.place (length p.bytes)) 0 i
+          (omega (arith, near.1, length-replicate p.columns (p.place - 1)))
+          ∙ get_or-replicate p.columns i (p.place - 1) 0 near.1 in (
+            omega (arith, place, before, inside),
+            inr (byte, ap (λ n. get_or lines n 0) place ∙ behind.1),
+          ))
+    ]
+
+bytes_in : (lines : List ℕ) (parts : List Part) → AllByRecursion (IsPartIn lines) parts → (i : ℕ) → i < length (flat_map text_of parts)
+    → IsByteAt lines (get_or (flat_map text_of parts) i 0) (get_or (flat_map places_of parts) i 0)
+bytes_in lines [] all i low = absurd (omega (arith, low))
+bytes_in lines (p ∷ parts) all i low =
+    let n = length (text_of p) in
+    let texts = flat_map text_of parts in
+    let places = flat_map places_of parts in
+    let sizes = length-append (text_of p) texts in
+    elim (leb_tells n i) [
+      | inl far ↦ (let later = bytes_in lines parts all.1 (i - n) (omega (arith, low, sizes, far.1)) in
+          subst (λ b. IsByteAt lines b (get_or (places_of p ++ places) i 0)) (sym (get_or-append_right (text_of p) texts n i 0 refl far.1))
+          (subst (IsByteAt lines (get_or texts (i - n) 0)) (sym (get_or-append_right (places_of p) places n i 0 (places_size p) far.1)) later))
+      | inr near ↦ (let here = byte_in lines p all.0 i near.1 in
+          subst (λ b. IsByteAt lines b (get_or (places_of p ++ places) i 0)) (sym (get_or_append_left (text_of p) texts 0 i near.1))
+          (subst (IsByteAt lines (get_or (text_of p) i 0)) (sym (get_or_append_left (places_of p) places 0 i (omega (arith, near.1, places_size p)))) here))
+    ]
+
+-- each byte of a content stands in the lines at its place
+pub content_bytes : (kind : BlockKind) (outer : List Container) (kept : ℕ) (lines : List ℕ) (content : Placed)
+    → IsContent kind outer kept (lines_of lines) content → AreBytesOf lines content
+content_bytes kind outer kept lines content is offset low =
+    let n = content_len kind (joined is.parts).text in
+    let text = flat_map text_of is.parts in
+    let places = flat_map places_of is.parts in
+    let size : length content.text ≡ length (take n text) = ap (λ (c : Placed). length c.text) is.is_content in
+    let few = length-take n text in
+    let in_front : offset < n = omega (arith, low, size, few) in
+    let all = parts_in kind outer kept lines (lines_of lines) (sym (lines_joined lines)) is.parts is.are_parts in
+    let here = bytes_in lines is.parts all offset (omega (arith, low, size, few)) in
+    subst (λ (c : Placed). IsByteAt lines (get_or c.text offset 0) (get_or c.places offset 0)) (sym is.is_content)
+    (subst (λ b. IsByteAt lines b (get_or (take n places) offset 0)) (sym (get_or-take n text offset 0 in_front))
+    (subst (IsByteAt lines (get_or text offset 0)) (sym (get_or-take n places offset 0 in_front)) here))

@@ -1,0 +1,203 @@
+-- Places that are reached in a line: directly before one with columns pending stands their tab. (CommonMark 0.31.2, section 2.2, tabs)
+use Rattle.std.proofs.Common.{ℕ, zero, suc, Bool, ◌||◌, true, false, cond, ◌==◌, ◌+◌, ◌-◌, ◌<◌, ◌≤◌, ◌≡◌, List, [], ◌∷◌, ◌++◌, length, take, get_or, replicate}
+use Rattle.std.proofs.Common.{nat_lt, refl, sym, ap, ◌∙◌, subst, inl, inr, arith}
+use Rattle.std.proofs.lemmas.Bool.{lt-ltb}
+use Rattle.std.proofs.lemmas.Bool.Decides.{leb_tells, nat_tests}
+use Rattle.std.proofs.lemmas.List.{get_or-drop, length-drop}
+use Rattle.std.proofs.lemmas.List.Sums.{prefix_len-le-length}
+use Rattle.markdown_scanners_tree.specs.Ascii.{space, tab}
+use Rattle.markdown_scanners_tree.specs.Bytes.{is_line_ending}
+use Rattle.markdown_scanners_tree.specs.Columns.{bytes_below, column_after, column_past, written_byte, written_out}
+use Rattle.markdown_scanners_tree.specs.line.ItemRules.{start_of}
+use Rattle.markdown_scanners_tree.specs.line.Outcome.{after_all_space}
+use Rattle.markdown_scanners_tree.specs.line.State.{LineState, after_space, bytes_for, bytes_further, leading_spaces, rest_of, space_within, unscanned}
+use Rattle.markdown_scanners_tree.proofs.line.ColumnLemmas.{after-more, below-cons, bool_cases, none_below, written-cons, written-end}
+
+below_end : (c b : ℕ) (bs : List ℕ) (k : ℕ) → is_line_ending b ≡ true → bytes_below c (b ∷ bs) k ≡ 0
+below_end c b bs k ends = rw ends refl
+
+-- no more bytes stand below a column than there are
+below_within : (bs : List ℕ) (c k : ℕ) → bytes_below c bs k ≤ length bs
+below_within [] c k = omega arith
+below_within (b ∷ bs) c k =
+    bool_cases (is_line_ending b)
+    (λ ends. omega (arith, below_end c b bs k ends))
+    (λ goes. omega (arith, below-cons c b bs k goes, below_within bs (column_after c b) k, one_at_most (nat_lt c k)))
+  where
+    one_at_most : (v : Bool) → cond v 1 0 ≤ 1
+    one_at_most true = omega arith
+    one_at_most false = omega arith
+
+-- a byte that reaches further than to the next column is a tab
+wide_tab : (c b k : ℕ) → c < k → k < column_after c b → b ≡ tab
+wide_tab c b k low high =
+    bool_cases (b == 9)
+    (λ is. grind (arith, nat_tests))
+    (λ other. absurd (omega (arith, low, (rw other at high))))
+
+-- where the last of the bytes below a column reaches past it, it is a tab
+last_tab : (bs : List ℕ) (c k n : ℕ) → n ≡ bytes_below c bs k → 0 < n → k < column_past c (take n bs) → get_or bs (n - 1) 0 ≡ tab
+last_tab [] c k n is some past = absurd (omega (arith, is, some))
+last_tab (b ∷ bs) c k n is some past =
+    bool_cases (is_line_ending b)
+    (λ ends. absurd (omega (arith, is, some, below_end c b bs k ends)))
+    (λ goes. elim (leb_tells k c) [
+      | inl far ↦ absurd (omega (
+        arith,
+        is,
+        some,
+        none_below (b ∷ bs) c k far.1,
+      ))
+      | inr near ↦ (let more : n ≡ suc (bytes_below (column_after c b) bs k) = is ∙ below-cons c b bs k goes ∙ rw (lt-ltb c k near.1) (omega arith) in
+          next (bytes_below (column_after c b) bs k) refl near.1 more (λ m rest there past. last_tab bs (column_after c b) k (suc m) rest there past))
+    ])
+  where
+    next : (m : ℕ) → m ≡ bytes_below (column_after c b) bs k → c < k → n ≡ suc m
+        → ((m : ℕ) → suc m ≡ bytes_below (column_after c b) bs k → 0 < suc m → k < column_past (column_after c b) (take (suc m) bs)
+        → get_or bs (suc m - 1) 0 ≡ tab) → get_or (b ∷ bs) (n - 1) 0 ≡ tab
+    next zero none low more later =
+        let one : k < column_after c b = subst (λ j. k < column_past c (take j (b ∷ bs))) more past in
+        ap (λ j. get_or (b ∷ bs) (j - 1) 0) more ∙ wide_tab c b k low one
+    next (suc m) rest low more later =
+        let there : k < column_past (column_after c b) (take (suc m) bs) = subst (λ j. k < column_past c (take j (b ∷ bs))) more past in
+        let one : suc (suc m) - 1 ≡ suc m = omega arith in
+        let two : m ≡ suc m - 1 = omega arith in
+        ap (λ j. get_or (b ∷ bs) (j - 1) 0) more ∙ ap (λ j. get_or (b ∷ bs) j 0) one ∙ ap (λ j. get_or bs j 0) two ∙ later m rest (omega arith) there
+
+-- the spaces at the front of a text after others
+spaces_before : (n : ℕ) (rest : List ℕ) → leading_spaces (replicate n space ++ rest) ≡ n + leading_spaces rest
+spaces_before zero rest = omega arith
+spaces_before (suc n) rest = omega (arith, spaces_before n rest)
+
+-- all spaces and tabs at the front stand below the column after them, and no other byte
+all_space : (bs : List ℕ) (c : ℕ) → let n = leading_spaces (written_out c bs) in column_past c (take (bytes_below c bs (c + n)) bs) ≡ c + n
+all_space [] c = omega arith
+all_space (b ∷ bs) c =
+    bool_cases (is_line_ending b)
+    (λ ends.
+    let none : leading_spaces (written_out c (b ∷ bs)) ≡ 0 = ap leading_spaces (written-end c b bs ends) ∙ other_byte b bs (ending_other b ends) in
+    rw none (rw (below_end c b bs (c + 0) ends) (omega arith)))
+    (λ goes. by_byte goes (all_space bs (column_after c b)))
+  where
+    ending_other : (b : ℕ) → is_line_ending b ≡ true → (b == 32) ≡ false
+    ending_other b ends = grind (arith, nat_tests)
+
+    after_none : c ≡ c + 0
+    after_none = omega arith
+
+    other_byte : (b : ℕ) (bs : List ℕ) → (b == 32) ≡ false → leading_spaces (b ∷ bs) ≡ 0
+    other_byte b bs other = rw other refl
+
+    more : is_line_ending b ≡ false → (let n = leading_spaces (written_out (column_after c b) bs) in
+        column_past (column_after c b) (take (bytes_below (column_after c b) bs (column_after c b + n)) bs) ≡ column_after c b + n)
+        → (w : ℕ) → column_after c b ≡ c + w → 0 < w → written_byte c b ≡ replicate w space
+        → let n = leading_spaces (written_out c (b ∷ bs)) in column_past c (take (bytes_below c (b ∷ bs) (c + n)) (b ∷ bs)) ≡ c + n
+    more goes there w further some is =
+        let later = column_after c b in
+        let rest = leading_spaces (written_out later bs) in
+        let n : leading_spaces (written_out c (b ∷ bs)) ≡ w + rest =
+        ap leading_spaces (written-cons c b bs goes ∙ ap (λ t. t ++ written_out later bs) is) ∙ spaces_before w (written_out later bs) in
+        let reach : c + (w + rest) ≡ later + rest = omega (arith, further) in
+        let below : bytes_below c (b ∷ bs) (c + (w + rest)) ≡ suc (bytes_below later bs (later + rest)) =
+        below-cons c b bs (c + (w + rest)) goes
+        ∙ rw (lt-ltb c (c + (w + rest)) (omega (arith, some)), reach) (omega arith) in
+        ap (λ k. column_past c (take (bytes_below c (b ∷ bs) (c + k)) (b ∷ bs))) n ∙ ap (λ m. column_past c (take m (b ∷ bs))) below
+        ∙ there ∙ sym reach ∙ ap (λ k. c + k) (sym n)
+
+    by_byte : is_line_ending b ≡ false → (let n = leading_spaces (written_out (column_after c b) bs) in
+        column_past (column_after c b) (take (bytes_below (column_after c b) bs (column_after c b + n)) bs) ≡ column_after c b + n)
+        → let n = leading_spaces (written_out c (b ∷ bs)) in column_past c (take (bytes_below c (b ∷ bs) (c + n)) (b ∷ bs)) ≡ c + n
+    by_byte goes there =
+        bool_cases (b == 9)
+        (λ is.
+        let wide = after-more c b in
+        more goes there (column_after c b - c) (omega (arith, wide)) (omega (arith, wide)) (rw is refl))
+        (λ no_tab. bool_cases (b == 32)
+        (λ is.
+        let one : b ≡ 32 = grind (arith, nat_tests) in
+        more goes there 1 (rw no_tab refl) (omega arith) (rw no_tab (ap (λ x. x ∷ []) one)))
+        (λ no_space.
+        let other : written_byte c b ++ written_out (column_after c b) bs ≡ b ∷ written_out (column_after c b) bs = rw no_tab refl in
+        let none : leading_spaces (written_out c (b ∷ bs)) ≡ 0 =
+        ap leading_spaces (written-cons c b bs goes ∙ other) ∙ other_byte b (written_out (column_after c b) bs) no_space in
+        ap (λ k. column_past c (take (bytes_below c (b ∷ bs) (c + k)) (b ∷ bs))) none
+        ∙ ap (λ m. column_past c (take m (b ∷ bs))) (none_below (b ∷ bs) c (c + 0) (omega arith))
+        ∙ after_none ∙ ap (λ k. c + k) (sym none)))
+
+-- where fewer columns of space stand than are taken, none is pending then
+pub all_taken : (n : ℕ) (s : LineState) → space_within n s < n → (after_space n s).pending ≡ 0
+all_taken n s fewer =
+    let u = unscanned s in
+    let lead = leading_spaces (written_out s.phase u) in
+    let all : leading_spaces (rest_of s) ≡ s.pending + lead = spaces_before s.pending (written_out s.phase u) in
+    let t : space_within n s ≡ s.pending + lead = omega (arith, fewer, all) in
+    let reach : s.phase + space_within n s - s.pending ≡ s.phase + lead = omega (arith, t) in
+    let column : column_past s.phase (take (bytes_for (space_within n s) s) u) ≡ s.phase + lead =
+    ap (λ k. column_past s.phase (take (bytes_below s.phase u k) u)) reach ∙ all_space u s.phase in
+    omega (arith, t, column)
+
+pub record Reached (line : List ℕ) (s : LineState) : Type 0 where
+  pub of_line : s.bytes ≡ line
+  pub within : s.place ≤ length line
+  pub behind_tab : 0 < s.pending → (0 < s.place) × (get_or line (s.place - 1) 0 ≡ tab)
+
+pub at_start : (line : List ℕ) → Reached line (start_of line)
+at_start line = record { of_line = refl; within = omega arith; behind_tab = λ some. absurd (omega (arith, some)) }
+
+-- where no column is pending
+pub none_pending : (line : List ℕ) (s : LineState) → s.bytes ≡ line → s.place ≤ length line → s.pending ≡ 0 → Reached line s
+none_pending line s is within none = record { of_line = is; within = within; behind_tab = λ some. absurd (omega (arith, none, some)) }
+
+module _ (line : List ℕ) (s : LineState) (r : Reached line s) where
+  left : length (unscanned s) ≡ length line - s.place
+  left = length-drop s.place s.bytes ∙ ap (λ l. length l - s.place) r.of_line
+
+  pub after_some : (n : ℕ) → Reached line (after_space n s)
+  after_some n =
+      let u = unscanned s in
+      let t = space_within n s in
+      let m = bytes_for t s in
+      let few = below_within u s.phase (s.phase + t - s.pending) in
+      let size = left in
+      let inside = r.within in
+      record {
+        of_line = r.of_line;
+        within = omega (arith, few, size, inside);
+        behind_tab = λ some. by m refl some;
+      }
+    where
+      by : (m : ℕ) → m ≡ bytes_for (space_within n s) s → 0 < (after_space n s).pending
+          → (0 < (after_space n s).place) × (get_or line ((after_space n s).place - 1) 0 ≡ tab)
+      by zero none some =
+          let same : (after_space n s).place ≡ s.place = omega (arith, none) in
+          let column : column_past s.phase (take (bytes_for (space_within n s) s) (unscanned s)) ≡ s.phase =
+          ap (λ k. column_past s.phase (take k (unscanned s))) (sym none) in
+          let old = r.behind_tab (omega (arith, some, column)) in
+          (omega (arith, same, old.0), ap (λ p. get_or line (p - 1) 0) same ∙ old.1)
+      by (suc m) is some =
+          let u = unscanned s in
+          let k = s.phase + space_within n s - s.pending in
+          elim (leb_tells k s.phase) [
+            | inl near ↦ absurd (omega (arith, is, none_below u s.phase k near.1))
+            | inr far ↦ (let past : k < column_past s.phase (take (suc m) u) =
+                subst (λ j. k < column_past s.phase (take j u)) (sym is) (omega (arith, some, far.1)) in
+                let last = last_tab u s.phase k (suc m) is (omega arith) past in
+                let at : (after_space n s).place - 1 ≡ s.place + (suc m - 1) = omega (arith, is) in (
+                  omega (arith, is),
+                  ap (λ p. get_or line p 0) at ∙ ap (λ l. get_or l (s.place + (suc m - 1)) 0) (sym r.of_line)
+                      ∙ sym (get_or-drop s.place s.bytes (suc m - 1) 0) ∙ last,
+                ))
+          ]
+
+  pub after_all : Reached line (after_all_space s)
+  after_all =
+      let few = prefix_len-le-length (λ b. b == space || b == tab) (unscanned s) in
+      let size = left in
+      let inside = r.within in
+      none_pending line (after_all_space s) r.of_line (omega (arith, few, size, inside)) refl
+
+  pub after_bytes : (n : ℕ) → s.pending ≡ 0 → n ≤ length (unscanned s) → Reached line (bytes_further n s)
+  after_bytes n none few =
+      let size = left in
+      let inside = r.within in
+      none_pending line (bytes_further n s) r.of_line (omega (arith, few, size, inside)) none
