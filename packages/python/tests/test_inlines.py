@@ -32,7 +32,8 @@ def rows():
     text = ROWS.read_text()
     for number, given, wanted in re.findall(rf"^    \{{(\d+), {WORD},\s*{WORD}\}},$", text, re.M):
         yield int(number), said(given), [], said(wanted)
-    for number, given, definitions, *_, wanted in re.findall(rf"^    \{{(\d+), {WORD}, \{{((?:{DEFINITION}(?:, )?)+)\}},\s*{WORD}\}},$", text, re.M):
+    defined = rf"^    \{{(\d+), {WORD}, \{{((?:{DEFINITION}(?:, )?)+)\}},\s*{WORD}\}},$"
+    for number, given, definitions, *_, wanted in re.findall(defined, text, re.M):
         yield int(number), said(given), [tuple(map(said, it)) for it in re.findall(DEFINITION, definitions)], said(wanted)
 
 
@@ -97,7 +98,8 @@ class Inlines(unittest.TestCase):
         self.assertEqual(text, mds.Inline(InlineKind.TEXT, 2, 3, None, None))
         self.assertEqual(end, mds.Inline(InlineKind.LINK_END, 3, 13, None, None))
         self.assertIsNone(next(mds.scan_inlines("[a](b)")).link.title)
-        for text, target, label in (("[a][b]", LinkTarget.FULL, Span(4, 5)), ("[b][]", LinkTarget.COLLAPSED, Span(1, 2)), ("[b]", LinkTarget.SHORTCUT, Span(1, 2))):
+        rows = ("[a][b]", LinkTarget.FULL, Span(4, 5)), ("[b][]", LinkTarget.COLLAPSED, Span(1, 2)), ("[b]", LinkTarget.SHORTCUT, Span(1, 2))
+        for text, target, label in rows:
             self.assertEqual(next(mds.scan_inlines(text, labels=("B",))).link, mds.Link(target, len(text), None, None, label))
         code, uri, email = mds.scan_inlines(b"``a``<bb:c><d@e>")
         self.assertEqual([it.content for it in (code, uri, email)], [Span(2, 3), Span(6, 10), Span(12, 15)])
