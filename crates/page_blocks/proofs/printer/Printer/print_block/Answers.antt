@@ -1,6 +1,5 @@
-use Rattle.std.proofs.Common.{ℕ, List, [], ◌∷◌, ◌++◌, ◌≡◌, Option, drop, string_bytes, refl, sym, ap, ◌∙◌, subst, append_assoc, append-nil}
+use Rattle.std.proofs.Common.{ℕ, List, [], ◌∷◌, ◌++◌, ◌≡◌, Option, string_bytes, refl, sym, ap, ◌∙◌, subst, append_assoc, append-nil}
 use Rattle.markdown_blocks.specs.events.Events.{Event, seen_event}
-use Rattle.markdown_blocks.specs.events.Given.{GivesBlock}
 use Rattle.markdown_blocks.specs.events.Shown.{AreShown, IsWrittenIn, Shown, Written}
 use Rattle.markdown_blocks.proofs.ForCallers.{one_written, shown_next}
 use Rattle.page_blocks.specs.declared.words.Form.{Form}
