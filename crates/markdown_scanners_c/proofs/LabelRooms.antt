@@ -1,7 +1,6 @@
 -- The links of a text have labels in it, of which each begins below its length.
-use Rattle.std.proofs.Common.{ℕ, ◌≤◌, ◌<◌, ◌^◌, List, Option, Some, None, length, arith}
+use Rattle.std.proofs.Common.{ℕ, ◌<◌, ◌^◌, List, Option, Some, None, length, arith}
 use Rattle.std.specs.Prelude.{IfSome}
-use Rattle.std.specs.Str.{IsCharBoundary}
 use Rattle.markdown_inlines.specs.Sources.{AreLinkSources, IsLinkSource, IsTargetSource}
 use Rattle.markdown_inlines.specs.declared.links.Link.{Link}
 use Rattle.markdown_inlines.specs.declared.links.LinkTarget.{LinkTarget}

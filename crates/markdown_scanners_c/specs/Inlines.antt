@@ -118,7 +118,7 @@ inline_told links (EndEmphasis place count) = inline_at (end_number count) place
 inline_told links (StartLink number) = opener_told (get_or links number None)
 inline_told links (EndLink piece) = inline_at link_end piece.start (piece.end - piece.start)
 
--- The bytes are no text, or a label is none; or memory was refused; or they are a text, whose inlines are written.
+-- The text or a label is not UTF-8; or memory was refused; or the inlines of the text are written.
 unfoldable pub IsTextTold : List ℕ → List View → List Inline → List Inline → InlineCount → Type 0
 IsTextTold text labels old new told =
     ((told.status ≡ not_utf8) × (told.count ≡ 0) × (new ≡ old) × ¬ (IsUtf8 text × AreTexts labels))

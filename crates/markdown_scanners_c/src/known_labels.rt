@@ -44,7 +44,7 @@ pub(crate) struct KnownLabels<'a> {
 }
 
 impl<'a> KnownLabels<'a> {
-    /// Those of the caller. What is not UTF-8 among them is none.
+    /// Those of the caller. One that is not UTF-8 matches nothing.
     pub(crate) fn new(alloc: Global, labels: &'a [View<'a>]) -> Result<KnownLabels<'a>, AllocError>
         ensures { IfOk result (λ known. known.labels.now ≡ labels.entry.now) }
     {

@@ -749,7 +749,7 @@ struct mds_inlines {
  * the text, and they nest: each that begins ends. Text may stand in several, one after another. Destinations, titles and labels are
  * as they are written: mds_unescape decodes the first two, and mds_scan_link_label reads the label at `label_start`.
  *
- * `labels` are those that are defined, each as mds_scan_link_label writes it; null and 0 where none is. What refers to a label that
+ * `labels` are those that are defined, each as mds_scan_link_label writes it; null and 0 for no labels. What refers to a label that
  * matches none of them, as mds_labels_match has it, is text.
  *
  * Where the buffer is too short it is left as it was, and `count` says how many inlines it needs room for: as many as the text has

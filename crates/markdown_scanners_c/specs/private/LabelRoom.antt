@@ -1,5 +1,5 @@
 -- Numbers that a place in a label may be added to.
-use Rattle.std.specs.Prelude.{ℕ, ◌<◌, ◌+◌, ◌^◌, List, Option, IfSome, ⊤}
+use Rattle.std.specs.Prelude.{◌<◌, ◌+◌, ◌^◌, List, Option, IfSome, ⊤}
 use Rattle.std.specs.List.{All}
 use Rattle.markdown_inlines.specs.declared.links.Link.{Link}
 use Rattle.markdown_inlines.specs.declared.links.LinkTarget.{LinkTarget}
