@@ -1,10 +1,12 @@
 -- The inlines of a text, as C is told of them. (CommonMark 0.31.2, chapter 6)
-use Rattle.std.specs.Prelude.{ℕ, ◌≡◌, ◌+◌, ◌-◌, ◌==◌, ◌⊎◌, List, map, get_or, Option, Some, None, if◌then◌else◌}
+use Rattle.std.specs.Prelude.{ℕ, ◌≡◌, ◌≤◌, ◌+◌, ◌-◌, ◌==◌, ◌⊎◌, List, map, get_or, Option, Some, None, if◌then◌else◌}
 use Rattle.std.specs.declared.ops.Range.{Range}
 use Rattle.std.specs.Str.{IsUtf8}
 use Rattle.markdown_inlines.specs.Output.{AreInlines}
+use Rattle.markdown_inlines.specs.declared.extensions.InlineExtensions.{InlineExtensions}
 use Rattle.markdown_inlines.specs.declared.inlines.Inline.{Inline as Found}
 use Rattle.markdown_inlines.specs.declared.inlines.Inline.TheVariants.{Leaf, StartEmphasis, EndEmphasis, StartLink, EndLink}
+use Rattle.markdown_inlines.specs.declared.inlines.Inline.TheVariants.{StartStrikethrough, EndStrikethrough}
 use Rattle.markdown_inlines.specs.declared.links.Link.{Link}
 use Rattle.markdown_inlines.specs.declared.links.LinkTarget.{LinkTarget}
 use Rattle.markdown_inlines.specs.declared.links.LinkTarget.TheVariants as T
@@ -14,7 +16,7 @@ use Rattle.markdown_inlines.specs.declared.pieces.PieceKind.TheVariants as K
 use Rattle.markdown_scanners_c.specs.Answers.{none}
 use Rattle.markdown_scanners_c.specs.Buffer.{IsWritten}
 use Rattle.markdown_scanners_c.specs.KnownLabels.{AreTexts, known_in}
-use Rattle.markdown_scanners_c.specs.Status.{not_utf8, no_memory}
+use Rattle.markdown_scanners_c.specs.Status.{bad_kind, not_utf8, no_memory}
 use Rattle.markdown_scanners_c.specs.declared.inlines.Inline.{Inline}
 use Rattle.markdown_scanners_c.specs.declared.inlines.InlineCount.{InlineCount}
 use Rattle.markdown_scanners_c.specs.declared.known_labels.View.{View}
@@ -43,6 +45,12 @@ opener_number link = if link.is_image then 14 else 13
 
 abbrev pub link_end : ℕ
 link_end = 15
+
+abbrev pub strikethrough : ℕ
+strikethrough = 16
+
+abbrev pub strikethrough_end : ℕ
+strikethrough_end = 17
 
 -- how many backticks stand on each side of the content of a code span
 abbrev pub backticks_of : PieceKind → ℕ
@@ -115,14 +123,25 @@ abbrev pub inline_told : List (Option Link) → Found → Inline
 inline_told links (Leaf piece) = piece_told piece
 inline_told links (StartEmphasis place count) = inline_at (start_number count) place count
 inline_told links (EndEmphasis place count) = inline_at (end_number count) place count
+inline_told links (StartStrikethrough place count) = inline_at strikethrough place count
+inline_told links (EndStrikethrough place count) = inline_at strikethrough_end place count
 inline_told links (StartLink number) = opener_told (get_or links number None)
 inline_told links (EndLink piece) = inline_at link_end piece.start (piece.end - piece.start)
 
--- The text or a label is not UTF-8; or memory was refused; or the inlines of the text are written.
-unfoldable pub IsTextTold : List ℕ → List View → List Inline → List Inline → InlineCount → Type 0
-IsTextTold text labels old new told =
-    ((told.status ≡ not_utf8) × (told.count ≡ 0) × (new ≡ old) × ¬ (IsUtf8 text × AreTexts labels))
-    ⊎ ((told.status ≡ no_memory) × (told.count ≡ 0) × (new ≡ old) × IsUtf8 text × AreTexts labels)
-    ⊎ ((inlines : List Found) × (links : List (Option Link)) × IsUtf8 text × AreTexts labels
-    × AreInlines text (known_in labels) inlines links
+-- The bits of `enum mds_inline_extension`, of which there is one, for strikethrough.
+abbrev pub AreExtensions : ℕ → Type 0
+AreExtensions extensions = extensions ≤ 1
+
+-- what they ask for
+abbrev pub asked_by : ℕ → InlineExtensions
+asked_by extensions = record { strikethrough = extensions == 1 }
+
+-- Some bit is no extension; or the text or a label is not UTF-8; or memory was refused; or the inlines of the text are written.
+unfoldable pub IsTextTold : List ℕ → List View → ℕ → List Inline → List Inline → InlineCount → Type 0
+IsTextTold text labels extensions old new told =
+    ((told.status ≡ bad_kind) × (told.count ≡ 0) × (new ≡ old) × ¬ (AreExtensions extensions))
+    ⊎ ((told.status ≡ not_utf8) × (told.count ≡ 0) × (new ≡ old) × AreExtensions extensions × ¬ (IsUtf8 text × AreTexts labels))
+    ⊎ ((told.status ≡ no_memory) × (told.count ≡ 0) × (new ≡ old) × AreExtensions extensions × IsUtf8 text × AreTexts labels)
+    ⊎ ((inlines : List Found) × (links : List (Option Link)) × AreExtensions extensions × IsUtf8 text × AreTexts labels
+    × AreInlines text (record { asked = asked_by extensions; known = known_in labels }) inlines links
     × IsWritten (map (inline_told links) inlines) old new told.status told.count)

@@ -5,14 +5,15 @@ ghost use Rattle.markdown_inlines.specs.Output.{AreInlines};
 ghost use Rattle.markdown_inlines.specs.declared.inlines.Inline.{Inline as Found};
 ghost use Rattle.markdown_inlines.specs.declared.links.Link.{Link};
 ghost use Rattle.markdown_scanners_c.specs.Buffer.{IsWritten};
-ghost use Rattle.markdown_scanners_c.specs.Inlines.{IsTextTold, backticks_of, end_number, inline_at, inline_told};
+ghost use Rattle.markdown_scanners_c.specs.Inlines.{IsTextTold, asked_by, backticks_of, end_number, inline_at, inline_told};
 ghost use Rattle.markdown_scanners_c.specs.Inlines.{length_of, link_told, piece_number, piece_told, start_number};
 ghost use Rattle.markdown_scanners_c.specs.Inlines.{title_length, title_start, with_label, with_target};
 ghost use Rattle.markdown_scanners_c.specs.KnownLabels.{known_in};
 ghost use Rattle.markdown_scanners_c.specs.private.LabelRoom.{AreRoomy, HasRoom};
 
 use crate::known_labels::{KnownLabels, View, are_texts};
-use crate::status::{NO_MEMORY, NONE, NOT_UTF8, OK, TOO_SHORT};
+use crate::status::{BAD_KIND, NO_MEMORY, NONE, NOT_UTF8, OK, TOO_SHORT};
+use markdown_inlines::extensions::InlineExtensions;
 use markdown_inlines::inlines::{Inline as Found, find_inlines};
 use markdown_inlines::links::{Link, LinkTarget};
 use markdown_inlines::pieces::{Piece, PieceKind};
@@ -51,6 +52,10 @@ const IMAGE: u32 = 14;
 
 const LINK_END: u32 = 15;
 
+const STRIKETHROUGH: u32 = 16;
+
+const STRIKETHROUGH_END: u32 = 17;
+
 const INLINE: u32 = 1;
 
 const FULL: u32 = 2;
@@ -58,6 +63,9 @@ const FULL: u32 = 2;
 const COLLAPSED: u32 = 3;
 
 const SHORTCUT: u32 = 4;
+
+// Strikethrough, of `enum mds_inline_extension`; there is no other extension.
+const ASKS_STRIKETHROUGH: u32 = 1;
 
 /// `struct mds_inline` of C: an inline of a text, or where one that holds others begins or ends.
 #[repr(C)]
@@ -84,24 +92,29 @@ pub struct InlineCount {
     pub count: usize,
 }
 
-/// Writes the inlines of the content of a block, in order, where these labels are defined.
+/// Writes the inlines of the content of a block, in order, where these labels are defined and these
+/// extensions are asked for.
 #[tactic(auto, unfolding(crate::specs::Inlines::IsTextTold))]
 #[unsafe(no_mangle)]
 pub extern "C" fn mds_scan_inlines(
     alloc: Global,
     text: &[u8],
     labels: &[View<'_>],
+    extensions: u32,
     inlines: &mut [Inline],
 ) -> InlineCount
-    ensures inlines { IsTextTold text.now labels.now inlines.old inlines.new result }
+    ensures inlines { IsTextTold text.now labels.now extensions inlines.old inlines.new result }
 {
+    if extensions > ASKS_STRIKETHROUGH {
+        return no_inlines(BAD_KIND);
+    }
     let Ok(text) = str::from_utf8(text) else {
         return no_inlines(NOT_UTF8);
     };
     if !are_texts(labels) {
         return no_inlines(NOT_UTF8);
     }
-    match told_inlines(alloc, text, labels) {
+    match told_inlines(alloc, text, labels, asked_by(extensions)) {
         Ok(told) => write_inlines(&told, inlines),
         Err(_) => no_inlines(NO_MEMORY),
     }
@@ -114,14 +127,28 @@ fn no_inlines(status: u32) -> InlineCount
     InlineCount { status, count: 0 }
 }
 
+// What these bits ask for.
+fn asked_by(extensions: u32) -> InlineExtensions
+    ensures { result ≡ asked_by extensions }
+{
+    InlineExtensions {
+        strikethrough: extensions == ASKS_STRIKETHROUGH,
+    }
+}
+
 // The inlines of a text.
-fn told_inlines(alloc: Global, text: &str, labels: &[View<'_>]) -> Result<Vec<Inline>, AllocError>
+fn told_inlines(
+    alloc: Global,
+    text: &str,
+    labels: &[View<'_>],
+    asked: InlineExtensions,
+) -> Result<Vec<Inline>, AllocError>
     ensures { IfOk result (λ told. (inlines : List Found) × (links : List (Option Link))
-        × AreInlines text.now (known_in labels.now) inlines links
+        × AreInlines text.now (record { asked = asked; known = known_in labels.now }) inlines links
         × (told.items ≡ map (inline_told links) inlines)) }
 {
     let known = KnownLabels::new(alloc, labels)?;
-    let found = find_inlines(alloc, text, &known)?;
+    let found = find_inlines(alloc, text, &known, asked)?;
     inlines_told(alloc, &found.links, &found.inlines)
 }
 
@@ -165,6 +192,8 @@ fn inline_told(links: &[Option<Link>], inline: Found) -> Inline
         Found::Leaf(piece) => piece_told(piece),
         Found::StartEmphasis(place, count) => inline_at(start_number(count), place, count),
         Found::EndEmphasis(place, count) => inline_at(end_number(count), place, count),
+        Found::StartStrikethrough(place, count) => inline_at(STRIKETHROUGH, place, count),
+        Found::EndStrikethrough(place, count) => inline_at(STRIKETHROUGH_END, place, count),
         Found::StartLink(number) => match links.get(number) {
             Some(Some(link)) => link_told(link),
             _ => inline_at(TEXT, 0, 0),
