@@ -10,7 +10,7 @@ use std::alloc::{AllocError, Global};
 use std::str::from_utf8;
 
 /// Adds bytes, as the text of a JSON string has the characters of their numbers.
-pub(crate) fn push_bytes(text: &mut String, bytes: &[u8]) -> Result<(), AllocError>
+pub fn push_bytes(text: &mut String, bytes: &[u8]) -> Result<(), AllocError>
     ensures { OnOk result (string_bytes text.new ≡ string_bytes text.old ++ bytes_text bytes.now) }
 {
     for byte in bytes {

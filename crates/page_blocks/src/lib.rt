@@ -4,12 +4,12 @@
 mod definition;
 pub mod files;
 pub mod help;
-mod info;
+pub mod info;
 mod json;
 mod page;
 mod printer;
 mod printing;
 pub mod program;
-mod reading;
-mod stops;
-mod words;
+pub mod reading;
+pub mod stops;
+pub mod words;

@@ -16,14 +16,14 @@ const READ_SIZE: usize = 65_536;
 
 /// The bytes that are read and not yet told, and how many reads may still be made.
 #[derive(Drop)]
-pub(crate) struct Unread {
-    pub(crate) text: Vec<u8>,
+pub struct Unread {
+    pub text: Vec<u8>,
     pub(crate) reads: usize,
 }
 
 impl Unread {
     /// Nothing is read.
-    pub(crate) fn new(alloc: Global) -> Unread
+    pub fn new(alloc: Global) -> Unread
         ensures text { result.text.items ≡ [] }
         ensures reads { result.reads ≡ READS }
     {
@@ -35,7 +35,7 @@ impl Unread {
 
     /// Reads until there is at least a byte more and twice the text, or the input has ended.
     /// Answers whether it has.
-    pub(crate) fn read_more<R: StepReader>(&mut self, input: &mut R) -> Result<bool, Stop>
+    pub fn read_more<R: StepReader>(&mut self, input: &mut R) -> Result<bool, Stop>
         ensures read { (bytes : List ℕ)
             × Consumes (R.remaining input.old) (R.remaining input.new) bytes
             × OnOk result (self.new.text.items ≡ self.old.text.items ++ bytes) }

@@ -8,7 +8,7 @@ use std::alloc::AllocError;
 
 /// Why it stops.
 #[derive(Clone, Copy)]
-pub(crate) enum Stop {
+pub enum Stop {
     /// The page can't be opened, or not be read.
     Read(Reason),
     /// The output can't be written.
@@ -55,8 +55,8 @@ fn report_write<V: StepWriter>(faults: &mut V, reason: Reason)
     }
 }
 
-// How a page is called.
-fn shown_name(name: &str) -> &str
+/// How a page is called.
+pub fn shown_name(name: &str) -> &str
     ensures { result.now ≡ shown_name name.now }
 {
     if name == "-" {

@@ -62,7 +62,7 @@ pub(crate) fn parse_request(words: &[&str]) -> Request
 }
 
 /// The names of the pages: standard input, where no word names one.
-pub(crate) fn name_pages<'a>(alloc: Global, words: &[&'a str]) -> Result<Vec<&'a str>, AllocError>
+pub fn name_pages<'a>(alloc: Global, words: &[&'a str]) -> Result<Vec<&'a str>, AllocError>
     ensures { IfOk result (λ names. texts names.items ≡ pages_of words.now) }
 {
     let mut names = operands(alloc, words)?;
@@ -99,8 +99,8 @@ fn push_words<'a>(names: &mut Vec<&'a str>, words: &[&'a str]) -> Result<(), All
     Ok(())
 }
 
-// Whether a word is written as an option is: a hyphen, and more.
-fn is_option(word: &str) -> bool
+/// Whether a word is written as an option is: a hyphen, and more.
+pub fn is_option(word: &str) -> bool
     ensures { result ≡ is_option word.now }
 {
     let bytes = word.as_bytes();

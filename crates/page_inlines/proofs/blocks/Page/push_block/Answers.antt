@@ -1,0 +1,23 @@
+use Rattle.std.proofs.Common.{[], ◌∷◌, ◌++◌, string_bytes, refl, subst, append-nil}
+use Rattle.markdown_blocks.specs.events.Events.{seen_event}
+use Rattle.page_inlines.specs.blocks.BlockTexts.{HasPrinted}
+use Rattle.page_inlines.specs.labels.Labels.{labels_of}
+use Rattle.page_inlines.proofs.blocks.TextLemmas.{grown_before}
+use Rattle.page_inlines.proofs.blocks.Page.push_block.Goals as goal
+
+pub loop-event-init : goal.loop-event-init
+loop-event-init c = λ later more gives is. record { events = later; gives = gives; text = more; is_text = is; grown = refl }
+
+pub loop-event-preserved : goal.loop-event-preserved
+loop-event-preserved c = λ later more gives is.
+    let printed = c.in_ok-going_on.ensures in
+    subst (λ t. HasPrinted (labels_of c.args.self.now.labels.definitions) c.args.self.now.bytes.now c.args.containers.now c.args.kept c.args.content.now
+    c.args.events (string_bytes c.args.text.now) t)
+    (grown_before (string_bytes c.loop-event.text) printed.0 (string_bytes c.push_event.new.text) more printed.1)
+    (c.loop-event.invariant (seen_event c.in-Some.event ∷ later) (printed.0 ++ more) (c.in-Some.ensures.event later gives) (printed.2 later more is))
+
+pub returns : goal.returns
+returns c =
+    subst (λ t. HasPrinted (labels_of c.args.self.now.labels.definitions) c.args.self.now.bytes.now c.args.containers.now c.args.kept c.args.content.now
+    c.args.events (string_bytes c.args.text.now) t)
+    (append-nil (string_bytes c.loop-event.text)) (c.loop-event.invariant [] [] c.in_default.ensures.none refl)

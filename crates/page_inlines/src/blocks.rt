@@ -1,0 +1,140 @@
+//! What is printed of a block and its leaf blocks.
+ghost use Rattle.std.specs.Prelude.{◌≡◌, ◌∷◌, ◌++◌, IfOk, List, ℕ, length, OnOk, string_bytes};
+ghost use Rattle.std.specs.List.{flat_map};
+ghost use Rattle.markdown_blocks.specs.events.Events.{Event, seen_event, seen_leaf};
+ghost use Rattle.page_inlines.specs.blocks.BlockTexts.{HasPrinted, IsEventsText};
+ghost use Rattle.page_inlines.specs.labels.Labels.{labels_of};
+ghost use Rattle.page_inlines.specs.page.Printed.{AreContentLines, IsLeafText};
+ghost use Rattle.page_inlines.specs.printing.Lines.{inline_line};
+
+use crate::labels::PageLabels;
+use crate::printing::{has_inlines, part_of, push_block_line, push_inline};
+use markdown_blocks::containers::Container;
+use markdown_blocks::content::{Content, content_of};
+use markdown_blocks::events::{BlockEvent, BlockEvents, Leaf};
+use markdown_inlines::extensions::InlineExtensions;
+use markdown_inlines::inlines::{Inlines, find_inlines};
+use std::alloc::{AllocError, Global};
+use std::str::from_utf8;
+
+/// A page, and the labels that it defines.
+#[derive(Drop)]
+pub(crate) struct Page<'p> {
+    pub(crate) bytes: &'p [u8],
+    pub(crate) labels: PageLabels<'p>,
+}
+
+impl<'p> Page<'p> {
+    /// Adds what is printed of the events of a block, in these containers and with this content. Its
+    /// first line goes on with so many of them.
+    pub(crate) fn push_block(
+        &self,
+        alloc: Global,
+        text: &mut String,
+        kept: usize,
+        containers: &[Container],
+        content: &[u8],
+        mut events: BlockEvents,
+    ) -> Result<(), AllocError>
+        ensures { OnOk result (HasPrinted (labels_of self.now.labels.definitions) self.now.bytes.now
+            containers.now kept content.now events.entry
+            (string_bytes text.old) (string_bytes text.new)) }
+    {
+        let mut going_on = kept;
+        while let Some(event) = events.next(containers, content) {
+            going_on = self.push_event(alloc, text, going_on, containers, event)?;
+        }
+        Ok(())
+    }
+
+    // Adds what is printed of an event in these containers, of which the next leaf block goes on with so
+    // many. Answers with how many the one after that does.
+    fn push_event(
+        &self,
+        alloc: Global,
+        text: &mut String,
+        kept: usize,
+        containers: &[Container],
+        event: BlockEvent,
+    ) -> Result<usize, AllocError>
+        ensures { IfOk result (λ going_on. (here : List ℕ)
+            × (string_bytes text.new ≡ string_bytes text.old ++ here)
+            × ((later : List Event) (more : List ℕ)
+            → IsEventsText (labels_of self.now.labels.definitions) self.now.bytes.now
+            containers.now going_on later more
+            → IsEventsText (labels_of self.now.labels.definitions) self.now.bytes.now
+            containers.now kept (seen_event event.entry ∷ later) (here ++ more))) }
+    {
+        match event {
+            BlockEvent::Block(leaf) => {
+                self.push_leaf(alloc, text, kept, containers, leaf)?;
+                Ok(containers.len())
+            }
+            BlockEvent::Start(..) => Ok(kept),
+            BlockEvent::End => Ok(kept),
+        }
+    }
+
+    // Adds what is printed of a leaf block in these containers. Its first line goes on with so many of
+    // them.
+    fn push_leaf(
+        &self,
+        alloc: Global,
+        text: &mut String,
+        kept: usize,
+        containers: &[Container],
+        leaf: Leaf,
+    ) -> Result<(), AllocError>
+        ensures { OnOk result ((here : List ℕ)
+            × IsLeafText (labels_of self.now.labels.definitions) self.now.bytes.now
+            containers.now kept (seen_leaf leaf.entry) here
+            × (string_bytes text.new ≡ string_bytes text.old ++ here)) }
+    {
+        if !has_inlines(leaf.kind) {
+            return Ok(());
+        }
+        push_block_line(text, containers.len(), leaf)?;
+        let lines = part_of(self.bytes, leaf.start, leaf.start + leaf.bytes);
+        let content = content_of(alloc, lines, leaf.kind, containers, kept)?;
+        self.push_content(alloc, text, leaf.start, &content)
+    }
+
+    // Adds the lines of the inlines of a content, before whose block so many bytes of the page stand.
+    fn push_content(
+        &self,
+        alloc: Global,
+        text: &mut String,
+        start: usize,
+        content: &Content,
+    ) -> Result<(), AllocError>
+        requires { length content.now.places ≡ length content.now.text }
+        ensures { OnOk result ((lines : List ℕ)
+            × AreContentLines (labels_of self.now.labels.definitions) start content.now lines
+            × (string_bytes text.new ≡ string_bytes text.old ++ lines)) }
+    {
+        match from_utf8(content.text()) {
+            Ok(words) => {
+                let found = find_inlines(alloc, words, &self.labels, InlineExtensions::none())?;
+                push_inlines(text, start, content, &found)
+            }
+            Err(_) => text.push_str("  not UTF-8\n"),
+        }
+    }
+}
+
+// Adds the line of each of these inlines of a content.
+fn push_inlines(
+    text: &mut String,
+    start: usize,
+    content: &Content,
+    found: &Inlines,
+) -> Result<(), AllocError>
+    requires { length content.now.places ≡ length content.now.text }
+    ensures { OnOk result (string_bytes text.new ≡ string_bytes text.old
+        ++ flat_map (inline_line start content.now found.now.links.items) found.now.inlines.items) }
+{
+    for inline in &found.inlines {
+        push_inline(text, start, content, &found.links, *inline)?;
+    }
+    Ok(())
+}

@@ -1,0 +1,64 @@
+//! What the program says of itself.
+
+/// What is written on standard error after the name of an option that is not known.
+pub const USAGE: &str =
+    "\nusage: cmark_inlines [--] [FILE ..]\n       cmark_inlines -h | --help | --version\n";
+
+/// What is written before it.
+pub const UNKNOWN: &str = "cmark_inlines: unknown option ";
+
+/// What `--version` prints.
+pub const VERSION: &str = "cmark_inlines 0.1.0\n";
+
+/// What `--help` prints.
+pub const HELP: &str = "\
+usage: cmark_inlines [--] [FILE ..]
+       cmark_inlines -h | --help | --version
+
+Prints a line for each heading and paragraph of a page of Markdown, as cmark_blocks does: the
+number of its first line, the number of its last line, how many containers it is in, and its kind.
+After it comes a line for each of its inlines, in order, with two spaces before it: how many bytes
+of the page stand before it, how many before what follows it, what it is, and its source in
+quotation marks.
+
+  text             text; a bracket or a delimiter that is part of nothing else has a line of its own
+  escape           a backslash and the punctuation that it escapes
+  reference        a character reference
+  code             a code span, with its backticks
+  uri              an absolute URI in angle brackets
+  email            an email address in angle brackets
+  html             raw HTML
+  hard break       a hard line break, with the spaces around it
+  soft break       a soft line break, with the spaces around it
+  start emphasis   the delimiters before emphasis
+  start strong     the delimiters before strong emphasis
+  end emphasis     the delimiters after it
+  end strong
+  start link       the bracket before the text of a link, and where the link leads: one of
+  start image        inline DESTINATION TITLE
+                     full LABEL
+                     collapsed LABEL
+                     shortcut LABEL
+                   as they are written, each in quotation marks, TITLE if there is one, and the
+                   label of a full reference with its brackets
+  end link         what stands after the text of a link or an image, from its bracket on
+
+Of the source each byte that is a quotation mark, a backslash or not printable ASCII is printed as
+\\u00 and two hexadecimal digits. Where it stands in several lines, what belongs to their containers
+and the spaces before their text are no part of it. A heading or paragraph that is not UTF-8 has one
+line instead, not UTF-8.
+
+The labels of references are those that the page defines, wherever it does so. The cells of tables
+are left out.
+
+FILE is a page; - is standard input, and so is no FILE. The lines of the pages follow one another,
+and the lines and bytes of each page are counted from its front. After the word -- all words are
+files.
+
+A page is read whole before its lines are printed. Where a page can't be read, memory is refused or
+the output can't be written, the program stops and says why on standard error, unless the reader of
+the output has left.
+
+The status is 0 where all is printed, 2 for an option that is not known, and 3 where the program
+stopped.
+";

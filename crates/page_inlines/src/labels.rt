@@ -1,0 +1,34 @@
+//! The labels that a page defines.
+ghost use Rattle.std.specs.Prelude.{IfOk};
+ghost use Rattle.page_inlines.specs.labels.Labels.{labels_of};
+ghost use Rattle.page_inlines.specs.page.Printed.{AreLabelsOf};
+
+use markdown_blocks::link_definitions::LinkDefinitions;
+use markdown_inlines::links::Labels;
+use std::alloc::{AllocError, Global};
+
+/// The labels that a page defines. Memory is asked for by the case folding of each that is looked up.
+#[derive(Drop)]
+pub(crate) struct PageLabels<'a> {
+    definitions: LinkDefinitions<'a>,
+}
+
+impl<'a> Labels for PageLabels<'a> {
+    ghost use Rattle.page_inlines.specs.labels.Labels.{labels_of};
+
+    ghost known = { λ it. labels_of it.definitions };
+
+    fn is_defined(&self, label: &str) -> Result<bool, AllocError> {
+        Ok(self.definitions.get(label)?.is_some())
+    }
+}
+
+impl<'a> PageLabels<'a> {
+    /// Those of a page.
+    pub(crate) fn of_page(alloc: Global, page: &'a [u8]) -> Result<PageLabels<'a>, AllocError>
+        ensures { IfOk result (λ labels. AreLabelsOf page.now (labels_of labels.definitions)) }
+    {
+        let definitions = LinkDefinitions::of_page(alloc, page)?;
+        Ok(PageLabels { definitions })
+    }
+}

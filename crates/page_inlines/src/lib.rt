@@ -1,0 +1,12 @@
+//! What `cmark_inlines` prints of the inlines of a page of Markdown, reads and writes.
+#![tactic(auto)]
+
+mod blocks;
+pub mod help;
+mod labels;
+pub mod page;
+mod printing;
+pub mod program;
+mod reading;
+mod stops;
+mod words;

@@ -1,0 +1,44 @@
+//! What is printed of a page.
+ghost use Rattle.std.specs.Prelude.{IfOk, string_bytes};
+ghost use Rattle.page_inlines.specs.page.Printed.{IsPrinted};
+
+use crate::blocks::Page;
+use crate::labels::PageLabels;
+use markdown_blocks::events::BlockEvents;
+use markdown_blocks::taken::Taken;
+use markdown_blocks::walk::Walk;
+use std::alloc::{AllocError, Global};
+
+/// The lines that are printed of a page: for each block that has inlines its own, and then one for
+/// each of its inlines, as `HELP` has them.
+///
+/// Memory is asked for by these lines, and as by `content_of` and `find_inlines`.
+///
+/// # Errors
+///
+/// `AllocError` where memory is refused.
+pub fn lines_of_page(alloc: Global, page: &[u8]) -> Result<String, AllocError>
+    ensures { IfOk result (λ text. IsPrinted page.now (string_bytes text)) }
+{
+    let printed = Page {
+        bytes: page,
+        labels: PageLabels::of_page(alloc, page)?,
+    };
+    let mut text = String::new(alloc);
+    let mut walk = Walk::new(alloc);
+    let mut content = Vec::new(alloc);
+    let mut lines = 0;
+    let mut bytes = 0;
+    loop {
+        let before = Taken { lines, bytes };
+        let depth = walk.containers().len();
+        let Some(step) = walk.next_block(alloc, &mut content, &page[bytes..], true)? else {
+            return Ok(text);
+        };
+        let (kept, taken) = (step.kept, step.block.taken);
+        let events = BlockEvents::new(step, before, depth);
+        printed.push_block(alloc, &mut text, kept, walk.containers(), &content, events)?;
+        lines += taken.lines;
+        bytes += taken.bytes;
+    }
+}
