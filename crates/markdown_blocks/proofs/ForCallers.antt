@@ -5,6 +5,7 @@ pub use Rattle.markdown_blocks.proofs.content.ByteLemmas.{content_bytes}
 pub use Rattle.markdown_blocks.proofs.content.OneContent.{one_content, one_list_of_parts}
 pub use Rattle.markdown_blocks.proofs.definitions.DefinitionLemmas.{one_list_of_definitions}
 pub use Rattle.markdown_blocks.proofs.events.EventLemmas.{one_list_of_events, step_events}
+pub use Rattle.markdown_blocks.proofs.events.LabelLemmas.{footnotes_have_labels}
 pub use Rattle.markdown_blocks.proofs.events.ShownLemmas.{one_list_of_shown, one_written, page_shown, shown_events, shown_next, step_shown}
 pub use Rattle.markdown_blocks.proofs.first_blocks.OnePage.{one_list_of_alerts, one_list_of_tasks}
 pub use Rattle.markdown_blocks.proofs.laws.ItemLaw.{list_item, one_list_item, blank_list_item, one_blank_list_item}

@@ -1,3 +1,4 @@
 pub mod EventLemmas
+pub mod LabelLemmas
 pub mod OneEvents
 pub mod ShownLemmas

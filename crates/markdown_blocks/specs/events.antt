@@ -1,5 +1,6 @@
 pub mod Events
 pub mod Given
 pub mod Iterated
+pub mod Labels
 pub mod Shown
 pub mod Used
