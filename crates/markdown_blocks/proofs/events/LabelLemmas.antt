@@ -1,5 +1,5 @@
 -- Where a footnote definition begins on a page, its label stands.
-use Rattle.std.proofs.Common.{ℕ, suc, zero, Bool, true, false, ◌&&◌, ◌==◌, ◌+◌, ◌-◌, ◌≡◌, ◌≤◌, ◌<◌, List, [], ◌∷◌, ◌++◌, length, take, drop, Option, Some, None}
+use Rattle.std.proofs.Common.{ℕ, suc, zero, Bool, true, false, ◌&&◌, ◌==◌, ◌+◌, ◌-◌, ◌≡◌, List, [], ◌∷◌, ◌++◌, length, take, drop, Option, Some, None}
 use Rattle.std.proofs.Common.{is_some, refl, sym, ap, ◌∙◌, subst, arith, append_assoc, inl, inr}
 use Rattle.std.specs.Prelude.{if◌then◌else◌, map, nat_lt, replicate}
 use Rattle.std.specs.List.{concat, prefix_len}
@@ -13,9 +13,8 @@ use Rattle.markdown_scanners_tree.specs.line.ItemRules.{start_of}
 use Rattle.markdown_scanners_tree.specs.line.Outcome.{after_quote, item_outcome, item_outcome_after, item_outcome_by, not_found, space_or_end_follows}
 use Rattle.markdown_scanners_tree.specs.line.State.{LineState, unscanned, bytes_further, space_within, after_space}
 use Rattle.markdown_scanners_tree.specs.scanners.list_items.ListMarker.{Marker, list_marker}
-use Rattle.markdown_scanners_tree.specs.scanners.TextLines.{lines_of}
 use Rattle.markdown_scanners_tree.proofs.ForCallers.{lines_joined}
-use Rattle.markdown_blocks.specs.blocks.Pages.{Piece, IsPage, AreBlocks, lines_in, open_behind, root}
+use Rattle.markdown_blocks.specs.blocks.Pages.{Piece, AreBlocks, lines_in, open_behind, root}
 use Rattle.markdown_blocks.specs.containers.Containers.{Outer, after_marker, all_extensions, begun_at, behind, behind_quote, either_begun, footnote_by}
 use Rattle.markdown_blocks.specs.containers.Containers.{go_on, item_of, marker_place, within, within_quote, Opens}
 use Rattle.markdown_blocks.specs.containers.Footnotes.{behind_footnote, circumflex, closes_label, footnote_label, is_label_byte}

@@ -1,5 +1,5 @@
 -- Columns of space that are passed four at a time are passed at once.
-use Rattle.std.proofs.Common.{ℕ, suc, zero, Bool, true, false, ◌==◌, ◌+◌, ◌-◌, ◌%◌, ◌≡◌, ◌≤◌, ◌<◌, List, [], ◌∷◌, ◌++◌, drop, refl, sym, ap, ◌∙◌, arith}
+use Rattle.std.proofs.Common.{ℕ, suc, zero, Bool, true, false, ◌==◌, ◌+◌, ◌≡◌, ◌≤◌, ◌<◌, List, [], ◌∷◌, drop, refl, sym, ap, ◌∙◌, arith}
 use Rattle.markdown_scanners_tree.specs.Ascii.{space}
 use Rattle.markdown_scanners_tree.specs.Columns.{head_end, written_out}
 use Rattle.markdown_scanners_tree.specs.line.State.{LineState, unscanned, rest_of, leading_spaces, columns_further, space_within, after_space}

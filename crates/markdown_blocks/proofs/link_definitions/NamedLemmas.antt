@@ -1,8 +1,8 @@
 -- What the definitions of a page name, and which of them a label finds.
 use Rattle.std.proofs.Common.{ℕ, List, [], ◌∷◌, ◌++◌, ◌≡◌, ◌⊎◌, inl, inr, Option, Some, None, drop, take, cond, false, Bool, true}
-use Rattle.std.proofs.Common.{refl, sym, ap, ◌∙◌, subst, append_assoc, string_bytes}
-use Rattle.std.specs.Prelude.{map, is_some, if◌then◌else◌}
-use Rattle.std.specs.Map.{lookup, update}
+use Rattle.std.proofs.Common.{refl, sym, ap, ◌∙◌, subst, string_bytes}
+use Rattle.std.specs.Prelude.{map, is_some}
+use Rattle.std.specs.Map.{lookup}
 use Rattle.std.specs.Ordering.{is_eq, nat_cmp}
 use Rattle.std.specs.Str.{IsUtf8, bytes_eq}
 use Rattle.std.specs.declared.string.String.{String}
@@ -10,14 +10,13 @@ use Rattle.std.specs.Cmp.Lexicographic.{slice_cmp}
 use Rattle.std.proofs.lemmas.Bool.{cases_Bool}
 use Rattle.std.proofs.lemmas.Map.Text.{is_eq-slice_cmp}
 use Rattle.std.proofs.lemmas.Slice.Eq.{bytes_eq-Decides}
-use Rattle.std.proofs.lemmas.List.{drop_at}
 use Rattle.markdown_scanners_tree.specs.scanners.TextLines.{lines_of}
 use Rattle.markdown_scanners_tree.specs.declared.scanners.reference_definitions.ReferenceDefinition.{ReferenceDefinition}
 use Rattle.markdown_scanners_tree.specs.linklabel.Key.{key_bytes}
 use Rattle.markdown_scanners_tree.specs.linklabel.Label.{Label, IsLabel, IsLabelInBytes}
 use Rattle.markdown_scanners_tree.specs.NoSkips.{SkipsNothing}
 use Rattle.markdown_scanners_tree.proofs.ForCallers.{one_label_unskipped}
-use Rattle.markdown_blocks.specs.blocks.Pages.{Piece, IsPage, IsPiece, AreBlocks, lines_in, root}
+use Rattle.markdown_blocks.specs.blocks.Pages.{Piece, IsPiece, AreBlocks, lines_in, root}
 use Rattle.markdown_blocks.specs.containers.Containers.{Outer, Rest}
 use Rattle.markdown_blocks.specs.declared.containers.BlockExtensions.{BlockExtensions}
 use Rattle.markdown_blocks.specs.declared.step.Step.{Step}

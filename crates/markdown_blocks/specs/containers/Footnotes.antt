@@ -1,5 +1,5 @@
 -- Markers of footnote definitions. (GitHub Docs, footnotes: no part of CommonMark)
-use Rattle.std.specs.Prelude.{ℕ, Bool, false, not, ◌||◌, ◌&&◌, ◌==◌, ◌+◌, nat_lt, List, [], ◌∷◌, Option, Some, None, length, take, drop, if◌then◌else◌}
+use Rattle.std.specs.Prelude.{ℕ, Bool, false, not, ◌||◌, ◌&&◌, ◌==◌, ◌+◌, nat_lt, List, ◌∷◌, Option, Some, None, length, take, drop, if◌then◌else◌}
 use Rattle.std.specs.List.{prefix_len}
 use Rattle.markdown_scanners_tree.specs.Ascii.{colon, left_bracket, right_bracket}
 use Rattle.markdown_scanners_tree.specs.Bytes.{is_line_ending, is_space_or_tab}

@@ -1,7 +1,7 @@
 use Rattle.std.proofs.Common.{Some, None, sym, ap, ◌≡◌, ◌∙◌, subst, arith}
 use Rattle.std.specs.Prelude.{IfSome, IfNone}
 use Rattle.markdown_blocks.specs.containers.Containers.{either_begun, footnote_of}
-use Rattle.markdown_blocks.proofs.containers.ContainerLemmas.{near, begun_other, no_marker, no_quote}
+use Rattle.markdown_blocks.proofs.containers.ContainerLemmas.{begun_other, no_marker, no_quote}
 use Rattle.markdown_blocks.proofs.containers.scan_container.Goals as goal
 
 pub returns-clause-found : goal.returns-clause-found

@@ -1,4 +1,4 @@
-use Rattle.std.proofs.Common.{[], ◌++◌, ap, refl, sym, ◌∙◌, subst, length, arith, append_assoc, append-nil}
+use Rattle.std.proofs.Common.{[], ◌++◌, ap, sym, ◌∙◌, subst, length, arith, append_assoc, append-nil}
 use Rattle.std.proofs.lemmas.List.{drop-drop, length-drop}
 use Rattle.markdown_blocks.specs.link_definitions.LinkDefinitions.{Names, known_before}
 use Rattle.markdown_blocks.proofs.taken.TakenLemmas.{slice_behind}

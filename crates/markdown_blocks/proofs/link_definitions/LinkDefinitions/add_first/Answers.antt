@@ -1,4 +1,4 @@
-use Rattle.std.proofs.Common.{[], ◌∷◌, refl, sym}
+use Rattle.std.proofs.Common.{[]}
 use Rattle.markdown_blocks.proofs.taken.TakenLemmas.{slice_behind}
 use Rattle.markdown_blocks.proofs.link_definitions.NamedLemmas.{none_later, is_named, unnamed}
 use Rattle.markdown_blocks.proofs.link_definitions.LinkDefinitions.add_first.Goals as goal
