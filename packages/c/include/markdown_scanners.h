@@ -96,7 +96,7 @@ enum mds_status {
     MDS_NOT_RISING = 10,    /* the place is not above the one before it */
     MDS_INSIDE_FIND = 11,   /* the place is inside what was found before it */
     MDS_SPACE_PENDING = 12, /* columns of a tab are pending, and the call is not one that takes space */
-    MDS_BAD_KIND = 13,      /* a call or a block has no known kind */
+    MDS_BAD_KIND = 13,      /* a call or a block has no known kind, or an extension is not known */
     MDS_BAD_STATE = 14      /* a line start has numbers that none has on these bytes */
 };
 
@@ -693,22 +693,29 @@ struct mds_blocks mds_scan_lists(const void *bytes, size_t length, struct mds_li
 
 /* What stands in the text of a block: inlines that hold no others, and where those begin and end that do. */
 enum mds_inline_kind {
-    MDS_INLINE_TEXT = 0,          /* text (6.9); delimiters in no emphasis and brackets of no link are text too */
-    MDS_INLINE_ESCAPE = 1,        /* a backslash and the punctuation that it escapes (2.4) */
-    MDS_INLINE_REFERENCE = 2,     /* a character reference (2.5) */
-    MDS_INLINE_CODE = 3,          /* a code span (6.1) */
-    MDS_INLINE_URI = 4,           /* an absolute URI in angle brackets (6.5) */
-    MDS_INLINE_EMAIL = 5,         /* an email address in angle brackets (6.5) */
-    MDS_INLINE_HTML = 6,          /* raw HTML (6.6) */
-    MDS_INLINE_SOFT_BREAK = 7,    /* a soft line break, with the spaces around it (6.8) */
-    MDS_INLINE_HARD_BREAK = 8,    /* a hard line break, with the spaces around it and the backslash that may make it (6.7) */
-    MDS_INLINE_EMPHASIS = 9,      /* emphasis begins (6.2) */
-    MDS_INLINE_EMPHASIS_END = 10, /* the innermost emphasis that has begun ends */
-    MDS_INLINE_STRONG = 11,       /* strong emphasis begins (6.2) */
-    MDS_INLINE_STRONG_END = 12,   /* the innermost strong emphasis that has begun ends */
-    MDS_INLINE_LINK = 13,         /* a link begins (6.3) */
-    MDS_INLINE_IMAGE = 14,        /* an image begins (6.4) */
-    MDS_INLINE_LINK_END = 15      /* the innermost link or image that has begun ends */
+    MDS_INLINE_TEXT = 0,              /* text (6.9); delimiters in no emphasis and brackets of no link are text too */
+    MDS_INLINE_ESCAPE = 1,            /* a backslash and the punctuation that it escapes (2.4) */
+    MDS_INLINE_REFERENCE = 2,         /* a character reference (2.5) */
+    MDS_INLINE_CODE = 3,              /* a code span (6.1) */
+    MDS_INLINE_URI = 4,               /* an absolute URI in angle brackets (6.5) */
+    MDS_INLINE_EMAIL = 5,             /* an email address in angle brackets (6.5) */
+    MDS_INLINE_HTML = 6,              /* raw HTML (6.6) */
+    MDS_INLINE_SOFT_BREAK = 7,        /* a soft line break, with the spaces around it (6.8) */
+    MDS_INLINE_HARD_BREAK = 8,        /* a hard line break, with the spaces around it and the backslash that may make it (6.7) */
+    MDS_INLINE_EMPHASIS = 9,          /* emphasis begins (6.2) */
+    MDS_INLINE_EMPHASIS_END = 10,     /* the innermost emphasis that has begun ends */
+    MDS_INLINE_STRONG = 11,           /* strong emphasis begins (6.2) */
+    MDS_INLINE_STRONG_END = 12,       /* the innermost strong emphasis that has begun ends */
+    MDS_INLINE_LINK = 13,             /* a link begins (6.3) */
+    MDS_INLINE_IMAGE = 14,            /* an image begins (6.4) */
+    MDS_INLINE_LINK_END = 15,         /* the innermost link or image that has begun ends */
+    MDS_INLINE_STRIKETHROUGH = 16,    /* strikethrough begins, where it is asked for */
+    MDS_INLINE_STRIKETHROUGH_END = 17 /* the innermost strikethrough that has begun ends */
+};
+
+/* Extensions of CommonMark's inlines. Each is a bit; those that are asked for are given as their sum. */
+enum mds_inline_extension {
+    MDS_STRIKETHROUGH = 1 /* text between `~` and `~`, or `~~` and `~~`, is struck through (GitHub Flavored Markdown 0.29, 6.5) */
 };
 
 /* Where a link or an image leads, by what follows its text. (6.3) */
@@ -729,9 +736,9 @@ struct mds_view {
 struct mds_inline {
     uint32_t kind;        /* of enum mds_inline_kind */
     uint32_t target;      /* of a link or an image that begins: of enum mds_link_target */
-    size_t start, length; /* its place, and how many bytes it has; of emphasis those of the delimiters that begin or end it, of a
-                           * link or an image its left bracket, with the `!` of an image, or its right bracket and what follows
-                           * there that belongs to it */
+    size_t start, length; /* its place, and how many bytes it has; of emphasis and strikethrough those of the delimiters that begin
+                           * or end it, of a link or an image its left bracket, with the `!` of an image, or its right bracket
+                           * and what follows there that belongs to it */
     size_t count;         /* of a code span how many backticks stand on each side of its content */
     size_t end;           /* of a link or an image that begins the place after all of it */
     size_t destination_start, destination_length; /* of MDS_TARGET_INLINE its destination, without angle brackets */
@@ -750,7 +757,8 @@ struct mds_inlines {
  * as they are written: mds_unescape decodes the first two, and mds_scan_link_label reads the label at `label_start`.
  *
  * `labels` are those that are defined, each as mds_scan_link_label writes it; null and 0 for no labels. What refers to a label that
- * matches none of them, as mds_labels_match has it, is text.
+ * matches none of them, as mds_labels_match has it, is text. `extensions` are bits of enum mds_inline_extension; 0 is CommonMark
+ * alone. MDS_BAD_KIND where another bit is set.
  *
  * Where the buffer is too short it is left as it was, and `count` says how many inlines it needs room for: as many as the text has
  * bytes at most. MDS_NOT_UTF8 where the text or a label is not UTF-8. Memory is asked for, for the text, the labels and the
@@ -758,17 +766,19 @@ struct mds_inlines {
  *
  *     struct mds_view labels[] = {{"b", 1}};
  *     struct mds_inline inlines[7];
- *     mds_scan_inlines("*a* [B]", 7, labels, 1, inlines, 7).count == 7
+ *     mds_scan_inlines("*a* [B]", 7, labels, 1, 0, inlines, 7).count == 7
  *     inlines[0].kind == MDS_INLINE_EMPHASIS && inlines[1].kind == MDS_INLINE_TEXT && inlines[1].start == 1
  *     inlines[4].kind == MDS_INLINE_LINK && inlines[4].target == MDS_TARGET_SHORTCUT && inlines[4].end == 7
  *     inlines[4].label_start == 5 && inlines[4].label_length == 1
- *     mds_scan_inlines("[a](/b)", 7, NULL, 0, inlines, 7).count == 3
+ *     mds_scan_inlines("[a](/b)", 7, NULL, 0, 0, inlines, 7).count == 3
  *     inlines[0].destination_start == 4 && inlines[0].destination_length == 2 && inlines[0].title_start == MDS_NONE
  *     inlines[2].kind == MDS_INLINE_LINK_END && inlines[2].start == 2 && inlines[2].length == 5
+ *     mds_scan_inlines("~~a~~", 5, NULL, 0, MDS_STRIKETHROUGH, inlines, 7).count == 3
+ *     inlines[0].kind == MDS_INLINE_STRIKETHROUGH && inlines[0].length == 2 && inlines[2].start == 3
  */
 struct mds_inlines mds_scan_inlines(
-    const void *text, size_t length, const struct mds_view *labels, size_t label_count, struct mds_inline *inlines,
-    size_t capacity);
+    const void *text, size_t length, const struct mds_view *labels, size_t label_count, uint32_t extensions,
+    struct mds_inline *inlines, size_t capacity);
 
 /* ---- Parts of inline text ---- */
 

@@ -1,5 +1,6 @@
-/* The inlines of texts: the examples of CommonMark 0.31.2, by their numbers, of which cmark makes what stands beside them; refused
- * texts and labels; and made texts, whose inlines nest and, joined, are the text, whatever the order of the labels. */
+/* The inlines of texts: the examples of CommonMark 0.31.2, by their numbers, of which cmark makes what stands beside them, and those
+ * of strikethrough in GitHub Flavored Markdown 0.29, of which cmark-gfm does; refused texts, labels and extensions; and made texts,
+ * whose inlines nest and, joined, are the text, whatever the order of the labels. */
 #include "checks.h"
 
 #include <stdio.h>
@@ -242,6 +243,8 @@ static void say_inline(int example, const char *text, const struct mds_inline *i
     case MDS_INLINE_EMPHASIS_END: say_word("</em>"); break;
     case MDS_INLINE_STRONG: say_word("<strong>"); break;
     case MDS_INLINE_STRONG_END: say_word("</strong>"); break;
+    case MDS_INLINE_STRIKETHROUGH: say_word("<del>"); break;
+    case MDS_INLINE_STRIKETHROUGH_END: say_word("</del>"); break;
     case MDS_INLINE_LINK:
     case MDS_INLINE_IMAGE: say_target(example, text, it, definitions); break;
     case MDS_INLINE_LINK_END: say_word("</>"); break;
@@ -249,16 +252,19 @@ static void say_inline(int example, const char *text, const struct mds_inline *i
     }
 }
 
+/* What is asked for. */
+static uint32_t extensions;
+
 /* The inlines of the text, which are written where there is room for all of them, and nowhere else. */
 static size_t inlines_of(
     int example, const char *text, size_t length, const struct mds_view *views, size_t count, struct mds_inline *inlines) {
     const void *bytes = given(BYTES, text, length);
     const struct mds_view *labels = given(LIST, views, count * sizeof(*views));
-    size_t found = mds_scan_inlines(bytes, length, labels, count, NULL, 0).count, size = found * sizeof(*inlines);
+    size_t found = mds_scan_inlines(bytes, length, labels, count, extensions, NULL, 0).count, size = found * sizeof(*inlines);
     same(example, "fits", found <= MOST && found <= length, true);
     for (size_t less = 0; less < 2 && less <= found; less++) {
         void *buffer = writable(BUFFER, size);
-        struct mds_inlines told = mds_scan_inlines(bytes, length, labels, count, buffer, found - less);
+        struct mds_inlines told = mds_scan_inlines(bytes, length, labels, count, extensions, buffer, found - less);
         same(example, "status", told.status, less ? MDS_TOO_SHORT : MDS_OK);
         same(example, "count", told.count, found);
         same(example, "is_left", is_left(BUFFER, less ? 0 : size), true);
@@ -329,22 +335,54 @@ static void places(void) {
     IS(it[6], MDS_INLINE_ESCAPE, .start = 12, .length = 2);
 }
 
+/* GitHub Flavored Markdown 0.29, section 6.5: its examples and others, of which cmark-gfm makes what stands beside them. */
+static void strikethrough(void) {
+    static const struct row struck[] = {
+        {491, "~~Hi~~ Hello, ~there~ world!", "<del>Hi</del> Hello, <del>there</del> world!"},
+        {492, "This ~~has a", "This ~~has a"},
+        {492, "new paragraph~~.", "new paragraph~~."},
+        {0, "This will ~~~not~~~ strike.", "This will ~~~not~~~ strike."},
+        {0, "*a ~b* c~", "<em>a ~b</em> c~"},
+        {0, "~a~ ~~*b*~~", "<del>a</del> <del><em>b</em></del>"},
+        {0, "`~a~` \\~b~", "<code>~a~</code> ~b~"},
+    };
+    static const struct definition none[LABELS];
+    struct mds_inline it[MOST];
+    extensions = MDS_STRIKETHROUGH;
+    for (size_t i = 0; i < sizeof(struck) / sizeof(*struck); i++)
+        example(struck[i].example, struck[i].text, none, struck[i].wanted);
+    SAME(inlines_of(0, "~~a~~ ~b~", 9, NULL, 0, it), 7);
+    IS(it[0], MDS_INLINE_STRIKETHROUGH, .length = 2);
+    IS(it[2], MDS_INLINE_STRIKETHROUGH_END, .start = 3, .length = 2);
+    IS(it[4], MDS_INLINE_STRIKETHROUGH, .start = 6, .length = 1);
+    IS(it[6], MDS_INLINE_STRIKETHROUGH_END, .start = 8, .length = 1);
+    extensions = 0;
+    example(0, "~~a~~ ~b~", none, "~~a~~ ~b~");
+}
+
 static void is_refused(int line, const char *text, size_t length, const char *label, size_t label_length) {
     struct mds_view view = {given(OTHER_BYTES, label, label_length), label_length};
     const struct mds_view *labels = given(LIST, &view, sizeof(view));
     struct mds_inlines found =
-        mds_scan_inlines(given(BYTES, text, length), length, labels, 1, writable(BUFFER, 880), 10);
+        mds_scan_inlines(given(BYTES, text, length), length, labels, 1, 0, writable(BUFFER, 880), 10);
     same(line, "status", found.status, MDS_NOT_UTF8), same(line, "count", found.count, 0);
     same(line, "is_left", is_left(BUFFER, 0), true);
 }
 
 static void refusals(void) {
     static const struct mds_view empty[] = {{NULL, 0}, {"", 0}};
+    static const uint32_t others[] = {2, 3, 4, 0x80000000, 0x80000001, UINT32_MAX};
     is_refused(__LINE__, "a\xff", 2, "b", 1), is_refused(__LINE__, "\xc3", 1, "b", 1);
     is_refused(__LINE__, "a", 1, "b\xff", 2), is_refused(__LINE__, "[b]", 3, "\xe1\xba", 2);
-    SAME(mds_scan_inlines(NULL, 0, NULL, 0, NULL, 0).status, MDS_OK), SAME(mds_scan_inlines(NULL, 0, NULL, 0, NULL, 0).count, 0);
-    SAME(mds_scan_inlines(OF("[]"), empty, 2, NULL, 0).count, 2);
-    SAME(mds_scan_inlines(OF("[]"), empty, 2, NULL, 0).status, MDS_TOO_SHORT);
+    SAME(mds_scan_inlines(NULL, 0, NULL, 0, 0, NULL, 0).status, MDS_OK), SAME(mds_scan_inlines(NULL, 0, NULL, 0, 0, NULL, 0).count, 0);
+    SAME(mds_scan_inlines(OF("[]"), empty, 2, 0, NULL, 0).count, 2);
+    SAME(mds_scan_inlines(OF("[]"), empty, 2, 0, NULL, 0).status, MDS_TOO_SHORT);
+    for (size_t i = 0; i < sizeof(others) / sizeof(*others); i++) {
+        SAME(mds_scan_inlines(OF("a"), NULL, 0, others[i], writable(BUFFER, 880), 10).status, MDS_BAD_KIND);
+        SAME(is_left(BUFFER, 0), true);
+        SAME(mds_scan_inlines(OF("\xff"), NULL, 0, others[i], NULL, 0).status, MDS_BAD_KIND);
+        SAME(mds_scan_inlines(NULL, 0, NULL, 0, others[i], NULL, 0).count, 0);
+    }
 }
 
 static uint64_t seed = 9;
@@ -358,7 +396,7 @@ static size_t made(size_t below) {
 static size_t make_text(char *text) {
     static const char *const pieces[] = {
         "*", "**", "_", "`", "``", "[", "![", "]", "](b)", "[a]", "][a]", "[]", "\\", "&amp;", "<a>", "<b@c>", "\n", "  \n", "a", " ",
-        "\xc3\xa4"};
+        "\xc3\xa4", "~", "~~"};
     size_t length = 0, wanted = made(MOST);
     for (;;) {
         const char *piece = pieces[made(sizeof(pieces) / sizeof(*pieces))];
@@ -376,7 +414,7 @@ static void are_whole(const struct mds_inline *inlines, size_t count, size_t len
         uint32_t kind = inlines[i].kind;
         SAME(inlines[i].start, place), SAME(inlines[i].length > 0, true);
         place += inlines[i].length;
-        if (kind == MDS_INLINE_EMPHASIS || kind == MDS_INLINE_STRONG)
+        if (kind == MDS_INLINE_EMPHASIS || kind == MDS_INLINE_STRONG || kind == MDS_INLINE_STRIKETHROUGH)
             open[depth++] = kind + 1;
         else if (kind == MDS_INLINE_LINK || kind == MDS_INLINE_IMAGE)
             SAME(inlines[i].end <= length, true), open[depth++] = MDS_INLINE_LINK_END;
@@ -393,7 +431,7 @@ static void made_texts(void) {
     char text[LONGEST];
     for (size_t i = 0; i < 20000; i++) {
         size_t length = make_text(text), labels = made(2);
-        at_front = i % 2;
+        at_front = i % 2, extensions = made(2);
         size_t count = inlines_of(0, text, length, one, labels, inlines);
         are_whole(inlines, count, length);
         if (labels) {
@@ -406,9 +444,9 @@ static void made_texts(void) {
 }
 
 int main(void) {
-    examples(), places(), refusals();
+    examples(), places(), strikethrough(), refusals();
     at_front = true;
-    examples(), places(), refusals();
+    examples(), places(), strikethrough(), refusals();
     made_texts();
     return report("inlines");
 }

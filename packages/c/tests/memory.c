@@ -1,7 +1,7 @@
-/* Memory refused. Nine functions may answer MDS_NO_MEMORY: on each of their inputs here the first, second, .. request is refused
+/* Memory refused. Ten functions may answer MDS_NO_MEMORY: on each of their inputs here the first, second, .. request is refused
  * until none is left, by itself and with all that follow. The call then answers MDS_NO_MEMORY, tells nothing more and writes
  * nothing, or it has the same answer as with ample memory; and it frees what it was given. The other functions make no request,
- * and neither do these nine where the header says so. The linker puts the functions __wrap_.. in the place of the C library's
+ * and neither do these ten where the header says so. The linker puts the functions __wrap_.. in the place of the C library's
  * (--wrap). */
 #include "checks.h"
 
@@ -179,6 +179,24 @@ static struct told deep_blocks(size_t room) {
     return of_blocks(page, sizeof(page), room);
 }
 
+static struct told of_lists(const char *page, size_t length, size_t room) {
+    size_t capacity = room / sizeof(struct mds_list);
+    struct mds_list *lists = writable(BUFFER, capacity * sizeof(*lists));
+    struct mds_blocks found = mds_scan_lists(given(BYTES, page, length), length, lists, capacity);
+    return (struct told){found.status, {found.count, 0, 0}};
+}
+
+static struct told lists(size_t room) {
+    return of_lists("- a\n  1. b\n\n  2. c\n+ d\n", 23, room);
+}
+
+static struct told many_lists(size_t room) {
+    static char page[4 * MANY];
+    for (size_t i = 0; i < MANY; i++)
+        memcpy(page + 4 * i, i % 2 ? "- a\n" : "+ a\n", 4);
+    return of_lists(page, sizeof(page), room);
+}
+
 static struct told content_in(const char *page, size_t length, size_t depth, size_t room) {
     static struct mds_block quotes[MANY];
     const struct mds_block leaf = {.kind = MDS_BLOCK_PARAGRAPH, .bytes = length};
@@ -205,7 +223,7 @@ static struct told of_inlines(const char *text, size_t length, const struct mds_
     const struct mds_view *views = given(LIST, labels, count * sizeof(*views));
     size_t capacity = room / sizeof(struct mds_inline);
     struct mds_inline *inlines = writable(BUFFER, capacity * sizeof(*inlines));
-    struct mds_inlines found = mds_scan_inlines(given(BYTES, text, length), length, views, count, inlines, capacity);
+    struct mds_inlines found = mds_scan_inlines(given(BYTES, text, length), length, views, count, MDS_STRIKETHROUGH, inlines, capacity);
     return (struct told){found.status, {found.count, 0, 0}};
 }
 
@@ -213,7 +231,7 @@ static struct told inlines(size_t room) {
     return of_inlines("*a* `b` [c](d)", 14, NULL, 0, room);
 }
 
-/* Where memory for a label's key is refused, the label is looked for without it. */
+/* Keys are made of the labels that are defined, and of those that are looked up. */
 static struct told inlines_with_labels(size_t room) {
     static const struct mds_view labels[] = {{"\xc3\x84", 2}, {"B  c", 4}, {"b c", 3}};
     return of_inlines("[\xc3\xa4][] ![a][B\nC] [d]", 22, labels, 3, room);
@@ -293,11 +311,12 @@ static void asking(void) {
     ASKS(table), ASKS(wide_table);
     ASKS(html_run), ASKS(long_html_run);
     ASKS(blocks), ASKS(blocks_of_table), ASKS(deep_blocks);
+    ASKS(lists), ASKS(many_lists);
     ASKS(content_in_many), ASKS(long_content);
     ASKS(inlines), ASKS(inlines_with_labels), ASKS(inlines_with_many_labels);
 }
 
-/* What these nine need no memory for. */
+/* What these ten need no memory for. */
 static void sparing(void) {
     ASKS_NOT(mds_unescape(OF("plain"), false, NULL, 0).status, MDS_TOO_SHORT);
     ASKS_NOT(mds_unescape(OF("\xff"), false, NULL, 0).status, MDS_NOT_UTF8);
@@ -321,8 +340,9 @@ static void sparing(void) {
     ASKS_NOT(mds_scan_table_head(OF("||-|"), NULL, 0).status, MDS_NOTHING);
     ASKS_NOT(mds_run_inline_html(OF("<!a>"), NULL, 0, NULL, 0).status, MDS_OK);
     ASKS_NOT(mds_run_inline_html(OF("<!a>"), (const size_t[]){1, 2}, 2, NULL, 0).status, MDS_NO_OPENER);
-    ASKS_NOT(mds_scan_inlines(OF("\xff"), NULL, 0, NULL, 0).status, MDS_NOT_UTF8);
-    ASKS_NOT(mds_scan_inlines(OF("a"), (const struct mds_view[]){{"b", 1}, {"\xff", 1}}, 2, NULL, 0).status, MDS_NOT_UTF8);
+    ASKS_NOT(mds_scan_inlines(OF("\xff"), NULL, 0, 0, NULL, 0).status, MDS_NOT_UTF8);
+    ASKS_NOT(mds_scan_inlines(OF("a"), NULL, 0, 2, NULL, 0).status, MDS_BAD_KIND);
+    ASKS_NOT(mds_scan_inlines(OF("a"), (const struct mds_view[]){{"b", 1}, {"\xff", 1}}, 2, 0, NULL, 0).status, MDS_NOT_UTF8);
     const struct mds_block leaf = {.kind = MDS_BLOCK_PARAGRAPH, .start = 1, .bytes = 2}, end = {.kind = MDS_BLOCK_END};
     ASKS_NOT(mds_scan_blocks(OF(""), NULL, 0).status, MDS_OK);
     ASKS_NOT(mds_block_content(OF("\na\n"), &leaf, NULL, 0, 0, writable(BUFFER, 1), 1).status, MDS_OK);

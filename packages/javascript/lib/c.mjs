@@ -66,6 +66,10 @@ export const INLINE_STRONG_END = 12;
 export const INLINE_LINK = 13;
 export const INLINE_IMAGE = 14;
 export const INLINE_LINK_END = 15;
+export const INLINE_STRIKETHROUGH = 16;
+export const INLINE_STRIKETHROUGH_END = 17;
+
+export const STRIKETHROUGH = 1;
 
 export const TARGET_INLINE = 1;
 export const TARGET_FULL = 2;
@@ -417,7 +421,7 @@ export const FUNCTIONS = {
     scanBlocks: ["mds_scan_blocks", "blocks", ["pointer", "size_t", "pointer", "size_t"]],
     blockContent: ["mds_block_content", "text", ["pointer", "size_t", "pointer", "pointer", "size_t", "size_t", "pointer", "size_t"]],
     scanLists: ["mds_scan_lists", "blocks", ["pointer", "size_t", "pointer", "size_t"]],
-    scanInlines: ["mds_scan_inlines", "inlines", ["pointer", "size_t", "pointer", "size_t", "pointer", "size_t"]],
+    scanInlines: ["mds_scan_inlines", "inlines", ["pointer", "size_t", "pointer", "size_t", "uint32_t", "pointer", "size_t"]],
     scanLinkDest: ["mds_scan_link_dest", "part", ["pointer", "size_t", "size_t", "size_t"]],
     scanLinkTitle: ["mds_scan_link_title", "part", ["pointer", "size_t", "size_t"]],
     scanAutolink: ["mds_scan_autolink", "part", ["pointer", "size_t", "size_t"]],

@@ -3,11 +3,12 @@ import * as c from "./c.mjs";
 import { Blocks } from "./blocks.mjs";
 import { Block, NONE } from "./engine.mjs";
 import { isAnswer } from "./errors.mjs";
-import { bytesOf, listOf, optionsOf } from "./given.mjs";
+import { bytesOf, flagOf, listOf, optionsOf } from "./given.mjs";
 
 /** @typedef {import("./blocks.mjs").Span} Span */
 /** @typedef {"text" | "escape" | "reference" | "html" | "softBreak" | "hardBreak"} PlainKind delimiters in no emphasis and brackets of no link are text */
-/** @typedef {"emphasis" | "emphasisEnd" | "strong" | "strongEnd" | "linkEnd"} MarkKind what begins, or the innermost that has begun ends */
+/** @typedef {"emphasis" | "emphasisEnd" | "strong" | "strongEnd"} EmphasisKind what begins, or the innermost that has begun ends */
+/** @typedef {EmphasisKind | "strikethrough" | "strikethroughEnd" | "linkEnd"} MarkKind the same */
 /** @typedef {{ kind: PlainKind | MarkKind, start: number, stop: number }} PlainInline */
 /** @typedef {{ kind: "code" | "uri" | "email", start: number, stop: number, content: Span }} FilledInline between backticks or angle brackets */
 /** @typedef {{ kind: "link" | "image", start: number, stop: number, link: Link }} LinkStart its left bracket, with the `!` of an image */
@@ -35,6 +36,8 @@ const KINDS = {
     [c.INLINE_LINK]: "link",
     [c.INLINE_IMAGE]: "image",
     [c.INLINE_LINK_END]: "linkEnd",
+    [c.INLINE_STRIKETHROUGH]: "strikethrough",
+    [c.INLINE_STRIKETHROUGH_END]: "strikethroughEnd",
 };
 /** @type {Record<number, ReferenceLink["target"]>} */
 const TARGETS = { [c.TARGET_FULL]: "full", [c.TARGET_COLLAPSED]: "collapsed", [c.TARGET_SHORTCUT]: "shortcut" };
@@ -51,31 +54,34 @@ export class Inlines extends Blocks {
      * the text, and they nest: each that begins ends. Text may stand in several, one after another.
      *
      * `labels` are those that are defined, each as `scanLinkLabel` answers it; what refers to a label that matches none of them is
-     * text. NotUtf8. (6)
+     * text. Where `strikethrough` is true, text between `~` and `~`, or between `~~` and `~~`, is struck through (GitHub Flavored
+     * Markdown 0.29, section 6.5). NotUtf8. (6)
      * @param {number} [at]
      * @param {number} [end]
-     * @param {{ labels?: (string | Uint8Array)[] }} [options]
+     * @param {{ labels?: (string | Uint8Array)[], strikethrough?: boolean }} [options]
      * @returns {Generator<Inline, void, void>}
      */
     scanInlines(at = 0, end = this.length, options = {}) {
-        const labels = optionsOf(options, "labels").labels ?? [];
+        const { labels, strikethrough = false } = optionsOf(options, "labels", "strikethrough");
+        const extensions = flagOf("strikethrough", strikethrough) ? c.STRIKETHROUGH : 0;
         const [from, to] = this.limits(at, end);
-        return this.#each(from, this.#rows(from, to, new Labels(listOf("labels", labels))));
+        return this.#each(from, this.#rows(from, to, new Labels(listOf("labels", labels ?? [])), extensions));
     }
 
     /**
      * @param {number} from
      * @param {number} to
      * @param {Labels} labels
+     * @param {number} extensions
      * @returns {Record<string, number>[]}
      */
-    #rows(from, to, labels) {
+    #rows(from, to, labels, extensions) {
         const { engine } = this;
         for (let room = Math.ceil((to - from) / 16) + 8; ; ) {
             engine.bring(this.block, labels.block);
             const views = engine.rows("view", labels.views());
             const at = engine.room(room * SIZE);
-            const given = [this.block.address + from, to - from, views, labels.length, at, room];
+            const given = [this.block.address + from, to - from, views, labels.length, extensions, at, room];
             const { status, count } = engine.calls.scanInlines(...given);
             if (status !== c.TOO_SHORT) {
                 isAnswer(status);

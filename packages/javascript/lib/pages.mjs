@@ -8,6 +8,7 @@ import { Source } from "./source.mjs";
 /** @typedef {{ kind: "quote", place: number }} BlockQuote its marker stands at the place (5.1) */
 /** @typedef {{ kind: "item", place: number, delimiter: string, start: number, width: number }} Item (5.2) */
 /** @typedef {BlockQuote | Item} Container */
+/** @typedef {{ delimiter: string, start: number, isLoose: boolean, depth: number, line: number, lines: number }} List (5.3) */
 
 /** @type {Record<number, BlockKind>} */
 const KINDS = {
@@ -125,6 +126,27 @@ export class Pages extends Source {
     }
 
     /**
+     * The lists of the page between two places, each where it ends: a list in an item comes before the list of that item. `depth` is
+     * how many containers a list stands in, `line` how many lines stand before it, and `lines` how many it has. A loose one has a
+     * blank line between two of its items, or between two blocks directly in one. (5.3)
+     * @returns {List[]}
+     */
+    scanLists(at = 0, end = this.length) {
+        const [from, to] = this.limits(at, end);
+        const { size } = c.STRUCTS.list;
+        for (let room = Math.ceil((to - from) / 32) + 8; ; ) {
+            this.engine.bring(this.block);
+            const first = this.engine.room(room * size);
+            const { status, count } = this.engine.calls.scanLists(this.block.address + from, to - from, first, room);
+            if (status !== c.TOO_SHORT) {
+                isAnswer(status);
+                return Array.from({ length: count }, (_, index) => listOf(this.engine.read("list", first + index * size)));
+            }
+            room = count;
+        }
+    }
+
+    /**
      * @param {number} from
      * @param {number} to
      */
@@ -219,4 +241,12 @@ export class Pages extends Source {
             room = length;
         }
     }
+}
+
+/**
+ * @param {any} told
+ * @returns {List}
+ */
+function listOf({ delimiter, start, isLoose, depth, line, end }) {
+    return { delimiter: String.fromCharCode(delimiter), start, isLoose, depth, line, lines: end - line };
 }

@@ -74,6 +74,18 @@ test("the fields of inlines", () => {
     assert.deepEqual(contents, [span(2, 3), span(6, 10), span(12, 15)]);
 });
 
+test("strikethrough, where it is asked for: examples of GitHub Flavored Markdown 0.29", () => {
+    const marks = { strikethrough: "<del>", strikethroughEnd: "</del>" };
+    const struck = (text, options) =>
+        Array.from(scanners.text(text).scanInlines(0, text.length, options), (it) => marks[it.kind] ?? text.slice(it.start, it.stop)).join("");
+    const text = "~~Hi~~ Hello, ~there~ world!"; // 491
+    assert.equal(struck(text, { strikethrough: true }), "<del>Hi</del> Hello, <del>there</del> world!");
+    assert.equal(struck(text, { strikethrough: false }), text);
+    assert.equal(struck(text), text);
+    for (const part of ["This ~~has a", "new paragraph~~."]) assert.equal(struck(part, { strikethrough: true }), part); // 492
+    assert.throws(() => struck(text, { strikethrough: 1 }), TypeError);
+});
+
 test("many inlines and labels", () => {
     const text = `${"*a ".repeat(5000)}${"b*".repeat(5000)}[9999]`;
     const labels = Array.from({ length: 10_000 }, (_, index) => `${index}`);

@@ -49,7 +49,8 @@ test("memory that is refused within a call has an error, and the next call has i
         () => scanners.text("<!a>").runInlineHtml([2]),
         () => [...scanners.text("> a\n".repeat(100)).scanBlocks()].map((it) => it.line),
         () => leaf.content(),
-        () => [...scanners.text("*[a]*").scanInlines(0, 5, { labels: ["A"] })],
+        () => scanners.text("- a\n".repeat(100)).scanLists(),
+        () => [...scanners.text("*[a]*").scanInlines(0, 5, { labels: ["A"], strikethrough: true })],
     ];
     for (const call of calls) {
         const wanted = call();

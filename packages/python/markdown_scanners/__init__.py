@@ -100,7 +100,7 @@ from .line_scanners import (
     scan_while,
     scan_whitespace_in_line,
 )
-from .pages import Block, BlockKind, BlockQuote, Container, Item, scan_blocks
+from .pages import Block, BlockKind, BlockQuote, Container, Item, ListBlock, scan_blocks, scan_lists
 from .runs import CallKind, LineAnswer, line_rest, run_inline_html, run_line
 from .skips import Skips
 
@@ -131,6 +131,7 @@ __all__ = [
     "LineStart",
     "Link",
     "LinkTarget",
+    "ListBlock",
     "ListItem",
     "ListMarker",
     "LoneSurrogateError",
@@ -191,6 +192,7 @@ __all__ = [
     "scan_link_label",
     "scan_link_title",
     "scan_listitem",
+    "scan_lists",
     "scan_metadata_block",
     "scan_nextline",
     "scan_reference_definition",

@@ -69,6 +69,10 @@ INLINE_STRONG_END = 12
 INLINE_LINK = 13
 INLINE_IMAGE = 14
 INLINE_LINK_END = 15
+INLINE_STRIKETHROUGH = 16
+INLINE_STRIKETHROUGH_END = 17
+
+STRIKETHROUGH = 1
 
 TARGET_INLINE = 1
 TARGET_FULL = 2
@@ -491,7 +495,7 @@ FUNCTIONS: dict[str, tuple[Any, tuple[Any, ...]]] = {
     "scan_blocks": (Blocks, (c_void_p, c_size_t, c_void_p, c_size_t)),
     "block_content": (Text, (c_void_p, c_size_t, c_void_p, c_void_p, c_size_t, c_size_t, c_void_p, c_size_t)),
     "scan_lists": (Blocks, (c_void_p, c_size_t, c_void_p, c_size_t)),
-    "scan_inlines": (Inlines, (c_void_p, c_size_t, c_void_p, c_size_t, c_void_p, c_size_t)),
+    "scan_inlines": (Inlines, (c_void_p, c_size_t, c_void_p, c_size_t, c_uint32, c_void_p, c_size_t)),
     "scan_link_dest": (Part, (c_void_p, c_size_t, c_size_t, c_size_t)),
     "scan_link_title": (Part, (c_void_p, c_size_t, c_size_t)),
     "scan_autolink": (Part, (c_void_p, c_size_t, c_size_t)),

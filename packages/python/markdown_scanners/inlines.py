@@ -7,7 +7,7 @@ from typing import Any, Callable, Iterable, Iterator, NamedTuple, Optional
 
 from . import _c
 from ._library import function
-from ._pages import Page, front
+from ._pages import Page, flag, front
 from .blocks import Span
 from .errors import stated
 
@@ -33,6 +33,8 @@ class InlineKind(IntEnum):
     LINK = _c.INLINE_LINK  #: a link begins (6.3)
     IMAGE = _c.INLINE_IMAGE  #: an image begins (6.4)
     LINK_END = _c.INLINE_LINK_END  #: the innermost link or image that has begun ends
+    STRIKETHROUGH = _c.INLINE_STRIKETHROUGH  #: strikethrough begins, where it is asked for
+    STRIKETHROUGH_END = _c.INLINE_STRIKETHROUGH_END  #: the innermost strikethrough that has begun ends
 
 
 class LinkTarget(IntEnum):
@@ -68,24 +70,30 @@ class Inline(NamedTuple):
 _KINDS = tuple(InlineKind)
 
 
-def scan_inlines(data: Page, at: int = 0, end: Optional[int] = None, *, labels: Iterable[Page] = ()) -> Iterator[Inline]:
+def scan_inlines(
+    data: Page, at: int = 0, end: Optional[int] = None, *, labels: Iterable[Page] = (), strikethrough: bool = False
+) -> Iterator[Inline]:
     r"""The inlines of a text, in order: of the content of a paragraph or a heading, as `Block.content` has it. Joined, they are the
     text, and they nest: each that begins ends. Text may stand in several, one after another.
 
     `labels` are those that are defined, each as `scan_link_label` answers it: what refers to a label that matches none of them is
-    text. NotUtf8Error.
+    text. Where `strikethrough` is true, text between `~` and `~`, or between `~~` and `~~`, is struck through. (GitHub Flavored
+    Markdown 0.29, section 6.5) NotUtf8Error.
 
     >>> [(it.kind.name, it.start) for it in scan_inlines("*a* [B]", labels=["b"])]
     [('EMPHASIS', 0), ('TEXT', 1), ('EMPHASIS_END', 2), ('TEXT', 3), ('LINK', 4), ('TEXT', 5), ('LINK_END', 6)]
     >>> next(scan_inlines("[a](/b 'c')")).link.destination
     Span(start=4, stop=6)
+    >>> [it.kind.name for it in scan_inlines("~~a~~", strikethrough=True)]
+    ['STRIKETHROUGH', 'TEXT', 'STRIKETHROUGH_END']
     """
+    extensions = _c.STRIKETHROUGH if flag("strikethrough", strikethrough) else 0
     address, length, origin = front(data, at, end)
     views, held = _views(labels)
     count = length // 16 + 8
     while True:
         inlines = (_c.Inline * count)()
-        found = _scan_inlines(address, length, addressof(views), len(views), addressof(inlines), count)
+        found = _scan_inlines(address, length, addressof(views), len(views), extensions, addressof(inlines), count)
         if found.status != _c.TOO_SHORT:
             break
         count = found.count

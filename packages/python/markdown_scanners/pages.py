@@ -13,6 +13,7 @@ from .inline import HtmlBlockKind
 
 _scan_blocks: Callable[..., _c.Blocks] = function("scan_blocks")
 _block_content: Callable[..., tuple[Any, bytes]] = writer("block_content")
+_scan_lists: Callable[..., _c.Blocks] = function("scan_lists")
 
 
 class BlockKind(IntEnum):
@@ -167,3 +168,36 @@ def _leaf(page: Any, origin: int, it: Any, kept: int, containers: tuple[Containe
     made.start, made.stop, made.place = origin + it.start, origin + (it.start + it.bytes), origin + it.place
     made._page, made._given = page, (it, began)
     return made
+
+
+class ListBlock(NamedTuple):
+    """A list: items that follow each other in one container, of one bullet or delimiter. (5.3)"""
+
+    delimiter: int  #: the bullet of its items, `-`, `+` or `*`, or what ends their numbers, `.` or `)`
+    start: int  #: the number of its first item, 0 of a bullet
+    is_loose: bool  #: whether a blank line stands between two of its items, or between two blocks directly in one; else it is tight
+    depth: int  #: how many containers it stands in
+    line: int  #: how many lines of the page stand before it
+    lines: int  #: how many lines it has
+
+
+def scan_lists(data: Page, at: int = 0, end: Optional[int] = None) -> Iterator[ListBlock]:
+    r"""The lists of a page, each where it ends: a list in an item comes before the list of that item. (5.3)
+
+    >>> list(scan_lists("2) a\n3) b\n\n   c"))
+    [ListBlock(delimiter=41, start=2, is_loose=True, depth=0, line=0, lines=4)]
+    """
+    address, length, _held = front(data, at, end)
+    count = length // 32 + 8
+    while True:
+        lists = (_c.List * count)()
+        found = _scan_lists(address, length, addressof(lists), count)
+        if found.status != _c.TOO_SHORT:
+            break
+        count = found.count
+    stated(found.status)
+    return map(_list, lists[: found.count])
+
+
+def _list(it: Any) -> ListBlock:
+    return ListBlock(it.delimiter, it.start, it.is_loose, it.depth, it.line, it.end - it.line)

@@ -116,6 +116,18 @@ class Inlines(unittest.TestCase):
         self.assertRaises(mds.NotUtf8Error, mds.scan_inlines, "[a]", labels=[b"\xff"])
         self.assertRaises(mds.LoneSurrogateError, mds.scan_inlines, "[a]", labels=["\ud800"])
 
+    def test_strikethrough(self):
+        """Examples of GitHub Flavored Markdown 0.29, where they ask for it and where not."""
+        marks = {InlineKind.STRIKETHROUGH: "<del>", InlineKind.STRIKETHROUGH_END: "</del>"}
+        struck = lambda text, **asked: "".join(marks.get(it.kind, text[it.start : it.stop]) for it in mds.scan_inlines(text, **asked))
+        text = "~~Hi~~ Hello, ~there~ world!"  # 491
+        self.assertEqual(struck(text, strikethrough=True), "<del>Hi</del> Hello, <del>there</del> world!")
+        self.assertEqual(struck(text, strikethrough=False), text)
+        self.assertEqual(struck(text), text)
+        for part in ("This ~~has a", "new paragraph~~."):  # 492
+            self.assertEqual(struck(part, strikethrough=True), part)
+        self.assertRaises(TypeError, mds.scan_inlines, text, strikethrough=1)
+
     def test_no_text(self):
         self.assertEqual(list(mds.scan_inlines(b"")), [])
         self.assertRaises(TypeError, mds.scan_inlines, None)

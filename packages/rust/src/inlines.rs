@@ -41,6 +41,17 @@ pub enum InlineKind {
     StartImage(Link),
     /// The innermost link or image that has begun ends.
     EndLink,
+    /// Strikethrough begins, where it is asked for.
+    StartStrikethrough,
+    /// The innermost strikethrough that has begun ends.
+    EndStrikethrough,
+}
+
+/// Which extensions of CommonMark's inlines are asked for; by default none.
+#[derive(Clone, Copy, Debug, Default, PartialEq, Eq, Hash)]
+pub struct InlineExtensions {
+    /// Text between `~` and `~`, or between `~~` and `~~`, is struck through. (GitHub Flavored Markdown 0.29, section 6.5)
+    pub strikethrough: bool,
 }
 
 /// Where a link or an image leads, and where it ends.
@@ -79,8 +90,8 @@ pub enum LinkTarget {
 pub struct Inline {
     /// What it is.
     pub kind: InlineKind,
-    /// Its bytes: of emphasis the delimiters that begin or end it, of a link or an image its left bracket, with the `!` of an
-    /// image, or its right bracket and what follows there that belongs to it.
+    /// Its bytes: of emphasis and strikethrough the delimiters that begin or end it, of a link or an image its left bracket, with
+    /// the `!` of an image, or its right bracket and what follows there that belongs to it.
     pub range: Range<usize>,
 }
 
@@ -94,23 +105,26 @@ pub struct Inlines {
 /// text, and they nest: each that begins ends. Text may stand in several, one after another.
 ///
 /// `labels` are those that are defined, each as [`scan_link_label_rest`] answers it. What refers to a label that matches none of
-/// them is text.
+/// them is text. What is read beside CommonMark is what the extensions ask for.
 ///
 /// [`Block::content`]: crate::Block::content
 /// [`scan_link_label_rest`]: crate::scan_link_label_rest
 ///
 /// ```
-/// use markdown_scanners::{scan_inlines, InlineKind, LinkTarget};
-/// let inlines: Vec<_> = scan_inlines("*a* [B]", &["b"]).collect();
+/// use markdown_scanners::{scan_inlines, InlineExtensions, InlineKind, LinkTarget};
+/// let inlines: Vec<_> = scan_inlines("*a* [B]", &["b"], InlineExtensions::default()).collect();
 /// assert_eq!((&inlines[0].kind, &inlines[1].range), (&InlineKind::StartEmphasis, &(1..2)));
 /// let InlineKind::StartLink(link) = &inlines[4].kind else { panic!() };
 /// assert_eq!((&link.target, link.end), (&LinkTarget::Shortcut(5..6), 7));
+/// let struck = scan_inlines("~~a~~", &[], InlineExtensions { strikethrough: true }).next().unwrap();
+/// assert_eq!((struck.kind, struck.range), (InlineKind::StartStrikethrough, 0..2));
 /// ```
 #[must_use]
-pub fn scan_inlines(text: &str, labels: &[&str]) -> Inlines {
+pub fn scan_inlines(text: &str, labels: &[&str], extensions: InlineExtensions) -> Inlines {
+    let asked = if extensions.strikethrough { ffi::STRIKETHROUGH } else { 0 };
     let mut told = vec![ffi::Inline::default(); text.len() / 16 + 8];
     loop {
-        let found = raw::scan_inlines(text, labels, &mut told);
+        let found = raw::scan_inlines(text, labels, asked, &mut told);
         let is_short = found.status == ffi::TOO_SHORT;
         told.resize(found.count, ffi::Inline::default());
         if !is_short {
@@ -160,6 +174,8 @@ fn kind_of(told: &ffi::Inline) -> InlineKind {
         ffi::INLINE_LINK => InlineKind::StartLink(link_of(told)),
         ffi::INLINE_IMAGE => InlineKind::StartImage(link_of(told)),
         ffi::INLINE_LINK_END => InlineKind::EndLink,
+        ffi::INLINE_STRIKETHROUGH => InlineKind::StartStrikethrough,
+        ffi::INLINE_STRIKETHROUGH_END => InlineKind::EndStrikethrough,
         _ => InlineKind::Text,
     }
 }

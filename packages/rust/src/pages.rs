@@ -212,3 +212,48 @@ fn kind_of(told: &ffi::Block) -> Option<BlockKind> {
         _ => return None,
     })
 }
+
+/// A list: items that follow each other in one container, of one bullet or delimiter. (5.3)
+#[derive(Clone, Debug, PartialEq, Eq, Hash)]
+pub struct ListBlock {
+    /// The bullet of its items, or what ends their numbers.
+    pub delimiter: u8,
+    /// The number of its first item, 0 of a bullet.
+    pub start: u32,
+    /// Whether a blank line stands between two of its items, or between two blocks directly in one. Else it is tight.
+    pub is_loose: bool,
+    /// How many containers it stands in.
+    pub depth: usize,
+    /// Its lines, counted from 0.
+    pub lines: Range<usize>,
+}
+
+/// The lists of a page, each where it ends: a list in an item comes before the list of that item. (5.3)
+///
+/// ```
+/// let lists = markdown_scanners::scan_lists(b"2) a\n3) b\n\n   c");
+/// assert_eq!((lists[0].delimiter, lists[0].start, lists[0].is_loose), (b')', 2, true));
+/// assert_eq!((lists.len(), lists[0].depth, lists[0].lines.clone()), (1, 0, 0..4));
+/// ```
+#[must_use]
+pub fn scan_lists(page: &[u8]) -> Vec<ListBlock> {
+    let mut told = vec![ffi::List::default(); page.len() / 32 + 8];
+    loop {
+        let found = raw::scan_lists(page, &mut told);
+        let is_short = found.status == ffi::TOO_SHORT;
+        told.resize(found.count, ffi::List::default());
+        if !is_short {
+            return told.iter().map(list_of).collect();
+        }
+    }
+}
+
+fn list_of(told: &ffi::List) -> ListBlock {
+    ListBlock {
+        delimiter: told.delimiter,
+        start: told.start,
+        is_loose: told.is_loose,
+        depth: told.depth,
+        lines: told.line..told.end,
+    }
+}

@@ -301,6 +301,16 @@ pub(crate) fn scan_blocks(bytes: &[u8], blocks: &mut [ffi::Block]) -> ffi::Block
     found
 }
 
+pub(crate) fn scan_lists(bytes: &[u8], lists: &mut [ffi::List]) -> ffi::Blocks {
+    let (listed, capacity) = (lists.as_mut_ptr(), lists.len());
+    // SAFETY: each pointer and length are those of one slice, and what is written is a `&mut` of its own.
+    let found = unsafe { ffi::mds_scan_lists(front(bytes), bytes.len(), listed, capacity) };
+    if found.status == ffi::NO_MEMORY {
+        refused();
+    }
+    found
+}
+
 pub(crate) fn block_content(
     bytes: &[u8],
     block: &ffi::Block,
@@ -314,13 +324,14 @@ pub(crate) fn block_content(
     told(unsafe { ffi::mds_block_content(front(bytes), bytes.len(), block, listed, many, kept, room, capacity) })
 }
 
-pub(crate) fn scan_inlines(text: &str, labels: &[&str], inlines: &mut [ffi::Inline]) -> ffi::Inlines {
+pub(crate) fn scan_inlines(text: &str, labels: &[&str], extensions: u32, inlines: &mut [ffi::Inline]) -> ffi::Inlines {
     let bytes = text.as_bytes();
     let views: Vec<_> = labels.iter().map(|it| ffi::View { text: front(it.as_bytes()), length: it.len() }).collect();
     let (listed, capacity) = (inlines.as_mut_ptr(), inlines.len());
     // SAFETY: each pointer and length are those of one slice, those of the views too, and what is written is a `&mut` of its own.
-    let found =
-        unsafe { ffi::mds_scan_inlines(front(bytes), bytes.len(), views.as_ptr(), views.len(), listed, capacity) };
+    let found = unsafe {
+        ffi::mds_scan_inlines(front(bytes), bytes.len(), views.as_ptr(), views.len(), extensions, listed, capacity)
+    };
     if found.status == ffi::NO_MEMORY {
         refused();
     }

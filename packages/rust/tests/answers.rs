@@ -380,12 +380,31 @@ fn many_blocks() {
     assert_eq!(scan_blocks(&code).next().unwrap().content(), b"   a\n".repeat(100));
 }
 
+/// Examples of CommonMark 0.31.2, and many lists.
+#[test]
+fn lists() {
+    type Told = (u8, u32, bool, usize, usize, usize);
+    let rows: [(&str, &[Told]); 5] = [
+        ("a\n", &[]),
+        ("- foo\n- bar\n+ baz\n", &[(b'-', 0, false, 0, 0, 2), (b'+', 0, false, 0, 2, 3)]), // 301
+        ("- a\n- ```\n  b\n\n\n  ```\n- c\n", &[(b'-', 0, false, 0, 0, 7)]),                // 318
+        ("- a\n  - b\n\n    c\n- d\n", &[(b'-', 0, true, 1, 1, 4), (b'-', 0, false, 0, 0, 5)]), // 319
+        ("123456789. ok\n", &[(b'.', 123_456_789, false, 0, 0, 1)]),                        // 265
+    ];
+    for (page, wanted) in rows {
+        let found = scan_lists(page.as_bytes());
+        let told = found.iter().map(|it| (it.delimiter, it.start, it.is_loose, it.depth, it.lines.start, it.lines.end));
+        assert_eq!(told.collect::<Vec<_>>(), wanted);
+    }
+    assert_eq!(scan_lists("- a\n+ a\n".repeat(1000).as_bytes()).len(), 2000);
+}
+
 fn kinds_of(text: &str, labels: &[&str]) -> Vec<InlineKind> {
-    scan_inlines(text, labels).map(|it| it.kind).collect()
+    scan_inlines(text, labels, InlineExtensions::default()).map(|it| it.kind).collect()
 }
 
 /// A text with elements for its emphasis and its links, of which each has its destination or its label.
-fn marked(text: &str, labels: &[&str]) -> String {
+fn marked(text: &str, labels: &[&str], extensions: InlineExtensions) -> String {
     let element = |kind: &str, link: Link| match link.target {
         LinkTarget::Inline { destination, .. } => format!("<{kind} {}>", &text[destination]),
         LinkTarget::Full(label) | LinkTarget::Collapsed(label) | LinkTarget::Shortcut(label) => {
@@ -397,6 +416,8 @@ fn marked(text: &str, labels: &[&str]) -> String {
         InlineKind::EndEmphasis => "</em>".into(),
         InlineKind::StartStrong => "<strong>".into(),
         InlineKind::EndStrong => "</strong>".into(),
+        InlineKind::StartStrikethrough => "<del>".into(),
+        InlineKind::EndStrikethrough => "</del>".into(),
         InlineKind::Code(content) => format!("<code>{}</code>", &text[content]),
         InlineKind::StartLink(link) => element("a", link),
         InlineKind::StartImage(link) => element("img", link),
@@ -405,7 +426,7 @@ fn marked(text: &str, labels: &[&str]) -> String {
         InlineKind::HardBreak => "<br>".into(),
         _ => text[it.range].into(),
     };
-    scan_inlines(text, labels).map(marked).collect()
+    scan_inlines(text, labels, extensions).map(marked).collect()
 }
 
 /// Examples of CommonMark 0.31.2 by their numbers.
@@ -427,8 +448,21 @@ fn inlines() {
         ("foo \n baz", &[], "foo\nbaz"),                                             // 649
     ];
     for (text, labels, wanted) in rows {
-        assert_eq!(marked(text, labels), wanted);
-        assert_eq!(scan_inlines(text, labels).map(|it| &text[it.range]).collect::<String>(), text);
+        let none = InlineExtensions::default();
+        assert_eq!(marked(text, labels, none), wanted);
+        assert_eq!(scan_inlines(text, labels, none).map(|it| &text[it.range]).collect::<String>(), text);
+    }
+}
+
+/// Examples of GitHub Flavored Markdown 0.29 by their numbers, and what CommonMark alone makes of one.
+#[test]
+fn strikethrough() {
+    let extensions = InlineExtensions { strikethrough: true };
+    let text = "~~Hi~~ Hello, ~there~ world!"; // 491
+    assert_eq!(marked(text, &[], extensions), "<del>Hi</del> Hello, <del>there</del> world!");
+    assert_eq!(marked(text, &[], InlineExtensions::default()), text);
+    for text in ["This ~~has a", "new paragraph~~."] {
+        assert_eq!(marked(text, &[], extensions), text); // 492
     }
 }
 
@@ -456,7 +490,7 @@ fn many_inlines() {
     let text = ["*a ".repeat(1000), "b*".repeat(1000), "[999]".into()].concat();
     let numbers: Vec<_> = (0..1000).map(|it| it.to_string()).collect();
     let labels: Vec<_> = numbers.iter().map(String::as_str).collect();
-    let inlines = scan_inlines(&text, &labels);
+    let inlines = scan_inlines(&text, &labels, InlineExtensions::default());
     assert_eq!(inlines.len(), inlines.clone().count());
     assert_eq!(inlines.filter(|it| it.kind == InlineKind::EndEmphasis).count(), 1000);
     assert_eq!(kinds_of(&text, &labels).last(), Some(&InlineKind::EndLink));

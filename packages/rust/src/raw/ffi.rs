@@ -69,6 +69,10 @@ pub const INLINE_STRONG_END: u32 = 12;
 pub const INLINE_LINK: u32 = 13;
 pub const INLINE_IMAGE: u32 = 14;
 pub const INLINE_LINK_END: u32 = 15;
+pub const INLINE_STRIKETHROUGH: u32 = 16;
+pub const INLINE_STRIKETHROUGH_END: u32 = 17;
+
+pub const STRIKETHROUGH: u32 = 1;
 
 pub const TARGET_INLINE: u32 = 1;
 pub const TARGET_FULL: u32 = 2;
@@ -414,6 +418,7 @@ extern "C" {
         length: usize,
         labels: *const View,
         label_count: usize,
+        extensions: u32,
         inlines: *mut Inline,
         capacity: usize,
     ) -> Inlines;
