@@ -140,8 +140,10 @@ asked_by extensions = record { strikethrough = extensions == 1 }
 unfoldable pub IsTextTold : List ℕ → List View → ℕ → List Inline → List Inline → InlineCount → Type 0
 IsTextTold text labels extensions old new told =
     ((told.status ≡ bad_kind) × (told.count ≡ 0) × (new ≡ old) × ¬ (AreExtensions extensions))
-    ⊎ ((told.status ≡ not_utf8) × (told.count ≡ 0) × (new ≡ old) × AreExtensions extensions × ¬ (IsUtf8 text × AreTexts labels))
-    ⊎ ((told.status ≡ no_memory) × (told.count ≡ 0) × (new ≡ old) × AreExtensions extensions × IsUtf8 text × AreTexts labels)
+    ⊎ ((told.status ≡ not_utf8) × (told.count ≡ 0) × (new ≡ old)
+    × AreExtensions extensions × ¬ (IsUtf8 text × AreTexts labels))
+    ⊎ ((told.status ≡ no_memory) × (told.count ≡ 0) × (new ≡ old)
+    × AreExtensions extensions × IsUtf8 text × AreTexts labels)
     ⊎ ((inlines : List Found) × (links : List (Option Link)) × AreExtensions extensions × IsUtf8 text × AreTexts labels
     × AreInlines text (record { asked = asked_by extensions; known = known_in labels }) inlines links
     × IsWritten (map (inline_told links) inlines) old new told.status told.count)
