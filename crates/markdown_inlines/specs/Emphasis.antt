@@ -1,6 +1,7 @@
 -- Emphasis, strong emphasis and strikethrough among the delimiter runs of a text. (CommonMark 0.31.2, section 6.2, and "Parsing
 -- strategy", phase 2, "process emphasis"; GitHub Flavored Markdown 0.29, section 6.5)
-use Rattle.std.specs.Prelude.{ℕ, zero, suc, Bool, ◌&&◌, ◌||◌, ◌==◌, not, ◌%◌, ◌+◌, ◌-◌, min, nat_le, List, [], ◌∷◌, ◌++◌, Option, Some, None, if◌then◌else◌}
+use Rattle.std.specs.Prelude.{ℕ, zero, suc, Bool, ◌&&◌, ◌||◌, ◌==◌, not, ◌%◌, ◌+◌}
+use Rattle.std.specs.Prelude.{◌-◌, min, nat_le, List, [], ◌∷◌, ◌++◌, Option, Some, None, if◌then◌else◌}
 use Rattle.markdown_scanners_tree.specs.Ascii.{tilde}
 use Rattle.markdown_inlines.specs.declared.delimiter_runs.DelimiterRun.{DelimiterRun}
 use Rattle.markdown_inlines.specs.declared.emphasis.Delimiters.{Delimiters}

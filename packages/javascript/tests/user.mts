@@ -13,7 +13,10 @@ const title: { start: number; stop: number } | null | undefined = page.scanRefer
 const run: "*" | "_" | undefined = page.scanDelimiterRun(0, 3, { begin: 0 })?.character;
 const contents: string[] = Array.from(page.scanBlocks(), (it) => it.content());
 const places: number[][] = Array.from(bytes.scanBlocks(), (it) => it.containers.map((container) => container.place));
-const inlines: (string | undefined)[] = Array.from(page.scanInlines(0, 3, { labels: ["a", new Uint8Array([98])], strikethrough: true }), (it) => ("link" in it ? it.link.target : it.kind));
+const inlines: (string | undefined)[] = Array.from(
+    page.scanInlines(0, 3, { labels: ["a", new Uint8Array([98])], strikethrough: true }),
+    (it) => ("link" in it ? it.link.target : it.kind),
+);
 const name: string = new NotUtf8("none").name;
 console.log(level, isQuote, made[0], made[1].length, label?.text, page.scanLinkDest(10, 11)?.end, name);
 console.log(contents, places, inlines, title?.start, run, page.scanCodeSpan()?.stop, scanners.isUnicodeWhitespace("a"), scanners.isUnicodePunctuation(33));

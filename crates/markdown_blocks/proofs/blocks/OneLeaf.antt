@@ -6,7 +6,8 @@ use Rattle.markdown_scanners_tree.specs.declared.scanners.html_kinds.HtmlBlockKi
 use Rattle.markdown_scanners_tree.specs.scanners.html_kinds.HtmlKinds.{ends_before_blank}
 use Rattle.markdown_blocks.specs.containers.Containers.{Outer, Rest, IsInside}
 use Rattle.markdown_blocks.specs.declared.blocks.BlockKind.{BlockKind}
-use Rattle.markdown_blocks.specs.declared.blocks.BlockKind.TheVariants.{Blank, Break, Heading, Setext, Indented, Fenced, Html, Table, Definition, Paragraph}
+use Rattle.markdown_blocks.specs.declared.blocks.BlockKind.TheVariants.{Blank, Break, Heading, Setext, Indented}
+use Rattle.markdown_blocks.specs.declared.blocks.BlockKind.TheVariants.{Fenced, Html, Table, Definition, Paragraph}
 use Rattle.markdown_blocks.specs.declared.containers.Container.{Container}
 use Rattle.markdown_blocks.specs.blocks.Leaves.{Begins, EndsIndented, NoMoreIndented, LastHasText, GoesOnIndented}
 use Rattle.markdown_blocks.specs.blocks.Leaves.{NoneBehind, OnFirst, StopsAt, StopsBefore, StopsBehind, EndsAsHtml, EndsHtml, OutOr, IsLeaf}

@@ -8,7 +8,8 @@ use Rattle.markdown_scanners_tree.specs.line.State.{LineState}
 use Rattle.markdown_scanners_tree.proofs.ForCallers.{one_underline}
 use Rattle.markdown_blocks.specs.containers.Containers.{Outer, Rest, rest_at, rest_in, behind, Opens, settled_last}
 use Rattle.markdown_blocks.specs.declared.blocks.BlockKind.{BlockKind}
-use Rattle.markdown_blocks.specs.declared.blocks.BlockKind.TheVariants.{Blank, Break, Heading, Setext, Indented, Fenced, Html, Table, Definition, Paragraph}
+use Rattle.markdown_blocks.specs.declared.blocks.BlockKind.TheVariants.{Blank, Break, Heading, Setext, Indented}
+use Rattle.markdown_blocks.specs.declared.blocks.BlockKind.TheVariants.{Fenced, Html, Table, Definition, Paragraph}
 use Rattle.markdown_blocks.specs.declared.containers.BlockExtensions.{BlockExtensions}
 use Rattle.markdown_blocks.specs.declared.containers.Container.{Container}
 use Rattle.markdown_blocks.specs.blocks.Leaves.{In, IsUnderline, IsHead, IsRow, BeginsNoTable, OnFirst, StopsAt, LeavesBehind, Underlines, IsLeaf}

@@ -11,7 +11,8 @@ use Rattle.markdown_blocks.specs.declared.containers.Container.TheVariants.{Quot
 use Rattle.markdown_blocks.specs.declared.containers.BlockExtensions.{BlockExtensions}
 use Rattle.markdown_blocks.specs.declared.containers.Container.{Container}
 use Rattle.markdown_blocks.proofs.taken.TakenLemmas.{slice_behind}
-use Rattle.markdown_blocks.specs.containers.Containers.{goes_on_blank, go_on, Behind, behind_quote, all_extensions, begun_at, begun_behind, either_begun, footnote_by, footnote_of, item_of, within_quote}
+use Rattle.markdown_blocks.specs.containers.Containers.{goes_on_blank, go_on, Behind, behind_quote, all_extensions, begun_at}
+use Rattle.markdown_blocks.specs.containers.Containers.{begun_behind, either_begun, footnote_by, footnote_of, item_of, within_quote}
 use Rattle.markdown_blocks.specs.containers.Footnotes.{footnote_label}
 
 -- less than four columns

@@ -3,7 +3,8 @@ use Rattle.std.proofs.Common.{ℕ, ◌+◌, ◌-◌, ◌<◌, ◌≤◌, ◌≡�
 use Rattle.std.proofs.Common.{refl, sym, ap, ◌∙◌, subst, inl, inr, arith, append_assoc, append-nil, length-append}
 use Rattle.std.specs.List.{AllByRecursion, concat, flat_map, range_with_len}
 use Rattle.std.proofs.lemmas.Bool.Decides.{leb_tells}
-use Rattle.std.proofs.lemmas.List.{drop-append-le, drop-drop, drop_all, get_or-append_right, get_or-drop, get_or-replicate, get_or-take, get_or_append_left}
+use Rattle.std.proofs.lemmas.List.{drop-append-le, drop-drop, drop_all, get_or-append_right}
+use Rattle.std.proofs.lemmas.List.{get_or-drop, get_or-replicate, get_or-take, get_or_append_left}
 use Rattle.std.proofs.lemmas.List.{length-drop, length-replicate, length-take}
 use Rattle.std.proofs.lemmas.List.Folds.{concat-append}
 use Rattle.std.proofs.lemmas.List.FromFn.{get_or-range_with_len, length-range_with_len}
@@ -15,10 +16,12 @@ use Rattle.markdown_scanners_tree.specs.scanners.TextLines.{lines_of}
 use Rattle.markdown_scanners_tree.proofs.ForCallers.{lines_joined}
 use Rattle.markdown_blocks.specs.content.Bytes.{AreBytesOf, IsByteAt}
 use Rattle.markdown_blocks.specs.content.Content.{IsContent, Placed, content_len, joined, places_of, text_of}
-use Rattle.markdown_blocks.specs.content.Parts.{AreInner, AreParts, ArePartsAt, Part, first_place, heading_part, later_parts, later_place, moved, part_at, text_place}
+use Rattle.markdown_blocks.specs.content.Parts.{AreInner, AreParts, ArePartsAt, Part, first_place}
+use Rattle.markdown_blocks.specs.content.Parts.{heading_part, later_parts, later_place, moved, part_at, text_place}
 use Rattle.markdown_blocks.specs.content.Seen.{IsIn}
 use Rattle.markdown_blocks.specs.declared.blocks.BlockKind.{BlockKind}
-use Rattle.markdown_blocks.specs.declared.blocks.BlockKind.TheVariants.{Blank, Break, Heading, Setext, Indented, Fenced, Html, Table, Definition, Paragraph}
+use Rattle.markdown_blocks.specs.declared.blocks.BlockKind.TheVariants.{Blank, Break, Heading, Setext, Indented}
+use Rattle.markdown_blocks.specs.declared.blocks.BlockKind.TheVariants.{Fenced, Html, Table, Definition, Paragraph}
 use Rattle.markdown_blocks.specs.declared.containers.Container.{Container}
 use Rattle.markdown_blocks.specs.info.Info.{behind_fence, without_front}
 use Rattle.markdown_blocks.proofs.content.ReachedLemmas.{Reached, after_all, after_some}

@@ -1,5 +1,6 @@
 -- Places that are reached in a line: directly before one with columns pending stands their tab. (CommonMark 0.31.2, section 2.2, tabs)
-use Rattle.std.proofs.Common.{ℕ, zero, suc, Bool, ◌||◌, true, false, cond, ◌==◌, ◌+◌, ◌-◌, ◌<◌, ◌≤◌, ◌≡◌, List, [], ◌∷◌, ◌++◌, length, take, get_or, replicate}
+use Rattle.std.proofs.Common.{ℕ, zero, suc, Bool, ◌||◌, true, false, cond, ◌==◌, ◌+◌, ◌-◌}
+use Rattle.std.proofs.Common.{◌<◌, ◌≤◌, ◌≡◌, List, [], ◌∷◌, ◌++◌, length, take, get_or, replicate}
 use Rattle.std.proofs.Common.{nat_lt, refl, sym, ap, ◌∙◌, subst, inl, inr, arith}
 use Rattle.std.proofs.lemmas.Bool.{lt-ltb}
 use Rattle.std.proofs.lemmas.Bool.Decides.{leb_tells, nat_tests}
@@ -10,7 +11,8 @@ use Rattle.markdown_scanners_tree.specs.Bytes.{is_line_ending}
 use Rattle.markdown_scanners_tree.specs.Columns.{bytes_below, column_after, column_past, written_byte, written_out}
 use Rattle.markdown_scanners_tree.specs.line.ItemRules.{start_of}
 use Rattle.markdown_scanners_tree.specs.line.Outcome.{after_all_space}
-use Rattle.markdown_scanners_tree.specs.line.State.{LineState, after_space, bytes_for, bytes_further, leading_spaces, rest_of, space_within, unscanned}
+use Rattle.markdown_scanners_tree.specs.line.State.{LineState, after_space, bytes_for, bytes_further}
+use Rattle.markdown_scanners_tree.specs.line.State.{leading_spaces, rest_of, space_within, unscanned}
 use Rattle.markdown_scanners_tree.proofs.line.ColumnLemmas.{after-more, below-cons, bool_cases, none_below, written-cons, written-end}
 
 below_end : (c b : ℕ) (bs : List ℕ) (k : ℕ) → is_line_ending b ≡ true → bytes_below c (b ∷ bs) k ≡ 0

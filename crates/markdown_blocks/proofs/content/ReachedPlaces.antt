@@ -1,5 +1,6 @@
 -- The places after containers are reached, and what a line has of a content stands in it there.
-use Rattle.std.proofs.Common.{ℕ, zero, suc, Bool, true, false, not, ◌&&◌, ◌==◌, ◌+◌, ◌-◌, ◌≤◌, ◌≡◌, List, [], ◌∷◌, length, take, take_while, drop, nat_le, nat_lt}
+use Rattle.std.proofs.Common.{ℕ, zero, suc, Bool, true, false, not, ◌&&◌, ◌==◌, ◌+◌, ◌-◌}
+use Rattle.std.proofs.Common.{◌≤◌, ◌≡◌, List, [], ◌∷◌, length, take, take_while, drop, nat_le, nat_lt}
 use Rattle.std.proofs.Common.{Option, Some, None, refl, sym, ap, ◌∙◌, subst, arith}
 use Rattle.std.specs.Str.Parse.{digits_value}
 use Rattle.std.proofs.lemmas.Bool.Decides.{nat_tests}
@@ -11,13 +12,16 @@ use Rattle.markdown_scanners_tree.specs.line.ItemRules.{start_of}
 use Rattle.markdown_scanners_tree.specs.line.Outcome.{after_all_space, further_spaces, item_outcome, item_outcome_by, space_or_end_follows}
 use Rattle.markdown_scanners_tree.specs.line.State.{LineState, after_space, bytes_further, leading_spaces, rest_of, space_within, unscanned}
 use Rattle.markdown_scanners_tree.specs.scanners.Breaks.{is_thematic_break}
-use Rattle.markdown_scanners_tree.specs.scanners.list_items.ListMarker.{Marker, bullet_marker, is_bullet, is_delimiter, list_marker, ordered_marker_of}
+use Rattle.markdown_scanners_tree.specs.scanners.list_items.ListMarker.{Marker, bullet_marker, is_bullet}
+use Rattle.markdown_scanners_tree.specs.scanners.list_items.ListMarker.{is_delimiter, list_marker, ordered_marker_of}
 use Rattle.markdown_scanners_tree.proofs.line.ColumnLemmas.{bool_cases}
-use Rattle.markdown_blocks.specs.containers.Containers.{all_extensions, begun_at, behind, either_begun, footnote_by, footnote_of, go_on, item_of, within}
+use Rattle.markdown_blocks.specs.containers.Containers.{all_extensions, begun_at, behind, either_begun}
+use Rattle.markdown_blocks.specs.containers.Containers.{footnote_by, footnote_of, go_on, item_of, within}
 use Rattle.markdown_blocks.specs.containers.Footnotes.{circumflex, closes_label, footnote_label, is_label_byte}
 use Rattle.markdown_blocks.specs.content.Parts.{after_containers, after_indent, after_markers, first_place, later_place, text_place}
 use Rattle.markdown_blocks.specs.declared.blocks.BlockKind.{BlockKind}
-use Rattle.markdown_blocks.specs.declared.blocks.BlockKind.TheVariants.{Blank, Break, Heading, Setext, Indented, Fenced, Html, Table, Definition, Paragraph}
+use Rattle.markdown_blocks.specs.declared.blocks.BlockKind.TheVariants.{Blank, Break, Heading, Setext, Indented}
+use Rattle.markdown_blocks.specs.declared.blocks.BlockKind.TheVariants.{Fenced, Html, Table, Definition, Paragraph}
 use Rattle.markdown_blocks.specs.declared.containers.Container.{Container}
 use Rattle.markdown_blocks.specs.declared.containers.Container.TheVariants.{Quote, Item, Footnote}
 use Rattle.markdown_blocks.proofs.content.ReachedLemmas.{Reached, after_all, after_bytes, after_some, all_taken, at_start}

@@ -15,7 +15,8 @@ use Rattle.markdown_scanners_tree.specs.line.State.{LineState, unscanned, bytes_
 use Rattle.markdown_scanners_tree.specs.scanners.list_items.ListMarker.{Marker, list_marker}
 use Rattle.markdown_scanners_tree.proofs.ForCallers.{lines_joined}
 use Rattle.markdown_blocks.specs.blocks.Pages.{Piece, AreBlocks, lines_in, open_behind, root}
-use Rattle.markdown_blocks.specs.containers.Containers.{Outer, after_marker, all_extensions, begun_at, behind, behind_quote, either_begun, footnote_by}
+use Rattle.markdown_blocks.specs.containers.Containers.{Outer, after_marker, all_extensions, begun_at}
+use Rattle.markdown_blocks.specs.containers.Containers.{behind, behind_quote, either_begun, footnote_by}
 use Rattle.markdown_blocks.specs.containers.Containers.{go_on, item_of, marker_place, within, within_quote, Opens}
 use Rattle.markdown_blocks.specs.containers.Footnotes.{behind_footnote, circumflex, closes_label, footnote_label, is_label_byte}
 use Rattle.markdown_blocks.specs.declared.containers.BlockExtensions.{BlockExtensions}

@@ -1,5 +1,6 @@
 -- The marker of a footnote definition is passed.
-use Rattle.std.proofs.Common.{ℕ, Bool, true, false, not, ◌&&◌, ◌+◌, ◌≡◌, List, length, Option, Some, None, Bor, IsTrue, is_some, inl, inr, refl, sym, ap, ◌∙◌}
+use Rattle.std.proofs.Common.{ℕ, Bool, true, false, not, ◌&&◌, ◌+◌, ◌≡◌, List, length, Option}
+use Rattle.std.proofs.Common.{Some, None, Bor, IsTrue, is_some, inl, inr, refl, sym, ap, ◌∙◌}
 use Rattle.std.specs.Prelude.{IfSome, IfNone}
 use Rattle.markdown_scanners_tree.specs.scanners.Interrupts.{InterruptsParagraph}
 use Rattle.markdown_scanners_tree.specs.line.State.{LineState, unscanned, bytes_further}

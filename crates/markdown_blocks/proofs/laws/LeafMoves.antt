@@ -1,5 +1,6 @@
 -- Where lines have behind their containers what other lines have behind others, they are the same block.
-use Rattle.std.proofs.Common.{ℕ, Bool, true, false, ◌≡◌, ◌⊎◌, ◌↔◌, List, [], ◌∷◌, ◌++◌, None, refl, sym, ap, ◌∙◌, subst, inl, inr, append_assoc, append-nil}
+use Rattle.std.proofs.Common.{ℕ, Bool, true, false, ◌≡◌, ◌⊎◌, ◌↔◌, List, [], ◌∷◌}
+use Rattle.std.proofs.Common.{◌++◌, None, refl, sym, ap, ◌∙◌, subst, inl, inr, append_assoc, append-nil}
 use Rattle.std.specs.Prelude.{⊤, MatchBool}
 use Rattle.std.specs.List.{AllByRecursion, AllZip, flat_map}
 use Rattle.std.proofs.lemmas.List.Concat.{flat_map-append}
@@ -8,11 +9,13 @@ use Rattle.markdown_scanners_tree.specs.declared.scanners.html_kinds.HtmlBlockKi
 use Rattle.markdown_scanners_tree.specs.scanners.html_kinds.HtmlKinds.{ends_before_blank}
 use Rattle.markdown_blocks.specs.containers.Containers.{Outer, Rest, rest_in, begun_at, behind, IsInside}
 use Rattle.markdown_blocks.specs.declared.blocks.BlockKind.{BlockKind}
-use Rattle.markdown_blocks.specs.declared.blocks.BlockKind.TheVariants.{Blank, Break, Heading, Setext, Indented, Fenced, Html, Table, Definition, Paragraph}
+use Rattle.markdown_blocks.specs.declared.blocks.BlockKind.TheVariants.{Blank, Break, Heading, Setext, Indented}
+use Rattle.markdown_blocks.specs.declared.blocks.BlockKind.TheVariants.{Fenced, Html, Table, Definition, Paragraph}
 use Rattle.markdown_blocks.specs.declared.containers.Container.{Container}
 use Rattle.markdown_blocks.specs.blocks.Tables.{IsDelimiter}
 use Rattle.markdown_blocks.specs.blocks.Leaves.{IsBlank, HasIndent, Begins, EndsParagraph, ClosesFence, EndsHtml}
-use Rattle.markdown_blocks.specs.blocks.Leaves.{IsUnderline, Interrupts, IsLazy, In, OutOr, Leaves, EndsContent, LeavesParagraph, LeavesBehind, Underlines, IsHead, IsRow}
+use Rattle.markdown_blocks.specs.blocks.Leaves.{IsUnderline, Interrupts, IsLazy, In, OutOr, Leaves}
+use Rattle.markdown_blocks.specs.blocks.Leaves.{EndsContent, LeavesParagraph, LeavesBehind, Underlines, IsHead, IsRow}
 use Rattle.markdown_blocks.specs.info.Info.{without_front}
 use Rattle.markdown_blocks.specs.definitions.Content.{content_of, words_in}
 use Rattle.markdown_blocks.specs.definitions.Definitions.{HasText}

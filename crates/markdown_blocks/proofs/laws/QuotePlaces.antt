@@ -7,7 +7,8 @@ use Rattle.markdown_scanners_tree.specs.Bytes.{begins_with, is_blank, is_space_o
 use Rattle.markdown_scanners_tree.specs.line.ItemRules.{start_of}
 use Rattle.markdown_scanners_tree.specs.line.Outcome.{after_quote, item_outcome}
 use Rattle.markdown_scanners_tree.specs.line.State.{LineState, unscanned, bytes_further, space_within, after_space}
-use Rattle.markdown_blocks.specs.containers.Containers.{behind_quote, begun_at, begun_behind, either_begun, footnote_of, within, within_quote, behind, IsInside, item_of}
+use Rattle.markdown_blocks.specs.containers.Containers.{behind_quote, begun_at, begun_behind, either_begun, footnote_of}
+use Rattle.markdown_blocks.specs.containers.Containers.{within, within_quote, behind, IsInside, item_of}
 use Rattle.markdown_blocks.specs.declared.containers.BlockExtensions.{BlockExtensions}
 use Rattle.markdown_blocks.specs.declared.containers.Container.{Container}
 use Rattle.markdown_blocks.specs.declared.containers.Container.TheVariants.{Quote}

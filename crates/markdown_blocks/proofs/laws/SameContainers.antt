@@ -7,7 +7,8 @@ use Rattle.markdown_scanners_tree.specs.line.Outcome.{Outcome, after_quote, furt
 use Rattle.markdown_scanners_tree.specs.line.Outcome.{item_outcome_after, item_outcome_by, not_found, space_or_end_follows}
 use Rattle.markdown_scanners_tree.specs.line.State.{LineState, unscanned, rest_of, leading_spaces, bytes_further, space_within, after_space}
 use Rattle.markdown_scanners_tree.specs.scanners.list_items.ListMarker.{Marker, list_marker}
-use Rattle.markdown_blocks.specs.containers.Containers.{behind_quote, begun_at, begun_behind, either_begun, footnote_by, footnote_of, item_of, within, within_quote, go_on, Behind, Opens}
+use Rattle.markdown_blocks.specs.containers.Containers.{behind_quote, begun_at, begun_behind, either_begun, footnote_by, footnote_of}
+use Rattle.markdown_blocks.specs.containers.Containers.{item_of, within, within_quote, go_on, Behind, Opens}
 use Rattle.markdown_blocks.specs.containers.Footnotes.{after_columns, footnote_label}
 use Rattle.markdown_blocks.specs.declared.containers.BlockExtensions.{BlockExtensions}
 use Rattle.markdown_blocks.specs.declared.containers.Container.{Container}

@@ -8,12 +8,14 @@ use Rattle.markdown_blocks.specs.declared.lists.Level.{Level}
 use Rattle.markdown_blocks.specs.declared.lists.ListBlock.{ListBlock}
 use Rattle.markdown_blocks.specs.declared.lists.OpenList.{OpenList}
 use Rattle.markdown_blocks.specs.events.Events.{Event, ends, LeafBlock}
-use Rattle.markdown_blocks.specs.lists.Lists.{Nodes, nothing, leaf_then, container_then, flatten, line_behind, lines_passed, is_blank_kind, begins_blank}
+use Rattle.markdown_blocks.specs.lists.Lists.{Nodes, nothing, leaf_then, container_then}
+use Rattle.markdown_blocks.specs.lists.Lists.{flatten, line_behind, lines_passed, is_blank_kind, begins_blank}
 use Rattle.markdown_blocks.specs.lists.Lists.{Child, ends_blank, last_end}
 use Rattle.markdown_blocks.proofs.lists.Followed.{is_item_of, item_list, longer, list_behind, list_before, lists_followed, parted_followed}
 use Rattle.markdown_blocks.proofs.lists.Followed.{lists_are_followed, parted_is_followed}
 use Rattle.markdown_blocks.specs.lists.Lists.{end_of, ends_blank_line, leaf_child, container_child, child_unless, children, lists_of}
-use Rattle.markdown_blocks.specs.lists.Tracked.{at_start, Tracked, list_now, joins, loosened, list_begun, begun, ends_with_block, level_within, leaf_read, lists_behind}
+use Rattle.markdown_blocks.specs.lists.Tracked.{at_start, Tracked, list_now, joins, loosened}
+use Rattle.markdown_blocks.specs.lists.Tracked.{list_begun, begun, ends_with_block, level_within, leaf_read, lists_behind}
 
 or_false : (b : Bool) → (b || false) ≡ b
 or_false true = refl

@@ -1,5 +1,6 @@
 -- What each line of a leaf block has of its content. (CommonMark 0.31.2, sections 2.2, 4.2 to 4.6, 4.8, 5.1 and 5.2)
-use Rattle.std.specs.Prelude.{ℕ, zero, suc, Bool, true, false, ◌||◌, ◌==◌, ◌+◌, ◌-◌, nat_lt, List, [], ◌∷◌, ◌++◌, ◌≡◌, ◌⊎◌, length, take, Some, None, ⊤}
+use Rattle.std.specs.Prelude.{ℕ, zero, suc, Bool, true, false, ◌||◌, ◌==◌, ◌+◌, ◌-◌, nat_lt}
+use Rattle.std.specs.Prelude.{List, [], ◌∷◌, ◌++◌, ◌≡◌, ◌⊎◌, length, take, Some, None, ⊤}
 use Rattle.std.specs.Prelude.{if◌then◌else◌}
 use Rattle.std.specs.List.{suffix_len}
 use Rattle.markdown_scanners_tree.specs.Ascii.{number_sign}

@@ -7,7 +7,8 @@ use Rattle.std.proofs.lemmas.Bool.{and_parts, eqb-true, leb-true}
 use Rattle.markdown_scanners_tree.specs.Ascii.{tilde}
 use Rattle.markdown_inlines.specs.declared.delimiter_runs.DelimiterRun.{DelimiterRun}
 use Rattle.markdown_inlines.specs.declared.emphasis.Delimiters.{Delimiters}
-use Rattle.markdown_inlines.specs.Emphasis.{left, are_pair, breaks_three, fits, is_multiple_of_three, used, made_of, openers_left, closer_left, opener_for}
+use Rattle.markdown_inlines.specs.Emphasis.{left, are_pair, breaks_three, fits, is_multiple_of_three}
+use Rattle.markdown_inlines.specs.Emphasis.{used, made_of, openers_left, closer_left, opener_for}
 use Rattle.markdown_inlines.specs.Emphasis.{ended_by, ended}
 use Rattle.markdown_inlines.specs.Emphasis.{opened, emphasis_from, emphasis_of}
 use Rattle.markdown_inlines.specs.EmphasisLaws.{AreWhole, IsMade, IsWhole}

@@ -18,7 +18,8 @@ use Rattle.markdown_inlines.specs.declared.line_breaks.LineBreak.{LineBreak}
 use Rattle.markdown_inlines.specs.declared.pieces.PieceKind.{PieceKind}
 use Rattle.markdown_inlines.specs.declared.pieces.PieceKind.TheVariants.{HardBreak, SoftBreak}
 use Rattle.markdown_inlines.proofs.line_breaks.LineBreakLemmas.{before_is_hard, before_length, before_only, break_found}
-use Rattle.markdown_inlines.proofs.pieces.Openings.{begins_class, break_byte_class, byte_class, not_false_true, only_break, only_code, plain_begins_none, plain_class}
+use Rattle.markdown_inlines.proofs.pieces.Openings.{begins_class, break_byte_class, byte_class, not_false_true}
+use Rattle.markdown_inlines.proofs.pieces.Openings.{only_break, only_code, plain_begins_none, plain_class}
 
 abbrev is_byte : ℕ → ℕ → Bool
 is_byte byte b = b == byte

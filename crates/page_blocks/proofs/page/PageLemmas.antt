@@ -17,7 +17,8 @@ use Rattle.markdown_blocks.specs.declared.taken.Taken.{Taken}
 use Rattle.markdown_blocks.specs.definitions.Definitions.{IsDefinition}
 use Rattle.markdown_blocks.specs.blocks.Pages.{Piece, IsPage, IsPiece, AreBlocks, lines_in, root}
 use Rattle.markdown_blocks.specs.events.Events.{Event, leaf, ends, LeafBlock, Part, AreLeaves, AreLeavesOf, IsEventsOf}
-use Rattle.markdown_blocks.specs.events.Events.{first_lines, later_lines, leaf_of, lines_taken, open_after, part_of, piece_content, piece_events, started}
+use Rattle.markdown_blocks.specs.events.Events.{first_lines, later_lines, leaf_of, lines_taken}
+use Rattle.markdown_blocks.specs.events.Events.{open_after, part_of, piece_content, piece_events, started}
 use Rattle.markdown_blocks.specs.events.Given.{GivesBlock, block_left}
 use Rattle.markdown_blocks.specs.events.Shown.{AreShown, AreShownOf, IsShownOf, Shown, end_shown, events_in}
 use Rattle.markdown_blocks.specs.lists.Tracked.{Tracked, at_start, closed, lists_behind}

@@ -44,7 +44,8 @@ module _ (known : Known) (page : List ℕ) (old new : Outer) (lines : List ℕ) 
   block_leaves events here leaves given is =
       subst (λ n. IsLeavesText known page (s.piece.kept ++ s.piece.begun) n leaves here) s.counted
       (subst (λ (o : Outer). IsLeavesText known page o.containers step.kept leaves here) s.open_now
-      (leaves_text known page new.containers (length old.containers - length s.piece.kept) before.bytes (behind old.containers s.piece.first).state s.piece.begun leaves step.kept here
+      (leaves_text known page new.containers (length old.containers - length s.piece.kept) before.bytes (behind old.containers s.piece.first).state
+      s.piece.begun leaves step.kept here
       (subst (λ es. IsEventsText known page new.containers step.kept es here) given is)))
 
   -- with the block of a step
