@@ -122,15 +122,20 @@ def scan_blocks(data: Page, at: int = 0, end: Optional[int] = None) -> Iterator[
     [('HEADING', 0, 0), ('PARAGRAPH', 1, 2), ('BLANK', 2, 0), ('DEFINITION', 3, 0), ('PARAGRAPH', 4, 0)]
     """
     address, length, origin = front(data, at, end)
+    blocks, count = _written(_scan_blocks, _c.Block, address, length)
+    return _leaves((data, at, end), origin, blocks, count)
+
+
+def _written(scan: Any, kind: Any, address: int, length: int) -> tuple[Any, int]:
+    """What a scan writes of a page, in a buffer that has room for all of it, and how many they are."""
     count = length // 32 + 8
     while True:
-        blocks = (_c.Block * count)()
-        found = _scan_blocks(address, length, addressof(blocks), count)
+        buffer = (kind * count)()
+        found = scan(address, length, addressof(buffer), count)
         if found.status != _c.TOO_SHORT:
-            break
+            stated(found.status)
+            return buffer, found.count
         count = found.count
-    stated(found.status)
-    return _leaves((data, at, end), origin, blocks, found.count)
 
 
 def _leaves(page: tuple[Any, int, Optional[int]], origin: int, blocks: Any, count: int) -> Iterator[Block[Any]]:
@@ -188,15 +193,8 @@ def scan_lists(data: Page, at: int = 0, end: Optional[int] = None) -> Iterator[L
     [ListBlock(delimiter=41, start=2, is_loose=True, depth=0, line=0, lines=4)]
     """
     address, length, _held = front(data, at, end)
-    count = length // 32 + 8
-    while True:
-        lists = (_c.List * count)()
-        found = _scan_lists(address, length, addressof(lists), count)
-        if found.status != _c.TOO_SHORT:
-            break
-        count = found.count
-    stated(found.status)
-    return map(_list, lists[: found.count])
+    lists, count = _written(_scan_lists, _c.List, address, length)
+    return map(_list, lists[:count])
 
 
 def _list(it: Any) -> ListBlock:
