@@ -26,8 +26,8 @@ VERSION = b"cmark_blocks " + (TOP / "VERSION").read_bytes()
 KNOWN, OTHER = ["--help"], ["--hepl"]
 # What is told on standard error: by which words, under what, with which status, and in which writes.
 COMPLAINTS = [
-    ("other words", OTHER, {}, 2, list(USAGE.partition(b"--hepl"))),
-    ("a read fault", [], {"read_fail": 1}, 3, [b"cmark_blocks: ", b"standard input", b": Input/output error\n"]),
+    ("other words", OTHER, {}, 2, [b"cmark_blocks", *USAGE.removeprefix(b"cmark_blocks").partition(b"--hepl")]),
+    ("a read fault", [], {"read_fail": 1}, 3, [b"cmark_blocks", b": ", b"standard input", b": Input/output error\n"]),
 ]
 # What is said of a fault, by its number; of any other, that it is an error of input or output.
 REASONS = {

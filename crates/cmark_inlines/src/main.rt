@@ -1,8 +1,8 @@
 //! Prints the inlines of pages of Markdown.
 #![tactic(auto)]
 
-use page_blocks::files::OpensFiles;
 use page_inlines::program::run_program;
+use page_programs::files::OpensFiles;
 use program_faults::{Reason, StepWriter, complain, reason_of};
 use std::env;
 use std::fs::File;

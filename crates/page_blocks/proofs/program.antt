@@ -1,2 +1,1 @@
-pub mod PageRuns
 pub mod ProgramLemmas

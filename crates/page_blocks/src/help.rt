@@ -4,9 +4,6 @@
 pub const USAGE: &str =
     "\nusage: cmark_blocks [--json] [--] [FILE ..]\n       cmark_blocks -h | --help | --version\n";
 
-/// What is written before it.
-pub const UNKNOWN: &str = "cmark_blocks: unknown option ";
-
 /// What `--version` prints.
 pub const VERSION: &str = "cmark_blocks 0.1.0\n";
 

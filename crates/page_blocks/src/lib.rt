@@ -1,8 +1,7 @@
-//! What `cmark_blocks` prints of the blocks of a page of Markdown, reads and writes.
+//! What `cmark_blocks` prints of the blocks of a page of Markdown.
 #![tactic(auto)]
 
 mod definition;
-pub mod files;
 pub mod help;
 pub mod info;
 mod json;
@@ -10,6 +9,4 @@ mod page;
 mod printer;
 mod printing;
 pub mod program;
-pub mod reading;
-pub mod stops;
-pub mod words;
+mod words;

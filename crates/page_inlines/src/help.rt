@@ -4,9 +4,6 @@
 pub const USAGE: &str =
     "\nusage: cmark_inlines [--] [FILE ..]\n       cmark_inlines -h | --help | --version\n";
 
-/// What is written before it.
-pub const UNKNOWN: &str = "cmark_inlines: unknown option ";
-
 /// What `--version` prints.
 pub const VERSION: &str = "cmark_inlines 0.1.0\n";
 

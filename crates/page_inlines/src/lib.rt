@@ -1,4 +1,4 @@
-//! What `cmark_inlines` prints of the inlines of a page of Markdown, reads and writes.
+//! What `cmark_inlines` prints of the inlines of a page of Markdown.
 #![tactic(auto)]
 
 mod blocks;
@@ -7,6 +7,3 @@ mod labels;
 pub mod page;
 mod printing;
 pub mod program;
-mod reading;
-mod stops;
-mod words;

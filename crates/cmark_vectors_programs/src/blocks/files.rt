@@ -2,8 +2,7 @@
 use super::Blocks;
 use crate::asserts::assert_same;
 use crate::runs::{DONE, Parts, assert_end, assert_run};
-use page_blocks::files::OpensFiles;
-use program_faults::Reason;
+use page_programs::files::{OpensFiles, Reason};
 use std::alloc::Global;
 use std::io::{Error, ErrorKind, Result as IoResult, Write};
 use std::process::Abort;

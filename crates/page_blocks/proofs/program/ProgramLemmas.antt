@@ -10,7 +10,7 @@ use Rattle.page_blocks.specs.page.Going.{HasTold, Tells}
 use Rattle.page_blocks.specs.page.Told.{TellsPage, TellsFront, IsToldTo, IsBegunTo}
 use Rattle.page_blocks.specs.printer.Printers.{printed_of}
 use Rattle.page_blocks.proofs.page.PageLemmas.{telling-front}
-use Rattle.page_blocks.proofs.reading.ReadingLemmas.{consumes-none, consumes-more, appends-more}
+use Rattle.page_programs.proofs.ReadingLemmas.{consumes-none, consumes-more, appends-more}
 
 -- What was read, and what was written of it behind the title: with the lines that are not yet written, it prints what was read as far
 -- as the text that is left.

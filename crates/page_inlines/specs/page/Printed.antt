@@ -84,6 +84,14 @@ pub record IsPrinted (page text : List ℕ) : Type 0 where
   pub is_page : IsPage no_extensions page pieces
   pub is_text : IsPiecesText known page 0 0 pieces text
 
--- known bytes grow by what is printed of the page
-abbrev pub IsPrintedTo : List ℕ → Option (List ℕ) → Option (List ℕ) → Type 0
-IsPrintedTo page old new = (text : List ℕ) × IsPrinted page text × Appends old new text
+-- nothing is printed before a page
+abbrev pub no_title : List ℕ → List ℕ
+no_title name = []
+
+-- known bytes grow by the title, which is empty, and by what is printed of the page
+abbrev pub IsPrintedTo : List ℕ → List ℕ → Option (List ℕ) → Option (List ℕ) → Type 0
+IsPrintedTo title page old new = (text : List ℕ) × IsPrinted page text × Appends old new (title ++ text)
+
+-- nothing of the page is printed, whatever was read of it
+abbrev pub is_unwritten : List ℕ → Option (List ℕ) → Option (List ℕ) → Option (List ℕ) → Option (List ℕ) → Type 0
+is_unwritten title input left old new = new ≡ old

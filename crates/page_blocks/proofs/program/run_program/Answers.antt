@@ -1,11 +1,4 @@
-use Rattle.std.proofs.Common.{refl}
-use Rattle.program_faults.specs.Steps.{no_part, part}
 use Rattle.page_blocks.proofs.program.run_program.Goals as goal
 
-pub returns-in-Some-clause-unknown : goal.returns-in-Some-clause-unknown
-returns-in-Some-clause-unknown g c =
-    rw (← c.in-Some.ensures) (
-      refl,
-      part _ _ _ _ _ c.complain.ensures.given (part _ _ _ _ _ c.complain-in-Some.ensures.given
-          (part _ _ _ _ _ c.complain-in-Some-2.ensures.given (no_part _))),
-    )
+pub returns-clause-stopped : goal.returns-clause-stopped
+returns-clause-stopped g c = rw (← c.form_of.ensures) c.run_program.ensures.stopped

@@ -1,22 +1,15 @@
 use Rattle.std.proofs.Common.{ℕ, ◌+◌, ◌-◌, ◌++◌, ◌≡◌, true, false, IsTrue, Result, Ok, Err, IfErr, length, drop, arith, refl, sym, ap, subst, ◌∙◌}
-use Rattle.std.specs.Result.{IsErrAnd}
 use Rattle.std.proofs.lemmas.List.{length-drop}
 use Rattle.program_faults.specs.Steps.{AreReads, no_read}
 use Rattle.page_blocks.specs.page.Told.{Printed}
-use Rattle.page_blocks.specs.declared.reading.TheConstants.{READS}
-use Rattle.page_blocks.proofs.reading.ReadingLemmas.{reads_on, reads_made, reads_all}
+use Rattle.page_programs.specs.declared.reading.TheConstants.{READS}
+use Rattle.page_programs.proofs.ReadingLemmas.{by_err, reads_on, reads_made, reads_all}
 use Rattle.page_blocks.proofs.program.ProgramLemmas.{begun-first, begun-read, begun-written, begun-stopped, begun-done}
 use Rattle.page_blocks.proofs.program.tell_page.Goals as goal
 
 if_err : {T E X : Type 0} (P : E → Type 0) (r : Result T E) → X → IfErr r (λ e. P e → X)
 if_err P (Ok t) x = tt
 if_err P (Err e) x = λ p. x
-
--- an error that is handed on is the one that it was
-by_err : {T E : Type 0} {A : Type 0} {X : A → Type 0} {wanted : A → E} (r : Result T E) (error : E) → IsErrAnd r (λ e. e ≡ error)
-    → ((why : A) → error ≡ wanted why → X why) → IfErr r (λ e. (why : A) → e ≡ wanted why → X why)
-by_err (Ok t) error is h = tt
-by_err (Err e) error is h = λ why same. h why (sym is ∙ same)
 
 pub loop-telling-init : goal.loop-telling-init
 loop-telling-init g c = record {

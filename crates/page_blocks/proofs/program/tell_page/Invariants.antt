@@ -1,6 +1,6 @@
 use Rattle.std.proofs.Common.{ℕ, [], ◌+◌, ◌*◌, ◌≤◌, ◌≡◌, length, string_bytes}
 use Rattle.program_faults.specs.Steps.{AreReads}
-use Rattle.page_blocks.specs.declared.reading.TheConstants.{READS}
+use Rattle.page_programs.specs.declared.reading.TheConstants.{READS}
 use Rattle.page_blocks.proofs.program.ProgramLemmas.{Begun}
 use Rattle.page_blocks.proofs.program.tell_page.Given as goal
 

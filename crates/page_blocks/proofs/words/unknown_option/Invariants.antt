@@ -1,7 +1,0 @@
-use Rattle.std.proofs.Common.{◌≡◌, drop}
-use Rattle.page_blocks.specs.words.Words.{unknown_of}
-use Rattle.page_blocks.proofs.words.unknown_option.Given as goal
-
--- the words that are left have the first option that is not known
-abbrev pub invariant-loop-word : goal.invariant-loop-word
-invariant-loop-word l = unknown_of (drop l.word-index l.words) ≡ unknown_of l.words

@@ -1,0 +1,3 @@
+mod PageRuns
+pub mod ReadingLemmas
+mod StopLemmas

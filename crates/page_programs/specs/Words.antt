@@ -1,0 +1,79 @@
+-- What the words of the command line ask for.
+use Rattle.std.specs.Prelude.{ℕ, Bool, true, false, not, ◌&&◌, ◌||◌, ◌==◌, List, [], ◌∷◌, Option, Some, None, map, codes, if◌then◌else◌}
+use Rattle.std.specs.Str.{bytes_eq}
+use Rattle.std.specs.Borrow.{Bor}
+use Rattle.page_programs.specs.declared.words.Request.{Request}
+use Rattle.page_programs.specs.declared.words.Request.TheVariants.{Pages, Help, Version}
+
+-- a hyphen, and more
+abbrev pub is_option : List ℕ → Bool
+is_option [] = false
+is_option (b ∷ []) = false
+is_option (b ∷ c ∷ word) = b == 45
+
+-- what stands before words that are no options
+abbrev pub is_last : List ℕ → Bool
+is_last word = bytes_eq word (codes "--")
+
+abbrev pub asks_help : List ℕ → Bool
+asks_help word = bytes_eq word (codes "-h") || bytes_eq word (codes "--help")
+
+abbrev pub asks_version : List ℕ → Bool
+asks_version word = bytes_eq word (codes "--version")
+
+abbrev pub texts : List (Bor (List ℕ)) → List (List ℕ)
+texts words = map (λ word. word.now) words
+
+-- one of these options
+abbrev pub is_named : List (List ℕ) → List ℕ → Bool
+is_named [] word = false
+is_named (option ∷ options) word = bytes_eq word option || is_named options word
+
+-- one of these options, or one that each program has
+abbrev pub is_known : List (List ℕ) → List ℕ → Bool
+is_known options word = asks_help word || (asks_version word || is_named options word)
+
+-- the first option that is not known
+abbrev pub unknown_of : List (List ℕ) → List (Bor (List ℕ)) → Option (Bor (List ℕ))
+unknown_of options [] = None
+unknown_of options (word ∷ words) =
+    if is_last word.now then None
+    else if is_option word.now && not (is_known options word.now) then Some word
+    else unknown_of options words
+
+-- the first word that asks for the help or the version is answered; else pages are printed
+abbrev pub request_of : List (Bor (List ℕ)) → Request
+request_of [] = Pages
+request_of (word ∷ words) =
+    if is_last word.now then Pages
+    else if asks_help word.now then Help
+    else if asks_version word.now then Version
+    else request_of words
+
+-- this option stands before `--`
+abbrev pub asks : List ℕ → List (Bor (List ℕ)) → Bool
+asks option [] = false
+asks option (word ∷ words) =
+    if is_last word.now then false
+    else if bytes_eq word.now option then true
+    else asks option words
+
+-- the words that are no options, and all after `--`
+abbrev pub operands : List (Bor (List ℕ)) → List (Bor (List ℕ))
+operands [] = []
+operands (word ∷ words) =
+    if is_last word.now then words
+    else if is_option word.now then operands words
+    else word ∷ operands words
+
+-- standard input
+abbrev pub dash : List ℕ
+dash = codes "-"
+
+abbrev pub or_input : List (List ℕ) → List (List ℕ)
+or_input [] = dash ∷ []
+or_input (name ∷ names) = name ∷ names
+
+-- the names of the pages: standard input, where no word names one
+abbrev pub pages_of : List (Bor (List ℕ)) → List (List ℕ)
+pages_of words = or_input (texts (operands words))
