@@ -1,6 +1,7 @@
 //! Runs of the program over arrays, and over a reader and a writer that fail.
 mod definitions;
 mod files;
+mod footnotes;
 mod help;
 mod lists;
 mod reading;

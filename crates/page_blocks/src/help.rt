@@ -1,15 +1,17 @@
 //! What the program says of itself.
 
 /// What is written on standard error behind the name of an option that is not known.
-pub const USAGE: &str =
-    "\nusage: cmark_blocks [--json] [--] [FILE ..]\n       cmark_blocks -h | --help | --version\n";
+pub const USAGE: &str = "
+usage: cmark_blocks [--json] [--footnotes] [--] [FILE ..]
+       cmark_blocks -h | --help | --version
+";
 
 /// What `--version` prints.
 pub const VERSION: &str = "cmark_blocks 0.1.0\n";
 
 /// What `--help` prints.
 pub const HELP: &str = "\
-usage: cmark_blocks [--json] [--] [FILE ..]
+usage: cmark_blocks [--json] [--footnotes] [--] [FILE ..]
        cmark_blocks -h | --help | --version
 
 Prints a line for each block of a page of Markdown: the number of its first line, the number of
@@ -33,6 +35,7 @@ list has a line where it is shown to have ended: before the lines of what shows 
   paragraph        a paragraph, with its lazy continuation lines
   quote            a block quote
   item C START     a list item: its bullet or delimiter, and the number that it starts at
+  footnote         a footnote definition, where --footnotes asks for them
   list C START tight
   list C START loose
                    a list: the bullet or delimiter of its items, the number that it starts at, and
@@ -55,6 +58,9 @@ bytes.
 Where a container ends there is an object of the kind end: last is its last line, depth how many
 containers are around it, and end how many bytes of the page stand before what follows it. Where two
 or more files are named, an object of one member, page, has the name of each before its other ones.
+
+With --footnotes a line that begins with [^, a label and ]: begins a footnote definition, as on
+GitHub: a container of what follows on that line, and of the lines that are indented by four columns.
 
 Together the blocks contain every line of the page.
 

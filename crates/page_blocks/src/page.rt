@@ -9,6 +9,7 @@ ghost use Rattle.page_blocks.specs.printer.Printers.{printed_of};
 
 use crate::printer::Printer;
 use crate::words::Form;
+use markdown_blocks::containers::BlockExtensions;
 use markdown_blocks::events::BlockEvents;
 use markdown_blocks::walk::Walk;
 use markdown_blocks::whole::whole_lines;
@@ -25,14 +26,15 @@ pub(crate) struct Telling {
 
 impl Telling {
     /// Nothing is told of a page.
-    pub(crate) fn new(alloc: Global, form: Form) -> Telling
+    pub(crate) fn new(alloc: Global, form: Form, extensions: BlockExtensions) -> Telling
         ensures told { (page : List ℕ) → HasTold page [] result (lines_of page) }
         ensures form { result.printer.form ≡ form }
+        ensures asked { result.walk.extensions ≡ extensions }
         ensures at { printed_of result.printer ≡ the_front }
         ensures nothing { string_bytes result.printer.text ≡ [] }
     {
         Telling {
-            walk: Walk::new(alloc),
+            walk: Walk::new_ext(alloc, extensions),
             content: Vec::new(alloc),
             printer: Printer::new(alloc, form),
         }
@@ -53,7 +55,7 @@ impl Telling {
             self.new (lines_of (drop count text.now ++ more))) }
         ensures ended { OnOk result (IsTrue has_ended → (page written : List ℕ)
             → HasTold page written self.old (lines_of text.now)
-            → TellsPage self.old.printer.form page
+            → TellsPage self.old.walk.extensions self.old.printer.form page
             (written ++ string_bytes self.new.printer.text)) }
         ensures within { IfOk result (λ count. count ≤ length text.now) }
         ensures lines { IfOk result (λ count. ¬ IsTrue has_ended →
@@ -61,6 +63,8 @@ impl Telling {
         ensures bytes { IfOk result (λ count. ¬ IsTrue has_ended →
             self.new.printer.at.bytes ≡ self.old.printer.at.bytes + count) }
         ensures form { OnOk result (self.new.printer.form ≡ self.old.printer.form) }
+        ensures asked { OnOk result
+            (self.new.walk.extensions ≡ self.old.walk.extensions) }
     {
         let (lines, _) = text.split_at(front_of(text, has_ended));
         let count = self.tell_lines(alloc, lines, has_ended)?;
@@ -91,6 +95,8 @@ impl Telling {
         ensures bytes { IfOk result (λ count.
             self.new.printer.at.bytes ≡ self.old.printer.at.bytes + count) }
         ensures form { OnOk result (self.new.printer.form ≡ self.old.printer.form) }
+        ensures asked { OnOk result
+            (self.new.walk.extensions ≡ self.old.walk.extensions) }
     {
         let mut count = 0;
         while let Some(more) = self.tell_block(alloc, &lines[count..], has_ended)? {
@@ -125,6 +131,8 @@ impl Telling {
             IfNone found (self.new.printer ≡ self.old.printer)) }
         ensures same_walk { IfOk result (λ found. IfNone found (self.new.walk ≡ self.old.walk)) }
         ensures form { OnOk result (self.new.printer.form ≡ self.old.printer.form) }
+        ensures asked { OnOk result
+            (self.new.walk.extensions ≡ self.old.walk.extensions) }
     {
         let depth = self.walk.containers().len();
         let Some(step) = self

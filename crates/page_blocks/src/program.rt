@@ -9,12 +9,13 @@ ghost use Rattle.page_programs.specs.Words.{pages_of, request_of, unknown_of};
 ghost use Rattle.page_programs.specs.declared.stops.Stop.{Stop};
 ghost use Rattle.page_programs.specs.declared.words.Request.TheVariants.{Pages, Help, Version};
 ghost use Rattle.page_blocks.specs.page.Told.{IsToldTo, IsBegunTo, title_of};
-ghost use Rattle.page_blocks.specs.words.Words.{form_of, own_options};
+ghost use Rattle.page_blocks.specs.words.Words.{extensions_of, form_of, own_options};
 
 use crate::help::{HELP, USAGE, VERSION};
 use crate::page::Telling;
 use crate::printing::make_title;
-use crate::words::{Form, form_of};
+use crate::words::{Form, extensions_of, form_of};
+use markdown_blocks::containers::BlockExtensions;
 use page_programs::files::OpensFiles;
 use page_programs::pages::PrintsPages;
 use page_programs::program;
@@ -59,7 +60,8 @@ pub fn run_program<R: StepReader, F: OpensFiles, W: StepWriter, V: StepWriter>(
     // Pages.
     ensures told { result ≡ 0 → request_of words.now ≡ Pages →
         PrintsAll (title_of (form_of words.now) (length (pages_of words.now)))
-        (IsToldTo (form_of words.now)) (IsBegunTo (form_of words.now))
+        (IsToldTo (extensions_of words.now) (form_of words.now))
+        (IsBegunTo (extensions_of words.now) (form_of words.now))
         R.remaining R.reads F.opens F.File.remaining F.File.reads
         (pages_of words.now)
         input.old files.old (W.contents output.old)
@@ -73,7 +75,8 @@ pub fn run_program<R: StepReader, F: OpensFiles, W: StepWriter, V: StepWriter>(
         × ((request_of words.now ≡ Help) ⊎ (request_of words.now ≡ Version) → IsWrite stop)
         × (request_of words.now ≡ Pages →
         PrintsAll (title_of (form_of words.now) (length (pages_of words.now)))
-        (IsToldTo (form_of words.now)) (IsBegunTo (form_of words.now))
+        (IsToldTo (extensions_of words.now) (form_of words.now))
+        (IsBegunTo (extensions_of words.now) (form_of words.now))
         R.remaining R.reads F.opens F.File.remaining F.File.reads
         (pages_of words.now)
         input.old files.old (W.contents output.old)
@@ -85,11 +88,14 @@ pub fn run_program<R: StepReader, F: OpensFiles, W: StepWriter, V: StepWriter>(
         help: HELP,
         version: VERSION,
     };
-    let blocks = Blocks(form_of(words));
+    let blocks = Blocks {
+        form: form_of(words),
+        extensions: extensions_of(words),
+    };
     program::run_program(
         alloc,
         &says,
-        &["--json"],
+        &["--json", "--footnotes"],
         &blocks,
         words,
         input,
@@ -99,21 +105,24 @@ pub fn run_program<R: StepReader, F: OpensFiles, W: StepWriter, V: StepWriter>(
     )
 }
 
-// What prints the blocks of pages, in this form.
+// What prints the blocks of pages in this form, with these extensions on.
 #[derive(Drop)]
-struct Blocks(Form);
+struct Blocks {
+    form: Form,
+    extensions: BlockExtensions,
+}
 
 impl PrintsPages for Blocks {
     ghost use Rattle.page_blocks.specs.page.Told.{IsToldTo, IsBegunTo, title_of};
 
-    ghost titles = { λ it. title_of it.0 };
+    ghost titles = { λ it. title_of it.form };
 
-    ghost prints = { λ it. IsToldTo it.0 };
+    ghost prints = { λ it. IsToldTo it.extensions it.form };
 
-    ghost begins = { λ it. IsBegunTo it.0 };
+    ghost begins = { λ it. IsBegunTo it.extensions it.form };
 
     fn make_title(&self, alloc: Global, pages: usize, name: &str) -> Result<String, AllocError> {
-        make_title(alloc, self.0, pages, name)
+        make_title(alloc, self.form, pages, name)
     }
 
     fn print_page<R: StepReader, W: StepWriter>(
@@ -123,24 +132,25 @@ impl PrintsPages for Blocks {
         input: &mut R,
         output: &mut W,
     ) -> Result<(), Stop> {
-        tell_page(alloc, self.0, title, input, output)
+        tell_page(alloc, self.extensions, self.form, title, input, output)
     }
 }
 
 // Writes the title, and the lines of the blocks and lists of the input, in this form.
 fn tell_page<R: StepReader, W: StepWriter>(
     alloc: Global,
+    extensions: BlockExtensions,
     form: Form,
     title: &str,
     input: &mut R,
     output: &mut W,
 ) -> Result<(), Stop>
     ensures told { IfOk result (λ _. IfSome (R.remaining input.old) (λ bytes.
-        IsToldTo form title.now bytes (W.contents output.old) (W.contents output.new))) }
+        IsToldTo extensions form title.now bytes (W.contents output.old) (W.contents output.new))) }
     ensures read { IfOk result (λ _. IsAtEnd (R.remaining input.new)) }
     ensures ended { IfOk result (λ _. HasEnded R.reads input.new) }
     ensures begun { IfErr result (λ stop. ¬ IsWrite stop →
-        IsBegunTo form title.now (R.remaining input.old) (R.remaining input.new)
+        IsBegunTo extensions form title.now (R.remaining input.old) (R.remaining input.new)
         (W.contents output.old) (W.contents output.new)) }
     ensures reads { (count : ℕ) × AreReads R.reads count input.old input.new }
     ensures failed { IfErr result (λ stop. (why : Reason) → stop ≡ Stop.Read why →
@@ -150,7 +160,7 @@ fn tell_page<R: StepReader, W: StepWriter>(
 {
     write_text(output, title)?;
     let mut unread = Unread::new(alloc);
-    let mut telling = Telling::new(alloc, form);
+    let mut telling = Telling::new(alloc, form, extensions);
     loop {
         let has_ended = unread.read_more(input)?;
         let count = telling.tell(alloc, &unread.text, has_ended)?;

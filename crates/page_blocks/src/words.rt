@@ -1,7 +1,8 @@
 //! The words of the command line.
 ghost use Rattle.std.specs.Prelude.{◌≡◌};
-ghost use Rattle.page_blocks.specs.words.Words.{form_of};
+ghost use Rattle.page_blocks.specs.words.Words.{extensions_of, form_of};
 
+use markdown_blocks::containers::BlockExtensions;
 use page_programs::words::has_option;
 
 /// How a block is told.
@@ -21,4 +22,13 @@ pub(crate) fn form_of(words: &[&str]) -> Form
         return Form::Json;
     }
     Form::Words
+}
+
+/// The extensions that the words ask for.
+pub(crate) fn extensions_of(words: &[&str]) -> BlockExtensions
+    ensures { result ≡ extensions_of words.now }
+{
+    BlockExtensions {
+        footnotes: has_option(words, "--footnotes"),
+    }
 }

@@ -7,7 +7,7 @@ use std::process::Abort;
 
 // As `help.txt` of `cmark_blocks` has it.
 const HELP: &str = "\
-usage: cmark_blocks [--json] [--] [FILE ..]
+usage: cmark_blocks [--json] [--footnotes] [--] [FILE ..]
        cmark_blocks -h | --help | --version
 
 Prints a line for each block of a page of Markdown: the number of its first line, the number of
@@ -31,6 +31,7 @@ list has a line where it is shown to have ended: before the lines of what shows 
   paragraph        a paragraph, with its lazy continuation lines
   quote            a block quote
   item C START     a list item: its bullet or delimiter, and the number that it starts at
+  footnote         a footnote definition, where --footnotes asks for them
   list C START tight
   list C START loose
                    a list: the bullet or delimiter of its items, the number that it starts at, and
@@ -53,6 +54,9 @@ bytes.
 Where a container ends there is an object of the kind end: last is its last line, depth how many
 containers are around it, and end how many bytes of the page stand before what follows it. Where two
 or more files are named, an object of one member, page, has the name of each before its other ones.
+
+With --footnotes a line that begins with [^, a label and ]: begins a footnote definition, as on
+GitHub: a container of what follows on that line, and of the lines that are indented by four columns.
 
 Together the blocks contain every line of the page.
 
@@ -92,8 +96,10 @@ fn the_version_is_that_of_the_repository(rt: HostRuntime) {
 }
 
 // What is said of an option that is not known.
-const USAGE: &str =
-    "\nusage: cmark_blocks [--json] [--] [FILE ..]\n       cmark_blocks -h | --help | --version\n";
+const USAGE: &str = "
+usage: cmark_blocks [--json] [--footnotes] [--] [FILE ..]
+       cmark_blocks -h | --help | --version
+";
 
 #[test]
 fn an_option_that_is_not_known_is_named(rt: HostRuntime) {

@@ -8,14 +8,15 @@ use Rattle.std.proofs.lemmas.List.Folds.{concat-append}
 use Rattle.markdown_scanners_tree.specs.declared.scanners.reference_definitions.ReferenceDefinition.{ReferenceDefinition}
 use Rattle.markdown_scanners_tree.specs.line.State.{LineState}
 use Rattle.markdown_scanners_tree.specs.scanners.TextLines.{lines_of}
-use Rattle.markdown_blocks.specs.containers.Containers.{Outer, behind, after_marker, no_extensions}
+use Rattle.markdown_blocks.specs.containers.Containers.{Outer, behind, after_marker}
+use Rattle.markdown_blocks.specs.declared.containers.BlockExtensions.{BlockExtensions}
 use Rattle.markdown_blocks.specs.declared.blocks.BlockKind.{BlockKind}
 use Rattle.markdown_blocks.specs.declared.blocks.BlockKind.TheVariants.{Definition}
 use Rattle.markdown_blocks.specs.declared.containers.Container.{Container}
 use Rattle.markdown_blocks.specs.declared.step.Step.{Step}
 use Rattle.markdown_blocks.specs.declared.taken.Taken.{Taken}
 use Rattle.markdown_blocks.specs.definitions.Definitions.{IsDefinition}
-use Rattle.markdown_blocks.specs.blocks.Pages.{Piece, IsPage, IsPiece, AreBlocks, lines_in, root}
+use Rattle.markdown_blocks.specs.blocks.Pages.{Piece, IsFront, IsPage, IsPiece, AreBlocks, lines_in, root}
 use Rattle.markdown_blocks.specs.events.Events.{Event, leaf, ends, LeafBlock, Part, AreLeaves, AreLeavesOf, IsEventsOf}
 use Rattle.markdown_blocks.specs.events.Events.{first_lines, later_lines, leaf_of, lines_taken}
 use Rattle.markdown_blocks.specs.events.Events.{open_after, part_of, piece_content, piece_events, started}
@@ -173,10 +174,11 @@ module _ (form : Form) (outer now : Outer) (before : Taken) (lists : Tracked) (s
       (subst (λ (q : Place). AreShownOf now.containers q.lines q.bytes later others) (step_place next is_next) are) in
       let whole = goes (s.piece ∷ later) (shown ++ others) rest front.0 front.1
       (leaves_are.0, shown, others, leaves_are.1, written_are, refl, behind) in
+      let on : now.extensions ≡ outer.extensions = ap (λ (o : Outer). o.extensions) s.open_now in
       record {
         pieces = whole.pieces;
         shown = whole.shown;
-        are_its_blocks = whole.are_its_blocks;
+        are_its_blocks = subst (λ a. IsFront a page whole.pieces rest) (sym on) whole.are_its_blocks;
         are_their_events = whole.are_their_events;
         lines = ap (λ t. t ++ lines_of_events form next others) tells
             ∙ ap (λ (q : Printed). (text ++ lines_of_events form so_far shown) ++ lines_of_events form q others) is_next
@@ -186,7 +188,7 @@ module _ (form : Form) (outer now : Outer) (before : Taken) (lists : Tracked) (s
         open_now = ap (λ (o : Outer). open_after (length o.containers) later) s.open_now ∙ whole.open_now;
       }
 
-pub telling-first : (form : Form) (page : List ℕ) (p : Printed) (outer : Outer) (text : List ℕ) → p ≡ the_front → outer ≡ root no_extensions → text ≡ []
+pub telling-first : (form : Form) (page : List ℕ) (p : Printed) (outer : Outer) (text : List ℕ) → p ≡ the_front → outer ≡ root outer.extensions → text ≡ []
     → GoesOnTelling form page text p outer (lines_of page)
 unfolding GoesOnTelling
 telling-first form page p outer text front none empty later shown rest is each are = record {
@@ -201,12 +203,12 @@ telling-first form page p outer text front none empty later shown rest is each a
 }
 
 -- the text, in this form, prints blocks at the front of the page
-pub telling-front : (form other : Form) (page text words : List ℕ) (p : Printed) (outer : Outer) (lines : List (List ℕ)) → form ≡ other
-    → text ≡ words → GoesOnTelling form page text p outer lines → TellsFront other page words
+pub telling-front : (asked : BlockExtensions) (form other : Form) (page text words : List ℕ) (p : Printed) (outer : Outer) (lines : List (List ℕ))
+    → form ≡ other → outer.extensions ≡ asked → text ≡ words → GoesOnTelling form page text p outer lines → TellsFront asked other page words
 unfolding GoesOnTelling
-telling-front form other page text words p outer lines same is goes =
+telling-front asked form other page text words p outer lines same on is goes =
     let whole = goes [] [] lines refl tt refl in
-    record {
+    subst (λ a. TellsFront a other page words) on record {
       pieces = whole.pieces;
       rest = lines;
       shown = whole.shown;
@@ -225,20 +227,20 @@ to_end form p shown later =
 
 -- with the last lines it prints the whole page
 pub telling-page : (form : Form) (page text longer : List ℕ) (p : Printed) (outer : Outer)
-    → longer ≡ text ++ last_lines form p (length outer.containers) → GoesOnTelling form page text p outer [] → TellsPage form page longer
+    → longer ≡ text ++ last_lines form p (length outer.containers) → GoesOnTelling form page text p outer [] → TellsPage outer.extensions form page longer
 unfolding GoesOnTelling
 telling-page form page text longer p outer tells goes =
     let whole = goes [] [] [] refl tt refl in
     let last : List Shown = replicate (open_after 0 whole.pieces) end_shown in
-    let is_page : IsPage no_extensions page whole.pieces =
+    let is_page : IsPage outer.extensions page whole.pieces =
     record { joined = sym (append-nil _) ∙ whole.are_its_blocks.joined; each = whole.are_its_blocks.each } in
-    let all : IsShownOf no_extensions page (whole.shown ++ last) = (whole.pieces, whole.shown, is_page, whole.are_their_events, refl) in
-    let are : IsEventsOf no_extensions page (events_in (whole.shown ++ last)) = page_shown no_extensions page (whole.shown ++ last) all in
-    let nodes = events_of_nodes no_extensions page (events_in (whole.shown ++ last)) are in
+    let all : IsShownOf outer.extensions page (whole.shown ++ last) = (whole.pieces, whole.shown, is_page, whole.are_their_events, refl) in
+    let are : IsEventsOf outer.extensions page (events_in (whole.shown ++ last)) = page_shown outer.extensions page (whole.shown ++ last) all in
+    let nodes = events_of_nodes outer.extensions page (events_in (whole.shown ++ last)) are in
     record {
       shown = whole.shown ++ last;
       are_its_events = all;
-      are_its_lists = (nodes.0, subst (IsEventsOf no_extensions page) nodes.1 are, ap (lists_behind at_start) nodes.1 ∙ page_lists nodes.0);
+      are_its_lists = (nodes.0, subst (IsEventsOf outer.extensions page) nodes.1 are, ap (lists_behind at_start) nodes.1 ∙ page_lists nodes.0);
       lines = tells ∙ ap (λ n. text ++ last_lines form p n) whole.open_now
           ∙ ap (λ (q : Printed). text ++ lines_to_end form q last) whole.so_far
           ∙ ap (λ t. t ++ lines_to_end form (after_all the_front whole.shown) last) (sym (append-nil text) ∙ whole.lines)

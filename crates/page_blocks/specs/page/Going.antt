@@ -1,7 +1,8 @@
 -- How a page is printed block by block.
 use Rattle.std.specs.Prelude.{ℕ, ◌≡◌, List, [], ◌++◌, length, string_bytes}
 use Rattle.markdown_blocks.specs.blocks.Pages.{Piece, AreBlocks, IsFront, lines_in}
-use Rattle.markdown_blocks.specs.containers.Containers.{Outer, no_extensions}
+use Rattle.markdown_blocks.specs.containers.Containers.{Outer}
+use Rattle.markdown_blocks.specs.declared.containers.BlockExtensions.{BlockExtensions}
 use Rattle.markdown_blocks.specs.events.Events.{open_after}
 use Rattle.markdown_blocks.specs.events.Shown.{AreShownOf, Shown}
 use Rattle.page_blocks.specs.declared.page.Telling.{Telling}
@@ -9,12 +10,12 @@ use Rattle.page_blocks.specs.declared.words.Form.{Form}
 use Rattle.page_blocks.specs.page.Told.{Printed, lines_of_events, after_all, the_front}
 use Rattle.page_blocks.specs.printer.Printers.{printed_of}
 
--- The text has the lines of the events of blocks at the front of the page, and these lines follow them. So far the page is printed
+-- With these extensions on, the text has the lines of the events of blocks at the front of the page, and these lines follow them. So far the page is printed
 -- then, and so many containers are open.
-pub record IsPrinted (form : Form) (page text : List ℕ) (p : Printed) (depth : ℕ) (rest : List (List ℕ)) : Type 0 where
+pub record IsPrinted (asked : BlockExtensions) (form : Form) (page text : List ℕ) (p : Printed) (depth : ℕ) (rest : List (List ℕ)) : Type 0 where
   pub pieces : List Piece
   pub shown : List Shown
-  pub are_its_blocks : IsFront no_extensions page pieces rest
+  pub are_its_blocks : IsFront asked page pieces rest
   pub are_their_events : AreShownOf [] 0 0 pieces shown
   pub lines : text ≡ lines_of_events form the_front shown
   pub so_far : p ≡ after_all the_front shown
@@ -26,7 +27,7 @@ unfoldable pub GoesOnTelling : Form → List ℕ → List ℕ → Printed → Ou
 GoesOnTelling form page text p outer lines =
     (later : List Piece) (shown : List Shown) (rest : List (List ℕ)) → lines ≡ lines_in later ++ rest → AreBlocks outer later rest
     → AreShownOf outer.containers p.at.lines p.at.bytes later shown
-    → IsPrinted form page (text ++ lines_of_events form p shown) (after_all p shown) (open_after (length outer.containers) later) rest
+    → IsPrinted outer.extensions form page (text ++ lines_of_events form p shown) (after_all p shown) (open_after (length outer.containers) later) rest
 
 -- what was written, and then the lines that are not yet written, print the page as far as these lines
 abbrev pub HasTold : List ℕ → List ℕ → Telling → List (List ℕ) → Type 0

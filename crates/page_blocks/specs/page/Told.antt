@@ -10,7 +10,7 @@ use Rattle.markdown_scanners_tree.specs.scanners.html_kinds.HtmlKinds.{condition
 use Rattle.markdown_blocks.specs.declared.blocks.BlockKind.{BlockKind}
 use Rattle.markdown_blocks.specs.declared.blocks.BlockKind.TheVariants.{Blank, Break, Heading, Setext, Indented}
 use Rattle.markdown_blocks.specs.declared.blocks.BlockKind.TheVariants.{Fenced, Html, Table, Definition, Paragraph}
-use Rattle.markdown_blocks.specs.containers.Containers.{no_extensions}
+use Rattle.markdown_blocks.specs.declared.containers.BlockExtensions.{BlockExtensions}
 use Rattle.markdown_blocks.specs.declared.containers.Container.{Container}
 use Rattle.markdown_blocks.specs.declared.containers.Container.TheVariants.{Quote, Item, Footnote}
 use Rattle.markdown_blocks.specs.declared.lists.ListBlock.{ListBlock}
@@ -203,29 +203,29 @@ abbrev pub title_of : Form → ℕ → List ℕ → List ℕ
 title_of Words pages name = []
 title_of Json pages name = if nat_lt 1 pages then page_json name ++ line_end Json else []
 
--- The text has the lines of the events of the page in this form, and of its lists. (chapter 3, and sections 4.7 and 5.3)
-pub record TellsPage (form : Form) (input text : List ℕ) : Type 0 where
+-- With these extensions on, the text has the lines of the events of the page in this form, and of its lists. (chapter 3, and sections 4.7 and 5.3)
+pub record TellsPage (asked : BlockExtensions) (form : Form) (input text : List ℕ) : Type 0 where
   pub shown : List Shown
-  pub are_its_events : IsShownOf no_extensions input shown
-  pub are_its_lists : AreListsOf no_extensions input (lists_behind at_start (events_in shown))
+  pub are_its_events : IsShownOf asked input shown
+  pub are_its_lists : AreListsOf asked input (lists_behind at_start (events_in shown))
   pub lines : text ≡ page_lines form shown
 
 -- known bytes grow by the title and by a text that has the lines of the page
-abbrev pub IsToldTo : Form → List ℕ → List ℕ → Option (List ℕ) → Option (List ℕ) → Type 0
-IsToldTo form title input old new = (text : List ℕ) × TellsPage form input text × Appends old new (title ++ text)
+abbrev pub IsToldTo : BlockExtensions → Form → List ℕ → List ℕ → Option (List ℕ) → Option (List ℕ) → Type 0
+IsToldTo asked form title input old new = (text : List ℕ) × TellsPage asked form input text × Appends old new (title ++ text)
 
--- the text has the lines of the events of blocks at the front of the page
-pub record TellsFront (form : Form) (input text : List ℕ) : Type 0 where
+-- with these extensions on, the text has the lines of the events of blocks at the front of the page
+pub record TellsFront (asked : BlockExtensions) (form : Form) (input text : List ℕ) : Type 0 where
   pub pieces : List Piece
   pub rest : List (List ℕ)
   pub shown : List Shown
-  pub are_its_blocks : IsFront no_extensions input pieces rest
+  pub are_its_blocks : IsFront asked input pieces rest
   pub are_their_events : AreShownOf [] 0 0 pieces shown
   pub lines : text ≡ lines_of_events form the_front shown
 
 -- Known bytes grow by the title and by a text that has the lines of blocks at the front of what was read of the input, whatever
 -- bytes follow that.
-abbrev pub IsBegunTo : Form → List ℕ → Option (List ℕ) → Option (List ℕ) → Option (List ℕ) → Option (List ℕ) → Type 0
-IsBegunTo form title input left old new =
+abbrev pub IsBegunTo : BlockExtensions → Form → List ℕ → Option (List ℕ) → Option (List ℕ) → Option (List ℕ) → Option (List ℕ) → Type 0
+IsBegunTo asked form title input left old new =
     (read : List ℕ) × Consumes input left read
-    × (text : List ℕ) × ((more : List ℕ) → TellsFront form (read ++ more) text) × Appends old new (title ++ text)
+    × (text : List ℕ) × ((more : List ℕ) → TellsFront asked form (read ++ more) text) × Appends old new (title ++ text)

@@ -2,16 +2,24 @@
 use Rattle.std.specs.Prelude.{ℕ, List, [], ◌∷◌, codes, if◌then◌else◌}
 use Rattle.std.specs.Borrow.{Bor}
 use Rattle.page_programs.specs.Words.{asks}
+use Rattle.markdown_blocks.specs.declared.containers.BlockExtensions.{BlockExtensions}
 use Rattle.page_blocks.specs.declared.words.Form.{Form}
 use Rattle.page_blocks.specs.declared.words.Form.TheVariants.{Words, Json}
 
 abbrev pub json : List ℕ
 json = codes "--json"
 
--- the option that the program has of its own
+abbrev pub footnotes : List ℕ
+footnotes = codes "--footnotes"
+
+-- the options that the program has of its own
 abbrev pub own_options : List (List ℕ)
-own_options = json ∷ []
+own_options = json ∷ footnotes ∷ []
 
 -- blocks are told as JSON Lines where a word asks for them
 abbrev pub form_of : List (Bor (List ℕ)) → Form
 form_of words = if asks json words then Json else Words
+
+-- footnote definitions begin where a word asks for them
+abbrev pub extensions_of : List (Bor (List ℕ)) → BlockExtensions
+extensions_of words = record { footnotes = asks footnotes words }

@@ -13,9 +13,9 @@ if_err P (Err e) x = λ p. x
 
 pub loop-telling-init : goal.loop-telling-init
 loop-telling-init g c = record {
-  begun = begun-first c.args.form c.args.title.now (g.R.Read.remaining c.args.input.now) (g.W.Write.contents c.args.output.now)
+  begun = begun-first c.args.extensions c.args.form c.args.title.now (g.R.Read.remaining c.args.input.now) (g.W.Write.contents c.args.output.now)
       (g.W.Write.contents c.write_text.new.output) c.new-telling.result c.new-unread.result.text.items c.in_ok-write_text.ensures.written
-      c.new-unread.ensures.text c.new-telling.ensures.told c.new-telling.ensures.form;
+      c.new-unread.ensures.text c.new-telling.ensures.told c.new-telling.ensures.form c.new-telling.ensures.asked;
   empty = c.new-telling.ensures.nothing;
   reads = (0, omega (arith, c.new-unread.ensures.reads), no_read c.args.input.now);
   lines = omega (
@@ -35,9 +35,12 @@ loop-telling-init g c = record {
 pub returns-in_err-has_ended-clause-begun : goal.returns-in_err-has_ended-clause-begun
 returns-in_err-has_ended-clause-begun g c =
     let read = c.in_err-has_ended.ensures.read in
-    if_err _ c.from_residual-in_err-has_ended.result (begun-stopped c.args.form c.args.title.now (g.R.Read.remaining c.args.input.now) (g.W.Write.contents c.args.output.now)
-    (g.R.Read.remaining c.read_more.new.input) (g.W.Write.contents c.loop-telling.output) c.loop-telling.telling (c.loop-telling.unread.text.items ++ read.0)
-    (begun-read c.args.form c.args.title.now (g.R.Read.remaining c.args.input.now) (g.W.Write.contents c.args.output.now) (g.R.Read.remaining c.loop-telling.input)
+    if_err _ c.from_residual-in_err-has_ended.result (begun-stopped c.args.extensions c.args.form c.args.title.now
+    (g.R.Read.remaining c.args.input.now) (g.W.Write.contents c.args.output.now)
+    (g.R.Read.remaining c.read_more.new.input) (g.W.Write.contents c.loop-telling.output) c.loop-telling.telling
+    (c.loop-telling.unread.text.items ++ read.0)
+    (begun-read c.args.extensions c.args.form c.args.title.now (g.R.Read.remaining c.args.input.now) (g.W.Write.contents c.args.output.now)
+    (g.R.Read.remaining c.loop-telling.input)
     (g.R.Read.remaining c.read_more.new.input) (g.W.Write.contents c.loop-telling.output) c.loop-telling.telling c.loop-telling.unread.text.items
     (c.loop-telling.unread.text.items ++ read.0) read.0 c.loop-telling.invariant.begun read.1 refl)
     c.loop-telling.invariant.empty)
@@ -51,9 +54,12 @@ tell-requires-clause-bytes g c = omega (arith, c.loop-telling.invariant.bytes, c
 pub returns-in_err-count-clause-begun : goal.returns-in_err-count-clause-begun
 returns-in_err-count-clause-begun g c =
     let read = c.in_ok-has_ended.ensures.read in
-    if_err _ c.from_residual-in_err-count.result (begun-stopped c.args.form c.args.title.now (g.R.Read.remaining c.args.input.now) (g.W.Write.contents c.args.output.now)
-    (g.R.Read.remaining c.read_more.new.input) (g.W.Write.contents c.loop-telling.output) c.loop-telling.telling (c.loop-telling.unread.text.items ++ read.0)
-    (begun-read c.args.form c.args.title.now (g.R.Read.remaining c.args.input.now) (g.W.Write.contents c.args.output.now) (g.R.Read.remaining c.loop-telling.input)
+    if_err _ c.from_residual-in_err-count.result (begun-stopped c.args.extensions c.args.form c.args.title.now
+    (g.R.Read.remaining c.args.input.now) (g.W.Write.contents c.args.output.now)
+    (g.R.Read.remaining c.read_more.new.input) (g.W.Write.contents c.loop-telling.output) c.loop-telling.telling
+    (c.loop-telling.unread.text.items ++ read.0)
+    (begun-read c.args.extensions c.args.form c.args.title.now (g.R.Read.remaining c.args.input.now) (g.W.Write.contents c.args.output.now)
+    (g.R.Read.remaining c.loop-telling.input)
     (g.R.Read.remaining c.read_more.new.input) (g.W.Write.contents c.loop-telling.output) c.loop-telling.telling c.loop-telling.unread.text.items
     (c.loop-telling.unread.text.items ++ read.0) read.0 c.loop-telling.invariant.begun read.1 refl)
     c.loop-telling.invariant.empty)
@@ -61,10 +67,11 @@ returns-in_err-count-clause-begun g c =
 pub returns-then-has_ended-clause-told : goal.returns-then-has_ended-clause-told
 returns-then-has_ended-clause-told g c =
     let read = c.in_ok-has_ended.ensures.read in
-    begun-done c.args.form c.args.title.now (g.R.Read.remaining c.args.input.now) (g.W.Write.contents c.args.output.now)
+    begun-done c.args.extensions c.args.form c.args.title.now (g.R.Read.remaining c.args.input.now) (g.W.Write.contents c.args.output.now)
     (g.R.Read.remaining c.read_more.new.input) (g.W.Write.contents c.loop-telling.output) (g.W.Write.contents c.write_text-in-loop-telling.new.output)
     c.loop-telling.telling c.tell.new.self c.deref.result.now
-    (begun-read c.args.form c.args.title.now (g.R.Read.remaining c.args.input.now) (g.W.Write.contents c.args.output.now) (g.R.Read.remaining c.loop-telling.input)
+    (begun-read c.args.extensions c.args.form c.args.title.now (g.R.Read.remaining c.args.input.now) (g.W.Write.contents c.args.output.now)
+    (g.R.Read.remaining c.loop-telling.input)
     (g.R.Read.remaining c.read_more.new.input) (g.W.Write.contents c.loop-telling.output) c.loop-telling.telling c.loop-telling.unread.text.items
     c.deref.result.now read.0 c.loop-telling.invariant.begun read.1 (c.deref.ensures.value ∙ read.2))
     (c.in_ok-count.ensures.ended c.if-has_ended.true)
@@ -78,19 +85,25 @@ loop-telling-preserved g c =
     let left : length c.drop_front.new.self.text.items ≡ length c.read_more.new.self.text.items - c.in_ok-count.count =
     ap length c.drop_front.ensures.text ∙ length-drop c.in_ok-count.count c.read_more.new.self.text.items in
     record {
-      begun = begun-written c.args.form c.args.title.now (g.R.Read.remaining c.args.input.now) (g.W.Write.contents c.args.output.now)
-          (g.R.Read.remaining c.read_more.new.input) (g.W.Write.contents c.loop-telling.output) (g.W.Write.contents c.write_text-in-loop-telling.new.output)
+      begun = begun-written c.args.extensions c.args.form c.args.title.now (g.R.Read.remaining c.args.input.now)
+          (g.W.Write.contents c.args.output.now)
+          (g.R.Read.remaining c.read_more.new.input) (g.W.Write.contents c.loop-telling.output)
+          (g.W.Write.contents c.write_text-in-loop-telling.new.output)
           c.loop-telling.telling c.tell.new.self _ c.deref.result.now c.drop_front.new.self.text.items c.in_ok-count.count
-          (begun-read c.args.form c.args.title.now (g.R.Read.remaining c.args.input.now) (g.W.Write.contents c.args.output.now) (g.R.Read.remaining c.loop-telling.input)
-          (g.R.Read.remaining c.read_more.new.input) (g.W.Write.contents c.loop-telling.output) c.loop-telling.telling c.loop-telling.unread.text.items
+          (begun-read c.args.extensions c.args.form c.args.title.now (g.R.Read.remaining c.args.input.now)
+          (g.W.Write.contents c.args.output.now) (g.R.Read.remaining c.loop-telling.input)
+          (g.R.Read.remaining c.read_more.new.input)
+          (g.W.Write.contents c.loop-telling.output) c.loop-telling.telling c.loop-telling.unread.text.items
           c.deref.result.now read.0 c.loop-telling.invariant.begun read.1 (c.deref.ensures.value ∙ read.2))
           c.loop-telling.invariant.empty
           (c.in_ok-count.ensures.told other)
-          c.in_ok-count.ensures.form (rw c.as_str.ensures.value at c.in_ok-write_text-2.ensures.written)
+          c.in_ok-count.ensures.form c.in_ok-count.ensures.asked
+          (rw c.as_str.ensures.value at c.in_ok-write_text-2.ensures.written)
           refl refl refl c.clear.ensures.bytes (c.drop_front.ensures.text ∙ ap (drop c.in_ok-count.count) (sym c.deref.ensures.value));
       empty = c.clear.ensures.bytes;
       reads = subst (λ n. (count : ℕ) × (n + count ≡ READS) × AreReads g.R.StepReader.reads count c.args.input.now c.read_more.new.input)
-          (sym c.drop_front.ensures.reads) (reads_on g.R.StepReader.reads c.loop-telling.unread.reads c.read_more.new.self.reads READS c.args.input.now
+          (sym c.drop_front.ensures.reads)
+          (reads_on g.R.StepReader.reads c.loop-telling.unread.reads c.read_more.new.self.reads READS c.args.input.now
           c.loop-telling.input c.read_more.new.input c.loop-telling.invariant.reads c.read_more.ensures.reads);
       lines = omega (
         arith,

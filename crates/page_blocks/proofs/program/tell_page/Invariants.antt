@@ -7,7 +7,8 @@ use Rattle.page_blocks.proofs.program.tell_page.Given as goal
 -- what was read is told and written as far as the text that is left, by the reads that are no longer left; there are no more lines than reads gave bytes
 abbrev pub invariant-loop-telling : goal.invariant-loop-telling
 invariant-loop-telling g l = record {
-  begun : Begun l.fn.form l.title (g.R.Read.remaining l.fn.input) (g.R.Read.remaining l.input) (g.W.Write.contents l.fn.output) (g.W.Write.contents l.output)
+  begun : Begun l.fn.extensions l.fn.form l.title (g.R.Read.remaining l.fn.input) (g.R.Read.remaining l.input)
+      (g.W.Write.contents l.fn.output) (g.W.Write.contents l.output)
       l.telling l.unread.text.items;
   empty : string_bytes l.telling.printer.text ≡ [];
   reads : (count : ℕ) × (l.unread.reads + count ≡ READS) × AreReads g.R.StepReader.reads count l.fn.input l.input;

@@ -39,16 +39,17 @@ all_in_front X false size all is ended = cc
 
 -- the page is told to its end
 ended_page : (old mid : Telling) (text longer : List ℕ) (count depth : ℕ) → length text ≤ count → mid.printer.form ≡ old.printer.form
+    → mid.walk.extensions ≡ old.walk.extensions
     → ((page written : List ℕ) → HasTold page written old (lines_of (text ++ [])) → HasTold page written mid (lines_of (drop count text ++ [])))
     → depth ≡ length mid.walk.containers → longer ≡ string_bytes mid.printer.text ++ last_lines mid.printer.form (printed_of mid.printer) depth
-    → (page written : List ℕ) → HasTold page written old (lines_of text) → TellsPage old.printer.form page (written ++ longer)
-ended_page old mid text longer count depth all same goes_on counted tells page written goes =
+    → (page written : List ℕ) → HasTold page written old (lines_of text) → TellsPage old.walk.extensions old.printer.form page (written ++ longer)
+ended_page old mid text longer count depth all same on goes_on counted tells page written goes =
     let here : HasTold page written mid [] = rw (drop_all count text all) at
     (goes_on page written (subst (λ t. HasTold page written old (lines_of t)) (sym (append-nil text)) goes)) in
-    subst (λ f. TellsPage f page (written ++ longer)) same
+    subst (λ a. TellsPage a old.printer.form page (written ++ longer)) on (subst (λ f. TellsPage mid.walk.extensions f page (written ++ longer)) same
     (telling-page mid.printer.form page (written ++ string_bytes mid.printer.text) (written ++ longer) (printed_of mid.printer) mid.walk
     (ap (λ t. written ++ t) tells ∙ sym (append_assoc written (string_bytes mid.printer.text) _)
-    ∙ ap (λ n. (written ++ string_bytes mid.printer.text) ++ last_lines mid.printer.form (printed_of mid.printer) n) counted) here)
+    ∙ ap (λ n. (written ++ string_bytes mid.printer.text) ++ last_lines mid.printer.form (printed_of mid.printer) n) counted) here))
 
 pub returns-else-has_ended-clause-told : goal.returns-else-has_ended-clause-told
 returns-else-has_ended-clause-told c = λ other more.
@@ -63,7 +64,7 @@ returns-in_ok-print_end-clause-ended c = λ ended.
     let front : length c.split_at.result.0.now ≡ c.front_of.result =
     ap length c.split_at.ensures.front ∙ length-take-le c.front_of.result c.args.text.now c.front_of.ensures.within in
     ended_page c.args.self.now c.tell_lines.new.self c.args.text.now (string_bytes c.print_end.new.self.text) c.in_ok-count.count (length c.containers-depth.result.now)
-    (omega (arith, size, front, c.in_ok-count.ensures.all ended)) c.in_ok-count.ensures.form
+    (omega (arith, size, front, c.in_ok-count.ensures.all ended)) c.in_ok-count.ensures.form c.in_ok-count.ensures.asked
     (told_text c.args.self.now c.tell_lines.new.self c.args.text.now c.split_at.result.0.now c.front_of.result c.in_ok-count.count c.args.has_ended
     c.front_of.ensures.front c.front_of.ensures.within c.split_at.ensures.front c.in_ok-count.ensures.told c.in_ok-count.ensures.within
     [] (λ over. refl)) (ap length c.containers-depth.ensures.containers) c.in_ok-print_end.ensures.lines

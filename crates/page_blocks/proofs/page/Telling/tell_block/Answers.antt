@@ -1,4 +1,5 @@
 use Rattle.std.proofs.Common.{[], ◌++◌, length, string_bytes, refl, sym, ap, ◌∙◌, arith, append_assoc}
+use Rattle.markdown_blocks.specs.containers.Containers.{Outer}
 use Rattle.markdown_blocks.specs.events.Given.{block_left}
 use Rattle.page_blocks.specs.printer.Printers.{HasPrinted, printed_of}
 use Rattle.page_blocks.proofs.page.PageLemmas.{step_size, telling-next}
@@ -36,3 +37,7 @@ returns-clause-bytes c =
     c.in-Some.step c.args.lines.now [] ((rw c.in-Some.is at c.in_ok-step.ensures.step) [] (λ ended. refl)) c.next_block.new.content.items h.events h.shown
     (rw c.in-Some.is at c.in_ok-step.ensures.content) h.given h.are_shown (printed_of c.print_block.new.self) h.so_far in
     size.1
+
+pub returns-clause-asked : goal.returns-clause-asked
+returns-clause-asked c =
+    ap (λ (o : Outer). o.extensions) ((rw c.in-Some.is at c.in_ok-step.ensures.step) [] (λ ended. refl)).open_now

@@ -10,6 +10,7 @@ invariant-loop-more l =
     → Tells l.fn.self (lines_of l.lines ++ more) l.self (lines_of (drop l.count l.lines) ++ more))
     × (l.count ≤ length l.lines) × (l.self.printer.at.lines ≤ l.fn.self.printer.at.lines + l.count)
     × (l.self.printer.at.bytes ≡ l.fn.self.printer.at.bytes + l.count) × (l.self.printer.form ≡ l.fn.self.printer.form)
+    × (l.self.walk.extensions ≡ l.fn.self.walk.extensions)
 
 abbrev pub decreases-loop-more : goal.decreases-loop-more
 decreases-loop-more l = length l.lines - l.count
