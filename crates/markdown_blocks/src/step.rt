@@ -4,6 +4,7 @@ ghost use Rattle.markdown_scanners_tree.specs.scanners.TextLines.{lines_of};
 ghost use Rattle.markdown_blocks.specs.events.Events.{first_of};
 
 use crate::blocks::Block;
+use crate::containers::{BlockExtensions, scan_container};
 use markdown_scanners_tree::line::LineStart;
 
 /// A block at the front of some lines, and what its first line has before it.
@@ -27,4 +28,27 @@ pub struct Step<'a> {
     ghost bytes: { block.taken.bytes ≡ length lines.now },
     ghost counted: { block.taken.lines ≡ length (lines_of lines.now) },
     ghost front: { length line.now ≡ length (first_of (lines_of lines.now)) },
+}
+
+impl<'a> Step<'a> {
+    ghost use Rattle.std.specs.Prelude.{◌≡◌};
+    ghost use Rattle.markdown_blocks.specs.containers.Containers.{marker_place, after_marker};
+
+    /// The offset in the line of the marker of the next container that it begins: at the first call
+    /// the one after those that it goes on with. `start` stands after that marker then.
+    pub fn pass_marker(&mut self) -> usize
+        ensures place { result ≡ marker_place self.old.start }
+        ensures passed { self.new.start ≡ after_marker self.old.start }
+        ensures kept { self.new.kept ≡ self.old.kept }
+        ensures indent { self.new.indent ≡ self.old.indent }
+        ensures text { self.new.text ≡ self.old.text }
+        ensures line { self.new.line ≡ self.old.line }
+        ensures block { self.new.block ≡ self.old.block }
+        ensures lines { self.new.lines ≡ self.old.lines }
+    {
+        let indent = self.start.scan_space_upto(4);
+        let place = self.start.bytes_scanned();
+        scan_container(self.line, &mut self.start, indent, BlockExtensions::all());
+        place
+    }
 }

@@ -62,6 +62,16 @@ impl Walk {
         }
     }
 
+    /// Before the next block of a page that is read up to there: these containers are open, outermost
+    /// first, as an earlier walk had them, and these extensions are on.
+    pub fn resume(alloc: Global, extensions: BlockExtensions, containers: Vec<Container>) -> Walk
+        ensures { result ≡ record { extensions = extensions; containers = containers.items } }
+    {
+        let mut walk = Walk::new_ext(alloc, extensions);
+        walk.open = containers;
+        walk
+    }
+
     /// The containers that are open, outermost first.
     pub fn containers(&self) -> &[Container]
         ensures containers { result.now ≡ self.now.containers }
