@@ -12,15 +12,17 @@
  *     start.listItem(2); // { delimiter: "-", start: 0, indent: 4 }
  *     page.scanLinkDest(start.place + 4); // { end: 25, start: 21, stop: 24 }
  */
-import { VERSION } from "./lib/c.mjs";
+import { FOOTNOTES, VERSION } from "./lib/c.mjs";
 import { Block, Engine } from "./lib/engine.mjs";
 import { BadModule, isAnswer, ModuleMissing, WrongVersion } from "./lib/errors.mjs";
-import { byteOf, bytesOf, characterOf, optionsOf, wrongType } from "./lib/given.mjs";
+import { byteOf, bytesOf, characterOf, flagOf, optionsOf, wrongType } from "./lib/given.mjs";
+import { BlockReader } from "./lib/readers.mjs";
 import { Text } from "./lib/text.mjs";
 
 export * from "./lib/errors.mjs";
 export { HtmlScanGuard, Skips, Text } from "./lib/text.mjs";
 export { LineStart } from "./lib/line_start.mjs";
+export { BlockReader } from "./lib/readers.mjs";
 export { VERSION };
 
 /** Node's files, which a browser has not. */
@@ -55,6 +57,16 @@ export class Scanners {
     text(data, options = {}) {
         const { units = "utf-8" } = optionsOf(options, "units");
         return new Text(this.#engine, /** @type {any} */ (data), units);
+    }
+
+    /**
+     * What reads a page that comes piece by piece. Where `footnotes` is true, `[^label]:` begins a footnote definition, as on
+     * GitHub. (3, 4, 5)
+     * @param {{ footnotes?: boolean }} [options]
+     */
+    blockReader(options = {}) {
+        const { footnotes = false } = optionsOf(options, "footnotes");
+        return new BlockReader(this.#engine, flagOf("footnotes", footnotes) ? FOOTNOTES : 0);
     }
 
     /**

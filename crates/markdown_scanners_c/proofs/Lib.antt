@@ -8,6 +8,7 @@ pub mod LabelRooms
 pub mod LineRuns
 pub mod Meanings
 pub mod NoSpaces
+pub mod OpenLemmas
 pub mod Parts
 pub mod Rows
 pub mod SameKept

@@ -1,5 +1,6 @@
 pub mod Among
 pub mod Answers
+pub mod BlockLines
 pub mod Buffer
 pub mod DelimiterRuns
 pub mod Finds

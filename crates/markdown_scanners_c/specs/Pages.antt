@@ -31,7 +31,7 @@ block_quote = 1
 abbrev pub list_item : ℕ
 list_item = 2
 
--- a footnote definition, which begins on no page that is told here
+-- a footnote definition, which begins only where the extension is on
 abbrev pub footnote : ℕ
 footnote = 13
 
@@ -104,11 +104,12 @@ HasKind block kind = kind_told kind ≡ kind_in block
 
 -- a block begins a container, which is this, where a second line of it is read
 abbrev pub is_container : Block → Bool
-is_container block = block.kind == block_quote || block.kind == list_item
+is_container block = block.kind == block_quote || block.kind == list_item || block.kind == footnote
 
 abbrev pub container_in : Block → Container
 container_in block =
     if block.kind == block_quote then Quote
+    else if block.kind == footnote then Footnote
     else Item (record { delimiter = block.byte; begun = false; width = block.width; start = block.number })
 
 -- the block's lines stand in the page, and these are they

@@ -6,6 +6,7 @@
 //! no parameter in C: what it is asked for comes from the C library's `malloc` and `realloc`.
 #![tactic(auto)]
 
+mod block_lines;
 mod blocks;
 mod delimiter_runs;
 mod html;

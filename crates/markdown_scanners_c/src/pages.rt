@@ -26,9 +26,9 @@ use markdown_scanners_tree::scanners::HtmlBlockKind;
 use markdown_values::values::HeadingLevel;
 use std::alloc::{AllocError, Global};
 
-const CONTAINER_END: u32 = 0;
+pub(crate) const CONTAINER_END: u32 = 0;
 
-const BLOCK_QUOTE: u32 = 1;
+pub(crate) const BLOCK_QUOTE: u32 = 1;
 
 const LIST_ITEM: u32 = 2;
 
@@ -52,8 +52,8 @@ const DEFINITION: u32 = 11;
 
 const PARAGRAPH: u32 = 12;
 
-// Begins on no page that is told here, where no extension is on.
-const FOOTNOTE: u32 = 13;
+// Begins only where the extension is on.
+pub(crate) const FOOTNOTE: u32 = 13;
 
 /// `struct mds_block` of C: a container that begins, the end of one, or a leaf block.
 #[repr(C)]
@@ -81,7 +81,7 @@ pub struct BlockCount {
 
 // The numbers of a block that name its kind.
 #[derive(Clone, Copy)]
-struct Kind {
+pub(crate) struct Kind {
     kind: u32,
     number: u32,
     byte: u8,
@@ -143,7 +143,7 @@ fn event_told(event: BlockEvent) -> Block
 }
 
 // A container that begins at the place, as C has it.
-fn container_told(container: Container, place: usize) -> Block
+pub(crate) fn container_told(container: Container, place: usize) -> Block
     ensures { result ≡ container_told container place }
 {
     match container {
@@ -186,7 +186,7 @@ fn leaf_told(leaf: Leaf) -> Block
 }
 
 // A block of the kind, which stands nowhere.
-fn of_kind(kind: Kind) -> Block
+pub(crate) fn of_kind(kind: Kind) -> Block
     ensures { result ≡ of_kind kind }
 {
     Block {
@@ -205,7 +205,7 @@ fn of_kind(kind: Kind) -> Block
 }
 
 // A kind that no other number belongs to.
-fn plain_kind(kind: u32) -> Kind
+pub(crate) fn plain_kind(kind: u32) -> Kind
     ensures { result ≡ record { kind = kind; number = 0; byte = 0; count = 0 } }
 {
     Kind {
@@ -227,7 +227,7 @@ fn numbered_kind(kind: u32, number: u32) -> Kind
 }
 
 // The kind of a leaf block, as C has it.
-fn kind_told(kind: BlockKind) -> Kind
+pub(crate) fn kind_told(kind: BlockKind) -> Kind
     ensures { result ≡ kind_told kind }
 {
     match kind {
@@ -297,10 +297,16 @@ fn lines_in<'a>(page: &'a [u8], block: &Block) -> Option<&'a [u8]>
 }
 
 // Whether each of these begins a container.
-fn are_containers(blocks: &[Block]) -> bool
+pub(crate) fn are_containers(blocks: &[Block]) -> bool
     ensures { result ≡ list_all is_container blocks.now }
 {
-    blocks.iter().all(|block| block.kind == BLOCK_QUOTE || block.kind == LIST_ITEM)
+    blocks.iter().all(|block| is_container(block))
+}
+
+fn is_container(block: &Block) -> bool
+    ensures { result ≡ is_container block.now }
+{
+    matches!(block.kind, BLOCK_QUOTE | LIST_ITEM | FOOTNOTE)
 }
 
 // The kind of leaf block that the numbers name, if they name one.
@@ -395,13 +401,14 @@ fn containers_in(alloc: Global, blocks: &[Block]) -> Result<Vec<Container>, Allo
 fn container_in(block: &Block) -> Container
     ensures { result ≡ container_in block.now }
 {
-    if block.kind == BLOCK_QUOTE {
-        return Container::Quote;
+    match block.kind {
+        BLOCK_QUOTE => Container::Quote,
+        FOOTNOTE => Container::Footnote,
+        _ => Container::Item(ListItem {
+            delimiter: block.byte,
+            begun: false,
+            width: block.width,
+            start: block.number,
+        }),
     }
-    Container::Item(ListItem {
-        delimiter: block.byte,
-        begun: false,
-        width: block.width,
-        start: block.number,
-    })
 }

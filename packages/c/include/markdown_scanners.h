@@ -5,18 +5,19 @@
  * brackets below. They are scanners: each reads from the front of the bytes that it is given, or from a place in them, and
  * says what begins there. None looks for the next construct, so a caller goes through its document and asks. But
  * mds_scan_blocks reads a page, and says which blocks it has, and mds_scan_inlines the text of a block, and says which inlines.
+ * mds_block_line reads a page that comes piece by piece.
  *
  * Bytes and texts. A pointer and a length go together; nothing has to end in a zero byte, and zero bytes are read as
  * any other. What is read may be of any type of bytes, as `char` or `uint8_t`. The pointer may be null where the length
  * is 0, and nowhere else. What is given is read during the call alone, and nothing is written but in a buffer, a line
- * start or a guard.
+ * start, a guard, or what mds_block_line is given to write in.
  * What is named `bytes` may be any bytes; what is named `text`, `one` or `other` must be UTF-8. Each call looks through
  * all of it, and refuses it where it is not.
  *
  * Duties. No buffer may overlap another buffer or anything else that the call is given. A length or capacity is that of
- * memory which is there, and its size in bytes is at most PTRDIFF_MAX. An array is aligned for its type. A pointer to a
- * `struct mds_line_start` or a `struct mds_html_guard` is never null: it has no length beside it, no call tests it, and
- * with a null one the program crashes.
+ * memory which is there, and its size in bytes is at most PTRDIFF_MAX. An array is aligned for its type. A pointer to one
+ * struct, as a `struct mds_line_start` or a `struct mds_html_guard`, is never null: it has no length beside it, no call tests
+ * it, and with a null one the program crashes.
  *
  * Units. Lengths, capacities and places are in bytes, those of an array of another type in its elements. Places count
  * from 0. Columns and indents are in columns of a line whose tabs go to stops of four (2.2).
@@ -97,7 +98,7 @@ enum mds_status {
     MDS_INSIDE_FIND = 11,   /* the place is inside what was found before it */
     MDS_SPACE_PENDING = 12, /* columns of a tab are pending, and the call is not one that takes space */
     MDS_BAD_KIND = 13,      /* a call or a block has no known kind, or an extension is not known */
-    MDS_BAD_STATE = 14      /* a line start has numbers that none has on these bytes */
+    MDS_BAD_STATE = 14      /* a line start has numbers that none has on these bytes, or what is said to be open is no container */
 };
 
 /* The name of a status, as "MDS_OK"; "unknown" of a number that is none. */
@@ -606,7 +607,13 @@ enum mds_block_kind {
     MDS_BLOCK_HTML = 9,        /* an HTML block (4.6) */
     MDS_BLOCK_TABLE = 10,      /* a table (GitHub Flavored Markdown 0.29, 4.10) */
     MDS_BLOCK_DEFINITION = 11, /* a link reference definition (4.7) */
-    MDS_BLOCK_PARAGRAPH = 12   /* a paragraph (4.8) */
+    MDS_BLOCK_PARAGRAPH = 12,  /* a paragraph (4.8) */
+    MDS_BLOCK_FOOTNOTE = 13    /* a footnote definition begins, a container, where it is asked for */
+};
+
+/* Extensions of CommonMark's blocks. Each is a bit; those that are asked for are given as their sum. */
+enum mds_block_extension {
+    MDS_FOOTNOTES = 1 /* `[^label]:` begins a footnote definition, as on GitHub: it goes on with blank lines, and behind four columns */
 };
 
 /* A container that begins, the end of one, or a leaf block. */
@@ -615,7 +622,7 @@ struct mds_block {
     uint32_t number;     /* the level of a heading; the start of a list item; of HTML its kind, of enum mds_html_kind */
     uint8_t byte;        /* of a list item its bullet or delimiter; of fenced code the byte of its fence */
     uint8_t width;       /* of a list item how many columns its later lines are indented by */
-    size_t count;        /* of fenced code how many bytes its fence has; of a table how many columns it has */
+    size_t count;        /* of fenced code how many bytes its fence has; of a table how many columns it has; see mds_block_line */
     size_t indent;       /* of a leaf block the columns of space in its first line after its containers, at most four */
     size_t line, lines;  /* of a leaf block how many lines of the page stand before it, and how many it has */
     size_t start, bytes; /* of a leaf block the place of its first line, and how many bytes its lines have */
@@ -668,6 +675,53 @@ struct mds_blocks mds_scan_blocks(const void *bytes, size_t length, struct mds_b
 struct mds_text mds_block_content(
     const void *bytes, size_t length, const struct mds_block *block, const struct mds_block *containers,
     size_t container_count, size_t kept, uint8_t *buffer, size_t capacity);
+
+/* How far a page is read, block by block, for mds_block_line. All is zero before the first block, but for the extensions. */
+struct mds_open_blocks {
+    size_t depth;        /* how many containers are open: so many at the front of the caller's array */
+    uint32_t extensions; /* bits of enum mds_block_extension, the same for a whole page */
+    uint32_t state;      /* is kept for extensions to come: a call leaves it as it is */
+};
+
+/* The containers of a block, where the status is MDS_OK or MDS_TOO_SHORT. */
+struct mds_line_block {
+    uint32_t status;
+    size_t kept;  /* how many of those that were open its first line goes on with: the others end */
+    size_t depth; /* how many are open then, and need room: those behind `kept` begin */
+};
+
+/* The leaf block at the front of the bytes, which are the page after the block before, as far as it is read: for a page that
+ * comes piece by piece, or is too long to keep. What a line is may be known by later ones alone. So as long as the input has not
+ * ended, a block is told once whole lines show where it ends, and a last line that is not whole is not looked at: MDS_NOTHING
+ * says that more is needed, or, where the input has ended, that there are no bytes. The block has `block->bytes` bytes, after
+ * which the next call reads; places in it are those in the bytes. Who asks again with each line reads a long block as often as
+ * it has lines: ask again once there are twice as many bytes.
+ *
+ * `containers` is an array of the caller's, of which `open->depth` at the front are open, outermost first. Where the status is
+ * MDS_OK those that are open after the block are written there, and their number to `open->depth`. They are as mds_block_content
+ * takes them, with `kept`; those that begin have the place of their marker, and the others 0; and `count` is 1 of an item of which
+ * one line is read, that is blank after its marker. At the end of the page those that are open end. With another status all is
+ * left as it was.
+ *
+ * All is as mds_scan_blocks tells it of the whole page, but that a paragraph which begins with link reference definitions is one
+ * block: they stand at the front of its content, where mds_scan_reference_definition reads them.
+ *
+ * MDS_TOO_SHORT where the array has no room for `depth` containers. MDS_BAD_KIND where an unknown bit is set, MDS_BAD_STATE where
+ * `open->depth` is above `capacity`, or what is open there is no container. Memory is asked for, for the containers and while
+ * the block is read: MDS_NO_MEMORY. (3, 4, 5)
+ *
+ *     struct mds_block containers[2], block;
+ *     struct mds_open_blocks open = {0, 0, 0};
+ *     mds_block_line("> a\nb", 5, false, containers, 2, &open, &block).status == MDS_NOTHING
+ *     mds_block_line("> a\nb\n# c\n", 10, false, containers, 2, &open, &block).status == MDS_OK
+ *     block.kind == MDS_BLOCK_PARAGRAPH && block.lines == 2 && block.bytes == 6 && block.place == 2
+ *     open.depth == 1 && containers[0].kind == MDS_BLOCK_QUOTE
+ *     mds_block_line("# c\n", 4, true, containers, 2, &open, &block).kept == 0
+ *     block.kind == MDS_BLOCK_HEADING && open.depth == 0
+ */
+struct mds_line_block mds_block_line(
+    const void *bytes, size_t length, bool has_ended, struct mds_block *containers, size_t capacity, struct mds_open_blocks *open,
+    struct mds_block *block);
 
 /* A list of a page: items that follow each other in one container, of one bullet or delimiter. */
 struct mds_list {

@@ -1,5 +1,6 @@
 /* The blocks of pages and their content: the examples of CommonMark 0.31.2, by their numbers, whose blocks and texts are those of
- * the HTML that stands there; refused numbers; and made pages, of which the blocks nest and their lines, joined, are the page. */
+ * the HTML that stands there; refused numbers; and made pages, of which the blocks nest and their lines, joined, are the page. The
+ * same pages fed byte by byte tell the same blocks. */
 #include "checks.h"
 
 #include <stdio.h>
@@ -154,6 +155,76 @@ static void contents_of(int example, const char *page, size_t length, const stru
     same(example, "containers that are open", depth, 0);
 }
 
+/* The containers that are open while a page is fed. */
+static struct mds_block fed_containers[LONGEST];
+
+/* The next block of the page, of which more and more is given, and at last that it has ended. */
+static struct mds_line_block fed(
+    const char *bytes, size_t length, size_t at, size_t *end, struct mds_open_blocks *open, struct mds_block *block) {
+    for (bool has_ended = false;;) {
+        struct mds_line_block found =
+            mds_block_line(bytes + at, *end - at, has_ended, fed_containers, LONGEST, open, block);
+        if (found.status != MDS_NOTHING || has_ended)
+            return found;
+        has_ended = *end == length, *end += !has_ended;
+    }
+}
+
+static bool is_leaf(const struct mds_block *block) {
+    return block->kind >= MDS_BLOCK_BLANK && block->kind <= MDS_BLOCK_PARAGRAPH;
+}
+
+/* A block is of the kind of another, and the same numbers belong to it. */
+static void is_alike(int example, const struct mds_block *block, const struct mds_block *other) {
+    same(example, "kind", block->kind, other->kind), same(example, "number", block->number, other->number);
+    same(example, "byte", block->byte, other->byte), same(example, "width", block->width, other->width);
+    same(example, "count", is_leaf(other) ? block->count : 0, other->count);
+}
+
+/* The leaf blocks of a page that stand from one place to another are together the block that is told there, before which so many
+ * lines stand. Answers how many of them there are. */
+static size_t is_told(int example, const struct mds_block *block, size_t at, size_t line, const struct mds_block *leaves) {
+    size_t count = 0, bytes = 0, lines = 0;
+    same(example, "start", leaves->start, at), same(example, "line", leaves->line, line);
+    same(example, "place", at + block->place, leaves->place), same(example, "indent", block->indent, leaves->indent);
+    for (; bytes < block->bytes && is_leaf(leaves + count); count++)
+        bytes += leaves[count].bytes, lines += leaves[count].lines;
+    same(example, "bytes", bytes, block->bytes), same(example, "lines", lines, block->lines);
+    for (size_t i = 0; i + 1 < count; i++)
+        same(example, "a part", leaves[i].kind, MDS_BLOCK_DEFINITION);
+    if (leaves[count - 1].kind == MDS_BLOCK_DEFINITION)
+        same(example, "a paragraph", block->kind, MDS_BLOCK_PARAGRAPH);
+    else
+        is_alike(example, block, leaves + count - 1);
+    return count;
+}
+
+/* Fed byte by byte the page tells the same blocks, and these have the same content. */
+static void is_fed(int example, const char *page, size_t length, const struct mds_block *blocks) {
+    struct mds_open_blocks open = {0, 0, 0};
+    struct mds_block block;
+    uint8_t first[LONGEST * LONGEST], second[LONGEST * LONGEST];
+    size_t at = 0, end = 0, line = 0, depth = 0;
+    for (const char *bytes = given(BYTES, page, length); at < length; at += block.bytes, line += block.lines) {
+        struct mds_line_block found = fed(bytes, length, at, &end, &open, &block);
+        same(example, "status", found.status, MDS_OK);
+        for (; blocks->kind == MDS_BLOCK_END; blocks++)
+            depth--;
+        same(example, "kept", found.kept, depth);
+        for (; !is_leaf(blocks); blocks++)
+            is_alike(example, &fed_containers[depth++], blocks);
+        same(example, "depth", found.depth, depth), same(example, "open", open.depth, depth);
+        size_t count = is_told(example, &block, at, line, blocks);
+        struct mds_text own = mds_block_content(bytes + at, block.bytes, &block, fed_containers, depth, found.kept, first, sizeof(first));
+        struct mds_text all = mds_block_content(bytes, length, blocks, fed_containers, depth, found.kept, second, sizeof(second));
+        same(example, "content", own.status, MDS_OK), same(example, "content", all.status, MDS_OK);
+        same(example, "content", count > 1 || (own.length == all.length && memcmp(first, second, own.length) == 0), true);
+        blocks += count;
+    }
+    for (; depth > 0; depth--, blocks++)
+        same(example, "an end", blocks->kind, MDS_BLOCK_END);
+}
+
 static void examples(void) {
     struct mds_block blocks[MOST];
     for (size_t i = 0; i < sizeof(rows) / sizeof(*rows); i++) {
@@ -167,6 +238,7 @@ static void examples(void) {
         is_said(row->example, row->blocks);
         contents_of(row->example, row->page, length, blocks, count);
         is_said(row->example, row->contents);
+        is_fed(row->example, row->page, length, blocks);
     }
 }
 
@@ -200,7 +272,7 @@ static void refusals(void) {
     refused(__LINE__, block, MDS_BLOCK_QUOTE, MDS_OK);
     refused(__LINE__, block, MDS_BLOCK_ITEM, MDS_OK);
     for (uint32_t kind = 0; kind < 16; kind++)
-        refused(__LINE__, block, kind, kind == 1 || kind == 2 ? MDS_OK : MDS_BAD_KIND);
+        refused(__LINE__, block, kind, kind == 1 || kind == 2 || kind == 13 ? MDS_OK : MDS_BAD_KIND);
     refused(__LINE__, block, UINT32_MAX, MDS_BAD_KIND);
     block.bytes = 6, refused(__LINE__, block, MDS_BLOCK_QUOTE, MDS_OK);
     block.bytes = 7, refused(__LINE__, block, MDS_BLOCK_QUOTE, MDS_PAST_END);
@@ -225,6 +297,73 @@ static void refusals(void) {
         block.kind = MDS_BLOCK_HTML, refused(__LINE__, block, MDS_BLOCK_QUOTE, is_html ? MDS_OK : MDS_BAD_KIND);
     }
     block.number = 257, refused(__LINE__, block, MDS_BLOCK_QUOTE, MDS_BAD_KIND);
+}
+
+/* The line in these containers, of which so many are open, where there is room for so many. */
+static struct mds_line_block line_in(
+    const char *text, size_t length, uint32_t kind, size_t capacity, struct mds_open_blocks *open, struct mds_block *block) {
+    struct mds_block *containers = writable(BUFFER, capacity * sizeof(*containers));
+    for (size_t i = 0; i < capacity; i++)
+        containers[i] = (struct mds_block){.kind = kind, .width = 2};
+    return mds_block_line(given(BYTES, text, length), length, true, containers, capacity, open, block);
+}
+
+/* What is refused, and that all is left as it was then. */
+static void refused_line(int line, uint32_t kind, size_t depth, uint32_t extensions, size_t capacity, uint32_t status) {
+    struct mds_open_blocks open = {depth, extensions, 7};
+    struct mds_block block = {.kind = 99};
+    struct mds_line_block found = line_in("> > a", 5, kind, capacity, &open, &block);
+    const struct mds_block *containers = (const void *)(at_front ? whole(BUFFER) : whole(BUFFER) + ROOM_SIZE - capacity * sizeof(block));
+    same(line, "status", found.status, status);
+    same(line, "block", block.kind, status == MDS_OK ? MDS_BLOCK_PARAGRAPH : 99);
+    same(line, "depth", found.depth, status == MDS_OK || status == MDS_TOO_SHORT ? 2 : 0);
+    same(line, "open", open.depth, status == MDS_OK ? 2 : depth), same(line, "state", open.state, 7);
+    for (size_t i = 0; i < capacity; i++)
+        same(line, "a container", containers[i].kind, status == MDS_OK && i < 2 ? MDS_BLOCK_QUOTE : kind);
+}
+
+static void refused_lines(void) {
+    for (size_t capacity = 0; capacity < 4; capacity++)
+        refused_line(__LINE__, MDS_BLOCK_QUOTE, 0, 0, capacity, capacity < 2 ? MDS_TOO_SHORT : MDS_OK);
+    for (size_t depth = 0; depth < 5; depth++)
+        refused_line(__LINE__, MDS_BLOCK_ITEM, depth, MDS_FOOTNOTES, 3, depth > 3 ? MDS_BAD_STATE : MDS_OK);
+    for (uint32_t kind = 0; kind < 16; kind++)
+        refused_line(__LINE__, kind, 3, 0, 3, kind == 1 || kind == 2 || kind == 13 ? MDS_OK : MDS_BAD_STATE);
+    refused_line(__LINE__, MDS_BLOCK_END, SIZE_MAX, 0, 2, MDS_BAD_STATE);
+    for (uint32_t bit = 2; bit > 0; bit *= 2)
+        refused_line(__LINE__, MDS_BLOCK_QUOTE, 0, bit, 2, MDS_BAD_KIND), refused_line(__LINE__, 0, 9, bit + 1, 2, MDS_BAD_KIND);
+}
+
+/* The first block of a text where so many items are open, of which one line is read or more. */
+static void in_items(int line, const char *text, bool is_begun, size_t depth, uint32_t extensions, size_t kept, size_t then, uint32_t kind) {
+    struct mds_open_blocks open = {depth, extensions, 0};
+    struct mds_block block, containers[3];
+    size_t length = strlen(text);
+    for (size_t i = 0; i < 3; i++)
+        containers[i] = (struct mds_block){.kind = MDS_BLOCK_ITEM, .byte = '-', .width = 2, .count = is_begun && i + 1 == depth};
+    struct mds_line_block found = mds_block_line(given(BYTES, text, length), length, true, containers, 3, &open, &block);
+    same(line, "status", found.status, MDS_OK);
+    same(line, "kept", found.kept, kept), same(line, "depth", open.depth, then), same(line, "kind", block.kind, kind);
+    for (size_t i = 0; i < kept; i++)
+        same(line, "has begun", containers[i].count, 0);
+}
+
+/* Items that begin with a blank line, those of the second line of a container, and footnote definitions, where they are asked for. */
+static void open_items(void) {
+    in_items(__LINE__, "\n", true, 1, 0, 0, 0, MDS_BLOCK_BLANK);
+    in_items(__LINE__, "\n", false, 1, 0, 1, 1, MDS_BLOCK_BLANK);
+    in_items(__LINE__, "  a\n", true, 1, 0, 1, 1, MDS_BLOCK_PARAGRAPH);
+    in_items(__LINE__, "    - a\n", false, 2, 0, 2, 3, MDS_BLOCK_PARAGRAPH);
+    in_items(__LINE__, "a\n", false, 2, 0, 0, 0, MDS_BLOCK_PARAGRAPH);
+    in_items(__LINE__, "[^a]: b\n", false, 0, 0, 0, 0, MDS_BLOCK_PARAGRAPH);
+    in_items(__LINE__, "[^a]: b\n", false, 0, MDS_FOOTNOTES, 0, 1, MDS_BLOCK_PARAGRAPH);
+    struct mds_open_blocks open = {0, 0, 0};
+    struct mds_block block, item;
+    SAME(mds_block_line(OF("-\n\n"), false, &item, 1, &open, &block).status, MDS_OK);
+    SAME(item.count, 1), SAME(open.depth, 1), SAME(block.kind, MDS_BLOCK_BLANK), SAME(block.lines, 1);
+    SAME(mds_block_line(OF("\n  foo\n"), false, &item, 1, &open, &block).kept, 0), SAME(open.depth, 0);
+    SAME(mds_block_line(OF(""), false, &item, 1, &open, &block).status, MDS_NOTHING);
+    SAME(mds_block_line(NULL, 0, true, NULL, 0, &open, &block).status, MDS_NOTHING);
 }
 
 static uint64_t seed = 9;
@@ -265,6 +404,7 @@ static void made_pages(void) {
         SAME(place, length), SAME(depth, 0);
         if (count <= MOST)
             contents_of(0, page, length, blocks, count);
+        is_fed(0, page, length, blocks);
     }
 }
 
@@ -296,9 +436,10 @@ static void wrong_numbers(void) {
 }
 
 int main(void) {
-    examples(), places(), refusals();
-    at_front = true;
-    examples(), places(), refusals();
+    for (size_t front = 0; front < 2; front++) {
+        at_front = front;
+        examples(), places(), refusals(), refused_lines(), open_items();
+    }
     made_pages(), wrong_numbers();
     return report("blocks");
 }

@@ -1,7 +1,7 @@
-/* Memory refused. Ten functions may answer MDS_NO_MEMORY: on each of their inputs here the first, second, .. request is refused
+/* Memory refused. Eleven functions may answer MDS_NO_MEMORY: on each of their inputs here the first, second, .. request is refused
  * until none is left, by itself and with all that follow. The call then answers MDS_NO_MEMORY, tells nothing more and writes
  * nothing, or it has the same answer as with ample memory; and it frees what it was given. The other functions make no request,
- * and neither do these ten where the header says so. The linker puts the functions __wrap_.. in the place of the C library's
+ * and neither do these eleven where the header says so. The linker puts the functions __wrap_.. in the place of the C library's
  * (--wrap). */
 #include "checks.h"
 
@@ -197,6 +197,29 @@ static struct told many_lists(size_t room) {
     return of_lists(page, sizeof(page), room);
 }
 
+static struct told of_line(const char *text, size_t length, size_t room) {
+    struct mds_open_blocks open = {0, 0, 0};
+    struct mds_block block = {.bytes = 0};
+    size_t capacity = room / sizeof(struct mds_block);
+    struct mds_block *containers = writable(BUFFER, capacity * sizeof(*containers));
+    struct mds_line_block found = mds_block_line(given(BYTES, text, length), length, true, containers, capacity, &open, &block);
+    return (struct told){found.status, {found.kept, found.depth, block.bytes}};
+}
+
+static struct told line(size_t room) {
+    return of_line("> - [b]: c\nd\n", 13, room);
+}
+
+static struct told line_of_table(size_t room) {
+    return of_line("> |a|b|\n> |-|-|\n", 16, room);
+}
+
+static struct told deep_line(size_t room) {
+    static char text[MANY / 3];
+    memset(text, '>', sizeof(text));
+    return of_line(text, sizeof(text), room);
+}
+
 static struct told content_in(const char *page, size_t length, size_t depth, size_t room) {
     static struct mds_block quotes[MANY];
     const struct mds_block leaf = {.kind = MDS_BLOCK_PARAGRAPH, .bytes = length};
@@ -312,11 +335,12 @@ static void asking(void) {
     ASKS(html_run), ASKS(long_html_run);
     ASKS(blocks), ASKS(blocks_of_table), ASKS(deep_blocks);
     ASKS(lists), ASKS(many_lists);
+    ASKS(line), ASKS(line_of_table), ASKS(deep_line);
     ASKS(content_in_many), ASKS(long_content);
     ASKS(inlines), ASKS(inlines_with_labels), ASKS(inlines_with_many_labels);
 }
 
-/* What these ten need no memory for. */
+/* What these eleven need no memory for. */
 static void sparing(void) {
     ASKS_NOT(mds_unescape(OF("plain"), false, NULL, 0).status, MDS_TOO_SHORT);
     ASKS_NOT(mds_unescape(OF("\xff"), false, NULL, 0).status, MDS_NOT_UTF8);
@@ -345,6 +369,10 @@ static void sparing(void) {
     ASKS_NOT(mds_scan_inlines(OF("a"), (const struct mds_view[]){{"b", 1}, {"\xff", 1}}, 2, 0, NULL, 0).status, MDS_NOT_UTF8);
     const struct mds_block leaf = {.kind = MDS_BLOCK_PARAGRAPH, .start = 1, .bytes = 2}, end = {.kind = MDS_BLOCK_END};
     ASKS_NOT(mds_scan_blocks(OF(""), NULL, 0).status, MDS_OK);
+    struct mds_open_blocks open = {0, 0, 0};
+    struct mds_block block;
+    ASKS_NOT(mds_block_line(OF("# a\nb\n"), false, NULL, 0, &open, &block).status, MDS_OK);
+    ASKS_NOT(mds_block_line(OF("> a"), false, NULL, 0, &open, &block).status, MDS_NOTHING);
     ASKS_NOT(mds_block_content(OF("\na\n"), &leaf, NULL, 0, 0, writable(BUFFER, 1), 1).status, MDS_OK);
     ASKS_NOT(mds_block_content(OF("\na\n"), &leaf, &end, 1, 0, writable(BUFFER, 1), 1).status, MDS_BAD_KIND);
     ASKS_NOT(mds_block_content(OF("\na\n"), &end, NULL, 0, 0, writable(BUFFER, 1), 1).status, MDS_BAD_KIND);

@@ -49,6 +49,9 @@ export const BLOCK_HTML = 9;
 export const BLOCK_TABLE = 10;
 export const BLOCK_DEFINITION = 11;
 export const BLOCK_PARAGRAPH = 12;
+export const BLOCK_FOOTNOTE = 13;
+
+export const FOOTNOTES = 1;
 
 export const INLINE_TEXT = 0;
 export const INLINE_ESCAPE = 1;
@@ -251,6 +254,24 @@ export const STRUCTS = {
             count: from.size(at + 8),
         }),
     },
+    openBlocks: {
+        size: 16,
+        fields: [["depth", 0, "size_t"], ["extensions", 8, "uint32_t"], ["state", 12, "uint32_t"]],
+        read: (from, at) => ({
+            depth: from.size(at),
+            extensions: from.uint32(at + 8),
+            state: from.uint32(at + 12),
+        }),
+    },
+    lineBlock: {
+        size: 24,
+        fields: [["status", 0, "uint32_t"], ["kept", 8, "size_t"], ["depth", 16, "size_t"]],
+        read: (from, at) => ({
+            status: from.uint32(at),
+            kept: from.size(at + 8),
+            depth: from.size(at + 16),
+        }),
+    },
     list: {
         size: 32,
         fields: [["delimiter", 0, "uint8_t"], ["isLoose", 1, "bool"], ["start", 4, "uint32_t"], ["depth", 8, "size_t"], ["line", 16, "size_t"], ["end", 24, "size_t"]],
@@ -420,6 +441,7 @@ export const FUNCTIONS = {
     scanTableHead: ["mds_scan_table_head", "text", ["pointer", "size_t", "pointer", "size_t"]],
     scanBlocks: ["mds_scan_blocks", "blocks", ["pointer", "size_t", "pointer", "size_t"]],
     blockContent: ["mds_block_content", "text", ["pointer", "size_t", "pointer", "pointer", "size_t", "size_t", "pointer", "size_t"]],
+    blockLine: ["mds_block_line", "lineBlock", ["pointer", "size_t", "bool", "pointer", "size_t", "pointer", "pointer"]],
     scanLists: ["mds_scan_lists", "blocks", ["pointer", "size_t", "pointer", "size_t"]],
     scanInlines: ["mds_scan_inlines", "inlines", ["pointer", "size_t", "pointer", "size_t", "uint32_t", "pointer", "size_t"]],
     scanLinkDest: ["mds_scan_link_dest", "part", ["pointer", "size_t", "size_t", "size_t"]],

@@ -7,7 +7,8 @@ import { Source } from "./source.mjs";
 /** @typedef {"blank" | RealKind} BlockKind blank lines in a row are no block, and come as one */
 /** @typedef {{ kind: "quote", place: number }} BlockQuote its marker stands at the place (5.1) */
 /** @typedef {{ kind: "item", place: number, delimiter: string, start: number, width: number }} Item (5.2) */
-/** @typedef {BlockQuote | Item} Container */
+/** @typedef {{ kind: "footnote", place: number }} Footnote a footnote definition, where it is asked for (GitHub) */
+/** @typedef {BlockQuote | Item | Footnote} Container */
 /** @typedef {{ delimiter: string, start: number, isLoose: boolean, depth: number, line: number, lines: number }} List (5.3) */
 
 /** @type {Record<number, BlockKind>} */
@@ -66,7 +67,7 @@ export class Leaf {
     #content;
 
     /**
-     * @param {Source<Made>} source
+     * @param {{ placeOf: (byte: number) => number }} source
      * @param {number} from where the page begins, in bytes
      * @param {any} told
      * @param {Container[]} containers
@@ -203,7 +204,7 @@ export class Pages extends Source {
      */
     #leaf(from, to, rows, index, told, open, kept) {
         const structs = [index, ...open.map((it) => it.index)].map((it) => rows.row(it));
-        const content = () => this.#content(from, to, structs, kept, told.bytes);
+        const content = () => this.contentOf(from, to, structs, kept, told.bytes);
         return new Leaf(this, from, told, open.map((it) => it.container), kept, content);
     }
 
@@ -213,20 +214,19 @@ export class Pages extends Source {
      * @returns {Container}
      */
     #container(from, told) {
-        const place = this.placeOf(from + told.place);
-        if (told.kind === c.BLOCK_QUOTE) return { kind: "quote", place };
-        return { kind: "item", place, delimiter: String.fromCharCode(told.byte), start: told.number, width: told.width };
+        return containerOf(told, this.placeOf(from + told.place));
     }
 
     /**
-     * The content of a leaf block, whose struct stands before those of its containers.
+     * The content of a leaf block of the page between two places in bytes, whose struct stands before those of its containers.
+     * @package
      * @param {number} from
      * @param {number} to
      * @param {Uint8Array[]} structs
      * @param {number} kept
      * @param {number} size
      */
-    #content(from, to, structs, kept, size) {
+    contentOf(from, to, structs, kept, size) {
         for (let room = size; ; ) {
             this.engine.bring(this.block);
             const at = this.engine.room(structs.length * SIZE);
@@ -241,6 +241,18 @@ export class Pages extends Source {
             room = length;
         }
     }
+}
+
+/**
+ * A container that begins at the place.
+ * @param {any} told
+ * @param {number} place
+ * @returns {Container}
+ */
+export function containerOf(told, place) {
+    if (told.kind === c.BLOCK_QUOTE) return { kind: "quote", place };
+    if (told.kind === c.BLOCK_FOOTNOTE) return { kind: "footnote", place };
+    return { kind: "item", place, delimiter: String.fromCharCode(told.byte), start: told.number, width: told.width };
 }
 
 /**

@@ -100,7 +100,8 @@ from .line_scanners import (
     scan_while,
     scan_whitespace_in_line,
 )
-from .pages import Block, BlockKind, BlockQuote, Container, Item, ListBlock, scan_blocks, scan_lists
+from .pages import Block, BlockKind, BlockQuote, Container, FootnoteDefinition, Item, ListBlock, scan_blocks, scan_lists
+from .readers import BlockReader, read_blocks
 from .runs import CallKind, LineAnswer, line_rest, run_inline_html, run_line
 from .skips import Skips
 
@@ -112,12 +113,14 @@ __all__ = [
     "Block",
     "BlockKind",
     "BlockQuote",
+    "BlockReader",
     "CallKind",
     "Container",
     "DelimiterRun",
     "EmptyError",
     "Entity",
     "Fence",
+    "FootnoteDefinition",
     "HtmlBlockKind",
     "HtmlScanGuard",
     "Indent",
@@ -164,6 +167,7 @@ __all__ = [
     "line_rest",
     "lines",
     "no_hrule_before",
+    "read_blocks",
     "run_inline_html",
     "run_line",
     "scan_atx_heading",

@@ -52,6 +52,9 @@ BLOCK_HTML = 9
 BLOCK_TABLE = 10
 BLOCK_DEFINITION = 11
 BLOCK_PARAGRAPH = 12
+BLOCK_FOOTNOTE = 13
+
+FOOTNOTES = 1
 
 INLINE_TEXT = 0
 INLINE_ESCAPE = 1
@@ -293,6 +296,28 @@ class Blocks(Structure):
     ]
 
 
+class OpenBlocks(Structure):
+    depth: int
+    extensions: int
+    state: int
+    _fields_ = [
+        ("depth", c_size_t),
+        ("extensions", c_uint32),
+        ("state", c_uint32),
+    ]
+
+
+class LineBlock(Structure):
+    status: int
+    kept: int
+    depth: int
+    _fields_ = [
+        ("status", c_uint32),
+        ("kept", c_size_t),
+        ("depth", c_size_t),
+    ]
+
+
 class List(Structure):
     delimiter: int
     is_loose: bool
@@ -494,6 +519,7 @@ FUNCTIONS: dict[str, tuple[Any, tuple[Any, ...]]] = {
     "scan_table_head": (Text, (c_void_p, c_size_t, c_void_p, c_size_t)),
     "scan_blocks": (Blocks, (c_void_p, c_size_t, c_void_p, c_size_t)),
     "block_content": (Text, (c_void_p, c_size_t, c_void_p, c_void_p, c_size_t, c_size_t, c_void_p, c_size_t)),
+    "block_line": (LineBlock, (c_void_p, c_size_t, c_bool, c_void_p, c_size_t, c_void_p, c_void_p)),
     "scan_lists": (Blocks, (c_void_p, c_size_t, c_void_p, c_size_t)),
     "scan_inlines": (Inlines, (c_void_p, c_size_t, c_void_p, c_size_t, c_uint32, c_void_p, c_size_t)),
     "scan_link_dest": (Part, (c_void_p, c_size_t, c_size_t, c_size_t)),

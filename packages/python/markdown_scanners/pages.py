@@ -49,7 +49,13 @@ class Item(NamedTuple):
     width: int  #: how many columns its later lines are indented by
 
 
-Container = Union[BlockQuote, Item]
+class FootnoteDefinition(NamedTuple):
+    """A footnote definition, where it is asked for. (GitHub)"""
+
+    place: int  #: where its marker stands
+
+
+Container = Union[BlockQuote, Item, FootnoteDefinition]
 
 
 class Block(Generic[Made]):
@@ -153,19 +159,21 @@ def _leaves(page: tuple[Any, int, Optional[int]], origin: int, blocks: Any, coun
         elif kind in _KINDS:
             if same is None:
                 same = tuple(containers), tuple(began)
-            yield _leaf(page, origin, it, kept, *same)
+            yield leaf_of(page, origin, it, kept, *same)
             kept = len(began)
         else:
             began.append(it)
-            containers.append(_container(origin + it.place, it))
+            containers.append(container_of(origin + it.place, it))
             same = None
 
 
-def _container(place: int, it: Any) -> Container:
+def container_of(place: int, it: Any) -> Container:
+    if it.kind == _c.BLOCK_FOOTNOTE:
+        return FootnoteDefinition(place)
     return BlockQuote(place) if it.kind == _c.BLOCK_QUOTE else Item(place, it.byte, it.number, it.width)
 
 
-def _leaf(page: Any, origin: int, it: Any, kept: int, containers: tuple[Container, ...], began: tuple[Any, ...]) -> Block[Any]:
+def leaf_of(page: Any, origin: int, it: Any, kept: int, containers: tuple[Container, ...], began: tuple[Any, ...]) -> Block[Any]:
     made: Block[Any] = Block()
     made.kind, made.number, made.indent = _KINDS[it.kind], it.number, it.indent
     made.containers, made.kept = containers, kept

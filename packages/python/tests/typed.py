@@ -25,6 +25,11 @@ def of_bytes(page: bytes) -> None:
     assert_type([it.containers for it in mds.scan_blocks(page)], list[tuple[mds.Container, ...]])
 
 
+def of_pieces(pieces: list[bytes]) -> None:
+    assert_type(mds.read_blocks(pieces, footnotes=True), Iterator[mds.Block[bytes]])
+    assert_type(mds.BlockReader().feed(pieces[0]), list[mds.Block[bytes]])
+
+
 def of_buffers(array: bytearray, view: memoryview, mapped: mmap) -> None:
     assert_type(mds.unescape(array), bytes)
     assert_type(mds.label_key(view), bytes)

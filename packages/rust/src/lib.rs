@@ -24,7 +24,9 @@ pub use inline::*;
 pub use inlines::{scan_inlines, Inline, InlineExtensions, InlineKind, Inlines, Link, LinkTarget};
 pub use labels::*;
 pub use line::LineStart;
-pub use pages::{scan_blocks, scan_lists, Block, BlockKind, Blocks, Container, ListBlock};
+pub use pages::{
+    scan_blocks, scan_lists, Block, BlockExtensions, BlockKind, BlockReader, Blocks, Container, ListBlock,
+};
 pub use raw::Skip;
 pub use runs::{line_rest, run_inline_html, run_line, HtmlRun, HtmlStop, LineAnswer, LineCall, LineRun, LineStop};
 pub use spans::*;

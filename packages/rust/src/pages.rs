@@ -52,6 +52,18 @@ pub enum Container {
         /// How many columns its later lines are indented by.
         width: u8,
     },
+    /// A footnote definition, where it is asked for. (GitHub)
+    Footnote {
+        /// Where its marker stands.
+        place: usize,
+    },
+}
+
+/// Which extensions of CommonMark's blocks are asked for; by default none.
+#[derive(Clone, Copy, Debug, Default, PartialEq, Eq, Hash)]
+pub struct BlockExtensions {
+    /// `[^label]:` begins a footnote definition, as on GitHub.
+    pub footnotes: bool,
 }
 
 /// A leaf block, in its containers.
@@ -79,6 +91,20 @@ pub struct Block<'a> {
 struct Open {
     told: Vec<ffi::Block>,
     containers: Vec<Container>,
+}
+
+impl Open {
+    /// A container begins in those that are open.
+    fn push(&mut self, told: ffi::Block, place: usize) {
+        self.told.push(told);
+        self.containers.push(container_of(&told, place));
+    }
+
+    /// All but the first ones end.
+    fn truncate(&mut self, depth: usize) {
+        self.told.truncate(depth);
+        self.containers.truncate(depth);
+    }
 }
 
 impl Block<'_> {
@@ -159,12 +185,10 @@ impl<'a> Iterator for Blocks<'a> {
             }
             let open = Arc::make_mut(&mut self.open);
             if told.kind == ffi::BLOCK_END {
-                open.told.pop();
-                open.containers.pop();
-                self.kept = open.told.len();
+                self.kept = open.told.len().saturating_sub(1);
+                open.truncate(self.kept);
             } else {
-                open.told.push(told);
-                open.containers.push(container_of(&told));
+                open.push(told, told.place);
             }
         }
     }
@@ -187,12 +211,12 @@ impl<'a> Blocks<'a> {
     }
 }
 
-fn container_of(told: &ffi::Block) -> Container {
-    let place = told.place;
-    if told.kind == ffi::BLOCK_QUOTE {
-        return Container::Quote { place };
+fn container_of(told: &ffi::Block, place: usize) -> Container {
+    match told.kind {
+        ffi::BLOCK_QUOTE => Container::Quote { place },
+        ffi::BLOCK_FOOTNOTE => Container::Footnote { place },
+        _ => Container::Item { place, delimiter: told.byte, start: told.number, width: told.width },
     }
-    Container::Item { place, delimiter: told.byte, start: told.number, width: told.width }
 }
 
 /// The kind of a leaf block.
@@ -211,6 +235,133 @@ fn kind_of(told: &ffi::Block) -> Option<BlockKind> {
         ffi::BLOCK_PARAGRAPH => BlockKind::Paragraph,
         _ => return None,
     })
+}
+
+/// Reads a page that comes piece by piece, of bytes that may end anywhere. It keeps what is not told yet, and the containers that
+/// are open, so that it has memory for the longest block and the deepest nesting.
+#[derive(Clone, Debug, Default)]
+pub struct BlockReader {
+    text: Vec<u8>,
+    /// How much of the text is told, and how many bytes have to be left before it is read again.
+    used: usize,
+    wanted: usize,
+    has_ended: bool,
+    page: ffi::OpenBlocks,
+    room: Vec<ffi::Block>,
+    open: Arc<Open>,
+    /// How much of the page is told.
+    start: usize,
+    line: usize,
+}
+
+/// Of so many bytes a text is read again with each piece, and a longer one once it is twice as long.
+const SHORT: usize = 4096;
+
+impl BlockReader {
+    /// Before the first piece of a page.
+    ///
+    /// ```
+    /// use markdown_scanners::{BlockExtensions, BlockReader, Container};
+    /// let mut reader = BlockReader::new(BlockExtensions { footnotes: true });
+    /// reader.feed(b"[^a]: b\n");
+    /// reader.end();
+    /// assert_eq!(reader.next_block().unwrap().containers(), [Container::Footnote { place: 0 }]);
+    /// ```
+    #[must_use]
+    pub fn new(extensions: BlockExtensions) -> BlockReader {
+        let extensions = if extensions.footnotes { ffi::FOOTNOTES } else { 0 };
+        BlockReader { page: ffi::OpenBlocks { extensions, ..ffi::OpenBlocks::default() }, ..BlockReader::default() }
+    }
+
+    /// Takes the next bytes of the page.
+    ///
+    /// ```
+    /// let mut reader = markdown_scanners::BlockReader::default();
+    /// reader.feed(b"# A\n> b\n");
+    /// assert_eq!(reader.next_block().unwrap().content(), b"A");
+    /// assert!(reader.next_block().is_none());
+    /// ```
+    pub fn feed(&mut self, bytes: &[u8]) {
+        self.text.drain(..self.used);
+        self.used = 0;
+        self.text.extend_from_slice(bytes);
+    }
+
+    /// The page has ended.
+    ///
+    /// ```
+    /// let mut reader = markdown_scanners::BlockReader::default();
+    /// reader.feed(b"a");
+    /// assert!(reader.next_block().is_none());
+    /// reader.end();
+    /// assert_eq!(reader.next_block().unwrap().content(), b"a");
+    /// ```
+    pub fn end(&mut self) {
+        self.has_ended = true;
+    }
+
+    /// The next leaf block, once what has come of the page shows where it ends. It is as [`scan_blocks`] has it of the whole page,
+    /// with places of the whole page; but a paragraph that begins with link reference definitions is one block, with these at
+    /// the front of its content.
+    ///
+    /// ```
+    /// let mut reader = markdown_scanners::BlockReader::default();
+    /// reader.feed(b"# A\n> b\n");
+    /// assert_eq!(reader.next_block().unwrap().range, 0..4);
+    /// reader.feed(b"c\n# D\n");
+    /// let block = reader.next_block().unwrap();
+    /// assert_eq!((block.content(), block.lines.clone(), block.containers().len()), (b"b\nc".to_vec(), 1..3, 1));
+    /// ```
+    pub fn next_block(&mut self) -> Option<Block<'_>> {
+        let left = self.text.len() - self.used;
+        if !self.has_ended && left < self.wanted {
+            return None;
+        }
+        let mut told = ffi::Block::default();
+        let found = self.read(&mut told);
+        let Some(kind) = kind_of(&told).filter(|_| found.status == ffi::OK) else {
+            self.wanted = if left > SHORT { left.saturating_mul(2) } else { 0 };
+            return None;
+        };
+        self.wanted = 0;
+        Some(self.leaf(kind, told, found))
+    }
+
+    /// The next block, with room for its containers.
+    fn read(&mut self, told: &mut ffi::Block) -> ffi::LineBlock {
+        loop {
+            let text = &self.text[self.used..];
+            let found = raw::block_line(text, self.has_ended, &mut self.room, &mut self.page, told);
+            if found.status != ffi::TOO_SHORT {
+                return found;
+            }
+            self.room.resize(found.depth.saturating_mul(2), ffi::Block::default());
+        }
+    }
+
+    fn leaf(&mut self, kind: BlockKind, told: ffi::Block, found: ffi::LineBlock) -> Block<'_> {
+        let (start, line, used) = (self.start, self.line, self.used);
+        let begun = &self.room[found.kept..found.depth];
+        if !begun.is_empty() || found.kept < self.open.told.len() {
+            let open = Arc::make_mut(&mut self.open);
+            open.truncate(found.kept);
+            begun.iter().for_each(|it| open.push(*it, start + it.place));
+        }
+        self.start += told.bytes;
+        self.line += told.lines;
+        self.used += told.bytes;
+        Block {
+            kind,
+            lines: line..self.line,
+            range: start..self.start,
+            indent: told.indent,
+            place: start + told.place,
+            kept: found.kept,
+            page: &self.text[used..self.used],
+            told,
+            open: self.open.clone(),
+        }
+    }
 }
 
 /// A list: items that follow each other in one container, of one bullet or delimiter. (5.3)

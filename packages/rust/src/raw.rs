@@ -311,6 +311,22 @@ pub(crate) fn scan_lists(bytes: &[u8], lists: &mut [ffi::List]) -> ffi::Blocks {
     found
 }
 
+pub(crate) fn block_line(
+    bytes: &[u8],
+    has_ended: bool,
+    containers: &mut [ffi::Block],
+    page: &mut ffi::OpenBlocks,
+    block: &mut ffi::Block,
+) -> ffi::LineBlock {
+    let (listed, capacity) = (containers.as_mut_ptr(), containers.len());
+    // SAFETY: each pointer and length are those of one slice, and what is written are `&mut` of their own.
+    let found = unsafe { ffi::mds_block_line(front(bytes), bytes.len(), has_ended, listed, capacity, page, block) };
+    if found.status == ffi::NO_MEMORY {
+        refused();
+    }
+    found
+}
+
 pub(crate) fn block_content(
     bytes: &[u8],
     block: &ffi::Block,

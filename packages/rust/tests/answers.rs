@@ -6,6 +6,8 @@ use std::panic::catch_unwind;
 
 use markdown_scanners::*;
 
+mod readers;
+
 #[test]
 fn nothing() {
     assert_eq!(scan_eol(b""), Some(0));

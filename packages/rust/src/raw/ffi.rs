@@ -52,6 +52,9 @@ pub const BLOCK_HTML: u32 = 9;
 pub const BLOCK_TABLE: u32 = 10;
 pub const BLOCK_DEFINITION: u32 = 11;
 pub const BLOCK_PARAGRAPH: u32 = 12;
+pub const BLOCK_FOOTNOTE: u32 = 13;
+
+pub const FOOTNOTES: u32 = 1;
 
 pub const INLINE_TEXT: u32 = 0;
 pub const INLINE_ESCAPE: u32 = 1;
@@ -234,6 +237,22 @@ pub struct Blocks {
 
 #[repr(C)]
 #[derive(Clone, Copy, Debug, Default, PartialEq, Eq)]
+pub struct OpenBlocks {
+    pub depth: usize,
+    pub extensions: u32,
+    pub state: u32,
+}
+
+#[repr(C)]
+#[derive(Clone, Copy, Debug, Default, PartialEq, Eq)]
+pub struct LineBlock {
+    pub status: u32,
+    pub kept: usize,
+    pub depth: usize,
+}
+
+#[repr(C)]
+#[derive(Clone, Copy, Debug, Default, PartialEq, Eq)]
 pub struct List {
     pub delimiter: u8,
     pub is_loose: bool,
@@ -412,6 +431,15 @@ extern "C" {
         buffer: *mut u8,
         capacity: usize,
     ) -> Text;
+    pub fn mds_block_line(
+        bytes: *const c_void,
+        length: usize,
+        has_ended: bool,
+        containers: *mut Block,
+        capacity: usize,
+        open: *mut OpenBlocks,
+        block: *mut Block,
+    ) -> LineBlock;
     pub fn mds_scan_lists(bytes: *const c_void, length: usize, lists: *mut List, capacity: usize) -> Blocks;
     pub fn mds_scan_inlines(
         text: *const c_void,

@@ -1,0 +1,290 @@
+//! The block at the front of a text, where the caller's containers are open. (CommonMark 0.31.2,
+//! chapters 3, 4 and 5)
+ghost use Rattle.std.specs.Prelude.{◌≡◌, ◌≤◌, ◌<◌, ◌⊎◌, ◌↔◌, ◌++◌, [], length, map, IsTrue, MatchBool, IfOk, OnOk};
+ghost use Rattle.markdown_blocks.specs.taken.Whole.{AreWhole};
+ghost use Rattle.markdown_scanners_c.specs.BlockLines.{AreOpen, IsLineOf, IsLineTold, blocks_asked_by, if_told, no_line, page_after};
+ghost use Rattle.markdown_scanners_c.specs.BlockLines.{begun_told, open_in, open_told, opened_told, outer_in, step_told};
+ghost use Rattle.markdown_scanners_c.specs.Buffer.{IsWritten};
+ghost use Rattle.markdown_scanners_c.specs.Status.{ok, no_memory, nothing};
+
+use crate::pages::{
+    BLOCK_QUOTE, Block, BlockCount, FOOTNOTE, are_containers, container_told, kind_told, of_kind,
+    write_front,
+};
+use crate::status::{BAD_KIND, BAD_STATE, NO_MEMORY, NOTHING, OK};
+use markdown_blocks::containers::{BlockExtensions, Container, ListItem};
+use markdown_blocks::walk::{Step, Walk};
+use markdown_blocks::whole::whole_lines;
+use std::alloc::{AllocError, Global};
+
+// Footnote definitions, of `enum mds_block_extension`; there is no other extension.
+const FOOTNOTES: u32 = 1;
+
+/// `struct mds_open_blocks` of C: how many of the caller's containers are open, which extensions are
+/// on, and what else a later version keeps from line to line.
+#[repr(C)]
+#[derive(Clone, Copy)]
+pub struct OpenBlocks {
+    pub depth: usize,
+    pub extensions: u32,
+    pub state: u32,
+}
+
+/// `struct mds_line_block` of C: how many of the containers that were open a line goes on with, and
+/// how many are open then.
+#[repr(C)]
+pub struct LineBlock {
+    pub status: u32,
+    pub kept: usize,
+    pub depth: usize,
+}
+
+/// The block at the front of the text, if there is one that nothing after the text changes; its
+/// containers are open then.
+#[unsafe(no_mangle)]
+pub extern "C" fn mds_block_line(
+    alloc: Global,
+    text: &[u8],
+    has_ended: bool,
+    containers: &mut [Block],
+    page: &mut OpenBlocks,
+    block: &mut Block,
+) -> LineBlock
+    ensures line { IsLineTold text.now has_ended page.old containers.old containers.new
+        block.old block.new result }
+    ensures page { page.new ≡ page_after page.old result }
+    ensures some { result.status ≡ ok → 0 < block.new.bytes }
+    ensures within { result.status ≡ ok → block.new.bytes ≤ length text.now }
+    ensures all { result.status ≡ nothing → IsTrue has_ended → text.now ≡ [] }
+{
+    let told = read_line(alloc, text, has_ended, containers, page, block);
+    if told.status == OK {
+        page.depth = told.depth;
+    }
+    told
+}
+
+// No block, but a status.
+fn no_line(status: u32) -> LineBlock
+    ensures { result ≡ no_line status }
+{
+    LineBlock {
+        status,
+        kept: 0,
+        depth: 0,
+    }
+}
+
+// The block at the front of the text, and its containers, where what is given as open can be.
+#[tactic(auto, unfolding(crate::specs::BlockLines::IsLineTold))]
+fn read_line(
+    alloc: Global,
+    text: &[u8],
+    has_ended: bool,
+    containers: &mut [Block],
+    page: &OpenBlocks,
+    block: &mut Block,
+) -> LineBlock
+    ensures line { IsLineTold text.now has_ended page.now containers.old containers.new
+        block.old block.new result }
+    ensures some { result.status ≡ ok → 0 < block.new.bytes }
+    ensures within { result.status ≡ ok → block.new.bytes ≤ length text.now }
+    ensures all { result.status ≡ nothing → IsTrue has_ended → text.now ≡ [] }
+{
+    if page.extensions > FOOTNOTES {
+        return no_line(BAD_KIND);
+    }
+    if !are_open(containers, page) {
+        return no_line(BAD_STATE);
+    }
+    let lines = &text[..front_of(text, has_ended)];
+    let Ok(walk) = walk_in(alloc, containers, page) else {
+        return no_line(NO_MEMORY);
+    };
+    write_line(alloc, walk, lines, has_ended, containers, block)
+}
+
+// Whether so many of the caller's containers can be open.
+fn are_open(containers: &[Block], page: &OpenBlocks) -> bool
+    ensures { IsTrue result ↔ AreOpen containers.now page.now }
+{
+    if page.depth > containers.len() {
+        return false;
+    }
+    are_containers(&containers[..page.depth])
+}
+
+// How many bytes at the front of the text are lines that no byte behind it changes.
+fn front_of(text: &[u8], has_ended: bool) -> usize
+    ensures front { MatchBool has_ended (result ≡ length text.now) (AreWhole text.now result) }
+    ensures within { result ≤ length text.now }
+{
+    if has_ended {
+        return text.len();
+    }
+    whole_lines(text)
+}
+
+// Where these of the caller's containers are open.
+fn walk_in(alloc: Global, containers: &[Block], page: &OpenBlocks) -> Result<Walk, AllocError>
+    requires { page.now.depth ≤ length containers.now }
+    ensures { IfOk result (λ walk. walk ≡ outer_in containers.now page.now) }
+{
+    let outer = all_open_in(alloc, &containers[..page.depth])?;
+    Ok(Walk::resume(alloc, blocks_asked_by(page.extensions), outer))
+}
+
+// What these bits ask for.
+fn blocks_asked_by(extensions: u32) -> BlockExtensions
+    ensures { result ≡ blocks_asked_by extensions }
+{
+    BlockExtensions {
+        footnotes: extensions == FOOTNOTES,
+    }
+}
+
+// The containers that are open.
+fn all_open_in(alloc: Global, blocks: &[Block]) -> Result<Vec<Container>, AllocError>
+    ensures { IfOk result (λ containers. containers.items ≡ map open_in blocks.now) }
+{
+    blocks.iter().map(|block| open_in(block)).collect(alloc)
+}
+
+// The container that is open.
+fn open_in(block: &Block) -> Container
+    ensures { result ≡ open_in block.now }
+{
+    match block.kind {
+        BLOCK_QUOTE => Container::Quote,
+        FOOTNOTE => Container::Footnote,
+        _ => Container::Item(ListItem {
+            delimiter: block.byte,
+            begun: block.count == 1,
+            width: block.width,
+            start: block.number,
+        }),
+    }
+}
+
+// A container that is open, whose marker stands at the place, as C has it.
+fn open_told(container: Container, place: usize) -> Block
+    ensures { result ≡ open_told container place }
+{
+    let told = container_told(container, place);
+    match container {
+        Container::Item(item) if item.begun => Block { count: 1, ..told },
+        _ => told,
+    }
+}
+
+// The block at the front of the lines, and its containers.
+fn write_line(
+    alloc: Global,
+    walk: Walk,
+    lines: &[u8],
+    has_ended: bool,
+    containers: &mut [Block],
+    block: &mut Block,
+) -> LineBlock
+    ensures line { IsLineOf walk lines.now has_ended containers.old containers.new
+        block.old block.new result }
+    ensures some { result.status ≡ ok → 0 < block.new.bytes }
+    ensures within { result.status ≡ ok → block.new.bytes ≤ length lines.now }
+    ensures all { result.status ≡ nothing → IsTrue has_ended → lines.now ≡ [] }
+{
+    let mut walk = walk;
+    let mut content = Vec::new(alloc);
+    match walk.next_block(alloc, &mut content, lines, has_ended) {
+        Ok(Some(step)) => write_step(alloc, step, walk.containers(), containers, block),
+        Ok(None) => no_line(NOTHING),
+        Err(_) => no_line(NO_MEMORY),
+    }
+}
+
+// The containers that are open after the step, and its block, where there is room for them.
+fn write_step(
+    alloc: Global,
+    step: Step,
+    outer: &[Container],
+    containers: &mut [Block],
+    block: &mut Block,
+) -> LineBlock
+    requires { step.kept ≤ length outer.now }
+    ensures { ((result ≡ no_line no_memory) × (containers.new ≡ containers.old)
+        × (block.new ≡ block.old))
+        ⊎ ((result.kept ≡ step.entry.kept)
+        × (block.new ≡ if_told result (step_told step.entry) block.old)
+        × IsWritten (opened_told step.entry outer.now) containers.old containers.new
+        result.status result.depth) }
+{
+    let found = step_told(&step);
+    let kept = step.kept;
+    let Ok(told) = opened_told(alloc, step, outer) else {
+        return no_line(NO_MEMORY);
+    };
+    let BlockCount {
+        status,
+        count: depth,
+    } = write_front(&told, containers);
+    if status == OK {
+        *block = found;
+    }
+    LineBlock {
+        status,
+        kept,
+        depth,
+    }
+}
+
+// The containers that are open after the step, as C has them.
+fn opened_told(
+    alloc: Global,
+    step: Step,
+    containers: &[Container],
+) -> Result<Vec<Block>, AllocError>
+    requires { step.kept ≤ length containers.now }
+    ensures { IfOk result (λ told. told.items ≡ opened_told step.entry containers.now) }
+{
+    let kept = step.kept;
+    let mut told = kept_told(alloc, &containers[..kept])?;
+    add_begun(&mut told, step, &containers[kept..])?;
+    Ok(told)
+}
+
+// Those that its line goes on with.
+fn kept_told(alloc: Global, containers: &[Container]) -> Result<Vec<Block>, AllocError>
+    ensures { IfOk result (λ told. told.items ≡ map (λ c. open_told c 0) containers.now) }
+{
+    containers
+        .iter()
+        .map(|container| open_told(*container, 0))
+        .collect(alloc)
+}
+
+// Adds those that the step begins.
+fn add_begun(told: &mut Vec<Block>, step: Step, containers: &[Container]) -> Result<(), AllocError>
+    ensures { OnOk result (told.new.items
+        ≡ told.old.items ++ begun_told step.entry.start containers.now) }
+{
+    let mut step = step;
+    let mut rest = containers;
+    while let [container, inner @ ..] = rest {
+        let place = step.pass_marker();
+        told.push(open_told(*container, place))?;
+        rest = inner;
+    }
+    Ok(())
+}
+
+// A block whose lines stand at the front of the text, as C has it.
+fn step_told(step: &Step) -> Block
+    ensures { result ≡ step_told step.now }
+{
+    Block {
+        indent: step.indent,
+        lines: step.block.taken.lines,
+        bytes: step.block.taken.bytes,
+        place: step.line.len().saturating_sub(step.text.len()),
+        ..of_kind(kind_told(step.block.kind))
+    }
+}

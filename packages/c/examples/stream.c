@@ -1,0 +1,90 @@
+/* Prints the headings of a page while it is read from the standard input: the line of each, `#` as often as its level says, and its
+ * text. Its memory is that of the longest block and the deepest nesting.
+ * cc -Ipackages/c/include packages/c/examples/stream.c out/libmarkdown_scanners.a -o stream */
+#include "markdown_scanners.h"
+
+#include <stdio.h>
+#include <stdlib.h>
+#include <string.h>
+
+/* What is read of the page, of which so much is told, and how many lines are; and the containers that are open. */
+struct page {
+    uint8_t *text;
+    size_t told, length, room, line;
+    bool has_ended;
+    struct mds_block *containers;
+    size_t capacity;
+    struct mds_open_blocks open;
+};
+
+static void stop(const char *why) {
+    fprintf(stderr, "stream: %s\n", why);
+    exit(2);
+}
+
+static void *grown(void *old, size_t size) {
+    void *made = realloc(old, size > 0 ? size : 1);
+    if (!made)
+        stop("out of memory");
+    return made;
+}
+
+/* Lets go what is told, and reads until there is twice the text that is left, and more, or the input has ended. */
+static void read_more(struct page *page) {
+    page->length -= page->told;
+    memmove(page->text, page->text + page->told, page->length);
+    page->told = 0;
+    size_t wanted = page->length + (page->length < 4096 ? 4096 : page->length);
+    if (page->room < wanted)
+        page->text = grown(page->text, wanted), page->room = wanted;
+    size_t count = fread(page->text + page->length, 1, wanted - page->length, stdin);
+    page->length += count, page->has_ended = page->length < wanted;
+    if (ferror(stdin))
+        stop("the input can't be read");
+}
+
+/* Prints the text of a heading, whose lines stand at the front of what is not told. */
+static void print_heading(const struct page *page, const struct mds_block *block, size_t kept) {
+    uint8_t *buffer = grown(NULL, block->bytes); /* the content of a heading is no longer than its lines */
+    struct mds_text found = mds_block_content(
+        page->text + page->told, block->bytes, block, page->containers, page->open.depth, kept, buffer, block->bytes);
+    if (found.status != MDS_OK)
+        stop("out of memory");
+    printf("%zu: %.*s ", page->line + 1, (int)block->number, "######");
+    fwrite(buffer, 1, found.length, stdout);
+    putchar('\n');
+    free(buffer);
+}
+
+/* Tells the block at the front of what is not told, or answers that more is needed. */
+static bool tell_block(struct page *page) {
+    struct mds_block block;
+    struct mds_line_block found = mds_block_line(
+        page->text + page->told, page->length - page->told, page->has_ended, page->containers, page->capacity, &page->open, &block);
+    if (found.status == MDS_NOTHING)
+        return false;
+    if (found.status == MDS_TOO_SHORT) {
+        page->capacity = 2 * found.depth;
+        page->containers = grown(page->containers, page->capacity * sizeof(*page->containers));
+        return true;
+    }
+    if (found.status != MDS_OK)
+        stop("out of memory");
+    if (block.kind == MDS_BLOCK_HEADING || block.kind == MDS_BLOCK_SETEXT)
+        print_heading(page, &block, found.kept);
+    page->line += block.lines, page->told += block.bytes;
+    return true;
+}
+
+int main(void) {
+    struct page page = {.text = grown(NULL, 0)};
+    do {
+        read_more(&page);
+        while (tell_block(&page)) {
+        }
+    } while (!page.has_ended);
+    free(page.text), free(page.containers);
+    if (fflush(stdout) || ferror(stdout))
+        stop("the output can't be written");
+    return 0;
+}

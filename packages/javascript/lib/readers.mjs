@@ -1,0 +1,143 @@
+/** Pages that come piece by piece. Sections in brackets are those of CommonMark 0.31.2. */
+import * as c from "./c.mjs";
+import { Block } from "./engine.mjs";
+import { isAnswer } from "./errors.mjs";
+import { bytesOf } from "./given.mjs";
+import { containerOf, Leaf, Pages } from "./pages.mjs";
+
+const { size: SIZE } = c.STRUCTS.block;
+/** Of so many bytes a text is read again with each piece, and a longer one once it is twice as long. */
+const SHORT = 4096;
+
+/**
+ * Reads a page that comes piece by piece, and tells each leaf block once what has come shows where it ends. It keeps what is not
+ * told yet, and the containers that are open, so that it has memory for the longest block and the deepest nesting.
+ *
+ * A block is as `scanBlocks` has it of the whole page, with the places of the page's bytes, and its content as bytes; but a
+ * paragraph that begins with link reference definitions is one block, with these at the front of its content. (3, 4, 5)
+ */
+export class BlockReader {
+    #engine;
+    #extensions;
+    /** @type {Uint8Array[]} What is not told yet. */
+    #pieces = [];
+    /** How many bytes these have, and have to have before they are read again. */
+    #size = 0;
+    #wanted = 0;
+    /** @type {Leaf<Uint8Array>[]} What is told and not answered, as memory was refused then. */
+    #ready = [];
+    /** The structs of the containers that are open, with room for more, and the same as they began. */
+    #room = new Uint8Array(8 * SIZE);
+    /** @type {{ struct: Uint8Array, container: import("./pages.mjs").Container }[]} */
+    #open = [];
+    /** How much of the page is told. */
+    #start = 0;
+    #line = 0;
+
+    /**
+     * @param {import("./engine.mjs").Engine} engine
+     * @param {number} extensions
+     */
+    constructor(engine, extensions) {
+        this.#engine = engine;
+        this.#extensions = extensions;
+    }
+
+    /**
+     * Takes the next bytes of the page, which may end anywhere, or a string. Answers the blocks that are known to end.
+     * @param {string | Uint8Array} data
+     * @returns {Leaf<Uint8Array>[]}
+     */
+    feed(data) {
+        const piece = bytesOf("data", data);
+        this.#pieces.push(piece);
+        this.#size += piece.length;
+        return this.#size < this.#wanted ? [] : this.#told(false);
+    }
+
+    /**
+     * The page has ended. Answers the blocks that are left.
+     * @returns {Leaf<Uint8Array>[]}
+     */
+    close() {
+        return this.#told(true);
+    }
+
+    /** @param {boolean} hasEnded */
+    #told(hasEnded) {
+        const text = new Block(joined(this.#pieces));
+        const size = text.bytes.length;
+        try {
+            for (let found = this.#next(text, hasEnded); found; found = this.#next(text, hasEnded)) {
+                const at = size - this.#size;
+                this.#ready.push(this.#leaf(found, text.bytes.slice(at, at + found.leaf.bytes)));
+                this.#size -= found.leaf.bytes;
+            }
+        } finally {
+            this.#pieces = [text.bytes.slice(size - this.#size)];
+        }
+        this.#wanted = this.#size > SHORT ? 2 * this.#size : 0;
+        return this.#ready.splice(0);
+    }
+
+    /**
+     * The next block of what is not told of the text, or null.
+     * @param {Block} text
+     * @param {boolean} hasEnded
+     */
+    #next(text, hasEnded) {
+        const { heap, calls } = this.#engine;
+        const at = text.bytes.length - this.#size;
+        for (;;) {
+            this.#engine.bring(text);
+            const capacity = this.#room.length / SIZE;
+            const room = this.#engine.room(this.#room.length);
+            const open = this.#engine.rows("openBlocks", [{ depth: this.#open.length, extensions: this.#extensions, state: 0 }]);
+            const block = this.#engine.room(SIZE);
+            heap.bytes.set(this.#room, room);
+            const { status, kept, depth } = calls.blockLine(text.address + at, this.#size, hasEnded, room, capacity, open, block);
+            if (status === c.TOO_SHORT) {
+                const wider = new Uint8Array(2 * depth * SIZE);
+                wider.set(this.#room);
+                this.#room = wider;
+            } else if (!isAnswer(status)) return null;
+            else {
+                this.#room.set(heap.bytes.subarray(room, room + depth * SIZE));
+                const begun = Array.from({ length: depth - kept }, (_, it) => this.#engine.read("block", room + (kept + it) * SIZE));
+                return { kept, begun, leaf: this.#engine.read("block", block), struct: heap.bytes.slice(block, block + SIZE) };
+            }
+        }
+    }
+
+    /**
+     * The block that is told, with the containers that are open now.
+     * @param {{ kept: number, begun: any[], leaf: any, struct: Uint8Array }} found
+     * @param {Uint8Array} lines
+     */
+    #leaf({ kept, begun, leaf, struct }, lines) {
+        const start = this.#start;
+        const started = begun.map((told, index) => ({
+            struct: this.#room.slice((kept + index) * SIZE, (kept + index + 1) * SIZE),
+            container: containerOf(told, start + told.place),
+        }));
+        this.#open = [...this.#open.slice(0, kept), ...started];
+        const structs = [struct, ...this.#open.map((it) => it.struct)];
+        const content = () => new Pages(this.#engine, lines, "utf-8").contentOf(0, lines.length, structs, kept, lines.length);
+        const containers = this.#open.map((it) => it.container);
+        const told = { ...leaf, line: this.#line };
+        this.#start += leaf.bytes;
+        this.#line += leaf.lines;
+        return new Leaf({ placeOf: (byte) => byte }, start, told, containers, kept, content);
+    }
+}
+
+/** @param {Uint8Array[]} pieces */
+function joined(pieces) {
+    const all = new Uint8Array(pieces.reduce((sum, it) => sum + it.length, 0));
+    let at = 0;
+    for (const it of pieces) {
+        all.set(it, at);
+        at += it.length;
+    }
+    return all;
+}

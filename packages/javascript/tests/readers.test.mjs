@@ -1,0 +1,53 @@
+/** Pages that come piece by piece have the blocks of the whole page, on the pages of packages/c/tests/blocks.c. */
+import assert from "node:assert/strict";
+import { readFileSync } from "node:fs";
+import { test } from "node:test";
+import * as mds from "../markdown_scanners.mjs";
+import { MODULE } from "./module.mjs";
+import { TOP } from "./tree.mjs";
+
+const scanners = await mds.load(MODULE);
+const source = readFileSync(new URL("packages/c/tests/blocks.c", TOP), "utf8");
+const pages = [...source.matchAll(/^ {4}\{\d+, ((?:"(?:[^"\\]|\\.)*"\s*)+),/gm)]
+    .map(([, words]) => words.match(/"(?:[^"\\]|\\.)*"/g).map((it) => JSON.parse(it)).join(""));
+
+/** What a block is, and where it stands. */
+function told(block) {
+    const { kind, line, lines, start, stop, place, indent, level, htmlKind, fence, columns, containers, kept } = block;
+    return { kind, line, lines, start, stop, place, indent, level, htmlKind, fence, columns, containers, kept, content: `${Buffer.from(block.content())}` };
+}
+
+/** The blocks of the page, of which so many bytes come at a time. */
+function fed(page, size) {
+    const reader = scanners.blockReader();
+    const found = [];
+    for (let at = 0; at < page.length; at += size) found.push(...reader.feed(page.subarray(at, at + size)).map(told));
+    return [...found, ...reader.close().map(told)];
+}
+
+test("each page that has no definitions, in pieces of each size", () => {
+    const plain = pages.map((it) => Buffer.from(it)).filter((it) => !it.includes("]:"));
+    assert.ok(plain.length > 25);
+    for (const page of plain) {
+        const wanted = [...scanners.text(page).scanBlocks()].map(told);
+        for (let size = 1; size <= page.length; size++) assert.deepEqual(fed(page, size), wanted, `${page}`);
+    }
+});
+
+test("a paragraph that begins with definitions is one block, and footnotes are asked for", () => {
+    const [block, ...others] = scanners.blockReader().feed("[a]: b\nc\n# d\n");
+    assert.deepEqual([block.kind, block.lines, `${Buffer.from(block.content())}`, others], ["paragraph", 2, "[a]: b\nc", []]);
+    const reader = scanners.blockReader({ footnotes: true });
+    const [first, second] = [...reader.feed("[^a]: b\n\n"), ...reader.feed("    c"), ...reader.close()].filter((it) => it.kind === "paragraph");
+    assert.deepEqual([first.containers, second.containers, second.kept], [[{ kind: "footnote", place: 0 }], first.containers, 1]);
+    assert.throws(() => scanners.blockReader({ footnotes: 1 }), TypeError);
+    assert.throws(() => reader.feed(1), TypeError);
+});
+
+test("deep nesting, and a long block", () => {
+    const reader = scanners.blockReader();
+    const found = reader.feed(">".repeat(1000));
+    for (let it = 0; it < 10_000; it++) found.push(...reader.feed("a\n"));
+    const [block] = reader.close();
+    assert.deepEqual([found.length, block.containers.length, block.lines, block.content().length], [0, 1000, 10_000, 19_999]);
+});

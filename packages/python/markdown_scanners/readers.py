@@ -1,0 +1,108 @@
+"""Pages that come piece by piece. Sections in brackets are those of CommonMark 0.31.2."""
+from __future__ import annotations
+
+from ctypes import addressof
+from typing import Any, Callable, Iterable, Iterator
+
+from . import _c
+from ._library import function
+from ._pages import Buffer, flag, front
+from .errors import stated
+from .pages import Block, Container, container_of, leaf_of
+
+_block_line: Callable[..., Any] = function("block_line")
+
+_SHORT = 4096  #: a text of so many bytes is read again with each piece, and a longer one once it is twice as long
+
+
+class BlockReader:
+    r"""Reads a page that comes piece by piece, of bytes that may end anywhere, and tells each leaf block once what has come shows
+    where it ends. It keeps what is not told yet, and the containers that are open.
+
+    A block is as `scan_blocks` has it of the whole page, with places of the whole page; but a paragraph that begins with link
+    reference definitions is one block, with these at the front of its content.
+
+    >>> reader = BlockReader()
+    >>> [it.content() for it in reader.feed(b"# A\n> b\n")]
+    [b'A']
+    >>> [(it.content(), it.line, len(it.containers)) for it in reader.feed(b"c\n- d\n")]
+    [(b'b\nc', 1, 1)]
+    >>> [(it.content(), it.kept) for it in reader.close()]
+    [(b'd', 0)]
+    """
+
+    __slots__ = ("_pieces", "_size", "_wanted", "_ready", "_open", "_room", "_containers", "_began", "_start", "_line")
+
+    def __init__(self, *, footnotes: bool = False) -> None:
+        self._pieces: list[bytes] = []  # what is not told yet
+        self._size = self._wanted = 0  # how many bytes these have, and have to have before they are read again
+        self._ready: list[Block[bytes]] = []  # what is told and not answered, as memory was refused then
+        self._open = _c.OpenBlocks(0, _c.FOOTNOTES if flag("footnotes", footnotes) else 0, 0)
+        self._room = (_c.Block * 8)()
+        self._containers: tuple[Container, ...] = ()
+        self._began: tuple[Any, ...] = ()
+        self._start = self._line = 0  # how much of the page is told
+
+    def feed(self, data: Buffer) -> list[Block[bytes]]:
+        """Takes the next bytes of the page. Answers the blocks that are known to end."""
+        self._pieces.append(bytes(memoryview(data)))
+        self._size += len(self._pieces[-1])
+        return self._told(False) if self._size >= self._wanted else []
+
+    def close(self) -> list[Block[bytes]]:
+        """The page has ended. Answers the blocks that are left."""
+        return self._told(True)
+
+    def _told(self, has_ended: bool) -> list[Block[bytes]]:
+        text = b"".join(self._pieces)
+        address, size, _ = front(text, 0, None)
+        try:
+            while True:
+                at, leaf = size - self._size, _c.Block()
+                found = self._next(address + at, self._size, has_ended, leaf)
+                if found.status == _c.NOTHING:
+                    break
+                self._size -= leaf.bytes
+                self._ready.append(self._block(found, leaf, text[at : at + leaf.bytes]))
+        finally:
+            self._pieces = [text[size - self._size :]]
+        self._wanted = 2 * self._size if self._size > _SHORT else 0
+        told, self._ready = self._ready, []
+        return told
+
+    def _next(self, address: int, size: int, has_ended: bool, leaf: _c.Block) -> Any:
+        """The next block, with room for its containers."""
+        while True:
+            given = addressof(self._room), len(self._room), addressof(self._open), addressof(leaf)
+            found = _block_line(address, size, has_ended, *given)
+            if found.status != _c.TOO_SHORT:
+                stated(found.status)
+                return found
+            room = (_c.Block * (2 * found.depth))()
+            room[: len(self._room)] = self._room[:]
+            self._room = room
+
+    def _block(self, found: Any, leaf: _c.Block, lines: bytes) -> Block[bytes]:
+        """The block, behind which more of the page is told."""
+        kept, began = found.kept, self._room[found.kept : found.depth]
+        if began or kept < len(self._containers):
+            self._began = *self._began[:kept], *[_c.Block.from_buffer_copy(it) for it in began]
+            self._containers = *self._containers[:kept], *[container_of(self._start + it.place, it) for it in began]
+        block: Block[bytes] = leaf_of((lines, 0, None), self._start, leaf, kept, self._containers, self._began)
+        block.line = self._line
+        self._start += leaf.bytes
+        self._line += leaf.lines
+        return block
+
+
+def read_blocks(pieces: Iterable[Buffer], *, footnotes: bool = False) -> Iterator[Block[bytes]]:
+    r"""The leaf blocks of a page that comes in pieces, as a file open for reading bytes has lines, with memory for the longest
+    block and the deepest nesting. See `BlockReader`.
+
+    >>> [(it.kind.name, it.line, it.content()) for it in read_blocks([b"# A\n\nb", b"\nc"])]
+    [('HEADING', 0, b'A'), ('BLANK', 1, b''), ('PARAGRAPH', 2, b'b\nc')]
+    """
+    reader = BlockReader(footnotes=footnotes)
+    for piece in pieces:
+        yield from reader.feed(piece)
+    yield from reader.close()

@@ -1,0 +1,73 @@
+"""Pages that come piece by piece have the blocks of the whole page, on the pages of packages/c/tests/blocks.c."""
+import unittest
+
+import markdown_scanners as mds
+from markdown_scanners import BlockKind, BlockReader, FootnoteDefinition, read_blocks
+from test_blocks import rows
+
+
+def told(block):
+    """What a block is, where it stands, and its content."""
+    places = block.line, block.lines, block.start, block.stop, block.place, block.indent
+    return block.kind, places, block.containers, block.kept, block.number, block.fence, block.columns, block.content()
+
+
+def together(blocks):
+    """The same, where definitions are one block with what stands behind them: the first and the last byte of each, and its lines."""
+    found, before = [], None
+    for it in blocks:
+        part = it.start, it.stop, it.line, it.lines, it.containers, it.kept
+        if before == BlockKind.DEFINITION and it.kind in (BlockKind.DEFINITION, BlockKind.PARAGRAPH, BlockKind.SETEXT):
+            part = found[-1][0], it.stop, found[-1][2], found[-1][3] + it.lines, it.containers, found.pop()[5]
+        found.append(part)
+        before = it.kind
+    return found
+
+
+class Readers(unittest.TestCase):
+    def test_pieces(self):
+        """In pieces of each size."""
+        pages = [page.encode() for _, page, *_ in rows()]
+        self.assertGreater(len(pages), 30)
+        for page in pages:
+            whole = list(mds.scan_blocks(page))
+            for size in range(1, len(page) + 1):
+                found = list(read_blocks(page[at : at + size] for at in range(0, len(page), size)))
+                self.assertEqual(together(found), together(whole), page)
+                if b"]:" not in page:
+                    self.assertEqual([told(it) for it in found], [told(it) for it in whole], page)
+
+    def test_when_blocks_are_told(self):
+        reader = BlockReader()
+        self.assertEqual(reader.feed(b"# A\r"), [])  # LF may follow
+        self.assertEqual([it.content() for it in reader.feed(b"b\n")], [b"A"])
+        self.assertEqual([it.content() for it in reader.feed(bytearray(b"---\nc"))], [])  # no whole line follows yet
+        self.assertEqual([it.kind for it in reader.feed(memoryview(b"\n"))], [BlockKind.SETEXT])
+        self.assertEqual([it.content() for it in reader.close()], [b"c"])
+        self.assertEqual(reader.close(), [])
+        self.assertEqual(list(read_blocks([])), [])
+
+    def test_definitions_stand_before_a_paragraph(self):
+        [block] = read_blocks([b"[a]: b\n", b"c\n"])
+        self.assertEqual((block.kind, block.lines, block.content()), (BlockKind.PARAGRAPH, 2, b"[a]: b\nc"))
+        self.assertEqual(mds.scan_reference_definition(block.content()).end, 7)
+
+    def test_footnotes_are_asked_for(self):
+        page = [b"[^a]: b\n", b"\n", b"    c\n"]
+        blocks = list(read_blocks(page, footnotes=True))
+        self.assertEqual([it.containers for it in blocks], [(FootnoteDefinition(0),)] * 3)
+        self.assertEqual([it.content() for it in blocks], [b"b", b"", b"c"])
+        self.assertEqual([it.containers for it in read_blocks(page)], [()] * 3)
+
+    def test_deep_and_long(self):
+        reader = BlockReader()
+        found = reader.feed(b">" * 1000)
+        for _ in range(10_000):
+            found += reader.feed(b"a\n")
+        [block] = reader.close()
+        self.assertEqual((found, len(block.containers), block.lines, len(block.content())), ([], 1000, 10_000, 19_999))
+
+    def test_wrong_types(self):
+        for given in ("a", 1, None):
+            self.assertRaises(TypeError, BlockReader().feed, given)
+        self.assertRaises(TypeError, BlockReader, footnotes=1)

@@ -1,0 +1,47 @@
+//! Pages that come piece by piece.
+
+use std::ops::Range;
+
+use markdown_scanners::*;
+
+/// What a block is, where it stands, and its content.
+fn block_of(it: &Block) -> (BlockKind, Range<usize>, usize, Vec<Container>, usize, Vec<u8>) {
+    (it.kind, it.range.clone(), it.lines.start, it.containers().to_vec(), it.place, it.content())
+}
+
+/// Piece by piece a page has the blocks that it has as a whole.
+#[test]
+fn fed_blocks() {
+    let page = b"# A\r\n> - b\n> c\n\n1. d\n   - e\n\n      f\n-\n  ```\n  g\r\n===\n| a |\n|-|\n| b";
+    let wanted: Vec<_> = scan_blocks(page).map(|it| block_of(&it)).collect();
+    for size in 1..=page.len() {
+        let (mut reader, mut found) = (BlockReader::default(), Vec::new());
+        for piece in page.chunks(size) {
+            reader.feed(piece);
+            while let Some(block) = reader.next_block() {
+                found.push(block_of(&block));
+            }
+        }
+        reader.end();
+        while let Some(block) = reader.next_block() {
+            found.push(block_of(&block));
+        }
+        assert_eq!(found, wanted);
+    }
+}
+
+/// More containers than there is room for at first, and a block that is long.
+#[test]
+fn deep_and_long_blocks_are_fed() {
+    let (mut reader, mut told) = (BlockReader::default(), 0);
+    reader.feed(">".repeat(1000).as_bytes());
+    for _ in 0..10_000 {
+        reader.feed(b"a\n");
+        while let Some(block) = reader.next_block() {
+            told += block.range.len();
+        }
+    }
+    reader.end();
+    let block = reader.next_block().unwrap();
+    assert_eq!((told, block.containers().len(), block.lines.len()), (0, 1000, 10_000));
+}
