@@ -13,6 +13,7 @@ mod others;
 mod references;
 mod strikethrough;
 mod whole_texts;
+mod wikilinks;
 
 use crate::asserts::{assert_same, found, is_none, made};
 use markdown_inlines::code_content::code_text;

@@ -10,4 +10,5 @@ pub use Rattle.markdown_inlines.proofs.emphasis.NestLemmas.{emphasis_nests}
 pub use Rattle.markdown_inlines.proofs.cut.OneCut.{one_cut}
 pub use Rattle.markdown_inlines.proofs.cut.LinkLaws.{links_hold_none}
 pub use Rattle.markdown_inlines.proofs.cut.StrikethroughLaws.{none_struck_unasked}
+pub use Rattle.markdown_inlines.proofs.cut.WikilinkLaws.{no_wikilink_unasked}
 pub use Rattle.markdown_inlines.proofs.inlines.Nests.{inlines_nest, inlines_stand}

@@ -3,3 +3,4 @@ pub mod SourceLemmas
 pub mod LinkLaws
 pub mod OneCut
 pub mod StrikethroughLaws
+pub mod WikilinkLaws

@@ -1,15 +1,19 @@
 -- A text cut into its inlines, from left to right. (CommonMark 0.31.2, chapter 6, and "Parsing strategy", phase 2)
 use Rattle.std.specs.Prelude.{ℕ, Bool, true, false, ◌||◌, not, nat_lt, ◌+◌, ◌<◌, List, [], ◌∷◌, ◌++◌, ◌≡◌, ◌⊎◌, length, take, drop}
 use Rattle.std.specs.Prelude.{codes, slice_set, Option, Some, None, IsTrue, if◌then◌else◌}
+use Rattle.std.specs.declared.ops.Range.{Range}
 use Rattle.memchr.specs.Find.{occurs_at}
 use Rattle.markdown_inlines.specs.Emphasis.{emphasis_of}
 use Rattle.markdown_inlines.specs.Links.{Known, IsTarget}
 use Rattle.markdown_inlines.specs.Pieces.{BeginsAt, HasOnlyText}
+use Rattle.markdown_inlines.specs.WikiLinks.{IsHead}
 use Rattle.markdown_inlines.specs.declared.delimiter_runs.DelimiterRun.{DelimiterRun}
 use Rattle.markdown_inlines.specs.declared.emphasis.Delimiters.{Delimiters}
 use Rattle.markdown_inlines.specs.declared.emphasis.Emphasis.{Emphasis}
 use Rattle.markdown_inlines.specs.declared.extensions.InlineExtensions.{InlineExtensions}
 use Rattle.markdown_inlines.specs.declared.links.Link.{Link}
+use Rattle.markdown_inlines.specs.declared.links.LinkTarget.{LinkTarget}
+use Rattle.markdown_inlines.specs.declared.links.LinkTarget.TheVariants.{Wiki}
 use Rattle.markdown_inlines.specs.declared.pieces.Piece.{Piece}
 use Rattle.markdown_inlines.specs.declared.pieces.PieceKind.{PieceKind}
 use Rattle.markdown_inlines.specs.declared.pieces.PieceKind.TheVariants as K
@@ -60,13 +64,29 @@ with_piece kind piece reading = reading
 abbrev pub may_begin : Opener → Reading → Bool
 may_begin opener reading = opener.is_image || not (nat_lt opener.start reading.last_link)
 
+-- where the left bracket of an opener stands
+abbrev pub bracket_of : Opener → ℕ
+bracket_of opener = if opener.is_image then opener.start + 1 else opener.start
+
+-- The link of an opener that is the head of a wikilink leads to the target in it, and ends with two right brackets.
+abbrev pub IsWikiTarget : List ℕ → ℕ → ℕ → ℕ → LinkTarget → ℕ → Type 0
+IsWikiTarget text bracket head_end close target end =
+    (range : Range ℕ) × (target ≡ Wiki range) × IsHead text bracket range head_end
+    × (occurs_at text (codes "]]") close ≡ true) × (end ≡ close + 2)
+
+-- Where the link of an opener leads whose link text ends at a right bracket.
+abbrev pub LeadsTo : List ℕ → Known → Opener → ℕ → LinkTarget → ℕ → Type 0
+LeadsTo text known opener close target end =
+    ((opener.text ≡ bracket_of opener + 1) × IsTarget text known opener.text close target end)
+    ⊎ IsWikiTarget text (bracket_of opener) opener.text close target end
+
 -- A link from an opener, whose link text ends at a right bracket.
 pub record IsLink (text : List ℕ) (known : Known) (opener : Opener) (close : ℕ) (link : Link) : Type 0 where
   pub is_image : link.is_image ≡ opener.is_image
   pub begins : link.source.start ≡ opener.start
   pub text_begins : link.text.start ≡ opener.text
   pub text_ends : link.text.end ≡ close
-  pub target : IsTarget text known opener.text close link.target link.source.end
+  pub target : LeadsTo text known opener close link.target link.source.end
 
 -- With the link of an opener, around which the others stand: emphasis is found among the runs in its link text.
 abbrev pub with_link : Link → Opener → List Opener → Reading → Reading

@@ -18,3 +18,4 @@ pub mod PieceBytes
 pub mod Pieces
 pub mod Readings
 pub mod Sources
+pub mod WikiLinks

@@ -8,7 +8,7 @@ use Rattle.markdown_scanners_tree.specs.linklabel.Label.{Label, IsLabel}
 use Rattle.markdown_inlines.specs.LinkTails.{IsLinkTail}
 use Rattle.markdown_inlines.specs.declared.link_tails.LinkTail.{LinkTail}
 use Rattle.markdown_inlines.specs.declared.links.LinkTarget.{LinkTarget}
-use Rattle.markdown_inlines.specs.declared.links.LinkTarget.TheVariants.{Inline, Full, Collapsed, Shortcut}
+use Rattle.markdown_inlines.specs.declared.links.LinkTarget.TheVariants.{Inline, Full, Collapsed, Shortcut, Wiki}
 
 -- of which labels a page has a definition
 abbrev pub Known : Type 0
@@ -73,3 +73,4 @@ IsTarget text known from close Collapsed end =
 IsTarget text known from close Shortcut end =
     HasNoTail text (close + 1) × HasNoLabelAfter text (close + 1) × (occurs_at text (codes "[]") (close + 1) ≡ false)
     × IsKnownLabel text known from close × (end ≡ close + 1)
+IsTarget text known from close (Wiki target) end = ⊥

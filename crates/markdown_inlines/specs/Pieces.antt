@@ -13,6 +13,7 @@ use Rattle.markdown_inlines.specs.CodeSpans.{IsCodeSpan}
 use Rattle.markdown_inlines.specs.DelimiterRuns.{IsRunOf}
 use Rattle.markdown_inlines.specs.Emails.{IsEmailAutolink}
 use Rattle.markdown_inlines.specs.LineBreaks.{IsLineBreak}
+use Rattle.markdown_inlines.specs.WikiLinks.{IsOpenerEnd}
 use Rattle.markdown_inlines.specs.declared.code_spans.CodeSpan.{CodeSpan}
 use Rattle.markdown_inlines.specs.declared.extensions.InlineExtensions.{InlineExtensions}
 use Rattle.markdown_inlines.specs.declared.pieces.Piece.{Piece}
@@ -92,8 +93,9 @@ BeginsAt asked text from place Email len = IsNoUri (drop place text) × IsEmailP
 BeginsAt asked text from place Html len =
     IsNoUri (drop place text) × IsNoEmail (drop place text) × IsHtmlPiece text place len
 BeginsAt asked text from place (Delimiters run) len = IsRunOf asked text place run × (len ≡ run.count)
-BeginsAt asked text from place LinkOpener len = (occurs_at text (codes "[") place ≡ true) × (len ≡ 1)
-BeginsAt asked text from place ImageOpener len = (occurs_at text (codes "![") place ≡ true) × (len ≡ 2)
+BeginsAt asked text from place LinkOpener len = (occurs_at text (codes "[") place ≡ true) × IsOpenerEnd asked text place (place + len)
+BeginsAt asked text from place ImageOpener len =
+    (occurs_at text (codes "![") place ≡ true) × IsOpenerEnd asked text (place + 1) (place + len)
 BeginsAt asked text from place Closer len = (occurs_at text (codes "]") place ≡ true) × (len ≡ 1)
 
 -- nothing but text begins from one place up to another

@@ -5,7 +5,7 @@ use Rattle.std.specs.Str.{IsCharBoundary}
 use Rattle.markdown_scanners_tree.specs.scanners.reference_definitions.ReferenceDefinition.{IsCutAt}
 use Rattle.markdown_inlines.specs.declared.links.Link.{Link}
 use Rattle.markdown_inlines.specs.declared.links.LinkTarget.{LinkTarget}
-use Rattle.markdown_inlines.specs.declared.links.LinkTarget.TheVariants.{Inline, Full, Collapsed, Shortcut}
+use Rattle.markdown_inlines.specs.declared.links.LinkTarget.TheVariants.{Inline, Full, Collapsed, Shortcut, Wiki}
 use Rattle.markdown_inlines.specs.declared.pieces.Piece.{Piece}
 
 -- the bytes that a piece has in the text
@@ -29,6 +29,7 @@ IsTargetSource text (Inline destination title) = IsCutAt text destination × IfS
 IsTargetSource text (Full label) = IsCutAt text label
 IsTargetSource text Collapsed = ⊤
 IsTargetSource text Shortcut = ⊤
+IsTargetSource text (Wiki target) = IsCutAt text target
 
 -- A link stands in the text around its link text; it may be cut on both sides of each.
 pub record IsLinkSource (text : List ℕ) (link : Link) : Type 0 where

@@ -21,3 +21,4 @@ mod piece_at;
 mod piece_scanner;
 pub mod pieces;
 mod reading;
+mod wiki_links;

@@ -39,4 +39,7 @@ pub enum LinkTarget {
     Collapsed,
     /// Neither follows, and the link text is a label that is defined.
     Shortcut,
+    /// It is a wikilink: where its target stands, between its left brackets and the pipe or the right
+    /// brackets. A link text that is empty is shown as the target.
+    Wiki(Range<usize>),
 }

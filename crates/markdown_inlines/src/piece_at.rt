@@ -14,6 +14,7 @@ use crate::extensions::InlineExtensions;
 use crate::guarded_code_spans::CodeSpans;
 use crate::line_breaks::scan_line_break;
 use crate::pieces::PieceKind;
+use crate::wiki_links::opener_len;
 use html_entities::HtmlEntities;
 use markdown_scanners_tree::inline_html::HtmlScanGuard;
 use markdown_scanners_tree::scanners::{is_ascii_punctuation, scan_entity};
@@ -44,16 +45,20 @@ pub(crate) fn piece_at(
         b'`' => code_at(codes, place),
         b'*' | b'_' => delimiters_at(text, place),
         b'~' => tildes_at(text, extensions, place),
-        _ => short_piece_at(bytes, place),
+        _ => short_piece_at(bytes, extensions, place),
     }
 }
 
 // What begins with a byte other than `<`, a backtick, a delimiter or a tilde.
-fn short_piece_at(bytes: &[u8], place: usize) -> Option<(PieceKind, usize)>
+fn short_piece_at(
+    bytes: &[u8],
+    extensions: InlineExtensions,
+    place: usize,
+) -> Option<(PieceKind, usize)>
     requires within { place < length bytes.now }
     requires short { opens_long (slice_index bytes.now place) ≡ false }
-    ensures found { (asked : InlineExtensions) (from : ℕ)
-        → SomeExactly (λ r. BeginsAt asked bytes.now from place r.0 r.1) result }
+    ensures found { (from : ℕ)
+        → SomeExactly (λ r. BeginsAt extensions bytes.now from place r.0 r.1) result }
 {
     let byte = bytes[place];
     if byte == b'\\' {
@@ -61,7 +66,7 @@ fn short_piece_at(bytes: &[u8], place: usize) -> Option<(PieceKind, usize)>
     } else if opens_break(byte) {
         break_at(bytes, place)
     } else if opens_bracket(byte) {
-        bracket_at(bytes, place)
+        bracket_at(bytes, extensions, place)
     } else if byte == b'&' {
         reference_at(bytes, place)
     } else {
@@ -176,16 +181,21 @@ fn reference_at(bytes: &[u8], place: usize) -> Option<(PieceKind, usize)>
 }
 
 // What a bracket at the place begins, or an exclamation mark there.
-fn bracket_at(bytes: &[u8], place: usize) -> Option<(PieceKind, usize)>
+fn bracket_at(
+    bytes: &[u8],
+    extensions: InlineExtensions,
+    place: usize,
+) -> Option<(PieceKind, usize)>
     requires within { place < length bytes.now }
     requires opens { IsTrue (opens_bracket (slice_index bytes.now place)) }
-    ensures found { (asked : InlineExtensions) (from : ℕ)
-        → SomeExactly (λ r. BeginsAt asked bytes.now from place r.0 r.1) result }
+    ensures found { (from : ℕ)
+        → SomeExactly (λ r. BeginsAt extensions bytes.now from place r.0 r.1) result }
 {
     if stands_at(bytes, place, b"[") {
-        Some((PieceKind::LinkOpener, 1))
+        Some((PieceKind::LinkOpener, opener_len(bytes, extensions, place)))
     } else if stands_at(bytes, place, b"![") {
-        Some((PieceKind::ImageOpener, 2))
+        let len = 1 + opener_len(bytes, extensions, place + 1);
+        Some((PieceKind::ImageOpener, len))
     } else if stands_at(bytes, place, b"]") {
         Some((PieceKind::Closer, 1))
     } else {

@@ -24,9 +24,10 @@ pub enum PieceKind {
     Html,
     /// A delimiter run. (6.2)
     Delimiters(DelimiterRun),
-    /// A left bracket, which may begin a link. (6.3)
+    /// A left bracket, which may begin a link (6.3); or the head of a wikilink: two of them, its target,
+    /// and the pipe after that if there is one.
     LinkOpener,
-    /// An exclamation mark and a left bracket, which may begin an image. (6.4)
+    /// The same after an exclamation mark, which may begin an image. (6.4)
     ImageOpener,
     /// A right bracket, with what follows the link text of the link or image that it ends, if it ends one. (6.3)
     Closer,

@@ -2,16 +2,19 @@
 //! delimiter runs emphasis. (CommonMark 0.31.2, "Parsing strategy", phase 2)
 ghost use Rattle.std.specs.Prelude.{◌≡◌, ◌++◌, ◌<◌, ◌≤◌, ◌+◌, ℕ, List, [], ◌∷◌, length, IfOk, IfSome, IfNone, OnOk};
 ghost use Rattle.std.specs.Str.{IsCharBoundary};
+ghost use Rattle.markdown_scanners_tree.specs.SomeExactly.{SomeExactly};
 ghost use Rattle.markdown_inlines.specs.Emphasis.{emphasis_of};
 ghost use Rattle.markdown_inlines.specs.Inlines.{Reading, at_start, with_piece, with_run, with_opener, with_link, may_begin, IsClosed};
+ghost use Rattle.markdown_inlines.specs.Inlines.{bracket_of, LeadsTo};
 ghost use Rattle.markdown_inlines.specs.Readings.{AreOpen, AreBefore, HasRuns, IsOpenerSource};
-ghost use Rattle.markdown_inlines.specs.Sources.{IsSource, IsLinkSource, AreLinkSources};
+ghost use Rattle.markdown_inlines.specs.Sources.{IsSource, IsLinkSource, AreLinkSources, IsTargetSource};
 
 use crate::delimiter_runs::DelimiterRun;
 use crate::emphasis::{Delimiters, Emphasis, find_emphasis};
 use crate::link_targets::scan_target;
-use crate::links::{Labels, Link};
+use crate::links::{Labels, Link, LinkTarget};
 use crate::pieces::{Piece, PieceKind};
+use crate::wiki_links::scan_wiki_target;
 use std::alloc::{AllocError, Global};
 use std::marker::Model;
 
@@ -136,7 +139,7 @@ impl<'a> Reader<'a> {
         if !self.may_begin(opener) {
             return Ok(bracket.end);
         }
-        match scan_target(alloc, self.text, labels, opener.text, bracket.start)? {
+        match opener_target(alloc, self.text, labels, opener, bracket.start)? {
             None => Ok(bracket.end),
             Some((target, end)) => {
                 let link = Link {
@@ -205,5 +208,44 @@ impl<'a> Reader<'a> {
         let mut found = find_emphasis(alloc, &self.runs)?;
         self.emphasis.append(&mut found)?;
         Ok((self.links, self.emphasis))
+    }
+}
+
+// Where the link of an opener leads whose link text ends at a right bracket, and the place after the
+// link; none where it begins none.
+fn opener_target<L: Labels>(
+    alloc: Global,
+    text: &str,
+    labels: &L,
+    opener: Opener,
+    close: usize,
+) -> Result<Option<(LinkTarget, usize)>, AllocError>
+    requires source { IsOpenerSource text.now opener }
+    requires after { IsCharBoundary text.now (close + 1) }
+    ensures found { IfOk result (λ found.
+        SomeExactly (λ r. LeadsTo text.now (L.known labels.now) opener close r.0 r.1) found) }
+    ensures within { IfOk result (λ found. IfSome found (λ r.
+        (close < r.1) × (r.1 ≤ length text.now))) }
+    ensures boundary { IfOk result (λ found. IfSome found (λ r. IsCharBoundary text.now r.1)) }
+    ensures source { IfOk result (λ found. IfSome found (λ r. IsTargetSource text.now r.0)) }
+{
+    let bracket = bracket_of(opener);
+    if opener.text == bracket + 1 {
+        scan_target(alloc, text, labels, opener.text, close)
+    } else {
+        Ok(scan_wiki_target(text.as_bytes(), bracket, opener.text, close))
+    }
+}
+
+// Where the left bracket of an opener stands.
+fn bracket_of(opener: Opener) -> usize
+    requires { opener.start < opener.text }
+    ensures bracket { result ≡ bracket_of opener }
+    ensures within { result ≤ opener.text }
+{
+    if opener.is_image {
+        opener.start + 1
+    } else {
+        opener.start
     }
 }

@@ -13,6 +13,7 @@ module _ (text : List ℕ) (small : length text < 2 ^ 63) where
   target_roomy (T.Full label) is = omega (arith, is.0)
   target_roomy T.Collapsed is = tt
   target_roomy T.Shortcut is = tt
+  target_roomy (T.Wiki target) is = tt
 
   link_roomy : (link : Option Link) → IfSome link (IsLinkSource text) → IfSome link HasRoom
   link_roomy None is = tt

@@ -1,5 +1,5 @@
 -- The inlines of a text, as C is told of them. (CommonMark 0.31.2, chapter 6)
-use Rattle.std.specs.Prelude.{ℕ, ◌≡◌, ◌≤◌, ◌+◌, ◌-◌, ◌==◌, ◌⊎◌, List, map, get_or, Option, Some, None, if◌then◌else◌}
+use Rattle.std.specs.Prelude.{ℕ, ◌≡◌, ◌≤◌, ◌+◌, ◌-◌, ◌==◌, bit_and, ◌⊎◌, List, map, get_or, Option, Some, None, if◌then◌else◌}
 use Rattle.std.specs.declared.ops.Range.{Range}
 use Rattle.std.specs.Str.{IsUtf8}
 use Rattle.markdown_inlines.specs.Output.{AreInlines}
@@ -95,7 +95,7 @@ abbrev pub with_label : ℕ → ℕ → ℕ → Inline → Inline
 with_label target start len it = record it { target = target; label_start = start; label_length = len }
 
 -- With where a link leads, by the numbers of `enum mds_link_target`: the destination and the title that stand there, or the
--- label that is looked up, which is the link text where no other follows.
+-- label that is looked up, which is the link text where no other follows; of a wikilink its target is the destination.
 abbrev pub with_target : Range ℕ → LinkTarget → Inline → Inline
 with_target text (T.Inline destination title) it = record it {
   target = 1;
@@ -107,6 +107,11 @@ with_target text (T.Inline destination title) it = record it {
 with_target text (T.Full label) it = with_label 2 (label.start + 1) (length_of label - 2) it
 with_target text T.Collapsed it = with_label 3 text.start (length_of text) it
 with_target text T.Shortcut it = with_label 4 text.start (length_of text) it
+with_target text (T.Wiki target) it = record it {
+  target = 5;
+  destination_start = target.start;
+  destination_length = length_of target;
+}
 
 -- the opener of a link or an image, with where all of it ends and where it leads
 abbrev pub link_told : Link → Inline
@@ -128,13 +133,13 @@ inline_told links (EndStrikethrough place count) = inline_at strikethrough_end p
 inline_told links (StartLink number) = opener_told (get_or links number None)
 inline_told links (EndLink piece) = inline_at link_end piece.start (piece.end - piece.start)
 
--- The bits of `enum mds_inline_extension`, of which there is one, for strikethrough.
+-- The bits of `enum mds_inline_extension`, of which there are two.
 abbrev pub AreExtensions : ℕ → Type 0
-AreExtensions extensions = extensions ≤ 1
+AreExtensions extensions = extensions ≤ 3
 
 -- what they ask for
 abbrev pub asked_by : ℕ → InlineExtensions
-asked_by extensions = record { strikethrough = extensions == 1 }
+asked_by extensions = record { strikethrough = bit_and extensions 1 == 1; wikilinks = bit_and extensions 2 == 2 }
 
 -- Some bit is no extension; or the text or a label is not UTF-8; or memory was refused; or the inlines of the text are written.
 unfoldable pub IsTextTold : List ℕ → List View → ℕ → List Inline → List Inline → InlineCount → Type 0

@@ -64,8 +64,14 @@ const COLLAPSED: u32 = 3;
 
 const SHORTCUT: u32 = 4;
 
-// Strikethrough, of `enum mds_inline_extension`; there is no other extension.
+const WIKI: u32 = 5;
+
+// The bits of `enum mds_inline_extension`, and their sum.
 const ASKS_STRIKETHROUGH: u32 = 1;
+
+const ASKS_WIKILINKS: u32 = 2;
+
+const ASKS_ALL: u32 = 3;
 
 /// `struct mds_inline` of C: an inline of a text, or where one that holds others begins or ends.
 #[repr(C)]
@@ -105,7 +111,7 @@ pub extern "C" fn mds_scan_inlines(
 ) -> InlineCount
     ensures inlines { IsTextTold text.now labels.now extensions inlines.old inlines.new result }
 {
-    if extensions > ASKS_STRIKETHROUGH {
+    if extensions > ASKS_ALL {
         return no_inlines(BAD_KIND);
     }
     let Ok(text) = str::from_utf8(text) else {
@@ -132,7 +138,8 @@ fn asked_by(extensions: u32) -> InlineExtensions
     ensures { result ≡ asked_by extensions }
 {
     InlineExtensions {
-        strikethrough: extensions == ASKS_STRIKETHROUGH,
+        strikethrough: extensions & ASKS_STRIKETHROUGH == ASKS_STRIKETHROUGH,
+        wikilinks: extensions & ASKS_WIKILINKS == ASKS_WIKILINKS,
     }
 }
 
@@ -311,6 +318,12 @@ fn with_target(link: &Link, told: Inline) -> Inline
         }
         LinkTarget::Collapsed => with_label(COLLAPSED, text.start, length_of(text), told),
         LinkTarget::Shortcut => with_label(SHORTCUT, text.start, length_of(text), told),
+        LinkTarget::Wiki(target) => Inline {
+            target: WIKI,
+            destination_start: target.start,
+            destination_length: length_of(target),
+            ..told
+        },
     }
 }
 

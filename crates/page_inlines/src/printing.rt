@@ -207,6 +207,10 @@ fn push_target(
             text.push_str(" shortcut")?;
             push_quoted(text, content, words.start, words.end)
         }
+        LinkTarget::Wiki(target) => {
+            text.push_str(" wikilink")?;
+            push_quoted(text, content, target.start, target.end)
+        }
     }
 }
 

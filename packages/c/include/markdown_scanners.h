@@ -769,15 +769,17 @@ enum mds_inline_kind {
 
 /* Extensions of CommonMark's inlines. Each is a bit; those that are asked for are given as their sum. */
 enum mds_inline_extension {
-    MDS_STRIKETHROUGH = 1 /* text between `~` and `~`, or `~~` and `~~`, is struck through (GitHub Flavored Markdown 0.29, 6.5) */
+    MDS_STRIKETHROUGH = 1, /* text between `~` and `~`, or `~~` and `~~`, is struck through (GitHub Flavored Markdown 0.29, 6.5) */
+    MDS_WIKILINKS = 2      /* `[[target]]` and `[[target|text]]` are links, and after `!` images (Obsidian's internal links) */
 };
 
-/* Where a link or an image leads, by what follows its text. (6.3) */
+/* Where a link or an image leads, by what follows its text (6.3), or as a wikilink. */
 enum mds_link_target {
     MDS_TARGET_INLINE = 1,    /* a destination and perhaps a title in parentheses */
     MDS_TARGET_FULL = 2,      /* a label */
     MDS_TARGET_COLLAPSED = 3, /* `[]`; its text is the label */
-    MDS_TARGET_SHORTCUT = 4   /* neither; its text is the label */
+    MDS_TARGET_SHORTCUT = 4,  /* neither; its text is the label */
+    MDS_TARGET_WIKI = 5       /* it is a wikilink, whose target stands before its text; one that has no text shows its target */
 };
 
 /* A text of the caller's. */
@@ -792,11 +794,12 @@ struct mds_inline {
     uint32_t target;      /* of a link or an image that begins: of enum mds_link_target */
     size_t start, length; /* its place, and how many bytes it has; of emphasis and strikethrough those of the delimiters that begin
                            * or end it, of a link or an image its left bracket, with the `!` of an image, or its right bracket
-                           * and what follows there that belongs to it */
+                           * and what follows there that belongs to it; of a wikilink that begins all before its text */
     size_t count;         /* of a code span how many backticks stand on each side of its content */
     size_t end;           /* of a link or an image that begins the place after all of it */
-    size_t destination_start, destination_length; /* of MDS_TARGET_INLINE its destination, without angle brackets */
-    size_t title_start, title_length;             /* and its title, without the bytes around it; MDS_NONE and 0 of none */
+    size_t destination_start, destination_length; /* of MDS_TARGET_INLINE its destination, without angle brackets; of
+                                                   * MDS_TARGET_WIKI its target, whose bytes stand for themselves */
+    size_t title_start, title_length;             /* of the former its title, without the bytes around it; MDS_NONE and 0 of none */
     size_t label_start, label_length;             /* of the other targets what stands between the brackets of the label */
 };
 
@@ -829,6 +832,8 @@ struct mds_inlines {
  *     inlines[2].kind == MDS_INLINE_LINK_END && inlines[2].start == 2 && inlines[2].length == 5
  *     mds_scan_inlines("~~a~~", 5, NULL, 0, MDS_STRIKETHROUGH, inlines, 7).count == 3
  *     inlines[0].kind == MDS_INLINE_STRIKETHROUGH && inlines[0].length == 2 && inlines[2].start == 3
+ *     mds_scan_inlines("[[a|b]]", 7, NULL, 0, MDS_WIKILINKS, inlines, 7).count == 3
+ *     inlines[0].target == MDS_TARGET_WIKI && inlines[0].destination_start == 2 && inlines[0].destination_length == 1
  */
 struct mds_inlines mds_scan_inlines(
     const void *text, size_t length, const struct mds_view *labels, size_t label_count, uint32_t extensions,

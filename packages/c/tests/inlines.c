@@ -1,5 +1,5 @@
 /* The inlines of texts: the examples of CommonMark 0.31.2, by their numbers, of which cmark makes what stands beside them, and those
- * of strikethrough in GitHub Flavored Markdown 0.29, of which cmark-gfm does; refused texts, labels and extensions; and made texts,
+ * of strikethrough in GitHub Flavored Markdown 0.29, of which cmark-gfm does; wikilinks; refused texts, labels and extensions; and made texts,
  * whose inlines nest and, joined, are the text, whatever the order of the labels. */
 #include "checks.h"
 
@@ -216,7 +216,9 @@ static const struct definition *defined_as(
 
 static void say_target(int example, const char *text, const struct mds_inline *it, const struct definition *definitions) {
     say_word(it->kind == MDS_INLINE_IMAGE ? "<img " : "<a ");
-    if (it->target == MDS_TARGET_INLINE) {
+    if (it->target == MDS_TARGET_WIKI) {
+        say(text + it->destination_start, it->destination_length), say_word("|");
+    } else if (it->target == MDS_TARGET_INLINE) {
         say_meaning(text + it->destination_start, it->destination_length), say_word("|");
         if (it->title_start != MDS_NONE)
             say_meaning(text + it->title_start, it->title_length);
@@ -360,6 +362,34 @@ static void strikethrough(void) {
     example(0, "~~a~~ ~b~", none, "~~a~~ ~b~");
 }
 
+/* By their grammar: two brackets, a target of some bytes without a bracket, a pipe or a line ending, perhaps a pipe and a text. */
+static void wikilinks(void) {
+    static const struct row links[] = {
+        {0, "[[a]]", "<a a|></>"},
+        {0, "![[a b|*c*]]", "<img a b|><em>c</em></>"},
+        {0, "[[a]](b) [[]] [[c]", "<a a|></>(b) [[]] [[c]"},
+        {0, "[[a|[b](c)]]", "[[a|<a c|>b</>]]"},
+        {0, "[[a|b](c)", "[[a|b](c)"},
+    };
+    static const struct definition none[LABELS];
+    struct mds_inline it[MOST];
+    extensions = MDS_WIKILINKS;
+    for (size_t i = 0; i < sizeof(links) / sizeof(*links); i++)
+        example(links[i].example, links[i].text, none, links[i].wanted);
+    SAME(inlines_of(0, "![[ab|c]][[d]]", 14, NULL, 0, it), 5);
+    IS(it[0], MDS_INLINE_IMAGE, MDS_TARGET_WIKI, .length = 6, .end = 9, .destination_start = 3, .destination_length = 2);
+    IS(it[2], MDS_INLINE_LINK_END, .start = 7, .length = 2);
+    IS(it[3], MDS_INLINE_LINK, MDS_TARGET_WIKI, 9, 3, .end = 14, .destination_start = 11, .destination_length = 1);
+    IS(it[4], MDS_INLINE_LINK_END, .start = 12, .length = 2);
+    example(0, "~~[[a]]~~", none, "~~<a a|></>~~");
+    extensions = MDS_WIKILINKS | MDS_STRIKETHROUGH;
+    example(0, "~~[[a]]~~", none, "<del><a a|></></del>");
+    extensions = MDS_STRIKETHROUGH;
+    example(0, "~~[[a]]~~", none, "<del>[[a]]</del>");
+    extensions = 0;
+    example(0, "[[a]]", none, "[[a]]");
+}
+
 static void is_refused(int line, const char *text, size_t length, const char *label, size_t label_length) {
     struct mds_view view = {given(OTHER_BYTES, label, label_length), label_length};
     const struct mds_view *labels = given(LIST, &view, sizeof(view));
@@ -371,7 +401,7 @@ static void is_refused(int line, const char *text, size_t length, const char *la
 
 static void refusals(void) {
     static const struct mds_view empty[] = {{NULL, 0}, {"", 0}};
-    static const uint32_t others[] = {2, 3, 4, 0x80000000, 0x80000001, UINT32_MAX};
+    static const uint32_t others[] = {4, 5, 7, 8, 0x80000000, 0x80000001, UINT32_MAX};
     is_refused(__LINE__, "a\xff", 2, "b", 1), is_refused(__LINE__, "\xc3", 1, "b", 1);
     is_refused(__LINE__, "a", 1, "b\xff", 2), is_refused(__LINE__, "[b]", 3, "\xe1\xba", 2);
     SAME(mds_scan_inlines(NULL, 0, NULL, 0, 0, NULL, 0).status, MDS_OK), SAME(mds_scan_inlines(NULL, 0, NULL, 0, 0, NULL, 0).count, 0);
@@ -396,7 +426,7 @@ static size_t made(size_t below) {
 static size_t make_text(char *text) {
     static const char *const pieces[] = {
         "*", "**", "_", "`", "``", "[", "![", "]", "](b)", "[a]", "][a]", "[]", "\\", "&amp;", "<a>", "<b@c>", "\n", "  \n", "a", " ",
-        "\xc3\xa4", "~", "~~"};
+        "\xc3\xa4", "~", "~~", "[[a|", "]]"};
     size_t length = 0, wanted = made(MOST);
     for (;;) {
         const char *piece = pieces[made(sizeof(pieces) / sizeof(*pieces))];
@@ -431,7 +461,7 @@ static void made_texts(void) {
     char text[LONGEST];
     for (size_t i = 0; i < 20000; i++) {
         size_t length = make_text(text), labels = made(2);
-        at_front = i % 2, extensions = made(2);
+        at_front = i % 2, extensions = made(4);
         size_t count = inlines_of(0, text, length, one, labels, inlines);
         are_whole(inlines, count, length);
         if (labels) {
@@ -444,9 +474,9 @@ static void made_texts(void) {
 }
 
 int main(void) {
-    examples(), places(), strikethrough(), refusals();
+    examples(), places(), strikethrough(), wikilinks(), refusals();
     at_front = true;
-    examples(), places(), strikethrough(), refusals();
+    examples(), places(), strikethrough(), wikilinks(), refusals();
     made_texts();
     return report("inlines");
 }

@@ -73,11 +73,13 @@ export const INLINE_STRIKETHROUGH = 16;
 export const INLINE_STRIKETHROUGH_END = 17;
 
 export const STRIKETHROUGH = 1;
+export const WIKILINKS = 2;
 
 export const TARGET_INLINE = 1;
 export const TARGET_FULL = 2;
 export const TARGET_COLLAPSED = 3;
 export const TARGET_SHORTCUT = 4;
+export const TARGET_WIKI = 5;
 
 export const HTML_RAW_TEXT = 1;
 export const HTML_COMMENT = 2;

@@ -11,12 +11,13 @@ import { bytesOf, flagOf, listOf, optionsOf } from "./given.mjs";
 /** @typedef {EmphasisKind | "strikethrough" | "strikethroughEnd" | "linkEnd"} MarkKind the same */
 /** @typedef {{ kind: PlainKind | MarkKind, start: number, stop: number }} PlainInline */
 /** @typedef {{ kind: "code" | "uri" | "email", start: number, stop: number, content: Span }} FilledInline between backticks or angle brackets */
-/** @typedef {{ kind: "link" | "image", start: number, stop: number, link: Link }} LinkStart its left bracket, with the `!` of an image */
+/** @typedef {{ kind: "link" | "image", start: number, stop: number, link: Link }} LinkStart its left bracket, after an `!`, or all before a wikilink's text */
 /** @typedef {PlainInline | FilledInline | LinkStart} Inline */
 
 /** @typedef {{ target: "inline", end: number, destination: Span, title: Span | null }} InlineLink a destination in parentheses (6.3) */
 /** @typedef {{ target: "full" | "collapsed" | "shortcut", end: number, label: Span }} ReferenceLink its label, or its text, which is one */
-/** @typedef {InlineLink | ReferenceLink} Link where it leads, and the place after all of it; the parts are as they are written */
+/** @typedef {{ target: "wiki", end: number, destination: Span }} WikiLink its target, which is shown where it has no text */
+/** @typedef {InlineLink | ReferenceLink | WikiLink} Link where it leads, and the place after all of it; the parts are as they are written */
 
 /** @type {Record<number, Inline["kind"]>} */
 const KINDS = {
@@ -55,15 +56,17 @@ export class Inlines extends Blocks {
      *
      * `labels` are those that are defined, each as `scanLinkLabel` answers it; what refers to a label that matches none of them is
      * text. Where `strikethrough` is true, text between `~` and `~`, or between `~~` and `~~`, is struck through (GitHub Flavored
-     * Markdown 0.29, section 6.5). NotUtf8. (6)
+     * Markdown 0.29, section 6.5). Where `wikilinks` is true, `[[target]]` and `[[target|text]]` are links, and after `!` images
+     * (Obsidian's internal links). NotUtf8. (6)
      * @param {number} [at]
      * @param {number} [end]
-     * @param {{ labels?: (string | Uint8Array)[], strikethrough?: boolean }} [options]
+     * @param {{ labels?: (string | Uint8Array)[], strikethrough?: boolean, wikilinks?: boolean }} [options]
      * @returns {Generator<Inline, void, void>}
      */
     scanInlines(at = 0, end = this.length, options = {}) {
-        const { labels, strikethrough = false } = optionsOf(options, "labels", "strikethrough");
-        const extensions = flagOf("strikethrough", strikethrough) ? c.STRIKETHROUGH : 0;
+        const { labels, strikethrough = false, wikilinks = false } = optionsOf(options, "labels", "strikethrough", "wikilinks");
+        const struck = flagOf("strikethrough", strikethrough) ? c.STRIKETHROUGH : 0;
+        const extensions = struck | (flagOf("wikilinks", wikilinks) ? c.WIKILINKS : 0);
         const [from, to] = this.limits(at, end);
         return this.#each(from, this.#rows(from, to, new Labels(listOf("labels", labels ?? [])), extensions));
     }
@@ -122,8 +125,10 @@ export class Inlines extends Blocks {
     #link(from, it) {
         const end = this.placeOf(from + it.end);
         if (it.target in TARGETS) return { target: TARGETS[it.target], end, label: this.#span(from + it.labelStart, it.labelLength) };
+        const destination = this.#span(from + it.destinationStart, it.destinationLength);
+        if (it.target === c.TARGET_WIKI) return { target: "wiki", end, destination };
         const title = it.titleStart === NONE ? null : this.#span(from + it.titleStart, it.titleLength);
-        return { target: "inline", end, destination: this.#span(from + it.destinationStart, it.destinationLength), title };
+        return { target: "inline", end, destination, title };
     }
 
     /**

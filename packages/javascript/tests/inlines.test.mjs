@@ -86,6 +86,22 @@ test("strikethrough, where it is asked for: examples of GitHub Flavored Markdown
     assert.throws(() => struck(text, { strikethrough: 1 }), TypeError);
 });
 
+test("wikilinks, where they are asked for", () => {
+    const span = (start, stop) => ({ start, stop });
+    const inlines = (text, options) => [...scanners.text(text).scanInlines(0, text.length, options)];
+    const [image, text, end, link, last] = inlines("![[ab|c]][[d]]", { wikilinks: true });
+    assert.deepEqual(image, { kind: "image", ...span(0, 6), link: { target: "wiki", end: 9, destination: span(3, 5) } });
+    assert.deepEqual([text, end], [{ kind: "text", ...span(6, 7) }, { kind: "linkEnd", ...span(7, 9) }]);
+    assert.deepEqual(link, { kind: "link", ...span(9, 12), link: { target: "wiki", end: 14, destination: span(11, 12) } });
+    assert.deepEqual(last, { kind: "linkEnd", ...span(12, 14) });
+    const kinds = (text, options) => new Set(inlines(text, options).map((it) => it.kind));
+    for (const none of ["[[]]", "[[a]", "[[a|b](c)"]) assert.deepEqual(kinds(none, { wikilinks: true }), new Set(["text"]));
+    assert.deepEqual(kinds("~[[a]]~", {}), new Set(["text"]));
+    assert.deepEqual(kinds("~[[a]]~", { wikilinks: true }), new Set(["text", "link", "linkEnd"]));
+    assert(kinds("~[[a]]~", { strikethrough: true, wikilinks: true }).has("strikethrough"));
+    assert.throws(() => inlines("a", { wikilinks: 1 }), TypeError);
+});
+
 test("many inlines and labels", () => {
     const text = `${"*a ".repeat(5000)}${"b*".repeat(5000)}[9999]`;
     const labels = Array.from({ length: 10_000 }, (_, index) => `${index}`);

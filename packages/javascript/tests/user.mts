@@ -14,7 +14,7 @@ const run: "*" | "_" | undefined = page.scanDelimiterRun(0, 3, { begin: 0 })?.ch
 const contents: string[] = Array.from(page.scanBlocks(), (it) => it.content());
 const places: number[][] = Array.from(bytes.scanBlocks(), (it) => it.containers.map((container) => container.place));
 const inlines: (string | undefined)[] = Array.from(
-    page.scanInlines(0, 3, { labels: ["a", new Uint8Array([98])], strikethrough: true }),
+    page.scanInlines(0, 3, { labels: ["a", new Uint8Array([98])], strikethrough: true, wikilinks: true }),
     (it) => ("link" in it ? it.link.target : it.kind),
 );
 const name: string = new NotUtf8("none").name;

@@ -38,12 +38,13 @@ class InlineKind(IntEnum):
 
 
 class LinkTarget(IntEnum):
-    """Where a link or an image leads, by what follows its text. (6.3)"""
+    """Where a link or an image leads, by what follows its text (6.3), or as a wikilink."""
 
     INLINE = _c.TARGET_INLINE  #: a destination and perhaps a title in parentheses
     FULL = _c.TARGET_FULL  #: a label
     COLLAPSED = _c.TARGET_COLLAPSED  #: `[]`; its text is the label
     SHORTCUT = _c.TARGET_SHORTCUT  #: neither; its text is the label
+    WIKI = _c.TARGET_WIKI  #: it is a wikilink, whose target stands before its text; one that has no text shows its target
 
 
 class Link(NamedTuple):
@@ -52,7 +53,7 @@ class Link(NamedTuple):
 
     target: LinkTarget  #: where it leads
     end: int  #: the place after all of it
-    destination: Optional[Span]  #: of `INLINE` its destination, without angle brackets
+    destination: Optional[Span]  #: of `INLINE` its destination, without angle brackets; of `WIKI` its target, which is not decoded
     title: Optional[Span]  #: of `INLINE` its title, if it has one, without the bytes around it
     label: Optional[Span]  #: of the other targets what stands between the brackets of the label
 
@@ -62,7 +63,7 @@ class Inline(NamedTuple):
 
     kind: InlineKind
     start: int  #: the place of its first byte
-    stop: int  #: the place after its last one; of a link or an image that begins, after its left bracket
+    stop: int  #: the place after its last one; of a link or an image that begins, where its text begins
     content: Optional[Span]  #: of a code span what stands between its backticks; of an autolink its address
     link: Optional[Link]  #: of a link or an image that begins where it leads
 
@@ -71,14 +72,21 @@ _KINDS = tuple(InlineKind)
 
 
 def scan_inlines(
-    data: Page, at: int = 0, end: Optional[int] = None, *, labels: Iterable[Page] = (), strikethrough: bool = False
+    data: Page,
+    at: int = 0,
+    end: Optional[int] = None,
+    *,
+    labels: Iterable[Page] = (),
+    strikethrough: bool = False,
+    wikilinks: bool = False,
 ) -> Iterator[Inline]:
     r"""The inlines of a text, in order: of the content of a paragraph or a heading, as `Block.content` has it. Joined, they are the
     text, and they nest: each that begins ends. Text may stand in several, one after another.
 
     `labels` are those that are defined, each as `scan_link_label` answers it: what refers to a label that matches none of them is
     text. Where `strikethrough` is true, text between `~` and `~`, or between `~~` and `~~`, is struck through. (GitHub Flavored
-    Markdown 0.29, section 6.5) NotUtf8Error.
+    Markdown 0.29, section 6.5) Where `wikilinks` is true, `[[target]]` and `[[target|text]]` are links, and after `!` images. (Obsidian's
+    internal links) NotUtf8Error.
 
     >>> [(it.kind.name, it.start) for it in scan_inlines("*a* [B]", labels=["b"])]
     [('EMPHASIS', 0), ('TEXT', 1), ('EMPHASIS_END', 2), ('TEXT', 3), ('LINK', 4), ('TEXT', 5), ('LINK_END', 6)]
@@ -86,8 +94,11 @@ def scan_inlines(
     Span(start=4, stop=6)
     >>> [it.kind.name for it in scan_inlines("~~a~~", strikethrough=True)]
     ['STRIKETHROUGH', 'TEXT', 'STRIKETHROUGH_END']
+    >>> next(scan_inlines("[[a|b]]", wikilinks=True)).link.destination
+    Span(start=2, stop=3)
     """
     extensions = _c.STRIKETHROUGH if flag("strikethrough", strikethrough) else 0
+    extensions |= _c.WIKILINKS if flag("wikilinks", wikilinks) else 0
     address, length, origin = front(data, at, end)
     views, held = _views(labels)
     count = length // 16 + 8
@@ -127,10 +138,13 @@ def _inline(origin: int, it: Any) -> Inline:
 
 def _link(origin: int, it: Any) -> Link:
     target, end = LinkTarget(it.target), origin + it.end
+    destination = _span(origin, it.destination_start, it.destination_length)
+    if target == LinkTarget.WIKI:
+        return Link(target, end, destination, None, None)
     if target != LinkTarget.INLINE:
         return Link(target, end, None, None, _span(origin, it.label_start, it.label_length))
     title = None if it.title_start == _c.NONE else _span(origin, it.title_start, it.title_length)
-    return Link(target, end, _span(origin, it.destination_start, it.destination_length), title, None)
+    return Link(target, end, destination, title, None)
 
 
 def _span(origin: int, start: int, length: int) -> Span:

@@ -128,6 +128,22 @@ class Inlines(unittest.TestCase):
             self.assertEqual(struck(part, strikethrough=True), part)
         self.assertRaises(TypeError, mds.scan_inlines, text, strikethrough=1)
 
+    def test_wikilinks(self):
+        """Two brackets, a target, and perhaps a pipe and a text; and what CommonMark alone makes of one."""
+        image, text, end, link, last = mds.scan_inlines("![[é b|c]][[d]]", wikilinks=True)
+        self.assertEqual((image.kind, image.start, image.stop), (InlineKind.IMAGE, 0, 7))
+        self.assertEqual(image.link, mds.Link(LinkTarget.WIKI, 10, Span(3, 6), None, None))
+        self.assertEqual((text.kind, end.start, end.stop), (InlineKind.TEXT, 8, 10))
+        self.assertEqual((link.kind, link.stop, link.link.destination), (InlineKind.LINK, 13, Span(12, 13)))
+        self.assertEqual((last.kind, last.start, last.stop), (InlineKind.LINK_END, 13, 15))
+        kinds = lambda text, **asked: {it.kind for it in mds.scan_inlines(text, **asked)}
+        for text in ("[[]]", "[[a]", "[[a\nb]]", "[[a|b](c)"):
+            self.assertLessEqual(kinds(text, wikilinks=True), {InlineKind.TEXT, InlineKind.SOFT_BREAK})
+        self.assertEqual(kinds("~[[a]]~"), {InlineKind.TEXT})
+        self.assertEqual(kinds("~[[a]]~", wikilinks=True), {InlineKind.TEXT, InlineKind.LINK, InlineKind.LINK_END})
+        self.assertIn(InlineKind.STRIKETHROUGH, kinds("~[[a]]~", strikethrough=True, wikilinks=True))
+        self.assertRaises(TypeError, mds.scan_inlines, "a", wikilinks=1)
+
     def test_no_text(self):
         self.assertEqual(list(mds.scan_inlines(b"")), [])
         self.assertRaises(TypeError, mds.scan_inlines, None)

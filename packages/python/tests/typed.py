@@ -13,7 +13,7 @@ def of_str(page: str) -> None:
     assert_type(mds.line_rest(mds.LineStart(page)), str)
     assert_type(mds.scan_blocks(page), Iterator[mds.Block[str]])
     assert_type([it.content() for it in mds.scan_blocks(page)], list[str])
-    assert_type(mds.scan_inlines(page, labels=[page], strikethrough=True), Iterator[mds.Inline])
+    assert_type(mds.scan_inlines(page, labels=[page], strikethrough=True, wikilinks=True), Iterator[mds.Inline])
 
 
 def of_bytes(page: bytes) -> None:

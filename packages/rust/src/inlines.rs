@@ -52,6 +52,9 @@ pub enum InlineKind {
 pub struct InlineExtensions {
     /// Text between `~` and `~`, or between `~~` and `~~`, is struck through. (GitHub Flavored Markdown 0.29, section 6.5)
     pub strikethrough: bool,
+    /// `[[target]]` and `[[target|text]]` are links, and after `!` images. A target has some bytes, and no bracket, pipe or line
+    /// ending. (Obsidian's internal links)
+    pub wikilinks: bool,
 }
 
 /// Where a link or an image leads, and where it ends.
@@ -63,7 +66,7 @@ pub struct Link {
     pub end: usize,
 }
 
-/// Where a link or an image leads, by what follows its text. The parts stand there as they are written: [`unescape`] decodes a
+/// Where a link or an image leads, by what follows its text, or as a wikilink. The parts stand there as they are written: [`unescape`] decodes a
 /// destination and a title, and [`scan_link_label_rest`] reads the label that begins there. (6.3)
 ///
 /// [`unescape`]: crate::unescape
@@ -83,6 +86,9 @@ pub enum LinkTarget {
     Collapsed(Range<usize>),
     /// Neither; the text of the link, which stands there, is the label.
     Shortcut(Range<usize>),
+    /// It is a wikilink, whose target stands there before its text: its bytes stand for themselves. One that has no text shows its
+    /// target.
+    Wiki(Range<usize>),
 }
 
 /// An inline that holds no others, or where one begins or ends that does.
@@ -91,7 +97,8 @@ pub struct Inline {
     /// What it is.
     pub kind: InlineKind,
     /// Its bytes: of emphasis and strikethrough the delimiters that begin or end it, of a link or an image its left bracket, with
-    /// the `!` of an image, or its right bracket and what follows there that belongs to it.
+    /// the `!` of an image, or its right bracket and what follows there that belongs to it; of a wikilink that begins all before
+    /// its text.
     pub range: Range<usize>,
 }
 
@@ -116,15 +123,17 @@ pub struct Inlines {
 /// assert_eq!((&inlines[0].kind, &inlines[1].range), (&InlineKind::StartEmphasis, &(1..2)));
 /// let InlineKind::StartLink(link) = &inlines[4].kind else { panic!() };
 /// assert_eq!((&link.target, link.end), (&LinkTarget::Shortcut(5..6), 7));
-/// let struck = scan_inlines("~~a~~", &[], InlineExtensions { strikethrough: true }).next().unwrap();
+/// let asked = InlineExtensions { strikethrough: true, ..Default::default() };
+/// let struck = scan_inlines("~~a~~", &[], asked).next().unwrap();
 /// assert_eq!((struck.kind, struck.range), (InlineKind::StartStrikethrough, 0..2));
 /// ```
 #[must_use]
 pub fn scan_inlines(text: &str, labels: &[&str], extensions: InlineExtensions) -> Inlines {
-    let asked = if extensions.strikethrough { ffi::STRIKETHROUGH } else { 0 };
+    let strikethrough = if extensions.strikethrough { ffi::STRIKETHROUGH } else { 0 };
+    let wikilinks = if extensions.wikilinks { ffi::WIKILINKS } else { 0 };
     let mut told = vec![ffi::Inline::default(); text.len() / 16 + 8];
     loop {
-        let found = raw::scan_inlines(text, labels, asked, &mut told);
+        let found = raw::scan_inlines(text, labels, strikethrough | wikilinks, &mut told);
         let is_short = found.status == ffi::TOO_SHORT;
         told.resize(found.count, ffi::Inline::default());
         if !is_short {
@@ -186,6 +195,7 @@ fn link_of(told: &ffi::Inline) -> Link {
         ffi::TARGET_FULL => LinkTarget::Full(label),
         ffi::TARGET_COLLAPSED => LinkTarget::Collapsed(label),
         ffi::TARGET_SHORTCUT => LinkTarget::Shortcut(label),
+        ffi::TARGET_WIKI => LinkTarget::Wiki(span(told.destination_start, told.destination_length)),
         _ => LinkTarget::Inline {
             destination: span(told.destination_start, told.destination_length),
             title: (told.title_start != ffi::NONE).then(|| span(told.title_start, told.title_length)),

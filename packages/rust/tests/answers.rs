@@ -412,6 +412,7 @@ fn marked(text: &str, labels: &[&str], extensions: InlineExtensions) -> String {
         LinkTarget::Full(label) | LinkTarget::Collapsed(label) | LinkTarget::Shortcut(label) => {
             format!("<{kind} [{}]>", &text[label])
         }
+        LinkTarget::Wiki(target) => format!("<{kind} [[{}]]>", &text[target]),
     };
     let marked = |it: Inline| match it.kind {
         InlineKind::StartEmphasis => "<em>".into(),
@@ -459,12 +460,26 @@ fn inlines() {
 /// Examples of GitHub Flavored Markdown 0.29 by their numbers, and what CommonMark alone makes of one.
 #[test]
 fn strikethrough() {
-    let extensions = InlineExtensions { strikethrough: true };
+    let extensions = InlineExtensions { strikethrough: true, ..InlineExtensions::default() };
     let text = "~~Hi~~ Hello, ~there~ world!"; // 491
     assert_eq!(marked(text, &[], extensions), "<del>Hi</del> Hello, <del>there</del> world!");
     assert_eq!(marked(text, &[], InlineExtensions::default()), text);
     for text in ["This ~~has a", "new paragraph~~."] {
         assert_eq!(marked(text, &[], extensions), text); // 492
+    }
+}
+
+/// Two brackets, a target, and perhaps a pipe and a text; and what CommonMark alone makes of one.
+#[test]
+fn wikilinks() {
+    let extensions = InlineExtensions { wikilinks: true, ..InlineExtensions::default() };
+    let both = InlineExtensions { strikethrough: true, ..extensions };
+    assert_eq!(marked("[[a]] ![[b|*c*]]", &[], extensions), "<a [[a]]></> <img [[b]]><em>c</em></>");
+    assert_eq!(marked("~[[a]]~", &[], both), "<del><a [[a]]></></del>");
+    assert_eq!(marked("~[[a]]~", &[], extensions), "~<a [[a]]></>~");
+    assert_eq!(marked("[[a]]", &["a"], InlineExtensions::default()), "[<a [a]>a</>]");
+    for text in ["[[]]", "[[a]", "[[a\nb]]", "[[a|b](c)"] {
+        assert_eq!(marked(text, &[], extensions), text);
     }
 }
 

@@ -163,16 +163,35 @@ impl Page<'_> {
     }
 
     fn push_start(&self, html: &mut Html, link: &Link) -> Result<(), AllocError> {
-        let (destination, title) = self.target_of(link);
-        let address = self.resolved(destination)?;
+        let address = self.address_of(link)?;
         if link.is_image {
             html.push_attribute("<img src=\"", address.as_str(), "\" alt=\"")?;
             html.images = html.images.saturating_add(1);
-            return Ok(());
+        } else {
+            html.push_attribute("<a href=\"", address.as_str(), "\"")?;
+            self.push_title(html, self.target_of(link).1)?;
+            html.push_tag(">")?;
         }
-        html.push_attribute("<a href=\"", address.as_str(), "\"")?;
-        self.push_title(html, title)?;
-        html.push_tag(">")
+        self.push_shown_target(html, link)
+    }
+
+    // Where the link leads: its destination resolved, or the target of a wikilink as it stands.
+    fn address_of(&self, link: &Link) -> Result<CowStr<'_>, AllocError> {
+        let (destination, _) = self.target_of(link);
+        match &link.target {
+            LinkTarget::Wiki(_) => Ok(CowStr::from(destination)),
+            _ => self.resolved(destination),
+        }
+    }
+
+    // A wikilink without a link text shows its target.
+    fn push_shown_target(&self, html: &mut Html, link: &Link) -> Result<(), AllocError> {
+        match &link.target {
+            LinkTarget::Wiki(target) if link.text.is_empty() => {
+                html.push_text(self.between(target.start, target.end))
+            }
+            _ => Ok(()),
+        }
     }
 
     fn push_title(&self, html: &mut Html, title: Option<&str>) -> Result<(), AllocError> {
@@ -221,6 +240,7 @@ impl Page<'_> {
             LinkTarget::Collapsed | LinkTarget::Shortcut => {
                 self.defined_by(link.text.start, link.text.end)
             }
+            LinkTarget::Wiki(target) => (self.between(target.start, target.end), None),
         }
     }
 

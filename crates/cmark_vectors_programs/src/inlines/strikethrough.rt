@@ -7,6 +7,7 @@ use markdown_inlines::pieces::{Piece, PieceKind};
 
 const STRIKETHROUGH: InlineExtensions = InlineExtensions {
     strikethrough: true,
+    wikilinks: false,
 };
 
 // The specification's examples 491 to 493.

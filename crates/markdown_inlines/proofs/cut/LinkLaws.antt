@@ -4,7 +4,7 @@ use Rattle.std.proofs.Common.{arith, refl, sym, ap, subst, Option, Some, None, I
 use Rattle.std.specs.Prelude.{⊤, slice_get}
 use Rattle.std.proofs.lemmas.Bool.{ltb-false}
 use Rattle.markdown_inlines.specs.InlineLaws.{IsLinkOf, StandApart, HoldNoLinks}
-use Rattle.markdown_inlines.specs.Inlines.{Reading, at_start, with_opener, with_piece, with_link, may_begin, IsLink}
+use Rattle.markdown_inlines.specs.Inlines.{Reading, at_start, with_opener, with_piece, with_link, may_begin, IsLink, LeadsTo}
 use Rattle.markdown_inlines.specs.Inlines.{Setting, IsClosed, AreRead, IsCut}
 use Rattle.markdown_inlines.specs.Links.{Known, IsTarget}
 use Rattle.markdown_inlines.specs.Pieces.{BeginsAt}
@@ -12,12 +12,13 @@ use Rattle.markdown_inlines.specs.declared.emphasis.Emphasis.{Emphasis}
 use Rattle.markdown_inlines.specs.declared.extensions.InlineExtensions.{InlineExtensions}
 use Rattle.markdown_inlines.specs.declared.links.Link.{Link}
 use Rattle.markdown_inlines.specs.declared.links.LinkTarget.{LinkTarget}
-use Rattle.markdown_inlines.specs.declared.links.LinkTarget.TheVariants.{Inline, Full, Collapsed, Shortcut}
+use Rattle.markdown_inlines.specs.declared.links.LinkTarget.TheVariants.{Inline, Full, Collapsed, Shortcut, Wiki}
 use Rattle.markdown_inlines.specs.declared.pieces.Piece.{Piece}
 use Rattle.markdown_inlines.specs.declared.pieces.PieceKind.{PieceKind}
 use Rattle.markdown_inlines.specs.declared.pieces.PieceKind.TheVariants as K
 use Rattle.markdown_inlines.specs.declared.reading.Opener.{Opener}
 use Rattle.markdown_inlines.proofs.cut.OneCut.{ReadAs, read_as}
+use Rattle.markdown_inlines.proofs.wiki_links.WikiLinkLemmas.{opener_later}
 
 -- ---- the links of openers
 
@@ -117,17 +118,25 @@ module _ (piece : Piece) (reading : Reading) (holds : Holds reading piece.start)
   with_piece_holds asked text (K.Delimiters run) len begins end =
       let same = moved piece.end (omega (arith, end)) in
       record { apart = same.apart; begun = same.begun; still_open = same.still_open }
-  with_piece_holds asked text K.LinkOpener len begins end = opened false (omega (arith, end, begins.1))
-  with_piece_holds asked text K.ImageOpener len begins end = opened true (omega (arith, end, begins.1))
+  with_piece_holds asked text K.LinkOpener len begins end =
+      opened false (omega (arith, end, opener_later asked text piece.start (piece.start + len) begins.1))
+  with_piece_holds asked text K.ImageOpener len begins end =
+      opened true (omega (arith, end, opener_later asked text (piece.start + 1) (piece.start + len) begins.1))
   with_piece_holds asked text K.Closer len begins end = moved piece.end (omega (arith, end))
 
 -- ---- right brackets
 
-pub ends_after : (text : List ℕ) (known : Known) (from close : ℕ) (target : LinkTarget) (end : ℕ) → IsTarget text known from close target end → close < end
+ends_after : (text : List ℕ) (known : Known) (from close : ℕ) (target : LinkTarget) (end : ℕ) → IsTarget text known from close target end → close < end
 ends_after text known from close (Inline destination title) end is = omega (arith, is.3)
 ends_after text known from close (Full label) end is = omega (arith, is.2, is.1.ends, is.1.known_after.1.1.closed)
 ends_after text known from close Collapsed end is = omega (arith, is.4)
 ends_after text known from close Shortcut end is = omega (arith, is.4)
+ends_after text known from close (Wiki target) end is = absurd is
+
+pub link_ends_after : (text : List ℕ) (known : Known) (opener : Opener) (close : ℕ) (target : LinkTarget) (end : ℕ)
+    → LeadsTo text known opener close target end → close < end
+link_ends_after text known opener close target end (inl is) = ends_after text known opener.text close target end is.1
+link_ends_after text known opener close target end (inr is) = omega (arith, is.4)
 
 not_true : (b : Bool) → not b ≡ true → b ≡ false
 not_true true is = (let lost : false ≡ true = is in cc)
@@ -195,7 +204,7 @@ module _ (known : Known) (reading : Reading) (opener : Opener) (outer : List Ope
       )
   begun_by n a image (inr old) =
       let was = holds.begun n a old in
-      let end = ends_after reading.text known opener.text close link.target link.source.end is_link.target in
+      let end = link_ends_after reading.text known opener close link.target link.source.end is_link.target in
       (omega (arith, was.0, (last_is link.is_image refl).0), omega (arith, was.1, end))
 
   later_by : (n : ℕ) (a : Link) → Found n a → (opener.start ≤ a.source.start) ⊎ IsLinkOf reading.links n a
@@ -204,7 +213,7 @@ module _ (known : Known) (reading : Reading) (opener : Opener) (outer : List Ope
 
   link_holds : Holds (with_link link opener outer reading) link.source.end
   link_holds =
-      let end = ends_after reading.text known opener.text close link.target link.source.end is_link.target in
+      let end = link_ends_after reading.text known opener close link.target link.source.end is_link.target in
       let begin_before = with_later reading.links links' outer opener.start (λ n a is. later_by n a (found n a is)) still.2 in
       record {
         apart = λ m n a b other is is'. apart_by m n a b other is.1 is'.1 (found m a is) (found n b is');

@@ -1,16 +1,20 @@
 -- A text has one cut.
 use Rattle.std.proofs.Common.{ℕ, List, [], ◌∷◌, ◌++◌, ◌≡◌, ◌<◌, ◌≤◌, ◌∙◌, ◌⊎◌, inl, inr, length, arith, refl, sym, ap, subst}
-use Rattle.std.proofs.Common.{Option}
+use Rattle.std.proofs.Common.{Option, ◌+◌}
+use Rattle.std.specs.declared.ops.Range.{Range}
 use Rattle.std.proofs.lemmas.Bool.{cases_lt}
 use Rattle.std.proofs.Math.ListN.{get_or-eq_default}
 use Rattle.markdown_inlines.specs.Emphasis.{emphasis_of}
 use Rattle.markdown_inlines.specs.Links.{Known}
-use Rattle.markdown_inlines.specs.Inlines.{Reading, at_start, with_piece, with_link, IsLink, EndsLink, EndsNone, IsClosed}
+use Rattle.markdown_inlines.specs.Inlines.{Reading, at_start, with_piece, with_link, bracket_of, LeadsTo, IsLink, EndsLink, EndsNone, IsClosed}
 use Rattle.markdown_inlines.specs.Inlines.{Setting, IsTextPiece, IsPieceAt, IsRead, AreRead, IsCut}
 use Rattle.markdown_inlines.specs.Pieces.{BeginsAt}
+use Rattle.markdown_inlines.specs.WikiLinks.{IsHead}
 use Rattle.markdown_inlines.specs.declared.emphasis.Emphasis.{Emphasis}
 use Rattle.markdown_inlines.specs.declared.extensions.InlineExtensions.{InlineExtensions}
 use Rattle.markdown_inlines.specs.declared.links.Link.{Link}
+use Rattle.markdown_inlines.specs.declared.links.LinkTarget.{LinkTarget}
+use Rattle.markdown_inlines.specs.declared.links.LinkTarget.TheVariants.{Wiki}
 use Rattle.markdown_inlines.specs.declared.pieces.Piece.{Piece}
 use Rattle.markdown_inlines.specs.declared.pieces.PieceKind.{PieceKind}
 use Rattle.markdown_inlines.specs.declared.pieces.PieceKind.TheVariants as K
@@ -18,6 +22,7 @@ use Rattle.markdown_inlines.specs.declared.reading.Opener.{Opener}
 use Rattle.markdown_inlines.proofs.link_targets.OneTarget.{one_target}
 use Rattle.markdown_inlines.proofs.pieces.OnePiece.{one_piece, same_piece}
 use Rattle.markdown_inlines.proofs.pieces.Openings.{begins_class, byte_class, no_kind}
+use Rattle.markdown_inlines.proofs.wiki_links.WikiLinkLemmas.{head_ends, one_head}
 
 -- a piece begins within the text
 pub begins_within : (asked : InlineExtensions) (text : List ℕ) (from place : ℕ) (kind : PieceKind) (len : ℕ)
@@ -29,10 +34,25 @@ begins_within asked text from place kind len begins = elim (cases_lt place (leng
 
 -- ---- what a right bracket does
 
+-- an opener is a bracket, or the head of a wikilink
+pub not_both : (text : List ℕ) (opener : Opener) (range : Range ℕ) → opener.text ≡ bracket_of opener + 1
+    → ¬ IsHead text (bracket_of opener) range opener.text
+not_both text opener range single is = omega (arith, single, (head_ends text (bracket_of opener) range opener.text is).later)
+
+pub one_lead : (text : List ℕ) (known : Known) (opener : Opener) (close : ℕ) (target target' : LinkTarget) (end end' : ℕ)
+    → LeadsTo text known opener close target end → LeadsTo text known opener close target' end' → (target ≡ target') × (end ≡ end')
+one_lead text known opener close target target' end end' (inl is) (inl is') =
+    one_target text known opener.text close target target' end end' is.1 is'.1
+one_lead text known opener close target target' end end' (inl is) (inr is') = absurd (not_both text opener is'.0 is.0 is'.2)
+one_lead text known opener close target target' end end' (inr is) (inl is') = absurd (not_both text opener is.0 is'.0 is.2)
+one_lead text known opener close target target' end end' (inr is) (inr is') =
+    let same = one_head text (bracket_of opener) is.0 is'.0 opener.text opener.text is.2 is'.2 in
+    (is.1 ∙ (ap (λ range. Wiki range) same.0 ∙ sym is'.1), is.4 ∙ sym is'.4)
+
 one_link : (text : List ℕ) (known : Known) (opener : Opener) (close : ℕ) (link link' : Link) → IsLink text known opener close link
     → IsLink text known opener close link' → link ≡ link'
 one_link text known opener close link link' is is' =
-    let target = one_target text known opener.text close link.target link'.target link.source.end link'.source.end is.target is'.target in
+    let target = one_lead text known opener close link.target link'.target link.source.end link'.source.end is.target is'.target in
     let image = is.is_image ∙ sym is'.is_image in
     let begins = is.begins ∙ sym is'.begins in
     let from = is.text_begins ∙ sym is'.text_begins in

@@ -19,7 +19,8 @@ use Rattle.markdown_inlines.specs.declared.pieces.Piece.{Piece}
 use Rattle.markdown_inlines.specs.declared.pieces.PieceKind.{PieceKind}
 use Rattle.markdown_inlines.specs.declared.pieces.PieceKind.TheVariants as K
 use Rattle.markdown_inlines.specs.declared.reading.Opener.{Opener}
-use Rattle.markdown_inlines.proofs.cut.LinkLaws.{added_in, ends_after}
+use Rattle.markdown_inlines.proofs.cut.LinkLaws.{added_in, link_ends_after}
+use Rattle.markdown_inlines.proofs.wiki_links.WikiLinkLemmas.{opener_later}
 use Rattle.markdown_inlines.proofs.cut.OneCut.{kind_number, ReadAs, read_as}
 use Rattle.markdown_inlines.proofs.inlines.NestLemmas.{AreLaid}
 use Rattle.markdown_inlines.proofs.inlines.NumberedPieces.{numbered, IsLong, Follow, opener_kind, HasOpener, HasCloser}
@@ -211,8 +212,10 @@ module _ (all : List (ℕ × Piece)) where
     with_piece_kept asked text K.Email len is begins end = moved piece.end (omega (arith, end))
     with_piece_kept asked text K.Html len is begins end = moved piece.end (omega (arith, end))
     with_piece_kept asked text (K.Delimiters run) len is begins end = run_kept run is (omega (arith, end))
-    with_piece_kept asked text K.LinkOpener len is begins end = opener_kept false is (omega (arith, end, begins.1))
-    with_piece_kept asked text K.ImageOpener len is begins end = opener_kept true is (omega (arith, end, begins.1))
+    with_piece_kept asked text K.LinkOpener len is begins end =
+        opener_kept false is (omega (arith, end, opener_later asked text piece.start (piece.start + len) begins.1))
+    with_piece_kept asked text K.ImageOpener len is begins end =
+        opener_kept true is (omega (arith, end, opener_later asked text (piece.start + 1) (piece.start + len) begins.1))
     with_piece_kept asked text K.Closer len is begins end = moved piece.end (omega (arith, end))
 
   -- ---- right brackets
@@ -273,7 +276,7 @@ module _ (all : List (ℕ × Piece)) where
 
       link_settled : IsSettled all link.source.end (inr (opener.number, link))
       link_settled =
-          let after = ends_after reading.text known opener.text close link.target link.source.end is_link.target in record {
+          let after = link_ends_after reading.text known opener close link.target link.source.end is_link.target in record {
             whole = record {
               opens = omega (arith, are.0.some, is_link.begins, is_link.text_begins);
               in_order = omega (arith, are.0.before, is_link.text_begins, is_link.text_ends);
@@ -308,7 +311,7 @@ module _ (all : List (ℕ × Piece)) where
 
       link_kept : IsKept (with_link link opener outer reading) link.source.end number
       link_kept =
-          let after = ends_after reading.text known opener.text close link.target link.source.end is_link.target in record {
+          let after = link_ends_after reading.text known opener close link.target link.source.end is_link.target in record {
             numbers = length-set reading.links opener.number (Some link) ∙ kept.numbers;
             settled = ended_settled;
             order = order_taken opener.runs reading.runs kept.order;
@@ -339,7 +342,7 @@ module _ (all : List (ℕ × Piece)) where
       let openers = subst (AreOpeners (IsSpan reading.links reading.emphasis) reading.runs piece.start (length reading.runs)) are kept.openers in
       let closer = subst (λ k. IsIn (number, record { kind = k; start = piece.start; end = piece.end }) all) kind is_in in
       let closer' = subst (λ n. IsIn (number, record { kind = K.Closer; start = piece.start; end = n }) all) is.end_is closer in
-      let after = ends_after reading.text known opener.text piece.start is.link.target is.link.source.end is.is_link.target in
+      let after = link_ends_after reading.text known opener piece.start is.link.target is.link.source.end is.is_link.target in
       let ended = link_kept known reading piece.start number kept opener outer openers is.link is.is_link closer' in (
         omega (arith, after, is.end_is),
         subst (λ r. IsKept r piece.end number) (sym is.next_is)

@@ -4,7 +4,7 @@ use Rattle.std.specs.declared.ops.Range.{Range}
 use Rattle.markdown_inlines.specs.Links.{Known, IsTarget, HasNoLabelAfter, inline_target, most_parentheses}
 use Rattle.markdown_inlines.specs.declared.link_tails.LinkTail.{LinkTail}
 use Rattle.markdown_inlines.specs.declared.links.LinkTarget.{LinkTarget}
-use Rattle.markdown_inlines.specs.declared.links.LinkTarget.TheVariants.{Inline, Full, Collapsed, Shortcut}
+use Rattle.markdown_inlines.specs.declared.links.LinkTarget.TheVariants.{Inline, Full, Collapsed, Shortcut, Wiki}
 use Rattle.markdown_inlines.proofs.link_tails.OneLinkTail.{one_link_tail, same_range}
 use Rattle.markdown_inlines.proofs.link_targets.TargetLemmas.{one_label_at}
 
@@ -54,3 +54,5 @@ module _ (text : List ℕ) (known : Known) (from close : ℕ) where
   one_target Shortcut (Full label') end end' is is' = absurd (followed label' end' is' is.1)
   one_target Shortcut Collapsed end end' is is' = (let lost : true ≡ false = sym is'.2 ∙ is.2 in cc)
   one_target Shortcut Shortcut end end' is is' = (refl, is.4 ∙ sym is'.4)
+  one_target (Wiki range) target' end end' is is' = absurd is
+  one_target target (Wiki range) end end' is is' = absurd is'

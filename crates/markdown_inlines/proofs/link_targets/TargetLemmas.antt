@@ -16,7 +16,7 @@ use Rattle.markdown_scanners_tree.proofs.PrefixLemmas.{from_place}
 use Rattle.markdown_scanners_tree.specs.scanners.reference_definitions.ReferenceDefinition.{IsCutAt}
 use Rattle.markdown_inlines.specs.Links.{shifted, Known, IsLabelAt, IsKnownLabel, IsTarget, HasNoTail, HasNoLabelAfter}
 use Rattle.markdown_inlines.specs.declared.links.LinkTarget.{LinkTarget}
-use Rattle.markdown_inlines.specs.declared.links.LinkTarget.TheVariants.{Inline, Full, Collapsed, Shortcut}
+use Rattle.markdown_inlines.specs.declared.links.LinkTarget.TheVariants.{Inline, Full, Collapsed, Shortcut, Wiki}
 
 chosen : {A : Type 0} (test : Bool) (x y : A) → (if test then Some x else None) ≡ Some y → x ≡ y
 chosen true x y is = (let same : Some x ≡ Some y = is in cc)
@@ -84,6 +84,7 @@ module _ (text : List ℕ) (known : Known) (from close : ℕ) where
     no_target unlabelled unknown (Full label) end is = unlabelled is.1.bracket (let after = is.1.known_after in (after.0, after.1.0, after.1.1))
     no_target unlabelled unknown Collapsed end is = unknown is.3
     no_target unlabelled unknown Shortcut end is = unknown is.3
+    no_target unlabelled unknown (Wiki range) end is = is
 
     -- a label follows that is not defined
     no_full : (end : ℕ) (name : List ℕ) → occurs_at text (codes "[") (close + 1) ≡ true → IsLabelAt text (close + 1 + 1) end name
@@ -96,6 +97,7 @@ module _ (text : List ℕ) (known : Known) (from close : ℕ) where
         cc
     no_full end name begins is unknown Collapsed to target = target.1 end (begins, name, is)
     no_full end name begins is unknown Shortcut to target = target.1 end (begins, name, is)
+    no_full end name begins is unknown (Wiki range) to target = target
 
     pub full_or_none : (end : ℕ) (name : List ℕ) (answer : Option (LinkTarget × ℕ))
         → occurs_at text (codes "[") (close + 1) ≡ true → IsLabelAt text (close + 1 + 1) end name

@@ -33,6 +33,7 @@ use Rattle.markdown_inlines.proofs.line_breaks.LineBreakLemmas.{before_length, b
 use Rattle.markdown_inlines.proofs.pieces.NoSkipTags.{kept_of_source}
 use Rattle.markdown_inlines.proofs.pieces.Openings.{begins_class, kind_class, opener_of_find}
 use Rattle.markdown_inlines.proofs.pieces.Openings.{only_angle, only_bracket, only_break, only_code, only_delimiters, only_reference}
+use Rattle.markdown_inlines.proofs.wiki_links.WikiLinkLemmas.{one_opener_end}
 
 -- ---- escapes and line breaks
 
@@ -184,13 +185,13 @@ module _ (asked : InlineExtensions) (text : List ℕ) (from place len' : ℕ) wh
       (ap (λ r. Delimiters r) same, b.1 ∙ ap (λ r. r.count) same ∙ sym is.1)) b'
   one_piece LinkOpener len kind' b b' =
       only_bracket (Is LinkOpener len) kind' (same_class LinkOpener kind' len b b')
-      (λ is. (refl, b.1 ∙ sym is.1))
+      (λ is. (refl, omega (arith, one_opener_end asked text place (place + len) (place + len') b.1 is.1)))
       (λ is. absurd (omega (arith, first_is (codes "[") (codes "![") b.0 is.0 (omega arith) (omega arith))))
       (λ is. absurd (omega (arith, first_is (codes "[") (codes "]") b.0 is.0 (omega arith) (omega arith)))) b'
   one_piece ImageOpener len kind' b b' =
       only_bracket (Is ImageOpener len) kind' (same_class ImageOpener kind' len b b')
       (λ is. absurd (omega (arith, first_is (codes "![") (codes "[") b.0 is.0 (omega arith) (omega arith))))
-      (λ is. (refl, b.1 ∙ sym is.1))
+      (λ is. (refl, omega (arith, one_opener_end asked text (place + 1) (place + len) (place + len') b.1 is.1)))
       (λ is. absurd (omega (arith, first_is (codes "![") (codes "]") b.0 is.0 (omega arith) (omega arith)))) b'
   one_piece Closer len kind' b b' =
       only_bracket (Is Closer len) kind' (same_class Closer kind' len b b')

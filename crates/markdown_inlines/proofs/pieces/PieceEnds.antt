@@ -25,6 +25,7 @@ use Rattle.markdown_scanners_tree.proofs.inline_html.ScanBounds.{end_of-bounds}
 use Rattle.markdown_inlines.specs.DelimiterRuns.{IsRunOf}
 use Rattle.markdown_inlines.specs.LineBreaks.{IsLineBreak}
 use Rattle.markdown_inlines.specs.Pieces.{BeginsAt, IsCodePiece, IsHtmlPiece}
+use Rattle.markdown_inlines.specs.WikiLinks.{IsOpenerEnd}
 use Rattle.markdown_inlines.specs.declared.delimiter_runs.DelimiterRun.{DelimiterRun}
 use Rattle.markdown_inlines.specs.declared.extensions.InlineExtensions.{InlineExtensions}
 use Rattle.markdown_inlines.specs.declared.line_breaks.LineBreak.{LineBreak}
@@ -35,6 +36,7 @@ use Rattle.markdown_inlines.proofs.delimiter_runs.DelimiterRunLemmas.{run_ends}
 use Rattle.markdown_inlines.proofs.line_breaks.LineBreakLemmas.{before_only, cut_behind_break}
 use Rattle.markdown_inlines.proofs.pieces.NoSkipTags.{tag_ends}
 use Rattle.markdown_inlines.proofs.pieces.Openings.{begins_class, byte_class, no_kind}
+use Rattle.markdown_inlines.proofs.wiki_links.WikiLinkLemmas.{head_ends}
 
 -- some bytes from a place on are in the text, and behind them it may be cut
 pub record IsPart (text : List ℕ) (place len : ℕ) : Type 0 where
@@ -229,6 +231,15 @@ run_of_part asked text place len run (inl is) counted =
 run_of_part asked text place len run (inr is) counted =
     run_part text place len run (omega (arith, is.1.delimiter)) is.1.some is.1.longest counted
 
+-- an opener from a place on, whose left bracket stands at another, and which is so long without wikilinks
+opener_part : (asked : InlineExtensions) (text : List ℕ) (place bracket len single : ℕ) → IsOpenerEnd asked text bracket (place + len)
+    → place + single ≡ bracket + 1 → IsPart text place single → IsPart text place len
+opener_part asked text place bracket len single (inl is) ends part =
+    let head = head_ends text bracket is.1 (place + len) is.2 in
+    record { some = omega (arith, head.later, ends, part.some); within = head.within; cut = head.cut }
+opener_part asked text place bracket len single (inr is) ends part =
+    subst (IsPart text place) (omega (arith, is.1, ends)) part
+
 pub piece_part : (asked : InlineExtensions) (text : List ℕ) (from place : ℕ) (kind : PieceKind) (len : ℕ) → place ≤ length text
     → BeginsAt asked text from place kind len → IsPart text place len
 piece_part asked text from place Text len inside begins = absurd begins
@@ -251,8 +262,9 @@ piece_part asked text from place Email len inside begins =
 piece_part asked text from place Html len inside begins = html_part text place len begins.2
 piece_part asked text from place (Delimiters run) len inside begins = run_of_part asked text place len run begins.0 begins.1
 piece_part asked text from place LinkOpener len inside begins =
-    subst (IsPart text place) (sym begins.1) (occurs_part text (codes "[") place begins.0 (omega arith) (omega arith))
+    opener_part asked text place place len 1 begins.1 refl (occurs_part text (codes "[") place begins.0 (omega arith) (omega arith))
 piece_part asked text from place ImageOpener len inside begins =
-    subst (IsPart text place) (sym begins.1) (occurs_part text (codes "![") place begins.0 (omega arith) (omega arith))
+    opener_part asked text place (place + 1) len 2 begins.1 (omega arith)
+    (occurs_part text (codes "![") place begins.0 (omega arith) (omega arith))
 piece_part asked text from place Closer len inside begins =
     subst (IsPart text place) (sym begins.1) (occurs_part text (codes "]") place begins.0 (omega arith) (omega arith))

@@ -1,10 +1,15 @@
 -- What the openers and the runs that have been read hold to stays so.
 use Rattle.std.proofs.Common.{ℕ, Bool, true, false, length, List, [], ◌∷◌, ◌++◌, ◌≡◌, ◌≤◌, ◌∙◌, arith, sym, ap, subst, take, drop, slice_set}
-use Rattle.std.proofs.Common.{if◌then◌else◌, reverse, Option, Some, None}
+use Rattle.std.proofs.Common.{if◌then◌else◌, reverse, Option, Some, None, ◌+◌, inl, inr}
 use Rattle.std.proofs.lemmas.List.{reverse-append, length-append}
 use Rattle.std.proofs.lemmas.List.Elements.{All-append, All-cons}
 use Rattle.std.specs.Option.{option_to_list}
-use Rattle.markdown_inlines.specs.Inlines.{Reading, with_link}
+use Rattle.markdown_scanners_tree.specs.SomeExactly.{SomeExactly}
+use Rattle.markdown_scanners_tree.proofs.SomeExactlyLemmas.{SomeExactly-map}
+use Rattle.markdown_inlines.specs.Inlines.{Reading, bracket_of, IsWikiTarget, LeadsTo, with_link}
+use Rattle.markdown_inlines.specs.Links.{Known, IsTarget}
+use Rattle.markdown_inlines.specs.declared.links.LinkTarget.{LinkTarget}
+use Rattle.markdown_inlines.proofs.wiki_links.WikiLinkLemmas.{head_ends}
 use Rattle.markdown_inlines.specs.Emphasis.{emphasis_of}
 use Rattle.markdown_inlines.specs.declared.emphasis.Emphasis.{Emphasis}
 use Rattle.markdown_inlines.specs.declared.links.Link.{Link}
@@ -64,3 +69,32 @@ with_link_is link opener reading runs last_link found emphasis runs-are last-is 
       links = slice_set reading.links opener.number (Some link);
       emphasis = with_found i;
     }
+
+-- where an opener leads that is one bracket, and where one leads that is not
+module _ (text : List ℕ) (known : Known) (opener : Opener) (close : ℕ) where
+  abbrev Leads : LinkTarget × ℕ → Type 0
+  Leads r = LeadsTo text known opener close r.0 r.1
+
+  abbrev Targets : LinkTarget × ℕ → Type 0
+  Targets r = IsTarget text known opener.text close r.0 r.1
+
+  abbrev WikiTargets : LinkTarget × ℕ → Type 0
+  WikiTargets r = IsWikiTarget text (bracket_of opener) opener.text close r.0 r.1
+
+  no_lead_single : opener.text ≡ bracket_of opener + 1 → ((r : LinkTarget × ℕ) → ¬ Targets r) → (r : LinkTarget × ℕ) → ¬ Leads r
+  no_lead_single single none r (inl is) = none r is.1
+  no_lead_single single none r (inr is) =
+      omega (arith, single, (head_ends text (bracket_of opener) is.0 opener.text is.2).later)
+
+  no_lead_wiki : ¬ (opener.text ≡ bracket_of opener + 1) → ((r : LinkTarget × ℕ) → ¬ WikiTargets r) → (r : LinkTarget × ℕ) → ¬ Leads r
+  no_lead_wiki other none r (inl is) = other is.0
+  no_lead_wiki other none r (inr is) = none r is
+
+  pub leads_single : (found : Option (LinkTarget × ℕ)) → opener.text ≡ bracket_of opener + 1 → SomeExactly Targets found
+      → SomeExactly Leads found
+  leads_single found single holds =
+      SomeExactly-map Targets Leads found (λ r is. inl (single, is)) (no_lead_single single) holds
+
+  pub leads_wiki : (found : Option (LinkTarget × ℕ)) → ¬ (opener.text ≡ bracket_of opener + 1) → SomeExactly WikiTargets found
+      → SomeExactly Leads found
+  leads_wiki found other holds = SomeExactly-map WikiTargets Leads found (λ r is. inr is) (no_lead_wiki other) holds

@@ -26,7 +26,7 @@ pub record AreLabelsOf (page : List ℕ) (known : Known) : Type 0 where
 
 -- with these labels defined, and no extension asked for
 abbrev pub commonmark : Known → Setting
-commonmark known = record { asked = record { strikethrough = false }; known = known }
+commonmark known = record { asked = record { strikethrough = false; wikilinks = false }; known = known }
 
 -- the lines of the inlines of a content that is text, before whose block so many bytes of the page stand
 pub record AreInlineLines (known : Known) (start : ℕ) (content : Placed) (lines : List ℕ) : Type 0 where

@@ -76,12 +76,14 @@ abbrev pub title_text : List ℕ → Option (Range ℕ) → List ℕ
 title_text text None = []
 title_text text (Some title) = quoted_range text title
 
--- where a link leads with this link text: its destination and its title as they are written, or the label that stands for them
+-- where a link leads with this link text: its destination and its title as they are written, or the label that stands for them, or the
+-- target of a wikilink
 abbrev pub target_text : List ℕ → Range ℕ → LinkTarget → List ℕ
 target_text text words (T.Inline destination title) = codes " inline" ++ quoted_range text destination ++ title_text text title
 target_text text words (T.Full label) = codes " full" ++ quoted_range text label
 target_text text words T.Collapsed = codes " collapsed" ++ quoted_range text words
 target_text text words T.Shortcut = codes " shortcut" ++ quoted_range text words
+target_text text words (T.Wiki target) = codes " wikilink" ++ quoted_range text target
 
 abbrev pub link_word : Bool → List ℕ
 link_word true = codes "start image"

@@ -76,11 +76,13 @@ pub const INLINE_STRIKETHROUGH: u32 = 16;
 pub const INLINE_STRIKETHROUGH_END: u32 = 17;
 
 pub const STRIKETHROUGH: u32 = 1;
+pub const WIKILINKS: u32 = 2;
 
 pub const TARGET_INLINE: u32 = 1;
 pub const TARGET_FULL: u32 = 2;
 pub const TARGET_COLLAPSED: u32 = 3;
 pub const TARGET_SHORTCUT: u32 = 4;
+pub const TARGET_WIKI: u32 = 5;
 
 pub const HTML_RAW_TEXT: u32 = 1;
 pub const HTML_COMMENT: u32 = 2;

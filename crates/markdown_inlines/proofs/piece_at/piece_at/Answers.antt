@@ -38,7 +38,7 @@ returns-in-42-clause-stays_true c = λ q later outside.
 pub returns-in_default-clause-found : goal.returns-in_default-clause-found
 returns-in_default-clause-found c = λ from apart.
     subst (λ t. SomeExactly (λ r. BeginsAt c.args.extensions t from c.args.place r.0 r.1) c.short_piece_at.result) c.as_bytes-bytes.ensures.value
-    (c.short_piece_at.ensures.found c.args.extensions from)
+    (c.short_piece_at.ensures.found from)
 
 pub returns-in_default-clause-stays_true : goal.returns-in_default-clause-stays_true
 returns-in_default-clause-stays_true c = λ q later outside.

@@ -7,8 +7,17 @@ break_at-requires-clause-no_escape c = λ is. c.if-byte-eq92.false (escape_front
 
 pub returns-else-byte-eq38 : goal.returns-else-byte-eq38
 returns-else-byte-eq38 c = record {
-  found = λ asked from r begins.
-      plain_begins_none asked c.args.bytes.now from c.args.place
+  found = λ from r begins.
+      plain_begins_none c.args.extensions c.args.bytes.now from c.args.place
       (plain_from (get_or c.args.bytes.now c.args.place 0) (sym c.opens_break.ensures ∙ c.if-opens_break.false)
       (sym c.opens_bracket.ensures ∙ c.if-opens_bracket.false) c.requires.short c.if-byte-eq38.false) r.0 r.1 begins;
 }
+
+pub returns-then-byte-eq92 : goal.returns-then-byte-eq92
+returns-then-byte-eq92 c = record { found = c.escape_at.ensures.found c.args.extensions }
+
+pub returns-then-opens_break : goal.returns-then-opens_break
+returns-then-opens_break c = record { found = c.break_at.ensures.found c.args.extensions }
+
+pub returns-then-byte-eq38 : goal.returns-then-byte-eq38
+returns-then-byte-eq38 c = record { found = c.reference_at.ensures.found c.args.extensions }

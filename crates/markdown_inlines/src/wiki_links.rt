@@ -1,0 +1,95 @@
+//! Wikilinks, an extension. (Obsidian's internal links)
+ghost use Rattle.std.specs.Prelude.{◌≡◌, ◌+◌, ◌<◌, ◌≤◌, length, codes, true, IfSome};
+ghost use Rattle.std.specs.List.{prefix_len};
+ghost use Rattle.std.specs.Str.{IsUtf8, IsCharBoundary};
+ghost use Rattle.memchr.specs.Find.{occurs_at};
+ghost use Rattle.markdown_scanners_tree.specs.SomeExactly.{SomeExactly};
+ghost use Rattle.markdown_inlines.specs.Inlines.{IsWikiTarget};
+ghost use Rattle.markdown_inlines.specs.Sources.{IsTargetSource};
+ghost use Rattle.markdown_inlines.specs.WikiLinks.{is_target_byte, IsHead, IsOpenerEnd};
+
+use crate::extensions::InlineExtensions;
+use crate::links::LinkTarget;
+use std::ops::Range;
+
+// How long an opener is from its left bracket on, which stands at the place.
+pub(crate) fn opener_len(bytes: &[u8], extensions: InlineExtensions, place: usize) -> usize
+    requires { place < length bytes.now }
+    ensures ends { IsOpenerEnd extensions bytes.now place (place + result) }
+    ensures within { (0 < result) × (place + result ≤ length bytes.now) }
+{
+    if !extensions.wikilinks {
+        return 1;
+    }
+    match scan_head(bytes, place) {
+        Some((_, end)) => end - place,
+        None => 1,
+    }
+}
+
+// Where a wikilink leads whose left brackets stand at a place, and its link text from another to a
+// right bracket, and the place after the link.
+pub(crate) fn scan_wiki_target(
+    bytes: &[u8],
+    place: usize,
+    from: usize,
+    close: usize,
+) -> Option<(LinkTarget, usize)>
+    requires place { place ≤ length bytes.now }
+    requires close { close ≤ length bytes.now }
+    ensures found { SomeExactly (λ r. IsWikiTarget bytes.now place from close r.0 r.1) result }
+    ensures within { IfSome result (λ r. (close < r.1) × (r.1 ≤ length bytes.now)) }
+    ensures boundary { IfSome result (λ r. IsUtf8 bytes.now → IsCharBoundary bytes.now r.1) }
+    ensures source { IfSome result (λ r. IsUtf8 bytes.now → IsTargetSource bytes.now r.0) }
+{
+    let (target, head_end) = scan_head(bytes, place)?;
+    if head_end == from && bytes[close..].starts_with(b"]]") {
+        Some((LinkTarget::Wiki(target), close + 2))
+    } else {
+        None
+    }
+}
+
+// The head of a wikilink at the place: where its target stands, and the place after the head.
+fn scan_head(bytes: &[u8], place: usize) -> Option<(Range<usize>, usize)>
+    requires { place ≤ length bytes.now }
+    ensures found { SomeExactly (λ r. IsHead bytes.now place r.0 r.1) result }
+    ensures within { IfSome result (λ r. (place < r.1) × (r.1 ≤ length bytes.now)) }
+{
+    if !bytes[place..].starts_with(b"[[") {
+        return None;
+    }
+    let start = place + 2;
+    let end = start + target_len(&bytes[start..]);
+    if start == end {
+        None
+    } else if bytes[end..].starts_with(b"|") {
+        Some((start..end, end + 1))
+    } else if bytes[end..].starts_with(b"]]") {
+        Some((start..end, end))
+    } else {
+        None
+    }
+}
+
+// How many bytes of a target stand at the front.
+fn target_len(bytes: &[u8]) -> usize
+    ensures count { result ≡ prefix_len is_target_byte bytes.now }
+    ensures within { result ≤ length bytes.now }
+{
+    let mut rest = bytes;
+    while let [byte, after @ ..] = rest {
+        if !is_target_byte(*byte) {
+            break;
+        }
+        rest = after;
+    }
+    bytes.len() - rest.len()
+}
+
+// Whether the byte may stand in a target.
+fn is_target_byte(byte: u8) -> bool
+    ensures { result ≡ is_target_byte byte }
+{
+    !matches!(byte, b'[' | b']' | b'|' | b'\n' | b'\r')
+}
