@@ -17,6 +17,27 @@ use markdown_scanners_tree::scanners::scan_ch_repeat;
 use std::alloc::{AllocError, Global};
 use std::marker::Model;
 
+// For each byte whether no piece but text begins with it.
+const PLAIN: [bool; 256] = [
+    true, true, true, true, true, true, true, true, true, true, false, true, true, false, true,
+    true, true, true, true, true, true, true, true, true, true, true, true, true, true, true, true,
+    true, false, false, true, true, true, true, false, true, true, true, false, true, true, true,
+    true, true, true, true, true, true, true, true, true, true, true, true, true, true, false,
+    true, true, true, true, true, true, true, true, true, true, true, true, true, true, true, true,
+    true, true, true, true, true, true, true, true, true, true, true, true, true, true, false,
+    false, false, true, false, false, true, true, true, true, true, true, true, true, true, true,
+    true, true, true, true, true, true, true, true, true, true, true, true, true, true, true, true,
+    true, true, true, false, true, true, true, true, true, true, true, true, true, true, true,
+    true, true, true, true, true, true, true, true, true, true, true, true, true, true, true, true,
+    true, true, true, true, true, true, true, true, true, true, true, true, true, true, true, true,
+    true, true, true, true, true, true, true, true, true, true, true, true, true, true, true, true,
+    true, true, true, true, true, true, true, true, true, true, true, true, true, true, true, true,
+    true, true, true, true, true, true, true, true, true, true, true, true, true, true, true, true,
+    true, true, true, true, true, true, true, true, true, true, true, true, true, true, true, true,
+    true, true, true, true, true, true, true, true, true, true, true, true, true, true, true, true,
+    true, true, true, true, true, true,
+];
+
 // A text with its extensions, the place up to which it has been read, and what is known of code spans and HTML after that.
 #[derive(Drop)]
 pub(crate) struct PieceScanner<'a> {
@@ -206,11 +227,5 @@ fn is_word_space(byte: u8, after: &[u8]) -> bool
 fn is_plain(byte: u8) -> bool
     ensures { result ≡ is_plain byte }
 {
-    if byte > b'`' {
-        return byte != b'~';
-    }
-    !matches!(
-        byte,
-        b'\\' | b'&' | b'`' | b'<' | b'[' | b'!' | b']' | b'*' | b'_' | b' ' | b'\n' | b'\r'
-    )
+    PLAIN[byte as usize]
 }
