@@ -2,7 +2,7 @@
 
 use crate::loops::{each_stretch, two};
 use markdown_inlines::extensions::InlineExtensions;
-use markdown_inlines::inlines::{Inline, find_inlines};
+use markdown_inlines::inlines::{Inline, InlineFinder, find_inlines};
 use markdown_inlines::links::Labels;
 use std::alloc::{AllocError, Global};
 
@@ -32,19 +32,45 @@ impl Labels for AllLabels {
     }
 }
 
-fn counted<L: Labels>(alloc: Global, text: &str, labels: &L) -> u64 {
-    let Ok(found) = find_inlines(alloc, text, labels, InlineExtensions::none()) else {
+// What is counted of the inlines of a text.
+fn counted(inlines: &[Inline]) -> u64 {
+    let is_leaf = |inline: &&Inline| -> bool { matches!(inline, Inline::Leaf(_)) };
+    let leaves = inlines.iter().filter(is_leaf).count();
+    two(inlines.len(), leaves as u64)
+}
+
+// The sum of what a finder finds in each stretch of a text between two of the places; 0 for bytes
+// that are no UTF-8.
+fn found<L: Labels>(alloc: Global, text: &[u8], at: &[usize], rounds: usize, labels: &L) -> u64 {
+    let Ok(text) = str::from_utf8(text) else {
         return 0;
     };
-    let is_leaf = |inline: &&Inline| -> bool { matches!(inline, Inline::Leaf(_)) };
-    let leaves = found.inlines.iter().filter(is_leaf).count();
-    two(found.inlines.len(), leaves as u64)
+    let mut finder = InlineFinder::new(alloc);
+    let mut sum: u64 = 0;
+    for _ in 0..rounds {
+        let mut from = 0;
+        for place in at {
+            let to = *place;
+            if from <= to && text.is_char_boundary(from) && text.is_char_boundary(to) {
+                sum = sum.wrapping_add(next(alloc, &mut finder, &text[from..to], labels));
+            }
+            from = to;
+        }
+    }
+    sum
+}
+
+// What is counted of the next text.
+fn next<L: Labels>(alloc: Global, finder: &mut InlineFinder, text: &str, labels: &L) -> u64 {
+    match finder.find(alloc, text, labels, InlineExtensions::none()) {
+        Ok(()) => counted(finder.inlines()),
+        Err(_) => 0,
+    }
 }
 
 #[unsafe(no_mangle)]
 pub extern "C" fn ours_inlines(alloc: Global, text: &[u8], at: &[usize], rounds: usize) -> u64 {
-    let call = |text: &str| -> u64 { counted(alloc, text, &NoLabels) };
-    each_stretch(text, at, rounds, &call)
+    found(alloc, text, at, rounds, &NoLabels)
 }
 
 // Where every label is defined.
@@ -55,6 +81,22 @@ pub extern "C" fn ours_inlines_defined(
     at: &[usize],
     rounds: usize,
 ) -> u64 {
-    let call = |text: &str| -> u64 { counted(alloc, text, &AllLabels) };
+    found(alloc, text, at, rounds, &AllLabels)
+}
+
+// Each text alone, with memory of its own.
+#[unsafe(no_mangle)]
+pub extern "C" fn ours_inlines_once(
+    alloc: Global,
+    text: &[u8],
+    at: &[usize],
+    rounds: usize,
+) -> u64 {
+    let call = |text: &str| -> u64 {
+        match find_inlines(alloc, text, &NoLabels, InlineExtensions::none()) {
+            Ok(found) => counted(&found.inlines),
+            Err(_) => 0,
+        }
+    };
     each_stretch(text, at, rounds, &call)
 }

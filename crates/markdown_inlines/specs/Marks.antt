@@ -10,13 +10,13 @@ use Rattle.markdown_inlines.specs.declared.marks.Mark.TheVariants as M
 -- the marks of the first delimiter on each side: of strikethrough, of strong emphasis, which has two, or of emphasis
 abbrev pub opening_mark : Emphasis → Mark
 opening_mark emphasis =
-    if emphasis.byte == tilde then M.OpensStrikethrough emphasis.count
+    if emphasis.byte == tilde then (if emphasis.count == 2 then M.OpensStrikethroughOfTwo else M.OpensStrikethrough)
     else if emphasis.count == 2 then M.OpensStrong
     else M.OpensEmphasis
 
 abbrev pub closing_mark : Emphasis → Mark
 closing_mark emphasis =
-    if emphasis.byte == tilde then M.ClosesStrikethrough emphasis.count
+    if emphasis.byte == tilde then (if emphasis.count == 2 then M.ClosesStrikethroughOfTwo else M.ClosesStrikethrough)
     else if emphasis.count == 2 then M.ClosesStrong
     else M.ClosesEmphasis
 

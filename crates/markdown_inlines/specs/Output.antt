@@ -24,8 +24,10 @@ delimiter_with M.OpensEmphasis place = I.StartEmphasis place 1 ∷ []
 delimiter_with M.OpensStrong place = I.StartEmphasis place 2 ∷ []
 delimiter_with M.ClosesEmphasis place = I.EndEmphasis place 1 ∷ []
 delimiter_with M.ClosesStrong place = I.EndEmphasis place 2 ∷ []
-delimiter_with (M.OpensStrikethrough count) place = I.StartStrikethrough place count ∷ []
-delimiter_with (M.ClosesStrikethrough count) place = I.EndStrikethrough place count ∷ []
+delimiter_with M.OpensStrikethrough place = I.StartStrikethrough place 1 ∷ []
+delimiter_with M.OpensStrikethroughOfTwo place = I.StartStrikethrough place 2 ∷ []
+delimiter_with M.ClosesStrikethrough place = I.EndStrikethrough place 1 ∷ []
+delimiter_with M.ClosesStrikethroughOfTwo place = I.EndStrikethrough place 2 ∷ []
 delimiter_with M.Second place = []
 delimiter_with mark place = byte_at place ∷ []
 
@@ -73,3 +75,11 @@ pub record AreInlines (text : List ℕ) (setting : Setting) (inlines : List Inli
   pub emphasis : List Emphasis
   pub cut : IsCut text setting pieces links emphasis
   pub inlines_are : inlines ≡ inlines_from links emphasis 0 pieces
+
+-- what has been found of a text: its inlines, and the links that its openers begin
+pub record FoundInlines : Type 0 where
+  pub inlines : List Inline
+  pub links : List (Option Link)
+
+abbrev pub none_found : FoundInlines
+none_found = record { inlines = []; links = [] }

@@ -1,5 +1,5 @@
 //! A text cut into its inlines. (CommonMark 0.31.2, chapter 6)
-ghost use Rattle.std.specs.Prelude.{◌≡◌, ◌++◌, ◌<◌, ◌≤◌, ◌+◌, length, IfOk, OnOk};
+ghost use Rattle.std.specs.Prelude.{◌≡◌, ◌++◌, ◌<◌, ◌≤◌, ◌+◌, [], length, IfOk, OnOk};
 ghost use Rattle.std.specs.Str.{IsCharBoundary};
 ghost use Rattle.markdown_inlines.specs.Inlines.{IsCut, IsRead, IsPieceAt, text_between};
 ghost use Rattle.markdown_inlines.specs.Readings.{AreBefore};
@@ -10,7 +10,7 @@ use crate::extensions::InlineExtensions;
 use crate::links::{Labels, Link};
 use crate::piece_scanner::PieceScanner;
 use crate::pieces::{Piece, PieceKind};
-use crate::reading::Reader;
+use crate::reading::{Reader, ReaderBuffers};
 use std::alloc::{AllocError, Global};
 
 /// A text cut into its pieces, and what they make together.
@@ -53,9 +53,54 @@ pub fn cut_inlines<L: Labels>(
     // The text may be cut on both sides of each part of a link.
     ensures links { IfOk result (λ cut. AreLinkSources text.now cut.links.items) }
 {
-    let mut scanner = PieceScanner::new(alloc, text, extensions)?;
-    let mut reader = Reader::new(alloc, text);
-    let mut pieces = Vec::new(alloc);
+    let cut = cut_within(alloc, CutBuffers::new(alloc), text, labels, extensions)?;
+    Ok(Cut {
+        pieces: cut.pieces,
+        links: cut.reader.links,
+        emphasis: cut.reader.emphasis,
+    })
+}
+
+// The memory that a text is cut in, with its cut at the end.
+#[derive(Drop)]
+pub(crate) struct CutBuffers {
+    pub(crate) pieces: Vec<Piece>,
+    pub(crate) reader: ReaderBuffers,
+    strings: Vec<usize>,
+}
+
+impl CutBuffers {
+    // Nothing is cut yet.
+    pub(crate) fn new(alloc: Global) -> CutBuffers
+        ensures { result.reader.links.items ≡ [] }
+    {
+        CutBuffers {
+            pieces: Vec::new(alloc),
+            reader: ReaderBuffers::new(alloc),
+            strings: Vec::new(alloc),
+        }
+    }
+}
+
+// Cuts a text as `cut_inlines` does. Nothing depends on what is in the buffers.
+pub(crate) fn cut_within<L: Labels>(
+    alloc: Global,
+    buffers: CutBuffers,
+    text: &str,
+    labels: &L,
+    extensions: InlineExtensions,
+) -> Result<CutBuffers, AllocError>
+    ensures cut { IfOk result (λ cut.
+        IsCut text.now (record { asked = extensions; known = L.known labels.now })
+        cut.pieces.items cut.reader.links.items cut.reader.emphasis.items) }
+    ensures sources { IfOk result (λ cut.
+        AreSources text.now cut.pieces.items (length text.now)) }
+    ensures links { IfOk result (λ cut. AreLinkSources text.now cut.reader.links.items) }
+{
+    let mut scanner = PieceScanner::within(buffers.strings, text, extensions)?;
+    let mut reader = Reader::new(buffers.reader, text);
+    let mut pieces = buffers.pieces;
+    pieces.clear();
     let mut place = 0;
     while let Some(piece) = scanner.next(alloc) {
         push_text(&mut pieces, place, piece.start)?;
@@ -67,11 +112,11 @@ pub fn cut_inlines<L: Labels>(
         scanner.read_to(place);
     }
     push_text(&mut pieces, place, text.len())?;
-    let (links, emphasis) = reader.finish(alloc)?;
-    Ok(Cut {
+    let found = reader.finish(alloc)?;
+    Ok(CutBuffers {
         pieces,
-        links,
-        emphasis,
+        reader: found,
+        strings: scanner.into_buffer(),
     })
 }
 

@@ -10,6 +10,7 @@ ghost use Rattle.markdown_inlines.specs.declared.emphasis.Delimiters.{Delimiters
 use crate::delimiter_runs::DelimiterRun;
 use std::alloc::{AllocError, Global};
 use std::marker::Model;
+use std::mem;
 
 // How many kinds of closers there are: of `*` and `_` by byte, whether they can open too, and their
 // length modulo three; of tildes by their length, up to three.
@@ -74,23 +75,59 @@ pub fn find_emphasis(alloc: Global, runs: &[Delimiters]) -> Result<Vec<Emphasis>
     // It is what the procedure of the specification makes of the runs.
     ensures { IfOk result (λ emphasis. emphasis.items ≡ emphasis_of runs.now) }
 {
-    let mut openers = Openers::new(alloc);
     let mut emphasis = Vec::new(alloc);
-    for run in runs {
-        openers.read(*run, &mut emphasis)?;
-    }
+    let mut buffer = Vec::new(alloc);
+    push_emphasis(alloc, &mut buffer, runs, &mut emphasis)?;
     Ok(emphasis)
 }
 
+// Adds the emphasis of a text with these runs. The runs that can still open emphasis are kept in
+// the buffer; nothing depends on what is in it.
+pub(crate) fn push_emphasis(
+    alloc: Global,
+    buffer: &mut Vec<Delimiters>,
+    runs: &[Delimiters],
+    emphasis: &mut Vec<Emphasis>,
+) -> Result<(), AllocError>
+    requires { AreOfDelimiters runs.now }
+    ensures { OnOk result (emphasis.new.items ≡ emphasis.old.items ++ emphasis_of runs.now) }
+{
+    if runs.is_empty() {
+        return Ok(());
+    }
+    let mut openers = Openers::within(mem::replace(buffer, Vec::new(alloc)));
+    openers.read_all(runs, emphasis)?;
+    *buffer = openers.stack;
+    Ok(())
+}
+
 impl Openers {
-    // No run is read.
-    fn new(alloc: Global) -> Openers
+    // No run is read. Nothing depends on what is in the buffer.
+    fn within(buffer: Vec<Delimiters>) -> Openers
         ensures { result ≡ [] }
     {
+        let mut stack = buffer;
+        stack.clear();
         Openers {
-            stack: Vec::new(alloc),
+            stack,
             passed: [0; KINDS],
         }
+    }
+
+    // Adds the emphasis that the next runs end.
+    fn read_all(
+        &mut self,
+        runs: &[Delimiters],
+        emphasis: &mut Vec<Emphasis>,
+    ) -> Result<(), AllocError>
+        requires { AreOfDelimiters runs.now }
+        ensures { OnOk result (emphasis.new.items
+            ≡ emphasis.old.items ++ emphasis_from self.old runs.now) }
+    {
+        for run in runs {
+            self.read(*run, emphasis)?;
+        }
+        Ok(())
     }
 
     // Adds the emphasis that the next run ends. What is left of it may open emphasis.

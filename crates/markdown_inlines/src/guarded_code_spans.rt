@@ -44,8 +44,20 @@ impl<'a> CodeSpans<'a> {
     pub fn new(alloc: Global, bytes: &'a [u8]) -> Result<CodeSpans<'a>, AllocError>
         ensures { IfOk result (λ spans. spans ≡ bytes.now) }
     {
-        let lasts = last_places(alloc, bytes)?;
+        CodeSpans::within(Vec::new(alloc), bytes)
+    }
+
+    // The code spans of the text. Nothing depends on what is in the buffer.
+    pub(crate) fn within(buffer: Vec<usize>, bytes: &'a [u8]) -> Result<CodeSpans<'a>, AllocError>
+        ensures { IfOk result (λ spans. spans ≡ bytes.now) }
+    {
+        let lasts = last_places(buffer, bytes)?;
         Ok(CodeSpans { bytes, lasts })
+    }
+
+    // The memory that it was made with.
+    pub(crate) fn into_buffer(self) -> Vec<usize> {
+        self.lasts
     }
 
     /// The code span that begins at a place of the text, before which no backtick stands: what
@@ -80,10 +92,11 @@ fn last_place(lasts: &[usize], fence: usize) -> usize
 }
 
 // Where the last string of each length stands.
-fn last_places(alloc: Global, bytes: &[u8]) -> Result<Vec<usize>, AllocError>
+fn last_places(buffer: Vec<usize>, bytes: &[u8]) -> Result<Vec<usize>, AllocError>
     ensures { IfOk result (λ lasts. AreLastStrings bytes.now lasts.items) }
 {
-    let mut lasts = Vec::new(alloc);
+    let mut lasts = buffer;
+    lasts.clear();
     let mut place = 0;
     while let Some((start, run)) = next_string(bytes, place) {
         put_last(&mut lasts, run, start)?;

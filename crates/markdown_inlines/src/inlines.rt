@@ -1,20 +1,22 @@
 //! The inlines of a text in order: what begins, what ends, and what stands between. (CommonMark
 //! 0.31.2, chapter 6)
-ghost use Rattle.std.specs.Prelude.{◌≡◌, ◌++◌, ◌<◌, ◌≤◌, ◌+◌, ◌^◌, List, Option, length, IfOk, OnOk};
+ghost use Rattle.std.specs.Prelude.{◌≡◌, ◌++◌, ◌<◌, ◌≤◌, ◌+◌, ◌^◌, List, Option, length, IfOk, OnOk, OnErr};
 ghost use Rattle.markdown_inlines.specs.Marks.{AreMarks};
 ghost use Rattle.markdown_inlines.specs.Nesting.{Nest, StandFrom};
-ghost use Rattle.markdown_inlines.specs.Output.{AreInlines, counted, delimiters_between, delimiter_with, inlines_at, opener_as};
+ghost use Rattle.markdown_inlines.specs.Output.{AreInlines, counted, delimiters_between, delimiter_with, inlines_at, opener_as, none_found};
 ghost use Rattle.std.specs.List.{All};
 ghost use Rattle.markdown_inlines.specs.Output.{closer_with, inlines_from};
 ghost use Rattle.markdown_inlines.specs.Sources.{AreLinkSources};
 
-use crate::cut::cut_inlines;
+use crate::cut::{CutBuffers, cut_within};
 use crate::emphasis::Emphasis;
 use crate::extensions::InlineExtensions;
 use crate::links::{Labels, Link};
-use crate::marks::{Mark, marks_of};
+use crate::marks::{Mark, put_marks};
 use crate::pieces::{Piece, PieceKind};
 use std::alloc::{AllocError, Global};
+use std::marker::Model;
+use std::mem;
 
 /// An inline of a text, or where one that holds others begins or ends.
 #[derive(Clone, Copy, Debug, PartialEq, Eq)]
@@ -76,34 +78,173 @@ pub fn find_inlines<L: Labels>(
     // The text may be cut on both sides of each part of a link.
     ensures links { IfOk result (λ r. AreLinkSources text.now r.links.items) }
 {
-    let cut = cut_inlines(alloc, text, labels, extensions)?;
-    let marks = marks_of(alloc, text.len(), &cut.links, &cut.emphasis)?;
-    let inlines = inlines_of(alloc, &cut.pieces, &marks, &cut.links)?;
-    Ok(Inlines {
-        inlines,
-        links: cut.links,
-    })
+    let mut finder = InlineFinder::new(alloc);
+    finder.find(alloc, text, labels, extensions)?;
+    Ok(finder.into_inlines())
 }
 
-// What these pieces are.
-fn inlines_of(
-    alloc: Global,
+/// Finds the inlines of one text after another, in memory that it uses again: a parser that goes
+/// from block to block makes one.
+#[derive(Drop)]
+pub struct InlineFinder {
+    inlines: Vec<Inline>,
+    marks: Vec<Mark>,
+    cut: CutBuffers,
+}
+
+impl Model for InlineFinder {
+    ghost use Rattle.markdown_inlines.specs.Output.{FoundInlines};
+
+    ghost Value = { FoundInlines };
+
+    ghost view = { λ f. record { inlines = f.inlines.items; links = f.cut.reader.links.items } };
+}
+
+impl InlineFinder {
+    /// Nothing is found yet. No memory is asked for.
+    pub fn new(alloc: Global) -> InlineFinder
+        ensures { result ≡ none_found }
+    {
+        InlineFinder {
+            inlines: Vec::new(alloc),
+            marks: Vec::new(alloc),
+            cut: CutBuffers::new(alloc),
+        }
+    }
+
+    /// Finds what `find_inlines` does, whatever has been found before. `inlines` and `links` lend
+    /// it.
+    ///
+    /// The time is linear in the length of the text. Memory is asked for as by `find_inlines`, but
+    /// only where that of the texts before is too little.
+    ///
+    /// # Errors
+    ///
+    /// `AllocError` where that memory is refused. The finder may be used again.
+    pub fn find<L: Labels>(
+        &mut self,
+        alloc: Global,
+        text: &str,
+        labels: &L,
+        extensions: InlineExtensions,
+    ) -> Result<(), AllocError>
+        ensures inlines { OnOk result (
+            AreInlines text.now (record { asked = extensions; known = L.known labels.now })
+            self.new.inlines self.new.links) }
+
+        // What begins ends, the innermost first.
+        ensures nested { OnOk result (Nest self.new.links self.new.inlines) }
+
+        // Each inline begins where the one before it ends, and all together are the text.
+        ensures sources { OnOk result (
+            StandFrom self.new.links 0 self.new.inlines (length text.now)) }
+
+        // The text may be cut on both sides of each part of a link.
+        ensures links { OnOk result (AreLinkSources text.now self.new.links) }
+
+        // After a refusal nothing is found.
+        ensures refused { OnErr result (self.new ≡ none_found) }
+    {
+        if let Err(refused) = self.put_all(alloc, text, labels, extensions) {
+            self.forget();
+            return Err(refused);
+        }
+        Ok(())
+    }
+
+    // Puts in what is found in a text.
+    fn put_all<L: Labels>(
+        &mut self,
+        alloc: Global,
+        text: &str,
+        labels: &L,
+        extensions: InlineExtensions,
+    ) -> Result<(), AllocError>
+        ensures inlines { OnOk result (
+            AreInlines text.now (record { asked = extensions; known = L.known labels.now })
+            self.new.inlines self.new.links) }
+        ensures links { OnOk result (AreLinkSources text.now self.new.links) }
+    {
+        let buffers = mem::replace(&mut self.cut, CutBuffers::new(alloc));
+        let cut = cut_within(alloc, buffers, text, labels, extensions)?;
+        put_inlines(&mut self.inlines, &mut self.marks, &cut, text.len())?;
+        self.cut = cut;
+        Ok(())
+    }
+
+    // Nothing is found.
+    fn forget(&mut self)
+        ensures { self.new ≡ none_found }
+    {
+        self.inlines.clear();
+        self.cut.reader.links.clear();
+    }
+
+    /// The inlines of the last text, as in `Inlines::inlines`.
+    pub fn inlines(&self) -> &[Inline]
+        ensures { result.now ≡ self.now.inlines }
+    {
+        &self.inlines
+    }
+
+    /// Its links, as in `Inlines::links`.
+    pub fn links(&self) -> &[Option<Link>]
+        ensures { result.now ≡ self.now.links }
+    {
+        &self.cut.reader.links
+    }
+
+    // What has been found, without the memory for more.
+    fn into_inlines(self) -> Inlines
+        ensures inlines { result.inlines.items ≡ self.inlines }
+        ensures links { result.links.items ≡ self.links }
+    {
+        let InlineFinder { inlines, cut, .. } = self;
+        let CutBuffers { reader, .. } = cut;
+        Inlines {
+            inlines,
+            links: reader.links,
+        }
+    }
+}
+
+// Puts in the inlines of a text of this length that has been cut.
+fn put_inlines(
+    inlines: &mut Vec<Inline>,
+    marks: &mut Vec<Mark>,
+    cut: &CutBuffers,
+    len: usize,
+) -> Result<(), AllocError>
+    requires { All (λ piece. (piece.start < piece.end) × (piece.end ≤ len)) cut.now.pieces.items }
+    ensures { OnOk result (inlines.new.items
+        ≡ inlines_from cut.now.reader.links.items cut.now.reader.emphasis.items 0
+        cut.now.pieces.items) }
+{
+    put_marks(marks, len, &cut.reader.links, &cut.reader.emphasis)?;
+    inlines.clear();
+    push_inlines(inlines, &cut.pieces, marks, &cut.reader.links)?;
+    Ok(())
+}
+
+// Adds what these pieces are.
+fn push_inlines(
+    inlines: &mut Vec<Inline>,
     pieces: &[Piece],
     marks: &[Mark],
     links: &[Option<Link>],
-) -> Result<Vec<Inline>, AllocError>
+) -> Result<(), AllocError>
     requires { All (λ piece. (piece.start < piece.end) × (piece.end ≤ length marks.now)) pieces.now }
-    ensures { IfOk result (λ inlines. (emphasis : List Emphasis)
+    ensures { OnOk result ((emphasis : List Emphasis)
         → AreMarks links.now emphasis (length marks.now) marks.now
-        → inlines.items ≡ inlines_from links.now emphasis 0 pieces.now) }
+        → inlines.new.items
+        ≡ inlines.old.items ++ inlines_from links.now emphasis 0 pieces.now) }
 {
-    let mut inlines = Vec::new(alloc);
     let mut number = 0;
     for piece in pieces {
-        push_piece(&mut inlines, marks, links, number, *piece)?;
+        push_piece(inlines, marks, links, number, *piece)?;
         number = counted(piece.kind, number);
     }
-    Ok(inlines)
+    Ok(())
 }
 
 // One more opener, if the piece is one.
@@ -192,8 +333,10 @@ fn push_delimiter(inlines: &mut Vec<Inline>, mark: Mark, place: usize) -> Result
         Mark::OpensStrong => Inline::StartEmphasis(place, 2),
         Mark::ClosesEmphasis => Inline::EndEmphasis(place, 1),
         Mark::ClosesStrong => Inline::EndEmphasis(place, 2),
-        Mark::OpensStrikethrough(count) => Inline::StartStrikethrough(place, count),
-        Mark::ClosesStrikethrough(count) => Inline::EndStrikethrough(place, count),
+        Mark::OpensStrikethrough => Inline::StartStrikethrough(place, 1),
+        Mark::OpensStrikethroughOfTwo => Inline::StartStrikethrough(place, 2),
+        Mark::ClosesStrikethrough => Inline::EndStrikethrough(place, 1),
+        Mark::ClosesStrikethroughOfTwo => Inline::EndStrikethrough(place, 2),
         Mark::Second => return Ok(()),
         Mark::Nothing | Mark::EndsLink => Inline::Leaf(Piece {
             kind: PieceKind::Text,

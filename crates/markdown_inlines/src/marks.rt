@@ -1,11 +1,11 @@
 //! What begins and ends at each byte of a text, by its links and its emphasis.
-ghost use Rattle.std.specs.Prelude.{◌≡◌, ◌==◌, ◌<◌, ℕ, length, get_or, IfOk, if◌then◌else◌};
+ghost use Rattle.std.specs.Prelude.{◌≡◌, ◌==◌, ◌<◌, ℕ, length, get_or, OnOk, if◌then◌else◌};
 ghost use Rattle.markdown_inlines.specs.Marks.{AreMarks, mark_by, marks_by, ends_link, mark_at, opening_mark, closing_mark};
 ghost use Rattle.markdown_inlines.specs.declared.marks.Mark.TheVariants.{Nothing, EndsLink};
 
 use crate::emphasis::Emphasis;
 use crate::links::Link;
-use std::alloc::{AllocError, Global};
+use std::alloc::AllocError;
 
 /// What a byte of a text begins or ends.
 #[derive(Clone, Copy, Debug, PartialEq, Eq)]
@@ -20,30 +20,37 @@ pub enum Mark {
     ClosesEmphasis,
     /// It is the first of the two that strong emphasis ends with.
     ClosesStrong,
-    /// It is the first of so many tildes that strikethrough begins with.
-    OpensStrikethrough(usize),
-    /// It is the first of so many tildes that strikethrough ends with.
-    ClosesStrikethrough(usize),
+    /// It is the one tilde that strikethrough begins with.
+    OpensStrikethrough,
+    /// It is the first of the two that strikethrough begins with.
+    OpensStrikethroughOfTwo,
+    /// It is the one tilde that strikethrough ends with.
+    ClosesStrikethrough,
+    /// It is the first of the two that strikethrough ends with.
+    ClosesStrikethroughOfTwo,
     /// It is the second of two.
     Second,
     /// It is the right bracket after a link text.
     EndsLink,
 }
 
-// The marks of the bytes of a text of this length.
-pub(crate) fn marks_of(
-    alloc: Global,
+// One for each byte of a text, and no larger than that.
+const _: () = prove!(size_of::<Mark>() == 1);
+
+// Puts in the marks of the bytes of a text of this length, in place of all others.
+pub(crate) fn put_marks(
+    marks: &mut Vec<Mark>,
     len: usize,
     links: &[Option<Link>],
     emphasis: &[Emphasis],
-) -> Result<Vec<Mark>, AllocError>
-    ensures { IfOk result (λ marks.
-        AreMarks links.now emphasis.now len marks.items) }
+) -> Result<(), AllocError>
+    ensures { OnOk result (AreMarks links.now emphasis.now len marks.new.items) }
 {
-    let mut marks = vec![in alloc; Mark::Nothing; len]?;
-    mark_emphasis(&mut marks, emphasis);
-    mark_links(&mut marks, links);
-    Ok(marks)
+    marks.clear();
+    marks.resize(len, Mark::Nothing)?;
+    mark_emphasis(marks, emphasis);
+    mark_links(marks, links);
+    Ok(())
 }
 
 // Marks where emphasis begins and ends.
@@ -78,9 +85,14 @@ fn mark_both_sides(marks: &mut [Mark], emphasis: Emphasis)
 fn opening_mark(emphasis: Emphasis) -> Mark
     ensures { result ≡ opening_mark emphasis }
 {
+    let is_double = emphasis.count == 2;
     if emphasis.byte == b'~' {
-        Mark::OpensStrikethrough(emphasis.count)
-    } else if emphasis.count == 2 {
+        if is_double {
+            Mark::OpensStrikethroughOfTwo
+        } else {
+            Mark::OpensStrikethrough
+        }
+    } else if is_double {
         Mark::OpensStrong
     } else {
         Mark::OpensEmphasis
@@ -91,9 +103,14 @@ fn opening_mark(emphasis: Emphasis) -> Mark
 fn closing_mark(emphasis: Emphasis) -> Mark
     ensures { result ≡ closing_mark emphasis }
 {
+    let is_double = emphasis.count == 2;
     if emphasis.byte == b'~' {
-        Mark::ClosesStrikethrough(emphasis.count)
-    } else if emphasis.count == 2 {
+        if is_double {
+            Mark::ClosesStrikethroughOfTwo
+        } else {
+            Mark::ClosesStrikethrough
+        }
+    } else if is_double {
         Mark::ClosesStrong
     } else {
         Mark::ClosesEmphasis

@@ -58,16 +58,16 @@ impl<'a> Model for PieceScanner<'a> {
 }
 
 impl<'a> PieceScanner<'a> {
-    // Nothing is read.
-    pub(crate) fn new(
-        alloc: Global,
+    // Nothing is read. Nothing depends on what is in the buffer.
+    pub(crate) fn within(
+        buffer: Vec<usize>,
         text: &'a str,
         extensions: InlineExtensions,
     ) -> Result<PieceScanner<'a>, AllocError>
         ensures start { IfOk result (λ s.
             s ≡ record { text = text.now; asked = extensions; place = 0 }) }
     {
-        let codes = CodeSpans::new(alloc, text.as_bytes())?;
+        let codes = CodeSpans::within(buffer, text.as_bytes())?;
         Ok(PieceScanner {
             text,
             extensions,
@@ -75,6 +75,11 @@ impl<'a> PieceScanner<'a> {
             codes,
             guard: HtmlScanGuard::new(),
         })
+    }
+
+    // The memory that it was made with.
+    pub(crate) fn into_buffer(self) -> Vec<usize> {
+        self.codes.into_buffer()
     }
 
     // The place up to which the text has been read.

@@ -10,7 +10,7 @@ ghost use Rattle.markdown_inlines.specs.Readings.{AreOpen, AreBefore, HasRuns, I
 ghost use Rattle.markdown_inlines.specs.Sources.{IsSource, IsLinkSource, AreLinkSources, IsTargetSource};
 
 use crate::delimiter_runs::DelimiterRun;
-use crate::emphasis::{Delimiters, Emphasis, find_emphasis};
+use crate::emphasis::{Delimiters, Emphasis, push_emphasis};
 use crate::link_targets::scan_target;
 use crate::links::{Labels, Link, LinkTarget};
 use crate::pieces::{Piece, PieceKind};
@@ -32,10 +32,37 @@ pub(crate) struct Opener {
     number: usize,
 }
 
+// The memory that a text is read in, with what is known of it at the end.
+#[derive(Drop)]
+pub(crate) struct ReaderBuffers {
+    openers: Vec<Opener>,
+    runs: Vec<Delimiters>,
+    run_openers: Vec<Delimiters>,
+    // Of each opener the link that it begins.
+    pub(crate) links: Vec<Option<Link>>,
+    pub(crate) emphasis: Vec<Emphasis>,
+}
+
+impl ReaderBuffers {
+    // Nothing is read yet.
+    pub(crate) fn new(alloc: Global) -> ReaderBuffers
+        ensures { result.links.items ≡ [] }
+    {
+        ReaderBuffers {
+            openers: Vec::new(alloc),
+            runs: Vec::new(alloc),
+            run_openers: Vec::new(alloc),
+            links: Vec::new(alloc),
+            emphasis: Vec::new(alloc),
+        }
+    }
+}
+
 // What is known of the pieces that have been read.
 #[derive(Drop)]
 pub(crate) struct Reader<'a> {
     text: &'a str,
+    run_openers: Vec<Delimiters>,
     openers: Vec<Opener>,
     runs: Vec<Delimiters>,
     last_link: usize,
@@ -67,17 +94,29 @@ impl<'a> Model for Reader<'a> {
 }
 
 impl<'a> Reader<'a> {
-    // No piece is read.
-    pub(crate) fn new(alloc: Global, text: &'a str) -> Reader<'a>
+    // No piece is read. Nothing depends on what is in the buffers.
+    pub(crate) fn new(buffers: ReaderBuffers, text: &'a str) -> Reader<'a>
         ensures start { result ≡ at_start text.now }
     {
+        let ReaderBuffers {
+            mut openers,
+            mut runs,
+            run_openers,
+            mut links,
+            mut emphasis,
+        } = buffers;
+        openers.clear();
+        runs.clear();
+        links.clear();
+        emphasis.clear();
         Reader {
             text,
-            openers: Vec::new(alloc),
-            runs: Vec::new(alloc),
+            run_openers,
+            openers,
+            runs,
             last_link: 0,
-            links: Vec::new(alloc),
-            emphasis: Vec::new(alloc),
+            links,
+            emphasis,
         }
     }
 
@@ -183,8 +222,8 @@ impl<'a> Reader<'a> {
         requires source { IsLinkSource self.old.text link }
         ensures { OnOk result (self.new ≡ with_link link opener self.old.openers self.old) }
     {
-        let mut found = find_emphasis(alloc, &self.runs[opener.runs..])?;
-        self.emphasis.append(&mut found)?;
+        let runs = &self.runs[opener.runs..];
+        push_emphasis(alloc, &mut self.run_openers, runs, &mut self.emphasis)?;
         self.runs.truncate(opener.runs);
         self.last_link = if link.is_image {
             self.last_link
@@ -196,18 +235,28 @@ impl<'a> Reader<'a> {
     }
 
     // The emphasis of the text, and the link that each opener begins.
-    pub(crate) fn finish(
-        mut self,
-        alloc: Global,
-    ) -> Result<(Vec<Option<Link>>, Vec<Emphasis>), AllocError>
-        ensures links { IfOk result (λ r. r.0.items ≡ self.entry.links) }
-        ensures sources { IfOk result (λ r. AreLinkSources self.entry.text r.0.items) }
-        ensures emphasis { IfOk result (λ r. r.1.items
+    pub(crate) fn finish(self, alloc: Global) -> Result<ReaderBuffers, AllocError>
+        ensures links { IfOk result (λ r. r.links.items ≡ self.entry.links) }
+        ensures sources { IfOk result (λ r. AreLinkSources self.entry.text r.links.items) }
+        ensures emphasis { IfOk result (λ r. r.emphasis.items
             ≡ self.entry.emphasis ++ emphasis_of self.entry.runs) }
     {
-        let mut found = find_emphasis(alloc, &self.runs)?;
-        self.emphasis.append(&mut found)?;
-        Ok((self.links, self.emphasis))
+        let Reader {
+            openers,
+            runs,
+            mut run_openers,
+            links,
+            mut emphasis,
+            ..
+        } = self;
+        push_emphasis(alloc, &mut run_openers, &runs, &mut emphasis)?;
+        Ok(ReaderBuffers {
+            openers,
+            runs,
+            run_openers,
+            links,
+            emphasis,
+        })
     }
 }
 

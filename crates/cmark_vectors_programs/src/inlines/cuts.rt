@@ -5,12 +5,16 @@ use markdown_inlines::cut::cut_inlines;
 use markdown_inlines::delimiter_runs::DelimiterRun;
 use markdown_inlines::emphasis::Emphasis;
 use markdown_inlines::extensions::InlineExtensions;
-use markdown_inlines::inlines::{Inline, find_inlines};
+use markdown_inlines::inlines::{Inline, InlineFinder, find_inlines};
 use markdown_inlines::links::{Link, LinkTarget};
 use markdown_inlines::pieces::{Piece, PieceKind};
 
 const LABELS: Definitions = Definitions {
     rows: &[("c", "/c", None), ("g h", "/g", None)],
+};
+
+const STRIKETHROUGH: InlineExtensions = InlineExtensions {
+    strikethrough: true,
 };
 
 // A piece from one place up to another.
@@ -123,4 +127,38 @@ fn inlines_stand_in_order(rt: HostRuntime) {
     ];
     assert_same(&rt, found.inlines.as_slice(), &wanted);
     assert_same(&rt, found.links.len(), 1);
+}
+
+#[test]
+fn a_finder_goes_from_text_to_text(rt: HostRuntime) {
+    let mut finder = InlineFinder::new(rt.alloc());
+    assert_same(&rt, finder.inlines().len(), 0);
+    assert_same(&rt, finder.links().len(), 0);
+    let texts = [
+        "***a** [b](c) ]",
+        "a",
+        "",
+        "*b* `c` [d][c]",
+        "~~e~~ `` f ` g ``",
+    ];
+    for text in texts {
+        let found = finder.find(rt.alloc(), text, &LABELS, STRIKETHROUGH);
+        made(&rt, found);
+        let alone = made(&rt, find_inlines(rt.alloc(), text, &LABELS, STRIKETHROUGH));
+        assert_same(&rt, finder.inlines(), alone.inlines.as_slice());
+        assert_same(&rt, finder.links(), alone.links.as_slice());
+    }
+    let leaf = |start: usize, end: usize| Inline::Leaf(piece(PieceKind::Text, start, end));
+    made(
+        &rt,
+        finder.find(rt.alloc(), "a *b*", &LABELS, STRIKETHROUGH),
+    );
+    let wanted = [
+        leaf(0, 2),
+        Inline::StartEmphasis(2, 1),
+        leaf(3, 4),
+        Inline::EndEmphasis(4, 1),
+    ];
+    assert_same(&rt, finder.inlines(), &wanted);
+    assert_same(&rt, finder.links().len(), 0);
 }

@@ -55,8 +55,10 @@ MarkedAs emphasis place M.OpensEmphasis = HasAt false (λ e. e.opening) emphasis
 MarkedAs emphasis place M.OpensStrong = HasAt false (λ e. e.opening) emphasis 2 place
 MarkedAs emphasis place M.ClosesEmphasis = HasAt false (λ e. e.closing) emphasis 1 place
 MarkedAs emphasis place M.ClosesStrong = HasAt false (λ e. e.closing) emphasis 2 place
-MarkedAs emphasis place (M.OpensStrikethrough count) = HasAt true (λ e. e.opening) emphasis count place
-MarkedAs emphasis place (M.ClosesStrikethrough count) = HasAt true (λ e. e.closing) emphasis count place
+MarkedAs emphasis place M.OpensStrikethrough = HasAt true (λ e. e.opening) emphasis 1 place
+MarkedAs emphasis place M.OpensStrikethroughOfTwo = HasAt true (λ e. e.opening) emphasis 2 place
+MarkedAs emphasis place M.ClosesStrikethrough = HasAt true (λ e. e.closing) emphasis 1 place
+MarkedAs emphasis place M.ClosesStrikethroughOfTwo = HasAt true (λ e. e.closing) emphasis 2 place
 MarkedAs emphasis place M.Second = (e : Emphasis) × IsIn e emphasis × IsSecond e place
 MarkedAs emphasis place M.EndsLink = ⊥
 
@@ -71,8 +73,10 @@ module _ (e : Emphasis) (more : List Emphasis) (place : ℕ) where
   grow M.OpensStrong free is = (is.0, inr is.1, is.2, is.3, is.4)
   grow M.ClosesEmphasis free is = (is.0, inr is.1, is.2, is.3, is.4)
   grow M.ClosesStrong free is = (is.0, inr is.1, is.2, is.3, is.4)
-  grow (M.OpensStrikethrough count) free is = (is.0, inr is.1, is.2, is.3, is.4)
-  grow (M.ClosesStrikethrough count) free is = (is.0, inr is.1, is.2, is.3, is.4)
+  grow M.OpensStrikethrough free is = (is.0, inr is.1, is.2, is.3, is.4)
+  grow M.OpensStrikethroughOfTwo free is = (is.0, inr is.1, is.2, is.3, is.4)
+  grow M.ClosesStrikethrough free is = (is.0, inr is.1, is.2, is.3, is.4)
+  grow M.ClosesStrikethroughOfTwo free is = (is.0, inr is.1, is.2, is.3, is.4)
   grow M.Second free is = (is.0, inr is.1, is.2)
   grow M.EndsLink free is = absurd is
 
@@ -115,14 +119,16 @@ module _ (e : Emphasis) (more : List Emphasis) (place : ℕ) where
       → (place == e.closing) ≡ closing → (e.byte == tilde) ≡ struck → (e.count == 2) ≡ strong
       → (place == e.opening + 1 || place == e.closing + 1) ≡ second → MarkedAs more place mark
       → MarkedAs (e ∷ more) place
-      (if opening then (if struck then M.OpensStrikethrough e.count else if strong then M.OpensStrong else M.OpensEmphasis)
-      else if closing then (if struck then M.ClosesStrikethrough e.count else if strong then M.ClosesStrong else M.ClosesEmphasis)
+      (if opening then (if struck then (if strong then M.OpensStrikethroughOfTwo else M.OpensStrikethrough) else if strong then M.OpensStrong else M.OpensEmphasis)
+      else if closing then (if struck then (if strong then M.ClosesStrikethroughOfTwo else M.ClosesStrikethrough) else if strong then M.ClosesStrong else M.ClosesEmphasis)
       else if strong && second then M.Second
       else mark)
-  by_tests true closing true strong second mark counted o c b s at is = (e, inl refl, sym (eqb-true place e.opening o), refl, b)
+  by_tests true closing true true second mark counted o c b s at is = (e, inl refl, sym (eqb-true place e.opening o), eqb-true e.count 2 s, b)
+  by_tests true closing true false second mark counted o c b s at is = (e, inl refl, sym (eqb-true place e.opening o), one counted s, b)
   by_tests true closing false true second mark counted o c b s at is = (e, inl refl, sym (eqb-true place e.opening o), eqb-true e.count 2 s, b)
   by_tests true closing false false second mark counted o c b s at is = (e, inl refl, sym (eqb-true place e.opening o), one counted s, b)
-  by_tests false true true strong second mark counted o c b s at is = (e, inl refl, sym (eqb-true place e.closing c), refl, b)
+  by_tests false true true true second mark counted o c b s at is = (e, inl refl, sym (eqb-true place e.closing c), eqb-true e.count 2 s, b)
+  by_tests false true true false second mark counted o c b s at is = (e, inl refl, sym (eqb-true place e.closing c), one counted s, b)
   by_tests false true false true second mark counted o c b s at is = (e, inl refl, sym (eqb-true place e.closing c), eqb-true e.count 2 s, b)
   by_tests false true false false second mark counted o c b s at is = (e, inl refl, sym (eqb-true place e.closing c), one counted s, b)
   by_tests false false struck true true mark counted o c b s at is = (e, inl refl, (eqb-true e.count 2 s, second_at at))

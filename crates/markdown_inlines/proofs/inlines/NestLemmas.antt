@@ -233,8 +233,10 @@ module _ (links : List (Option Link)) (emphasis : List Emphasis) (pieces : List 
             by_mark M.OpensStrong is = clear_step clear
             by_mark M.ClosesEmphasis is = clear_step clear
             by_mark M.ClosesStrong is = clear_step clear
-            by_mark (M.OpensStrikethrough count) is = clear_step clear
-            by_mark (M.ClosesStrikethrough count) is = clear_step clear
+            by_mark M.OpensStrikethrough is = clear_step clear
+            by_mark M.OpensStrikethroughOfTwo is = clear_step clear
+            by_mark M.ClosesStrikethrough is = clear_step clear
+            by_mark M.ClosesStrikethroughOfTwo is = clear_step clear
             by_mark M.Second is = clear_step clear
             by_mark M.EndsLink is = absurd is
 
@@ -296,8 +298,10 @@ module _ (links : List (Option Link)) (emphasis : List Emphasis) (pieces : List 
         by_mark M.OpensStrong is = opens false 2 is
         by_mark M.ClosesEmphasis is = emphasis_closes 1 is
         by_mark M.ClosesStrong is = emphasis_closes 2 is
-        by_mark (M.OpensStrikethrough count) is = opens true count is
-        by_mark (M.ClosesStrikethrough count) is = strikethrough_closes count is
+        by_mark M.OpensStrikethrough is = opens true 1 is
+        by_mark M.OpensStrikethroughOfTwo is = opens true 2 is
+        by_mark M.ClosesStrikethrough is = strikethrough_closes 1 is
+        by_mark M.ClosesStrikethroughOfTwo is = strikethrough_closes 2 is
         by_mark M.Second is = goes_on (second_alone place is.0 is.1 is.2)
         by_mark M.EndsLink is = absurd is
 

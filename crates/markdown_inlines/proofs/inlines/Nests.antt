@@ -1,6 +1,6 @@
 -- The inlines of a text nest, and stand one after another.
-use Rattle.std.proofs.Common.{ℕ, List, ◌≡◌, ◌∙◌, sym, ap, subst, Option, length}
-use Rattle.markdown_inlines.specs.Inlines.{Setting, IsCut}
+use Rattle.std.proofs.Common.{ℕ, List, [], ◌≡◌, ◌++◌, ◌∙◌, sym, ap, subst, Option, length}
+use Rattle.markdown_inlines.specs.Inlines.{Setting}
 use Rattle.markdown_inlines.specs.Marks.{AreMarks}
 use Rattle.markdown_inlines.specs.Nesting.{Nest, StandFrom}
 use Rattle.markdown_inlines.specs.Output.{AreInlines, inlines_from}
@@ -28,18 +28,14 @@ inlines_stand text setting inlines links are =
     (laid_stand links are.emphasis are.pieces (length text) (cut_is_laid text setting are.pieces links are.emphasis are.cut))
 
 -- the inlines by the marks of a text, of which each list is also known by another name
-pub by_marks : (text : List ℕ) (setting : Setting) (pieces pieces' : List Piece) (links links' links'' : List (Option Link))
-    (emphasis emphasis' : List Emphasis) (marks marks' : List Mark) (len : ℕ) (inlines : List Inline) → pieces' ≡ pieces → links' ≡ links
-    → links'' ≡ links → emphasis' ≡ emphasis → marks' ≡ marks → IsCut text setting pieces links emphasis → AreMarks links' emphasis' len marks
-    → ((e : List Emphasis) → AreMarks links'' e (length marks') marks' → inlines ≡ inlines_from links'' e 0 pieces')
-    → AreInlines text setting inlines links
-by_marks text setting pieces pieces' links links' links'' emphasis emphasis' marks marks' len inlines p l l' e m cut are inlines_are = record {
-  pieces = pieces;
-  emphasis = emphasis;
-  cut = cut;
-  inlines_are = inlines_are emphasis moved ∙ (ap (λ (ls : List (Option Link)). inlines_from ls emphasis 0 pieces') l'
-      ∙ ap (λ (ps : List Piece). inlines_from links emphasis 0 ps) p);
-}
+pub by_marks : (pieces pieces' : List Piece) (links links' links'' : List (Option Link)) (emphasis emphasis' : List Emphasis)
+    (marks marks' : List Mark) (len : ℕ) (before inlines : List Inline) → pieces' ≡ pieces → links' ≡ links → links'' ≡ links
+    → emphasis' ≡ emphasis → marks' ≡ marks → before ≡ [] → AreMarks links' emphasis' len marks
+    → ((e : List Emphasis) → AreMarks links'' e (length marks') marks' → inlines ≡ before ++ inlines_from links'' e 0 pieces')
+    → inlines ≡ inlines_from links emphasis 0 pieces
+by_marks pieces pieces' links links' links'' emphasis emphasis' marks marks' len before inlines p l l' e m none are inlines_are =
+    inlines_are emphasis moved ∙ (ap (λ (b : List Inline). b ++ inlines_from links'' emphasis 0 pieces') none
+    ∙ (ap (λ (ls : List (Option Link)). inlines_from ls emphasis 0 pieces') l' ∙ ap (λ (ps : List Piece). inlines_from links emphasis 0 ps) p))
   where
     whole : AreMarks links emphasis (length marks) marks
     whole =

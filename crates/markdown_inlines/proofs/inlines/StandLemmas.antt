@@ -98,8 +98,10 @@ module _ (links : List (Option Link)) (emphasis : List Emphasis) (pieces : List 
     closer M.OpensStrong = leaf
     closer M.ClosesEmphasis = leaf
     closer M.ClosesStrong = leaf
-    closer (M.OpensStrikethrough count) = leaf
-    closer (M.ClosesStrikethrough count) = leaf
+    closer M.OpensStrikethrough = leaf
+    closer M.OpensStrikethroughOfTwo = leaf
+    closer M.ClosesStrikethrough = leaf
+    closer M.ClosesStrikethroughOfTwo = leaf
     closer M.Second = leaf
     closer M.EndsLink = (piece.end, (refl, refl), next)
 
@@ -137,16 +139,14 @@ module _ (links : List (Option Link)) (emphasis : List Emphasis) (pieces : List 
       module _ (place : ℕ) (least : piece.start ≤ place) (more : List Inline)
           (go : (reached : ℕ) → Reached (place + 1) reached → StandFrom links reached (more ++ rest) len) where
         -- on a side of strikethrough one tilde stands, or two
-        tildes : (e : Emphasis) (count : ℕ) → IsIn e emphasis → (e.opening ≡ place) ⊎ (e.closing ≡ place) → e.count ≡ count
-            → (to : ℕ) × ((place ≡ place) × (place + count ≡ to)) × StandFrom links to (more ++ rest) len
-        tildes e count is here counts = elim (laid.counts e is) [
-          | inl one ↦ (place + 1, (refl, omega (arith, one, counts)), go (place + 1) (inl (refl, after_one place e is one here)))
-          | inr two ↦ (
-            place + 2,
-            (refl, omega (arith, two, counts)),
-            go (place + 2) (inr (omega arith, omega (arith, least), e, is, (two, second_of here))),
-          )
-        ]
+        one_tilde : (e : Emphasis) → IsIn e emphasis → (e.opening ≡ place) ⊎ (e.closing ≡ place) → e.count ≡ 1
+            → (to : ℕ) × ((place ≡ place) × (place + 1 ≡ to)) × StandFrom links to (more ++ rest) len
+        one_tilde e is here one = (place + 1, (refl, refl), go (place + 1) (inl (refl, after_one place e is one here)))
+
+        two_tildes : (e : Emphasis) → IsIn e emphasis → (e.opening ≡ place) ⊎ (e.closing ≡ place) → e.count ≡ 2
+            → (to : ℕ) × ((place ≡ place) × (place + 2 ≡ to)) × StandFrom links to (more ++ rest) len
+        two_tildes e is here two =
+            (place + 2, (refl, refl), go (place + 2) (inr (omega arith, omega (arith, least), e, is, (two, second_of here))))
           where
             second_of : (e.opening ≡ place) ⊎ (e.closing ≡ place) → (place + 1 ≡ e.opening + 1) ⊎ (place + 1 ≡ e.closing + 1)
             second_of (inl opens) = inl (omega (arith, opens))
@@ -173,8 +173,10 @@ module _ (links : List (Option Link)) (emphasis : List Emphasis) (pieces : List 
           (refl, refl),
           go (place + 2) (inr (omega arith, omega (arith, least), e, is, (two, inr (omega (arith, here))))),
         )
-        first (M.OpensStrikethrough count) (e, is, here, counts, byte) none = tildes e count is (inl here) counts
-        first (M.ClosesStrikethrough count) (e, is, here, counts, byte) none = tildes e count is (inr here) counts
+        first M.OpensStrikethrough (e, is, here, one, byte) none = one_tilde e is (inl here) one
+        first M.OpensStrikethroughOfTwo (e, is, here, two, byte) none = two_tildes e is (inl here) two
+        first M.ClosesStrikethrough (e, is, here, one, byte) none = one_tilde e is (inr here) one
+        first M.ClosesStrikethroughOfTwo (e, is, here, two, byte) none = two_tildes e is (inr here) two
         first M.Second (e, is, second) none = absurd (none e is second)
         first M.EndsLink is none = absurd is
 
@@ -190,9 +192,13 @@ module _ (links : List (Option Link)) (emphasis : List Emphasis) (pieces : List 
             absurd (second_alone links emphasis pieces len laid place e in_all second d is (inr (omega (arith, here), omega (arith, here))))
         later_by M.ClosesStrong (d, is, here, two, byte) e in_all second =
             absurd (second_alone links emphasis pieces len laid place e in_all second d is (inr (omega (arith, here), omega (arith, here))))
-        later_by (M.OpensStrikethrough count) (d, is, here, counts, byte) e in_all second =
+        later_by M.OpensStrikethrough (d, is, here, counts, byte) e in_all second =
             absurd (second_alone links emphasis pieces len laid place e in_all second d is (inl (omega (arith, here), omega (arith, here))))
-        later_by (M.ClosesStrikethrough count) (d, is, here, counts, byte) e in_all second =
+        later_by M.OpensStrikethroughOfTwo (d, is, here, counts, byte) e in_all second =
+            absurd (second_alone links emphasis pieces len laid place e in_all second d is (inl (omega (arith, here), omega (arith, here))))
+        later_by M.ClosesStrikethrough (d, is, here, counts, byte) e in_all second =
+            absurd (second_alone links emphasis pieces len laid place e in_all second d is (inr (omega (arith, here), omega (arith, here))))
+        later_by M.ClosesStrikethroughOfTwo (d, is, here, counts, byte) e in_all second =
             absurd (second_alone links emphasis pieces len laid place e in_all second d is (inr (omega (arith, here), omega (arith, here))))
         later_by M.Second is e in_all second = go (place + 1) (inl (refl, after_second place e in_all second))
         later_by M.EndsLink is e in_all second = absurd is

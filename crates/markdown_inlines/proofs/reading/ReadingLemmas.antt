@@ -52,22 +52,21 @@ run_pushed false text openers runs next run number is delimiter all are =
 
 -- what is known with the link of an opener, part by part
 pub with_link_is : (link : Link) (opener : Opener) (reading : Reading) (runs : List Delimiters) (last_link : ℕ)
-    (found emphasis : List Emphasis) → runs ≡ take opener.runs reading.runs
+    (emphasis : List Emphasis) → runs ≡ take opener.runs reading.runs
     → last_link ≡ (if link.is_image then reading.last_link else link.source.start)
-    → found ≡ emphasis_of (drop opener.runs reading.runs) → emphasis ≡ reading.emphasis ++ found
+    → emphasis ≡ reading.emphasis ++ emphasis_of (drop opener.runs reading.runs)
     → record reading {
       runs = runs;
       last_link = last_link;
       links = slice_set reading.links opener.number (Some link);
       emphasis = emphasis;
     } ≡ with_link link opener reading.openers reading
-with_link_is link opener reading runs last_link found emphasis runs-are last-is found-is emphasis-is =
-    let with_found = emphasis-is ∙ ap (λ more. reading.emphasis ++ more) found-is in
+with_link_is link opener reading runs last_link emphasis runs-are last-is emphasis-is =
     λ i. record reading {
       runs = runs-are i;
       last_link = last-is i;
       links = slice_set reading.links opener.number (Some link);
-      emphasis = with_found i;
+      emphasis = emphasis-is i;
     }
 
 -- where an opener leads that is one bracket, and where one leads that is not

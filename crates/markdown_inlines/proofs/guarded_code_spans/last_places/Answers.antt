@@ -3,7 +3,7 @@ use Rattle.markdown_inlines.proofs.guarded_code_spans.LastStringLemmas.{one_more
 use Rattle.markdown_inlines.proofs.guarded_code_spans.last_places.Goals as goal
 
 pub loop-start-init : goal.loop-start-init
-loop-start-init c = none_yet c.args.bytes.now _ (λ k. ap (λ t. get_or t k 0) c.new-lasts.ensures.items)
+loop-start-init c = none_yet c.args.bytes.now _ (λ k. ap (λ t. get_or t k 0) c.clear.ensures.items)
 
 pub next_string-requires : goal.next_string-requires
 next_string-requires c = record { within = c.loop-start.invariant.within; apart = c.loop-start.invariant.apart }

@@ -1,4 +1,4 @@
-use Rattle.std.proofs.Common.{◌≡◌, ◌≤◌, ◌<◌, ◌-◌, ◌∙◌, if◌then◌else◌, List, sym, subst, ap, arith, length, drop, reverse, take, Option, Some}
+use Rattle.std.proofs.Common.{◌≡◌, ◌≤◌, ◌<◌, ◌-◌, ◌++◌, ◌∙◌, if◌then◌else◌, List, sym, subst, ap, arith, length, drop, reverse, take, Option, Some}
 use Rattle.std.proofs.lemmas.List.{length-set, length-take, length-drop, take_all}
 use Rattle.std.proofs.lemmas.List.Elements.{All-take, All-set}
 use Rattle.std.specs.Option.{IfSome}
@@ -54,9 +54,10 @@ returns c =
       | then-link w ↦ w.self-is ∙ ap (λ b. if b then c.self.inside.last_link else c.args.link.source.start) (sym w.if-link.true)
       | else-link w ↦ w.self-is ∙ ap (λ b. if b then c.self.inside.last_link else c.args.link.source.start) (sym w.if-link.false)
     ] in
-    let found : c.in_ok-found.found.items ≡ emphasis_of (drop behind runs) =
-    c.in_ok-found.ensures ∙ ap emphasis_of (ap (λ (l : List Delimiters). take (length l - behind) (drop behind l)) c.deref.ensures.value
+    let found : c.push_emphasis.new.emphasis.items ≡ c.self.inside.emphasis.items ++ emphasis_of (drop behind runs) =
+    c.in_ok-push_emphasis.ensures ∙ ap (λ (l : List Delimiters). c.self.inside.emphasis.items ++ emphasis_of l)
+    (ap (λ (l : List Delimiters). take (length l - behind) (drop behind l)) c.deref.ensures.value
     ∙ take_all (length runs - behind) (drop behind runs) (omega (arith, length-drop behind runs))) in
-    with_link_is c.args.link c.args.opener reading c.truncate.new.self.items c.if-link.self c.in_ok-found.found.items
-    c.append.new.self.items c.truncate.ensures.items last found c.in_ok-append.ensures.items
+    with_link_is c.args.link c.args.opener reading c.truncate.new.self.items c.if-link.self c.push_emphasis.new.emphasis.items
+    c.truncate.ensures.items last found
     ∙ ap (λ (r : Reading). with_link c.args.link c.args.opener r.openers r) c.self.view_is

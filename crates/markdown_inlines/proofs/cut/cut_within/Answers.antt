@@ -8,7 +8,7 @@ use Rattle.markdown_inlines.specs.Sources.{AreSources, AreLinkSources}
 use Rattle.markdown_inlines.specs.declared.pieces.Piece.{Piece}
 use Rattle.markdown_inlines.proofs.cut.CutLemmas.{next_piece_at, read_next, read_out, added, before_later, read_before}
 use Rattle.markdown_inlines.proofs.cut.SourceLemmas.{source_added, text_added}
-use Rattle.markdown_inlines.proofs.cut.cut_inlines.Goals as goal
+use Rattle.markdown_inlines.proofs.cut.cut_within.Goals as goal
 
 pub loop-piece-init : goal.loop-piece-init
 loop-piece-init g c =
@@ -17,9 +17,9 @@ loop-piece-init g c =
       c.in_ok-scanner.ensures.start,
       ap (λ (r : Reading). r.text) start,
       omega arith,
-      (λ later last read. subst (λ (l : List Piece). AreRead setting 0 (at_start c.args.text.now) (l ++ later) last) (sym c.new-pieces.ensures.items)
+      (λ later last read. subst (λ (l : List Piece). AreRead setting 0 (at_start c.args.text.now) (l ++ later) last) (sym c.clear.ensures.items)
           (subst (λ (r : Reading). AreRead setting 0 r later last) start read)),
-      subst (λ (l : List Piece). AreSources c.args.text.now l 0) (sym c.new-pieces.ensures.items)
+      subst (λ (l : List Piece). AreSources c.args.text.now l 0) (sym c.clear.ensures.items)
           (record { each = λ k d inside. absurd (omega (arith, inside)); joined = refl }),
       IsCharBoundary-start c.args.text.now c.utf8.text,
       subst (λ (r : Reading). AreBefore r.openers 0) (sym start) tt,
@@ -121,10 +121,10 @@ returns g c =
         last = reading;
         read = subst (λ (l : List Piece). AreRead setting 0 (at_start text) l reading) (sym c.in_ok-push_text-2.ensures)
             (is.3 (text_between from (length text)) reading out);
-        links_are = c.in_ok-links.ensures.links;
-        emphasis_is = c.in_ok-links.ensures.emphasis;
+        links_are = c.in_ok-found.ensures.links;
+        emphasis_is = c.in_ok-found.ensures.emphasis;
       };
       sources = subst (λ (l : List Piece). AreSources text l (length text)) (sym c.in_ok-push_text-2.ensures)
           (text_added text c.loop-piece.pieces.items from (length text) is.4 is.2 is.5 (IsCharBoundary-end text));
-      links = subst (λ t. AreLinkSources t c.in_ok-links.links.items) is.1 c.in_ok-links.ensures.sources;
+      links = subst (λ t. AreLinkSources t c.in_ok-found.found.links.items) is.1 c.in_ok-found.ensures.sources;
     }

@@ -3,7 +3,7 @@ use Rattle.std.specs.Str.{IsCharBoundary}
 use Rattle.markdown_inlines.specs.Readings.{AreBefore}
 use Rattle.markdown_inlines.specs.Sources.{AreSources}
 use Rattle.markdown_inlines.proofs.cut.CutLemmas.{ReadsOn}
-use Rattle.markdown_inlines.proofs.cut.cut_inlines.Given as goal
+use Rattle.markdown_inlines.proofs.cut.cut_within.Given as goal
 
 abbrev pub invariant-loop-piece : goal.invariant-loop-piece
 invariant-loop-piece g l =
