@@ -17,5 +17,6 @@ pub mod Output
 pub mod PieceBytes
 pub mod Pieces
 pub mod Readings
+pub mod Searches
 pub mod Sources
 pub mod WikiLinks

@@ -13,6 +13,7 @@ use Rattle.markdown_inlines.specs.CodeSpans.{IsCodeSpan}
 use Rattle.markdown_inlines.specs.DelimiterRuns.{IsRunOf}
 use Rattle.markdown_inlines.specs.Emails.{IsEmailAutolink}
 use Rattle.markdown_inlines.specs.LineBreaks.{IsLineBreak}
+use Rattle.markdown_inlines.specs.Searches.{Searched}
 use Rattle.markdown_inlines.specs.WikiLinks.{IsOpenerEnd}
 use Rattle.markdown_inlines.specs.declared.code_spans.CodeSpan.{CodeSpan}
 use Rattle.markdown_inlines.specs.declared.extensions.InlineExtensions.{InlineExtensions}
@@ -111,8 +112,9 @@ pub record IsNext (asked : InlineExtensions) (text : List ℕ) (from : ℕ) (pie
   pub begins : BeginsAt asked text from piece.start piece.kind len
   pub ends : piece.end ≡ piece.start + len
 
--- a text, the extensions that are asked for, and a place up to which it has been read
+-- a text, the extensions that are asked for, a place up to which it has been read, and what has been searched up to there
 pub record ReadText : Type 0 where
   pub text : List ℕ
   pub asked : InlineExtensions
   pub place : ℕ
+  pub searched : Searched

@@ -1,11 +1,10 @@
 //! Code spans. (CommonMark 0.31.2, section 6.1)
-ghost use Rattle.std.specs.Prelude.{◌≡◌, ◌<◌, ◌≤◌, ◌+◌, ℕ, length, drop, IfSome, IfNone};
+ghost use Rattle.std.specs.Prelude.{◌≡◌, ◌<◌, ◌≤◌, ◌+◌, ◌^◌, ℕ, length, IfSome, IfNone};
 ghost use Rattle.std.specs.List.{prefix_len};
 ghost use Rattle.markdown_scanners_tree.specs.SomeExactly.{SomeExactly, IsOnly};
 ghost use Rattle.markdown_inlines.specs.CodeSpans.{IsCodeSpan, IsBacktickString, HasNone, is_backtick};
 
-use markdown_scanners_tree::scanners::scan_ch_repeat;
-use memchr::memchr;
+use crate::backticks::Backticks;
 use std::ops::Range;
 
 /// A code span at the front of a text.
@@ -32,11 +31,31 @@ pub fn scan_code_span(bytes: &[u8]) -> Option<CodeSpan>
         × (span.content.start < span.content.end)
         × (span.content.end + span.content.start ≡ span.len)) }
 {
-    let fence = scan_ch_repeat(bytes, b'`');
+    let text = Backticks::new(bytes);
+    let mut passed = 0;
+    let fence = text.front_len(&mut passed);
+    span_behind(&text, fence, &mut passed)
+}
+
+// The code span that begins with all the backticks at the front, of which there are so many. All
+// behind them up to its end is passed over.
+pub(crate) fn span_behind(text: &Backticks, fence: usize, passed: &mut u128) -> Option<CodeSpan>
+    requires opens { fence ≡ prefix_len is_backtick text.now }
+    requires fits { length text.now < 2 ^ 64 }
+    requires room { passed.old < 2 ^ 110 }
+    ensures found { SomeExactly (IsCodeSpan text.now) result }
+    ensures only { IsOnly (IsCodeSpan text.now) result }
+    ensures within { IfSome result (λ span. span.len ≤ length text.now) }
+    ensures content { IfSome result (λ span. (0 < span.content.start)
+        × (span.content.start < span.content.end)
+        × (span.content.end + span.content.start ≡ span.len)) }
+    ensures none { IfNone result ((to : ℕ) → HasNone text.now fence fence to) }
+    ensures counts { IfSome result (λ span. passed.new + fence ≡ passed.old + span.len) }
+{
     if fence == 0 {
         return None;
     }
-    let close = find_string(bytes, fence)?;
+    let close = find_string(text, fence, passed)?;
     Some(CodeSpan {
         content: fence..close,
         len: close + fence,
@@ -44,17 +63,19 @@ pub fn scan_code_span(bytes: &[u8]) -> Option<CodeSpan>
 }
 
 // The place of the first string of so many backticks behind one of them at the front.
-fn find_string(bytes: &[u8], fence: usize) -> Option<usize>
+fn find_string(text: &Backticks, fence: usize, passed: &mut u128) -> Option<usize>
     requires some { 0 < fence }
-    requires opens { fence ≡ prefix_len is_backtick bytes.now }
-    ensures found { IfSome result (λ close. (fence ≤ close) × (close < length bytes.now)
-        × IsBacktickString bytes.now close fence × HasNone bytes.now fence fence close) }
-    ensures none { IfNone result ((to : ℕ) → HasNone bytes.now fence fence to) }
+    requires opens { fence ≡ prefix_len is_backtick text.now }
+    requires fits { length text.now < 2 ^ 64 }
+    requires room { passed.old < 2 ^ 110 }
+    ensures found { IfSome result (λ close. (fence ≤ close) × (close < length text.now)
+        × IsBacktickString text.now close fence × HasNone text.now fence fence close) }
+    ensures within { IfSome result (λ close. close + fence ≤ length text.now) }
+    ensures none { IfNone result ((to : ℕ) → HasNone text.now fence fence to) }
+    ensures counts { IfSome result (λ close. passed.new ≡ passed.old + close) }
 {
     let mut place = fence;
-    while let Some(offset) = memchr(b'`', &bytes[place..]) {
-        let start = place + offset;
-        let run = scan_ch_repeat(&bytes[start..], b'`');
+    while let Some((start, run)) = text.next_string(place, passed) {
         if run == fence {
             return Some(start);
         }

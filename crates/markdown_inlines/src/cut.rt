@@ -1,8 +1,9 @@
 //! A text cut into its inlines. (CommonMark 0.31.2, chapter 6)
-ghost use Rattle.std.specs.Prelude.{◌≡◌, ◌++◌, ◌<◌, ◌≤◌, ◌+◌, [], length, IfOk, OnOk};
+ghost use Rattle.std.specs.Prelude.{ℕ, List, ◌≡◌, ◌++◌, ◌<◌, ◌≤◌, ◌+◌, ◌*◌, [], length, IfOk, OnOk};
 ghost use Rattle.std.specs.Str.{IsCharBoundary};
 ghost use Rattle.markdown_inlines.specs.Inlines.{IsCut, IsRead, IsPieceAt, text_between};
 ghost use Rattle.markdown_inlines.specs.Readings.{AreBefore};
+ghost use Rattle.markdown_inlines.specs.Searches.{Searched, bytes_searched, kind_searched};
 ghost use Rattle.markdown_inlines.specs.Sources.{AreSources, AreLinkSources, IsSource};
 
 use crate::emphasis::Emphasis;
@@ -23,6 +24,9 @@ pub struct Cut {
     /// The emphasis: that of a link text where its link ends, and all other at the end. Each is in
     /// the order of `find_emphasis`.
     pub emphasis: Vec<Emphasis>,
+    /// How many bytes the searches for the ends of code spans, comments, processing instructions,
+    /// declarations and CDATA sections passed over.
+    pub passed: u128,
 }
 
 /// Cuts the content of a block into its inlines, with the extensions that are asked for. The labels
@@ -52,12 +56,20 @@ pub fn cut_inlines<L: Labels>(
 
     // The text may be cut on both sides of each part of a link.
     ensures links { IfOk result (λ cut. AreLinkSources text.now cut.links.items) }
+
+    // The ends of code spans and raw HTML are searched for as the definition has it: however many
+    // begin, at most ten bytes are passed over for each of the text.
+    ensures passed { IfOk result (λ cut.
+        cut.passed ≡ bytes_searched text.now cut.pieces.items) }
+    ensures budget { IfOk result (λ cut. cut.passed ≤ 10 * length text.now) }
 {
     let cut = cut_within(alloc, CutBuffers::new(alloc), text, labels, extensions)?;
+    let found = cut.reader;
     Ok(Cut {
         pieces: cut.pieces,
-        links: cut.reader.links,
-        emphasis: cut.reader.emphasis,
+        links: found.links,
+        emphasis: found.emphasis,
+        passed: cut.passed,
     })
 }
 
@@ -66,6 +78,7 @@ pub fn cut_inlines<L: Labels>(
 pub(crate) struct CutBuffers {
     pub(crate) pieces: Vec<Piece>,
     pub(crate) reader: ReaderBuffers,
+    passed: u128,
     strings: Vec<usize>,
 }
 
@@ -77,6 +90,7 @@ impl CutBuffers {
         CutBuffers {
             pieces: Vec::new(alloc),
             reader: ReaderBuffers::new(alloc),
+            passed: 0,
             strings: Vec::new(alloc),
         }
     }
@@ -96,6 +110,9 @@ pub(crate) fn cut_within<L: Labels>(
     ensures sources { IfOk result (λ cut.
         AreSources text.now cut.pieces.items (length text.now)) }
     ensures links { IfOk result (λ cut. AreLinkSources text.now cut.reader.links.items) }
+    ensures passed { IfOk result (λ cut.
+        cut.passed ≡ bytes_searched text.now cut.pieces.items) }
+    ensures budget { IfOk result (λ cut. cut.passed ≤ 10 * length text.now) }
 {
     let mut scanner = PieceScanner::within(buffers.strings, text, extensions)?;
     let mut reader = Reader::new(buffers.reader, text);
@@ -116,6 +133,7 @@ pub(crate) fn cut_within<L: Labels>(
     Ok(CutBuffers {
         pieces,
         reader: found,
+        passed: scanner.passed(),
         strings: scanner.into_buffer(),
     })
 }
@@ -149,6 +167,9 @@ fn read_piece<L: Labels>(
         (record { asked = extensions; known = L.known labels.now }) reader.old
         (record piece { end = end }) reader.new) }
     ensures text { OnOk result (reader.new.text ≡ reader.old.text) }
+    ensures searched { IfOk result (λ end. (text : List ℕ) (searched : Searched)
+        → kind_searched piece.kind text piece.start end searched
+        ≡ kind_searched piece.kind text piece.start piece.end searched) }
     ensures within { IfOk result (λ end. (piece.end ≤ end) × (end ≤ length reader.old.text)) }
     ensures boundary { IfOk result (λ end. IsCharBoundary reader.old.text end) }
 {

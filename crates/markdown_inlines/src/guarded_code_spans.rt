@@ -1,12 +1,11 @@
 //! Code spans at many places of one text. (CommonMark 0.31.2, section 6.1)
-ghost use Rattle.std.specs.Prelude.{ℕ, ◌≡◌, ◌≢◌, ◌==◌, ◌+◌, ◌<◌, ◌≤◌, length, drop, slice_index, IfSome, IfNone, IfOk, OnOk, if◌then◌else◌};
-ghost use Rattle.markdown_scanners_tree.specs.Ascii.{backtick};
-ghost use Rattle.markdown_inlines.specs.CodeSpans.{IsBacktickString, HasNone};
+ghost use Rattle.std.specs.Prelude.{ℕ, ◌≡◌, ◌==◌, ◌+◌, ◌<◌, ◌≤◌, ◌^◌, length, drop, slice_index, IfSome, IfNone, IfOk, OnOk, if◌then◌else◌};
+ghost use Rattle.std.specs.List.{prefix_len};
+ghost use Rattle.markdown_inlines.specs.CodeSpans.{is_backtick};
 ghost use Rattle.markdown_inlines.specs.LastStrings.{AreLastStrings};
 
-use crate::code_spans::{CodeSpan, scan_code_span};
-use markdown_scanners_tree::scanners::scan_ch_repeat;
-use memchr::memchr;
+use crate::backticks::Backticks;
+use crate::code_spans::{CodeSpan, span_behind};
 use std::alloc::{AllocError, Global};
 use std::marker::Model;
 
@@ -15,7 +14,7 @@ use std::marker::Model;
 /// nothing closes is read once, however many of them are asked for.
 #[derive(Drop)]
 pub struct CodeSpans<'a> {
-    bytes: &'a [u8],
+    text: Backticks<'a>,
     // By length, where the last string of so many backticks stands.
     lasts: Vec<usize>,
 }
@@ -26,9 +25,9 @@ impl<'a> Model for CodeSpans<'a> {
 
     ghost Value = { List ℕ };
 
-    ghost view = { λ s. s.bytes.now };
+    ghost view = { λ s. s.text };
 
-    ghost invariant = { λ s. AreLastStrings s.bytes.now s.lasts.items };
+    ghost invariant = { λ s. AreLastStrings s.text s.lasts.items };
 }
 
 impl<'a> CodeSpans<'a> {
@@ -44,15 +43,23 @@ impl<'a> CodeSpans<'a> {
     pub fn new(alloc: Global, bytes: &'a [u8]) -> Result<CodeSpans<'a>, AllocError>
         ensures { IfOk result (λ spans. spans ≡ bytes.now) }
     {
-        CodeSpans::within(Vec::new(alloc), bytes)
+        CodeSpans::within(Vec::new(alloc), bytes, &mut 0)
     }
 
-    // The code spans of the text. Nothing depends on what is in the buffer.
-    pub(crate) fn within(buffer: Vec<usize>, bytes: &'a [u8]) -> Result<CodeSpans<'a>, AllocError>
-        ensures { IfOk result (λ spans. spans ≡ bytes.now) }
+    // The code spans of the text, which is read once: its bytes are added to a count. Nothing depends
+    // on what is in the buffer.
+    pub(crate) fn within(
+        buffer: Vec<usize>,
+        bytes: &'a [u8],
+        passed: &mut u128,
+    ) -> Result<CodeSpans<'a>, AllocError>
+        requires room { passed.old < 2 ^ 100 }
+        ensures spans { IfOk result (λ spans. spans ≡ bytes.now) }
+        ensures counts { OnOk result (passed.new ≡ passed.old + length bytes.now) }
     {
-        let lasts = last_places(buffer, bytes)?;
-        Ok(CodeSpans { bytes, lasts })
+        let text = Backticks::new(bytes);
+        let lasts = last_places(buffer, &text, passed)?;
+        Ok(CodeSpans { text, lasts })
     }
 
     // The memory that it was made with.
@@ -75,12 +82,35 @@ impl<'a> CodeSpans<'a> {
             × (span.content.start < span.content.end)
             × (span.content.end + span.content.start ≡ span.len)) }
     {
-        let rest = &self.bytes[place..];
-        let fence = scan_ch_repeat(rest, b'`');
+        self.scan_counted(place, &mut 0)
+    }
+
+    // As `scan`, with the bytes that are passed over added to a count.
+    pub(crate) fn scan_counted(&self, place: usize, passed: &mut u128) -> Option<CodeSpan>
+        requires within { place ≤ length self.now }
+        requires room { passed.old < 2 ^ 100 }
+
+        // The one span that stands there is answered.
+        ensures found { SomeExactly (IsCodeSpan (drop place self.now)) result }
+        ensures only { IsOnly (IsCodeSpan (drop place self.now)) result }
+
+        // Its content stands between strings of one length.
+        ensures within { IfSome result (λ span. place + span.len ≤ length self.now) }
+        ensures content { IfSome result (λ span. (0 < span.content.start)
+            × (span.content.start < span.content.end)
+            × (span.content.end + span.content.start ≡ span.len)) }
+
+        // A span is passed over once; where there is none, no more than the backticks at the place.
+        ensures counts_span { IfSome result (λ span. passed.new ≡ passed.old + span.len) }
+        ensures counts_string { IfNone result
+            (passed.new ≡ passed.old + prefix_len is_backtick (drop place self.now)) }
+    {
+        let rest = self.text.after(place);
+        let fence = rest.front_len(passed);
         if last_place(&self.lasts, fence) <= place {
             return None;
         }
-        scan_code_span(rest)
+        span_behind(&rest, fence, passed)
     }
 }
 
@@ -91,31 +121,26 @@ fn last_place(lasts: &[usize], fence: usize) -> usize
     lasts.get(fence).copied().unwrap_or(0)
 }
 
-// Where the last string of each length stands.
-fn last_places(buffer: Vec<usize>, bytes: &[u8]) -> Result<Vec<usize>, AllocError>
-    ensures { IfOk result (λ lasts. AreLastStrings bytes.now lasts.items) }
+// Where the last string of each length stands. The text is passed over once. Nothing depends on what
+// is in the buffer.
+fn last_places(
+    buffer: Vec<usize>,
+    text: &Backticks,
+    passed: &mut u128,
+) -> Result<Vec<usize>, AllocError>
+    requires fits { length text.now < 2 ^ 64 }
+    requires room { passed.old < 2 ^ 100 }
+    ensures lasts { IfOk result (λ lasts. AreLastStrings text.now lasts.items) }
+    ensures counts { OnOk result (passed.new ≡ passed.old + length text.now) }
 {
     let mut lasts = buffer;
     lasts.clear();
     let mut place = 0;
-    while let Some((start, run)) = next_string(bytes, place) {
+    while let Some((start, run)) = text.next_string(place, passed) {
         put_last(&mut lasts, run, start)?;
         place = start + run;
     }
     Ok(lasts)
-}
-
-// The place and the length of the first string of backticks from a place on that cuts none.
-fn next_string(bytes: &[u8], from: usize) -> Option<(usize, usize)>
-    requires within { from ≤ length bytes.now }
-    requires apart { 0 < from → slice_index bytes.now from ≢ backtick }
-    ensures found { IfSome result (λ r. (from ≤ r.0) × IsBacktickString bytes.now r.0 r.1
-        × ((n : ℕ) → HasNone bytes.now n from r.0)) }
-    ensures within { IfSome result (λ r. r.0 + r.1 ≤ length bytes.now) }
-    ensures none { IfNone result ((n to : ℕ) → 0 < n → HasNone bytes.now n from to) }
-{
-    let start = from + memchr(b'`', &bytes[from..])?;
-    Some((start, scan_ch_repeat(&bytes[start..], b'`')))
 }
 
 // Puts a place in for a length.

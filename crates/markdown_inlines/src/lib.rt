@@ -3,6 +3,7 @@
 #![tactic(auto)]
 
 mod angles;
+mod backticks;
 pub mod code_content;
 pub mod code_spans;
 pub mod cut;
@@ -21,4 +22,5 @@ mod piece_at;
 mod piece_scanner;
 pub mod pieces;
 mod reading;
+mod searches;
 mod wiki_links;

@@ -1,22 +1,21 @@
 //! What begins at a place of a text. (CommonMark 0.31.2, chapter 6)
-ghost use Rattle.std.specs.Prelude.{ℕ, false, ◌≡◌, ◌≢◌, ◌⊎◌, ◌↔◌, ◌+◌, ◌-◌, ◌<◌, ◌≤◌, length, drop, slice_index, get_or, IfSome, IsTrue};
+ghost use Rattle.std.specs.Prelude.{ℕ, false, ◌≡◌, ◌≢◌, ◌⊎◌, ◌↔◌, ◌+◌, ◌-◌, ◌<◌, ◌≤◌, length, drop, slice_index, get_or, IfSome, IfNone, IsTrue};
 ghost use Rattle.memchr.specs.Find.{occurs_at};
 ghost use Rattle.markdown_scanners_tree.specs.Ascii.{ampersand, asterisk, backslash, backtick, tilde, underscore};
 ghost use Rattle.markdown_scanners_tree.specs.SomeExactly.{SomeExactly};
-ghost use Rattle.markdown_scanners_tree.specs.inline_html.Guard.{IsTrueGuard};
 ghost use Rattle.markdown_inlines.specs.Pieces.{BeginsAt, IsEscape};
 ghost use Rattle.markdown_inlines.specs.declared.extensions.InlineExtensions.{InlineExtensions};
-ghost use Rattle.markdown_inlines.specs.PieceBytes.{opens_break, opens_bracket, opens_long};
+ghost use Rattle.markdown_inlines.specs.PieceBytes.{opens_break, opens_bracket, opens_long, run_length};
+ghost use Rattle.markdown_inlines.specs.Searches.{IsSearchedTo, kind_searched, text_searched};
 
 use crate::angles::angle_at;
 use crate::delimiter_runs::{scan_delimiter_run, scan_tilde_run};
 use crate::extensions::InlineExtensions;
-use crate::guarded_code_spans::CodeSpans;
 use crate::line_breaks::scan_line_break;
 use crate::pieces::PieceKind;
+use crate::searches::Searches;
 use crate::wiki_links::opener_len;
 use html_entities::HtmlEntities;
-use markdown_scanners_tree::inline_html::HtmlScanGuard;
 use markdown_scanners_tree::scanners::{is_ascii_punctuation, scan_entity};
 use std::alloc::Global;
 
@@ -25,24 +24,29 @@ pub(crate) fn piece_at(
     alloc: Global,
     text: &str,
     extensions: InlineExtensions,
-    codes: &CodeSpans,
-    guard: &mut HtmlScanGuard,
+    searches: &mut Searches,
     place: usize,
 ) -> Option<(PieceKind, usize)>
     requires within { place < length text.now }
-    requires spans { codes.now ≡ text.now }
-    requires true_guard { IsTrueGuard text.now guard.old (place + 2) }
+    requires same { searches.old.html.text ≡ text.now }
+    requires searched { IsSearchedTo place searches.old }
     ensures found { (from : ℕ)
         → (slice_index text.now place ≡ backtick → from < place
         → get_or text.now (place - 1) 0 ≢ backtick)
         → SomeExactly (λ r. BeginsAt extensions text.now from place r.0 r.1) result }
-    ensures stays_true { (q : ℕ) → place + 2 < q → IfSome result (λ r. place + r.1 ≤ q)
-        → IsTrueGuard text.now guard.new q }
+    ensures counts { IfSome result (λ r. searches.new
+        ≡ kind_searched r.0 text.now place (place + r.1) searches.old) }
+    ensures counts_text { IfNone result (searches.new
+        ≡ text_searched text.now place (run_length (drop place text.now)) searches.old) }
+    ensures text { searches.new.html.text ≡ searches.old.html.text }
+    ensures stays { (q : ℕ) → place < q → IfSome result (λ r. place + r.1 ≤ q)
+        → IfNone result (place + run_length (drop place text.now) ≤ q)
+        → IsSearchedTo q searches.new }
 {
     let bytes = text.as_bytes();
     match bytes[place] {
-        b'<' => angle_at(alloc, bytes, guard, place),
-        b'`' => code_at(codes, place),
+        b'<' => angle_at(alloc, bytes, searches, place),
+        b'`' => code_at(searches, place),
         b'*' | b'_' => delimiters_at(text, place),
         b'~' => tildes_at(text, extensions, place),
         _ => short_piece_at(bytes, extensions, place),
@@ -89,14 +93,24 @@ fn opens_bracket(byte: u8) -> bool
 }
 
 // The code span at the place, where a backtick stands.
-fn code_at(codes: &CodeSpans, place: usize) -> Option<(PieceKind, usize)>
-    requires within { place < length codes.now }
-    requires opens { slice_index codes.now place ≡ backtick }
+fn code_at(searches: &mut Searches, place: usize) -> Option<(PieceKind, usize)>
+    requires within { place < length searches.old.html.text }
+    requires opens { slice_index searches.old.html.text place ≡ backtick }
+    requires searched { IsSearchedTo place searches.old }
     ensures found { (asked : InlineExtensions) (from : ℕ)
-        → (from < place → get_or codes.now (place - 1) 0 ≢ backtick)
-        → SomeExactly (λ r. BeginsAt asked codes.now from place r.0 r.1) result }
+        → (from < place → get_or searches.old.html.text (place - 1) 0 ≢ backtick)
+        → SomeExactly (λ r. BeginsAt asked searches.old.html.text from place r.0 r.1) result }
+    ensures counts { IfSome result (λ r. searches.new
+        ≡ kind_searched r.0 searches.old.html.text place (place + r.1) searches.old) }
+    ensures counts_text { IfNone result (searches.new ≡ record searches.old {
+      codes = searches.old.codes + run_length (drop place searches.old.html.text);
+    }) }
+    ensures text { searches.new.html.text ≡ searches.old.html.text }
+    ensures stays { (q : ℕ) → place < q → IfSome result (λ r. place + r.1 ≤ q)
+        → IfNone result (place + run_length (drop place searches.old.html.text) ≤ q)
+        → IsSearchedTo q searches.new }
 {
-    let span = codes.scan(place)?;
+    let span = searches.code_span(place)?;
     Some((PieceKind::Code(span.content.start), span.len))
 }
 

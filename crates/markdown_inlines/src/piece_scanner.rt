@@ -1,18 +1,17 @@
 //! Looking for the pieces of a text, from left to right.
-ghost use Rattle.std.specs.Prelude.{ℕ, ◌≡◌, ◌≢◌, ◌+◌, ◌-◌, ◌<◌, ◌≤◌, length, get_or, IfOk, IfSome, IfNone};
+ghost use Rattle.std.specs.Prelude.{ℕ, ◌≡◌, ◌≢◌, ◌+◌, ◌-◌, ◌*◌, ◌<◌, ◌≤◌, length, drop, get_or, IfOk, IfSome, IfNone};
 ghost use Rattle.std.specs.Str.{IsCharBoundary};
 ghost use Rattle.markdown_scanners_tree.specs.Ascii.{backtick};
-ghost use Rattle.markdown_scanners_tree.specs.inline_html.Guard.{IsTrueGuard};
 ghost use Rattle.markdown_inlines.specs.Pieces.{BeginsAt, ReadText, IsNext, HasOnlyText};
 ghost use Rattle.markdown_inlines.specs.PieceBytes.{is_plain, is_word_space, plain_length, run_length};
+ghost use Rattle.markdown_inlines.specs.Searches.{Searched, IsSearchedTo, bytes_passed, next_searched, text_searched, unsearched};
 ghost use Rattle.markdown_inlines.specs.declared.extensions.InlineExtensions.{InlineExtensions};
 ghost use Rattle.markdown_inlines.specs.declared.pieces.PieceKind.{PieceKind};
 
 use crate::extensions::InlineExtensions;
-use crate::guarded_code_spans::CodeSpans;
 use crate::piece_at::piece_at;
 use crate::pieces::Piece;
-use markdown_scanners_tree::inline_html::HtmlScanGuard;
+use crate::searches::Searches;
 use markdown_scanners_tree::scanners::scan_ch_repeat;
 use std::alloc::{AllocError, Global};
 use std::marker::Model;
@@ -38,23 +37,27 @@ const PLAIN: [bool; 256] = [
     true, true, true, true, true, true,
 ];
 
-// A text with its extensions, the place up to which it has been read, and what is known of code spans and HTML after that.
+// A text with its extensions, the place up to which it has been read, and the searches for the ends of code spans and HTML.
 #[derive(Drop)]
 pub(crate) struct PieceScanner<'a> {
     text: &'a str,
     extensions: InlineExtensions,
     place: usize,
-    codes: CodeSpans<'a>,
-    guard: HtmlScanGuard,
+    searches: Searches<'a>,
 }
 
 impl<'a> Model for PieceScanner<'a> {
     ghost Value = { ReadText };
 
-    ghost view = { λ s. record { text = s.text.now; asked = s.extensions; place = s.place } };
+    ghost view = { λ s. record {
+      text = s.text.now;
+      asked = s.extensions;
+      place = s.place;
+      searched = s.searches;
+    } };
 
-    ghost invariant = { λ s. (s.codes ≡ s.text.now) × (s.place ≤ length s.text.now)
-        × IsTrueGuard s.text.now s.guard (s.place + 2) };
+    ghost invariant = { λ s. (s.searches.html.text ≡ s.text.now) × (s.place ≤ length s.text.now)
+        × IsSearchedTo s.place s.searches };
 }
 
 impl<'a> PieceScanner<'a> {
@@ -65,21 +68,20 @@ impl<'a> PieceScanner<'a> {
         extensions: InlineExtensions,
     ) -> Result<PieceScanner<'a>, AllocError>
         ensures start { IfOk result (λ s.
-            s ≡ record { text = text.now; asked = extensions; place = 0 }) }
+            s ≡ record { text = text.now; asked = extensions; place = 0; searched = unsearched text.now }) }
     {
-        let codes = CodeSpans::within(buffer, text.as_bytes())?;
+        let searches = Searches::within(buffer, text.as_bytes())?;
         Ok(PieceScanner {
             text,
             extensions,
             place: 0,
-            codes,
-            guard: HtmlScanGuard::new(),
+            searches,
         })
     }
 
     // The memory that it was made with.
     pub(crate) fn into_buffer(self) -> Vec<usize> {
-        self.codes.into_buffer()
+        self.searches.into_buffer()
     }
 
     // The place up to which the text has been read.
@@ -88,6 +90,14 @@ impl<'a> PieceScanner<'a> {
         ensures within { result ≤ length self.now.text }
     {
         self.place
+    }
+
+    // How many bytes the searches for the ends of code spans and HTML passed over.
+    pub(crate) fn passed(&self) -> u128
+        ensures value { result ≡ bytes_passed self.now.searched }
+        ensures budget { result ≤ 10 * length self.now.text }
+    {
+        self.searches.passed()
     }
 
     // Reads up to a later place.
@@ -105,7 +115,10 @@ impl<'a> PieceScanner<'a> {
         // The next piece is answered, and the text is read up to its end.
         ensures found { IfSome result (IsNext self.old.asked self.old.text self.old.place) }
         ensures read { IfSome result (λ piece.
-            self.new ≡ record self.old { place = piece.end }) }
+            self.new ≡ record self.old {
+              place = piece.end;
+              searched = next_searched self.old.text self.old.place piece self.old.searched;
+            }) }
 
         // It is part of the text, which may be cut on both sides of it.
         ensures within { IfSome result (λ piece. (piece.start < piece.end)
@@ -117,14 +130,17 @@ impl<'a> PieceScanner<'a> {
         ensures none { IfNone result
             (HasOnlyText self.old.asked self.old.text self.old.place (length self.old.text)) }
         ensures all { IfNone result
-            (self.new ≡ record self.old { place = length self.old.text }) }
+            (self.new ≡ record self.old {
+              place = length self.old.text;
+              searched = text_searched self.old.text self.old.place
+                  (length self.old.text - self.old.place) self.old.searched;
+            }) }
     {
         let piece = next_piece(
             alloc,
             self.text,
             self.extensions,
-            &self.codes,
-            &mut self.guard,
+            &mut self.searches,
             self.place,
         );
         self.place = match &piece {
@@ -140,28 +156,30 @@ fn next_piece(
     alloc: Global,
     text: &str,
     extensions: InlineExtensions,
-    codes: &CodeSpans,
-    guard: &mut HtmlScanGuard,
+    searches: &mut Searches,
     from: usize,
 ) -> Option<Piece>
     requires within { from ≤ length text.now }
-    requires spans { codes.now ≡ text.now }
-    requires true_guard { IsTrueGuard text.now guard.old (from + 2) }
+    requires same { searches.old.html.text ≡ text.now }
+    requires searched { IsSearchedTo from searches.old }
     ensures found { IfSome result (IsNext extensions text.now from) }
     ensures within { IfSome result (λ piece. (piece.start < piece.end)
         × (piece.end ≤ length text.now)) }
     ensures boundary { IfSome result (λ piece. IsCharBoundary text.now piece.start
         × IsCharBoundary text.now piece.end) }
     ensures none { IfNone result (HasOnlyText extensions text.now from (length text.now)) }
-    ensures stays_true { IfSome result (λ piece.
-        IsTrueGuard text.now guard.new (piece.end + 2)) }
-    ensures stays_true_to_end { IfNone result
-        (IsTrueGuard text.now guard.new (length text.now + 2)) }
+    ensures counts { IfSome result (λ piece.
+        searches.new ≡ next_searched text.now from piece searches.old) }
+    ensures counts_text { IfNone result
+        (searches.new ≡ text_searched text.now from (length text.now - from) searches.old) }
+    ensures text { searches.new.html.text ≡ searches.old.html.text }
+    ensures searched { IfSome result (λ piece. IsSearchedTo piece.end searches.new) }
+    ensures searched_all { IfNone result (IsSearchedTo (length text.now) searches.new) }
 {
     let bytes = text.as_bytes();
     let mut place = from + plain_len(&bytes[from..]);
     while place < bytes.len() {
-        if let Some((kind, len)) = piece_at(alloc, text, extensions, codes, guard, place) {
+        if let Some((kind, len)) = piece_at(alloc, text, extensions, searches, place) {
             return Some(Piece {
                 kind,
                 start: place,
@@ -184,6 +202,10 @@ fn past_text(bytes: &[u8], place: usize) -> usize
         → HasOnlyText asked bytes.now from result }
     ensures apart { get_or bytes.now result 0 ≡ backtick
         → get_or bytes.now (result - 1) 0 ≢ backtick }
+    ensures unsearched { (before : Searched)
+        → text_searched bytes.now place (result - place) before
+        ≡ text_searched bytes.now place (run_length (drop place bytes.now)) before }
+    ensures past_run { place + run_length (drop place bytes.now) ≤ result }
 {
     let next = place + run_len(&bytes[place..]);
     next + plain_len(&bytes[next..])

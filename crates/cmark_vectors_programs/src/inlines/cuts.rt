@@ -94,6 +94,29 @@ fn openers_have_their_links(rt: HostRuntime) {
     assert_same(&rt, cut.pieces.get(4).copied(), closer);
 }
 
+// How many bytes are passed over in search of ends: all of a text once, code spans and other backticks
+// once more, and raw HTML up to its end; where it has none, up to the end of the text, once for each kind.
+const PASSED: &[(&str, u128)] = &[
+    ("", 0),
+    ("a<b", 3),
+    ("`a``b```c", 15),
+    ("`a` ``b", 12),
+    ("<?a<?a<?a", 16),
+    ("<!a<!a<!a", 18),
+    ("<!--a--><!--b", 26),
+];
+
+#[test]
+fn ends_are_searched_for_once(rt: HostRuntime) {
+    for (text, passed) in PASSED {
+        let cut = made(
+            &rt,
+            cut_inlines(rt.alloc(), text, &LABELS, InlineExtensions::none()),
+        );
+        assert_same(&rt, (*text, cut.passed), (*text, *passed));
+    }
+}
+
 #[test]
 fn a_text_may_be_empty(rt: HostRuntime) {
     let cut = made(

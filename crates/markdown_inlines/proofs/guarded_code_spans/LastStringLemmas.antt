@@ -1,7 +1,7 @@
 -- The last backtick string of each length.
 use Rattle.std.proofs.Common.{◌≡◌, ◌≢◌, ℕ, suc, ◌+◌, ◌-◌, ◌<◌, ◌≤◌, ◌==◌, cond, true, false, List, length, drop, get_or}
 use Rattle.std.proofs.Common.{refl, sym, ap, ◌∙◌, subst, arith, inl, inr}
-use Rattle.std.specs.Prelude.{Option, None, IfNone}
+use Rattle.std.specs.Prelude.{Option, Some, None, IfNone}
 use Rattle.std.specs.List.{prefix_len}
 use Rattle.std.proofs.lemmas.Bool.{cases_Bool, eqb-true, eq-eqb, cases_lt}
 use Rattle.std.proofs.lemmas.List.{get_or-drop}
@@ -9,7 +9,7 @@ use Rattle.markdown_scanners_tree.specs.Ascii.{backtick}
 use Rattle.markdown_inlines.specs.declared.code_spans.CodeSpan.{CodeSpan}
 use Rattle.markdown_inlines.specs.CodeSpans.{IsCodeSpan, IsBacktickString, HasNone, is_backtick}
 use Rattle.markdown_inlines.specs.LastStrings.{AreLastStrings}
-use Rattle.markdown_inlines.proofs.code_spans.CodeSpanLemmas.{one_length, opens_counted, strings_apart}
+use Rattle.markdown_inlines.proofs.code_spans.CodeSpanLemmas.{backticks_at, one_length, opens_counted, strings_apart}
 
 pub if_none : {A P : Type 0} {answer : Option A} → answer ≡ None → P → IfNone answer P
 if_none {A} {P} none holds = subst (λ r. IfNone r P) (sym none) holds
@@ -120,3 +120,35 @@ no_later text lasts place fence are counted early span is =
     let behind = strings_apart (drop place text) span.content.start span.content.end span.content.start is.opens is.closes is.in_order in
     let string = string_in_text text place span.content.end span.content.start is.closes (omega (arith, behind)) in
     absurd (omega (arith, early, behind, ap (λ k. get_or lasts k 0) n, are.latest (place + span.content.end) span.content.start string))
+
+-- a string of the text, in what follows a place
+string_in_rest : (text : List ℕ) (place at n : ℕ) → IsBacktickString text (place + at) n → IsBacktickString (drop place text) at n
+string_in_rest text place at n is = record {
+  some = is.some;
+  backticks = λ k less. get_or-drop place text (at + k) 0 ∙ ap (λ j. get_or text j 0) (omega arith) ∙ is.backticks k less;
+  not_preceded = λ k before here. is.not_preceded (place + k) (omega (arith, before)) (sym (get_or-drop place text k 0) ∙ here);
+  not_followed = λ here.
+      is.not_followed (ap (λ j. get_or text j 0) (omega arith) ∙ sym (get_or-drop place text (at + n) 0) ∙ here);
+}
+
+-- Where a later string of the length stands, one is found.
+pub some_later : (text lasts : List ℕ) (place fence : ℕ) → AreLastStrings text lasts → fence ≡ prefix_len is_backtick (drop place text)
+    → place < get_or lasts fence 0 → ((to : ℕ) → HasNone (drop place text) fence fence to) → ⊥
+some_later text lasts place fence are counted late none =
+    let last = get_or lasts fence 0 in
+    let there : place + (last - place) ≡ last = omega (arith, late) in
+    let string = are.there fence (omega (arith, late)) in
+    let in_rest = string_in_rest text place (last - place) fence (subst (λ j. IsBacktickString text j fence) (sym there) string) in
+    elim (cases_lt (last - place) fence) [
+      | inl less ↦ (
+          let before : last ≡ suc (last - 1) = omega (arith, late) in
+          let at : place + (last - place - 1) ≡ last - 1 = omega (arith, late) in
+          string.not_preceded (last - 1) before
+          (ap (λ j. get_or text j 0) (sym at) ∙ backticks_at text place fence counted (last - place - 1) (omega (arith, less)))
+          )
+      | inr behind ↦ none (last - place + 1) (last - place) behind (omega arith) in_rest
+    ]
+
+pub IfNone-map : {A P Q : Type 0} (answer : Option A) → (P → Q) → IfNone answer P → IfNone answer Q
+IfNone-map None holds is = holds is
+IfNone-map (Some a) holds is = tt

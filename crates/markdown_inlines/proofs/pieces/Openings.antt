@@ -218,7 +218,7 @@ no_mark text p false false b q none =
 pub no_opener : (text : List ℕ) (p : ℕ) → opener_before text p ≡ None → find_at text p ≡ None
 no_opener text p none = no_mark text p _ _ refl refl none
 
-mark_front : (mark : ℕ) (text : List ℕ) (place : ℕ) → ends_opener mark text (place + 2) ≡ true
+pub mark_front : (mark : ℕ) (text : List ℕ) (place : ℕ) → ends_opener mark text (place + 2) ≡ true
     → get_or text place 0 ≡ less_than_sign
 mark_front mark text place ends =
     let same : place ≡ place + 2 - 2 + 0 = omega arith in
@@ -232,7 +232,7 @@ find_front text place end found = elim (cases_Bool (ends_opener 33 text (place +
       (opener_found text (place + 2) end false (ends_opener 63 text (place + 2)) none refl found)
 ]
 
-mark_second : (mark : ℕ) (text : List ℕ) (place : ℕ) → ends_opener mark text (place + 2) ≡ true → get_or text (place + 1) 0 ≡ mark
+pub mark_second : (mark : ℕ) (text : List ℕ) (place : ℕ) → ends_opener mark text (place + 2) ≡ true → get_or text (place + 1) 0 ≡ mark
 mark_second mark text place ends =
     let same : place + 1 ≡ place + 2 - 2 + 1 = omega arith in
     let occurs = OccursAt-true text (less_than_sign ∷ mark ∷ []) (place + 2 - 2) (and_parts (nat_le 2 (place + 2)) _ ends).1 in
@@ -253,7 +253,7 @@ pub no_html : (text : List ℕ) (place : ℕ) → ((n : ℕ) → ¬ IsTagPiece (
 no_html text place no_tag none n (inl is) = no_tag n is
 no_html text place no_tag none n (inr found) = let lost : None ≡ Some (place + n) = sym none ∙ found in cc
 
-html_front : (text : List ℕ) (place len : ℕ) → IsHtmlPiece text place len → get_or text place 0 ≡ less_than_sign
+pub html_front : (text : List ℕ) (place len : ℕ) → IsHtmlPiece text place len → get_or text place 0 ≡ less_than_sign
 html_front text place len (inl is) =
     ap (λ k. get_or text k 0) (sym (add-zero place)) ∙ sym (get_or-drop place text 0 0)
     ∙ tag_byte (drop place text) is.tag is.after is.parts is.is_tag

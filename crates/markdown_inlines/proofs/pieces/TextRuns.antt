@@ -1,6 +1,6 @@
 -- Bytes that are passed over begin no piece: plain bytes, the rest of a backtick string, and of spaces before no line ending.
 use Rattle.std.proofs.Common.{◌≡◌, ℕ, zero, suc, ◌+◌, ◌-◌, ◌<◌, ◌≤◌, ◌==◌, ◌||◌, ◌⊎◌, Bool, true, false, not, cond, List, [], ◌∷◌, length}
-use Rattle.std.proofs.Common.{take, drop, get_or, add-zero}
+use Rattle.std.proofs.Common.{take, drop, get_or}
 use Rattle.std.proofs.Common.{refl, sym, ap, ◌∙◌, subst, arith, inl, inr, Some}
 use Rattle.std.specs.List.{prefix_len}
 use Rattle.std.proofs.lemmas.Bool.{cases_Bool, cases_lt, eqb-true, and_parts}
@@ -30,7 +30,7 @@ run_passes : (test : ℕ → Bool) (bytes : List ℕ) (place j : ℕ) → j < pr
 run_passes test bytes place j inside =
     ap test (sym (get_or-drop place bytes j 0)) ∙ prefix_len_passes test (drop place bytes) j 0 inside
 
-run_byte : (byte : ℕ) (bytes : List ℕ) (place p : ℕ) → place ≤ p → p < place + prefix_len (λ b. b == byte) (drop place bytes)
+pub run_byte : (byte : ℕ) (bytes : List ℕ) (place p : ℕ) → place ≤ p → p < place + prefix_len (λ b. b == byte) (drop place bytes)
     → get_or bytes p 0 ≡ byte
 run_byte byte bytes place p low high =
     let at : place + (p - place) ≡ p = omega (arith, low) in
@@ -139,6 +139,16 @@ module _ (bytes : List ℕ) (place plain : ℕ) (counted : plain ≡ plain_lengt
         | inr is ↦ word_space_none asked bytes from p is.0 (ap (λ k. begins_with is_plain (drop k bytes)) next ∙ is.1) kind len
       ]
 
+  -- none is a backtick or a `<`
+  pub plain_bytes : (p : ℕ) → place ≤ p → p < place + plain → (get_or bytes p 0 ≡ 96 → ⊥) × (get_or bytes p 0 ≡ 60 → ⊥)
+  plain_bytes p low high = elim (case_at p low high) [
+    | inl is ↦ (
+      λ tick. (let lost : true ≡ false = sym is ∙ ap is_plain tick in cc),
+      λ angle. (let lost : true ≡ false = sym is ∙ ap is_plain angle in cc),
+    )
+    | inr is ↦ (λ tick. omega (arith, tick, is.0), λ angle. omega (arith, angle, is.0))
+  ]
+
   pub plain_text : (asked : InlineExtensions) → HasOnlyText asked bytes place (place + plain)
   plain_text asked p low high kind len = plain_none asked place p low high kind len
 
@@ -219,7 +229,7 @@ module _ (asked : InlineExtensions) (bytes : List ℕ) (from place run q : ℕ) 
       (λ is. break_none _ is) (λ is. break_none _ is) begins
 
 -- ---- what is passed over
-run_cases : (b : ℕ) (bs : List ℕ) (run : ℕ) → run ≡ run_length (b ∷ bs)
+pub run_cases : (b : ℕ) (bs : List ℕ) (run : ℕ) → run ≡ run_length (b ∷ bs)
     → ((b ≡ 96) × (run ≡ prefix_len (λ c. c == 96) (b ∷ bs)))
     ⊎ (((b ≡ 32) × (run ≡ prefix_len (λ c. c == 32) (b ∷ bs))) ⊎ ((b ≡ 96 → ⊥) × (run ≡ 1)))
 run_cases b bs run is =

@@ -1,6 +1,6 @@
 -- The head of a wikilink is one, stands in the text, and may be cut from it.
-use Rattle.std.proofs.Common.{ℕ, List, ◌≡◌, ◌+◌, ◌-◌, ◌<◌, ◌≤◌, ◌∙◌, ◌⊎◌, Bool, true, inl, inr, length, drop, get_or, refl, sym, ap, subst}
-use Rattle.std.proofs.Common.{arith, add-zero, Option, Some, None, IsTrue}
+use Rattle.std.proofs.Common.{ℕ, List, ◌≡◌, ◌+◌, ◌-◌, ◌<◌, ◌≤◌, ◌∙◌, true, inl, inr, length, drop, get_or, sym, ap, subst}
+use Rattle.std.proofs.Common.{arith, add-zero}
 use Rattle.std.specs.Prelude.{codes}
 use Rattle.std.specs.List.{prefix_len}
 use Rattle.std.specs.Str.{IsUtf8, IsCharBoundary}

@@ -1,17 +1,22 @@
-use Rattle.std.proofs.Common.{◌+◌, sym, ap, ◌∙◌, subst, arith}
-use Rattle.markdown_scanners_tree.proofs.ForCallers.{IsTrueGuard-later}
+use Rattle.std.proofs.Common.{sym, ap, ◌∙◌, subst, arith}
 use Rattle.markdown_scanners_tree.proofs.PrefixLemmas.{from_place}
 use Rattle.markdown_inlines.specs.Pieces.{BeginsAt, IsUriPiece, IsEmailPiece}
 use Rattle.markdown_inlines.proofs.pieces.Openings.{begins_class, byte_class, only_angle}
+use Rattle.markdown_inlines.proofs.searches.SearchLemmas.{searched_later}
 use Rattle.markdown_inlines.proofs.angles.angle_at.Goals as goal
 
-pub returns-in-Some-clause-stays_true : goal.returns-in-Some-clause-stays_true
-returns-in-Some-clause-stays_true c = λ q later outside.
-    IsTrueGuard-later c.args.bytes.now c.args.guard.now (c.args.place + 2) q (omega (arith, later)) c.requires.true_guard
+pub returns-in-Some-clause-stays : goal.returns-in-Some-clause-stays
+returns-in-Some-clause-stays c = λ q less within. searched_later c.args.place q c.args.searches.now (omega (arith, less)) c.requires.searched
 
-pub returns-in-Some-email_len-clause-stays_true : goal.returns-in-Some-email_len-clause-stays_true
-returns-in-Some-email_len-clause-stays_true c = λ q later outside.
-    IsTrueGuard-later c.args.bytes.now c.args.guard.now (c.args.place + 2) q (omega (arith, later)) c.requires.true_guard
+pub returns-in-Some-email_len-clause-stays : goal.returns-in-Some-email_len-clause-stays
+returns-in-Some-email_len-clause-stays c = λ q less within.
+    searched_later c.args.place q c.args.searches.now (omega (arith, less)) c.requires.searched
+
+pub returns-in-Some-html_len-clause-stays : goal.returns-in-Some-html_len-clause-stays
+returns-in-Some-html_len-clause-stays c = λ q less within. c.in-Some-html_len.ensures.stays q less within
+
+pub returns-in-None-clause-stays : goal.returns-in-None-clause-stays
+returns-in-None-clause-stays c = λ q less within. c.in-None.ensures.stays q less tt
 
 pub returns-in-Some-email_len-clause-found : goal.returns-in-Some-email_len-clause-found
 returns-in-Some-email_len-clause-found c = λ asked from.

@@ -1,25 +1,39 @@
-use Rattle.std.proofs.Common.{◌+◌, sym, arith, subst}
-use Rattle.markdown_scanners_tree.proofs.ForCallers.{IsTrueGuard-later}
+use Rattle.std.proofs.Common.{◌≡◌, ◌≤◌, ◌+◌, ◌-◌, ◌∙◌, length, take, drop, get_or, ap, sym, subst, arith, inl, inr, Some}
+use Rattle.std.specs.Prelude.{IfSome}
+use Rattle.markdown_scanners_tree.specs.inline_html.InlineHtml.{find_at}
 use Rattle.markdown_scanners_tree.proofs.PrefixLemmas.{from_place}
-use Rattle.markdown_scanners_tree.proofs.SomeExactlyLemmas.{SomeExactly-from_none}
+use Rattle.markdown_scanners_tree.proofs.SomeExactlyLemmas.{SomeExactly-map}
 use Rattle.markdown_inlines.specs.Pieces.{IsHtmlPiece, IsTagPiece}
+use Rattle.markdown_inlines.specs.Searches.{IsSearchedTo}
 use Rattle.markdown_inlines.proofs.pieces.Openings.{no_html}
+use Rattle.markdown_inlines.proofs.searches.SearchLemmas.{html_stays}
 use Rattle.markdown_inlines.proofs.angles.html_len.Goals as goal
 
-pub returns-in-Some-clause-stays_true : goal.returns-in-Some-clause-stays_true
-returns-in-Some-clause-stays_true c = λ q later outside.
-    IsTrueGuard-later c.args.bytes.now c.args.guard.now (c.args.place + 2) q (omega (arith, later)) c.requires.true_guard
+pub returns-in-Some-clause-found : goal.returns-in-Some-clause-found
+returns-in-Some-clause-found c =
+    let length_is : c.in-Some.end ≡ c.args.place + (c.in-Some.end - c.args.place) = omega (arith, c.in-Some.ensures.later) in
+    inr (ap (λ t. find_at t (c.args.place + 2)) (sym c.requires.same) ∙ (sym c.in-Some.ensures.found ∙ ap Some length_is))
 
-pub returns-in_err-end-clause-found : goal.returns-in_err-end-clause-found
-returns-in_err-end-clause-found c =
-    SomeExactly-from_none (IsHtmlPiece c.args.bytes.now c.args.place) c.from_residual.ensures
-    (no_html c.args.bytes.now c.args.place
-    (λ n is. c.in_default.ensures.found n (subst (λ t. IsTagPiece t n) (sym (from_place c.args.bytes.now c.args.place)) is))
-    (sym c.in_err-end.ensures.found))
+pub returns-in-Some-clause-stays : goal.returns-in-Some-clause-stays
+returns-in-Some-clause-stays c = λ q less within.
+    let place = c.args.place in
+    let here = ap (λ t. get_or t place 0) c.requires.same ∙ c.requires.opens in
+    subst (IsSearchedTo q) (sym c.in-Some.ensures.after) (html_stays place q c.args.searches.now c.requires.searched here less
+    (subst (λ r. IfSome r (λ end. end ≤ q)) c.in-Some.ensures.found (omega (arith, within, c.in-Some.ensures.later))))
 
-pub returns-in_err-end-clause-stays_true : goal.returns-in_err-end-clause-stays_true
-returns-in_err-end-clause-stays_true c = λ q later outside. c.in_err-end.ensures.stays_true q later tt
+pub returns-clause-found : goal.returns-clause-found
+returns-clause-found c =
+    let bytes = c.args.bytes.now in
+    let place = c.args.place in
+    let rest = from_place bytes place in
+    let none = ap (λ t. find_at t (place + 2)) (sym c.requires.same) ∙ sym c.in_default.ensures.found in
+    SomeExactly-map (IsTagPiece (take (length bytes - place) (drop place bytes))) (IsHtmlPiece bytes place) c.tag_len.result
+    (λ n is. inl (subst (λ t. IsTagPiece t n) rest is))
+    (λ no_tag. no_html bytes place (λ n is. no_tag n (subst (λ t. IsTagPiece t n) (sym rest) is)) none) c.tag_len.ensures.found
 
-pub returns-clause-stays_true : goal.returns-clause-stays_true
-returns-clause-stays_true c = λ q later outside.
-    c.in_ok-end.ensures.stays_true q later (omega (arith, outside, c.in_ok-end.ensures.later))
+pub returns-clause-stays : goal.returns-clause-stays
+returns-clause-stays c = λ q less within.
+    let place = c.args.place in
+    let here = ap (λ t. get_or t place 0) c.requires.same ∙ c.requires.opens in
+    subst (IsSearchedTo q) (sym c.in_default.ensures.after) (html_stays place q c.args.searches.now c.requires.searched here less
+    (subst (λ r. IfSome r (λ end. end ≤ q)) c.in_default.ensures.found tt))

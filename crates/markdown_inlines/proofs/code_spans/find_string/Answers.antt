@@ -1,44 +1,46 @@
-use Rattle.std.proofs.Common.{◌≢◌, ◌+◌, arith, ap, length, get_or, subst}
-use Rattle.std.proofs.lemmas.List.{take_rest, length-drop}
+use Rattle.std.proofs.Common.{◌≢◌, subst, arith, get_or}
 use Rattle.std.proofs.lemmas.List.Sums.{prefix_len-le-length}
 use Rattle.markdown_scanners_tree.specs.Ascii.{backtick}
 use Rattle.markdown_inlines.specs.CodeSpans.{IsBacktickString, is_backtick}
-use Rattle.markdown_inlines.proofs.code_spans.CodeSpanLemmas.{none_behind, none_found, found_string, none_within, none_joined}
+use Rattle.markdown_inlines.proofs.code_spans.CodeSpanLemmas.{none_behind, none_within, none_joined}
 use Rattle.markdown_inlines.proofs.code_spans.find_string.Goals as goal
 
-pub loop-offset-init : goal.loop-offset-init
-loop-offset-init c = (
+pub loop-start-init : goal.loop-start-init
+loop-start-init c = (
   omega arith,
-  omega (arith, c.requires.opens, prefix_len-le-length is_backtick c.args.bytes.now),
+  omega (arith, c.requires.opens, prefix_len-le-length is_backtick c.args.text.now),
   λ place low high. absurd (omega (arith, low, high)),
-  subst (λ k. get_or c.args.bytes.now k 0 ≢ backtick) (omega arith) (none_behind c.args.bytes.now 0 c.args.fence c.requires.opens),
+  subst (λ k. get_or c.args.text.now k 0 ≢ backtick) (omega arith) (none_behind c.args.text.now 0 c.args.fence c.requires.opens),
+  omega arith,
 )
+
+pub next_string-requires-clause-room : goal.next_string-requires-clause-room
+next_string-requires-clause-room c = omega (arith, c.requires.room, c.requires.fits, c.loop-start.invariant.1, c.loop-start.invariant.4)
 
 pub returns-then-run-fence-clause-found : goal.returns-then-run-fence-clause-found
 returns-then-run-fence-clause-found c =
-    let bytes = c.args.bytes.now in
-    let found = found_string bytes c.loop-offset.place (λ _. c.loop-offset.invariant.3) c.in-Some.offset c.scan_ch_repeat-run.result
-    c.in-Some.ensures c.scan_ch_repeat-run.ensures.run in (
-      omega (arith, c.loop-offset.invariant.0),
-      found.0,
-      subst (λ n. IsBacktickString bytes (c.loop-offset.place + c.in-Some.offset) n) c.if-run-fence.true found.1,
-      none_joined bytes c.args.fence c.args.fence c.loop-offset.place _ c.loop-offset.invariant.2 (found.2 c.args.fence),
+    let text = c.args.text.now in
+    let found = c.in-Some.ensures.found in (
+      omega (arith, c.loop-start.invariant.0, found.0),
+      omega (arith, c.in-Some.ensures.within, found.1.some),
+      subst (IsBacktickString text c.in-Some.start) c.if-run-fence.true found.1,
+      none_joined text c.args.fence c.args.fence c.loop-start.place _ c.loop-start.invariant.2 (found.2 c.args.fence),
     )
 
-pub loop-offset-preserved : goal.loop-offset-preserved
-loop-offset-preserved c =
-    let bytes = c.args.bytes.now in
-    let start = c.loop-offset.place + c.in-Some.offset in
-    let found = found_string bytes c.loop-offset.place (λ _. c.loop-offset.invariant.3) c.in-Some.offset c.scan_ch_repeat-run.result
-    c.in-Some.ensures c.scan_ch_repeat-run.ensures.run in
-    let before = none_joined bytes c.args.fence c.args.fence c.loop-offset.place start c.loop-offset.invariant.2 (found.2 c.args.fence) in (
-      omega (arith, c.loop-offset.invariant.0),
-      omega (arith, found.0, c.scan_ch_repeat-run.ensures.within, ap length (take_rest bytes start), length-drop start bytes),
-      none_joined bytes c.args.fence c.args.fence start _ before (none_within bytes c.args.fence start c.scan_ch_repeat-run.result found.1 c.if-run-fence.false),
+pub loop-start-preserved : goal.loop-start-preserved
+loop-start-preserved c =
+    let text = c.args.text.now in
+    let found = c.in-Some.ensures.found in
+    let before = none_joined text c.args.fence c.args.fence c.loop-start.place c.in-Some.start c.loop-start.invariant.2 (found.2 c.args.fence) in (
+      omega (arith, c.loop-start.invariant.0, found.0),
+      c.in-Some.ensures.within,
+      none_joined text c.args.fence c.args.fence c.in-Some.start _ before
+          (none_within text c.args.fence c.in-Some.start c.in-Some.run' found.1 c.if-run-fence.false),
       found.1.not_followed,
+      omega (arith, c.loop-start.invariant.4, c.in-Some.ensures.counts),
     )
 
 pub returns-clause-none : goal.returns-clause-none
 returns-clause-none c = λ to.
-    none_joined c.args.bytes.now c.args.fence c.args.fence c.loop-offset.place to c.loop-offset.invariant.2
-    (none_found c.args.bytes.now c.loop-offset.place (λ _. c.loop-offset.invariant.3) to c.in_default.ensures c.args.fence c.requires.some)
+    none_joined c.args.text.now c.args.fence c.args.fence c.loop-start.place to c.loop-start.invariant.2
+    (c.in_default.ensures.none c.args.fence to c.requires.some)

@@ -1,20 +1,27 @@
-use Rattle.std.proofs.Common.{◌++◌, ◌∷◌, [], ◌≤◌, ◌∙◌, length, arith, refl, sym, subst, ap, List}
+use Rattle.std.proofs.Common.{◌≡◌, ◌++◌, ◌∷◌, [], ◌≤◌, ◌-◌, ◌*◌, ◌∙◌, length, arith, refl, sym, subst, ap, List}
 use Rattle.std.proofs.lemmas.Str.{IsCharBoundary-start, IsCharBoundary-end}
 use Rattle.std.specs.Str.{IsCharBoundary}
 use Rattle.markdown_inlines.specs.Inlines.{Setting, Reading, at_start, AreRead, text_between}
 use Rattle.markdown_inlines.specs.Pieces.{IsNext, HasOnlyText, ReadText}
 use Rattle.markdown_inlines.specs.Readings.{AreBefore}
+use Rattle.markdown_inlines.specs.Searches.{bytes_passed, next_searched, pieces_searched, text_searched, unsearched}
 use Rattle.markdown_inlines.specs.Sources.{AreSources, AreLinkSources}
 use Rattle.markdown_inlines.specs.declared.pieces.Piece.{Piece}
 use Rattle.markdown_inlines.proofs.cut.CutLemmas.{next_piece_at, read_next, read_out, added, before_later, read_before}
 use Rattle.markdown_inlines.proofs.cut.SourceLemmas.{source_added, text_added}
+use Rattle.markdown_inlines.proofs.searches.SearchLemmas.{last_joined, next_joined}
 use Rattle.markdown_inlines.proofs.cut.cut_within.Goals as goal
 
 pub loop-piece-init : goal.loop-piece-init
 loop-piece-init g c =
     let setting : Setting = record { asked = c.args.extensions; known = g.L.Labels.known c.args.labels.now } in
     let start = c.new-reader.ensures.start in (
-      c.in_ok-scanner.ensures.start,
+      subst (λ (l : List Piece). c.in_ok-scanner.scanner ≡ record {
+        text = c.args.text.now;
+        asked = c.args.extensions;
+        place = 0;
+        searched = pieces_searched c.args.text.now l (unsearched c.args.text.now);
+      }) (sym c.clear.ensures.items) c.in_ok-scanner.ensures.start,
       ap (λ (r : Reading). r.text) start,
       omega arith,
       (λ later last read. subst (λ (l : List Piece). AreRead setting 0 (at_start c.args.text.now) (l ++ later) last) (sym c.clear.ensures.items)
@@ -88,7 +95,10 @@ loop-piece-preserved g c =
     let ends : IsCharBoundary text end = subst (λ t. IsCharBoundary t end) is.1 c.in_ok-place.ensures.boundary in
     let pushed = c.in_ok-push.ensures.items ∙ ap (λ (l : List Piece). l ++ record piece { end = end } ∷ []) c.in_ok-push_text.ensures in (
       c.read_to.ensures ∙ (ap (λ (s : ReadText). record s { place = end }) c.in-Some.ensures.read
-          ∙ ap (λ (s : ReadText). record s { place = end }) is.0),
+          ∙ (ap (λ (s : ReadText). record s { place = end; searched = next_searched s.text s.place piece s.searched }) is.0
+          ∙ ap (λ s. record { text = text; asked = c.args.extensions; place = end; searched = s })
+          (next_joined text c.loop-piece.pieces.items from end piece (unsearched text) (c.in_ok-place.ensures.searched text)
+          ∙ ap (λ (l : List Piece). pieces_searched text l (unsearched text)) (sym pushed)))),
       c.in_ok-place.ensures.text ∙ is.1,
       subst (λ t. end ≤ length t) is.1 c.in_ok-place.ensures.within.1,
       (λ later last read. subst (λ (l : List Piece). AreRead setting 0 (at_start text) l last)
@@ -115,6 +125,11 @@ returns g c =
     subst (λ t. HasOnlyText c.args.extensions t from (length t)) (sym is.1)
     (subst (λ (s : ReadText). HasOnlyText s.asked s.text s.place (length s.text)) is.0 c.in_default.ensures.none) in
     let within : from ≤ length reading.text = subst (λ t. from ≤ length t) (sym is.1) is.2 in
+    let last = c.in_default.ensures.all
+    ∙ ap (λ (s : ReadText). record s {
+      place = length s.text;
+      searched = text_searched s.text s.place (length s.text - s.place) s.searched;
+    }) is.0 in
     let out = subst (λ t. AreRead setting from reading (text_between from (length t)) reading) is.1 (read_out setting from reading within only) in
     record {
       cut = record {
@@ -127,4 +142,8 @@ returns g c =
       sources = subst (λ (l : List Piece). AreSources text l (length text)) (sym c.in_ok-push_text-2.ensures)
           (text_added text c.loop-piece.pieces.items from (length text) is.4 is.2 is.5 (IsCharBoundary-end text));
       links = subst (λ t. AreLinkSources t c.in_ok-found.found.links.items) is.1 c.in_ok-found.ensures.sources;
+      passed = c.passed.ensures.value ∙ ap bytes_passed (ap (λ (s : ReadText). s.searched) last
+          ∙ (last_joined text c.loop-piece.pieces.items from (length text) (unsearched text)
+          ∙ ap (λ (l : List Piece). pieces_searched text l (unsearched text)) (sym c.in_ok-push_text-2.ensures)));
+      budget = subst (λ t. c.passed.result ≤ 10 * length t) (ap (λ (s : ReadText). s.text) last) c.passed.ensures.budget;
     }

@@ -1,11 +1,12 @@
-use Rattle.std.proofs.Common.{◌≡◌, ◌+◌, ◌-◌, ◌≤◌, ap, subst, arith, length, take, drop, get_or, ℕ}
-use Rattle.markdown_scanners_tree.proofs.ForCallers.{IsTrueGuard-later}
-use Rattle.markdown_inlines.specs.PieceBytes.{plain_length}
+use Rattle.std.proofs.Common.{◌≡◌, ◌+◌, ◌-◌, ◌≤◌, ◌∙◌, ap, refl, sym, subst, arith, length, take, drop, get_or, ℕ}
+use Rattle.markdown_inlines.specs.PieceBytes.{plain_length, run_length}
 use Rattle.markdown_inlines.specs.Pieces.{BeginsAt, HasOnlyText}
+use Rattle.markdown_inlines.specs.Searches.{IsSearchedTo, Searched, kind_searched, text_searched}
 use Rattle.markdown_inlines.specs.declared.pieces.PieceKind.{PieceKind}
 use Rattle.markdown_inlines.proofs.line_breaks.LineBreakLemmas.{rest_within}
 use Rattle.markdown_inlines.proofs.pieces.PieceEnds.{IsPart, piece_part, starts_cut}
-use Rattle.markdown_inlines.proofs.pieces.TextRuns.{plain_apart, plain_text}
+use Rattle.markdown_inlines.proofs.pieces.TextRuns.{plain_apart, plain_bytes, plain_text}
+use Rattle.markdown_inlines.proofs.searches.SearchLemmas.{parts_between, quiet, searched_later}
 use Rattle.markdown_inlines.proofs.piece_scanner.next_piece.Goals as goal
 
 pub loop-place-init : goal.loop-place-init
@@ -15,12 +16,16 @@ loop-place-init c =
     let n = c.plain_len.result in
     let same = c.as_bytes-bytes.ensures.value in
     let counted = subst (λ t. n ≡ plain_length (take (length t - from) (drop from t))) same c.plain_len.ensures.count in
-    let fits = subst (λ t. n ≤ length (take (length t - from) (drop from t))) same c.plain_len.ensures.within in (
+    let fits = subst (λ t. n ≤ length (take (length t - from) (drop from t))) same c.plain_len.ensures.within in
+    let before = c.args.searches.now in
+    let count : from + n - from ≡ n = omega arith in (
       omega arith,
       rest_within text from n c.requires.within fits,
       plain_text text from n counted c.args.extensions,
       λ at later. plain_apart text from n counted (omega (arith, later)),
-      IsTrueGuard-later text c.args.guard.now (from + 2) (from + n + 2) (omega arith) c.requires.true_guard,
+      c.requires.same,
+      searched_later from (from + n) before (omega arith) c.requires.searched,
+      sym (ap (λ k. text_searched text from k before) count ∙ quiet text n from before (plain_bytes text from n counted)),
     )
 
 part : (c : goal.In-Some) → IsPart c.args.text.now c.loop-place.place c.in-Some.len
@@ -42,10 +47,41 @@ returns-in-Some-clause-boundary c =
       is.cut c.utf8.text,
     )
 
-pub returns-in-Some-clause-stays_true : goal.returns-in-Some-clause-stays_true
-returns-in-Some-clause-stays_true c =
+pub returns-in-Some-clause-found : goal.returns-in-Some-clause-found
+returns-in-Some-clause-found c = record {
+  len = c.in-Some.len;
+  later = c.loop-place.invariant.0;
+  only_text = c.loop-place.invariant.2;
+  begins = c.in-Some.ensures.found c.args.from c.loop-place.invariant.3;
+  ends = refl;
+}
+
+pub returns-in-Some-clause-counts : goal.returns-in-Some-clause-counts
+returns-in-Some-clause-counts c =
+    c.in-Some.ensures.counts ∙ ap (kind_searched c.in-Some.kind c.args.text.now c.loop-place.place (c.loop-place.place + c.in-Some.len)) c.loop-place.invariant.6
+
+pub returns-in-Some-clause-text : goal.returns-in-Some-clause-text
+returns-in-Some-clause-text c = c.in-Some.ensures.text ∙ (c.loop-place.invariant.4 ∙ sym c.requires.same)
+
+pub returns-in-Some-clause-searched : goal.returns-in-Some-clause-searched
+returns-in-Some-clause-searched c =
     let is = part c in
-    c.in-Some.ensures.stays_true (c.loop-place.place + c.in-Some.len + 2) (omega (arith, is.some)) (omega arith)
+    c.in-Some.ensures.stays (c.loop-place.place + c.in-Some.len) (omega (arith, is.some)) (omega arith) tt
+
+pub returns-clause-counts_text : goal.returns-clause-counts_text
+returns-clause-counts_text c =
+    let same : c.loop-place.place ≡ length c.args.text.now =
+    omega (arith, c.loop-place.invariant.1, c.loop-place-test.false, ap length c.as_bytes-bytes.ensures.value) in
+    c.loop-place.invariant.6 ∙ ap (λ k. text_searched c.args.text.now c.args.from (k - c.args.from) c.args.searches.now) same
+
+pub returns-clause-text : goal.returns-clause-text
+returns-clause-text c = c.loop-place.invariant.4 ∙ sym c.requires.same
+
+pub returns-clause-searched_all : goal.returns-clause-searched_all
+returns-clause-searched_all c =
+    let same : c.loop-place.place ≡ length c.args.text.now =
+    omega (arith, c.loop-place.invariant.1, c.loop-place-test.false, ap length c.as_bytes-bytes.ensures.value) in
+    subst (λ k. IsSearchedTo k c.loop-place.searches) same c.loop-place.invariant.5
 
 pub loop-place-preserved : goal.loop-place-preserved
 loop-place-preserved c =
@@ -54,6 +90,10 @@ loop-place-preserved c =
     let next = c.past_text-place.result in
     let same = c.as_bytes-bytes.ensures.value in
     let told = c.past_text-place.ensures in
+    let text = c.args.text.now in
+    let past_run = subst (λ t. place + run_length (drop place t) ≤ next) same told.past_run in
+    let unsearched = subst (λ t. (s : Searched) → text_searched t place (next - place) s ≡ text_searched t place (run_length (drop place t)) s) same
+    told.unsearched in
     let only = subst (λ t. (from ≤ place) → HasOnlyText c.args.extensions t from place
     → ((kind : PieceKind) (len : ℕ) → ¬ BeginsAt c.args.extensions t from place kind len) → HasOnlyText c.args.extensions t from next) same
     (told.text c.args.extensions from) in (
@@ -62,5 +102,10 @@ loop-place-preserved c =
       only c.loop-place.invariant.0 c.loop-place.invariant.2
           (λ kind len. c.in_default.ensures.found from c.loop-place.invariant.3 (kind, len)),
       λ at later before. subst (λ t. get_or t next 0 ≡ 96 → get_or t (next - 1) 0 ≡ 96 → ⊥) same told.apart at before,
-      c.in_default.ensures.stays_true (next + 2) (omega (arith, told.later)) tt,
+      c.in_default.ensures.text ∙ c.loop-place.invariant.4,
+      c.in_default.ensures.stays next told.later tt past_run,
+      c.in_default.ensures.counts_text
+          ∙ (sym (unsearched c.loop-place.searches)
+          ∙ (ap (text_searched text place (next - place)) c.loop-place.invariant.6
+          ∙ parts_between text from place next c.args.searches.now c.loop-place.invariant.0 (omega (arith, told.later)))),
     )

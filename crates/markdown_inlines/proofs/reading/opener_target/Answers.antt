@@ -1,7 +1,7 @@
-use Rattle.std.proofs.Common.{◌≡◌, ◌+◌, ◌∙◌, ap, sym, subst, ℕ}
+use Rattle.std.proofs.Common.{◌+◌, ◌∙◌, ap, sym, subst, ℕ}
 use Rattle.std.proofs.lemmas.Result.{IfOk-weaker}
 use Rattle.markdown_scanners_tree.specs.SomeExactly.{SomeExactly}
-use Rattle.markdown_inlines.specs.Inlines.{bracket_of, IsWikiTarget}
+use Rattle.markdown_inlines.specs.Inlines.{IsWikiTarget}
 use Rattle.markdown_inlines.specs.declared.links.LinkTarget.{LinkTarget}
 use Rattle.markdown_inlines.proofs.reading.ReadingLemmas.{leads_single, leads_wiki}
 use Rattle.markdown_inlines.proofs.reading.opener_target.Goals as goal

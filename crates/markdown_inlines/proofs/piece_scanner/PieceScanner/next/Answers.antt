@@ -1,4 +1,4 @@
-use Rattle.std.proofs.Common.{arith, subst, length}
+use Rattle.std.proofs.Common.{◌∙◌, arith, subst, length}
 use Rattle.std.specs.Option.{IfNone}
 use Rattle.markdown_inlines.specs.Pieces.{HasOnlyText, ReadText}
 use Rattle.markdown_inlines.proofs.piece_scanner.PieceScanner.next.Goals as goal
@@ -8,12 +8,12 @@ pub invariant_of-self : goal.invariant_of-self
 invariant_of-self c = elim c.match-piece.branch [
   | in-Some w ↦ (
       let within = rw w.in-Some.is at c.next_piece-piece.ensures.within in
-      let stays_true = rw w.in-Some.is at c.next_piece-piece.ensures.stays_true in
-      (c.self.invariant.0, rw w.self-is within.1, rw w.self-is stays_true)
+      let searched = rw w.in-Some.is at c.next_piece-piece.ensures.searched in
+      (c.next_piece-piece.ensures.text ∙ c.self.invariant.0, rw w.self-is within.1, rw w.self-is searched)
       )
   | in-None w ↦ (
-      let stays_true = rw w.in-None.is at c.next_piece-piece.ensures.stays_true_to_end in
-      (c.self.invariant.0, rw w.self-is (omega arith), rw w.self-is stays_true)
+      let searched = rw w.in-None.is at c.next_piece-piece.ensures.searched_all in
+      (c.next_piece-piece.ensures.text ∙ c.self.invariant.0, rw w.self-is (omega arith), rw w.self-is searched)
       )
 ]
 
