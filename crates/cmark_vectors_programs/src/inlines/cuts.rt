@@ -15,6 +15,7 @@ const LABELS: Definitions = Definitions {
 
 const STRIKETHROUGH: InlineExtensions = InlineExtensions {
     strikethrough: true,
+    wikilinks: false,
 };
 
 // A piece from one place up to another.
