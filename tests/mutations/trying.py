@@ -25,6 +25,7 @@ TELLERS = {
     "cmark_scan": ["run cmark_scan", "tests cmark_scan", "refused cmark_scan"],
     "markdown_blocks": ["run cmark_blocks", "tests cmark_vectors_programs"],
     "markdown_inlines": ["tests cmark_vectors_programs"],
+    "markdown_events": ["tests markdown_events"],
     "page_programs": ["run cmark_blocks", "run cmark_inlines", "tests cmark_vectors_programs"],
     "page_blocks": ["run cmark_blocks", "tests cmark_vectors_programs"],
 }

@@ -1,0 +1,3 @@
+pub mod CutFacts
+pub mod InlineFacts
+pub mod PieceFacts

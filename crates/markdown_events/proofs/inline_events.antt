@@ -1,0 +1,7 @@
+pub mod Balance
+pub mod Facts
+pub mod Found
+pub mod Laws
+pub mod PassLemmas
+pub mod Rise
+pub mod Unique

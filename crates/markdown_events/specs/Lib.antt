@@ -1,0 +1,7 @@
+pub mod EventLaws
+pub mod Found
+pub mod InlineEvents
+pub mod Meanings
+pub mod Passes
+pub mod TagEnds
+pub mod Targets

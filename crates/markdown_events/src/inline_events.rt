@@ -1,0 +1,257 @@
+//! The events of a text's inlines. (CommonMark 0.31.2, chapter 6)
+ghost use Rattle.std.specs.Prelude.{◌≡◌, ◌<◌, ◌≤◌, ◌+◌, ◌-◌, ◌==◌, ℕ, List, [], length, drop, map, IfOk, OnOk, if◌then◌else◌};
+ghost use Rattle.std.specs.List.{All};
+ghost use Rattle.std.specs.Str.{IsCharBoundary};
+ghost use Rattle.html_entities.specs.Entities.{html_entity};
+ghost use Rattle.markdown_values.specs.strings.Text.{cow_text};
+ghost use Rattle.markdown_values.specs.values.Tags.{TagView, tag_view, emphasis, strong};
+ghost use Rattle.markdown_scanners_tree.specs.scanners.entities.CharacterReference.{StartsWithReference};
+ghost use Rattle.markdown_events.specs.Found.{HasParts};
+ghost use Rattle.markdown_scanners_tree.specs.scanners.reference_definitions.ReferenceDefinition.{IsCutAt};
+ghost use Rattle.markdown_inlines.specs.declared.links.LinkTarget.TheVariants.{Wiki};
+ghost use Rattle.markdown_inlines.specs.Sources.{IsLinkSource, IsSource};
+ghost use Rattle.markdown_events.specs.EventLaws.{AreBalanced, AreWithin};
+ghost use Rattle.markdown_events.specs.InlineEvents.{AreEvents, AreInlineEvents, ArePieceEvents, RangedEvent, seen_event, autolink, shown_target};
+ghost use Rattle.markdown_events.specs.Meanings.{IsLinkTag};
+ghost use Rattle.markdown_events.specs.Passes.{IsFound, IsWritten, Leads, begun, element_ends, with_events};
+
+use crate::definitions::{Defined, Definitions};
+use crate::elements::element_ends;
+use crate::link_tags::{has_pipe, tag_of};
+use crate::parts::part;
+use crate::writer::Writer;
+use html_entities::HtmlEntities;
+use markdown_inlines::code_content::code_text;
+use markdown_inlines::extensions::InlineExtensions;
+use markdown_inlines::inlines::{Inline, find_inlines};
+use markdown_inlines::links::{Link, LinkTarget};
+use markdown_inlines::pieces::{Piece, PieceKind};
+use markdown_scanners_tree::scanners::scan_entity;
+use markdown_values::strings::CowStr;
+use markdown_values::values::{Event, LinkType, Tag};
+use std::alloc::{AllocError, Global};
+use std::ops::Range;
+
+/// The events of the content of a block, with the extensions that are asked for, each with the
+/// range of its source in the text. Both events of an element have the range of the whole. The
+/// definitions say where references lead. A wikilink leads to its target as it is written, and
+/// shows it unless a pipe stands after it.
+///
+/// Texts are lent from the text, or from the definitions, wherever they are a run of it.
+///
+/// The time is linear in the length of the text. Memory is asked for as by `find_inlines`, by the
+/// events, and by each text that is no run of the text.
+///
+/// # Errors
+///
+/// `AllocError` where that memory is refused.
+pub fn inline_events<'a, D: Definitions>(
+    alloc: Global,
+    text: &'a str,
+    definitions: &'a D,
+    extensions: InlineExtensions,
+) -> Result<Vec<(Event<'a>, Range<usize>)>, AllocError>
+    ensures events { IfOk result (λ events. AreInlineEvents text.now
+        (record { asked = extensions; targets = D.targets definitions.now })
+        (map seen_event events.items)) }
+
+    // Starts and ends balance, and both events of an element have one range.
+    ensures balanced { IfOk result (λ events. AreBalanced (map seen_event events.items)) }
+
+    // Ranges rise, and what an element holds lies within its own.
+    ensures within { IfOk result (λ events. AreWithin text.now (map seen_event events.items)) }
+{
+    let defined = Defined { definitions };
+    let found = find_inlines(alloc, text, &defined, extensions)?;
+    let ends = element_ends(alloc, &found.inlines)?;
+    let mut writer = Writer::new(alloc, ends);
+    push_inlines(
+        alloc,
+        text,
+        definitions,
+        &found.links,
+        &mut writer,
+        &found.inlines,
+    )?;
+    Ok(writer.into_events())
+}
+
+// Adds the events of the inlines of a text with these links, of which none is written.
+fn push_inlines<'a, D: Definitions>(
+    alloc: Global,
+    text: &'a str,
+    definitions: &'a D,
+    links: &[Option<Link>],
+    writer: &mut Writer<'a>,
+    inlines: &[Inline],
+) -> Result<(), AllocError>
+    requires found { All (IsFound text.now (D.targets definitions.now) links.now) inlines.now }
+    requires at_start { writer.old ≡
+        record { events = []; elements = []; ends = element_ends inlines.now } }
+    ensures { OnOk result (AreEvents text.now (D.targets definitions.now) links.now []
+        inlines.now writer.new.events) }
+{
+    for inline in inlines {
+        push_inline(alloc, text, definitions, links, writer, *inline)?;
+    }
+    Ok(())
+}
+
+// Adds the events of an inline of a text with these links.
+fn push_inline<'a, D: Definitions>(
+    alloc: Global,
+    text: &'a str,
+    definitions: &'a D,
+    links: &[Option<Link>],
+    writer: &mut Writer<'a>,
+    inline: Inline,
+) -> Result<(), AllocError>
+    requires { IsFound text.now (D.targets definitions.now) links.now inline }
+    ensures { OnOk result (IsWritten text.now (D.targets definitions.now) links.now inline
+        writer.old writer.new) }
+{
+    match inline {
+        Inline::Leaf(piece) => push_piece(alloc, text, writer, piece),
+        Inline::StartEmphasis(place, count) => writer.begin(emphasis_tag(count), place),
+        Inline::StartStrikethrough(place, _) => writer.begin(Tag::Strikethrough, place),
+        Inline::StartLink(number) => match links.get(number) {
+            Some(Some(link)) => begin_link(alloc, text, definitions, writer, link),
+            _ => Ok(()),
+        },
+        Inline::EndEmphasis(..) | Inline::EndStrikethrough(..) | Inline::EndLink(_) => writer.end(),
+    }
+}
+
+// Begins a link or an image; a wikilink without a pipe shows its target.
+fn begin_link<'a, D: Definitions>(
+    alloc: Global,
+    text: &'a str,
+    definitions: &'a D,
+    writer: &mut Writer<'a>,
+    link: &Link,
+) -> Result<(), AllocError>
+    requires source { IsLinkSource text.now link.now }
+    requires leads { Leads text.now (D.targets definitions.now) link.now }
+    ensures { OnOk result ((tag : TagView (List ℕ))
+        × IsLinkTag text.now (D.targets definitions.now) link.now tag
+        × (writer.new ≡ with_events (shown_target text.now link.now.text link.now.target)
+        (begun tag link.now.source.start writer.old))) }
+{
+    let tag = tag_of(alloc, text, definitions, link)?;
+    writer.begin(tag, link.source.start)?;
+    match &link.target {
+        LinkTarget::Wiki(target) => show_target(text, writer, &link.text, target),
+        _ => Ok(()),
+    }
+}
+
+// Adds the target of a wikilink as a text, unless a pipe stands after it.
+fn show_target<'a>(
+    text: &'a str,
+    writer: &mut Writer<'a>,
+    words: &Range<usize>,
+    target: &Range<usize>,
+) -> Result<(), AllocError>
+    requires { IsCutAt text.now target.now }
+    ensures { OnOk result (writer.new ≡ with_events
+        (shown_target text.now words.now (Wiki target.now)) writer.old) }
+{
+    if has_pipe(words, target) {
+        return Ok(());
+    }
+    let shown = part(text, target.start, target.end);
+    writer.push(Event::Text(CowStr::from(shown)), target.start, target.end)
+}
+
+// The tag of emphasis with so many delimiters on each side.
+fn emphasis_tag<'a>(count: usize) -> Tag<'a>
+    ensures { tag_view cow_text result ≡ (if count == 2 then strong else emphasis) }
+{
+    if count == 2 {
+        Tag::Strong
+    } else {
+        Tag::Emphasis
+    }
+}
+
+// Adds the events of a piece that holds no others.
+fn push_piece<'a>(
+    alloc: Global,
+    text: &'a str,
+    writer: &mut Writer<'a>,
+    piece: Piece,
+) -> Result<(), AllocError>
+    requires source { IsSource text.now piece }
+    requires parts { HasParts piece.kind text.now piece }
+    ensures { OnOk result ((here : List RangedEvent) × ArePieceEvents piece.kind text.now piece here
+        × (writer.new ≡ with_events here writer.old)) }
+{
+    let (start, end) = (piece.start, piece.end);
+    match piece.kind {
+        PieceKind::Uri => push_autolink(text, writer, LinkType::Autolink, piece),
+        PieceKind::Email => push_autolink(text, writer, LinkType::Email, piece),
+        PieceKind::HardBreak => writer.push(Event::HardBreak, start, end),
+        PieceKind::SoftBreak => writer.push(Event::SoftBreak, start, end),
+        PieceKind::Escape => {
+            let escaped = part(text, start + 1, end);
+            writer.push(Event::Text(CowStr::from(escaped)), start, end)
+        }
+        PieceKind::Reference => {
+            let meaning = meaning_at(text, start);
+            writer.push(Event::Text(meaning), start, end)
+        }
+        PieceKind::Code(backticks) => {
+            let content = part(text, start + backticks, end - backticks);
+            writer.push(Event::Code(code_text(alloc, content)?), start, end)
+        }
+        PieceKind::Html => {
+            let html = part(text, start, end);
+            writer.push(Event::InlineHtml(CowStr::from(html)), start, end)
+        }
+        _ => {
+            let words = part(text, start, end);
+            writer.push(Event::Text(CowStr::from(words)), start, end)
+        }
+    }
+}
+
+// The text of the character reference that stands at a place.
+fn meaning_at(text: &str, place: usize) -> CowStr<'static>
+    requires within { place < length text.now }
+    ensures { (len : ℕ) (meaning : List ℕ)
+        → StartsWithReference html_entity (drop place text.now) len meaning
+        → cow_text result ≡ meaning }
+{
+    let meaning = scan_entity(&text.as_bytes()[place..], &HtmlEntities).1;
+    match meaning {
+        Some(meaning) => meaning,
+        None => CowStr::from(""),
+    }
+}
+
+// Adds the events of an autolink.
+fn push_autolink<'a>(
+    text: &'a str,
+    writer: &mut Writer<'a>,
+    kind: LinkType,
+    piece: Piece,
+) -> Result<(), AllocError>
+    requires begins { IsCharBoundary text.now (piece.start + 1) }
+    requires ends { IsCharBoundary text.now (piece.end - 1) }
+    requires some { piece.start < piece.end }
+    requires within { piece.end ≤ length text.now }
+    ensures { OnOk result (writer.new ≡ with_events (autolink kind text.now piece) writer.old) }
+{
+    let (from, to) = (piece.start + 1, piece.end - 1);
+    let address = part(text, from, to);
+    let tag = Tag::Link {
+        link_type: kind,
+        dest_url: CowStr::from(address),
+        title: CowStr::from(""),
+        id: CowStr::from(""),
+    };
+    let end = tag.to_end();
+    writer.push(Event::Start(tag), piece.start, piece.end)?;
+    writer.push(Event::Text(CowStr::from(address)), from, to)?;
+    writer.push(Event::End(end), piece.start, piece.end)
+}
