@@ -3,17 +3,17 @@ use Rattle.std.proofs.Common.{ℕ, Bool, true, false, List, [], ◌∷◌, ◌++
 use Rattle.std.specs.Prelude.{if◌then◌else◌}
 use Rattle.std.proofs.lemmas.List.{map-append, take-append-drop}
 use Rattle.markdown_scanners_tree.specs.line.State.{LineState}
-use Rattle.markdown_blocks.specs.containers.Containers.{Outer, after_marker, marker_place}
+use Rattle.markdown_blocks.specs.containers.Containers.{Between, after_marker, marker_place}
 use Rattle.markdown_blocks.specs.declared.containers.Container.{Container}
-use Rattle.markdown_blocks.specs.declared.containers.Container.TheVariants.{Quote, Item, Footnote}
+use Rattle.markdown_blocks.specs.declared.containers.Container.TheVariants.{Quote, Item, Footnote, TermDefinition}
 use Rattle.markdown_blocks.specs.declared.step.Step.{Step}
 use Rattle.markdown_blocks.specs.walk.Walk.{IsStep}
 use Rattle.markdown_scanners_c.specs.BlockLines.{begun_told, open_in, open_told, opened_told}
 
 -- the step's line goes on with no more than are open after it
-pub kept_within : (old new : Outer) (lines : List ℕ) (step : Step) → IsStep old lines [] step new → step.kept ≤ length new.containers
+pub kept_within : (old new : Between) (lines : List ℕ) (step : Step) → IsStep old lines [] step new → step.kept ≤ length new.containers
 kept_within old new lines step h =
-    let all : length new.containers ≡ length (h.piece.kept ++ h.piece.begun) = ap (λ (o : Outer). length o.containers) h.open_now in
+    let all : length new.containers ≡ length (h.piece.kept ++ h.piece.begun) = ap (λ (o : Between). length o.containers) h.open_now in
     omega (arith, h.counted, all, length-append h.piece.kept h.piece.begun)
 
 -- what is told of an open container is read as that container
@@ -24,6 +24,7 @@ begun_back false = refl
 open_back : (c : Container) (place : ℕ) → open_in (open_told c place) ≡ c
 open_back Quote place = refl
 open_back Footnote place = refl
+open_back (TermDefinition definition) place = ap (λ b. TermDefinition (record definition { begun = b })) (begun_back definition.begun)
 open_back (Item item) place = ap (λ b. Item (record item { begun = b })) (begun_back item.begun)
 
 kept_back : (cs : List Container) → map open_in (map (λ c. open_told c 0) cs) ≡ cs

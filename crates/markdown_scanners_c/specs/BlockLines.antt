@@ -1,41 +1,46 @@
 -- The block at the front of a text, where the caller's containers are open. (CommonMark 0.31.2, chapters 3, 4 and 5)
-use Rattle.std.specs.Prelude.{ℕ, Bool, true, ◌≡◌, ◌≤◌, ◌-◌, ◌==◌, ◌⊎◌, List, [], ◌∷◌, ◌++◌, length, map, take, drop, if◌then◌else◌, IsTrue, MatchBool}
+use Rattle.std.specs.Prelude.{ℕ, Bool, true, false, ◌≡◌, ◌≤◌, ◌-◌, ◌==◌, bit_and, ◌⊎◌, if◌then◌else◌, IsTrue, MatchBool}
+use Rattle.std.specs.Prelude.{List, [], ◌∷◌, ◌++◌, length, map, take, drop}
 use Rattle.std.specs.List.{list_all}
 use Rattle.markdown_scanners_tree.specs.line.State.{LineState}
 use Rattle.markdown_blocks.specs.blocks.Pages.{NoneIsOver}
-use Rattle.markdown_blocks.specs.containers.Containers.{Outer, after_marker, marker_place}
+use Rattle.markdown_blocks.specs.containers.Containers.{Between, after_marker, marker_place}
 use Rattle.markdown_blocks.specs.declared.containers.BlockExtensions.{BlockExtensions}
 use Rattle.markdown_blocks.specs.declared.containers.Container.{Container}
-use Rattle.markdown_blocks.specs.declared.containers.Container.TheVariants.{Quote, Item, Footnote}
+use Rattle.markdown_blocks.specs.declared.containers.Container.TheVariants.{Quote, Item, Footnote, TermDefinition}
 use Rattle.markdown_blocks.specs.declared.step.Step.{Step}
 use Rattle.markdown_blocks.specs.taken.Whole.{AreWhole}
 use Rattle.markdown_blocks.specs.walk.Walk.{IsStep}
 use Rattle.markdown_scanners_c.specs.Buffer.{IsWritten}
-use Rattle.markdown_scanners_c.specs.Pages.{block_quote, container_told, footnote, is_container, kind_told, of_kind}
+use Rattle.markdown_scanners_c.specs.Pages.{block_quote, container_told, footnote, is_container, kind_told, of_kind, term_definition}
 use Rattle.markdown_scanners_c.specs.Status.{ok, nothing, no_memory, bad_kind, bad_state}
 use Rattle.markdown_scanners_c.specs.declared.block_lines.LineBlock.{LineBlock}
 use Rattle.markdown_scanners_c.specs.declared.block_lines.OpenBlocks.{OpenBlocks}
 use Rattle.markdown_scanners_c.specs.declared.pages.Block.{Block}
 
--- The bits of `enum mds_block_extension`, of which there is one, for footnote definitions.
+-- The bits of `enum mds_block_extension`, of which there are two, for footnote definitions and definition lists.
 abbrev pub AreBlockExtensions : ℕ → Type 0
-AreBlockExtensions extensions = extensions ≤ 1
+AreBlockExtensions extensions = extensions ≤ 3
 
 -- what they ask for
 abbrev pub blocks_asked_by : ℕ → BlockExtensions
-blocks_asked_by extensions = record { footnotes = extensions == 1 }
+blocks_asked_by extensions = record { footnotes = bit_and extensions 1 == 1; definition_lists = bit_and extensions 2 == 2; no_tables = false }
 
--- the container that is open: of an item whose first line alone is read, and is blank behind its marker, `count` is 1
+-- the container that is open: of an item or a definition of a term whose first line alone is read, and is blank behind its marker, `count`
+-- is 1
 abbrev pub open_in : Block → Container
 open_in block =
     if block.kind == block_quote then Quote
     else if block.kind == footnote then Footnote
+    else if block.kind == term_definition then TermDefinition (record { begun = block.count == 1; width = block.width })
     else Item (record { delimiter = block.byte; begun = block.count == 1; width = block.width; start = block.number })
 
 -- a container that is open, whose marker stands at the place, as C has it
 abbrev pub open_told : Container → ℕ → Block
 open_told Quote place = container_told Quote place
 open_told Footnote place = container_told Footnote place
+open_told (TermDefinition definition) place =
+    record (container_told (TermDefinition definition) place) { count = if definition.begun then 1 else 0 }
 open_told (Item item) place = record (container_told (Item item) place) { count = if item.begun then 1 else 0 }
 
 -- containers that the rest of a line begins, one in the other, each with the place of its marker
@@ -48,16 +53,17 @@ abbrev pub opened_told : Step → List Container → List Block
 opened_told step containers =
     map (λ c. open_told c 0) (take step.kept containers) ++ begun_told step.start (drop step.kept containers)
 
--- so many of the caller's containers are open, and each of these is one
+-- so many of the caller's containers are open, each of these is one, and the state is a bit
 abbrev pub AreOpen : List Block → OpenBlocks → Type 0
 AreOpen containers page =
-    (page.depth ≤ length containers) × (list_all is_container (take page.depth containers) ≡ true)
+    (page.depth ≤ length containers) × (list_all is_container (take page.depth containers) ≡ true) × (page.state ≤ 1)
 
--- what is open, and the extensions that are on
-abbrev pub outer_in : List Block → OpenBlocks → Outer
+-- what is open, the extensions that are on, and whether a term stands there
+abbrev pub outer_in : List Block → OpenBlocks → Between
 outer_in containers page = record {
   extensions = blocks_asked_by page.extensions;
   containers = map open_in (take page.depth containers);
+  term = page.state == 1;
 }
 
 -- of the text all is read where the input has ended, and else its lines that are whole, whatever bytes follow
@@ -82,31 +88,32 @@ no_line status = record { status = status; kept = 0; depth = 0 }
 abbrev pub if_told : {A : Type 0} → LineBlock → A → A → A
 if_told told new old = if told.status == ok then new else old
 
+-- what the caller keeps for the next call, if the block is told: how many containers are open now, and whether a term stands there
+abbrev pub page_after : OpenBlocks → LineBlock → Between → OpenBlocks
+page_after page told after = if_told told (record page { depth = told.depth; state = if after.term then 1 else 0 }) page
+
 -- The block at the front of the lines is told, whatever lines follow, and the containers that are open then are written, with the
 -- block; or there is no room for these.
-abbrev pub IsStepTold : Outer → List ℕ → Bool → List Block → List Block → Block → Block → LineBlock → Type 0
-IsStepTold outer lines has_ended old new before block told =
-    (step : Step) × (after : Outer)
+abbrev pub IsStepTold : Between → List ℕ → Bool → OpenBlocks → OpenBlocks → List Block → List Block → Block → Block → LineBlock → Type 0
+IsStepTold outer lines has_ended page kept old new before block told =
+    (step : Step) × (after : Between)
     × ((more : List (List ℕ)) → (IsTrue has_ended → more ≡ []) → IsStep outer lines more step after)
-    × (told.kept ≡ step.kept) × (block ≡ if_told told (step_told step) before)
+    × (told.kept ≡ step.kept) × (block ≡ if_told told (step_told step) before) × (kept ≡ page_after page told after)
     × IsWritten (opened_told step after.containers) old new told.status told.depth
 
 -- Of the lines that are read the block at the front is told, or none of them is over; or memory was refused.
-abbrev pub IsLineOf : Outer → List ℕ → Bool → List Block → List Block → Block → Block → LineBlock → Type 0
-IsLineOf outer lines has_ended old new before block told =
-    ((told ≡ no_line no_memory) × (new ≡ old) × (block ≡ before))
-    ⊎ ((told ≡ no_line nothing) × (new ≡ old) × (block ≡ before) × NoneIsOver outer lines has_ended)
-    ⊎ IsStepTold outer lines has_ended old new before block told
+abbrev pub IsLineOf : Between → List ℕ → Bool → OpenBlocks → OpenBlocks → List Block → List Block → Block → Block → LineBlock → Type 0
+IsLineOf outer lines has_ended page kept old new before block told =
+    ((told ≡ no_line no_memory) × (kept ≡ page) × (new ≡ old) × (block ≡ before))
+    ⊎ ((told ≡ no_line nothing) × (kept ≡ page) × (new ≡ old) × (block ≡ before) × NoneIsOver outer lines has_ended)
+    ⊎ IsStepTold outer lines has_ended page kept old new before block told
 
 -- Some bit is no extension; or what is given as open can't be, or begins no container; or the block is told.
-unfoldable pub IsLineTold : List ℕ → Bool → OpenBlocks → List Block → List Block → Block → Block → LineBlock → Type 0
-IsLineTold text has_ended page old new before block told =
-    ((told ≡ no_line bad_kind) × (new ≡ old) × (block ≡ before) × ¬ AreBlockExtensions page.extensions)
-    ⊎ ((told ≡ no_line bad_state) × (new ≡ old) × (block ≡ before) × AreBlockExtensions page.extensions × ¬ AreOpen old page)
+unfoldable pub IsLineTold : List ℕ → Bool → OpenBlocks → OpenBlocks → List Block → List Block → Block → Block → LineBlock → Type 0
+IsLineTold text has_ended page kept old new before block told =
+    ((told ≡ no_line bad_kind) × (kept ≡ page) × (new ≡ old) × (block ≡ before) × ¬ AreBlockExtensions page.extensions)
+    ⊎ ((told ≡ no_line bad_state) × (kept ≡ page) × (new ≡ old) × (block ≡ before) × AreBlockExtensions page.extensions
+    × ¬ AreOpen old page)
     ⊎ (AreBlockExtensions page.extensions × AreOpen old page
     × (lines : List ℕ) × AreLinesRead text has_ended lines
-    × IsLineOf (outer_in old page) lines has_ended old new before block told)
-
--- what the caller keeps for the next call: how many containers are open now, if the block is told
-abbrev pub page_after : OpenBlocks → LineBlock → OpenBlocks
-page_after page told = record page { depth = if_told told told.depth page.depth }
+    × IsLineOf (outer_in old page) lines has_ended page kept old new before block told)

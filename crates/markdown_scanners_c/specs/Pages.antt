@@ -11,7 +11,7 @@ use Rattle.markdown_blocks.specs.declared.blocks.BlockKind.TheVariants.{Blank, B
 use Rattle.markdown_blocks.specs.declared.blocks.BlockKind.TheVariants.{Definition, Paragraph}
 use Rattle.markdown_blocks.specs.containers.Containers.{no_extensions}
 use Rattle.markdown_blocks.specs.declared.containers.Container.{Container}
-use Rattle.markdown_blocks.specs.declared.containers.Container.TheVariants.{Quote, Item, Footnote}
+use Rattle.markdown_blocks.specs.declared.containers.Container.TheVariants.{Quote, Item, Footnote, TermDefinition}
 use Rattle.markdown_blocks.specs.events.Events.{Event, starts, leaf, ends, LeafBlock, IsEventsOf}
 use Rattle.markdown_scanners_c.specs.Buffer.{IsWritten}
 use Rattle.markdown_scanners_c.specs.Status.{bad_kind, no_memory, past_end}
@@ -34,6 +34,10 @@ list_item = 2
 -- a footnote definition, which begins only where the extension is on
 abbrev pub footnote : ℕ
 footnote = 13
+
+-- a definition of the term before it, which begins only where the extension is on
+abbrev pub term_definition : ℕ
+term_definition = 14
 
 -- of a leaf block the number of its kind; the level of a heading, or the start condition of HTML; the byte of a fence; and how many
 -- of it a fence has, or a table columns
@@ -65,10 +69,15 @@ of_kind it = record {
   place = 0;
 }
 
--- a container whose marker stands at the place: of a list item its bullet or delimiter, its start, and the indent of its text
+-- a container whose marker stands at the place: of a list item its bullet or delimiter, its start, and the indent of its text; and that of
+-- a definition of a term
 abbrev pub container_told : Container → ℕ → Block
 container_told Quote place = record (of_kind (record { kind = block_quote; number = 0; byte = 0; count = 0 })) { place = place }
 container_told Footnote place = record (of_kind (record { kind = footnote; number = 0; byte = 0; count = 0 })) { place = place }
+container_told (TermDefinition definition) place = record (of_kind (record { kind = term_definition; number = 0; byte = 0; count = 0 })) {
+  width = definition.width;
+  place = place;
+}
 container_told (Item item) place = record (of_kind (record { kind = list_item; number = item.start; byte = item.delimiter; count = 0 })) {
   width = item.width;
   place = place;
@@ -104,12 +113,14 @@ HasKind block kind = kind_told kind ≡ kind_in block
 
 -- a block begins a container, which is this, where a second line of it is read
 abbrev pub is_container : Block → Bool
-is_container block = block.kind == block_quote || block.kind == list_item || block.kind == footnote
+is_container block =
+    block.kind == block_quote || block.kind == list_item || block.kind == footnote || block.kind == term_definition
 
 abbrev pub container_in : Block → Container
 container_in block =
     if block.kind == block_quote then Quote
     else if block.kind == footnote then Footnote
+    else if block.kind == term_definition then TermDefinition (record { begun = false; width = block.width })
     else Item (record { delimiter = block.byte; begun = false; width = block.width; start = block.number })
 
 -- the block's lines stand in the page, and these are they

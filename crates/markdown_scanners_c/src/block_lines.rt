@@ -1,27 +1,31 @@
 //! The block at the front of a text, where the caller's containers are open. (CommonMark 0.31.2,
 //! chapters 3, 4 and 5)
-ghost use Rattle.std.specs.Prelude.{◌≡◌, ◌≤◌, ◌<◌, ◌⊎◌, ◌↔◌, ◌++◌, [], length, map, IsTrue, MatchBool, IfOk, OnOk};
+ghost use Rattle.std.specs.Prelude.{◌≡◌, ◌≤◌, ◌<◌, ◌⊎◌, ◌↔◌, ◌++◌, [], length, map, IsTrue, MatchBool, IfOk, OnOk, if◌then◌else◌};
 ghost use Rattle.markdown_blocks.specs.taken.Whole.{AreWhole};
-ghost use Rattle.markdown_scanners_c.specs.BlockLines.{AreOpen, IsLineOf, IsLineTold, blocks_asked_by, if_told, no_line, page_after};
+ghost use Rattle.markdown_scanners_c.specs.BlockLines.{AreOpen, IsLineOf, IsLineTold, blocks_asked_by, if_told, no_line};
 ghost use Rattle.markdown_scanners_c.specs.BlockLines.{begun_told, open_in, open_told, opened_told, outer_in, step_told};
 ghost use Rattle.markdown_scanners_c.specs.Buffer.{IsWritten};
 ghost use Rattle.markdown_scanners_c.specs.Status.{ok, no_memory, nothing};
 
 use crate::pages::{
-    BLOCK_QUOTE, Block, BlockCount, FOOTNOTE, are_containers, container_told, kind_told, of_kind,
-    write_front,
+    BLOCK_QUOTE, Block, BlockCount, FOOTNOTE, TERM_DEFINITION, are_containers, container_told,
+    kind_told, of_kind, write_front,
 };
 use crate::status::{BAD_KIND, BAD_STATE, NO_MEMORY, NOTHING, OK};
-use markdown_blocks::containers::{BlockExtensions, Container, ListItem};
+use markdown_blocks::containers::{BlockExtensions, Container, DefinitionItem, ListItem};
 use markdown_blocks::walk::{Step, Walk};
 use markdown_blocks::whole::whole_lines;
 use std::alloc::{AllocError, Global};
 
-// Footnote definitions, of `enum mds_block_extension`; there is no other extension.
+// `enum mds_block_extension`, and all of its bits.
 const FOOTNOTES: u32 = 1;
 
+const DEFINITION_LISTS: u32 = 2;
+
+const ALL_EXTENSIONS: u32 = 3;
+
 /// `struct mds_open_blocks` of C: how many of the caller's containers are open, which extensions are
-/// on, and what else a later version keeps from line to line.
+/// on, and whether a term stands there, 1, or not, 0.
 #[repr(C)]
 #[derive(Clone, Copy)]
 pub struct OpenBlocks {
@@ -42,6 +46,7 @@ pub struct LineBlock {
 /// The block at the front of the text, if there is one that nothing after the text changes; its
 /// containers are open then.
 #[unsafe(no_mangle)]
+#[tactic(auto, unfolding(crate::specs::BlockLines::IsLineTold))]
 pub extern "C" fn mds_block_line(
     alloc: Global,
     text: &[u8],
@@ -50,18 +55,25 @@ pub extern "C" fn mds_block_line(
     page: &mut OpenBlocks,
     block: &mut Block,
 ) -> LineBlock
-    ensures line { IsLineTold text.now has_ended page.old containers.old containers.new
+    ensures line { IsLineTold text.now has_ended page.old page.new containers.old containers.new
         block.old block.new result }
-    ensures page { page.new ≡ page_after page.old result }
+    ensures depth { page.new.depth ≡ if_told result result.depth page.old.depth }
+    ensures extensions { page.new.extensions ≡ page.old.extensions }
     ensures some { result.status ≡ ok → 0 < block.new.bytes }
     ensures within { result.status ≡ ok → block.new.bytes ≤ length text.now }
     ensures all { result.status ≡ nothing → IsTrue has_ended → text.now ≡ [] }
 {
-    let told = read_line(alloc, text, has_ended, containers, page, block);
-    if told.status == OK {
-        page.depth = told.depth;
+    if page.extensions > ALL_EXTENSIONS {
+        return no_line(BAD_KIND);
     }
-    told
+    if !are_open(containers, page) {
+        return no_line(BAD_STATE);
+    }
+    let lines = &text[..front_of(text, has_ended)];
+    let Ok(walk) = walk_in(alloc, containers, page) else {
+        return no_line(NO_MEMORY);
+    };
+    write_line(alloc, walk, lines, has_ended, containers, page, block)
 }
 
 // No block, but a status.
@@ -75,40 +87,11 @@ fn no_line(status: u32) -> LineBlock
     }
 }
 
-// The block at the front of the text, and its containers, where what is given as open can be.
-#[tactic(auto, unfolding(crate::specs::BlockLines::IsLineTold))]
-fn read_line(
-    alloc: Global,
-    text: &[u8],
-    has_ended: bool,
-    containers: &mut [Block],
-    page: &OpenBlocks,
-    block: &mut Block,
-) -> LineBlock
-    ensures line { IsLineTold text.now has_ended page.now containers.old containers.new
-        block.old block.new result }
-    ensures some { result.status ≡ ok → 0 < block.new.bytes }
-    ensures within { result.status ≡ ok → block.new.bytes ≤ length text.now }
-    ensures all { result.status ≡ nothing → IsTrue has_ended → text.now ≡ [] }
-{
-    if page.extensions > FOOTNOTES {
-        return no_line(BAD_KIND);
-    }
-    if !are_open(containers, page) {
-        return no_line(BAD_STATE);
-    }
-    let lines = &text[..front_of(text, has_ended)];
-    let Ok(walk) = walk_in(alloc, containers, page) else {
-        return no_line(NO_MEMORY);
-    };
-    write_line(alloc, walk, lines, has_ended, containers, block)
-}
-
 // Whether so many of the caller's containers can be open.
 fn are_open(containers: &[Block], page: &OpenBlocks) -> bool
     ensures { IsTrue result ↔ AreOpen containers.now page.now }
 {
-    if page.depth > containers.len() {
+    if page.depth > containers.len() || page.state > 1 {
         return false;
     }
     are_containers(&containers[..page.depth])
@@ -131,7 +114,13 @@ fn walk_in(alloc: Global, containers: &[Block], page: &OpenBlocks) -> Result<Wal
     ensures { IfOk result (λ walk. walk ≡ outer_in containers.now page.now) }
 {
     let outer = all_open_in(alloc, &containers[..page.depth])?;
-    Ok(Walk::resume(alloc, blocks_asked_by(page.extensions), outer))
+    let is_after_term = page.state == 1;
+    Ok(Walk::resume(
+        alloc,
+        blocks_asked_by(page.extensions),
+        outer,
+        is_after_term,
+    ))
 }
 
 // What these bits ask for.
@@ -139,7 +128,9 @@ fn blocks_asked_by(extensions: u32) -> BlockExtensions
     ensures { result ≡ blocks_asked_by extensions }
 {
     BlockExtensions {
-        footnotes: extensions == FOOTNOTES,
+        footnotes: extensions & FOOTNOTES == FOOTNOTES,
+        definition_lists: extensions & DEFINITION_LISTS == DEFINITION_LISTS,
+        no_tables: false,
     }
 }
 
@@ -157,6 +148,10 @@ fn open_in(block: &Block) -> Container
     match block.kind {
         BLOCK_QUOTE => Container::Quote,
         FOOTNOTE => Container::Footnote,
+        TERM_DEFINITION => Container::TermDefinition(DefinitionItem {
+            begun: block.count == 1,
+            width: block.width,
+        }),
         _ => Container::Item(ListItem {
             delimiter: block.byte,
             begun: block.count == 1,
@@ -173,6 +168,7 @@ fn open_told(container: Container, place: usize) -> Block
     let told = container_told(container, place);
     match container {
         Container::Item(item) if item.begun => Block { count: 1, ..told },
+        Container::TermDefinition(d) if d.begun => Block { count: 1, ..told },
         _ => told,
     }
 }
@@ -184,10 +180,13 @@ fn write_line(
     lines: &[u8],
     has_ended: bool,
     containers: &mut [Block],
+    page: &mut OpenBlocks,
     block: &mut Block,
 ) -> LineBlock
-    ensures line { IsLineOf walk lines.now has_ended containers.old containers.new
-        block.old block.new result }
+    ensures line { IsLineOf walk lines.now has_ended page.old page.new containers.old
+        containers.new block.old block.new result }
+    ensures depth { page.new.depth ≡ if_told result result.depth page.old.depth }
+    ensures extensions { page.new.extensions ≡ page.old.extensions }
     ensures some { result.status ≡ ok → 0 < block.new.bytes }
     ensures within { result.status ≡ ok → block.new.bytes ≤ length lines.now }
     ensures all { result.status ≡ nothing → IsTrue has_ended → lines.now ≡ [] }
@@ -195,9 +194,27 @@ fn write_line(
     let mut walk = walk;
     let mut content = Vec::new(alloc);
     match walk.next_block(alloc, &mut content, lines, has_ended) {
-        Ok(Some(step)) => write_step(alloc, step, walk.containers(), containers, block),
+        Ok(Some(step)) => {
+            let told = write_step(alloc, step, walk.containers(), containers, block);
+            keep_open(page, &told, walk.is_after_term());
+            told
+        }
         Ok(None) => no_line(NOTHING),
         Err(_) => no_line(NO_MEMORY),
+    }
+}
+
+// Keeps for the next call how many containers are open, and whether a term stands there, if the block
+// is told.
+fn keep_open(page: &mut OpenBlocks, told: &LineBlock, is_after_term: bool)
+    ensures { page.new ≡ if_told told.now (record page.old {
+      depth = told.now.depth;
+      state = if is_after_term then 1 else 0;
+    }) page.old }
+{
+    if told.status == OK {
+        page.depth = told.depth;
+        page.state = u32::from(is_after_term);
     }
 }
 

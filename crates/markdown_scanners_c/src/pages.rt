@@ -19,7 +19,7 @@ ghost use Rattle.markdown_scanners_c.specs.Pages.{container_in, container_told, 
 use crate::status::{BAD_KIND, NO_MEMORY, OK, PAST_END, TOO_SHORT};
 use crate::texts::{Text, no_text, write_text};
 use markdown_blocks::blocks::BlockKind;
-use markdown_blocks::containers::{Container, ListItem};
+use markdown_blocks::containers::{Container, DefinitionItem, ListItem};
 use markdown_blocks::content::content_of;
 use markdown_blocks::events::{BlockEvent, Blocks, Leaf};
 use markdown_scanners_tree::scanners::HtmlBlockKind;
@@ -52,8 +52,10 @@ const DEFINITION: u32 = 11;
 
 const PARAGRAPH: u32 = 12;
 
-// Begins only where the extension is on.
+// These begin only where their extensions are on.
 pub(crate) const FOOTNOTE: u32 = 13;
+
+pub(crate) const TERM_DEFINITION: u32 = 14;
 
 /// `struct mds_block` of C: a container that begins, the end of one, or a leaf block.
 #[repr(C)]
@@ -154,6 +156,11 @@ pub(crate) fn container_told(container: Container, place: usize) -> Block
         Container::Footnote => Block {
             place,
             ..of_kind(plain_kind(FOOTNOTE))
+        },
+        Container::TermDefinition(definition) => Block {
+            width: definition.width,
+            place,
+            ..of_kind(plain_kind(TERM_DEFINITION))
         },
         Container::Item(item) => {
             let kind = Kind {
@@ -306,7 +313,10 @@ pub(crate) fn are_containers(blocks: &[Block]) -> bool
 fn is_container(block: &Block) -> bool
     ensures { result ≡ is_container block.now }
 {
-    matches!(block.kind, BLOCK_QUOTE | LIST_ITEM | FOOTNOTE)
+    matches!(
+        block.kind,
+        BLOCK_QUOTE | LIST_ITEM | FOOTNOTE | TERM_DEFINITION
+    )
 }
 
 // The kind of leaf block that the numbers name, if they name one.
@@ -404,6 +414,10 @@ fn container_in(block: &Block) -> Container
     match block.kind {
         BLOCK_QUOTE => Container::Quote,
         FOOTNOTE => Container::Footnote,
+        TERM_DEFINITION => Container::TermDefinition(DefinitionItem {
+            begun: false,
+            width: block.width,
+        }),
         _ => Container::Item(ListItem {
             delimiter: block.byte,
             begun: false,

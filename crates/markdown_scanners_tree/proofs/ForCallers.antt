@@ -23,6 +23,7 @@ pub use Rattle.markdown_scanners_tree.proofs.scanners.Scanned.{one_tag, one_tag_
 pub use Rattle.markdown_scanners_tree.proofs.scanners.breaks.BreakLemmas.{is_thematic_break-found}
 pub use Rattle.markdown_scanners_tree.proofs.scanners.html_kinds.StartLemmas.{none_unopened}
 pub use Rattle.markdown_scanners_tree.proofs.scanners.lines.BlankLemmas.{first-line_ending}
+pub use Rattle.markdown_scanners_tree.proofs.scanners.lines.LaneLemmas.{at_most, ends_within, goes_past}
 pub use Rattle.markdown_scanners_tree.proofs.scanners.reference_definitions.DefinitionLemmas.{raw_place}
 pub use Rattle.markdown_scanners_tree.proofs.scanners.reference_definitions.GapLemmas.{IsSolid, destination_solid, title_solid, gap_only, one_gap, gap_there}
 pub use Rattle.markdown_scanners_tree.proofs.scanners.reference_definitions.GapLemmas.{gap_scanned, cut_behind_gap, cut_behind_rest}

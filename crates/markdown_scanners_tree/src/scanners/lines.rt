@@ -2,7 +2,7 @@
 ghost use Rattle.std.specs.Prelude.{◌≡◌, ◌<◌, ◌≤◌, ◌==◌, length, take, not, IfSome};
 ghost use Rattle.std.specs.List.{prefix_len};
 ghost use Rattle.markdown_scanners_tree.specs.SomeExactly.{SomeExactly, IsOnly};
-ghost use Rattle.markdown_scanners_tree.specs.Bytes.{line_ending, line_head, line_length, IsBlankLine, blank_line};
+ghost use Rattle.markdown_scanners_tree.specs.Bytes.{is_line_ending, line_ending, line_head, line_length, IsBlankLine, blank_line};
 ghost use Rattle.markdown_scanners_tree.specs.scanners.Lines.{next_line, IsBlockQuoteStart};
 
 use crate::scanners::runs::scan_whitespace_no_nl;
@@ -53,10 +53,8 @@ pub fn scan_line(bytes: &[u8]) -> usize
     ensures within { result ≤ length bytes.now }
     ensures rises { 0 < length bytes.now → 0 < result }
 {
-    match memchr2(b'\n', b'\r', bytes) {
-        Some(end) => end + scan_eol(&bytes[end..]).unwrap_or(0),
-        None => bytes.len(),
-    }
+    let end = head_len(bytes);
+    end + scan_eol(&bytes[end..]).unwrap_or(0)
 }
 
 /// The line at the front without its line ending: the bytes before the first LF or CR, or all of
@@ -65,9 +63,40 @@ pub fn line_head(text: &[u8]) -> &[u8]
     ensures head { result.now ≡ line_head text.now }
     ensures within { length result.now ≤ length text.now }
 {
-    match memchr2(b'\n', b'\r', text) {
-        Some(end) => &text[..end],
-        None => text,
+    &text[..head_len(text)]
+}
+
+// How many bytes stand before the first LF or CR.
+fn head_len(bytes: &[u8]) -> usize
+    ensures head { result ≡ prefix_len (λ b. not (is_line_ending b)) bytes.now }
+    ensures within { result ≤ length bytes.now }
+{
+    // Most lines are short, and a search takes longer to begin than a few vectors.
+    let mut from = 0;
+    while bytes.len() - from >= LANES && from < FAR {
+        let before = count_in_line(&bytes[from..]);
+        from += before;
+        if before < LANES {
+            return from;
+        }
+    }
+    match memchr2(b'\n', b'\r', &bytes[from..]) {
+        Some(place) => from + place,
+        None => bytes.len(),
+    }
+}
+
+// How many of the bytes in a vector stand before the first LF or CR.
+fn count_in_line(bytes: &[u8]) -> usize
+    requires { LANES ≤ length bytes.now }
+    ensures { result ≡ prefix_len (λ b. not (is_line_ending b)) (take LANES bytes.now) }
+{
+    let before_feed = count_before(b'\n', bytes);
+    let before_return = count_before(b'\r', bytes);
+    if before_feed < before_return {
+        before_feed
+    } else {
+        before_return
     }
 }
 

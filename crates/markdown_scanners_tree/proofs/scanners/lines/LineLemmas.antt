@@ -1,18 +1,17 @@
 -- The first line, as a search for its LF or CR finds its end.
-use Rattle.std.proofs.Common.{◌≡◌, ℕ, ◌+◌, ◌-◌, ◌<◌, ◌≤◌, false, List, [], ◌∷◌, length, take, drop, sym, ap, subst, ◌∙◌, refl, arith, inl, inr, nat_eq}
+use Rattle.std.proofs.Common.{◌≡◌, ℕ, ◌+◌, ◌<◌, ◌≤◌, ◌==◌, false, not, min, List, [], ◌∷◌, length, drop, ap, subst, ◌∙◌, refl, arith, inl, inr, nat_eq}
 use Rattle.std.specs.Prelude.{unwrap_or}
 use Rattle.std.specs.List.{prefix_len}
 use Rattle.std.proofs.lemmas.Bool.{cases_Bool, cases_lt}
-use Rattle.std.proofs.lemmas.List.{drop_all}
 use Rattle.std.proofs.lemmas.List.Folds.{length-prefix_len}
 use Rattle.memchr.specs.Find.{Nowhere, NoneBefore, Passes, is_byte2}
 use Rattle.markdown_scanners_tree.specs.Bytes.{begins_with, line_ending, line_length}
-use Rattle.markdown_scanners_tree.proofs.PrefixLemmas.{begins_with-after_prefix, from_place}
+use Rattle.markdown_scanners_tree.proofs.PrefixLemmas.{begins_with-after_prefix}
 use Rattle.markdown_scanners_tree.proofs.ScanLemmas.{prefix_len-first, prefix_len-all}
 use Rattle.markdown_scanners_tree.proofs.scanners.lines.BlankLemmas.{ends_no_line}
 
 -- the length of a line whose head has k bytes
-line_length-by_head : (bytes : List ℕ) (k : ℕ) → prefix_len ends_no_line bytes ≡ k
+pub line_length-by_head : (bytes : List ℕ) (k : ℕ) → prefix_len ends_no_line bytes ≡ k
     → line_length bytes ≡ k + unwrap_or (line_ending (drop k bytes)) 0
 line_length-by_head bytes k head =
     ap (λ n. n + unwrap_or (line_ending (drop n bytes)) 0) (length-prefix_len ends_no_line bytes ∙ head)
@@ -28,21 +27,19 @@ pub head-not_found : (bytes : List ℕ) → Nowhere (Passes (is_byte2 10 13) byt
     → prefix_len ends_no_line bytes ≡ length bytes
 head-not_found bytes none = prefix_len-all (is_byte2 10 13) bytes (λ j lt. none j (omega arith) lt)
 
--- the length, by the same
-pub line_length-found : (bytes : List ℕ) (k : ℕ)
-    → NoneBefore (Passes (is_byte2 10 13) bytes) 0 (length bytes) k × Passes (is_byte2 10 13) bytes k
-    → line_length bytes ≡ k + unwrap_or (line_ending (take (length bytes - k) (drop k bytes))) 0
-line_length-found bytes k found =
-    line_length-by_head bytes k (head-found bytes k found)
-    ∙ ap (λ t. k + unwrap_or (line_ending t) 0) (sym (from_place bytes k))
-
-pub line_length-not_found : (bytes : List ℕ) → Nowhere (Passes (is_byte2 10 13) bytes) 0 (length bytes)
-    → line_length bytes ≡ length bytes
-line_length-not_found bytes none =
-    let whole : line_length bytes ≡ length bytes + unwrap_or (line_ending []) 0 =
-    line_length-by_head bytes (length bytes) (head-not_found bytes none)
-    ∙ ap (λ t. length bytes + unwrap_or (line_ending t) 0) (drop_all (length bytes) bytes (omega arith)) in
-    omega (arith, whole)
+-- the head of some bytes ends with the first LF or the first CR
+pub head-of_both : (bytes : List ℕ) → prefix_len ends_no_line bytes
+    ≡ min (prefix_len (λ b. not (b == 10)) bytes) (prefix_len (λ b. not (b == 13)) bytes)
+head-of_both [] = omega arith
+head-of_both (b ∷ bytes) =
+    let rest = head-of_both bytes in
+    elim (cases_Bool (nat_eq b 10)) [
+      | inl lf ↦ rw lf (omega arith)
+      | inr no_lf ↦ elim (cases_Bool (nat_eq b 13)) [
+        | inl cr ↦ rw (no_lf, cr) (omega arith)
+        | inr no_cr ↦ rw (no_lf, no_cr) (omega (arith, rest))
+      ]
+    ]
 
 -- a line ending has a byte at least
 ending_rises : (rest : List ℕ) → 0 < length rest → begins_with ends_no_line rest ≡ false

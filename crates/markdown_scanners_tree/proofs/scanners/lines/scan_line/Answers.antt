@@ -1,16 +1,18 @@
 use Rattle.std.proofs.Common.{◌+◌, ◌<◌, ap, ◌∙◌, sym, subst}
 use Rattle.std.specs.Prelude.{unwrap_or}
-use Rattle.markdown_scanners_tree.proofs.scanners.lines.LineLemmas.{line_length-found, line_length-not_found, line_length-rises}
+use Rattle.markdown_scanners_tree.specs.Bytes.{line_ending}
+use Rattle.markdown_scanners_tree.proofs.PrefixLemmas.{from_place}
+use Rattle.markdown_scanners_tree.proofs.scanners.lines.LineLemmas.{line_length-by_head, line_length-rises}
 use Rattle.markdown_scanners_tree.proofs.scanners.lines.scan_line.Goals as goal
 
-pub returns-in-Some-clause-line : goal.returns-in-Some-clause-line
-returns-in-Some-clause-line c =
-    ap (λ n. c.in-Some.end + n) (c.unwrap_or.ensures ∙ ap (λ found. unwrap_or found 0) c.scan_eol.ensures.ending)
-    ∙ sym (line_length-found c.args.bytes.now c.in-Some.end c.in-Some.ensures)
+pub returns-clause-line : goal.returns-clause-line
+returns-clause-line c =
+    let bytes = c.args.bytes.now in
+    let end = c.head_len-end.result in
+    let ending = c.scan_eol.ensures.ending ∙ ap line_ending (from_place bytes end) in
+    ap (λ n. end + n) (c.unwrap_or.ensures ∙ ap (λ found. unwrap_or found 0) ending)
+    ∙ sym (line_length-by_head bytes end (sym c.head_len-end.ensures.head))
 
-pub returns-in-None-clause-line : goal.returns-in-None-clause-line
-returns-in-None-clause-line c = sym (line_length-not_found c.args.bytes.now c.in-None.ensures)
-
-pub returns-in-Some-clause-rises : goal.returns-in-Some-clause-rises
-returns-in-Some-clause-rises c = λ some.
-    subst (λ n. 0 < n) (sym (returns-in-Some-clause-line c)) (line_length-rises c.args.bytes.now some)
+pub returns-clause-rises : goal.returns-clause-rises
+returns-clause-rises c = λ some.
+    subst (λ n. 0 < n) (sym (returns-clause-line c)) (line_length-rises c.args.bytes.now some)

@@ -1,23 +1,23 @@
 use Rattle.std.proofs.Common.{inl, inr, refl, take}
 use Rattle.markdown_scanners_c.specs.BlockLines.{IsLineTold}
-use Rattle.markdown_scanners_c.proofs.block_lines.read_line.Goals as goal
+use Rattle.markdown_scanners_c.proofs.block_lines.mds_block_line.Goals as goal
 
 pub returns-in_default-clause-line : goal.returns-in_default-clause-line
 unfolding IsLineTold
 returns-in_default-clause-line c =
     inr (inr (
-      c.if-page-gt-FOOTNOTES.false,
+      c.if-page-gt-ALL_EXTENSIONS.false,
       c.are_open.ensures.0 c.if-not-are_open.false,
       take c.front_of.result c.args.text.now,
       (c.front_of.result, c.front_of.ensures.front, refl),
-      inl (c.no_line-in_default.ensures, refl, refl),
+      inl (c.no_line-in_default.ensures, refl, refl, refl),
     ))
 
 pub returns-clause-line : goal.returns-clause-line
 unfolding IsLineTold
 returns-clause-line c =
     inr (inr (
-      c.if-page-gt-FOOTNOTES.false,
+      c.if-page-gt-ALL_EXTENSIONS.false,
       c.are_open.ensures.0 c.if-not-are_open.false,
       take c.front_of.result c.args.text.now,
       (c.front_of.result, c.front_of.ensures.front, refl),
