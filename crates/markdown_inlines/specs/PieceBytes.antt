@@ -1,5 +1,5 @@
 -- The bytes that the pieces of a text begin with. (CommonMark 0.31.2, chapter 6)
-use Rattle.std.specs.Prelude.{ℕ, suc, Bool, ◌&&◌, ◌||◌, ◌==◌, not, List, [], ◌∷◌, if◌then◌else◌}
+use Rattle.std.specs.Prelude.{ℕ, suc, Bool, ◌&&◌, ◌||◌, ◌==◌, not, List, [], ◌∷◌, drop, if◌then◌else◌}
 use Rattle.std.specs.List.{prefix_len}
 use Rattle.markdown_scanners_tree.specs.Ascii.{ampersand, asterisk, backslash, backtick, exclamation_mark, left_bracket, less_than_sign}
 use Rattle.markdown_scanners_tree.specs.Ascii.{right_bracket, space, tilde, underscore}
@@ -20,11 +20,19 @@ opens_long b = b == less_than_sign || b == backtick || b == asterisk || b == und
 abbrev pub is_plain : ℕ → Bool
 is_plain b = not (opens_break b || opens_bracket b || opens_long b || b == ampersand)
 
--- a space between words begins no piece, since no line ending follows
-abbrev pub is_word_space : ℕ → List ℕ → Bool
-is_word_space b after = b == space && begins_with is_plain after
+-- plain, or a space
+abbrev pub is_plain_or_space : ℕ → Bool
+is_plain_or_space b = is_plain b || b == space
 
--- how many bytes at the front are plain, or spaces between such
+-- the spaces at the front are followed by a line ending
+abbrev pub is_before_ending : List ℕ → Bool
+is_before_ending bytes = begins_with is_line_ending (drop (prefix_len (λ b. b == space) bytes) bytes)
+
+-- a space begins no piece where no line ending follows the spaces
+abbrev pub is_word_space : ℕ → List ℕ → Bool
+is_word_space b after = b == space && not (is_before_ending after)
+
+-- how many bytes at the front are plain, or spaces that begin no piece
 abbrev pub plain_length : List ℕ → ℕ
 plain_length [] = 0
 plain_length (b ∷ bs) = if is_plain b || is_word_space b bs then suc (plain_length bs) else 0

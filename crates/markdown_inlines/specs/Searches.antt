@@ -1,5 +1,5 @@
 -- How many bytes the searches for the ends of code spans and of raw HTML pass over. (CommonMark 0.31.2, sections 6.1 and 6.6)
-use Rattle.std.specs.Prelude.{ℕ, zero, suc, ◌+◌, ◌-◌, ◌*◌, ◌<◌, ◌≤◌, ◌^◌, ◌≡◌, ◌≢◌, ◌⊎◌, List, [], ◌∷◌, length, get_or, is_none, None}
+use Rattle.std.specs.Prelude.{ℕ, zero, suc, ◌+◌, ◌-◌, ◌*◌, ◌<◌, ◌≤◌, ◌^◌, ◌≡◌, ◌≢◌, ◌⊎◌, List, [], ◌∷◌, length, get_or, is_none, Option, None, Some, IfSome}
 use Rattle.std.specs.Prelude.{if◌then◌else◌}
 use Rattle.markdown_scanners_tree.specs.inline_html.InlineHtml.{opener_before}
 use Rattle.markdown_scanners_tree.specs.inline_html.run.Run.{Run, new_run, run_step}
@@ -8,14 +8,23 @@ use Rattle.markdown_inlines.specs.declared.pieces.Piece.{Piece}
 use Rattle.markdown_inlines.specs.declared.pieces.PieceKind.{PieceKind}
 use Rattle.markdown_inlines.specs.declared.pieces.PieceKind.TheVariants as K
 
--- the bytes passed over for code spans, and the run of searches for the ends of comments and the like
+-- The bytes passed over for code spans, the place from which on the text has been read to its end if it has been, and the run of
+-- searches for the ends of comments and the like.
 pub record Searched : Type 0 where
   pub codes : ℕ
+  pub read : Option ℕ
   pub html : Run
 
--- at first: the text has been read once, for its last backtick strings
+-- at first nothing is searched or read
 abbrev pub unsearched : List ℕ → Searched
-unsearched text = record { codes = length text; html = new_run text }
+unsearched text = record { codes = 0; read = None; html = new_run text }
+
+-- So many backticks of text at a place are passed over once. Where they are the first that are text, all from the place to the end of
+-- the text has been passed over before: no code span was found to begin there.
+abbrev pub backticks_searched : List ℕ → ℕ → ℕ → Searched → Searched
+backticks_searched text place n searched =
+    if is_none searched.read then record searched { codes = searched.codes + (length text - place) + n; read = Some place }
+    else record searched { codes = searched.codes + n }
 
 -- where `<!` or `<?` stands at a place, the end of what begins there is searched for
 abbrev pub html_searched : List ℕ → ℕ → Searched → Searched
@@ -23,10 +32,10 @@ html_searched text place searched =
     if is_none (opener_before text (place + 2)) then searched
     else record searched { html = run_step searched.html (place + 2) }
 
--- a byte of text: a backtick is passed over once
+-- a byte of text
 abbrev pub byte_searched : List ℕ → ℕ → Searched → Searched
 byte_searched text place searched =
-    if is_backtick (get_or text place 0) then record searched { codes = searched.codes + 1 }
+    if is_backtick (get_or text place 0) then backticks_searched text place 1 searched
     else html_searched text place searched
 
 -- so many bytes of text from a place on
@@ -59,10 +68,16 @@ bytes_passed searched = searched.codes + searched.html.passed
 abbrev pub bytes_searched : List ℕ → List Piece → ℕ
 bytes_searched text pieces = bytes_passed (pieces_searched text pieces (unsearched text))
 
+-- how many bytes were passed over as the text was read
+abbrev pub bytes_read : List ℕ → Option ℕ → ℕ
+bytes_read text None = 0
+bytes_read text (Some from) = length text - from
+
 -- What has been searched up to a place: the openers that were tried don't overlap, and none is within what was found.
 pub record IsSearchedTo (place : ℕ) (searched : Searched) : Type 0 where
   pub fits : length searched.html.text < 2 ^ 63
-  pub codes_once : searched.codes ≤ length searched.html.text + place
+  pub codes_once : searched.codes ≤ bytes_read searched.html.text searched.read + place
+  pub read_before : IfSome searched.read (λ from. from ≤ place)
   pub last_before : searched.html.last ≤ place + 1
   pub found_before : searched.html.find_end ≤ place
   pub apart : 2 * searched.html.steps ≤ searched.html.last

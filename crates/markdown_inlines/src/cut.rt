@@ -13,6 +13,7 @@ use crate::piece_scanner::PieceScanner;
 use crate::pieces::{Piece, PieceKind};
 use crate::reading::{Reader, ReaderBuffers};
 use std::alloc::{AllocError, Global};
+use std::mem;
 
 /// A text cut into its pieces, and what they make together.
 #[derive(Drop)]
@@ -63,7 +64,8 @@ pub fn cut_inlines<L: Labels>(
         cut.passed ≡ bytes_searched text.now cut.pieces.items) }
     ensures budget { IfOk result (λ cut. cut.passed ≤ 10 * length text.now) }
 {
-    let cut = cut_within(alloc, CutBuffers::new(alloc), text, labels, extensions)?;
+    let mut cut = CutBuffers::new(alloc);
+    cut_within(alloc, &mut cut, text, labels, extensions)?;
     let found = cut.reader;
     Ok(Cut {
         pieces: cut.pieces,
@@ -99,43 +101,41 @@ impl CutBuffers {
 // Cuts a text as `cut_inlines` does. Nothing depends on what is in the buffers.
 pub(crate) fn cut_within<L: Labels>(
     alloc: Global,
-    buffers: CutBuffers,
+    buffers: &mut CutBuffers,
     text: &str,
     labels: &L,
     extensions: InlineExtensions,
-) -> Result<CutBuffers, AllocError>
-    ensures cut { IfOk result (λ cut.
+) -> Result<(), AllocError>
+    ensures cut { OnOk result (
         IsCut text.now (record { asked = extensions; known = L.known labels.now })
-        cut.pieces.items cut.reader.links.items cut.reader.emphasis.items) }
-    ensures sources { IfOk result (λ cut.
-        AreSources text.now cut.pieces.items (length text.now)) }
-    ensures links { IfOk result (λ cut. AreLinkSources text.now cut.reader.links.items) }
-    ensures passed { IfOk result (λ cut.
-        cut.passed ≡ bytes_searched text.now cut.pieces.items) }
-    ensures budget { IfOk result (λ cut. cut.passed ≤ 10 * length text.now) }
+        buffers.new.pieces.items buffers.new.reader.links.items buffers.new.reader.emphasis.items) }
+    ensures sources { OnOk result (
+        AreSources text.now buffers.new.pieces.items (length text.now)) }
+    ensures links { OnOk result (AreLinkSources text.now buffers.new.reader.links.items) }
+    ensures passed { OnOk result (
+        buffers.new.passed ≡ bytes_searched text.now buffers.new.pieces.items) }
+    ensures budget { OnOk result (buffers.new.passed ≤ 10 * length text.now) }
 {
-    let mut scanner = PieceScanner::within(buffers.strings, text, extensions)?;
-    let mut reader = Reader::new(buffers.reader, text);
-    let mut pieces = buffers.pieces;
-    pieces.clear();
+    let strings = mem::replace(&mut buffers.strings, Vec::new(alloc));
+    let mut scanner = PieceScanner::within(strings, text, extensions);
+    let found = mem::replace(&mut buffers.reader, ReaderBuffers::new(alloc));
+    let mut reader = Reader::new(found, text);
+    buffers.pieces.clear();
     let mut place = 0;
-    while let Some(piece) = scanner.next(alloc) {
-        push_text(&mut pieces, place, piece.start)?;
+    while let Some(piece) = scanner.next(alloc)? {
+        push_text(&mut buffers.pieces, place, piece.start)?;
         place = read_piece(alloc, labels, extensions, &mut reader, piece)?;
-        pieces.push(Piece {
+        buffers.pieces.push(Piece {
             end: place,
             ..piece
         })?;
         scanner.read_to(place);
     }
-    push_text(&mut pieces, place, text.len())?;
-    let found = reader.finish(alloc)?;
-    Ok(CutBuffers {
-        pieces,
-        reader: found,
-        passed: scanner.passed(),
-        strings: scanner.into_buffer(),
-    })
+    push_text(&mut buffers.pieces, place, text.len())?;
+    buffers.reader = reader.finish(alloc)?;
+    buffers.passed = scanner.passed();
+    buffers.strings = scanner.into_buffer();
+    Ok(())
 }
 
 // Adds the text from one place up to another, if there is any.

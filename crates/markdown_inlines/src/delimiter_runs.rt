@@ -13,10 +13,10 @@ use ucd_category::{GeneralCategory, GeneralCategoryGroup};
 /// A delimiter run.
 #[derive(Clone, Copy, Debug, PartialEq, Eq)]
 pub struct DelimiterRun {
-    /// The byte that it is made of: `*` or `_`, or the `~` of strikethrough.
-    pub byte: u8,
     /// How many bytes it has.
     pub count: usize,
+    /// The byte that it is made of: `*` or `_`, or the `~` of strikethrough.
+    pub byte: u8,
     /// Whether it can open emphasis, or strikethrough, by the characters on its sides.
     pub can_open: bool,
     /// Whether it can close it.

@@ -1,7 +1,9 @@
 //! Code spans at many places of one text. (CommonMark 0.31.2, section 6.1)
-ghost use Rattle.std.specs.Prelude.{ℕ, ◌≡◌, ◌==◌, ◌+◌, ◌<◌, ◌≤◌, ◌^◌, length, drop, slice_index, IfSome, IfNone, IfOk, OnOk, if◌then◌else◌};
+ghost use Rattle.std.specs.Prelude.{ℕ, ◌≡◌, ◌==◌, ◌+◌, ◌-◌, ◌<◌, ◌≤◌, ◌^◌, length, drop, slice_index, IfSome, IfNone, IfOk, OnOk, if◌then◌else◌};
 ghost use Rattle.std.specs.List.{prefix_len};
-ghost use Rattle.markdown_inlines.specs.CodeSpans.{is_backtick};
+ghost use Rattle.markdown_scanners_tree.specs.Ascii.{backtick};
+ghost use Rattle.markdown_scanners_tree.specs.SomeExactly.{SomeExactly, IsOnly};
+ghost use Rattle.markdown_inlines.specs.CodeSpans.{IsCodeSpan, is_backtick};
 ghost use Rattle.markdown_inlines.specs.LastStrings.{AreLastStrings};
 
 use crate::backticks::Backticks;
@@ -27,13 +29,10 @@ impl<'a> Model for CodeSpans<'a> {
 
     ghost view = { λ s. s.text };
 
-    ghost invariant = { λ s. AreLastStrings s.text s.lasts.items };
+    ghost invariant = { λ s. AreLastStrings s.text 0 s.lasts.items };
 }
 
 impl<'a> CodeSpans<'a> {
-    ghost use Rattle.markdown_scanners_tree.specs.SomeExactly.{SomeExactly, IsOnly};
-    ghost use Rattle.markdown_inlines.specs.CodeSpans.{IsCodeSpan};
-
     /// The code spans of the text. It is read once, and a number is kept for each length up to
     /// that of its longest string of backticks: none for a text without backticks.
     ///
@@ -43,28 +42,9 @@ impl<'a> CodeSpans<'a> {
     pub fn new(alloc: Global, bytes: &'a [u8]) -> Result<CodeSpans<'a>, AllocError>
         ensures { IfOk result (λ spans. spans ≡ bytes.now) }
     {
-        CodeSpans::within(Vec::new(alloc), bytes, &mut 0)
-    }
-
-    // The code spans of the text, which is read once: its bytes are added to a count. Nothing depends
-    // on what is in the buffer.
-    pub(crate) fn within(
-        buffer: Vec<usize>,
-        bytes: &'a [u8],
-        passed: &mut u128,
-    ) -> Result<CodeSpans<'a>, AllocError>
-        requires room { passed.old < 2 ^ 100 }
-        ensures spans { IfOk result (λ spans. spans ≡ bytes.now) }
-        ensures counts { OnOk result (passed.new ≡ passed.old + length bytes.now) }
-    {
         let text = Backticks::new(bytes);
-        let lasts = last_places(buffer, &text, passed)?;
+        let lasts = last_places(alloc, &text)?;
         Ok(CodeSpans { text, lasts })
-    }
-
-    // The memory that it was made with.
-    pub(crate) fn into_buffer(self) -> Vec<usize> {
-        self.lasts
     }
 
     /// The code span that begins at a place of the text, before which no backtick stands: what
@@ -82,36 +62,82 @@ impl<'a> CodeSpans<'a> {
             × (span.content.start < span.content.end)
             × (span.content.end + span.content.start ≡ span.len)) }
     {
-        self.scan_counted(place, &mut 0)
+        span_at(&self.text, &self.lasts, place, &mut 0)
     }
+}
 
-    // As `scan`, with the bytes that are passed over added to a count.
-    pub(crate) fn scan_counted(&self, place: usize, passed: &mut u128) -> Option<CodeSpan>
-        requires within { place ≤ length self.now }
-        requires room { passed.old < 2 ^ 100 }
+// The code span that begins at a place, where the last strings behind a place before it are known. The
+// bytes that are passed over are added to a count.
+pub(crate) fn span_at(
+    text: &Backticks,
+    lasts: &[usize],
+    place: usize,
+    passed: &mut u128,
+) -> Option<CodeSpan>
+    requires within { place ≤ length text.now }
+    requires known { (from : ℕ) × (from ≤ place) × AreLastStrings text.now from lasts.now }
+    requires room { passed.old < 2 ^ 100 }
 
-        // The one span that stands there is answered.
-        ensures found { SomeExactly (IsCodeSpan (drop place self.now)) result }
-        ensures only { IsOnly (IsCodeSpan (drop place self.now)) result }
+    // The one span that stands there is answered.
+    ensures found { SomeExactly (IsCodeSpan (drop place text.now)) result }
+    ensures only { IsOnly (IsCodeSpan (drop place text.now)) result }
 
-        // Its content stands between strings of one length.
-        ensures within { IfSome result (λ span. place + span.len ≤ length self.now) }
-        ensures content { IfSome result (λ span. (0 < span.content.start)
-            × (span.content.start < span.content.end)
-            × (span.content.end + span.content.start ≡ span.len)) }
+    // Its content stands between strings of one length.
+    ensures within { IfSome result (λ span. place + span.len ≤ length text.now) }
+    ensures content { IfSome result (λ span. (0 < span.content.start)
+        × (span.content.start < span.content.end)
+        × (span.content.end + span.content.start ≡ span.len)) }
 
-        // A span is passed over once; where there is none, no more than the backticks at the place.
-        ensures counts_span { IfSome result (λ span. passed.new ≡ passed.old + span.len) }
-        ensures counts_string { IfNone result
-            (passed.new ≡ passed.old + prefix_len is_backtick (drop place self.now)) }
-    {
-        let rest = self.text.after(place);
-        let fence = rest.front_len(passed);
-        if last_place(&self.lasts, fence) <= place {
-            return None;
+    // A span is passed over once; where there is none, no more than the backticks at the place.
+    ensures counts_span { IfSome result (λ span. passed.new ≡ passed.old + span.len) }
+    ensures counts_string { IfNone result
+        (passed.new ≡ passed.old + prefix_len is_backtick (drop place text.now)) }
+{
+    let rest = text.after(place);
+    let fence = rest.front_len(passed);
+    if last_place(lasts, fence) <= place {
+        return None;
+    }
+    span_behind(&rest, fence, passed)
+}
+
+// The code span that begins with the backtick at a place. Where there is none, all behind the place has
+// been read, and the last strings there are put in. Nothing depends on what is in the buffer.
+pub(crate) fn first_span(
+    text: &Backticks,
+    lasts: &mut Vec<usize>,
+    place: usize,
+    passed: &mut u128,
+) -> Result<Option<CodeSpan>, AllocError>
+    requires within { place < length text.now }
+    requires opens { slice_index text.now place ≡ backtick }
+    requires fits { length text.now < 2 ^ 64 }
+    requires room { passed.old < 2 ^ 100 }
+    ensures found { IfOk result (SomeExactly (IsCodeSpan (drop place text.now))) }
+    ensures within { IfOk result (λ found.
+        IfSome found (λ span. place + span.len ≤ length text.now)) }
+    ensures counts_span { IfOk result (λ found.
+        IfSome found (λ span. passed.new ≡ passed.old + span.len)) }
+    ensures counts_rest { IfOk result (λ found.
+        IfNone found (passed.new ≡ passed.old + (length text.now - place))) }
+    ensures lasts { IfOk result (λ found.
+        IfNone found (AreLastStrings text.now place lasts.new.items)) }
+{
+    let rest = text.after(place);
+    let fence = rest.front_len(passed);
+    lasts.clear();
+    let mut offset = fence;
+    while let Some((start, run)) = rest.next_string(offset, passed) {
+        if run == fence {
+            return Ok(Some(CodeSpan {
+                content: fence..start,
+                len: start + fence,
+            }));
         }
-        span_behind(&rest, fence, passed)
+        put_last(lasts, run, place + start)?;
+        offset = start + run;
     }
+    Ok(None)
 }
 
 // Where the last string of so many backticks stands, or 0.
@@ -121,22 +147,15 @@ fn last_place(lasts: &[usize], fence: usize) -> usize
     lasts.get(fence).copied().unwrap_or(0)
 }
 
-// Where the last string of each length stands. The text is passed over once. Nothing depends on what
-// is in the buffer.
-fn last_places(
-    buffer: Vec<usize>,
-    text: &Backticks,
-    passed: &mut u128,
-) -> Result<Vec<usize>, AllocError>
-    requires fits { length text.now < 2 ^ 64 }
-    requires room { passed.old < 2 ^ 100 }
-    ensures lasts { IfOk result (λ lasts. AreLastStrings text.now lasts.items) }
-    ensures counts { OnOk result (passed.new ≡ passed.old + length text.now) }
+// Where the last string of each length stands.
+fn last_places(alloc: Global, text: &Backticks) -> Result<Vec<usize>, AllocError>
+    requires { length text.now < 2 ^ 64 }
+    ensures { IfOk result (λ lasts. AreLastStrings text.now 0 lasts.items) }
 {
-    let mut lasts = buffer;
-    lasts.clear();
+    let mut lasts = Vec::new(alloc);
+    let mut passed = 0;
     let mut place = 0;
-    while let Some((start, run)) = text.next_string(place, passed) {
+    while let Some((start, run)) = text.next_string(place, &mut passed) {
         put_last(&mut lasts, run, start)?;
         place = start + run;
     }

@@ -16,7 +16,6 @@ use crate::marks::{Mark, put_marks};
 use crate::pieces::{Piece, PieceKind};
 use std::alloc::{AllocError, Global};
 use std::marker::Model;
-use std::mem;
 
 /// An inline of a text, or where one that holds others begins or ends.
 #[derive(Clone, Copy, Debug, PartialEq, Eq)]
@@ -165,10 +164,8 @@ impl InlineFinder {
             self.new.inlines self.new.links) }
         ensures links { OnOk result (AreLinkSources text.now self.new.links) }
     {
-        let buffers = mem::replace(&mut self.cut, CutBuffers::new(alloc));
-        let cut = cut_within(alloc, buffers, text, labels, extensions)?;
-        put_inlines(&mut self.inlines, &mut self.marks, &cut, text.len())?;
-        self.cut = cut;
+        cut_within(alloc, &mut self.cut, text, labels, extensions)?;
+        put_inlines(&mut self.inlines, &mut self.marks, &self.cut, text.len())?;
         Ok(())
     }
 
@@ -241,16 +238,16 @@ fn push_inlines(
 {
     let mut number = 0;
     for piece in pieces {
-        push_piece(inlines, marks, links, number, *piece)?;
-        number = counted(piece.kind, number);
+        push_piece(inlines, marks, links, number, piece)?;
+        number = counted(&piece.kind, number);
     }
     Ok(())
 }
 
 // One more opener, if the piece is one.
-fn counted(kind: PieceKind, number: usize) -> usize
+fn counted(kind: &PieceKind, number: usize) -> usize
     requires { number + 1 < 2 ^ 64 }
-    ensures { result ≡ counted kind number }
+    ensures { result ≡ counted kind.now number }
 {
     match kind {
         PieceKind::LinkOpener | PieceKind::ImageOpener => number + 1,
@@ -264,14 +261,14 @@ fn push_piece(
     marks: &[Mark],
     links: &[Option<Link>],
     number: usize,
-    piece: Piece,
+    piece: &Piece,
 ) -> Result<(), AllocError>
-    requires some { piece.start < piece.end }
-    requires within { piece.end ≤ length marks.now }
+    requires some { piece.now.start < piece.now.end }
+    requires within { piece.now.end ≤ length marks.now }
     ensures { OnOk result ((emphasis : List Emphasis)
         → AreMarks links.now emphasis (length marks.now) marks.now
         → inlines.new.items
-        ≡ inlines.old.items ++ inlines_at piece.kind links.now emphasis number piece) }
+        ≡ inlines.old.items ++ inlines_at piece.now.kind links.now emphasis number piece.now) }
 {
     match piece.kind {
         PieceKind::Delimiters(_) => push_delimiters(inlines, marks, piece.start, piece.end)?,
@@ -279,28 +276,28 @@ fn push_piece(
             inlines.push(opener_as(links, number, piece))?;
         }
         PieceKind::Closer => inlines.push(closer_with(marks[piece.start], piece))?,
-        _ => inlines.push(Inline::Leaf(piece))?,
+        _ => inlines.push(Inline::Leaf(*piece))?,
     }
     Ok(())
 }
 
 // What the opener with a number is.
-fn opener_as(links: &[Option<Link>], number: usize, piece: Piece) -> Inline
-    ensures { result ≡ opener_as links.now number piece }
+fn opener_as(links: &[Option<Link>], number: usize, piece: &Piece) -> Inline
+    ensures { result ≡ opener_as links.now number piece.now }
 {
     match links.get(number) {
         Some(Some(_)) => Inline::StartLink(number),
-        _ => Inline::Leaf(piece),
+        _ => Inline::Leaf(*piece),
     }
 }
 
 // What the right bracket with this mark is.
-fn closer_with(mark: Mark, piece: Piece) -> Inline
-    ensures { result ≡ closer_with mark piece }
+fn closer_with(mark: Mark, piece: &Piece) -> Inline
+    ensures { result ≡ closer_with mark piece.now }
 {
     match mark {
-        Mark::EndsLink => Inline::EndLink(piece),
-        _ => Inline::Leaf(piece),
+        Mark::EndsLink => Inline::EndLink(*piece),
+        _ => Inline::Leaf(*piece),
     }
 }
 

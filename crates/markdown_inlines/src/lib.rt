@@ -15,7 +15,7 @@ pub mod guarded_code_spans;
 pub mod inlines;
 pub mod line_breaks;
 pub mod link_tails;
-mod link_targets;
+pub mod link_targets;
 pub mod links;
 pub mod marks;
 mod piece_at;

@@ -160,17 +160,28 @@ fn scan_label_after<'t>(
     scan_label(alloc, text, place + 1)
 }
 
-// The label that stands from a place up to its right bracket: the place of that, and the label's text.
-fn scan_label<'t>(
+/// The label that stands in a text from a place, before which its left bracket is, up to its right
+/// bracket: the place of that, and the label's text.
+///
+/// The text is a part of the given one, unless its white space is not one space each.
+///
+/// # Errors
+///
+/// `AllocError` where memory for such a text is refused.
+pub fn scan_label<'t>(
     alloc: Global,
     text: &'t str,
     from: usize,
 ) -> Result<Option<(usize, CowStr<'t>)>, AllocError>
     requires { IsCharBoundary text.now from }
+
+    // The one label that stands there is answered.
     ensures found { IfOk result (λ found. IfSome found (λ r.
         IsLabelAt text.entry.now from r.0 (cow_text r.1))) }
     ensures none { IfOk result (λ found. IfNone found ((close : ℕ) (name : List ℕ)
         → ¬ IsLabelAt text.entry.now from close name)) }
+
+    // Its bracket is in the text, which may be cut behind it.
     ensures within { IfOk result (λ found. IfSome found (λ r.
         (from ≤ r.0) × (r.0 < length text.entry.now))) }
     ensures boundary { IfOk result (λ found. IfSome found (λ r.

@@ -1,12 +1,12 @@
 //! What begins at a place of a text. (CommonMark 0.31.2, chapter 6)
-ghost use Rattle.std.specs.Prelude.{ℕ, false, ◌≡◌, ◌≢◌, ◌⊎◌, ◌↔◌, ◌+◌, ◌-◌, ◌<◌, ◌≤◌, length, drop, slice_index, get_or, IfSome, IfNone, IsTrue};
+ghost use Rattle.std.specs.Prelude.{ℕ, false, ◌≡◌, ◌≢◌, ◌⊎◌, ◌↔◌, ◌+◌, ◌-◌, ◌<◌, ◌≤◌, length, drop, slice_index, get_or, IfSome, IfNone, IfOk, OnErr, IsTrue};
 ghost use Rattle.memchr.specs.Find.{occurs_at};
 ghost use Rattle.markdown_scanners_tree.specs.Ascii.{ampersand, asterisk, backslash, backtick, tilde, underscore};
 ghost use Rattle.markdown_scanners_tree.specs.SomeExactly.{SomeExactly};
 ghost use Rattle.markdown_inlines.specs.Pieces.{BeginsAt, IsEscape};
 ghost use Rattle.markdown_inlines.specs.declared.extensions.InlineExtensions.{InlineExtensions};
 ghost use Rattle.markdown_inlines.specs.PieceBytes.{opens_break, opens_bracket, opens_long, run_length};
-ghost use Rattle.markdown_inlines.specs.Searches.{IsSearchedTo, kind_searched, text_searched};
+ghost use Rattle.markdown_inlines.specs.Searches.{IsSearchedTo, backticks_searched, kind_searched, text_searched};
 
 use crate::angles::angle_at;
 use crate::delimiter_runs::{scan_delimiter_run, scan_tilde_run};
@@ -17,43 +17,47 @@ use crate::searches::Searches;
 use crate::wiki_links::opener_len;
 use html_entities::HtmlEntities;
 use markdown_scanners_tree::scanners::{is_ascii_punctuation, scan_entity};
-use std::alloc::Global;
+use std::alloc::{AllocError, Global};
 
 // The kind and the length of what begins at the place, which stands within no backtick string.
+#[inline(always)]
 pub(crate) fn piece_at(
     alloc: Global,
     text: &str,
     extensions: InlineExtensions,
     searches: &mut Searches,
     place: usize,
-) -> Option<(PieceKind, usize)>
+) -> Result<Option<(PieceKind, usize)>, AllocError>
     requires within { place < length text.now }
     requires same { searches.old.html.text ≡ text.now }
     requires searched { IsSearchedTo place searches.old }
-    ensures found { (from : ℕ)
+    ensures found { IfOk result (λ found. (from : ℕ)
         → (slice_index text.now place ≡ backtick → from < place
         → get_or text.now (place - 1) 0 ≢ backtick)
-        → SomeExactly (λ r. BeginsAt extensions text.now from place r.0 r.1) result }
-    ensures counts { IfSome result (λ r. searches.new
-        ≡ kind_searched r.0 text.now place (place + r.1) searches.old) }
-    ensures counts_text { IfNone result (searches.new
-        ≡ text_searched text.now place (run_length (drop place text.now)) searches.old) }
+        → SomeExactly (λ r. BeginsAt extensions text.now from place r.0 r.1) found) }
+    ensures counts { IfOk result (λ found. IfSome found (λ r. searches.new
+        ≡ kind_searched r.0 text.now place (place + r.1) searches.old)) }
+    ensures counts_text { IfOk result (λ found. IfNone found (searches.new
+        ≡ text_searched text.now place (run_length (drop place text.now)) searches.old)) }
     ensures text { searches.new.html.text ≡ searches.old.html.text }
-    ensures stays { (q : ℕ) → place < q → IfSome result (λ r. place + r.1 ≤ q)
-        → IfNone result (place + run_length (drop place text.now) ≤ q)
-        → IsSearchedTo q searches.new }
+    ensures stays { IfOk result (λ found. (q : ℕ) → place < q
+        → IfSome found (λ r. place + r.1 ≤ q)
+        → IfNone found (place + run_length (drop place text.now) ≤ q)
+        → IsSearchedTo q searches.new) }
+    ensures refused { OnErr result (searches.new ≡ searches.old) }
 {
     let bytes = text.as_bytes();
     match bytes[place] {
-        b'<' => angle_at(alloc, bytes, searches, place),
+        b'<' => Ok(angle_at(alloc, bytes, searches, place)),
         b'`' => code_at(searches, place),
-        b'*' | b'_' => delimiters_at(text, place),
-        b'~' => tildes_at(text, extensions, place),
-        _ => short_piece_at(bytes, extensions, place),
+        b'*' | b'_' => Ok(delimiters_at(text, place)),
+        b'~' => Ok(tildes_at(text, extensions, place)),
+        _ => Ok(short_piece_at(bytes, extensions, place)),
     }
 }
 
 // What begins with a byte other than `<`, a backtick, a delimiter or a tilde.
+#[inline(always)]
 fn short_piece_at(
     bytes: &[u8],
     extensions: InlineExtensions,
@@ -93,25 +97,29 @@ fn opens_bracket(byte: u8) -> bool
 }
 
 // The code span at the place, where a backtick stands.
-fn code_at(searches: &mut Searches, place: usize) -> Option<(PieceKind, usize)>
+fn code_at(searches: &mut Searches, place: usize) -> Result<Option<(PieceKind, usize)>, AllocError>
     requires within { place < length searches.old.html.text }
     requires opens { slice_index searches.old.html.text place ≡ backtick }
     requires searched { IsSearchedTo place searches.old }
-    ensures found { (asked : InlineExtensions) (from : ℕ)
+    ensures found { IfOk result (λ found. (asked : InlineExtensions) (from : ℕ)
         → (from < place → get_or searches.old.html.text (place - 1) 0 ≢ backtick)
-        → SomeExactly (λ r. BeginsAt asked searches.old.html.text from place r.0 r.1) result }
-    ensures counts { IfSome result (λ r. searches.new
-        ≡ kind_searched r.0 searches.old.html.text place (place + r.1) searches.old) }
-    ensures counts_text { IfNone result (searches.new ≡ record searches.old {
-      codes = searches.old.codes + run_length (drop place searches.old.html.text);
-    }) }
+        → SomeExactly (λ r. BeginsAt asked searches.old.html.text from place r.0 r.1) found) }
+    ensures counts { IfOk result (λ found. IfSome found (λ r. searches.new
+        ≡ kind_searched r.0 searches.old.html.text place (place + r.1) searches.old)) }
+    ensures counts_text { IfOk result (λ found. IfNone found (searches.new
+        ≡ backticks_searched searches.old.html.text place
+        (run_length (drop place searches.old.html.text)) searches.old)) }
     ensures text { searches.new.html.text ≡ searches.old.html.text }
-    ensures stays { (q : ℕ) → place < q → IfSome result (λ r. place + r.1 ≤ q)
-        → IfNone result (place + run_length (drop place searches.old.html.text) ≤ q)
-        → IsSearchedTo q searches.new }
+    ensures stays { IfOk result (λ found. (q : ℕ) → place < q
+        → IfSome found (λ r. place + r.1 ≤ q)
+        → IfNone found (place + run_length (drop place searches.old.html.text) ≤ q)
+        → IsSearchedTo q searches.new) }
+    ensures refused { OnErr result (searches.new ≡ searches.old) }
 {
-    let span = searches.code_span(place)?;
-    Some((PieceKind::Code(span.content.start), span.len))
+    match searches.code_span(place)? {
+        Some(span) => Ok(Some((PieceKind::Code(span.content.start), span.len))),
+        None => Ok(None),
+    }
 }
 
 // The delimiter run at the place, where a delimiter stands.

@@ -1,9 +1,11 @@
 //! Looking for the pieces of a text, from left to right.
-ghost use Rattle.std.specs.Prelude.{ℕ, ◌≡◌, ◌≢◌, ◌+◌, ◌-◌, ◌*◌, ◌<◌, ◌≤◌, length, drop, get_or, IfOk, IfSome, IfNone};
+ghost use Rattle.std.specs.Prelude.{ℕ, ◌≡◌, ◌≢◌, ◌+◌, ◌-◌, ◌*◌, ◌/◌, ◌<◌, ◌≤◌, bit_and, length, take, drop, get_or, slice_index, IfOk, OnErr, IfSome, IfNone};
 ghost use Rattle.std.specs.Str.{IsCharBoundary};
-ghost use Rattle.markdown_scanners_tree.specs.Ascii.{backtick};
+ghost use Rattle.std.specs.List.{prefix_len};
+ghost use Rattle.markdown_scanners_tree.specs.Ascii.{backtick, space};
+ghost use Rattle.markdown_scanners_tree.specs.Bytes.{begins_with, is_line_ending};
 ghost use Rattle.markdown_inlines.specs.Pieces.{BeginsAt, ReadText, IsNext, HasOnlyText};
-ghost use Rattle.markdown_inlines.specs.PieceBytes.{is_plain, is_word_space, plain_length, run_length};
+ghost use Rattle.markdown_inlines.specs.PieceBytes.{is_plain_or_space, plain_length, run_length};
 ghost use Rattle.markdown_inlines.specs.Searches.{Searched, IsSearchedTo, bytes_passed, next_searched, text_searched, unsearched};
 ghost use Rattle.markdown_inlines.specs.declared.extensions.InlineExtensions.{InlineExtensions};
 ghost use Rattle.markdown_inlines.specs.declared.pieces.PieceKind.{PieceKind};
@@ -15,12 +17,13 @@ use crate::searches::Searches;
 use markdown_scanners_tree::scanners::scan_ch_repeat;
 use std::alloc::{AllocError, Global};
 use std::marker::Model;
+use std::simd::prelude::*;
 
-// For each byte whether no piece but text begins with it.
+// For each byte whether it is plain or a space.
 const PLAIN: [bool; 256] = [
     true, true, true, true, true, true, true, true, true, true, false, true, true, false, true,
     true, true, true, true, true, true, true, true, true, true, true, true, true, true, true, true,
-    true, false, false, true, true, true, true, false, true, true, true, false, true, true, true,
+    true, true, false, true, true, true, true, false, true, true, true, false, true, true, true,
     true, true, true, true, true, true, true, true, true, true, true, true, true, true, false,
     true, true, true, true, true, true, true, true, true, true, true, true, true, true, true, true,
     true, true, true, true, true, true, true, true, true, true, true, true, true, true, false,
@@ -36,6 +39,15 @@ const PLAIN: [bool; 256] = [
     true, true, true, true, true, true, true, true, true, true, true, true, true, true, true, true,
     true, true, true, true, true, true,
 ];
+
+// How many bytes a vector holds.
+const LANES: usize = 16;
+
+// Of the low half of a byte, and of the high half, bits. They have one in common where the byte is neither
+// plain nor a space.
+const LOW_HALVES: [u8; 16] = [16, 2, 0, 0, 0, 0, 2, 0, 0, 0, 3, 8, 12, 9, 32, 8];
+
+const HIGH_HALVES: [u8; 16] = [1, 0, 2, 4, 0, 8, 16, 32, 0, 0, 0, 0, 0, 0, 0, 0];
 
 // A text with its extensions, the place up to which it has been read, and the searches for the ends of code spans and HTML.
 #[derive(Drop)]
@@ -66,17 +78,20 @@ impl<'a> PieceScanner<'a> {
         buffer: Vec<usize>,
         text: &'a str,
         extensions: InlineExtensions,
-    ) -> Result<PieceScanner<'a>, AllocError>
-        ensures start { IfOk result (λ s.
-            s ≡ record { text = text.now; asked = extensions; place = 0; searched = unsearched text.now }) }
+    ) -> PieceScanner<'a>
+        ensures start { result ≡ record {
+          text = text.now;
+          asked = extensions;
+          place = 0;
+          searched = unsearched text.now;
+        } }
     {
-        let searches = Searches::within(buffer, text.as_bytes())?;
-        Ok(PieceScanner {
+        PieceScanner {
             text,
             extensions,
             place: 0,
-            searches,
-        })
+            searches: Searches::within(buffer, text.as_bytes()),
+        }
     }
 
     // The memory that it was made with.
@@ -110,31 +125,33 @@ impl<'a> PieceScanner<'a> {
     }
 
     // Reads up to the end of the next piece that isn't text, or to the end of the text where there
-    // is none. No memory is asked for.
-    pub(crate) fn next(&mut self, alloc: Global) -> Option<Piece>
+    // is none. Memory is asked for as by `Searches::code_span`.
+    #[inline(always)]
+    pub(crate) fn next(&mut self, alloc: Global) -> Result<Option<Piece>, AllocError>
         // The next piece is answered, and the text is read up to its end.
-        ensures found { IfSome result (IsNext self.old.asked self.old.text self.old.place) }
-        ensures read { IfSome result (λ piece.
+        ensures found { IfOk result (λ found.
+            IfSome found (IsNext self.old.asked self.old.text self.old.place)) }
+        ensures read { IfOk result (λ found. IfSome found (λ piece.
             self.new ≡ record self.old {
               place = piece.end;
               searched = next_searched self.old.text self.old.place piece self.old.searched;
-            }) }
+            })) }
 
         // It is part of the text, which may be cut on both sides of it.
-        ensures within { IfSome result (λ piece. (piece.start < piece.end)
-            × (piece.end ≤ length self.old.text)) }
-        ensures boundary { IfSome result (λ piece. IsCharBoundary self.old.text piece.start
-            × IsCharBoundary self.old.text piece.end) }
+        ensures within { IfOk result (λ found. IfSome found (λ piece. (piece.start < piece.end)
+            × (piece.end ≤ length self.old.text))) }
+        ensures boundary { IfOk result (λ found. IfSome found (λ piece.
+            IsCharBoundary self.old.text piece.start × IsCharBoundary self.old.text piece.end)) }
 
         // Else all that is left is text.
-        ensures none { IfNone result
-            (HasOnlyText self.old.asked self.old.text self.old.place (length self.old.text)) }
-        ensures all { IfNone result
+        ensures none { IfOk result (λ found. IfNone found
+            (HasOnlyText self.old.asked self.old.text self.old.place (length self.old.text))) }
+        ensures all { IfOk result (λ found. IfNone found
             (self.new ≡ record self.old {
               place = length self.old.text;
               searched = text_searched self.old.text self.old.place
                   (length self.old.text - self.old.place) self.old.searched;
-            }) }
+            })) }
     {
         let piece = next_piece(
             alloc,
@@ -144,51 +161,57 @@ impl<'a> PieceScanner<'a> {
             self.place,
         );
         self.place = match &piece {
-            Some(piece) => piece.end,
-            None => self.text.len(),
+            Ok(Some(piece)) => piece.end,
+            _ => self.text.len(),
         };
         piece
     }
 }
 
 // The next piece from a place on that isn't text.
+#[inline(always)]
 fn next_piece(
     alloc: Global,
     text: &str,
     extensions: InlineExtensions,
     searches: &mut Searches,
     from: usize,
-) -> Option<Piece>
+) -> Result<Option<Piece>, AllocError>
     requires within { from ≤ length text.now }
     requires same { searches.old.html.text ≡ text.now }
     requires searched { IsSearchedTo from searches.old }
-    ensures found { IfSome result (IsNext extensions text.now from) }
-    ensures within { IfSome result (λ piece. (piece.start < piece.end)
-        × (piece.end ≤ length text.now)) }
-    ensures boundary { IfSome result (λ piece. IsCharBoundary text.now piece.start
-        × IsCharBoundary text.now piece.end) }
-    ensures none { IfNone result (HasOnlyText extensions text.now from (length text.now)) }
-    ensures counts { IfSome result (λ piece.
-        searches.new ≡ next_searched text.now from piece searches.old) }
-    ensures counts_text { IfNone result
-        (searches.new ≡ text_searched text.now from (length text.now - from) searches.old) }
+    ensures found { IfOk result (λ found. IfSome found (IsNext extensions text.now from)) }
+    ensures within { IfOk result (λ found. IfSome found (λ piece. (piece.start < piece.end)
+        × (piece.end ≤ length text.now))) }
+    ensures boundary { IfOk result (λ found. IfSome found (λ piece.
+        IsCharBoundary text.now piece.start × IsCharBoundary text.now piece.end)) }
+    ensures none { IfOk result (λ found.
+        IfNone found (HasOnlyText extensions text.now from (length text.now))) }
+    ensures counts { IfOk result (λ found. IfSome found (λ piece.
+        searches.new ≡ next_searched text.now from piece searches.old)) }
+    ensures counts_text { IfOk result (λ found. IfNone found
+        (searches.new ≡ text_searched text.now from (length text.now - from) searches.old)) }
     ensures text { searches.new.html.text ≡ searches.old.html.text }
-    ensures searched { IfSome result (λ piece. IsSearchedTo piece.end searches.new) }
-    ensures searched_all { IfNone result (IsSearchedTo (length text.now) searches.new) }
+    ensures searched { IfOk result (λ found.
+        IfSome found (λ piece. IsSearchedTo piece.end searches.new)) }
+    ensures searched_all { IfOk result (λ found.
+        IfNone found (IsSearchedTo (length text.now) searches.new)) }
+    ensures refused { OnErr result (IsSearchedTo (length text.now) searches.new) }
 {
     let bytes = text.as_bytes();
     let mut place = from + plain_len(&bytes[from..]);
     while place < bytes.len() {
-        if let Some((kind, len)) = piece_at(alloc, text, extensions, searches, place) {
-            return Some(Piece {
+        let found = piece_at(alloc, text, extensions, searches, place)?;
+        if let Some((kind, len)) = found {
+            return Ok(Some(Piece {
                 kind,
                 start: place,
                 end: place + len,
-            });
+            }));
         }
         place = past_text(bytes, place);
     }
-    None
+    Ok(None)
 }
 
 // The next place at which a piece may begin, after one at which none does.
@@ -230,29 +253,106 @@ fn plain_len(bytes: &[u8]) -> usize
     ensures count { result ≡ plain_length bytes.now }
     ensures within { result ≤ length bytes.now }
 {
-    let mut rest = bytes;
-    while let [byte, after @ ..] = rest {
-        if !is_plain(*byte) && !is_word_space(*byte, after) {
-            break;
-        }
-        rest = after;
+    let end = spaced_len(bytes);
+    if is_at_ending(&bytes[end..]) {
+        trimmed_len(&bytes[..end])
+    } else {
+        end
     }
-    bytes.len() - rest.len()
 }
 
-// Whether the byte is a space before a plain byte.
-fn is_word_space(byte: u8, after: &[u8]) -> bool
-    ensures { result ≡ is_word_space byte after.now }
+// How many bytes at the front are plain or spaces.
+fn spaced_len(bytes: &[u8]) -> usize
+    ensures count { result ≡ prefix_len is_plain_or_space bytes.now }
+    ensures within { result ≤ length bytes.now }
 {
-    match after {
-        [next, ..] => byte == b' ' && is_plain(*next),
-        [] => false,
+    let mut len = 0;
+    while bytes.len() - len >= LANES {
+        let before = lanes_before_others(&bytes[len..]);
+        len += before;
+        if before < LANES {
+            return len;
+        }
+    }
+    len + few_spaced_len(&bytes[len..])
+}
+
+// How many of the bytes in a vector stand before the first that is neither plain nor a space.
+fn lanes_before_others(bytes: &[u8]) -> usize
+    requires { LANES ≤ length bytes.now }
+    ensures { result ≡ prefix_len is_plain_or_space (take LANES bytes.now) }
+{
+    let lanes = u8x16::from_slice(bytes);
+    let common = by_low_half(lanes) & by_high_half(lanes);
+    let others = common.simd_ne(u8x16::splat(0)).to_bitmask();
+    if others == 0 {
+        LANES
+    } else {
+        others.trailing_zeros() as usize
     }
 }
 
-// Whether no piece but text begins with the byte.
-fn is_plain(byte: u8) -> bool
-    ensures { result ≡ is_plain byte }
+// The bits of the low half of each byte.
+#[inline(always)]
+fn by_low_half(lanes: u8x16) -> u8x16
+    ensures length { length result ≡ LANES }
+    ensures bits { (k : ℕ) → k < LANES → slice_index result k
+        ≡ slice_index LOW_HALVES (bit_and (slice_index lanes k) 15) }
+{
+    u8x16::from_array(LOW_HALVES).swizzle_dyn(lanes & u8x16::splat(15))
+}
+
+// The bits of the high half of each byte.
+#[inline(always)]
+fn by_high_half(lanes: u8x16) -> u8x16
+    ensures length { length result ≡ LANES }
+    ensures bits { (k : ℕ) → k < LANES → slice_index result k
+        ≡ slice_index HIGH_HALVES (slice_index lanes k / 16) }
+{
+    u8x16::from_array(HIGH_HALVES).swizzle_dyn(lanes >> u8x16::splat(4))
+}
+
+// The same as `spaced_len`, one byte after another.
+fn few_spaced_len(bytes: &[u8]) -> usize
+    ensures count { result ≡ prefix_len is_plain_or_space bytes.now }
+    ensures within { result ≤ length bytes.now }
+{
+    let mut len = 0;
+    while len < bytes.len() {
+        if !is_plain_or_space(bytes[len]) {
+            return len;
+        }
+        len += 1;
+    }
+    len
+}
+
+// Whether a line ending stands at the front.
+fn is_at_ending(bytes: &[u8]) -> bool
+    ensures { result ≡ begins_with is_line_ending bytes.now }
+{
+    matches!(bytes, [b'\n' | b'\r', ..])
+}
+
+// How many bytes are left without the spaces at the end.
+fn trimmed_len(bytes: &[u8]) -> usize
+    ensures spaces { (k : ℕ) → result ≤ k → k < length bytes.now → get_or bytes.now k 0 ≡ space }
+    ensures last { 0 < result → get_or bytes.now (result - 1) 0 ≢ space }
+    ensures within { result ≤ length bytes.now }
+{
+    let mut len = bytes.len();
+    while len > 0 {
+        if bytes[len - 1] != b' ' {
+            return len;
+        }
+        len -= 1;
+    }
+    0
+}
+
+// Whether the byte is plain, or a space.
+fn is_plain_or_space(byte: u8) -> bool
+    ensures { result ≡ is_plain_or_space byte }
 {
     PLAIN[byte as usize]
 }

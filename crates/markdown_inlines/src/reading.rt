@@ -121,6 +121,7 @@ impl<'a> Reader<'a> {
     }
 
     // Reads a piece that is no right bracket.
+    #[inline(always)]
     pub(crate) fn read(&mut self, piece: Piece) -> Result<(), AllocError>
         requires runs { HasRuns piece.kind }
         requires source { IsSource self.old.text piece }

@@ -1,14 +1,16 @@
 //! The searches for the ends of code spans and of raw HTML, at rising places of one text. (CommonMark 0.31.2, sections 6.1
 //! and 6.6)
-ghost use Rattle.std.specs.Prelude.{ℕ, ◌≡◌, ◌+◌, ◌*◌, ◌<◌, ◌≤◌, length, drop, IfOk, IfSome, IfNone};
+ghost use Rattle.std.specs.Prelude.{ℕ, ◌≡◌, ◌+◌, ◌*◌, ◌<◌, ◌≤◌, ◌^◌, length, drop, slice_index, IfOk, OnErr, IfSome, IfNone, Some};
 ghost use Rattle.std.specs.List.{prefix_len};
+ghost use Rattle.markdown_scanners_tree.specs.Ascii.{backtick};
 ghost use Rattle.markdown_scanners_tree.specs.SomeExactly.{SomeExactly};
 ghost use Rattle.markdown_scanners_tree.specs.inline_html.InlineHtml.{find_at};
 ghost use Rattle.markdown_inlines.specs.CodeSpans.{IsCodeSpan, is_backtick};
-ghost use Rattle.markdown_inlines.specs.Searches.{Searched, IsSearchedTo, unsearched, html_searched, bytes_passed};
+ghost use Rattle.markdown_inlines.specs.Searches.{Searched, IsSearchedTo, unsearched, backticks_searched, html_searched, bytes_passed};
 
+use crate::backticks::Backticks;
 use crate::code_spans::CodeSpan;
-use crate::guarded_code_spans::CodeSpans;
+use crate::guarded_code_spans::{first_span, span_at};
 use markdown_scanners_tree::inline_html::InlineHtmlRun;
 use std::alloc::AllocError;
 use std::marker::Model;
@@ -17,41 +19,47 @@ use std::marker::Model;
 // calls alone.
 #[derive(Drop)]
 pub(crate) struct Searches<'a> {
-    codes: CodeSpans<'a>,
+    text: Backticks<'a>,
     codes_passed: u128,
+    // From where on the text has been read to its end, if it has been.
+    read_from: Option<usize>,
+    // By length, where the last string of so many backticks stands, if it has been.
+    lasts: Vec<usize>,
     html: InlineHtmlRun<'a>,
 }
 
 impl<'a> Model for Searches<'a> {
-    ghost use Rattle.std.specs.Prelude.{◌≡◌};
+    ghost use Rattle.std.specs.Prelude.{◌≡◌, IfSome};
+    ghost use Rattle.markdown_inlines.specs.LastStrings.{AreLastStrings};
     ghost use Rattle.markdown_scanners_tree.specs.inline_html.run.Run.{IsWithinBudget};
     ghost use Rattle.markdown_inlines.specs.Searches.{Searched};
 
     ghost Value = { Searched };
 
-    ghost view = { λ s. record { codes = s.codes_passed; html = s.html } };
+    ghost view = { λ s. record { codes = s.codes_passed; read = s.read_from; html = s.html } };
 
-    ghost invariant = { λ s. (s.codes ≡ s.html.text) × IsWithinBudget s.html };
+    ghost invariant = { λ s. (s.text ≡ s.html.text) × IsWithinBudget s.html
+        × IfSome s.read_from (λ from. AreLastStrings s.text from s.lasts.items) };
 }
 
 impl<'a> Searches<'a> {
-    // The text is read once, for its last strings of backticks. Nothing depends on what is in the buffer.
-    pub(crate) fn within(buffer: Vec<usize>, bytes: &'a [u8]) -> Result<Searches<'a>, AllocError>
-        ensures start { IfOk result (λ s. s ≡ unsearched bytes.now) }
-        ensures searched { IfOk result (IsSearchedTo 0) }
+    // Nothing is searched. Nothing depends on what is in the buffer.
+    pub(crate) fn within(buffer: Vec<usize>, bytes: &'a [u8]) -> Searches<'a>
+        ensures start { result ≡ unsearched bytes.now }
+        ensures searched { IsSearchedTo 0 result }
     {
-        let mut codes_passed = 0;
-        let codes = CodeSpans::within(buffer, bytes, &mut codes_passed)?;
-        Ok(Searches {
-            codes,
-            codes_passed,
+        Searches {
+            text: Backticks::new(bytes),
+            codes_passed: 0,
+            read_from: None,
+            lasts: buffer,
             html: InlineHtmlRun::new(bytes),
-        })
+        }
     }
 
     // The memory that it was made with.
     pub(crate) fn into_buffer(self) -> Vec<usize> {
-        self.codes.into_buffer()
+        self.lasts
     }
 
     // How many bytes the searches passed over.
@@ -64,10 +72,40 @@ impl<'a> Searches<'a> {
         self.codes_passed + self.html.passed()
     }
 
-    // The code span that begins at the place, before which no backtick stands.
-    pub(crate) fn code_span(&mut self, place: usize) -> Option<CodeSpan>
-        requires within { place ≤ length self.old.html.text }
+    // The code span that begins with the backtick at the place. Memory is asked for once, where there is
+    // none for the first time.
+    pub(crate) fn code_span(&mut self, place: usize) -> Result<Option<CodeSpan>, AllocError>
+        requires within { place < length self.old.html.text }
+        requires opens { slice_index self.old.html.text place ≡ backtick }
         requires searched { IsSearchedTo place self.old }
+        ensures found { IfOk result (SomeExactly (IsCodeSpan (drop place self.old.html.text))) }
+        ensures within { IfOk result (λ found.
+            IfSome found (λ span. place + span.len ≤ length self.old.html.text)) }
+        ensures counts_span { IfOk result (λ found. IfSome found (λ span.
+            self.new ≡ record self.old { codes = self.old.codes + span.len })) }
+        ensures counts_string { IfOk result (λ found. IfNone found (self.new
+            ≡ backticks_searched self.old.html.text place
+            (prefix_len is_backtick (drop place self.old.html.text)) self.old)) }
+        ensures refused { OnErr result (self.new ≡ self.old) }
+    {
+        if self.read_from.is_some() {
+            return Ok(self.known_span(place));
+        }
+        let mut passed = 0;
+        let found = first_span(&self.text, &mut self.lasts, place, &mut passed)?;
+        self.codes_passed += passed;
+        if found.is_some() {
+            return Ok(found);
+        }
+        self.read_from = Some(place);
+        Ok(self.known_span(place))
+    }
+
+    // The code span that begins at the place, where all behind a place before it has been read.
+    fn known_span(&mut self, place: usize) -> Option<CodeSpan>
+        requires within { place ≤ length self.old.html.text }
+        requires fits { self.old.codes < 2 ^ 100 }
+        requires read { (from : ℕ) × (self.old.read ≡ Some from) × (from ≤ place) }
         ensures found { SomeExactly (IsCodeSpan (drop place self.old.html.text)) result }
         ensures within { IfSome result (λ span. place + span.len ≤ length self.old.html.text) }
         ensures counts_span { IfSome result (λ span.
@@ -76,7 +114,7 @@ impl<'a> Searches<'a> {
           codes = self.old.codes + prefix_len is_backtick (drop place self.old.html.text);
         }) }
     {
-        self.codes.scan_counted(place, &mut self.codes_passed)
+        span_at(&self.text, &self.lasts, place, &mut self.codes_passed)
     }
 
     // Where the comment, CDATA section, declaration or processing instruction ends whose `<` stands

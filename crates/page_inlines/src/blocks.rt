@@ -13,7 +13,7 @@ use markdown_blocks::containers::Container;
 use markdown_blocks::content::{Content, content_of};
 use markdown_blocks::events::{BlockEvent, BlockEvents, Leaf};
 use markdown_inlines::extensions::InlineExtensions;
-use markdown_inlines::inlines::{Inlines, find_inlines};
+use markdown_inlines::inlines::InlineFinder;
 use std::alloc::{AllocError, Global};
 use std::str::from_utf8;
 
@@ -24,13 +24,20 @@ pub(crate) struct Page<'p> {
     pub(crate) labels: PageLabels<'p>,
 }
 
+/// What has been printed, and what finds the inlines of each block in memory that it uses again.
+#[derive(Drop)]
+pub(crate) struct Output {
+    pub(crate) text: String,
+    pub(crate) finder: InlineFinder,
+}
+
 impl<'p> Page<'p> {
     /// Adds what is printed of the events of a block, in these containers and with this content. Its
     /// first line goes on with so many of them.
     pub(crate) fn push_block(
         &self,
         alloc: Global,
-        text: &mut String,
+        out: &mut Output,
         kept: usize,
         containers: &[Container],
         content: &[u8],
@@ -38,11 +45,11 @@ impl<'p> Page<'p> {
     ) -> Result<(), AllocError>
         ensures { OnOk result (HasPrinted (labels_of self.now.labels.definitions) self.now.bytes.now
             containers.now kept content.now events.entry
-            (string_bytes text.old) (string_bytes text.new)) }
+            (string_bytes out.old.text) (string_bytes out.new.text)) }
     {
         let mut going_on = kept;
         while let Some(event) = events.next(containers, content) {
-            going_on = self.push_event(alloc, text, going_on, containers, event)?;
+            going_on = self.push_event(alloc, out, going_on, containers, event)?;
         }
         Ok(())
     }
@@ -52,13 +59,13 @@ impl<'p> Page<'p> {
     fn push_event(
         &self,
         alloc: Global,
-        text: &mut String,
+        out: &mut Output,
         kept: usize,
         containers: &[Container],
         event: BlockEvent,
     ) -> Result<usize, AllocError>
         ensures { IfOk result (λ going_on. (here : List ℕ)
-            × (string_bytes text.new ≡ string_bytes text.old ++ here)
+            × (string_bytes out.new.text ≡ string_bytes out.old.text ++ here)
             × ((later : List Event) (more : List ℕ)
             → IsEventsText (labels_of self.now.labels.definitions) self.now.bytes.now
             containers.now going_on later more
@@ -67,7 +74,7 @@ impl<'p> Page<'p> {
     {
         match event {
             BlockEvent::Block(leaf) => {
-                self.push_leaf(alloc, text, kept, containers, leaf)?;
+                self.push_leaf(alloc, out, kept, containers, leaf)?;
                 Ok(containers.len())
             }
             BlockEvent::Start(..) => Ok(kept),
@@ -80,7 +87,7 @@ impl<'p> Page<'p> {
     fn push_leaf(
         &self,
         alloc: Global,
-        text: &mut String,
+        out: &mut Output,
         kept: usize,
         containers: &[Container],
         leaf: Leaf,
@@ -88,53 +95,55 @@ impl<'p> Page<'p> {
         ensures { OnOk result ((here : List ℕ)
             × IsLeafText (labels_of self.now.labels.definitions) self.now.bytes.now
             containers.now kept (seen_leaf leaf.entry) here
-            × (string_bytes text.new ≡ string_bytes text.old ++ here)) }
+            × (string_bytes out.new.text ≡ string_bytes out.old.text ++ here)) }
     {
         if !has_inlines(leaf.kind) {
             return Ok(());
         }
-        push_block_line(text, containers.len(), leaf)?;
+        push_block_line(&mut out.text, containers.len(), leaf)?;
         let lines = part_of(self.bytes, leaf.start, leaf.start + leaf.bytes);
         let content = content_of(alloc, lines, leaf.kind, containers, kept)?;
-        self.push_content(alloc, text, leaf.start, &content)
+        self.push_content(alloc, out, leaf.start, &content)
     }
 
     // Adds the lines of the inlines of a content, before whose block so many bytes of the page stand.
     fn push_content(
         &self,
         alloc: Global,
-        text: &mut String,
+        out: &mut Output,
         start: usize,
         content: &Content,
     ) -> Result<(), AllocError>
         requires { length content.now.places ≡ length content.now.text }
         ensures { OnOk result ((lines : List ℕ)
             × AreContentLines (labels_of self.now.labels.definitions) start content.now lines
-            × (string_bytes text.new ≡ string_bytes text.old ++ lines)) }
+            × (string_bytes out.new.text ≡ string_bytes out.old.text ++ lines)) }
     {
         match from_utf8(content.text()) {
             Ok(words) => {
-                let found = find_inlines(alloc, words, &self.labels, InlineExtensions::none())?;
-                push_inlines(text, start, content, &found)
+                let asked = InlineExtensions::none();
+                out.finder.find(alloc, words, &self.labels, asked)?;
+                push_inlines(&mut out.text, start, content, &out.finder)
             }
-            Err(_) => text.push_str("  not UTF-8\n"),
+            Err(_) => out.text.push_str("  not UTF-8\n"),
         }
     }
 }
 
-// Adds the line of each of these inlines of a content.
+// Adds the line of each of the inlines of a content that have been found.
 fn push_inlines(
     text: &mut String,
     start: usize,
     content: &Content,
-    found: &Inlines,
+    found: &InlineFinder,
 ) -> Result<(), AllocError>
     requires { length content.now.places ≡ length content.now.text }
     ensures { OnOk result (string_bytes text.new ≡ string_bytes text.old
-        ++ flat_map (inline_line start content.now found.now.links.items) found.now.inlines.items) }
+        ++ flat_map (inline_line start content.now found.now.links) found.now.inlines) }
 {
-    for inline in &found.inlines {
-        push_inline(text, start, content, &found.links, *inline)?;
+    let links = found.links();
+    for inline in found.inlines() {
+        push_inline(text, start, content, links, *inline)?;
     }
     Ok(())
 }

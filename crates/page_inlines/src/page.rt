@@ -2,17 +2,18 @@
 ghost use Rattle.std.specs.Prelude.{IfOk, string_bytes};
 ghost use Rattle.page_inlines.specs.page.Printed.{IsPrinted};
 
-use crate::blocks::Page;
+use crate::blocks::{Output, Page};
 use crate::labels::PageLabels;
 use markdown_blocks::events::BlockEvents;
 use markdown_blocks::taken::Taken;
 use markdown_blocks::walk::Walk;
+use markdown_inlines::inlines::InlineFinder;
 use std::alloc::{AllocError, Global};
 
 /// The lines that are printed of a page: for each block that has inlines its own, and then one for
 /// each of its inlines, as `HELP` has them.
 ///
-/// Memory is asked for by these lines, and as by `content_of` and `find_inlines`.
+/// Memory is asked for by these lines, and as by `content_of` and `InlineFinder::find`.
 ///
 /// # Errors
 ///
@@ -24,7 +25,10 @@ pub fn lines_of_page(alloc: Global, page: &[u8]) -> Result<String, AllocError>
         bytes: page,
         labels: PageLabels::of_page(alloc, page)?,
     };
-    let mut text = String::new(alloc);
+    let mut out = Output {
+        text: String::new(alloc),
+        finder: InlineFinder::new(alloc),
+    };
     let mut walk = Walk::new(alloc);
     let mut content = Vec::new(alloc);
     let mut lines = 0;
@@ -33,11 +37,12 @@ pub fn lines_of_page(alloc: Global, page: &[u8]) -> Result<String, AllocError>
         let before = Taken { lines, bytes };
         let depth = walk.containers().len();
         let Some(step) = walk.next_block(alloc, &mut content, &page[bytes..], true)? else {
+            let Output { text, .. } = out;
             return Ok(text);
         };
         let (kept, taken) = (step.kept, step.block.taken);
         let events = BlockEvents::new(step, before, depth);
-        printed.push_block(alloc, &mut text, kept, walk.containers(), &content, events)?;
+        printed.push_block(alloc, &mut out, kept, walk.containers(), &content, events)?;
         lines += taken.lines;
         bytes += taken.bytes;
     }

@@ -4,22 +4,22 @@ use Rattle.std.proofs.Common.{take, drop, get_or}
 use Rattle.std.proofs.Common.{refl, sym, ap, ◌∙◌, subst, arith, inl, inr, Some}
 use Rattle.std.specs.List.{prefix_len}
 use Rattle.std.proofs.lemmas.Bool.{cases_Bool, cases_lt, eqb-true, and_parts}
-use Rattle.std.proofs.lemmas.List.{drop_more, drop-drop, get_or-drop, length-drop}
+use Rattle.std.proofs.lemmas.List.{drop_more, drop-drop, get_or-drop, length-append, length-drop}
 use Rattle.std.proofs.Math.ListN.{get_or-eq_default}
 use Rattle.std.proofs.lemmas.List.Sums.{prefix_len_is, prefix_len_passes, prefix_len_stops, prefix_len-le-length}
-use Rattle.markdown_scanners_tree.specs.Bytes.{begins_with, line_ending}
+use Rattle.markdown_scanners_tree.specs.Bytes.{begins_with, is_line_ending, line_ending}
 use Rattle.markdown_scanners_tree.proofs.ForCallers.{first-line_ending}
 use Rattle.markdown_scanners_tree.proofs.PrefixLemmas.{from_place}
 use Rattle.markdown_inlines.specs.LineBreaks.{IsLineBreak}
-use Rattle.markdown_inlines.specs.PieceBytes.{is_plain, is_word_space, opens_break, plain_length, run_length}
+use Rattle.markdown_inlines.specs.PieceBytes.{is_before_ending, is_plain, is_word_space, plain_length, run_length}
 use Rattle.markdown_inlines.specs.Pieces.{BeginsAt, HasOnlyText}
 use Rattle.markdown_inlines.specs.declared.extensions.InlineExtensions.{InlineExtensions}
 use Rattle.markdown_inlines.specs.declared.line_breaks.LineBreak.{LineBreak}
 use Rattle.markdown_inlines.specs.declared.pieces.PieceKind.{PieceKind}
 use Rattle.markdown_inlines.specs.declared.pieces.PieceKind.TheVariants.{HardBreak, SoftBreak}
 use Rattle.markdown_inlines.proofs.line_breaks.LineBreakLemmas.{before_is_hard, before_length, before_only, break_found}
-use Rattle.markdown_inlines.proofs.pieces.Openings.{begins_class, break_byte_class, byte_class, not_false_true}
-use Rattle.markdown_inlines.proofs.pieces.Openings.{only_break, only_code, plain_begins_none, plain_class}
+use Rattle.markdown_inlines.proofs.pieces.Openings.{begins_class, byte_class, not_false_true}
+use Rattle.markdown_inlines.proofs.pieces.Openings.{only_break, only_code, plain_begins_none}
 
 abbrev is_byte : ℕ → ℕ → Bool
 is_byte byte b = b == byte
@@ -47,35 +47,30 @@ run_stops test bytes place inside =
 spaced_length : (text rest : List ℕ) → text ≡ 32 ∷ rest → before_length text ≡ prefix_len (λ b. b == 32) text
 spaced_length text rest is = subst (λ t. before_length t ≡ prefix_len (λ b. b == 32) t) (sym is) refl
 
-not_space : (b : ℕ) → is_plain b ≡ true → (b == 32) ≡ false
-not_space b plain = elim (cases_Bool (b == 32)) [
-  | inl is ↦ absurd (let lost : true ≡ false = sym plain ∙ ap is_plain (eqb-true b 32 is) in cc)
-  | inr not ↦ not
-]
+not_true : (b : Bool) → not b ≡ true → b ≡ false
+not_true true e = cc
+not_true false e = refl
 
-no_spaces : (rest : List ℕ) → begins_with is_plain rest ≡ true → prefix_len (λ b. b == 32) rest ≡ 0
-no_spaces [] plain = refl
-no_spaces (b ∷ bs) plain = rw (not_space b plain) refl
-
-no_ending : (rest : List ℕ) (ending : ℕ) → begins_with is_plain rest ≡ true → line_ending rest ≡ Some ending → ⊥
-no_ending [] ending plain ends = let lost : true ≡ false = sym plain in cc
-no_ending (b ∷ bs) ending plain ends =
-    let opens : opens_break b ≡ true =
-    not_false_true (opens_break b) (first-line_ending (λ c. not (opens_break c)) refl refl (b ∷ bs) ending ends) in
-    omega (arith, sym (plain_class b plain) ∙ break_byte_class b opens)
+ending_begins : (rest : List ℕ) (ending : ℕ) → line_ending rest ≡ Some ending → 0 < length rest → begins_with is_line_ending rest ≡ true
+ending_begins [] ending ends some = absurd (omega (arith, some))
+ending_begins (b ∷ bs) ending ends some =
+    not_false_true (is_line_ending b) (first-line_ending (λ c. not (is_line_ending c)) refl refl (b ∷ bs) ending ends)
 
 -- no line break begins with a space between words
-no_break : (text rest : List ℕ) → text ≡ 32 ∷ rest → begins_with is_plain rest ≡ true → (break : LineBreak) → IsLineBreak text break → ⊥
-no_break text rest parts plain break is =
+no_break : (text rest : List ℕ) → text ≡ 32 ∷ rest → is_before_ending rest ≡ false → (break : LineBreak) → IsLineBreak text break → ⊥
+no_break text rest parts goes_on break is =
+    let m = prefix_len (λ b. b == 32) rest in
     let only = before_only text is.before is.after is.ending break.is_hard is.parts is.is_before is.ends in
-    let one : before_length text ≡ 1 =
-    spaced_length text rest parts ∙ ap (prefix_len (λ b. b == 32)) parts ∙ ap (λ n. 1 + n) (no_spaces rest plain) in
-    let after : is.after ≡ rest = only.1 ∙ ap (λ k. drop k text) one ∙ ap (drop 1) parts in
-    no_ending rest is.ending plain (ap line_ending (sym after) ∙ is.ends)
+    let spaces : before_length text ≡ 1 + m = spaced_length text rest parts ∙ ap (prefix_len (λ b. b == 32)) parts in
+    let one_more : before_length text ≡ suc m = omega (arith, spaces) in
+    let after : is.after ≡ drop m rest = only.1 ∙ ap (λ k. drop k text) one_more ∙ ap (drop (suc m)) parts in
+    let some : 0 < length is.after = omega (arith, is.counted, is.goes_on, ap length is.parts, length-append is.before is.after) in
+    let lost : true ≡ false = sym (ending_begins is.after is.ending is.ends some) ∙ ap (begins_with is_line_ending) after ∙ goes_on in
+    cc
 
-word_space_none : (asked : InlineExtensions) (bytes : List ℕ) (from p : ℕ) → get_or bytes p 0 ≡ 32 → begins_with is_plain (drop (p + 1) bytes) ≡ true
+word_space_none : (asked : InlineExtensions) (bytes : List ℕ) (from p : ℕ) → get_or bytes p 0 ≡ 32 → is_before_ending (drop (p + 1) bytes) ≡ false
     → (kind : PieceKind) (len : ℕ) → ¬ BeginsAt asked bytes from p kind len
-word_space_none asked bytes from p here plain kind len begins =
+word_space_none asked bytes from p here goes_on kind len begins =
     let inside : p < length bytes = elim (cases_lt p (length bytes)) [
       | inl is ↦ is
       | inr past ↦ absurd (omega (arith, here, get_or-eq_default bytes 0 past))
@@ -86,15 +81,15 @@ word_space_none asked bytes from p here plain kind len begins =
     (λ is.
     let first = sym (ap (λ t. get_or t 0 0) parts) ∙ ap (λ t. get_or t 0 0) is.parts in
     omega (arith, first))
-    (λ is. no_break (drop p bytes) (drop (p + 1) bytes) parts plain _ is)
-    (λ is. no_break (drop p bytes) (drop (p + 1) bytes) parts plain _ is) begins
+    (λ is. no_break (drop p bytes) (drop (p + 1) bytes) parts goes_on _ is)
+    (λ is. no_break (drop p bytes) (drop (p + 1) bytes) parts goes_on _ is) begins
 
 -- what stands at a byte of those that are passed over
-abbrev IsPassed : List ℕ → ℕ → Type 0
+abbrev pub IsPassed : List ℕ → ℕ → Type 0
 IsPassed bytes j =
-    (is_plain (get_or bytes j 0) ≡ true) ⊎ ((get_or bytes j 0 ≡ 32) × (begins_with is_plain (drop (suc j) bytes) ≡ true))
+    (is_plain (get_or bytes j 0) ≡ true) ⊎ ((get_or bytes j 0 ≡ 32) × (is_before_ending (drop (suc j) bytes) ≡ false))
 
-passed_first : (b : ℕ) (bs : List ℕ) → (is_plain b || is_word_space b bs) ≡ true → IsPassed (b ∷ bs) 0
+pub passed_first : (b : ℕ) (bs : List ℕ) → (is_plain b || is_word_space b bs) ≡ true → IsPassed (b ∷ bs) 0
 passed_first b bs passes = elim (cases_Bool (is_plain b)) [
   | inl plain ↦ inl plain
   | inr not_plain ↦ spaced (ap (λ x. x || is_word_space b bs) (sym not_plain) ∙ passes)
@@ -102,8 +97,8 @@ passed_first b bs passes = elim (cases_Bool (is_plain b)) [
   where
     spaced : is_word_space b bs ≡ true → IsPassed (b ∷ bs) 0
     spaced is =
-        let parts = and_parts (b == 32) (begins_with is_plain bs) is in
-        inr (eqb-true b 32 parts.0, parts.1)
+        let parts = and_parts (b == 32) (not (is_before_ending bs)) is in
+        inr (eqb-true b 32 parts.0, not_true (is_before_ending bs) parts.1)
 
 passed_at : (bytes : List ℕ) (j : ℕ) → j < plain_length bytes → IsPassed bytes j
 passed_at [] j inside = absurd (omega (arith, inside))
@@ -128,7 +123,7 @@ module _ (bytes : List ℕ) (place plain : ℕ) (counted : plain ≡ plain_lengt
       let after = drop-drop (suc (p - place)) place bytes ∙ ap (λ k. drop k bytes) next in
       elim (passed_at (drop place bytes) (p - place) (omega (arith, low, high, all))) [
         | inl is ↦ inl (ap is_plain (sym here) ∙ is)
-        | inr is ↦ inr (sym here ∙ is.0, ap (begins_with is_plain) (sym after) ∙ is.1)
+        | inr is ↦ inr (sym here ∙ is.0, ap is_before_ending (sym after) ∙ is.1)
       ]
 
   plain_none : (asked : InlineExtensions) (from p : ℕ) → place ≤ p → p < place + plain → (kind : PieceKind) (len : ℕ) → ¬ BeginsAt asked bytes from p kind len
@@ -136,7 +131,7 @@ module _ (bytes : List ℕ) (place plain : ℕ) (counted : plain ≡ plain_lengt
       let next : p + 1 ≡ suc p = omega arith in
       elim (case_at p low high) [
         | inl is ↦ plain_begins_none asked bytes from p is kind len
-        | inr is ↦ word_space_none asked bytes from p is.0 (ap (λ k. begins_with is_plain (drop k bytes)) next ∙ is.1) kind len
+        | inr is ↦ word_space_none asked bytes from p is.0 (ap (λ k. is_before_ending (drop k bytes)) next ∙ is.1) kind len
       ]
 
   -- none is a backtick or a `<`

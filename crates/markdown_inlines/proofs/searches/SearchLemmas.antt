@@ -5,6 +5,7 @@ use Rattle.std.specs.Prelude.{◌==◌, IfSome, IfNone, is_none, unwrap_or, if�
 use Rattle.std.specs.List.{prefix_len}
 use Rattle.std.proofs.lemmas.Bool.{cases_lt, eq-eqb, ne_eqb, ltb-false}
 use Rattle.std.proofs.lemmas.List.{drop_more, get_or-drop}
+use Rattle.std.proofs.lemmas.List.Sums.{prefix_len-drop_yes}
 use Rattle.markdown_scanners_tree.specs.Ascii.{exclamation_mark, question_mark}
 use Rattle.markdown_scanners_tree.specs.declared.inline_html.HtmlStop.{HtmlStop}
 use Rattle.markdown_scanners_tree.specs.SomeExactly.{SomeExactly}
@@ -14,8 +15,8 @@ use Rattle.markdown_scanners_tree.proofs.ForCallers.{accepted, opener-bounds, op
 use Rattle.markdown_inlines.specs.Inlines.{text_between}
 use Rattle.markdown_inlines.specs.PieceBytes.{run_length}
 use Rattle.markdown_inlines.specs.Pieces.{BeginsAt}
-use Rattle.markdown_inlines.specs.Searches.{Searched, IsSearchedTo, bytes_passed, byte_searched, html_searched, kind_searched, next_searched, pieces_searched}
-use Rattle.markdown_inlines.specs.Searches.{text_searched}
+use Rattle.markdown_inlines.specs.Searches.{Searched, IsSearchedTo, backticks_searched, bytes_passed, bytes_read, byte_searched, html_searched, kind_searched}
+use Rattle.markdown_inlines.specs.Searches.{next_searched, pieces_searched, text_searched}
 use Rattle.markdown_inlines.specs.declared.extensions.InlineExtensions.{InlineExtensions}
 use Rattle.markdown_inlines.specs.declared.pieces.Piece.{Piece}
 use Rattle.markdown_inlines.specs.declared.pieces.PieceKind.{PieceKind}
@@ -24,10 +25,15 @@ use Rattle.markdown_inlines.proofs.pieces.Openings.{html_front, mark_front, mark
 use Rattle.markdown_inlines.proofs.pieces.TextRuns.{run_byte, run_cases}
 
 -- ---- how far
+read_later : (read : Option ℕ) (p q : ℕ) → p ≤ q → IfSome read (λ from. from ≤ p) → IfSome read (λ from. from ≤ q)
+read_later None p q le is = tt
+read_later (Some from) p q le is = omega (arith, is, le)
+
 pub searched_later : (p q : ℕ) (s : Searched) → p ≤ q → IsSearchedTo p s → IsSearchedTo q s
 searched_later p q s le is = record {
   fits = is.fits;
   codes_once = omega (arith, is.codes_once, le);
+  read_before = read_later s.read p q (omega (arith, le)) is.read_before;
   last_before = omega (arith, is.last_before, le);
   found_before = omega (arith, is.found_before, le);
   apart = is.apart;
@@ -39,11 +45,29 @@ pub searched_codes : (p q n : ℕ) (s : Searched) → p + n ≤ q → IsSearched
 searched_codes p q n s le is = record {
   fits = is.fits;
   codes_once = omega (arith, is.codes_once, le);
+  read_before = read_later s.read p q (omega (arith, le)) is.read_before;
   last_before = omega (arith, is.last_before, le);
   found_before = omega (arith, is.found_before, le);
   apart = is.apart;
   opener = is.opener;
 }
+
+-- a backtick string in text
+pub searched_backticks : (p q n : ℕ) (s : Searched) → p + n ≤ q → IsSearchedTo p s → IsSearchedTo q (backticks_searched s.html.text p n s)
+searched_backticks p q n s le is = by s.read refl
+  where
+    by : (read : Option ℕ) → s.read ≡ read
+        → IsSearchedTo q (cond (is_none read) (record s { codes = s.codes + (length s.html.text - p) + n; read = Some p }) (record s { codes = s.codes + n }))
+    by (Some from) known = searched_codes p q n s le is
+    by None unread = record {
+      fits = is.fits;
+      codes_once = omega (arith, le, is.codes_once, ap (bytes_read s.html.text) unread);
+      read_before = omega (arith, le);
+      last_before = omega (arith, is.last_before, le);
+      found_before = omega (arith, is.found_before, le);
+      apart = is.apart;
+      opener = is.opener;
+    }
 
 -- the mark of an opener
 opener_mark : (text : List ℕ) (p mark : ℕ) → opener_before text p ≡ Some mark
@@ -115,6 +139,7 @@ html_stays_by place q s None e is here less found = searched_later place q s (om
 html_stays_by place q s (Some mark) e is here less found = record {
   fits = is.fits;
   codes_once = omega (arith, is.codes_once, less);
+  read_before = read_later s.read place q (omega (arith, less)) is.read_before;
   last_before = omega (arith, less);
   found_before = find_end_by (find_at s.html.text (place + 2)) found;
   apart = omega (arith, apart_steps place s is here);
@@ -138,7 +163,11 @@ searched_budget place s within is budget =
       | inl none ↦ omega (arith, none)
       | inr there ↦ (let mark = opener-there s.html.text s.html.last there in (opener-bounds s.html.text s.html.last mark.0 mark.1).1)
     ] in
-    omega (arith, last, within, is.apart, is.codes_once, budget.whole)
+    omega (arith, last, within, is.apart, is.codes_once, budget.whole, read_once s.html.text s.read)
+  where
+    read_once : (text : List ℕ) (read : Option ℕ) → bytes_read text read ≤ length text
+    read_once text None = omega arith
+    read_once text (Some from) = omega arith
 
 -- ---- byte by byte
 -- no search is made at a byte other than a `<`
@@ -163,8 +192,13 @@ pub byte_angle : (text : List ℕ) (place : ℕ) (s : Searched) → get_or text 
 byte_angle text place s here = rw (ne_eqb (get_or text place 0) 96 (λ tick. omega (arith, here, tick))) refl
 
 byte_tick : (text : List ℕ) (place : ℕ) (s : Searched) → get_or text place 0 ≡ 96
-    → byte_searched text place s ≡ record s { codes = s.codes + 1 }
+    → byte_searched text place s ≡ backticks_searched text place 1 s
 byte_tick text place s here = rw (eq-eqb (get_or text place 0) 96 here) refl
+
+-- where the text has been read
+backticks_known : (text : List ℕ) (place n : ℕ) (s : Searched) → is_none s.read ≡ false
+    → backticks_searched text place n s ≡ record s { codes = s.codes + n }
+backticks_known text place n s known = rw known refl
 
 -- bytes that are neither backticks nor `<`
 pub quiet : (text : List ℕ) (n place : ℕ) (s : Searched)
@@ -176,14 +210,35 @@ quiet text (suc n) place s others =
     ∙ quiet text n (suc place) s (λ p low high. others p (omega (arith, low)) (omega (arith, high)))
 
 -- backticks
-pub ticks : (text : List ℕ) (n place : ℕ) (s : Searched) → ((p : ℕ) → place ≤ p → p < place + n → get_or text p 0 ≡ 96)
+known_ticks : (text : List ℕ) (n place : ℕ) (s : Searched) → is_none s.read ≡ false → ((p : ℕ) → place ≤ p → p < place + n → get_or text p 0 ≡ 96)
     → text_searched text place n s ≡ record s { codes = s.codes + n }
-ticks text zero place s all = ap (λ k. record s { codes = k }) (sym (add-zero s.codes))
-ticks text (suc n) place s all =
+known_ticks text zero place s known all = ap (λ k. record s { codes = k }) (sym (add-zero s.codes))
+known_ticks text (suc n) place s known all =
     let sum : s.codes + 1 + n ≡ s.codes + suc n = omega arith in
-    ap (text_searched text (suc place) n) (byte_tick text place s (all place (omega arith) (omega arith)))
-    ∙ (ticks text n (suc place) (record s { codes = s.codes + 1 }) (λ p low high. all p (omega (arith, low)) (omega (arith, high)))
+    ap (text_searched text (suc place) n) (byte_tick text place s (all place (omega arith) (omega arith)) ∙ backticks_known text place 1 s known)
+    ∙ (known_ticks text n (suc place) (record s { codes = s.codes + 1 }) known (λ p low high. all p (omega (arith, low)) (omega (arith, high)))
     ∙ ap (λ k. record s { codes = k }) sum)
+
+pub ticks : (text : List ℕ) (n place : ℕ) (s : Searched) → 0 < n → ((p : ℕ) → place ≤ p → p < place + n → get_or text p 0 ≡ 96)
+    → text_searched text place n s ≡ backticks_searched text place n s
+ticks text zero place s some all = absurd (omega (arith, some))
+ticks text (suc n) place s some all =
+    ap (text_searched text (suc place) n) (byte_tick text place s (all place (omega arith) (omega arith))) ∙ by s.read refl
+  where
+    rest : (p : ℕ) → suc place ≤ p → p < suc place + n → get_or text p 0 ≡ 96
+    rest p low high = all p (omega (arith, low)) (omega (arith, high))
+
+    by : (read : Option ℕ) → s.read ≡ read
+        → text_searched text (suc place) n
+        (cond (is_none read) (record s { codes = s.codes + (length text - place) + 1; read = Some place }) (record s { codes = s.codes + 1 }))
+        ≡ cond (is_none read) (record s { codes = s.codes + (length text - place) + suc n; read = Some place }) (record s { codes = s.codes + suc n })
+    by None unread =
+        let sum : s.codes + (length text - place) + 1 + n ≡ s.codes + (length text - place) + suc n = omega arith in
+        known_ticks text n (suc place) (record s { codes = s.codes + (length text - place) + 1; read = Some place }) refl rest
+        ∙ ap (λ k. record s { codes = k; read = Some place }) sum
+    by (Some from) known =
+        let sum : s.codes + 1 + n ≡ s.codes + suc n = omega arith in
+        known_ticks text n (suc place) (record s { codes = s.codes + 1 }) (ap is_none known) rest ∙ ap (λ k. record s { codes = k }) sum
 
 -- two parts of the text
 pub parts_joined : (text : List ℕ) (m n place : ℕ) (s : Searched)
@@ -229,10 +284,12 @@ module _ (text : List ℕ) (place : ℕ) (low : place < length text) where
 
   -- a backtick string
   pub run_searched_ticks : (s : Searched) → get_or text place 0 ≡ 96
-      → text_searched text place (run_length (drop place text)) s ≡ record s { codes = s.codes + run_length (drop place text) }
+      → text_searched text place (run_length (drop place text)) s ≡ backticks_searched text place (run_length (drop place text)) s
   run_searched_ticks s tick =
       let counted = run_ticks tick (run_length (drop place text)) refl in
-      ticks text (run_length (drop place text)) place s (λ p low high. run_byte 96 text place p low (omega (arith, counted, high)))
+      let some = prefix_len-drop_yes (λ c. c == 96) text place 0 low (eq-eqb (get_or text place 0) 96 tick) in
+      ticks text (run_length (drop place text)) place s (omega (arith, counted, some))
+      (λ p low high. run_byte 96 text place p low (omega (arith, counted, high)))
 
   -- a `<`
   pub run_searched_angle : (s : Searched) → get_or text place 0 ≡ 60

@@ -14,17 +14,22 @@ strings_alone : bytes_searched (codes "`a``b```c") (record { kind = K.Text; star
 unfolding computing
 strings_alone = refl
 
--- a code span
-one_span : bytes_searched (codes "`a` ``b") (record { kind = K.Code 1; start = 0; end = 3 } ∷ record { kind = K.Text; start = 3; end = 7 } ∷ []) ≡ 12
+-- text without backticks, of which none is read for its last ones
+no_backticks : bytes_searched (codes "a *b*") (record { kind = K.Text; start = 0; end = 5 } ∷ []) ≡ 0
+unfolding computing
+no_backticks = refl
+
+-- a code span, and a string that is read to the end of the text
+one_span : bytes_searched (codes "`a` ``b") (record { kind = K.Code 1; start = 0; end = 3 } ∷ record { kind = K.Text; start = 3; end = 7 } ∷ []) ≡ 8
 unfolding computing
 one_span = refl
 
 -- processing instructions, of which the first is searched for in vain
-instructions : bytes_searched (codes "<?a<?a<?a") (record { kind = K.Text; start = 0; end = 9 } ∷ []) ≡ 16
+instructions : bytes_searched (codes "<?a<?a<?a") (record { kind = K.Text; start = 0; end = 9 } ∷ []) ≡ 7
 unfolding computing
 instructions = refl
 
 -- two comments, of which the second isn't closed
-comments : bytes_searched (codes "<!--a--><!--b") (record { kind = K.Html; start = 0; end = 8 } ∷ record { kind = K.Text; start = 8; end = 13 } ∷ []) ≡ 26
+comments : bytes_searched (codes "<!--a--><!--b") (record { kind = K.Html; start = 0; end = 8 } ∷ record { kind = K.Text; start = 8; end = 13 } ∷ []) ≡ 13
 unfolding computing
 comments = refl

@@ -3,7 +3,7 @@ use Rattle.std.proofs.Common.{ℕ, List, [], ◌∷◌, ◌++◌, ◌+◌, ◌-�
 use Rattle.std.specs.List.{concat}
 use Rattle.markdown_scanners_tree.specs.scanners.TextLines.{lines_of}
 use Rattle.markdown_blocks.specs.blocks.Pages.{Piece, IsPiece, AreBlocks, lines_in, root}
-use Rattle.markdown_blocks.specs.containers.Containers.{Outer, behind, no_extensions}
+use Rattle.markdown_blocks.specs.containers.Containers.{Between, behind, no_extensions}
 use Rattle.markdown_blocks.specs.declared.step.Step.{Step}
 use Rattle.markdown_blocks.specs.declared.taken.Taken.{Taken}
 use Rattle.markdown_blocks.specs.events.Events.{Event, LeafBlock, piece_events}
@@ -17,13 +17,13 @@ use Rattle.page_inlines.specs.page.Printed.{AreLabelsOf, IsLeavesText, IsPiecesT
 use Rattle.page_inlines.proofs.blocks.BlockLemmas.{leaves_text}
 
 -- what is printed of the blocks that are left of a page, where these containers are open, and so many lines and bytes stand before
-pub record LeftText (known : Known) (page : List ℕ) (line start : ℕ) (open_now : Outer) (rest text : List ℕ) : Type 0 where
+pub record LeftText (known : Known) (page : List ℕ) (line start : ℕ) (open_now : Between) (rest text : List ℕ) : Type 0 where
   pub pieces : List Piece
   pub joined : lines_in pieces ≡ lines_of rest
   pub each : AreBlocks open_now pieces []
   pub is_text : IsPiecesText known page line start pieces text
 
-pub none_left : (known : Known) (page : List ℕ) (line start : ℕ) (open_now : Outer) (rest : List ℕ) → rest ≡ []
+pub none_left : (known : Known) (page : List ℕ) (line start : ℕ) (open_now : Between) (rest : List ℕ) → rest ≡ []
     → LeftText known page line start open_now rest []
 none_left known page line start open_now rest none = record { pieces = []; joined = sym (ap lines_of none); each = tt; is_text = refl }
 
@@ -36,14 +36,14 @@ whole_page known page text labels left = record {
   is_text = left.is_text;
 }
 
-module _ (known : Known) (page : List ℕ) (old new : Outer) (lines : List ℕ) (step : Step) (s : IsStep old lines [] step new) (before : Taken)
+module _ (known : Known) (page : List ℕ) (old new : Between) (lines : List ℕ) (step : Step) (s : IsStep old lines [] step new) (before : Taken)
     (content : List ℕ) (gathered : IsContentOf step new.containers content) where
   block_leaves : (events : List Event) (here : List ℕ) (leaves : List LeafBlock)
       → events ≡ piece_events old.containers before.bytes s.piece leaves → IsEventsText known page new.containers step.kept events here
       → IsLeavesText known page (s.piece.kept ++ s.piece.begun) (length s.piece.kept) leaves here
   block_leaves events here leaves given is =
       subst (λ n. IsLeavesText known page (s.piece.kept ++ s.piece.begun) n leaves here) s.counted
-      (subst (λ (o : Outer). IsLeavesText known page o.containers step.kept leaves here) s.open_now
+      (subst (λ (o : Between). IsLeavesText known page o.containers step.kept leaves here) s.open_now
       (leaves_text known page new.containers (length old.containers - length s.piece.kept) before.bytes (behind old.containers s.piece.first).state
       s.piece.begun leaves step.kept here
       (subst (λ es. IsEventsText known page new.containers step.kept es here) given is)))

@@ -1,5 +1,5 @@
-use Rattle.std.proofs.Common.{◌≡◌, ◌+◌, ◌-◌, ◌<◌, sym, ap, ◌∙◌, subst, arith, drop, get_or, length}
-use Rattle.std.specs.Prelude.{IfSome, IfNone}
+use Rattle.std.proofs.Common.{◌≡◌, ◌+◌, ◌-◌, ◌<◌, Err, Ok, sym, ap, ◌∙◌, subst, arith, drop, get_or, length}
+use Rattle.std.specs.Prelude.{IfOk, IfSome, IfNone, Result}
 use Rattle.markdown_scanners_tree.specs.SomeExactly.{SomeExactly}
 use Rattle.markdown_inlines.specs.Pieces.{BeginsAt}
 use Rattle.markdown_inlines.specs.PieceBytes.{run_length}
@@ -7,6 +7,10 @@ use Rattle.markdown_inlines.specs.Searches.{html_searched, kind_searched, text_s
 use Rattle.markdown_inlines.proofs.guarded_code_spans.LastStringLemmas.{IfNone-map}
 use Rattle.markdown_inlines.proofs.searches.SearchLemmas.{none_holds, run_searched_angle, run_searched_other, run_searched_ticks, some_quiet}
 use Rattle.markdown_inlines.proofs.piece_at.piece_at.Goals as goal
+
+IfOk-map : {A E : Type 0} {P Q : A → Type 0} (answer : Result A E) → ((a : A) → P a → Q a) → IfOk answer P → IfOk answer Q
+IfOk-map (Ok a) holds is = holds a is
+IfOk-map (Err e) holds is = tt
 
 pub returns-in-60-clause-found : goal.returns-in-60-clause-found
 returns-in-60-clause-found c = λ from apart.
@@ -29,10 +33,11 @@ pub returns-in-60-clause-stays : goal.returns-in-60-clause-stays
 returns-in-60-clause-stays c = λ q less some none. c.angle_at.ensures.stays q less some
 
 pub returns-in-96-clause-found : goal.returns-in-96-clause-found
-returns-in-96-clause-found c = λ from apart.
+returns-in-96-clause-found c = IfOk-map c.code_at.result (λ found is from apart.
     subst (λ t. (from < c.args.place → get_or t (c.args.place - 1) 0 ≡ 96 → ⊥)
-    → SomeExactly (λ r. BeginsAt c.args.extensions t from c.args.place r.0 r.1) c.code_at.result) c.requires.same
-    (c.code_at.ensures.found c.args.extensions from) (apart (ap (λ t. get_or t c.args.place 0) (sym c.as_bytes-bytes.ensures.value) ∙ c.in-96.is))
+    → SomeExactly (λ r. BeginsAt c.args.extensions t from c.args.place r.0 r.1) found) c.requires.same
+    (is c.args.extensions from) (apart (ap (λ t. get_or t c.args.place 0) (sym c.as_bytes-bytes.ensures.value) ∙ c.in-96.is)))
+    c.code_at.ensures.found
 
 pub returns-in-42-clause-found : goal.returns-in-42-clause-found
 returns-in-42-clause-found c = λ from apart. c.delimiters_at.ensures.found c.args.extensions from
@@ -51,8 +56,9 @@ returns-in-96-clause-counts_text c =
     let place = c.args.place in
     let low = subst (λ t. place < length t) (sym c.requires.same) c.requires.within in
     let tick = ap (λ t. get_or t place 0) (c.requires.same ∙ sym c.as_bytes-bytes.ensures.value) ∙ c.in-96.is in
-    subst (λ t. IfNone c.code_at.result (c.code_at.new.searches ≡ text_searched t place (run_length (drop place t)) s)) c.requires.same
-    (IfNone-map c.code_at.result (λ is. is ∙ sym (run_searched_ticks s.html.text place low s tick)) c.code_at.ensures.counts_text)
+    subst (λ t. IfOk c.code_at.result (λ found. IfNone found (c.code_at.new.searches ≡ text_searched t place (run_length (drop place t)) s))) c.requires.same
+    (IfOk-map c.code_at.result (λ found is. IfNone-map found (λ none. none ∙ sym (run_searched_ticks s.html.text place low s tick)) is)
+    c.code_at.ensures.counts_text)
 
 pub returns-in-42-clause-counts : goal.returns-in-42-clause-counts
 returns-in-42-clause-counts c =

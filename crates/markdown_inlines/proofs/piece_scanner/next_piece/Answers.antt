@@ -30,8 +30,9 @@ loop-place-init c =
 
 part : (c : goal.In-Some) → IsPart c.args.text.now c.loop-place.place c.in-Some.len
 part c =
+    let found = rw c.in-Some.is at c.in_ok-found.ensures.found in
     piece_part c.args.extensions c.args.text.now c.args.from c.loop-place.place c.in-Some.kind c.in-Some.len c.loop-place.invariant.1
-    (c.in-Some.ensures.found c.args.from c.loop-place.invariant.3)
+    (found c.args.from c.loop-place.invariant.3)
 
 pub overflow_add-result : goal.overflow_add-result
 overflow_add-result c = let is = part c in omega (arith, is.within, ap length c.as_bytes-bytes.ensures.value)
@@ -41,32 +42,35 @@ returns-in-Some-clause-within c = let is = part c in (omega (arith, is.some), is
 
 pub returns-in-Some-clause-boundary : goal.returns-in-Some-clause-boundary
 returns-in-Some-clause-boundary c =
+    let found = rw c.in-Some.is at c.in_ok-found.ensures.found in
     let is = part c in (
       starts_cut c.args.extensions c.args.text.now c.args.from c.loop-place.place c.in-Some.kind c.in-Some.len
-          (c.in-Some.ensures.found c.args.from c.loop-place.invariant.3) c.loop-place.invariant.1,
+          (found c.args.from c.loop-place.invariant.3) c.loop-place.invariant.1,
       is.cut c.utf8.text,
     )
 
 pub returns-in-Some-clause-found : goal.returns-in-Some-clause-found
-returns-in-Some-clause-found c = record {
+returns-in-Some-clause-found c = let found = rw c.in-Some.is at c.in_ok-found.ensures.found in record {
   len = c.in-Some.len;
   later = c.loop-place.invariant.0;
   only_text = c.loop-place.invariant.2;
-  begins = c.in-Some.ensures.found c.args.from c.loop-place.invariant.3;
+  begins = found c.args.from c.loop-place.invariant.3;
   ends = refl;
 }
 
 pub returns-in-Some-clause-counts : goal.returns-in-Some-clause-counts
 returns-in-Some-clause-counts c =
-    c.in-Some.ensures.counts ∙ ap (kind_searched c.in-Some.kind c.args.text.now c.loop-place.place (c.loop-place.place + c.in-Some.len)) c.loop-place.invariant.6
+    let counts = rw c.in-Some.is at c.in_ok-found.ensures.counts in
+    counts ∙ ap (kind_searched c.in-Some.kind c.args.text.now c.loop-place.place (c.loop-place.place + c.in-Some.len)) c.loop-place.invariant.6
 
 pub returns-in-Some-clause-text : goal.returns-in-Some-clause-text
-returns-in-Some-clause-text c = c.in-Some.ensures.text ∙ (c.loop-place.invariant.4 ∙ sym c.requires.same)
+returns-in-Some-clause-text c = c.in_ok-found.ensures.text ∙ (c.loop-place.invariant.4 ∙ sym c.requires.same)
 
 pub returns-in-Some-clause-searched : goal.returns-in-Some-clause-searched
 returns-in-Some-clause-searched c =
     let is = part c in
-    c.in-Some.ensures.stays (c.loop-place.place + c.in-Some.len) (omega (arith, is.some)) (omega arith) tt
+    let stays = rw c.in-Some.is at c.in_ok-found.ensures.stays in
+    stays (c.loop-place.place + c.in-Some.len) (omega (arith, is.some)) (omega arith) tt
 
 pub returns-clause-counts_text : goal.returns-clause-counts_text
 returns-clause-counts_text c =
@@ -85,6 +89,9 @@ returns-clause-searched_all c =
 
 pub loop-place-preserved : goal.loop-place-preserved
 loop-place-preserved c =
+    let none = rw c.in_default.is at c.in_ok-found.ensures.found in
+    let stays = rw c.in_default.is at c.in_ok-found.ensures.stays in
+    let counts = rw c.in_default.is at c.in_ok-found.ensures.counts_text in
     let from = c.args.from in
     let place = c.loop-place.place in
     let next = c.past_text-place.result in
@@ -100,11 +107,11 @@ loop-place-preserved c =
       omega (arith, told.later, c.loop-place.invariant.0),
       subst (λ t. next ≤ length t) same told.within,
       only c.loop-place.invariant.0 c.loop-place.invariant.2
-          (λ kind len. c.in_default.ensures.found from c.loop-place.invariant.3 (kind, len)),
+          (λ kind len. none from c.loop-place.invariant.3 (kind, len)),
       λ at later before. subst (λ t. get_or t next 0 ≡ 96 → get_or t (next - 1) 0 ≡ 96 → ⊥) same told.apart at before,
-      c.in_default.ensures.text ∙ c.loop-place.invariant.4,
-      c.in_default.ensures.stays next told.later tt past_run,
-      c.in_default.ensures.counts_text
+      c.in_ok-found.ensures.text ∙ c.loop-place.invariant.4,
+      stays next told.later tt past_run,
+      counts
           ∙ (sym (unsearched c.loop-place.searches)
           ∙ (ap (text_searched text place (next - place)) c.loop-place.invariant.6
           ∙ parts_between text from place next c.args.searches.now c.loop-place.invariant.0 (omega (arith, told.later)))),

@@ -6,5 +6,5 @@ use Rattle.page_inlines.proofs.blocks.push_inlines.Given as goal
 
 abbrev pub invariant-loop-inline : goal.invariant-loop-inline
 invariant-loop-inline l =
-    string_bytes l.text ++ flat_map (inline_line l.start l.content l.found.links.items) (drop l.inline-index l.found.inlines.items)
-    ≡ string_bytes l.fn.text ++ flat_map (inline_line l.start l.content l.found.links.items) l.found.inlines.items
+    string_bytes l.text ++ flat_map (inline_line l.start l.content l.links) (drop l.inline-index l.found.inlines)
+    ≡ string_bytes l.fn.text ++ flat_map (inline_line l.start l.content l.links) l.found.inlines

@@ -12,7 +12,7 @@ loop-content-init c = record {
   few = omega arith;
   goes = λ later left.
       let known = labels_of c.in_ok-of_page.field-0.definitions in
-      subst (λ t. IsPrinted c.args.page.now (t ++ later)) (sym c.new-text.ensures.bytes)
+      subst (λ t. IsPrinted c.args.page.now (t ++ later)) (sym c.new.ensures.bytes)
       (whole_page known c.args.page.now later c.in_ok-of_page.ensures
       (subst (λ o. LeftText known c.args.page.now 0 0 o c.args.page.now later) c.new-walk.ensures.none left));
 }
@@ -35,12 +35,13 @@ loop-content-preserved c =
       goes = λ later left.
           let whole = block_text known page c.loop-content.walk c.next_block.new.self (drop c.loop-content.bytes page) c.in-Some.step
           (step [] (λ ended. refl)) (record { lines = c.loop-content.lines; bytes = c.loop-content.bytes; few = c.loop-content.invariant.few })
-          c.next_block.new.content.items gathered (string_bytes c.loop-content.text) (string_bytes c.push_block.new.text) later printed (rw drop-drop left) in
+          c.next_block.new.content.items gathered (string_bytes c.loop-content.out.text) (string_bytes c.push_block.new.out.text)
+          later printed (rw drop-drop left) in
           subst (IsPrinted page) whole.2 (c.loop-content.invariant.goes whole.0 whole.1);
     }
 
 pub returns-in_default : goal.returns-in_default
 returns-in_default c =
     let none = rw (c.in_default.is, slice_behind c.args.page.now c.loop-content.bytes) at c.in_ok-step.ensures.all in
-    subst (IsPrinted c.args.page.now) (append-nil (string_bytes c.loop-content.text))
+    subst (IsPrinted c.args.page.now) (append-nil (string_bytes c.loop-content.out.text))
     (c.loop-content.invariant.goes [] (none_left _ _ _ _ c.loop-content.walk _ (none refl)))

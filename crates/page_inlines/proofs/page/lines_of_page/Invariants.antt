@@ -10,7 +10,7 @@ invariant-loop-content l = record {
   within : l.bytes ≤ length l.page;
   few : l.lines ≤ l.bytes;
   goes : (later : List ℕ) → LeftText (labels_of l.printed.labels.definitions) l.page l.lines l.bytes l.walk (drop l.bytes l.page) later
-      → IsPrinted l.page (string_bytes l.text ++ later);
+      → IsPrinted l.page (string_bytes l.out.text ++ later);
 }
 
 abbrev pub decreases-loop-content : goal.decreases-loop-content

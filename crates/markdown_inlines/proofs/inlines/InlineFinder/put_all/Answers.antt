@@ -2,8 +2,8 @@ use Rattle.markdown_inlines.proofs.inlines.InlineFinder.put_all.Goals as goal
 
 pub returns-clause-inlines : goal.returns-clause-inlines
 returns-clause-inlines g c = record {
-  pieces = c.in_ok-cut.cut.pieces.items;
-  emphasis = c.in_ok-cut.cut.reader.emphasis.items;
-  cut = c.in_ok-cut.ensures.cut;
+  pieces = c.cut_within.new.buffers.pieces.items;
+  emphasis = c.cut_within.new.buffers.reader.emphasis.items;
+  cut = c.in_ok-cut_within.ensures.cut;
   inlines_are = c.in_ok-put_inlines.ensures;
 }

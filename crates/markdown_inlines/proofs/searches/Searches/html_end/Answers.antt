@@ -1,4 +1,5 @@
 use Rattle.std.proofs.Common.{◌+◌, ◌∙◌, sym, arith}
+use Rattle.markdown_inlines.specs.Searches.{Searched}
 use Rattle.markdown_inlines.proofs.searches.SearchLemmas.{html_refused, step_found, step_refused}
 use Rattle.markdown_inlines.proofs.searches.Searches.html_end.Goals as goal
 use Rattle.markdown_inlines.proofs.searches.Searches.html_end.Goals.{in-Ok, in-Err}
@@ -16,6 +17,7 @@ returns-clause-found c =
           )
       | in-Err w ↦ (
           let refused = step_refused c.self.inside.html (c.args.place + 2) _ _ w.in-Err.ensures.answer in
-          w.result-is ∙ sym (html_refused c.args.place (record { codes = c.self.inside.codes_passed; html = c.self.inside.html }) _ is refused)
+          let searched : Searched = record { codes = c.self.inside.codes_passed; read = c.self.inside.read_from; html = c.self.inside.html } in
+          w.result-is ∙ sym (html_refused c.args.place searched _ is refused)
           )
     ])

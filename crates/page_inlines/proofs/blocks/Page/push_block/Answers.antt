@@ -12,12 +12,12 @@ pub loop-event-preserved : goal.loop-event-preserved
 loop-event-preserved c = λ later more gives is.
     let printed = c.in_ok-going_on.ensures in
     subst (λ t. HasPrinted (labels_of c.args.self.now.labels.definitions) c.args.self.now.bytes.now c.args.containers.now c.args.kept c.args.content.now
-    c.args.events (string_bytes c.args.text.now) t)
-    (grown_before (string_bytes c.loop-event.text) printed.0 (string_bytes c.push_event.new.text) more printed.1)
+    c.args.events (string_bytes c.args.out.now.text) t)
+    (grown_before (string_bytes c.loop-event.out.text) printed.0 (string_bytes c.push_event.new.out.text) more printed.1)
     (c.loop-event.invariant (seen_event c.in-Some.event ∷ later) (printed.0 ++ more) (c.in-Some.ensures.event later gives) (printed.2 later more is))
 
 pub returns : goal.returns
 returns c =
     subst (λ t. HasPrinted (labels_of c.args.self.now.labels.definitions) c.args.self.now.bytes.now c.args.containers.now c.args.kept c.args.content.now
-    c.args.events (string_bytes c.args.text.now) t)
-    (append-nil (string_bytes c.loop-event.text)) (c.loop-event.invariant [] [] c.in_default.ensures.none refl)
+    c.args.events (string_bytes c.args.out.now.text) t)
+    (append-nil (string_bytes c.loop-event.out.text)) (c.loop-event.invariant [] [] c.in_default.ensures.none refl)

@@ -11,7 +11,7 @@ invariant-loop-event l =
     (later : List Event) (more : List ℕ) → GivesBlock l.containers l.content l.events later
     → IsEventsText (labels_of l.self.labels.definitions) l.self.bytes.now l.containers l.going_on later more
     → HasPrinted (labels_of l.self.labels.definitions) l.self.bytes.now l.containers l.kept l.content l.fn.events
-    (string_bytes l.fn.text) (string_bytes l.text ++ more)
+    (string_bytes l.fn.out.text) (string_bytes l.out.text ++ more)
 
 abbrev pub decreases-loop-event : goal.decreases-loop-event
 decreases-loop-event l = block_events_left l.containers l.events

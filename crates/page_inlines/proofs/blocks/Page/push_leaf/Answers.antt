@@ -19,7 +19,7 @@ returns c =
     let has : has_inlines c.args.leaf.kind ≡ true = sym c.if-not-has_inlines.ensures in
     let size : (c.args.leaf.start + c.args.leaf.bytes) - c.args.leaf.start ≡ c.args.leaf.bytes = omega arith in
     leaf_printed (labels_of c.args.self.now.labels.definitions) page c.args.containers.now c.args.kept (seen_leaf c.args.leaf) c.in_ok-content.content
-    (string_bytes c.args.text.now) (string_bytes c.push_block_line.new.text) (string_bytes c.push_content.new.text) c.push_content.result has
+    (string_bytes c.args.out.now.text) (string_bytes c.push_block_line.new.text) (string_bytes c.push_content.new.out.text) c.push_content.result has
     (c.in_ok-push_block_line.ensures has)
     (subst (λ bytes. IsContent c.args.leaf.kind c.args.containers.now c.args.kept (lines_of bytes) c.in_ok-content.content)
     (c.part_of-lines.ensures ∙ ap (λ n. take n (drop c.args.leaf.start page)) size) c.in_ok-content.ensures.content)

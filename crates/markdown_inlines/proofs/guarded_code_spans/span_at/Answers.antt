@@ -1,33 +1,34 @@
-use Rattle.std.proofs.Common.{◌∙◌, ap, subst, arith, get_or, ℕ}
+use Rattle.std.proofs.Common.{◌∙◌, ap, subst, arith, ℕ}
 use Rattle.std.specs.List.{prefix_len}
 use Rattle.markdown_scanners_tree.specs.SomeExactly.{SomeExactly, IsOnly}
 use Rattle.markdown_inlines.specs.CodeSpans.{IsCodeSpan, HasNone, is_backtick}
 use Rattle.markdown_inlines.proofs.guarded_code_spans.LastStringLemmas.{no_later, some_later, IfNone-map}
-use Rattle.markdown_inlines.proofs.guarded_code_spans.CodeSpans.scan_counted.Goals as goal
+use Rattle.markdown_inlines.proofs.guarded_code_spans.span_at.Goals as goal
 
 pub returns-then-last_place-place-clause-found : goal.returns-then-last_place-place-clause-found
 returns-then-last_place-place-clause-found c =
-    let text = c.self.inside.text in
+    let text = c.args.text.now in
     let fence = c.front_len-fence.result in
-    rw (← c.self.view_is)
-    (no_later text c.self.inside.lasts.items c.args.place fence c.self.invariant
+    let known = c.requires.known in
+    no_later text known.0 c.args.lasts.now c.args.place fence known.1 known.2
     (c.front_len-fence.ensures.count ∙ ap (prefix_len is_backtick) c.after-rest.ensures)
-    (omega (arith, c.if-last_place-place.true, c.last_place.ensures, ap (λ t. get_or t fence 0) c.deref.ensures.value)))
+    (omega (arith, c.if-last_place-place.true, c.last_place.ensures))
 
 pub returns-clause-found : goal.returns-clause-found
 returns-clause-found c =
-    rw (← c.self.view_is) (subst (λ t. SomeExactly (IsCodeSpan t) c.span_behind.result) c.after-rest.ensures c.span_behind.ensures.found)
+    (subst (λ t. SomeExactly (IsCodeSpan t) c.span_behind.result) c.after-rest.ensures c.span_behind.ensures.found)
 
 pub returns-clause-only : goal.returns-clause-only
 returns-clause-only c =
-    rw (← c.self.view_is) (subst (λ t. IsOnly (IsCodeSpan t) c.span_behind.result) c.after-rest.ensures c.span_behind.ensures.only)
+    (subst (λ t. IsOnly (IsCodeSpan t) c.span_behind.result) c.after-rest.ensures c.span_behind.ensures.only)
 
 pub returns-clause-counts_string : goal.returns-clause-counts_string
 returns-clause-counts_string c =
-    let text = c.self.inside.text in
+    let text = c.args.text.now in
     let fence = c.front_len-fence.result in
-    let later = some_later text c.self.inside.lasts.items c.args.place fence c.self.invariant
+    let known = c.requires.known in
+    let later = some_later text known.0 c.args.lasts.now c.args.place fence known.2
     (c.front_len-fence.ensures.count ∙ ap (prefix_len is_backtick) c.after-rest.ensures)
-    (omega (arith, c.if-last_place-place.false, c.last_place.ensures, ap (λ t. get_or t fence 0) c.deref.ensures.value)) in
+    (omega (arith, c.if-last_place-place.false, c.last_place.ensures)) in
     IfNone-map c.span_behind.result (λ none. absurd (later (subst (λ t. (to : ℕ) → HasNone t fence fence to) c.after-rest.ensures none)))
     c.span_behind.ensures.none
