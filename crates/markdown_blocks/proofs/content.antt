@@ -1,6 +1,9 @@
+pub mod AsciiCuts
 pub mod ByteLemmas
 pub mod OneContent
+pub mod PastLemmas
 pub mod ReachedLemmas
 pub mod ReachedPlaces
 pub mod RunLemmas
 pub mod SegmentLemmas
+pub mod Utf8Lemmas

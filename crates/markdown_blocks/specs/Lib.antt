@@ -1,4 +1,5 @@
 pub mod blocks
+pub mod cells
 pub mod containers
 pub mod content
 pub mod definitions
@@ -9,5 +10,6 @@ pub mod laws
 pub mod link_definitions
 pub mod lists
 pub mod metadata
+pub mod rows
 pub mod taken
 pub mod walk

@@ -1,3 +1,6 @@
+pub mod Characters
 pub mod Held
 pub mod Items
+pub mod Order
 pub mod Quotes
+pub mod Terms

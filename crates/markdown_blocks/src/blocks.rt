@@ -1,15 +1,15 @@
 //! Blocks of a page, each as a whole from the front of what is left, in their containers.
-ghost use Rattle.std.specs.Prelude.{◌≡◌, ◌↔◌, ◌++◌, ◌∷◌, [], List, ℕ, drop, IsTrue, IfOk, IfSome, IfNone};
+ghost use Rattle.std.specs.Prelude.{◌≡◌, ◌↔◌, ◌++◌, ◌∷◌, [], List, ℕ, Option, drop, IsTrue, IfOk, IfSome, IfNone};
 ghost use Rattle.markdown_values.specs.declared.values.HeadingLevel.{HeadingLevel};
 ghost use Rattle.markdown_scanners_tree.specs.SomeExactly.{SomeExactly};
 ghost use Rattle.markdown_scanners_tree.specs.scanners.TextLines.{lines_of};
 ghost use Rattle.markdown_blocks.specs.blocks.Leaves.{Begins, IsUnderline, EndsParagraph, ClosesFence, HasIndent, Interrupts};
 ghost use Rattle.markdown_blocks.specs.blocks.Leaves.{In, IsLazy, StopsBefore, StopsBehind, EndsAsHtml, GoesOnIndented};
 ghost use Rattle.markdown_blocks.specs.blocks.Leaves.{IsHead, BeginsNoTable, LeavesBehind};
-ghost use Rattle.markdown_blocks.specs.blocks.Endings.{IsEnd, IsNextLine, IsUnderlineIn};
+ghost use Rattle.markdown_blocks.specs.blocks.Endings.{EndsText, IsEnd, IsNextLine, IsUnderOrDefines};
 ghost use Rattle.markdown_blocks.specs.blocks.Over.{IsOver};
 ghost use Rattle.markdown_blocks.specs.blocks.Pages.{IsBlockOf};
-ghost use Rattle.markdown_blocks.specs.containers.Containers.{behind, IsInside};
+ghost use Rattle.markdown_blocks.specs.containers.Containers.{asked_in, behind, IsInside};
 ghost use Rattle.markdown_blocks.specs.declared.blocks.BlockKind.TheVariants.{Paragraph};
 ghost use Rattle.markdown_blocks.specs.taken.Lines.{IsTaken, IsNext};
 
@@ -21,6 +21,7 @@ use crate::line::Line;
 use crate::rest::Rest;
 use crate::tables::{count_cells, delimiter_columns, take_rows};
 use crate::taken::Taken;
+use crate::terms::defines_term;
 use markdown_scanners_tree::scanners::{
     HtmlBlockKind, ends_html_block, interrupts_paragraph, scan_closing_code_fence,
     scan_setext_heading,
@@ -61,10 +62,11 @@ pub struct Block {
     pub taken: Taken,
 }
 
-// The underline of a setext heading: its level, and whether it interrupts a paragraph.
+// What ends a paragraph that has text: the underline of a setext heading of this level, or without
+// one the marker of a definition; and whether it interrupts any paragraph.
 #[derive(Clone, Copy)]
-struct Underline {
-    level: HeadingLevel,
+struct TextEnd {
+    level: Option<HeadingLevel>,
     interrupts: bool,
 }
 
@@ -294,19 +296,22 @@ fn next_line(
         → IsTaken text.now first (begin ∷ []) → IsTaken text.now taken (begin ∷ later)
         → IsNextLine line.now.outer words.now later line.now.bytes next) }
 {
-    if !ends(line, Ending::Paragraph) {
+    let Some(end) = text_end(line) else {
+        if ends(line, Ending::Paragraph) {
+            return Ok(NextLine::Ends);
+        }
+        return Ok(NextLine::GoesOn);
+    };
+    if !has_text(alloc, text, first, taken, line.outer(), words)? {
+        if end.interrupts {
+            return Ok(NextLine::Ends);
+        }
         return Ok(NextLine::GoesOn);
     }
-    let Some(underline) = underline_in(line) else {
-        return Ok(NextLine::Ends);
-    };
-    if has_text(alloc, text, first, taken, line.outer(), words)? {
-        return Ok(NextLine::Underlines(underline.level));
+    match end.level {
+        Some(level) => Ok(NextLine::Underlines(level)),
+        None => Ok(NextLine::Ends),
     }
-    if underline.interrupts {
-        return Ok(NextLine::Ends);
-    }
-    Ok(NextLine::GoesOn)
 }
 
 // How many columns a table has, of which the line is the delimiter row, and the line before it has
@@ -315,6 +320,9 @@ fn head_columns(alloc: Global, line: &Line, words: &[u8]) -> Result<Option<usize
     ensures { IfOk result (λ found. SomeExactly
         (λ columns. IsHead line.now.outer words.now columns line.now.bytes) found) }
 {
+    if line.outer().extensions().no_tables {
+        return Ok(None);
+    }
     let Some(columns) = delimiter_columns(alloc, line)? else {
         return Ok(None);
     };
@@ -366,7 +374,7 @@ fn is_indented(line: &Line) -> bool
 // Whether the rest of a line, after fewer containers than those of the paragraph before it, goes on with
 // that.
 fn is_lazy(line: &Line) -> bool
-    ensures { IsTrue result ↔ IsLazy line.now.outer.extensions
+    ensures { IsTrue result ↔ IsLazy (asked_in line.now.outer line.now.bytes)
         (behind line.now.outer.containers line.now.bytes).state }
 {
     if line.begins_container() {
@@ -379,7 +387,7 @@ fn is_lazy(line: &Line) -> bool
     if rest.indent == 4 {
         return true;
     }
-    !interrupts(rest.text, line.outer().extensions())
+    !interrupts(rest.text, line.asked())
 }
 
 // Whether a line with this after its containers goes on with no paragraph.
@@ -413,17 +421,21 @@ fn underline_level(rest: &Rest) -> Option<HeadingLevel>
     Some(level)
 }
 
-// The underline that the line is in the containers.
-fn underline_in(line: &Line) -> Option<Underline>
-    ensures found { IfSome result (λ r. IsUnderlineIn line.now.outer r line.now.bytes) }
-    ensures none { IfNone result ((level : HeadingLevel)
-        → ¬ In line.now.outer.containers (IsUnderline level) line.now.bytes) }
+// What the line is in the containers that ends a paragraph with text.
+fn text_end(line: &Line) -> Option<TextEnd>
+    ensures found { IfSome result (λ r. EndsText line.now.outer r line.now.bytes) }
+    ensures none { IfNone result ((level : Option HeadingLevel) → ¬ In line.now.outer.containers
+        (IsUnderOrDefines line.now.outer.extensions level) line.now.bytes) }
 {
     let rest = line.rest_inside()?;
-    let level = underline_level(rest)?;
-    Some(Underline {
+    let extensions = line.outer().extensions();
+    let level = underline_level(rest);
+    if level.is_none() && !defines_term(rest, extensions) {
+        return None;
+    }
+    Some(TextEnd {
         level,
-        interrupts: interrupts(rest.text, line.outer().extensions()),
+        interrupts: interrupts(rest.text, extensions),
     })
 }
 
@@ -431,5 +443,8 @@ fn underline_in(line: &Line) -> Option<Underline>
 pub(crate) fn closes_fence(rest: &Rest, count: usize, byte: u8) -> bool
     ensures { IsTrue result ↔ ClosesFence count byte rest.now }
 {
+    if rest.text.is_empty() {
+        return false;
+    }
     rest.indent != 4 && scan_closing_code_fence(rest.text, byte, count).is_some()
 }

@@ -1,12 +1,15 @@
-//! Block quotes, list items and footnote definitions: how far a line goes on with those that are
-//! open, and what it begins. (CommonMark 0.31.2, sections 5.1 and 5.2; GitHub Docs, footnotes)
+//! Block quotes, list items, footnote definitions and the definitions of definition lists: how far
+//! a line goes on with those that are open, and what it begins. (CommonMark 0.31.2, sections 5.1 and
+//! 5.2; GitHub Docs, footnotes; pulldown-cmark, definition lists)
 ghost use Rattle.std.specs.Prelude.{◌≡◌, ◌<◌, ◌≤◌, length, false, Some, None, IfSome, IfNone};
 ghost use Rattle.markdown_scanners_tree.specs.line.Outcome.{item_outcome};
 ghost use Rattle.markdown_scanners_tree.specs.line.State.{space_within, after_space};
-ghost use Rattle.markdown_blocks.specs.containers.Containers.{begun_behind, behind, behind_quote, goes_on_blank, item_of, within, within_quote};
+ghost use Rattle.markdown_blocks.specs.containers.Containers.{begun_behind, behind, behind_quote, extension_of, goes_on_blank, item_of};
+ghost use Rattle.markdown_blocks.specs.containers.Containers.{settled, within, within_quote, within_width};
 
 use crate::footnotes::scan_footnote;
 use crate::kinds::is_blank;
+use crate::terms::scan_term_definition;
 use markdown_scanners_tree::line::LineStart;
 use std::marker::Model;
 
@@ -21,6 +24,14 @@ pub struct ListItem {
     pub start: u32,
 }
 
+/// A definition of a term: whether only its first line is read, which is blank after the marker, and
+/// the indent of its text in columns.
+#[derive(Clone, Copy)]
+pub struct DefinitionItem {
+    pub begun: bool,
+    pub width: u8,
+}
+
 /// A container.
 #[derive(Clone, Copy)]
 pub enum Container {
@@ -30,35 +41,70 @@ pub enum Container {
     Item(ListItem),
     /// A footnote definition. Begins only where the extension is on.
     Footnote,
+    /// A definition of the term before it. Begins only where the extension is on.
+    TermDefinition(DefinitionItem),
 }
 
 const _: () = prove!(size_of::<Container>() <= 16);
 
-/// The extensions that change how a page is cut into containers and blocks, of which none is on
-/// unless it is asked for.
+/// The container where more than its first line is read: an item that begins with a blank line is no
+/// longer one that does not go on with a second. The content of what stands in a container is read
+/// with it so. (CommonMark 0.31.2, section 5.2)
+pub fn settled(container: Container) -> Container
+    ensures { result ≡ settled container }
+{
+    match container {
+        Container::Quote => Container::Quote,
+        Container::Footnote => Container::Footnote,
+        Container::Item(item) => Container::Item(ListItem {
+            begun: false,
+            ..item
+        }),
+        Container::TermDefinition(definition) => Container::TermDefinition(DefinitionItem {
+            begun: false,
+            ..definition
+        }),
+    }
+}
+
+/// The extensions that change how a page is cut into containers and blocks. Of those that begin
+/// containers none is on unless it is asked for; tables are on unless they are left out.
 #[derive(Clone, Copy)]
 pub struct BlockExtensions {
     /// Footnote definitions, as on GitHub: `[^label]:`, and what stands after it or is indented by
     /// four columns.
     pub footnotes: bool,
+    /// Definition lists: after a paragraph, which is the term, `:`, and what stands after that or is
+    /// indented as that is.
+    pub definition_lists: bool,
+    /// Tables are text, as in CommonMark alone: a delimiter row is a line of a paragraph.
+    pub no_tables: bool,
 }
 
 impl BlockExtensions {
     ghost use Rattle.std.specs.Prelude.{◌≡◌};
     ghost use Rattle.markdown_blocks.specs.containers.Containers.{all_extensions, no_extensions};
 
-    /// None of them.
+    /// No footnotes and no definition lists, but tables.
     pub fn none() -> BlockExtensions
         ensures { result ≡ no_extensions }
     {
-        BlockExtensions { footnotes: false }
+        BlockExtensions {
+            footnotes: false,
+            definition_lists: false,
+            no_tables: false,
+        }
     }
 
-    /// All of them.
+    /// Footnotes, definition lists and tables.
     pub fn all() -> BlockExtensions
         ensures { result ≡ all_extensions }
     {
-        BlockExtensions { footnotes: true }
+        BlockExtensions {
+            footnotes: true,
+            definition_lists: true,
+            no_tables: false,
+        }
     }
 }
 
@@ -134,6 +180,7 @@ fn goes_on_blank(container: Container) -> bool
         Container::Quote => false,
         Container::Item(item) => !item.begun,
         Container::Footnote => true,
+        Container::TermDefinition(definition) => !definition.begun,
     }
 }
 
@@ -178,12 +225,26 @@ pub(crate) fn pass(
     ensures bytes { start.new.bytes ≡ line.now }
 {
     match container {
-        Container::Item(item) if blank => { if item.begun { None } else { Some(true) } }
-        Container::Item(item) => pass_indent(start, item.width as usize),
-        Container::Footnote if blank => Some(true),
-        Container::Footnote => pass_indent(start, 4),
+        Container::Item(item) => pass_width(start, blank, item.begun, item.width),
+        Container::Footnote => pass_width(start, blank, false, 4),
+        Container::TermDefinition(d) => pass_width(start, blank, d.begun, d.width),
         Container::Quote => pass_quote(line, start),
     }
+}
+
+// Passes so many columns of space, if they are there, before text. A blank rest has them always, but
+// not where only the first line is read, and that is blank.
+fn pass_width(start: &mut LineStart, blank: bool, begun: bool, width: u8) -> Option<bool>
+    ensures passed { IfSome result (λ more.
+        within_width begun width blank start.old ≡ Some (more, start.new)) }
+    ensures none { IfNone result (within_width begun width blank start.old ≡ None) }
+    ensures unchanged { IfNone result (start.new ≡ start.old) }
+    ensures bytes { start.new.bytes ≡ start.old.bytes }
+{
+    if !blank {
+        return pass_indent(start, width as usize);
+    }
+    if begun { None } else { Some(true) }
 }
 
 // Passes so many columns of space, if they are there, before text.
@@ -251,7 +312,30 @@ pub(crate) fn scan_container<'a>(
     if let Some(item) = scan_item(line, start, indent) {
         return Some(item);
     }
-    scan_footnote(line, start, extensions)
+    scan_extension(line, start, indent, extensions)
+}
+
+// Passes the marker of the footnote definition or the definition of a term that begins at the place,
+// behind so many columns of space, if one does and its extension is on.
+fn scan_extension<'a>(
+    line: &'a [u8],
+    start: &mut LineStart<'a>,
+    indent: usize,
+    extensions: BlockExtensions,
+) -> Option<Container>
+    requires bytes { start.old.bytes ≡ line.now }
+    requires near { indent ≤ 4 }
+    ensures found { IfSome result (λ container.
+        extension_of extensions indent start.old ≡ Some (container, start.new)) }
+    ensures none { IfNone result (extension_of extensions indent start.old ≡ None) }
+    ensures unchanged { IfNone result (start.new ≡ start.old) }
+    ensures bytes { start.new.bytes ≡ line.now }
+    ensures rises { IfSome result (λ _. start.old.place < start.new.place) }
+{
+    if let Some(footnote) = scan_footnote(line, start, extensions) {
+        return Some(footnote);
+    }
+    scan_term_definition(line, start, indent, extensions)
 }
 
 // Passes the marker of the list item that begins at the place, behind so many columns of space, if

@@ -1,6 +1,7 @@
 //! The content of leaf blocks: what is handed to the inline pass, and the text of code and HTML, with the place of each of its
 //! bytes. (CommonMark 0.31.2, sections 2.2, 4.2 to 4.6 and 4.8)
 ghost use Rattle.std.specs.Prelude.{◌≡◌, ◌^◌, ◌++◌, ◌+◌, ◌-◌, ◌<◌, ◌≤◌, List, length, replicate, slice_index, IfOk, IfSome, IfNone, IsOk, OnOk};
+ghost use Rattle.std.specs.Str.{IsUtf8};
 ghost use Rattle.markdown_scanners_tree.specs.Ascii.{space};
 ghost use Rattle.markdown_scanners_tree.specs.scanners.TextLines.{lines_of};
 ghost use Rattle.markdown_blocks.specs.content.Bytes.{AreBytesOf};
@@ -10,10 +11,12 @@ ghost use Rattle.markdown_blocks.specs.content.Parts.{AreOneRun, AreParts, Part}
 ghost use Rattle.markdown_blocks.specs.content.Seen.{seen_part};
 ghost use Rattle.markdown_blocks.specs.content.Segments.{Rising, place_at, place_in};
 
-mod parts;
+mod cell;
+pub(crate) mod parts;
 
 use crate::blocks::BlockKind;
 use crate::containers::{BlockExtensions, Container, Outer};
+pub use crate::content::cell::cell_content;
 use crate::content::parts::{LinePart, Parts};
 use std::alloc::{AllocError, Global};
 use std::marker::Model;
@@ -73,6 +76,9 @@ pub fn content_of<'a>(
     ensures lent { (parts : List Part) → AreParts kind containers.now kept (lines_of lines.now) parts
         → AreOneRun parts → IsOk result }
     ensures bytes { IfOk result (λ content. AreBytesOf lines.now content) }
+
+    // It is cut next to bytes of ASCII alone.
+    ensures utf8 { IfOk result (λ content. IsUtf8 lines.now → IsUtf8 content.text) }
 {
     let outer = Outer::new(BlockExtensions::none(), containers);
     let parts = Parts::of(lines, kind, &outer, kept);
@@ -134,19 +140,19 @@ fn run_of(parts: Parts) -> Option<(usize, usize)>
     ensures run { IfSome result (λ r. IsRun parts.entry.lines.now (parts_left parts.entry) r.0 r.1) }
     ensures none { IfNone result (¬ AreOneRun (parts_left parts.entry)) }
 {
-    let Some((part, mut rest)) = parts.next() else {
+    let mut rest = parts;
+    let Some(part) = rest.next() else {
         return Some((0, 0));
     };
     if part.columns > 0 {
         return None;
     }
     let mut end = part.place + part.bytes.len();
-    while let Some((next, more)) = rest.next() {
+    while let Some(next) = rest.next() {
         if next.columns > 0 || next.place != end {
             return None;
         }
         end += next.bytes.len();
-        rest = more;
     }
     Some((part.place, end))
 }
@@ -172,17 +178,17 @@ fn lent<'a>(alloc: Global, run: &'a [u8], kind: BlockKind, place: usize) -> Cont
 fn built<'a>(alloc: Global, parts: Parts, kind: BlockKind) -> Result<Content<'a>, AllocError>
     ensures { IfOk result (λ content. content ≡ content_with kind (parts_left parts.entry)) }
 {
-    let mut text = Vec::new(alloc);
+    // No longer than the lines, but where a tab is cut.
+    let mut text = Vec::with_capacity(alloc, parts.lines.len())?;
     let mut segments = Vec::new(alloc);
     let mut rest = parts;
-    while let Some((part, more)) = rest.next() {
+    while let Some(part) = rest.next() {
         segments.push(Segment {
             offset: text.len(),
             columns: part.columns,
             place: part.place,
         })?;
         add_part(&mut text, part)?;
-        rest = more;
     }
     let end = content_len(&text, kind);
     text.truncate(end);

@@ -112,7 +112,7 @@ fn begins_with_text(words: &[u8]) -> bool
     }
 }
 
-/// Makes the content that of the block at the front of these lines, where it may begin with a
+/// Makes the content that of the block at the front of these lines, where it begins with a
 /// definition, and else empty.
 pub(crate) fn gather_content(
     content: &mut Vec<u8>,
@@ -129,7 +129,12 @@ pub(crate) fn gather_content(
     if begins_with_text(text) {
         return Ok(());
     }
-    add_content(content, lines, block, containers, text)
+    add_content(content, lines, block, containers, text)?;
+    // Most brackets at the front of a paragraph are those of a link.
+    if scan_definition(content).is_none() {
+        content.clear();
+    }
+    Ok(())
 }
 
 /// Adds the content of a block at the front of these lines: a paragraph's, a definition's or a setext

@@ -46,6 +46,7 @@ impl<'a> Model for Blocks<'a> {
       text = drop b.before.bytes b.page.now;
       extensions = b.walk.extensions;
       containers = b.walk.containers;
+      term = b.walk.term;
       begun = b.begun;
       line = b.before.lines;
       start = b.before.bytes;

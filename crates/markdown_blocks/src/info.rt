@@ -1,12 +1,14 @@
 //! Info strings of fenced code. (CommonMark 0.31.2, section 4.5)
-ghost use Rattle.std.specs.Prelude.{◌≡◌};
+ghost use Rattle.std.specs.Prelude.{◌≡◌, ◌<◌};
+ghost use Rattle.std.specs.Str.{IsUtf8};
 ghost use Rattle.markdown_blocks.specs.info.Info.{info_of, without_end, without_front};
 
 use markdown_scanners_tree::scanners::{line_head, scan_ch_repeat, scan_spaces_and_tabs};
 
 /// The info string of fenced code whose fence, of this byte, stands at the front of the text.
 pub fn info_of(fence: &[u8], byte: u8) -> &[u8]
-    ensures { result.now ≡ info_of byte fence.now }
+    ensures info { result.now ≡ info_of byte fence.now }
+    ensures utf8 { byte < 128 → IsUtf8 fence.now → IsUtf8 result.now }
 {
     let (_, behind) = fence.split_at(scan_ch_repeat(fence, byte));
     without_end(without_front(line_head(behind)))

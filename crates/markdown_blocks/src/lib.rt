@@ -5,6 +5,7 @@
 pub mod alerts;
 mod block_events;
 pub mod blocks;
+pub mod cells;
 pub mod containers;
 pub mod content;
 pub mod definitions;
@@ -20,8 +21,10 @@ pub mod lists;
 pub mod metadata;
 pub mod page_events;
 mod rest;
+pub mod rows;
 mod step;
 mod tables;
 pub mod taken;
+mod terms;
 pub mod walk;
 pub mod whole;

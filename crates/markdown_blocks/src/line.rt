@@ -1,9 +1,10 @@
 //! A line where containers are open.
 ghost use Rattle.std.specs.Prelude.{◌≡◌, is_some, IfSome, IfNone};
-ghost use Rattle.markdown_blocks.specs.containers.Containers.{begun_at, behind, rest_in, IsInside};
+ghost use Rattle.markdown_blocks.specs.containers.Containers.{asked_in, begun_at, behind, rest_in, IsInside};
 
-use crate::containers::{Outer, go_on, scan_container};
+use crate::containers::{BlockExtensions, Outer, go_on, scan_container};
 use crate::rest::{Rest, scan_rest};
+use crate::terms::asked_first;
 use markdown_scanners_tree::line::LineStart;
 use std::marker::Model;
 
@@ -13,6 +14,8 @@ pub(crate) struct Line<'a> {
     outer: &'a Outer<'a>,
     bytes: &'a [u8],
     is_inside: bool,
+    // The extensions with which it may begin a container after those that it goes on with.
+    asked: BlockExtensions,
     // What it has after the containers that it goes on with, and the place after the space there.
     rest: Rest<'a>,
     after: LineStart<'a>,
@@ -21,7 +24,7 @@ pub(crate) struct Line<'a> {
 impl<'a> Model for Line<'a> {
     ghost use Rattle.std.specs.Prelude.{◌≡◌, ◌↔◌, IsTrue};
     ghost use Rattle.markdown_scanners_tree.specs.line.State.{after_space};
-    ghost use Rattle.markdown_blocks.specs.containers.Containers.{Line, behind, rest_in, IsInside};
+    ghost use Rattle.markdown_blocks.specs.containers.Containers.{Line, asked_in, behind, rest_in, IsInside};
 
     ghost Value = { Line };
 
@@ -29,6 +32,7 @@ impl<'a> Model for Line<'a> {
 
     ghost invariant = { λ l.
         (IsTrue l.is_inside ↔ IsInside l.outer.now.containers l.bytes.now)
+        × (l.asked ≡ asked_in l.outer.now l.bytes.now)
         × (l.rest ≡ rest_in l.outer.now.containers l.bytes.now)
         × (l.after ≡ after_space 4 (behind l.outer.now.containers l.bytes.now).state)
         × (l.after.bytes ≡ l.bytes.now) };
@@ -45,6 +49,7 @@ impl<'a> Line<'a> {
             outer,
             bytes,
             is_inside: kept == outer.count(),
+            asked: asked_first(outer.extensions(), false, &outer.containers()[kept..]),
             rest,
             after: start,
         }
@@ -77,15 +82,22 @@ impl<'a> Line<'a> {
         &self.rest
     }
 
+    /// The extensions with which it may begin a container after those that it goes on with.
+    pub(crate) fn asked(&self) -> BlockExtensions
+        ensures { result ≡ asked_in self.now.outer self.now.bytes }
+    {
+        self.asked
+    }
+
     /// Whether it begins a container after those that it goes on with.
     pub(crate) fn begins_container(&self) -> bool
-        ensures { result ≡ is_some (begun_at self.now.outer.extensions
+        ensures { result ≡ is_some (begun_at (asked_in self.now.outer self.now.bytes)
             (behind self.now.outer.containers self.now.bytes).state) }
     {
         let rest = self.rest();
         let Ok(mut start) = self.after.clone() else {
             return false;
         };
-        scan_container(self.bytes, &mut start, rest.indent, self.outer.extensions()).is_some()
+        scan_container(self.bytes, &mut start, rest.indent, self.asked).is_some()
     }
 }

@@ -61,6 +61,33 @@ impl<'a> LinkDefinition<'a> {
             None => None,
         }
     }
+
+    /// Its destination, where that is lent from the page.
+    pub fn lent_destination(&self) -> Option<&'a [u8]>
+        ensures { IfSome result (λ bytes. bytes.now ≡ self.now.destination) }
+    {
+        lent(&self.destination)
+    }
+
+    /// Its title, where it has one that is lent from the page.
+    pub fn lent_title(&self) -> Option<&'a [u8]>
+        ensures { IfSome result (λ bytes. self.now.title ≡ Some bytes.now) }
+    {
+        match &self.title {
+            Some(title) => lent(title),
+            None => None,
+        }
+    }
+}
+
+// The bytes, where they are lent.
+fn lent<'a>(bytes: &CowSlice<'a, u8>) -> Option<&'a [u8]>
+    ensures { IfSome result (λ lent. lent.now ≡ cow_slice_items bytes.now) }
+{
+    match bytes {
+        CowSlice::Borrowed(lent) => Some(*lent),
+        CowSlice::Owned(_) => None,
+    }
 }
 
 /// The link reference definitions that are known, by their labels: of each label the first.
@@ -126,10 +153,13 @@ impl<'a> LinkDefinitions<'a> {
     /// The first definition whose label matches this one, if there is one. The label is as
     /// `scan_link_label_rest` reads it, with each run of white space as one space.
     ///
-    /// Memory is asked for the label's case folding.
+    /// Memory is asked for the label's case folding, where any definition is known.
     pub fn get(&self, label: &str) -> Result<Option<&LinkDefinition<'a>>, AllocError>
         ensures { IfOk result (λ found. option_copied found ≡ known_as self.now label.now) }
     {
+        if self.by_key.is_empty() {
+            return Ok(None);
+        }
         let key = key_of(self.alloc, label)?;
         Ok(self.by_key.get(key.as_str()))
     }
@@ -203,6 +233,10 @@ impl<'a> LinkDefinitions<'a> {
 fn key_of(alloc: Global, label: &str) -> Result<String, AllocError>
     ensures { IfOk result (λ key. string_bytes key ≡ key_bytes label.now) }
 {
+    // Most labels are ASCII, and are folded where they are copied to.
+    if label.is_ascii() {
+        return label.to_ascii_lowercase(alloc);
+    }
     default_case_fold_str(alloc, label)
 }
 
@@ -266,6 +300,11 @@ fn read_range<'a>(
 
 // What of the lines begins with the byte at the offset of a text whose lines are the ends of these.
 fn place_in<'a>(lines: &'a [u8], text: &[u8], offset: usize) -> &'a [u8] {
+    // Most often nothing stands before a line of the text in its line.
+    let (front, _) = text.split_at(offset.min(text.len()));
+    if let Some(rest) = lines.strip_prefix(front) {
+        return rest;
+    }
     let mut left = text;
     let mut further = offset;
     let mut rest = lines;

@@ -237,7 +237,7 @@ fn list_begun(container: Container, line: usize) -> Option<OpenList>
     ensures { result ≡ list_begun container line }
 {
     match container {
-        Container::Quote | Container::Footnote => None,
+        Container::Quote | Container::Footnote | Container::TermDefinition(_) => None,
         Container::Item(item) => Some(OpenList {
             delimiter: item.delimiter,
             is_loose: false,

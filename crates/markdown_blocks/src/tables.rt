@@ -48,8 +48,8 @@ fn count_separators(row: &[u8]) -> (usize, bool)
     (count, is_last)
 }
 
-// Whether the byte separates cells, behind this one.
-fn separates(before: u8, byte: u8) -> bool
+/// Whether the byte separates cells, behind this one.
+pub(crate) fn separates(before: u8, byte: u8) -> bool
     ensures { result ≡ separates before byte }
 {
     byte == b'|' && before != b'\\'

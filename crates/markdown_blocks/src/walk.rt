@@ -1,37 +1,43 @@
 //! A page cut into blocks, from the first to the last.
 ghost use Rattle.std.specs.Prelude.{◌≡◌, ◌<◌, ◌≤◌, ◌+◌, [], List, ℕ, length, take, drop, IsTrue, IfOk, IfErr, IfSome, IfNone, OnOk};
 ghost use Rattle.markdown_blocks.specs.blocks.Pages.{NoneIsOver, root};
-ghost use Rattle.markdown_blocks.specs.containers.Containers.{behind, no_extensions, settled, settled_last};
+ghost use Rattle.markdown_blocks.specs.containers.Containers.{behind, no_extensions, settled_last};
 ghost use Rattle.markdown_scanners_tree.specs.line.State.{LineState};
 ghost use Rattle.markdown_blocks.specs.walk.Walk.{IsOpening, IsStep, IsContentOf};
 
 use crate::blocks::{is_over, scan_block};
-use crate::containers::{BlockExtensions, Container, ListItem, Outer, go_on, scan_container};
+use crate::containers::{BlockExtensions, Container, Outer, go_on, scan_container, settled};
 use crate::definitions::gather_content;
 use crate::rest::{Rest, scan_rest};
 pub use crate::step::Step;
 use crate::taken::Taken;
+use crate::terms::{asked_first, follows_term, is_blank_between, is_term, without_terms};
 use markdown_scanners_tree::line::LineStart;
 use std::alloc::{AllocError, Global};
 use std::marker::Model;
 use std::mem::swap;
 
 /// How far a page is cut into blocks: the containers that are open before the next one, outermost
-/// first, and the extensions that are on.
+/// first, the extensions that are on, and whether a term stands before it.
 #[derive(Drop)]
 pub struct Walk {
     extensions: BlockExtensions,
     open: Vec<Container>,
+    is_after_term: bool,
     // Those that were open before the last block; its room is used again.
     closed: Vec<Container>,
 }
 
 impl Model for Walk {
-    ghost use Rattle.markdown_blocks.specs.containers.Containers.{Outer};
+    ghost use Rattle.markdown_blocks.specs.containers.Containers.{Between};
 
-    ghost Value = { Outer };
+    ghost Value = { Between };
 
-    ghost view = { λ walk. record { extensions = walk.extensions; containers = walk.open.items } };
+    ghost view = { λ walk. record {
+      extensions = walk.extensions;
+      containers = walk.open.items;
+      term = walk.is_after_term;
+    } };
 }
 
 // What a line has after its containers: how many of those that were open it goes on with, its place
@@ -58,17 +64,29 @@ impl Walk {
         Walk {
             extensions,
             open: Vec::new(alloc),
+            is_after_term: false,
             closed: Vec::new(alloc),
         }
     }
 
     /// Before the next block of a page that is read up to there: these containers are open, outermost
-    /// first, as an earlier walk had them, and these extensions are on.
-    pub fn resume(alloc: Global, extensions: BlockExtensions, containers: Vec<Container>) -> Walk
-        ensures { result ≡ record { extensions = extensions; containers = containers.items } }
+    /// first, and a term stands before it or not, as an earlier walk had them, and these extensions are
+    /// on.
+    pub fn resume(
+        alloc: Global,
+        extensions: BlockExtensions,
+        containers: Vec<Container>,
+        is_after_term: bool,
+    ) -> Walk
+        ensures { result ≡ record {
+          extensions = extensions;
+          containers = containers.items;
+          term = is_after_term;
+        } }
     {
         let mut walk = Walk::new_ext(alloc, extensions);
         walk.open = containers;
+        walk.is_after_term = is_after_term;
         walk
     }
 
@@ -79,11 +97,19 @@ impl Walk {
         &self.open
     }
 
+    /// Whether a term stands before the next block, which a definition may follow: a paragraph,
+    /// directly or with one blank line between, where definition lists are on.
+    pub fn is_after_term(&self) -> bool
+        ensures term { result ≡ self.now.term }
+    {
+        self.is_after_term
+    }
+
     /// The block at the front of the lines, if there is one that no line behind them changes: where
     /// the input has ended none stands behind them. Its containers are open then.
     ///
-    /// `content` gets the content of the block, as `add_content` has it, where that may begin with a
-    /// link reference definition, and else nothing.
+    /// `content` gets the content of the block, as `add_content` has it, where that begins with a link
+    /// reference definition, and else nothing.
     ///
     /// Memory is asked for where more containers are open than ever before, by a table's delimiter
     /// row, and for the content of a paragraph that begins with a bracket. After a refusal the walk is
@@ -116,7 +142,7 @@ impl Walk {
         };
         self.closed.clear();
         self.closed.extend_from_slice(&self.open)?;
-        let opened = open_containers(&mut self.closed, line, self.extensions)?;
+        let opened = open_containers(&mut self.closed, line, self.extensions, self.is_after_term)?;
         let rest = opened.rest;
         let outer = Outer::new(self.extensions, &self.closed);
         let block = scan_block(alloc, lines, first, &outer, &rest)?;
@@ -124,6 +150,12 @@ impl Walk {
             return Ok(None);
         }
         gather_content(content, lines, block, &self.closed, rest.text)?;
+        let before = self.open.len();
+        let after = self.closed.len();
+        let is_between = is_blank_between(block, opened.kept, before, after);
+        let is_term = is_term(block, self.extensions, content);
+        let stays = follows_term(is_term, self.is_after_term, is_between);
+        self.is_after_term = stays;
         swap(&mut self.open, &mut self.closed);
         Ok(Some(Step {
             kept: opened.kept,
@@ -142,22 +174,29 @@ fn open_containers<'a>(
     outer: &mut Vec<Container>,
     line: &'a [u8],
     extensions: BlockExtensions,
+    is_after_term: bool,
 ) -> Result<Opened<'a>, AllocError>
     ensures opening { IfOk result (λ o.
-        IsOpening (record { extensions = extensions; containers = outer.old.items }) line.now
-        outer.new.items o.kept o.rest) }
+        IsOpening (record {
+          extensions = extensions;
+          containers = outer.old.items;
+          term = is_after_term;
+        })
+        line.now outer.new.items o.kept o.rest) }
     ensures place { IfOk result (λ o. o.start ≡ (behind outer.old.items line.now).state) }
     ensures bytes { IfOk result (λ o. o.start.bytes ≡ line.now) }
     ensures few { IfOk result (λ o. length outer.new.items ≤ o.kept + length line.now) }
 {
     let (kept, mut start) = go_on(line, &Outer::new(extensions, outer));
     let before = start.clone()?;
+    let mut asked = asked_first(extensions, is_after_term, &outer[kept..]);
     keep(outer, kept)?;
     let count = outer.len();
     let mut rest = scan_rest(line, &mut start);
-    while let Some(container) = scan_container(line, &mut start, rest.indent, extensions) {
+    while let Some(container) = scan_container(line, &mut start, rest.indent, asked) {
         outer.push(container)?;
         rest = scan_rest(line, &mut start);
+        asked = without_terms(extensions);
     }
     Ok(Opened {
         kept: count,
@@ -178,18 +217,4 @@ fn keep(outer: &mut Vec<Container>, kept: usize) -> Result<(), AllocError>
         outer.push(settled(last))?;
     }
     Ok(())
-}
-
-// The container, where a second line of it is read.
-fn settled(container: Container) -> Container
-    ensures { result ≡ settled container }
-{
-    match container {
-        Container::Quote => Container::Quote,
-        Container::Footnote => Container::Footnote,
-        Container::Item(item) => Container::Item(ListItem {
-            begun: false,
-            ..item
-        }),
-    }
 }

@@ -195,6 +195,9 @@ pub(crate) fn push_container_json(text: &mut String, container: Container) -> Re
     match container {
         Container::Quote => text.push_str("\"quote\""),
         Container::Footnote => text.push_str("\"footnote\""),
+        Container::TermDefinition(definition) => {
+            write!(text, "\"term_definition\",\"indent\":{}", definition.width)
+        }
         Container::Item(item) => {
             text.push_str("\"item\"")?;
             push_marker_json(text, item.delimiter, item.start)?;

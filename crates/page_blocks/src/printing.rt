@@ -230,6 +230,7 @@ fn push_container_text(text: &mut String, container: Container) -> Result<(), Al
     match container {
         Container::Quote => text.push_str("quote"),
         Container::Footnote => text.push_str("footnote"),
+        Container::TermDefinition(_) => text.push_str("term_definition"),
         Container::Item(item) => {
             write!(text, "item {} {}", char::from(item.delimiter), item.start)
         }

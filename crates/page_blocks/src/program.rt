@@ -95,7 +95,7 @@ pub fn run_program<R: StepReader, F: OpensFiles, W: StepWriter, V: StepWriter>(
     program::run_program(
         alloc,
         &says,
-        &["--json", "--footnotes"],
+        &["--json", "--footnotes", "--definition-lists"],
         &blocks,
         words,
         input,

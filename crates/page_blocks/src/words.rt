@@ -30,5 +30,7 @@ pub(crate) fn extensions_of(words: &[&str]) -> BlockExtensions
 {
     BlockExtensions {
         footnotes: has_option(words, "--footnotes"),
+        definition_lists: has_option(words, "--definition-lists"),
+        no_tables: false,
     }
 }

@@ -1,5 +1,5 @@
 -- The lines that are taken make a block.
-use Rattle.std.proofs.Common.{ℕ, List, [], ◌∷◌, ◌++◌, ◌≡◌, drop, inl, inr, refl, sym, ◌∙◌}
+use Rattle.std.proofs.Common.{ℕ, List, [], ◌∷◌, ◌++◌, ◌≡◌, drop, inl, inr, refl, sym, ◌∙◌, subst}
 use Rattle.std.proofs.lemmas.List.{append_cancel_left}
 use Rattle.markdown_values.specs.declared.values.HeadingLevel.{HeadingLevel}
 use Rattle.markdown_scanners_tree.specs.declared.scanners.html_kinds.HtmlBlockKind.{HtmlBlockKind}
@@ -68,14 +68,11 @@ module _ (text : List ℕ) (outer : Outer) (line : List ℕ) (rest : Rest) (firs
   behind_first taken more t = append_cancel_left (line ∷ []) (lines_of (drop first.bytes text)) (more ++ lines_of (drop taken.bytes text))
       (sym h.parts ∙ t.parts)
 
-  first_of : (P : List ℕ → Type 0) (front rest : List (List ℕ)) → OnFirst P (front ++ rest) → OnFirst P front
-  first_of P [] rest on = tt
-  first_of P (l ∷ front) rest on = on
-
   -- a paragraph, and a paragraph whose next line is an underline, where it begins no table
   module _ (no_table : BeginsNoTable outer rest (lines_of (drop first.bytes text))) (begins : Begins Paragraph rest) where
-    none_in : (taken : Taken) (more : List (List ℕ)) → IsTaken text taken (line ∷ more) → BeginsNoTable outer rest more
-    none_in taken more t = first_of _ more (lines_of (drop taken.bytes text)) (rw (behind_first taken more t) at no_table)
+    none_in : (taken : Taken) (more : List (List ℕ)) → IsTaken text taken (line ∷ more)
+        → BeginsNoTable outer rest (more ++ lines_of (drop taken.bytes text))
+    none_in taken more t = subst (BeginsNoTable outer rest) (behind_first taken more t) no_table
 
     pub paragraph_block : (taken : Taken) → Reached outer rest.text text first taken
         → ((later : List (List ℕ)) → IsTaken text taken (line ∷ later)
@@ -98,16 +95,17 @@ module _ (text : List ℕ) (outer : Outer) (line : List ℕ) (rest : Rest) (firs
     setext_block last level taken more reached next underlines =
         let r = reached line h in
         let u = underlines r.0 r.1 in
+        let all = taken-next text taken more (line ∷ r.0) last r.1 next in
         record {
           later = r.0 ++ last ∷ [];
-          taken = taken-next text taken more (line ∷ r.0) last r.1 next;
+          taken = all;
           leaf = (
             begins,
             r.0,
             last,
             refl,
-            none_in taken r.0 r.1,
-            record { none = r.2; stopped = inr (u.0.0, inr (inl ((level, u.0.1), u.1))) },
+            none_in more (r.0 ++ last ∷ []) all,
+            record { none = r.2; stopped = inr (u.0.0, inr (inl (inl (level, u.0.1), u.1))) },
             u,
           );
         }

@@ -15,7 +15,8 @@ use Rattle.markdown_blocks.specs.declared.blocks.Ending.TheVariants.{Text}
 use Rattle.markdown_blocks.specs.declared.taken.Taken.{Taken}
 use Rattle.markdown_blocks.specs.taken.Lines.{IsTaken, IsNext}
 use Rattle.markdown_blocks.specs.blocks.Endings.{IsEnd}
-use Rattle.markdown_blocks.specs.blocks.Leaves.{IsBlankIn, OnFirst, StopsBefore, StopsBehind, NoMoreIndented, EndsAsHtml, OutOr, EndsHtml, IsLeaf}
+use Rattle.markdown_blocks.specs.blocks.Leaves.{BeginsNoTable, IsBlankIn, OnFirst, StopsBefore, StopsBehind, NoMoreIndented, EndsAsHtml, OutOr, IsLeaf}
+use Rattle.markdown_blocks.specs.blocks.Leaves.{EndsHtml}
 use Rattle.markdown_blocks.specs.blocks.Over.{ShowEnd, IsOver}
 use Rattle.markdown_blocks.proofs.blocks.IndentedLemmas.{blank_told}
 
@@ -53,6 +54,11 @@ module _ (outer : Outer) (more : List (List ℕ)) where
       by (inl h) = inl h
       by (inr h) = inr (h.0, behind-over (OutOr outer.containers (EndsHtml kind)) later rest some h.1)
 
+  table-over : (first : Rest) (later rest : List (List ℕ)) → rest ≢ [] → BeginsNoTable outer first (later ++ rest)
+      → BeginsNoTable outer first (later ++ (rest ++ more))
+  table-over first [] rest some h = first-over _ rest some h
+  table-over first (line ∷ later) rest some h = h
+
   -- the block ends there
   pub leaf-over : (kind : BlockKind) (first : Rest) (later rest : List (List ℕ)) → ShowEnd outer.containers kind rest → IsLeaf outer kind first later rest
       → IsLeaf outer kind first later (rest ++ more)
@@ -63,10 +69,14 @@ module _ (outer : Outer) (more : List (List ℕ)) where
   leaf-over (Html kind) first later rest some leaf = (leaf.0, html-over kind first later rest some leaf.1)
   leaf-over (Table columns) first later rest some leaf =
       (leaf.0, leaf.1, leaf.2, leaf.3, leaf.4, before-over _ leaf.2 rest some leaf.5)
-  leaf-over Paragraph first later rest some leaf =
-      (leaf.0, leaf.1, record { none = leaf.2.none; stopped = first-over _ rest some leaf.2.stopped }, first-over _ rest some leaf.3)
+  leaf-over Paragraph first later rest some leaf = (
+    leaf.0,
+    table-over first later rest some leaf.1,
+    record { none = leaf.2.none; stopped = first-over _ rest some leaf.2.stopped },
+    first-over _ rest some leaf.3,
+  )
   leaf-over (Setext level) first later rest some leaf =
-      (leaf.0, leaf.1, leaf.2, leaf.3, leaf.4, record { none = leaf.5.none; stopped = leaf.5.stopped }, leaf.6)
+      (leaf.0, leaf.1, leaf.2, leaf.3, table-over first later rest some leaf.4, record { none = leaf.5.none; stopped = leaf.5.stopped }, leaf.6)
   leaf-over Break first later rest some leaf = leaf
   leaf-over (Heading level) first later rest some leaf = leaf
   leaf-over Definition first later rest some leaf = leaf

@@ -1,21 +1,22 @@
 -- The lines of a paragraph, up to the first that ends it behind those before it.
 use Rattle.std.proofs.Common.{ℕ, true, false, ◌⊎◌, List, [], ◌∷◌, ◌++◌, ◌≡◌, inl, inr, refl, sym, ap}
-use Rattle.std.proofs.Common.{◌∙◌, subst, append_assoc, append-nil, IsTrue, Some, ◌==◌, ◌≤◌, length, arith, suc, take, not, ◌+◌}
+use Rattle.std.proofs.Common.{◌∙◌, subst, append_assoc, append-nil, IsTrue, Option, Some, None, ◌==◌, ◌≤◌, length, arith, suc, take, not, ◌+◌}
 use Rattle.std.specs.List.{list_all, prefix_len}
 use Rattle.std.proofs.lemmas.Bool.{and_parts, eqb-true}
 use Rattle.markdown_values.specs.declared.values.HeadingLevel.{HeadingLevel}
 use Rattle.markdown_values.specs.declared.values.HeadingLevel.TheVariants.{H1, H2, H3, H4, H5, H6}
-use Rattle.markdown_scanners_tree.specs.Ascii.{equals_sign, hyphen}
-use Rattle.markdown_scanners_tree.specs.Bytes.{is_blank, is_line_ending, is_white_space_in_line}
+use Rattle.markdown_scanners_tree.specs.Ascii.{colon, equals_sign, hyphen}
+use Rattle.markdown_scanners_tree.specs.Bytes.{begins_with, is_blank, is_line_ending, is_white_space_in_line}
 use Rattle.markdown_scanners_tree.specs.scanners.Headings.{underline_byte}
-use Rattle.markdown_blocks.specs.declared.blocks.Underline.{Underline}
+use Rattle.markdown_blocks.specs.declared.blocks.TextEnd.{TextEnd}
+use Rattle.markdown_blocks.specs.declared.containers.BlockExtensions.{BlockExtensions}
 use Rattle.markdown_blocks.specs.declared.taken.Taken.{Taken}
 use Rattle.markdown_blocks.specs.definitions.Content.{content_of}
 use Rattle.markdown_blocks.specs.definitions.Definitions.{HasText}
-use Rattle.markdown_blocks.specs.containers.Containers.{Outer, rest_in}
+use Rattle.markdown_blocks.specs.containers.Containers.{Outer, Rest, rest_in}
 use Rattle.markdown_blocks.specs.taken.Lines.{IsTaken, IsNext}
-use Rattle.markdown_blocks.specs.blocks.Endings.{IsUnderlineIn}
-use Rattle.markdown_blocks.specs.blocks.Leaves.{In, IsUnderline, LeavesParagraph, LeavesBehind, NoneBehind}
+use Rattle.markdown_blocks.specs.blocks.Endings.{EndsText, IsUnderOrDefines}
+use Rattle.markdown_blocks.specs.blocks.Leaves.{IsBlank, HasIndent, DefinesTerm, In, IsUnderline, LeavesParagraph, LeavesBehind, Underlines, NoneBehind}
 use Rattle.markdown_blocks.proofs.taken.TakenLemmas.{taken-next}
 
 none-append : (P : List (List ℕ) → List ℕ → Type 0) (before xs ys : List (List ℕ)) → NoneBehind P before xs → NoneBehind P (before ++ xs) ys
@@ -52,44 +53,88 @@ not_blank bytes level byte (b ∷ run) rest of parts all some blank =
     let text : is_blank (b ∷ (run ++ rest)) ≡ false = marked b (run ++ rest) either in
     let both : true ≡ false = sym blank ∙ ap is_blank parts ∙ text in cc
 
+-- the marker of a definition is not blank, and no underline
+colon_text : (bytes : List ℕ) → begins_with (λ b. b == colon) bytes ≡ true → is_blank bytes ≡ false
+colon_text [] h = cc
+colon_text (b ∷ bs) h =
+    let n = prefix_len (λ c. not (is_line_ending c)) bs in
+    subst (λ c. is_blank (c ∷ bs) ≡ false) (sym (eqb-true b colon h)) (head_marked n (1 + n) colon bs (omega arith) refl)
+
+not_under : (bytes : List ℕ) (level : HeadingLevel) (byte : ℕ) (run rest : List ℕ) → underline_byte level ≡ Some byte → bytes ≡ run ++ rest
+    → IsTrue (list_all (λ b. b == byte) run) → 1 ≤ length run → ¬ (begins_with (λ b. b == colon) bytes ≡ true)
+not_under bytes level byte [] rest of parts all some h = absurd (omega (arith, some))
+not_under bytes level byte (b ∷ run) rest of parts all some h =
+    let same : b ≡ byte = eqb-true b byte (and_parts (b == byte) _ all).0 in
+    let front : (b == colon) ≡ true = subst (λ bs. begins_with (λ c. c == colon) bs ≡ true) parts h in
+    by (subst (λ x. (x ≡ equals_sign) ⊎ (x ≡ hyphen)) (sym same) (of_either level byte of)) front
+  where
+    by : (b ≡ equals_sign) ⊎ (b ≡ hyphen) → ¬ ((b == colon) ≡ true)
+    by (inl is) front = let both : (equals_sign == colon) ≡ true = subst (λ x. (x == colon) ≡ true) is front in cc
+    by (inr is) front = let both : (hyphen == colon) ≡ true = subst (λ x. (x == colon) ≡ true) is front in cc
+
+-- what ends a paragraph with text has less than four columns of space, and is not blank
+module _ (asked : BlockExtensions) (rest : Rest) where
+  under_near : (level : Option HeadingLevel) → IsUnderOrDefines asked level rest → ¬ HasIndent rest
+  under_near (Some level) h = h.0
+  under_near None h = h.0
+
+  under_text : (level : Option HeadingLevel) → IsUnderOrDefines asked level rest → ¬ IsBlank rest
+  under_text (Some level) h blank =
+      let under = h.2 in
+      not_blank rest.text level under.byte under.run under.rest under.of_level under.is_run.parts under.is_run.all under.at_least_one blank
+  under_text None h blank =
+      let both : true ≡ false = sym blank ∙ colon_text rest.text (and_parts asked.definition_lists _ h.1).1 in cc
+
+  one_of_both : (level : HeadingLevel) → DefinesTerm asked rest → ¬ IsUnderline level rest
+  one_of_both level defines h =
+      let under = h.2 in
+      not_under rest.text level under.byte under.run under.rest under.of_level under.is_run.parts under.is_run.all under.at_least_one
+      (and_parts asked.definition_lists _ defines.1).1
+
+module _ (outer : Outer) (words : List ℕ) (before : List (List ℕ)) (line : List ℕ) where
+  -- a line that neither underlines nor defines a paragraph with text
+  module _ (none : (level : Option HeadingLevel) → ¬ In outer.containers (IsUnderOrDefines outer.extensions level) line) where
+    pub goes_on : ¬ LeavesParagraph outer line → ¬ LeavesBehind outer words before line
+    goes_on stays (inl out) = stays (inl out)
+    goes_on stays (inr (inside, inl blank)) = stays (inr (inside, inl blank))
+    goes_on stays (inr (inside, inr (inl (inl under, text)))) = none (Some under.0) (inside, under.1)
+    goes_on stays (inr (inside, inr (inl (inr defines, text)))) = none None (inside, defines)
+    goes_on stays (inr (inside, inr (inr interrupts))) = stays (inr (inside, inr (inr interrupts)))
+
+    pub leaves_so : LeavesParagraph outer line → LeavesBehind outer words before line
+    leaves_so (inl out) = inl out
+    leaves_so (inr (inside, inl blank)) = inr (inside, inl blank)
+    leaves_so (inr (inside, inr (inl under))) = absurd (none (Some under.0) (inside, under.1))
+    leaves_so (inr (inside, inr (inr interrupts))) = inr (inside, inr (inr interrupts))
+
+  -- a line that does, behind definitions alone or behind text
+  module _ (found : TextEnd) (is : EndsText outer found line) where
+    pub text_goes_on : found.interrupts ≡ false → (¬ HasText (content_of outer.containers words before)) → ¬ LeavesBehind outer words before line
+    text_goes_on goes none (inl out) = out.0 is.ends.0
+    text_goes_on goes none (inr (inside, inl blank)) =
+        under_text outer.extensions (rest_in outer.containers line) found.level is.ends.1 blank
+    text_goes_on goes none (inr (inside, inr (inl under))) = none under.1
+    text_goes_on goes none (inr (inside, inr (inr interrupts))) =
+        let both : true ≡ false = sym (is.interrupts.1 interrupts.1) ∙ goes in cc
+
+    pub interrupts_so : found.interrupts ≡ true → LeavesBehind outer words before line
+    interrupts_so so =
+        inr (is.ends.0, inr (inr (under_near outer.extensions (rest_in outer.containers line) found.level is.ends.1, is.interrupts.0 so)))
+
+    pub underlines_so : (level : HeadingLevel) → found.level ≡ Some level → HasText (content_of outer.containers words before)
+        → Underlines outer.containers words before level line
+    underlines_so level so text =
+        ((is.ends.0, subst (λ l. IsUnderOrDefines outer.extensions l (rest_in outer.containers line)) so is.ends.1), text)
+
+    pub defines_so : found.level ≡ None → HasText (content_of outer.containers words before)
+        → LeavesBehind outer words before line × ((level : HeadingLevel) → ¬ Underlines outer.containers words before level line)
+    defines_so so text =
+        let defines = subst (λ l. IsUnderOrDefines outer.extensions l (rest_in outer.containers line)) so is.ends.1 in (
+          inr (is.ends.0, inr (inl (inr defines, text))),
+          λ level under. one_of_both outer.extensions (rest_in outer.containers line) level defines under.0.1,
+        )
+
 module _ (outer : Outer) (words : List ℕ) where
-  -- a line that goes on with no paragraph of these lines goes on with none
-  pub leaves_any : (before : List (List ℕ)) (line : List ℕ) → LeavesBehind outer words before line → LeavesParagraph outer line
-  leaves_any before line (inl out) = inl out
-  leaves_any before line (inr (inside, inl blank)) = inr (inside, inl blank)
-  leaves_any before line (inr (inside, inr (inl under))) = inr (inside, inr (inl under.0))
-  leaves_any before line (inr (inside, inr (inr interrupts))) = inr (inside, inr (inr interrupts))
-
-  -- an underline behind definitions alone, if it interrupts no paragraph
-  pub text_goes_on : (before : List (List ℕ)) (underline : Underline) (line : List ℕ) → IsUnderlineIn outer underline line → underline.interrupts ≡ false
-      → (¬ HasText (content_of outer.containers words before)) → ¬ LeavesBehind outer words before line
-  text_goes_on before underline line is goes none (inl out) = out.0 is.underlines.0
-  text_goes_on before underline line is goes none (inr (inside, inl blank)) =
-      let under = is.underlines.1.2 in not_blank (rest_in outer.containers line).text underline.level under.byte under.run under.rest under.of_level
-      under.is_run.parts
-      under.is_run.all under.at_least_one blank
-  text_goes_on before underline line is goes none (inr (inside, inr (inl under))) = none under.1
-  text_goes_on before underline line is goes none (inr (inside, inr (inr interrupts))) =
-      let both : true ≡ false = sym (is.interrupts.1 interrupts.1) ∙ goes in cc
-
-  -- a line that is none, or text
-  pub goes_on : (before : List (List ℕ)) (line : List ℕ) → ¬ LeavesParagraph outer line → ¬ LeavesBehind outer words before line
-  goes_on before line none leaves = none (leaves_any before line leaves)
-
-  -- a line that goes on with no paragraph, and is no underline
-  pub leaves_so : (before : List (List ℕ)) (line : List ℕ) → LeavesParagraph outer line
-      → ((level : HeadingLevel) → ¬ In outer.containers (IsUnderline level) line)
-      → LeavesBehind outer words before line
-  leaves_so before line (inl out) none = inl out
-  leaves_so before line (inr (inside, inl blank)) none = inr (inside, inl blank)
-  leaves_so before line (inr (inside, inr (inl under))) none = absurd (none under.0 (inside, under.1))
-  leaves_so before line (inr (inside, inr (inr interrupts))) none = inr (inside, inr (inr interrupts))
-
-  -- an underline that interrupts a paragraph
-  pub interrupts_so : (before : List (List ℕ)) (underline : Underline) (line : List ℕ) → IsUnderlineIn outer underline line → underline.interrupts ≡ true
-      → LeavesBehind outer words before line
-  interrupts_so before underline line is so = inr (is.underlines.0, inr (inr (is.underlines.1.0, is.interrupts.0 so)))
-
   -- the lines behind the first that go on with the paragraph
   module _ (text : List ℕ) (first : Taken) where
     abbrev pub Reached : Taken → Type 0

@@ -1,14 +1,15 @@
 -- What a line has behind the containers that it goes on with.
 use Rattle.std.proofs.Common.{ℕ, ◌⊎◌, not, is_some, Bool, true, false, List, ◌≡◌}
-use Rattle.std.proofs.Common.{inl, inr, refl, sym, ◌∙◌, subst, Option, Some, None, IsTrue}
+use Rattle.std.proofs.Common.{inl, inr, refl, sym, ap, ◌∙◌, subst, Option, Some, None, IsTrue}
 use Rattle.markdown_values.specs.declared.values.HeadingLevel.{HeadingLevel}
 use Rattle.markdown_scanners_tree.specs.Bytes.{is_blank}
 use Rattle.markdown_scanners_tree.specs.SomeExactly.{SomeExactly}
 use Rattle.markdown_scanners_tree.specs.line.State.{LineState}
-use Rattle.markdown_blocks.specs.containers.Containers.{Outer, Rest, rest_at, begun_at, behind, IsInside, rest_in}
+use Rattle.markdown_blocks.specs.containers.Containers.{Outer, Rest, rest_at, asked_in, begun_at, behind, IsInside, rest_in}
 use Rattle.markdown_blocks.specs.declared.containers.BlockExtensions.{BlockExtensions}
-use Rattle.markdown_blocks.specs.blocks.Endings.{IsUnderlineIn}
-use Rattle.markdown_blocks.specs.blocks.Leaves.{IsBlank, IsUnderline, HasIndent, IsLazy, EndsParagraph, Interrupts, LeavesParagraph, In}
+use Rattle.markdown_blocks.specs.declared.blocks.TextEnd.{TextEnd}
+use Rattle.markdown_blocks.specs.blocks.Endings.{EndsText, IsUnderOrDefines}
+use Rattle.markdown_blocks.specs.blocks.Leaves.{IsBlank, IsUnderline, DefinesTerm, HasIndent, IsLazy, EndsParagraph, Interrupts, LeavesParagraph, In, OutOr}
 
 module _ (outer : Outer) (line : List ℕ) (rest : Rest) (is : rest ≡ rest_in outer.containers line) (inside : IsInside outer.containers line) where
   -- what is found in it
@@ -17,17 +18,25 @@ module _ (outer : Outer) (line : List ℕ) (rest : Rest) (is : rest ≡ rest_in 
   some_inside P None none = λ a h. none a (subst (P a) (sym is) h.1)
   some_inside P (Some a) told = (inside, subst (P a) is told)
 
-  -- an underline
-  pub underline_inside : (level : HeadingLevel) (interrupts : Bool) → IsUnderline level rest
-      → (IsTrue interrupts → Interrupts outer.extensions rest.text) × (Interrupts outer.extensions rest.text → IsTrue interrupts)
-      → IsUnderlineIn outer (record { level = level; interrupts = interrupts }) line
-  underline_inside level interrupts under tells = record {
-    underlines = (inside, subst (IsUnderline level) is under);
+  -- what ends a paragraph with text
+  pub end_inside : (found : TextEnd) → IsUnderOrDefines outer.extensions found.level rest
+      → (IsTrue found.interrupts → Interrupts outer.extensions rest.text) × (Interrupts outer.extensions rest.text → IsTrue found.interrupts)
+      → EndsText outer found line
+  end_inside found under tells = record {
+    ends = (inside, subst (IsUnderOrDefines outer.extensions found.level) is under);
     interrupts = (
       λ t. subst (λ (r : Rest). Interrupts outer.extensions r.text) is (tells.0 t),
       λ here. tells.1 (subst (λ (r : Rest). Interrupts outer.extensions r.text) (sym is) here),
     );
   }
+
+  module _ (defines : Bool) (tells : (IsTrue defines → DefinesTerm outer.extensions rest) × (DefinesTerm outer.extensions rest → IsTrue defines)) where
+    pub no_end : (found : Option HeadingLevel) → SomeExactly (λ level. IsUnderline level rest) found → found ≡ None → defines ≡ false
+        → (level : Option HeadingLevel) → ¬ In outer.containers (IsUnderOrDefines outer.extensions level) line
+    no_end (Some other) told none not_so level h = cc
+    no_end None told none not_so (Some level) h = told level (subst (IsUnderline level) (sym is) h.1)
+    no_end None told none not_so None h =
+        let both : true ≡ false = sym (tells.1 (subst (DefinesTerm outer.extensions) (sym is) h.1)) ∙ not_so in cc
 
   pub leaves_inside : (Q : Type 0) → (Q → EndsParagraph outer.extensions rest) × (EndsParagraph outer.extensions rest → Q)
       → (Q → LeavesParagraph outer line) × (LeavesParagraph outer line → Q)
@@ -37,17 +46,40 @@ module _ (outer : Outer) (line : List ℕ) (rest : Rest) (is : rest ≡ rest_in 
       by (inl out) = absurd (out.0 inside)
       by (inr here) = tells.1 (subst (EndsParagraph outer.extensions) (sym is) here.1)
 
+  -- what ends another block
+  pub ends_inside : (P : Rest → Type 0) (Q : Type 0) → (Q → P rest) × (P rest → Q)
+      → (Q → OutOr outer.containers P line) × (OutOr outer.containers P line → Q)
+  ends_inside P Q tells = (λ q. inr (inside, subst P is (tells.0 q)), by)
+    where
+      by : OutOr outer.containers P line → Q
+      by (inl out) = absurd (out inside)
+      by (inr here) = tells.1 (subst P (sym is) here.1)
+
 -- a line that doesn't stand in the containers
 module _ (outer : Outer) (line : List ℕ) (out : ¬ IsInside outer.containers line) where
-  pub leaves_outside : (r : Bool) (s : LineState) → s ≡ (behind outer.containers line).state → (IsTrue r → IsLazy outer.extensions s)
-      × (IsLazy outer.extensions s → IsTrue r)
+  pub leaves_outside : (r : Bool) (s : LineState) → s ≡ (behind outer.containers line).state → (IsTrue r → IsLazy (asked_in outer line) s)
+      × (IsLazy (asked_in outer line) s → IsTrue r)
       → (IsTrue (not r) → LeavesParagraph outer line) × (LeavesParagraph outer line → IsTrue (not r))
   leaves_outside true s is tells = (λ t. cc, by)
     where
       by : LeavesParagraph outer line → IsTrue (not true)
-      by (inl alone) = absurd (alone.1 (subst (IsLazy outer.extensions) is (tells.0 refl)))
+      by (inl alone) = absurd (alone.1 (subst (IsLazy (asked_in outer line)) is (tells.0 refl)))
       by (inr here) = absurd (out here.0)
-  leaves_outside false s is tells = (λ t. inl (out, λ lazy. let told = tells.1 (subst (IsLazy outer.extensions) (sym is) lazy) in cc), λ l. refl)
+  leaves_outside false s is tells = (λ t. inl (out, λ lazy. let told = tells.1 (subst (IsLazy (asked_in outer line)) (sym is) lazy) in cc), λ l. refl)
+
+pub none_found : {A : Type 0} (found : Option A) (none : Bool) → is_some found ≡ not none → none ≡ true → found ≡ None
+none_found None none told h = refl
+none_found (Some a) none told h = let both : true ≡ false = told ∙ ap not h in cc
+
+pub some_found : {A : Type 0} (found : Option A) (none : Bool) → is_some found ≡ not none → none ≡ false → ¬ (found ≡ None)
+some_found None none told h is = let both : false ≡ true = told ∙ ap not h in cc
+some_found (Some a) none told h is = cc
+
+-- an underline, or without one the marker of a definition
+pub some_end : (asked : BlockExtensions) (rest : Rest) (found : Option HeadingLevel) → SomeExactly (λ level. IsUnderline level rest) found
+    → (found ≡ None → DefinesTerm asked rest) → IsUnderOrDefines asked found rest
+some_end asked rest (Some level) told defines = told
+some_end asked rest None told defines = defines refl
 
 pub begun_none : {A : Type 0} (b : Bool) (r : Option A) → b ≡ is_some r → b ≡ false → r ≡ None
 begun_none b None told h = refl

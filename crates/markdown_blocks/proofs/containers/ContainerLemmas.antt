@@ -1,18 +1,20 @@
 -- A line goes on with containers, one after the other, and begins others.
 use Rattle.std.proofs.Common.{suc, zero, ◌≤◌, List, [], ◌∷◌, ℕ, ◌-◌, take, drop, IsTrue, ◌↔◌, Bool}
 use Rattle.std.specs.Prelude.{IfSome, IfNone, if◌then◌else◌}
-use Rattle.std.proofs.Common.{true, false, ◌==◌, ◌≡◌, ◌<◌, length, Option, Some, None, is_some, refl, sym, ap, subst, ◌∙◌, arith}
+use Rattle.std.proofs.Common.{true, false, not, ◌&&◌, ◌==◌, ◌≡◌, ◌<◌, length, Option, Some, None, is_some, refl, sym, ap, subst, ◌∙◌, arith}
 use Rattle.std.specs.List.{list_all}
-use Rattle.markdown_scanners_tree.specs.Ascii.{greater_than_sign}
+use Rattle.std.proofs.lemmas.Bool.{eqb-true}
+use Rattle.markdown_scanners_tree.specs.Ascii.{colon, greater_than_sign}
 use Rattle.markdown_scanners_tree.specs.Bytes.{begins_with, is_blank}
-use Rattle.markdown_scanners_tree.specs.line.Outcome.{Outcome, after_quote, item_outcome}
+use Rattle.markdown_scanners_tree.specs.line.Outcome.{Outcome, after_quote, definition_outcome, item_outcome, not_found}
 use Rattle.markdown_scanners_tree.specs.line.State.{LineState, unscanned, space_within, after_space}
-use Rattle.markdown_blocks.specs.declared.containers.Container.TheVariants.{Quote, Item, Footnote}
+use Rattle.markdown_blocks.specs.declared.containers.Container.TheVariants.{Quote, Item, Footnote, TermDefinition}
 use Rattle.markdown_blocks.specs.declared.containers.BlockExtensions.{BlockExtensions}
 use Rattle.markdown_blocks.specs.declared.containers.Container.{Container}
 use Rattle.markdown_blocks.proofs.taken.TakenLemmas.{slice_behind}
 use Rattle.markdown_blocks.specs.containers.Containers.{goes_on_blank, go_on, Behind, behind_quote, all_extensions, begun_at}
-use Rattle.markdown_blocks.specs.containers.Containers.{begun_behind, either_begun, footnote_by, footnote_of, item_of, within_quote}
+use Rattle.markdown_blocks.specs.containers.Containers.{begun_behind, either_begun, extension_of, footnote_by, item_of}
+use Rattle.markdown_blocks.specs.containers.Containers.{term_definition_by, within_quote, within_width}
 use Rattle.markdown_blocks.specs.containers.Footnotes.{footnote_label}
 
 -- less than four columns
@@ -40,25 +42,54 @@ item_told found after delimiter start width begun answers is blank = rw (← ans
 -- no block quote begins there
 pub begun_other : (asked : BlockExtensions) (indent : ℕ) (s t : LineState) → (indent == 4) ≡ false
     → begins_with (λ b. b == greater_than_sign) (unscanned s) ≡ false → t ≡ s
-    → begun_behind asked indent s ≡ either_begun (item_of (item_outcome indent t)) (footnote_of asked t)
+    → begun_behind asked indent s ≡ either_begun (item_of (item_outcome indent t)) (extension_of asked indent t)
 begun_other asked indent s t far other same =
-    rw (far, other) (ap (λ z. either_begun (item_of (item_outcome indent z)) (footnote_of asked z)) (sym same))
+    rw (far, other) (ap (λ z. either_begun (item_of (item_outcome indent z)) (extension_of asked indent z)) (sym same))
+
+-- where the marker of a definition stands, no label of a footnote does
+no_label : (bytes : List ℕ) → begins_with (λ b. b == colon) bytes ≡ true → footnote_label bytes ≡ None
+no_label [] marked = cc
+no_label (a ∷ []) marked = refl
+no_label (a ∷ b ∷ bytes) marked = subst (λ x. footnote_label (x ∷ b ∷ bytes) ≡ None) (sym (eqb-true a colon marked)) refl
+
+pub definition_marked : (indent : ℕ) (s : LineState) (r : Container × LineState) → term_definition_by (definition_outcome indent s) ≡ Some r
+    → begins_with (λ b. b == colon) (unscanned s) ≡ true
+definition_marked indent s r is = by (begins_with (λ b. b == colon) (unscanned s)) _ is
+  where
+    by : (marked : Bool) (found : Outcome ℕ) → term_definition_by (if marked then found else not_found s) ≡ Some r → marked ≡ true
+    by true found is = refl
+    by false found is = cc
 
 -- what begins with some extensions on begins with all of them
-begun_more : (far here on : Bool) (quote item footnote : Option (Container × LineState)) (r : Container × LineState)
-    → (if far then None else if here then quote else either_begun item (if on then footnote else None)) ≡ Some r
-    → (if far then None else if here then quote else either_begun item footnote) ≡ Some r
-begun_more true here on quote item footnote r is = is
-begun_more false true on quote item footnote r is = is
-begun_more false false on quote (Some begun) footnote r is = is
-begun_more false false true quote None footnote r is = is
-begun_more false false false quote None footnote r is = cc
+extension_more : (footnotes lists : Bool) (footnote definition : Option (Container × LineState)) (r : Container × LineState)
+    → ((q : Container × LineState) → definition ≡ Some q → footnote ≡ None)
+    → either_begun (if footnotes then footnote else None) (if lists then definition else None) ≡ Some r → either_begun footnote definition ≡ Some r
+extension_more true lists (Some f) definition r apart is = is
+extension_more true true None definition r apart is = is
+extension_more true false None definition r apart is = cc
+extension_more false true footnote definition r apart is = ap (λ f. either_begun f definition) (apart r is) ∙ is
+extension_more false false footnote definition r apart is = cc
+
+extension_by_all : (asked : BlockExtensions) (indent : ℕ) (s : LineState) (r : Container × LineState) → extension_of asked indent s ≡ Some r
+    → extension_of all_extensions indent s ≡ Some r
+extension_by_all asked indent s r is =
+    extension_more asked.footnotes asked.definition_lists (footnote_by s (footnote_label (unscanned s))) (term_definition_by (definition_outcome indent s)) r
+    (λ q found. ap (footnote_by s) (no_label (unscanned s) (definition_marked indent s q found))) is
+
+begun_more : (far here : Bool) (quote item some all : Option (Container × LineState)) (r : Container × LineState)
+    → (some ≡ Some r → all ≡ Some r) → (if far then None else if here then quote else either_begun item some) ≡ Some r
+    → (if far then None else if here then quote else either_begun item all) ≡ Some r
+begun_more true here quote item some all r more is = is
+begun_more false true quote item some all r more is = is
+begun_more false false quote (Some begun) some all r more is = is
+begun_more false false quote None some all r more is = more is
 
 pub begun_by_all : (asked : BlockExtensions) (s : LineState) (r : Container × LineState) → begun_at asked s ≡ Some r → begun_at all_extensions s ≡ Some r
 begun_by_all asked s r is =
     let t = after_space 4 s in
-    begun_more (space_within 4 s == 4) (begins_with (λ b. b == greater_than_sign) (unscanned t)) asked.footnotes (Some (Quote, after_quote t))
-    (item_of (item_outcome (space_within 4 s) t)) (footnote_by t (footnote_label (unscanned t))) r is
+    let n = space_within 4 s in
+    begun_more (n == 4) (begins_with (λ b. b == greater_than_sign) (unscanned t)) (Some (Quote, after_quote t)) (item_of (item_outcome n t))
+    (extension_of asked n t) (extension_of all_extensions n t) r (extension_by_all asked n t r) is
 
 -- the container that a line begins, where its rest is passed
 pub begun_told : (asked : BlockExtensions) (s t after : LineState) (indent : ℕ) (r : Option Container) → indent ≡ space_within 4 s → t ≡ after_space 4 s
@@ -85,17 +116,29 @@ pub blank_at : (line : List ℕ) (s : LineState) (p : ℕ) (blank : Bool) → s.
     → blank ≡ is_blank (unscanned s)
 blank_at line s p blank same place is = is ∙ ap is_blank (slice_behind line p) ∙ rw (same, place) refl
 
+-- a line behind a container, by what it has of that
+abbrev pub step_on : List Container → LineState → Option (Bool × LineState) → Behind
+step_on inner s found = elim found [
+  | Some r ↦ (let more = go_on r.0 inner r.1 in record { kept = suc more.kept; state = more.state })
+  | None ↦ record { kept = 0; state = s }
+]
+
 -- containers that go on with blank lines
-pub plain_on : (cs : List Container) (s : LineState) → list_all goes_on_blank cs ≡ true → go_on true cs s ≡ record { kept = length cs; state = s }
+abbrev GoesOn : List Container → LineState → Type 0
+GoesOn cs s = go_on true cs s ≡ record { kept = length cs; state = s }
+
+plain_width : (begun : Bool) (width : ℕ) (cs : List Container) (s : LineState) → (list_all goes_on_blank cs ≡ true → GoesOn cs s)
+    → (not begun && list_all goes_on_blank cs) ≡ true
+    → step_on cs s (within_width begun width true s) ≡ record { kept = suc (length cs); state = s }
+plain_width true width cs s later all = cc
+plain_width false width cs s later all = ap (λ (b : Behind). record { kept = suc b.kept; state = b.state }) (later all)
+
+pub plain_on : (cs : List Container) (s : LineState) → list_all goes_on_blank cs ≡ true → GoesOn cs s
 plain_on [] s all = refl
 plain_on (Quote ∷ cs) s all = cc
-plain_on (Footnote ∷ cs) s all = ap (λ (b : Behind). record { kept = suc b.kept; state = b.state }) (plain_on cs s all)
-plain_on (Item item ∷ cs) s all = by item.begun refl (plain_on cs s)
-  where
-    by : (begun : Bool) → item.begun ≡ begun → (list_all goes_on_blank cs ≡ true → go_on true cs s ≡ record { kept = length cs; state = s })
-        → go_on true (Item item ∷ cs) s ≡ record { kept = length (Item item ∷ cs); state = s }
-    by true is later = let none : list_all goes_on_blank (Item item ∷ cs) ≡ false = rw is refl in cc
-    by false is later = rw is (ap (λ (b : Behind). record { kept = suc b.kept; state = b.state }) (later (rw is at all)))
+plain_on (Footnote ∷ cs) s all = plain_width false 4 cs s (plain_on cs s) all
+plain_on (Item item ∷ cs) s all = plain_width item.begun item.width cs s (plain_on cs s) all
+plain_on (TermDefinition definition ∷ cs) s all = plain_width definition.begun definition.width cs s (plain_on cs s) all
 
 -- from a place on, and so behind it
 plain_behind : (plain kept : ℕ) (cs : List Container) → plain ≤ kept → list_all goes_on_blank (drop plain cs) ≡ true

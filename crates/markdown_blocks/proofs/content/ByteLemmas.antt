@@ -1,6 +1,7 @@
 -- The bytes of a content stand in the lines at their places.
-use Rattle.std.proofs.Common.{ℕ, ◌+◌, ◌-◌, ◌<◌, ◌≤◌, ◌≡◌, List, [], ◌∷◌, ◌++◌, length, take, drop, get_or, replicate}
+use Rattle.std.proofs.Common.{ℕ, zero, suc, ◌+◌, ◌-◌, ◌<◌, ◌≤◌, ◌≡◌, List, [], ◌∷◌, ◌++◌, length, take, drop, get_or, replicate}
 use Rattle.std.proofs.Common.{refl, sym, ap, ◌∙◌, subst, inl, inr, arith, append_assoc, append-nil, length-append}
+use Rattle.std.specs.Prelude.{⊤}
 use Rattle.std.specs.List.{AllByRecursion, concat, flat_map, range_with_len}
 use Rattle.std.proofs.lemmas.Bool.Decides.{leb_tells}
 use Rattle.std.proofs.lemmas.List.{drop-append-le, drop-drop, drop_all, get_or-append_right}
@@ -93,7 +94,7 @@ later_in kind outer indent before (line ∷ lines) rest text within stands =
     )
 
 -- the lines that are content are the first of the later ones
-inner_first : (kind : BlockKind) (outer : List Container) (later inner : List (List ℕ)) → AreInner kind outer later inner
+pub inner_first : (kind : BlockKind) (outer : List Container) (later inner : List (List ℕ)) → AreInner kind outer later inner
     → (rest : List (List ℕ)) × (later ≡ inner ++ rest)
 inner_first kind outer later inner (inl (last, is, out)) = (last ∷ [], is)
 inner_first kind outer later inner (inr (is, none)) = ([], sym is ∙ sym (append-nil inner))
@@ -226,3 +227,130 @@ content_bytes kind outer kept lines content is offset low =
     subst (λ (c : Placed). IsByteAt lines (get_or c.text offset 0) (get_or c.places offset 0)) (sym is.is_content)
     (subst (λ b. IsByteAt lines b (get_or (take n places) offset 0)) (sym (get_or-take n text offset 0 in_front))
     (subst (IsByteAt lines (get_or text offset 0)) (sym (get_or-take n places offset 0 in_front)) here))
+
+parts_size : (parts : List Part) → length (flat_map places_of parts) ≡ length (flat_map text_of parts)
+parts_size [] = refl
+parts_size (p ∷ parts) =
+    length-append (places_of p) (flat_map places_of parts) ∙ ap (λ n. n + length (flat_map places_of parts)) (places_size p)
+    ∙ ap (λ n. length (text_of p) + n) (parts_size parts) ∙ sym (length-append (text_of p) (flat_map text_of parts))
+
+-- a content has as many places as bytes
+pub content_sizes : (kind : BlockKind) (outer : List Container) (kept : ℕ) (lines : List (List ℕ)) (content : Placed)
+    → IsContent kind outer kept lines content → length content.places ≡ length content.text
+content_sizes kind outer kept lines content is =
+    let n = content_len kind (joined is.parts).text in
+    let text = flat_map text_of is.parts in
+    let places = flat_map places_of is.parts in
+    let size : length content.text ≡ length (take n text) = ap (λ (c : Placed). length c.text) is.is_content in
+    let sized : length content.places ≡ length (take n places) = ap (λ (c : Placed). length c.places) is.is_content in
+    omega (arith, size, sized, length-take n text, length-take n places, parts_size is.parts)
+
+-- ---- the places don't fall
+
+-- no place stands before this one, nor before the one that it follows
+abbrev pub DoNotFall : ℕ → List ℕ → Type 0
+DoNotFall from [] = ⊤
+DoNotFall from (place ∷ places) = (from ≤ place) × DoNotFall place places
+
+-- each part stands behind the one before it
+abbrev pub StandBehind : ℕ → List Part → Type 0
+StandBehind from [] = ⊤
+StandBehind from (p ∷ parts) =
+    (from ≤ p.place) × (0 < p.columns → from < p.place) × StandBehind (p.place + length p.bytes) parts
+
+earlier_places : (from to : ℕ) (places : List ℕ) → from ≤ to → DoNotFall to places → DoNotFall from places
+earlier_places from to [] less rise = tt
+earlier_places from to (place ∷ places) less rise = (omega (arith, less, rise.0), rise.1)
+
+run_rises : (n place : ℕ) (rest : List ℕ) → DoNotFall (place + n) rest → DoNotFall place (range_with_len place n ++ rest)
+run_rises zero place rest rise = earlier_places place (place + 0) rest (omega arith) rise
+run_rises (suc n) place rest rise = (
+  omega arith,
+  earlier_places place (place + 1) _ (omega arith)
+      (run_rises n (place + 1) rest (subst (λ k. DoNotFall k rest) (omega arith) rise)),
+)
+
+same_rise : (n place : ℕ) (rest : List ℕ) → DoNotFall place rest → DoNotFall place (replicate n place ++ rest)
+same_rise zero place rest rise = rise
+same_rise (suc n) place rest rise = (omega arith, same_rise n place rest rise)
+
+part_rises : (from : ℕ) (p : Part) (rest : List ℕ) → from ≤ p.place → (0 < p.columns → from < p.place)
+    → DoNotFall (p.place + length p.bytes) rest → DoNotFall from (places_of p ++ rest)
+part_rises from p rest low behind rise =
+    let run = run_rises (length p.bytes) p.place rest rise in
+    subst (DoNotFall from) (sym (append_assoc (replicate p.columns (p.place - 1)) (range_with_len p.place (length p.bytes)) rest))
+    (elim (leb_tells 1 p.columns) [
+      | inl some ↦ earlier_places from (p.place - 1) _ (omega (arith, behind (omega (arith, some.1))))
+          (same_rise p.columns (p.place - 1) _ (earlier_places (p.place - 1) p.place _ (omega arith) run))
+      | inr none ↦ (let zero_columns : p.columns ≡ 0 = omega (arith, none.1) in
+          subst (λ n. DoNotFall from (replicate n (p.place - 1) ++ (range_with_len p.place (length p.bytes) ++ rest))) (sym zero_columns)
+          (earlier_places from p.place _ low run))
+    ])
+
+pub parts_rise : (from : ℕ) (parts : List Part) → StandBehind from parts → DoNotFall from (flat_map places_of parts)
+parts_rise from [] behind = tt
+parts_rise from (p ∷ parts) behind =
+    part_rises from p (flat_map places_of parts) behind.0 behind.1 (parts_rise (p.place + length p.bytes) parts behind.2)
+
+pub front_rises : (n from : ℕ) (places : List ℕ) → DoNotFall from places → DoNotFall from (take n places)
+front_rises zero from places rise = tt
+front_rises (suc n) from [] rise = tt
+front_rises (suc n) from (place ∷ places) rise = (rise.0, front_rises n place places rise.1)
+
+pub earlier_parts : (from to : ℕ) (parts : List Part) → from ≤ to → StandBehind to parts → StandBehind from parts
+earlier_parts from to [] less behind = tt
+earlier_parts from to (p ∷ parts) less behind = (omega (arith, less, behind.0), λ some. omega (arith, less, behind.1 some), behind.2)
+
+pub later_behind : (kind : BlockKind) (outer : List Container) (indent before : ℕ) (lines : List (List ℕ))
+    → StandBehind before (later_parts kind outer indent before lines)
+later_behind kind outer indent before [] = tt
+later_behind kind outer indent before (line ∷ lines) =
+    let there = left_in line _ (text_reached line kind indent (later_place kind outer line) (later_reached line kind outer)) in (
+      omega arith,
+      λ some. omega (arith, (there.1 some).0),
+      earlier_parts _ (before + length line) (later_parts kind outer indent (before + length line) lines) (omega (arith, there.0.0))
+          (later_behind kind outer indent (before + length line) lines),
+    )
+
+module _ (line : List ℕ) (later : List (List ℕ)) (outer : List Container) where
+  none_behind : (parts : List Part) → parts ≡ [] → StandBehind 0 parts
+  none_behind parts none = subst (StandBehind 0) (sym none) tt
+
+  text_behind : (kind : BlockKind) (s : LineState) → Reached line s → (parts : List Part)
+      → (inner : List (List ℕ)) × AreInner kind outer later inner
+      × (parts ≡ part_at (text_place kind 0 s) ∷ later_parts kind outer 0 (length line) inner) → StandBehind 0 parts
+  text_behind kind s r parts (inner, are, is) =
+      let there = left_in line _ (text_reached line kind 0 s r) in
+      subst (StandBehind 0) (sym is) (
+        omega arith,
+        λ some. (there.1 some).0,
+        earlier_parts _ (length line) (later_parts kind outer 0 (length line) inner) there.0.0 (later_behind kind outer 0 (length line) inner),
+      )
+
+  first_behind : (kind : BlockKind) (s : LineState) → Reached line s → (parts : List Part) → ArePartsAt kind outer s (length line) later parts
+      → StandBehind 0 parts
+  first_behind Blank s r parts none = none_behind parts none
+  first_behind Break s r parts none = none_behind parts none
+  first_behind (Table columns) s r parts none = none_behind parts none
+  first_behind (Heading level) s r parts is = subst (StandBehind 0) (sym is) (omega arith, λ some. absurd (omega (arith, some)), tt)
+  first_behind (Fenced count byte) s r parts (inner, are, is) =
+      subst (StandBehind 0) (sym is) (earlier_parts 0 (length line) _ (omega arith)
+      (later_behind (Fenced count byte) outer (space_within 4 s) (length line) inner))
+  first_behind (Setext level) s r parts are = text_behind (Setext level) s r parts are
+  first_behind Indented s r parts are = text_behind Indented s r parts are
+  first_behind (Html kind) s r parts are = text_behind (Html kind) s r parts are
+  first_behind Definition s r parts are = text_behind Definition s r parts are
+  first_behind Paragraph s r parts are = text_behind Paragraph s r parts are
+
+pub parts_behind : (kind : BlockKind) (outer : List Container) (kept : ℕ) (lines : List (List ℕ)) (parts : List Part)
+    → AreParts kind outer kept lines parts → StandBehind 0 parts
+parts_behind kind outer kept [] parts none = subst (StandBehind 0) (sym none) tt
+parts_behind kind outer kept (line ∷ later) parts are =
+    first_behind line later outer kind (first_place kept outer line) (first_reached line kept outer) parts are
+
+-- the places of a content don't fall
+pub content_rises : (kind : BlockKind) (outer : List Container) (kept : ℕ) (lines : List (List ℕ)) (content : Placed)
+    → IsContent kind outer kept lines content → DoNotFall 0 content.places
+content_rises kind outer kept lines content is =
+    subst (λ (c : Placed). DoNotFall 0 c.places) (sym is.is_content)
+    (front_rises _ 0 (flat_map places_of is.parts) (parts_rise 0 is.parts (parts_behind kind outer kept lines is.parts is.are_parts)))

@@ -2,18 +2,20 @@
 use Rattle.std.proofs.Common.{ℕ, zero, suc, Bool, ◌||◌, true, false, cond, ◌==◌, ◌+◌, ◌-◌}
 use Rattle.std.proofs.Common.{◌<◌, ◌≤◌, ◌≡◌, List, [], ◌∷◌, ◌++◌, length, take, get_or, replicate}
 use Rattle.std.proofs.Common.{nat_lt, refl, sym, ap, ◌∙◌, subst, inl, inr, arith}
-use Rattle.std.proofs.lemmas.Bool.{lt-ltb}
+use Rattle.std.proofs.lemmas.Bool.{eqb-true, lt-ltb}
 use Rattle.std.proofs.lemmas.Bool.Decides.{leb_tells, nat_tests}
 use Rattle.std.proofs.lemmas.List.{get_or-drop, length-drop}
+use Rattle.std.specs.List.{prefix_len}
 use Rattle.std.proofs.lemmas.List.Sums.{prefix_len-le-length}
 use Rattle.markdown_scanners_tree.specs.Ascii.{space, tab}
-use Rattle.markdown_scanners_tree.specs.Bytes.{is_line_ending}
+use Rattle.markdown_scanners_tree.specs.Bytes.{is_line_ending, is_space_or_tab}
 use Rattle.markdown_scanners_tree.specs.Columns.{bytes_below, column_after, column_past, written_byte, written_out}
 use Rattle.markdown_scanners_tree.specs.line.ItemRules.{start_of}
 use Rattle.markdown_scanners_tree.specs.line.Outcome.{after_all_space}
 use Rattle.markdown_scanners_tree.specs.line.State.{LineState, after_space, bytes_for, bytes_further}
 use Rattle.markdown_scanners_tree.specs.line.State.{leading_spaces, rest_of, space_within, unscanned}
 use Rattle.markdown_scanners_tree.proofs.line.ColumnLemmas.{after-more, below-cons, bool_cases, none_below, written-cons, written-end}
+use Rattle.markdown_blocks.proofs.content.AsciiCuts.{at_front, spaces_low}
 
 below_end : (c b : ℕ) (bs : List ℕ) (k : ℕ) → is_line_ending b ≡ true → bytes_below c (b ∷ bs) k ≡ 0
 below_end c b bs k ends = rw ends refl
@@ -126,6 +128,53 @@ all_space (b ∷ bs) c =
         ∙ ap (λ m. column_past c (take m (b ∷ bs))) (none_below (b ∷ bs) c (c + 0) (omega arith))
         ∙ after_none ∙ ap (λ k. c + k) (sym none)))
 
+-- a byte that begins with a space, written out, is a space or a tab, and the spaces go on behind it
+space_first : (b : ℕ) (bs : List ℕ) (c : ℕ) → is_line_ending b ≡ false → 1 ≤ leading_spaces (written_out c (b ∷ bs))
+    → (b < 128) × (c + leading_spaces (written_out c (b ∷ bs)) ≡ column_after c b + leading_spaces (written_out (column_after c b) bs))
+space_first b bs c goes some =
+    let whole : leading_spaces (written_out c (b ∷ bs)) ≡ leading_spaces (written_byte c b ++ written_out (column_after c b) bs) =
+    ap leading_spaces (written-cons c b bs goes) in
+    bool_cases (b == 9)
+    (λ is.
+    let w = column_after c b - c in
+    let wide : written_byte c b ≡ replicate w space = rw is refl in
+    let spaces = ap (λ t. leading_spaces (t ++ written_out (column_after c b) bs)) wide ∙ spaces_before w (written_out (column_after c b) bs) in
+    (grind (arith, nat_tests), omega (arith, whole, spaces, after-more c b)))
+    (λ no_tab. bool_cases (b == 32)
+    (λ is.
+    let one : written_byte c b ≡ space ∷ [] = rw no_tab (ap (λ x. x ∷ []) (eqb-true b 32 is)) in
+    let next : column_after c b ≡ c + 1 = rw no_tab refl in
+    let spaces = ap (λ t. leading_spaces (t ++ written_out (column_after c b) bs)) one ∙ spaces_before 1 (written_out (column_after c b) bs) in
+    (grind (arith, nat_tests), omega (arith, whole, spaces, next)))
+    (λ no_space.
+    let other : written_byte c b ++ written_out (column_after c b) bs ≡ b ∷ written_out (column_after c b) bs = rw no_tab refl in
+    let none : leading_spaces (b ∷ written_out (column_after c b) bs) ≡ 0 = rw no_space refl in
+    absurd (omega (arith, some, whole, ap leading_spaces other, none))))
+
+-- the last of the bytes that stand below a column to which spaces reach is a space or a tab
+last_space : (bs : List ℕ) (c k n : ℕ) → n ≡ bytes_below c bs k → 0 < n → k ≤ c + leading_spaces (written_out c bs) → get_or bs (n - 1) 0 < 128
+last_space [] c k n is some reach = absurd (omega (arith, is, some))
+last_space (b ∷ bs) c k n is some reach =
+    bool_cases (is_line_ending b)
+    (λ ends. absurd (omega (arith, is, some, below_end c b bs k ends)))
+    (λ goes. elim (leb_tells k c) [
+      | inl far ↦ absurd (omega (arith, is, some, none_below (b ∷ bs) c k far.1))
+      | inr near ↦ (let first = space_first b bs c goes (omega (arith, reach, near.1)) in
+          let more : n ≡ suc (bytes_below (column_after c b) bs k) = is ∙ below-cons c b bs k goes ∙ rw (lt-ltb c k near.1) (omega arith) in
+          next (bytes_below (column_after c b) bs k) refl first.0 more
+          (λ m rest there. last_space bs (column_after c b) k (suc m) rest there (omega (arith, reach, first.1))))
+    ])
+  where
+    next : (m : ℕ) → m ≡ bytes_below (column_after c b) bs k → b < 128 → n ≡ suc m
+        → ((m : ℕ) → suc m ≡ bytes_below (column_after c b) bs k → 0 < suc m → get_or bs (suc m - 1) 0 < 128)
+        → get_or (b ∷ bs) (n - 1) 0 < 128
+    next zero none low more later = subst (λ j. get_or (b ∷ bs) (j - 1) 0 < 128) (sym more) low
+    next (suc m) rest low more later =
+        let one : suc (suc m) - 1 ≡ suc m = omega arith in
+        let two : m ≡ suc m - 1 = omega arith in
+        subst (λ j. get_or (b ∷ bs) (j - 1) 0 < 128) (sym more)
+        (subst (λ j. get_or (b ∷ bs) j 0 < 128) (sym one) (subst (λ j. get_or bs j 0 < 128) (sym two) (later m rest (omega arith))))
+
 -- where fewer columns of space stand than are taken, none is pending then
 pub all_taken : (n : ℕ) (s : LineState) → space_within n s < n → (after_space n s).pending ≡ 0
 all_taken n s fewer =
@@ -142,15 +191,35 @@ pub record Reached (line : List ℕ) (s : LineState) : Type 0 where
   pub of_line : s.bytes ≡ line
   pub within : s.place ≤ length line
   pub behind_tab : 0 < s.pending → (0 < s.place) × (get_or line (s.place - 1) 0 ≡ tab)
+  -- directly before it stands a byte of ASCII, or nothing
+  pub behind_ascii : 0 < s.place → get_or line (s.place - 1) 0 < 128
 
 pub at_start : (line : List ℕ) → Reached line (start_of line)
-at_start line = record { of_line = refl; within = omega arith; behind_tab = λ some. absurd (omega (arith, some)) }
+at_start line = record {
+  of_line = refl;
+  within = omega arith;
+  behind_tab = λ some. absurd (omega (arith, some));
+  behind_ascii = λ some. absurd (omega (arith, some));
+}
 
 -- where no column is pending
-pub none_pending : (line : List ℕ) (s : LineState) → s.bytes ≡ line → s.place ≤ length line → s.pending ≡ 0 → Reached line s
-none_pending line s is within none = record { of_line = is; within = within; behind_tab = λ some. absurd (omega (arith, none, some)) }
+pub none_pending : (line : List ℕ) (s : LineState) → s.bytes ≡ line → s.place ≤ length line → s.pending ≡ 0
+    → (0 < s.place → get_or line (s.place - 1) 0 < 128) → Reached line s
+none_pending line s is within none ascii = record {
+  of_line = is;
+  within = within;
+  behind_tab = λ some. absurd (omega (arith, none, some));
+  behind_ascii = ascii;
+}
 
 module _ (line : List ℕ) (s : LineState) (r : Reached line s) where
+  -- what is passed ends with a byte of ASCII
+  passed_ascii : {place : ℕ} (n : ℕ) → place ≡ s.place + n → 0 < n → get_or (unscanned s) (n - 1) 0 < 128 → get_or line (place - 1) 0 < 128
+  passed_ascii n is some low =
+      let at = ap (λ p. get_or line (p - 1) 0) is ∙ ap (λ p. get_or line p 0) (omega (arith, some))
+      ∙ ap (λ l. get_or l (s.place + (n - 1)) 0) (sym r.of_line) ∙ sym (get_or-drop s.place s.bytes (n - 1) 0) in
+      subst (λ b. b < 128) (sym at) low
+
   left : length (unscanned s) ≡ length line - s.place
   left = length-drop s.place s.bytes ∙ ap (λ l. length l - s.place) r.of_line
 
@@ -166,8 +235,20 @@ module _ (line : List ℕ) (s : LineState) (r : Reached line s) where
         of_line = r.of_line;
         within = omega (arith, few, size, inside);
         behind_tab = λ some. by m refl some;
+        behind_ascii = λ some. ascii m refl some;
       }
     where
+      ascii : (m : ℕ) → m ≡ bytes_for (space_within n s) s → 0 < (after_space n s).place → get_or line ((after_space n s).place - 1) 0 < 128
+      ascii zero none some =
+          let same : (after_space n s).place ≡ s.place = omega (arith, none) in
+          subst (λ p. get_or line (p - 1) 0 < 128) (sym same) (r.behind_ascii (omega (arith, some, same)))
+      ascii (suc m) is some =
+          let u = unscanned s in
+          let k = s.phase + space_within n s - s.pending in
+          let all : leading_spaces (rest_of s) ≡ s.pending + leading_spaces (written_out s.phase u) = spaces_before s.pending (written_out s.phase u) in
+          let last = last_space u s.phase k (suc m) is (omega arith) (omega (arith, all)) in
+          passed_ascii (suc m) (omega (arith, is)) (omega arith) last
+
       by : (m : ℕ) → m ≡ bytes_for (space_within n s) s → 0 < (after_space n s).pending
           → (0 < (after_space n s).place) × (get_or line ((after_space n s).place - 1) 0 ≡ tab)
       by zero none some =
@@ -197,9 +278,19 @@ module _ (line : List ℕ) (s : LineState) (r : Reached line s) where
       let size = left in
       let inside = r.within in
       none_pending line (after_all_space s) r.of_line (omega (arith, few, size, inside)) refl
+      (λ some. by (prefix_len (λ b. b == space || b == tab) (unscanned s)) refl some)
+    where
+      by : (n : ℕ) → n ≡ prefix_len (λ b. b == space || b == tab) (unscanned s) → 0 < s.place + n
+          → get_or line ((after_all_space s).place - 1) 0 < 128
+      by zero none some =
+          let same : (after_all_space s).place ≡ s.place = omega (arith, none) in
+          subst (λ p. get_or line (p - 1) 0 < 128) (sym same) (r.behind_ascii (omega (arith, some)))
+      by (suc n) is some = passed_ascii (suc n) (omega (arith, is)) (omega arith) (at_front is_space_or_tab spaces_low (unscanned s) (suc n - 1) (omega (arith, is)))
 
-  pub after_bytes : (n : ℕ) → s.pending ≡ 0 → n ≤ length (unscanned s) → Reached line (bytes_further n s)
-  after_bytes n none few =
+  -- bytes are passed, of which the last is ASCII
+  pub after_bytes : (n : ℕ) → s.pending ≡ 0 → n ≤ length (unscanned s) → 0 < n → get_or (unscanned s) (n - 1) 0 < 128
+      → Reached line (bytes_further n s)
+  after_bytes n none few some low =
       let size = left in
       let inside = r.within in
-      none_pending line (bytes_further n s) r.of_line (omega (arith, few, size, inside)) none
+      none_pending line (bytes_further n s) r.of_line (omega (arith, few, size, inside)) none (λ more. passed_ascii n refl some low)

@@ -1,6 +1,8 @@
 -- Nothing is gathered of a content that begins with no definition.
-use Rattle.std.proofs.Common.{ℕ, List, [], ◌++◌, ◌-◌, ◌≡◌, inl, inr, length, take}
+use Rattle.std.proofs.Common.{ℕ, List, [], ◌++◌, ◌-◌, ◌≡◌, inl, inr, length, take, Option, Some, None, false, subst}
+use Rattle.std.specs.Prelude.{is_some}
 use Rattle.std.specs.List.{flat_map}
+use Rattle.markdown_scanners_tree.specs.SomeExactly.{SomeExactly}
 use Rattle.markdown_scanners_tree.specs.declared.scanners.reference_definitions.ReferenceDefinition.{ReferenceDefinition}
 use Rattle.markdown_blocks.specs.declared.blocks.BlockKind.{BlockKind}
 use Rattle.markdown_blocks.specs.declared.blocks.BlockKind.TheVariants.{Blank, Break, Heading, Setext, Indented, Fenced, Html, Table, Definition, Paragraph}
@@ -23,3 +25,11 @@ none_gathered Indented outer text later gathered none plain = inl none
 none_gathered (Fenced count byte) outer text later gathered none plain = inl none
 none_gathered (Html kind) outer text later gathered none plain = inl none
 none_gathered (Table columns) outer text later gathered none plain = inl none
+
+-- nothing is gathered of one in which none is found
+pub nothing_gathered : (kind : BlockKind) (outer : List Container) (text : List ℕ) (later : List (List ℕ)) (content gathered : List ℕ)
+    (found : Option ReferenceDefinition) → gathered ≡ [] → content ≡ content_in kind outer text later → SomeExactly (IsDefinition content) found
+    → is_some found ≡ false → IsGathered (content_in kind outer text later) gathered
+nothing_gathered kind outer text later content gathered None none is found absent =
+    inr (none, subst (λ c. (d : ReferenceDefinition) → ¬ IsDefinition c d) is found)
+nothing_gathered kind outer text later content gathered (Some d) none is found absent = cc

@@ -1,5 +1,5 @@
 -- Each event that is given goes before those that the page gives from there.
-use Rattle.std.proofs.Common.{ℕ, suc, List, [], ◌∷◌, ◌++◌, ◌+◌, ◌-◌, ◌<◌, ◌≤◌, ◌≡◌, ◌⊎◌, inl, inr, Option, Some, None, length, take, drop}
+use Rattle.std.proofs.Common.{ℕ, suc, Bool, List, [], ◌∷◌, ◌++◌, ◌+◌, ◌-◌, ◌<◌, ◌≤◌, ◌≡◌, ◌⊎◌, inl, inr, Option, Some, None, length, take, drop}
 use Rattle.std.proofs.Common.{refl, sym, ap, ◌∙◌, subst, arith, length-append}
 use Rattle.std.specs.Prelude.{map, replicate}
 use Rattle.std.specs.List.{concat}
@@ -11,7 +11,7 @@ use Rattle.markdown_blocks.proofs.block_events.GivenLemmas.{none_given}
 use Rattle.markdown_blocks.proofs.events.OneEvents.{one_list_of_blocks}
 use Rattle.markdown_blocks.proofs.definitions.DefinitionLemmas.{no_text}
 use Rattle.markdown_blocks.proofs.taken.TakenLemmas.{lines_bytes}
-use Rattle.markdown_blocks.specs.containers.Containers.{Outer, Rest, behind, settled_last}
+use Rattle.markdown_blocks.specs.containers.Containers.{Between, Rest, behind, settled_last}
 use Rattle.markdown_blocks.specs.declared.blocks.BlockKind.{BlockKind}
 use Rattle.markdown_blocks.specs.declared.containers.BlockExtensions.{BlockExtensions}
 use Rattle.markdown_blocks.specs.declared.containers.Container.{Container}
@@ -45,9 +45,18 @@ gathered_leaves outer kind part content gathered (block ∷ more) (inr plain) (s
     absurd (no_text found.0 (subst (λ t. IsDefinition t found.0) plain.0 found.1))
 gathered_leaves outer kind part content gathered (block ∷ more) (inr plain) (some, inr own) = (some, inr (plain.1, own.1, own.2))
 
-module _ (text : List ℕ) (asked : BlockExtensions) (containers : List Container) (line start : ℕ) where
+module _ (text : List ℕ) (asked : BlockExtensions) (containers : List Container) (term : Bool) (line start : ℕ) where
   abbrev at : ℕ → Option Pending → Left
-  at begun next = record { text = text; extensions = asked; containers = containers; begun = begun; line = line; start = start; next = next }
+  at begun next = record {
+    text = text;
+    extensions = asked;
+    containers = containers;
+    term = term;
+    begun = begun;
+    line = line;
+    start = start;
+    next = next;
+  }
 
   -- an event of the block that is read, and the rest of its events
   pub block_event : (begun then : ℕ) (content : List ℕ) (old new : BlockLeft) (event : Event)
@@ -117,16 +126,16 @@ module _ (text : List ℕ) (asked : BlockExtensions) (containers : List Containe
       ap (λ es. ends ∷ es) (all_ended less last events g) ∙ ap (λ n. replicate n ends) (sym more) in
       subst (λ es. Gives (at begun None) es) (sym all) (ended_page begun last)
 
-module _ (old new : Outer) (lines : List ℕ) (more : List (List ℕ)) (step : Step) (s : IsStep old lines more step new) where
+module _ (old new : Between) (lines : List ℕ) (more : List (List ℕ)) (step : Step) (s : IsStep old lines more step new) where
   begun_is : drop step.kept new.containers ≡ s.piece.begun
-  begun_is = ap (λ (o : Outer). drop step.kept o.containers) s.open_now ∙ drop_at s.piece.kept s.piece.begun step.kept (sym s.counted)
+  begun_is = ap (λ (o : Between). drop step.kept o.containers) s.open_now ∙ drop_at s.piece.kept s.piece.begun step.kept (sym s.counted)
 
   -- what is gathered is of the content of its piece
   pub piece_gathered : (content : List ℕ) → IsContentOf step new.containers content → IsGathered (piece_content s.piece) content
   piece_gathered content c =
       subst (λ (w : Rest). IsGathered (content_in s.piece.kind (s.piece.kept ++ s.piece.begun) w.text s.piece.later) content) (sym s.words)
       (subst (λ k. IsGathered (content_in k (s.piece.kept ++ s.piece.begun) step.text.now s.piece.later) content) (sym s.kind)
-      (subst (λ (o : Outer). IsGathered (content_in step.block.kind o.containers step.text.now s.piece.later) content) s.open_now
+      (subst (λ (o : Between). IsGathered (content_in step.block.kind o.containers step.text.now s.piece.later) content) s.open_now
       (c s.piece.first s.piece.later s.all)))
 
   module _ (before : Taken) (content : List ℕ) (c : IsContentOf step new.containers content) where
@@ -140,7 +149,7 @@ module _ (old new : Outer) (lines : List ℕ) (more : List (List ℕ)) (step : S
         (piece_gathered content c)
         (subst (λ p. AreLeaves (s.piece.kept ++ s.piece.begun) s.piece.kind p content leaves) part_is
         (subst (λ k. AreLeaves (s.piece.kept ++ s.piece.begun) k (block_left step before (length old.containers)).part content leaves) (sym s.kind)
-        (subst (λ (o : Outer). AreLeaves o.containers step.block.kind (block_left step before (length old.containers)).part content leaves) s.open_now are)))
+        (subst (λ (o : Between). AreLeaves o.containers step.block.kind (block_left step before (length old.containers)).part content leaves) s.open_now are)))
       where
         the_part : Rest → List (List ℕ) → Part
         the_part words lines = record { line = before.lines; start = before.bytes; words = words; lines = lines }
@@ -159,7 +168,7 @@ module _ (old new : Outer) (lines : List ℕ) (more : List (List ℕ)) (step : S
         × (events ≡ piece_events old.containers before.bytes s.piece leaves)
     step_events events g = (g.leaves, piece_leaves g.leaves g.are_leaves, piece_given events g)
 
-module _ (old new : Outer) (lines : List ℕ) (step : Step) (s : IsStep old lines [] step new) where
+module _ (old new : Between) (lines : List ℕ) (step : Step) (s : IsStep old lines [] step new) where
   -- the first line goes on with containers that were open, and they stay open
   pub step_kept : (step.kept ≤ length old.containers) × (step.kept ≤ length new.containers)
   step_kept =
@@ -167,7 +176,7 @@ module _ (old new : Outer) (lines : List ℕ) (step : Step) (s : IsStep old line
       let here : length s.piece.kept ≡ length (take (behind old.containers s.piece.first).kept old.containers) =
       ap length s.is_piece.opened.goes_on ∙ kept_fewer (take (behind old.containers s.piece.first).kept old.containers) in
       let few = length-take (behind old.containers s.piece.first).kept old.containers in
-      let longer : length new.containers ≡ length s.piece.kept + length s.piece.begun = ap (λ (o : Outer). length o.containers) s.open_now
+      let longer : length new.containers ≡ length s.piece.kept + length s.piece.begun = ap (λ (o : Between). length o.containers) s.open_now
       ∙ length-append s.piece.kept s.piece.begun in
       (omega (arith, counted, here, few), omega (arith, counted, longer))
 
@@ -178,6 +187,7 @@ module _ (old new : Outer) (lines : List ℕ) (step : Step) (s : IsStep old line
           text = text;
           extensions = new.extensions;
           containers = new.containers;
+          term = new.term;
           begun = begun;
           line = before.lines + step.block.taken.lines;
           start = before.bytes + step.block.taken.bytes;
@@ -187,6 +197,7 @@ module _ (old new : Outer) (lines : List ℕ) (step : Step) (s : IsStep old line
           text = lines;
           extensions = old.extensions;
           containers = old.containers;
+          term = old.term;
           begun = begun;
           line = before.lines;
           start =
@@ -200,6 +211,7 @@ module _ (old new : Outer) (lines : List ℕ) (step : Step) (s : IsStep old line
           text = text;
           extensions = new.extensions;
           containers = new.containers;
+          term = new.term;
           begun = begun;
           line = line_now;
           start = start_now;
@@ -228,9 +240,9 @@ module _ (old new : Outer) (lines : List ℕ) (step : Step) (s : IsStep old line
             subst (λ n. AreEvents (s.piece.kept ++ s.piece.begun) n (before.bytes + length (concat (s.piece.first ∷ s.piece.later))) g.pieces g.blocks)
                 line_then
                 (subst (λ n. AreEvents (s.piece.kept ++ s.piece.begun) line_now n g.pieces g.blocks) start_then
-                (subst (λ (o : Outer). AreEvents o.containers line_now start_now g.pieces g.blocks) s.open_now g.are_events)),
+                (subst (λ (o : Between). AreEvents o.containers line_now start_now g.pieces g.blocks) s.open_now g.are_events)),
           );
-          given = g.given ∙ ap (λ (o : Outer). (g.pending ++ g.blocks) ++ replicate (open_after (length o.containers) g.pieces) ends) s.open_now;
+          given = g.given ∙ ap (λ (o : Between). (g.pending ++ g.blocks) ++ replicate (open_after (length o.containers) g.pieces) ends) s.open_now;
         }
 
 -- nothing is read

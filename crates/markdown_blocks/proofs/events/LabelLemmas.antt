@@ -1,4 +1,4 @@
--- Where a footnote definition begins on a page, its label stands.
+-- Where a footnote definition begins on a page, its label stands, and a colon where the definition of a term does.
 use Rattle.std.proofs.Common.{ℕ, suc, zero, Bool, true, false, ◌&&◌, ◌==◌, ◌+◌, ◌-◌, ◌≡◌, List, [], ◌∷◌, ◌++◌, length, take, drop, Option, Some, None}
 use Rattle.std.proofs.Common.{is_some, refl, sym, ap, ◌∙◌, subst, arith, append_assoc, inl, inr}
 use Rattle.std.specs.Prelude.{if◌then◌else◌, map, nat_lt, replicate}
@@ -7,25 +7,27 @@ use Rattle.std.proofs.lemmas.Bool.{cases_lt}
 use Rattle.std.proofs.lemmas.List.{drop-append-le, drop-drop, drop_all}
 use Rattle.std.proofs.lemmas.List.Folds.{concat-append}
 use Rattle.std.proofs.Math.Seq.{drop-append_seam}
-use Rattle.markdown_scanners_tree.specs.Ascii.{greater_than_sign, left_bracket}
+use Rattle.markdown_scanners_tree.specs.Ascii.{colon, greater_than_sign, left_bracket}
 use Rattle.markdown_scanners_tree.specs.Bytes.{begins_with, is_blank}
 use Rattle.markdown_scanners_tree.specs.line.ItemRules.{start_of}
-use Rattle.markdown_scanners_tree.specs.line.Outcome.{after_quote, item_outcome, item_outcome_after, item_outcome_by, not_found, space_or_end_follows}
-use Rattle.markdown_scanners_tree.specs.line.State.{LineState, unscanned, bytes_further, space_within, after_space}
+use Rattle.markdown_scanners_tree.specs.line.Outcome.{after_quote, definition_outcome, item_outcome, item_outcome_after}
+use Rattle.markdown_scanners_tree.specs.line.Outcome.{item_outcome_by, not_found, space_or_end_follows}
+use Rattle.markdown_scanners_tree.specs.line.PlainStep.{definition_spaces}
+use Rattle.markdown_scanners_tree.specs.line.State.{LineState, unscanned, rest_of, leading_spaces, bytes_further, space_within, after_space}
 use Rattle.markdown_scanners_tree.specs.scanners.list_items.ListMarker.{Marker, list_marker}
 use Rattle.markdown_scanners_tree.proofs.ForCallers.{lines_joined}
 use Rattle.markdown_blocks.specs.blocks.Pages.{Piece, AreBlocks, lines_in, open_behind, root}
-use Rattle.markdown_blocks.specs.containers.Containers.{Outer, after_marker, all_extensions, begun_at}
-use Rattle.markdown_blocks.specs.containers.Containers.{behind, behind_quote, either_begun, footnote_by}
-use Rattle.markdown_blocks.specs.containers.Containers.{go_on, item_of, marker_place, within, within_quote, Opens}
+use Rattle.markdown_blocks.specs.containers.Containers.{Between, after_marker, all_extensions, asked_between, begun_at}
+use Rattle.markdown_blocks.specs.containers.Containers.{behind, behind_quote, either_begun, extension_of, footnote_by, footnote_of, term_definition_by}
+use Rattle.markdown_blocks.specs.containers.Containers.{term_definition_of}
+use Rattle.markdown_blocks.specs.containers.Containers.{go_on, item_of, marker_place, within, within_quote, within_width, without_terms, Opens}
 use Rattle.markdown_blocks.specs.containers.Footnotes.{behind_footnote, circumflex, closes_label, footnote_label, is_label_byte}
 use Rattle.markdown_blocks.specs.declared.containers.BlockExtensions.{BlockExtensions}
 use Rattle.markdown_blocks.specs.declared.containers.Container.{Container}
-use Rattle.markdown_blocks.specs.declared.containers.Container.TheVariants.{Quote, Item, Footnote}
+use Rattle.markdown_blocks.specs.declared.containers.Container.TheVariants.{Quote, Item, Footnote, TermDefinition}
 use Rattle.markdown_blocks.specs.events.Events.{Event, starts, leaf, ends, LeafBlock, started, piece_events, AreEvents, open_after, IsEventsOf}
-use Rattle.markdown_blocks.specs.events.Labels.{HasLabelAt, HaveLabels}
-use Rattle.markdown_blocks.proofs.containers.ContainerLemmas.{begun_by_all}
-use Rattle.markdown_blocks.proofs.laws.SameContainers.{step_on}
+use Rattle.markdown_blocks.specs.events.Labels.{AreMarked, IsMarked}
+use Rattle.markdown_blocks.proofs.containers.ContainerLemmas.{begun_by_all, definition_marked, step_on}
 
 -- a label in a text stands in each that goes on behind it
 closes_more : (bytes more : List ℕ) → closes_label bytes ≡ true → closes_label (bytes ++ more) ≡ true
@@ -77,6 +79,10 @@ label_more (a ∷ b ∷ bytes) more h =
     some_of (test (run (bytes ++ more)) (closes_label (drop (run (bytes ++ more)) (bytes ++ more)))) (take (run (bytes ++ more)) (bytes ++ more))
     ∙ ap (λ k. test k (closes_label (drop k (bytes ++ more)))) l.0 ∙ ap (test n) (l.1 ∙ sym closes) ∙ here
 
+colon_more : (bytes more : List ℕ) → begins_with (λ b. b == colon) bytes ≡ true → begins_with (λ b. b == colon) (bytes ++ more) ≡ true
+colon_more [] more h = cc
+colon_more (b ∷ bytes) more h = h
+
 -- a place stays in its line
 either_bytes : (b : Bool) (s t u : LineState) → s.bytes ≡ u.bytes → t.bytes ≡ u.bytes → (if b then s else t).bytes ≡ u.bytes
 either_bytes true s t u first second = first
@@ -93,39 +99,61 @@ item_bytes indent s (Some m) = by (space_or_end_follows (bytes_further m.width s
     by true = refl
     by false = refl
 
--- what begins there
-begun_parts : (far here on : Bool) (answer : Option (ℕ × ℕ × ℕ)) (label : Option (List ℕ)) (quoted passed t next : LineState) (c : Container)
-    → quoted.bytes ≡ t.bytes → passed.bytes ≡ t.bytes
-    → (if far then None else if here then Some (Quote, quoted)
-    else either_begun (item_of (record { answer = answer; state = passed })) (if on then footnote_by t label else None)) ≡ Some (c, next)
-    → (next.bytes ≡ t.bytes) × (c ≡ Footnote → is_some label ≡ true)
-begun_parts true here on answer label quoted passed t next c q p is = cc
-begun_parts false true on answer label quoted passed t next c q p is =
-    let pair : ◌≡◌ {A = Container × LineState} (Quote, quoted) (c, next) = cc in (
-      subst (λ (z : LineState). z.bytes ≡ t.bytes) (ap (λ (z : Container × LineState). z.1) pair) q,
-      λ f. let both : Quote ≡ Footnote = ap
-          (λ (z : Container × LineState). z.0) pair ∙ f in cc,
-    )
-begun_parts false false on (Some r) label quoted passed t next c q p is =
-    let item = Item (record { delimiter = r.0; start = r.1; width = r.2; begun = is_blank (unscanned passed) }) in
-    let pair : ◌≡◌ {A = Container × LineState} (item, passed) (c, next) = cc in (
-      subst (λ (z : LineState). z.bytes ≡ t.bytes) (ap (λ (z : Container × LineState). z.1) pair) p,
-      λ f. let both : item ≡ Footnote = ap
-          (λ (z : Container × LineState). z.0) pair ∙ f in cc,
-    )
-begun_parts false false true None (Some l) quoted passed t next c q p is =
-    let pair : ◌≡◌ {A = Container × LineState} (Footnote, behind_footnote l t) (c, next) = cc in
-    (subst (λ (z : LineState). z.bytes ≡ t.bytes) (ap (λ (z : Container × LineState). z.1) pair) refl, λ f. refl)
-begun_parts false false true None None quoted passed t next c q p is = cc
-begun_parts false false false None label quoted passed t next c q p is = cc
+-- what begins there is marked, and the place behind it stands in the line
+module _ (P : Container × LineState → Type 0) where
+  pub one_is : (found r : Container × LineState) → Some found ≡ Some r → P found → P r
+  one_is found r is h = let one : found ≡ r = cc in subst P one h
 
-begun_there : (asked : BlockExtensions) (s next : LineState) (c : Container) → begun_at asked s ≡ Some (c, next)
-    → (next.bytes ≡ s.bytes) × (c ≡ Footnote → is_some (footnote_label (unscanned (after_space 4 s))) ≡ true)
-begun_there asked s next c is =
+  pub either_is : (first second : Option (Container × LineState)) → ((r : Container × LineState) → first ≡ Some r → P r)
+      → ((r : Container × LineState) → second ≡ Some r → P r) → (r : Container × LineState) → either_begun first second ≡ Some r → P r
+  either_is None second h h' r is = h' r is
+  either_is (Some found) second h h' r is = h r is
+
+  asked_is : (on : Bool) (found : Option (Container × LineState)) → ((r : Container × LineState) → found ≡ Some r → P r)
+      → (r : Container × LineState) → (if on then found else None) ≡ Some r → P r
+  asked_is true found h r is = h r is
+  asked_is false found h r is = cc
+
+  pub begun_is : (far here : Bool) (quote other : Option (Container × LineState)) → ((r : Container × LineState) → quote ≡ Some r → P r)
+      → ((r : Container × LineState) → other ≡ Some r → P r) → (r : Container × LineState)
+      → (if far then None else if here then quote else other) ≡ Some r → P r
+  begun_is true here quote other h h' r is = cc
+  begun_is false true quote other h h' r is = h r is
+  begun_is false false quote other h h' r is = h' r is
+
+module _ (t : LineState) where
+  abbrev Stands : Container × LineState → Type 0
+  Stands r = (r.1.bytes ≡ t.bytes) × IsMarked r.0 (unscanned t)
+
+  item_stands : (answer : Option (ℕ × ℕ × ℕ)) (after : LineState) → after.bytes ≡ t.bytes → (r : Container × LineState)
+      → item_of (record { answer = answer; state = after }) ≡ Some r → Stands r
+  item_stands None after same r is = cc
+  item_stands (Some a) after same r is = one_is Stands _ r is (same, tt)
+
+  footnote_stands : (label : Option (List ℕ)) → footnote_label (unscanned t) ≡ label → (r : Container × LineState) → footnote_by t label ≡ Some r
+      → Stands r
+  footnote_stands None found r is = cc
+  footnote_stands (Some l) found r is = one_is Stands (Footnote, behind_footnote l t) r is (refl, ap is_some found)
+
+  definition_stands : (n : ℕ) (r : Container × LineState) → term_definition_by (definition_outcome n t) ≡ Some r → Stands r
+  definition_stands n r is =
+      let marked = definition_marked n t r is in
+      let after = bytes_further 1 t in
+      let columns = definition_spaces (leading_spaces (rest_of after)) in
+      let next = after_space columns after in
+      one_is Stands (TermDefinition (record { begun = is_blank (unscanned next); width = n + 1 + columns }), next) r (rw marked at is) (refl, marked)
+
+begun_there : (asked : BlockExtensions) (s : LineState) (r : Container × LineState) → begun_at asked s ≡ Some r → Stands (after_space 4 s) r
+begun_there asked s =
     let t = after_space 4 s in
     let n = space_within 4 s in
-    begun_parts (n == 4) (begins_with (λ b. b == greater_than_sign) (unscanned t)) asked.footnotes (item_outcome n t).answer (footnote_label (unscanned t))
-    (after_quote t) (item_outcome n t).state t next c (quote_bytes t) (item_bytes n t (list_marker (unscanned t))) is
+    begun_is (Stands t) (n == 4) (begins_with (λ b. b == greater_than_sign) (unscanned t)) (Some (Quote, after_quote t)) _
+    (λ r is. one_is (Stands t) (Quote, after_quote t) r is (quote_bytes t, tt))
+    (either_is (Stands t) (item_of (item_outcome n t)) (extension_of asked n t)
+    (item_stands t (item_outcome n t).answer (item_outcome n t).state (item_bytes n t (list_marker (unscanned t))))
+    (either_is (Stands t) (footnote_of asked t) (term_definition_of asked n t)
+    (asked_is (Stands t) asked.footnotes (footnote_by t (footnote_label (unscanned t))) (footnote_stands t (footnote_label (unscanned t)) refl))
+    (asked_is (Stands t) asked.definition_lists (term_definition_by (definition_outcome n t)) (definition_stands t n))))
 
 -- the containers that a line goes on with
 quote_on : (found : Option LineState) (s : LineState) (r : Bool × LineState) → ((t : LineState) → found ≡ Some t → t.bytes ≡ s.bytes)
@@ -148,15 +176,19 @@ either_off : (b : Bool) (p r : Bool × LineState) (s : LineState) → p.1.bytes 
 either_off true p r s same is = cc
 either_off false p r s same is = let one : p ≡ r = cc in subst (λ (z : Bool × LineState). z.1.bytes ≡ s.bytes) one same
 
+width_bytes : (begun : Bool) (width : ℕ) (blank : Bool) (s : LineState) (r : Bool × LineState) → within_width begun width blank s ≡ Some r
+    → r.1.bytes ≡ s.bytes
+width_bytes begun width true s r is = either_off begun (true, s) r s refl is
+width_bytes begun width false s r is = either_on (space_within width s == width) (false, after_space width s) r s refl is
+
 within_bytes : (c : Container) (blank : Bool) (s : LineState) (r : Bool × LineState) → within c blank s ≡ Some r → r.1.bytes ≡ s.bytes
 within_bytes Quote blank s r is =
     let t = after_space 4 s in
     quote_on (behind_quote (space_within 4 s) t) s r (λ q found. quote_place (space_within 4 s == 4)
     (begins_with (λ b. b == greater_than_sign) (unscanned t)) (after_quote t) q s (quote_bytes t) found) is
-within_bytes (Item item) true s r is = either_off item.begun (true, s) r s refl is
-within_bytes (Item item) false s r is = either_on (space_within item.width s == item.width) (false, after_space item.width s) r s refl is
-within_bytes Footnote true s r is = either_off false (true, s) r s refl is
-within_bytes Footnote false s r is = either_on (space_within 4 s == 4) (false, after_space 4 s) r s refl is
+within_bytes (Item item) blank s r is = width_bytes item.begun item.width blank s r is
+within_bytes Footnote blank s r is = width_bytes false 4 blank s r is
+within_bytes (TermDefinition definition) blank s r is = width_bytes definition.begun definition.width blank s r is
 
 on_bytes : (blank : Bool) (cs : List Container) (s : LineState) → (go_on blank cs s).state.bytes ≡ s.bytes
 on_bytes blank [] s = refl
@@ -169,56 +201,58 @@ on_bytes blank (c ∷ cs) s = by (within c blank s) (within_bytes c blank s) (λ
     by (Some r) same later = later r.0 r.1 ∙ same r refl
 
 -- events one after the other
-both_have : (page : List ℕ) (events others : List Event) → HaveLabels page events → HaveLabels page others → HaveLabels page (events ++ others)
+both_have : (page : List ℕ) (events others : List Event) → AreMarked page events → AreMarked page others → AreMarked page (events ++ others)
 both_have page [] others h h' = h'
 both_have page (starts c place ∷ events) others h h' = (h.0, both_have page events others h.1 h')
 both_have page (leaf block ∷ events) others h h' = both_have page events others h h'
 both_have page (ends ∷ events) others h h' = both_have page events others h h'
 
-ends_have : (page : List ℕ) (count : ℕ) → HaveLabels page (replicate count ends)
+ends_have : (page : List ℕ) (count : ℕ) → AreMarked page (replicate count ends)
 ends_have page zero = tt
 ends_have page (suc count) = ends_have page count
 
-leaves_have : (page : List ℕ) (leaves : List LeafBlock) → HaveLabels page (map leaf leaves)
+leaves_have : (page : List ℕ) (leaves : List LeafBlock) → AreMarked page (map leaf leaves)
 leaves_have page [] = tt
 leaves_have page (block ∷ leaves) = leaves_have page leaves
 
 -- the markers in a line that stands in the page
 module _ (page first more : List ℕ) (start : ℕ) (stands : drop start page ≡ first ++ more) where
-  label_stands : (place : ℕ) → is_some (footnote_label (drop place first)) ≡ true → is_some (footnote_label (drop (start + place) page)) ≡ true
-  label_stands place label = elim (cases_lt (length first) place) [
+  test_stands : (test : List ℕ → Bool) → test [] ≡ false → ((bytes : List ℕ) → test bytes ≡ true → test (bytes ++ more) ≡ true) → (place : ℕ)
+      → test (drop place first) ≡ true → test (drop (start + place) page) ≡ true
+  test_stands test empty on place holds = elim (cases_lt (length first) place) [
     | inl past ↦ (
         let none : drop place first ≡ [] = drop_all place first (omega (arith, past)) in
-        let both : true ≡ false = sym label ∙ ap (λ bytes. is_some (footnote_label bytes)) none in cc
+        let both : true ≡ false = sym holds ∙ ap test none ∙ empty in cc
         )
     | inr within ↦ (
         let there : drop (start + place) page ≡ drop place first ++ more =
         sym (drop-drop place start page) ∙ ap (drop place) stands ∙ drop-append-le place first more (omega (arith, within)) in
-        ap (λ bytes. is_some (footnote_label bytes)) there ∙ label_more (drop place first) more label
+        ap test there ∙ on (drop place first) holds
         )
   ]
 
-  marked : (c : Container) (place : ℕ) → (c ≡ Footnote → is_some (footnote_label (drop place first)) ≡ true) → HasLabelAt page c (start + place)
-  marked Quote place label = tt
-  marked (Item item) place label = tt
-  marked Footnote place label = label_stands place (label refl)
+  marked : (c : Container) (place : ℕ) → IsMarked c (drop place first) → IsMarked c (drop (start + place) page)
+  marked Quote place h = tt
+  marked (Item item) place h = tt
+  marked Footnote place h = test_stands (λ bytes. is_some (footnote_label bytes)) refl (λ bytes. label_more bytes more) place h
+  marked (TermDefinition definition) place h = test_stands (begins_with (λ b. b == colon)) refl (λ bytes. colon_more bytes more) place h
 
   started_have : (asked : BlockExtensions) (cs : List Container) (s last : LineState) → s.bytes ≡ first → Opens asked s cs last
-      → HaveLabels page (started start s cs)
+      → AreMarked page (started start s cs)
   started_have asked [] s last at o = tt
   started_have asked (c ∷ cs) s last at o =
-      let there = begun_there asked s o.0 c o.1 in
+      let there = begun_there asked s (c, o.0) o.1 in
       let all : begun_at all_extensions s ≡ Some (c, o.0) = begun_by_all asked s (c, o.0) o.1 in
       let next : o.0 ≡ after_marker s = rw (after_marker, all) refl in (
-        marked c (marker_place s) (λ f. ap (λ bytes. is_some (footnote_label (drop (marker_place s) bytes))) (sym at) ∙ there.1 f),
-        subst (λ z. HaveLabels page (started start z cs)) next (started_have asked cs o.0 last (there.0 ∙ at) o.2),
+        marked c (marker_place s) (subst (λ bytes. IsMarked c (drop (marker_place s) bytes)) at there.1),
+        subst (λ z. AreMarked page (started start z cs)) next (started_have (without_terms asked) cs o.0 last (there.0 ∙ at) o.2),
       )
 
 -- the pieces of a page
-pieces_have : (page : List ℕ) (pieces : List Piece) (outer : Outer) (line start : ℕ) (events : List Event) → AreBlocks outer pieces []
-    → AreEvents outer.containers line start pieces events → drop start page ≡ concat (lines_in pieces) → HaveLabels page events
-pieces_have page [] outer line start events each are stands = subst (HaveLabels page) (sym are) tt
-pieces_have page (piece ∷ later) outer line start events each are stands =
+pieces_have : (page : List ℕ) (pieces : List Piece) (before : Between) (line start : ℕ) (events : List Event) → AreBlocks before pieces []
+    → AreEvents before.containers line start pieces events → drop start page ≡ concat (lines_in pieces) → AreMarked page events
+pieces_have page [] before line start events each are stands = subst (AreMarked page) (sym are) tt
+pieces_have page (piece ∷ later) before line start events each are stands =
     let front = piece.first ∷ piece.later in
     let parts : concat (lines_in (piece ∷ later)) ≡ concat front ++ concat (lines_in later) = concat-append front (lines_in later) in
     let opened = each.0.opened in
@@ -227,19 +261,20 @@ pieces_have page (piece ∷ later) outer line start events each are stands =
     let behind_front : drop (start + length (concat front)) page ≡ concat (lines_in later) =
     sym (drop-drop (length (concat front)) start page) ∙ ap (drop (length (concat front))) (stands ∙ parts)
     ∙ drop-append_seam (concat front) (concat (lines_in later)) in
-    let place = (behind outer.containers piece.first).state in
-    let begins = started_have page piece.first (concat piece.later ++ concat (lines_in later)) start first outer.extensions piece.begun place opened.place
-    (on_bytes (is_blank piece.first) outer.containers (start_of piece.first)) opened.begins in
-    let gone = replicate (length outer.containers - length piece.kept) ends in
-    let own : HaveLabels page (piece_events outer.containers start piece are.0) =
+    let place = (behind before.containers piece.first).state in
+    let begins = started_have page piece.first (concat piece.later ++ concat (lines_in later)) start first (asked_between before piece.first) piece.begun place
+    opened.place
+    (on_bytes (is_blank piece.first) before.containers (start_of piece.first)) opened.begins in
+    let gone = replicate (length before.containers - length piece.kept) ends in
+    let own : AreMarked page (piece_events before.containers start piece are.0) =
     both_have page (gone ++ started start place piece.begun) (map leaf are.0)
-    (both_have page gone (started start place piece.begun) (ends_have page (length outer.containers - length piece.kept)) begins) (leaves_have page are.0) in
-    subst (HaveLabels page) (sym are.3) (both_have page (piece_events outer.containers start piece are.0) are.1 own
-    (pieces_have page later (open_behind outer piece) (line + length front) (start + length (concat front)) are.1 each.1 are.4 behind_front))
+    (both_have page gone (started start place piece.begun) (ends_have page (length before.containers - length piece.kept)) begins) (leaves_have page are.0) in
+    subst (AreMarked page) (sym are.3) (both_have page (piece_events before.containers start piece are.0) are.1 own
+    (pieces_have page later (open_behind before piece) (line + length front) (start + length (concat front)) are.1 each.1 are.4 behind_front))
 
--- On each page a label stands where a footnote definition begins.
-pub footnotes_have_labels : (asked : BlockExtensions) (page : List ℕ) (events : List Event) → IsEventsOf asked page events → HaveLabels page events
-footnotes_have_labels asked page events h =
+-- On each page a label stands where a footnote definition begins, and a colon where the definition of a term does.
+pub extensions_are_marked : (asked : BlockExtensions) (page : List ℕ) (events : List Event) → IsEventsOf asked page events → AreMarked page events
+extensions_are_marked asked page events h =
     let whole : page ≡ concat (lines_in h.0) = sym (lines_joined page) ∙ ap concat (sym h.2.joined) in
-    subst (HaveLabels page) (sym h.4) (both_have page h.1 (replicate (open_after 0 h.0) ends)
+    subst (AreMarked page) (sym h.4) (both_have page h.1 (replicate (open_after 0 h.0) ends)
     (pieces_have page h.0 (root asked) 0 0 h.1 h.2.each h.3 whole) (ends_have page (open_after 0 h.0)))

@@ -6,7 +6,7 @@ use Rattle.std.proofs.lemmas.List.{drop-drop, map-append}
 use Rattle.markdown_scanners_tree.proofs.ForCallers.{one_reference_definition}
 use Rattle.markdown_scanners_tree.specs.declared.scanners.reference_definitions.ReferenceDefinition.{ReferenceDefinition}
 use Rattle.markdown_blocks.specs.blocks.Pages.{Piece, root}
-use Rattle.markdown_blocks.specs.containers.Containers.{Outer}
+use Rattle.markdown_blocks.specs.containers.Containers.{Between}
 use Rattle.markdown_blocks.specs.declared.containers.BlockExtensions.{BlockExtensions}
 use Rattle.markdown_blocks.specs.declared.containers.Container.{Container}
 use Rattle.markdown_blocks.specs.declared.step.Step.{Step}
@@ -83,7 +83,7 @@ gathered_shown content gathered events shown (inl whole) are = subst (λ t. AreS
 gathered_shown content gathered events shown (inr plain) are =
     nothing_shown content plain.1 events shown (subst (λ t. AreShown t events shown) plain.0 are)
 
-pub step_shown : (old new : Outer) (lines : List ℕ) (more : List (List ℕ)) (step : Step) (s : IsStep old lines more step new) (content : List ℕ)
+pub step_shown : (old new : Between) (lines : List ℕ) (more : List (List ℕ)) (step : Step) (s : IsStep old lines more step new) (content : List ℕ)
     → IsContentOf step new.containers content → (events : List Event) (shown : List Shown) → AreShown content events shown
     → AreShown (piece_content s.piece) events shown
 step_shown old new lines more step s content gathered events shown are =

@@ -11,7 +11,8 @@ use Rattle.markdown_blocks.specs.events.Events.{Event, ends, LeafBlock, IsEvents
 use Rattle.markdown_blocks.specs.events.Given.{Left, Gives}
 use Rattle.markdown_blocks.specs.first_blocks.FirstBlocks.{First, first_in, firsts_of}
 use Rattle.markdown_blocks.specs.first_blocks.Waiting.{firsts_behind}
-use Rattle.markdown_blocks.specs.lists.Lists.{Nodes, nothing, leaf_then, container_then, flatten, is_blank_kind}
+use Rattle.markdown_blocks.specs.blocks.Pages.{is_blank_kind}
+use Rattle.markdown_blocks.specs.lists.Lists.{Nodes, nothing, leaf_then, container_then, flatten}
 
 -- what follows what stands in a container, or in the page
 abbrev tail : Bool → List Event → List Event

@@ -10,7 +10,7 @@ use Rattle.markdown_blocks.specs.containers.Footnotes.{after_columns, footnote_l
 use Rattle.markdown_blocks.specs.declared.containers.BlockExtensions.{BlockExtensions}
 use Rattle.markdown_blocks.specs.declared.containers.Container.TheVariants.{Footnote}
 
-is_on : (b : Bool) → not b ≡ false → b ≡ true
+pub is_on : (b : Bool) → not b ≡ false → b ≡ true
 is_on true h = refl
 is_on false h = cc
 

@@ -1,6 +1,6 @@
 -- A list item that begins with a blank line.
-use Rattle.std.proofs.Common.{ℕ, suc, zero, true, false, not, ◌||◌, ◌==◌, ◌+◌, ◌≡◌, List, [], ◌∷◌, ◌++◌, length}
-use Rattle.std.proofs.Common.{take, refl, sym, ap, ◌∙◌, subst, arith, inl, inr}
+use Rattle.std.proofs.Common.{ℕ, suc, zero, Bool, true, false, not, ◌||◌, ◌==◌, ◌+◌, ◌≡◌, List, [], ◌∷◌, ◌++◌, length}
+use Rattle.std.proofs.Common.{take, drop, refl, sym, ap, ◌∙◌, subst, arith, inl, inr}
 use Rattle.std.specs.Prelude.{nat_lt, IsTrue}
 use Rattle.std.specs.List.{list_all, AllZip}
 use Rattle.std.proofs.lemmas.Bool.Decides.{nat_tests}
@@ -10,17 +10,18 @@ use Rattle.markdown_scanners_tree.specs.line.State.{LineState, unscanned, rest_o
 use Rattle.markdown_scanners_tree.specs.scanners.Breaks.{is_thematic_break}
 use Rattle.markdown_scanners_tree.proofs.PrefixLemmas.{both_true, list_all-implies}
 use Rattle.markdown_scanners_tree.proofs.line.ItemSpaces.{end-blank, or_true}
-use Rattle.markdown_blocks.specs.containers.Containers.{Rest, behind, Opens, rest_at, rest_in, settled_last}
-use Rattle.markdown_blocks.specs.declared.blocks.BlockKind.TheVariants.{Blank}
+use Rattle.markdown_blocks.specs.containers.Containers.{Rest, asked_first, behind, Opens, rest_at, rest_in, settled_last, without_terms}
+use Rattle.markdown_blocks.specs.declared.blocks.BlockKind.{BlockKind}
+use Rattle.markdown_blocks.specs.declared.blocks.BlockKind.TheVariants.{Blank, Paragraph}
 use Rattle.markdown_blocks.specs.declared.containers.BlockExtensions.{BlockExtensions}
 use Rattle.markdown_blocks.specs.declared.containers.Container.{Container}
 use Rattle.markdown_blocks.specs.blocks.Leaves.{IsBlank, OutOr, OnFirst, IsLeaf}
-use Rattle.markdown_blocks.specs.blocks.Pages.{Piece, lines_in, root, AreOpened, AreBlocks}
+use Rattle.markdown_blocks.specs.blocks.Pages.{Piece, lines_in, root, containers_of, open_behind, AreOpened, AreBlocks, IsTerm}
 use Rattle.markdown_blocks.specs.laws.Held.{has_no_tab, IsHeldIn}
 use Rattle.markdown_blocks.specs.laws.Items.{Lead, IsLead, width_of, item_by, begun_by, IsItemLine, IsMarkerAlone, IsIndentedLine, IsLessIndented}
 use Rattle.markdown_blocks.specs.laws.Items.{AreInBlankItem}
 use Rattle.markdown_blocks.proofs.laws.AlikeLemmas.{same_rest}
-use Rattle.markdown_blocks.proofs.laws.HeldLaw.{Begins, first_opened, next_blocks, opened}
+use Rattle.markdown_blocks.proofs.laws.HeldLaw.{Begins, between, first_opened, next_blocks, opened}
 use Rattle.markdown_blocks.proofs.laws.ItemPlaces.{item_begins, item_goes_on, item_stays_out, begun_same, still_text}
 use Rattle.markdown_blocks.proofs.laws.MarkerPlaces.{behind_marker, at_tail, begun_there}
 use Rattle.markdown_blocks.proofs.laws.Places.{IsAt, at_space, alike_at, not_true}
@@ -105,26 +106,32 @@ module _ (asked : BlockExtensions) (lead : Lead) where
   same_settled (suc zero) = refl
   same_settled (suc (suc n)) = refl
 
-  begun_opened : (line : List ℕ) (kept begun : List Container) (rest : Rest) → is_blank line ≡ false
-      → AreOpened (opened asked (item_by lead ∷ [])) line kept begun rest → AreOpened (opened asked (begun_by lead ∷ [])) line kept begun rest
-  begun_opened line kept begun rest text o =
+  same_asked : (term : Bool) (n : ℕ) → asked_first asked term (drop n (item_by lead ∷ [])) ≡ asked_first asked term (drop n (begun_by lead ∷ []))
+  same_asked term zero = refl
+  same_asked term (suc zero) = refl
+  same_asked term (suc (suc n)) = refl
+
+  begun_opened : (term : Bool) (line : List ℕ) (kept begun : List Container) (rest : Rest) → is_blank line ≡ false
+      → AreOpened (between asked (item_by lead ∷ []) term) line kept begun rest → AreOpened (between asked (begun_by lead ∷ []) term) line kept begun rest
+  begun_opened term line kept begun rest text o =
       let same = begun_same lead [] line text in
       record {
         goes_on = o.goes_on ∙ ap (λ b. settled_last (take b.kept (item_by lead ∷ []))) (sym same)
             ∙ same_settled (behind (begun_by lead ∷ []) line).kept;
         place = o.place;
-        begins = subst (λ b. Opens asked b.state begun o.place) (sym same) o.begins;
+        begins = subst (λ x. Opens x (behind (begun_by lead ∷ []) line).state begun o.place) (same_asked term (behind (begun_by lead ∷ []) line).kept)
+            (subst (λ b. Opens (asked_first asked term (drop b.kept (item_by lead ∷ []))) b.state begun o.place) (sym same) o.begins);
         is_rest = o.is_rest;
       }
 
-  begun_blocks : (pieces others : List Piece) → AllZip IsNext pieces others → OnFirst Text (lines_in pieces)
-      → AreBlocks (opened asked (item_by lead ∷ [])) others [] → AreBlocks (opened asked (begun_by lead ∷ [])) others []
-  begun_blocks [] [] z text h = tt
-  begun_blocks [] (q ∷ others) z text h = absurd z
-  begun_blocks (p ∷ pieces) [] z text h = absurd z
-  begun_blocks (p ∷ pieces) (q ∷ others) z text h =
+  begun_blocks : (term : Bool) (pieces others : List Piece) → AllZip IsNext pieces others → OnFirst Text (lines_in pieces)
+      → AreBlocks (between asked (item_by lead ∷ []) term) others [] → AreBlocks (between asked (begun_by lead ∷ []) term) others []
+  begun_blocks term [] [] z text h = tt
+  begun_blocks term [] (q ∷ others) z text h = absurd z
+  begun_blocks term (p ∷ pieces) [] z text h = absurd z
+  begun_blocks term (p ∷ pieces) (q ∷ others) z text h =
       let full = still_text lead p.first q.first (not_true (is_blank p.first) text) z.0.first in
-      (record { opened = begun_opened q.first q.kept q.begun q.words full h.0.opened; leaf = h.0.leaf }, h.1)
+      (record { opened = begun_opened term q.first q.kept q.begun q.words full h.0.opened; leaf = h.0.leaf; is_term = h.0.is_term }, h.1)
 
   -- the blank line ends before text
   abbrev Ends : List Container → List ℕ → Type 0
@@ -149,7 +156,7 @@ module _ (asked : BlockExtensions) (lead : Lead) where
   first_ends (p ∷ pieces) (q ∷ others) z text h = ends_there p.first q.first (not_true (is_blank p.first) text) z.0.first h
 
   blank_leaf : (pieces others : List Piece) (words : Rest) (later : List (List ℕ)) → AllZip IsNext pieces others → OnFirst Text (lines_in pieces)
-      → IsLeaf (root asked) Blank words later (lines_in pieces ++ []) → later ≡ []
+      → IsLeaf (opened asked []) Blank words later (lines_in pieces ++ []) → later ≡ []
       → IsLeaf (opened asked (begun_by lead ∷ [])) Blank words [] (lines_in others ++ [])
   blank_leaf pieces others words later z text leaf none =
       (leaf.0, record { none = tt; stopped = first_ends pieces others z text leaf.1.stopped })
@@ -167,28 +174,38 @@ blank_item_blocks asked lead is [] others z h = absurd z
 blank_item_blocks asked lead is (p ∷ pieces) [] z h = absurd z
 blank_item_blocks asked lead is (p ∷ pieces) (q ∷ others) (one, single, i, z) h =
     let w = width_of lead in
-    let outside : p.kept ++ p.begun ≡ [] = ap (λ cs. cs ++ p.begun) h.0.opened.goes_on ∙ single.outside in
-    let leaf : IsLeaf (root asked) Blank p.words p.later (lines_in pieces ++ []) =
-    subst (λ k. IsLeaf (root asked) k p.words p.later (lines_in pieces ++ [])) single.kind
+    let outside : containers_of p ≡ [] = ap (λ cs. cs ++ p.begun) h.0.opened.goes_on ∙ single.outside in
+    let leaf : IsLeaf (opened asked []) Blank p.words p.later (lines_in pieces ++ []) =
+    subst (λ k. IsLeaf (opened asked []) k p.words p.later (lines_in pieces ++ [])) single.kind
     (subst (λ cs. IsLeaf (opened asked cs) p.kind p.words p.later (lines_in pieces ++ [])) outside h.0.leaf) in
-    let there : begun_by lead ∷ [] ≡ q.kept ++ q.begun =
+    let there : begun_by lead ∷ [] ≡ containers_of q =
     ap (λ cs. begun_by lead ∷ cs) (sym single.outside) ∙ ap (λ cs. cs ++ begun_by lead ∷ p.begun) (sym i.kept_are)
     ∙ ap (λ cs. q.kept ++ cs) (sym i.begun_are) in
     let none : [] ≡ q.later = sym (no_lines _ p.later q.later single.alone i.later) in
     let kind : Blank ≡ q.kind = sym (i.kind ∙ single.kind) in
     let held : IsLeaf (opened asked (begun_by lead ∷ [])) Blank p.words [] (lines_in others ++ []) =
     blank_leaf asked lead pieces others p.words p.later z single.text_follows leaf single.alone in
-    let next : AreBlocks (opened asked (item_by lead ∷ [])) others [] =
+    let term = p.term || false in
+    let next : AreBlocks (between asked (item_by lead ∷ []) term) others [] =
     next_blocks asked (item_by lead) (IsItemLine lead) (IsIndentedLine w) (IsLessIndented asked w) refl
-    (λ line changed i. item_begins lead is line changed i asked) (item_goes_on lead) (item_stays_out lead asked) [] pieces others z
-    (subst (λ cs. AreBlocks (opened asked cs) pieces []) outside h.1) in (
+    (λ line changed i. item_begins lead is line changed i (without_terms asked)) (item_goes_on lead) (item_stays_out lead asked) [] term pieces others z
+    (subst (λ cs. AreBlocks (between asked cs term) pieces []) outside h.1) in
+    let between_is : between asked (begun_by lead ∷ []) term ≡ open_behind (root asked) q =
+    ap (λ cs. between asked cs term) there ∙ ap (λ t. between asked (containers_of q) (t || false)) (sym i.term) in (
       record {
         opened = first_opened asked (begun_by lead) (IsMarkerAlone lead) (IsIndentedLine w) (IsLessIndented asked w) p q
-            (blank_begins lead is one p.first q.first i.first asked) i h.0.opened;
+            (blank_begins lead is one p.first q.first i.first (without_terms asked)) i h.0.opened;
         leaf = subst (λ cs. IsLeaf (opened asked cs) q.kind q.words q.later (lines_in others ++ [])) there
             (subst (λ k. IsLeaf (opened asked (begun_by lead ∷ [])) k q.words q.later (lines_in others ++ [])) kind
             (subst (λ ls. IsLeaf (opened asked (begun_by lead ∷ [])) Blank q.words ls (lines_in others ++ [])) none
             (subst (λ r. IsLeaf (opened asked (begun_by lead ∷ [])) Blank r [] (lines_in others ++ [])) (sym i.words) held)));
+        is_term = (
+          λ t. no_term p.kind _ single.kind (h.0.is_term.0 (sym i.term ∙ t)),
+          λ told. no_term q.kind _ (sym kind) told,
+        );
       },
-      subst (λ cs. AreBlocks (opened asked cs) others []) there (begun_blocks asked lead pieces others z single.text_follows next),
+      subst (λ b. AreBlocks b others []) between_is (begun_blocks asked lead term pieces others z single.text_follows next),
     )
+  where
+    no_term : {A : Type 0} (k : BlockKind) (content : List ℕ) → k ≡ Blank → IsTerm asked k content → A
+    no_term k content is told = let both : Blank ≡ Paragraph = sym is ∙ told.1 in cc

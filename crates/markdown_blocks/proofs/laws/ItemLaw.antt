@@ -7,6 +7,7 @@ use Rattle.markdown_scanners_tree.specs.Bytes.{is_blank, is_digit, is_line_endin
 use Rattle.markdown_scanners_tree.specs.scanners.TextLines.{lines_of}
 use Rattle.markdown_scanners_tree.specs.scanners.list_items.ListItem.{IsListMarker, bullet, ordered}
 use Rattle.markdown_scanners_tree.proofs.PrefixLemmas.{list_all-implies}
+use Rattle.markdown_blocks.specs.containers.Containers.{without_terms}
 use Rattle.markdown_blocks.specs.declared.containers.BlockExtensions.{BlockExtensions}
 use Rattle.markdown_blocks.specs.blocks.Pages.{Piece, lines_in, root, AreBlocks, IsPage}
 use Rattle.markdown_blocks.specs.laws.Items.{Lead, IsLead, width_of, item_by, IsItemLine, IsIndentedLine, IsLessIndented}
@@ -21,7 +22,7 @@ use Rattle.markdown_blocks.proofs.laws.Places.{spaces, not_true}
 held_in_item : (asked : BlockExtensions) (lead : Lead) → IsLead lead → (pieces others : List Piece) → AreInItem asked lead pieces others
     → AreBlocks (root asked) pieces [] → AreBlocks (root asked) others []
 held_in_item asked lead is = held_blocks asked (item_by lead) (IsItemLine lead) (IsIndentedLine (width_of lead)) (IsLessIndented asked (width_of lead)) refl
-    (λ line changed i. item_begins lead is line changed i asked) (item_goes_on lead) (item_stays_out lead asked)
+    (λ line changed i. item_begins lead is line changed i (without_terms asked)) (item_goes_on lead) (item_stays_out lead asked)
 
 -- the lines are those of the text that they make
 marker_plain : (marker : List ℕ) (delimiter start : ℕ) → IsListMarker marker delimiter start → ends_none marker ≡ true

@@ -14,11 +14,12 @@ use Rattle.markdown_scanners_tree.proofs.line.SpaceLemmas.{none_at_front}
 use Rattle.markdown_blocks.specs.containers.Containers.{within, behind, rest_at}
 use Rattle.markdown_blocks.specs.declared.containers.BlockExtensions.{BlockExtensions}
 use Rattle.markdown_blocks.specs.declared.containers.Container.{Container}
-use Rattle.markdown_blocks.specs.blocks.Leaves.{HasIndent, IsLazy}
+use Rattle.markdown_blocks.specs.blocks.Leaves.{HasIndent}
 use Rattle.markdown_blocks.specs.laws.Held.{KeepsTabs}
 use Rattle.markdown_blocks.specs.laws.Items.{Lead, IsLead, width_of, item_by, begun_by, marked_line, IsItemLine, IsIndentedLine, IsLessIndented}
+use Rattle.markdown_blocks.proofs.containers.ContainerLemmas.{step_on}
 use Rattle.markdown_blocks.proofs.laws.AlikeLemmas.{Alike, same_left}
-use Rattle.markdown_blocks.proofs.laws.SameContainers.{same_on, step_on}
+use Rattle.markdown_blocks.proofs.laws.SameContainers.{same_on}
 use Rattle.markdown_blocks.proofs.laws.HeldLaw.{Begins, GoesOn, StaysOut}
 use Rattle.markdown_blocks.proofs.laws.MarkerPlaces.{behind_marker, at_tail, begun_there}
 use Rattle.markdown_blocks.proofs.laws.Places.{spaces, IsAt, at_start, at_space, alike_at, blank_spaces}
@@ -154,8 +155,7 @@ module _ (lead : Lead) where
       let none : within (item_by lead) (is_blank bare) (start_of bare) ≡ None =
       ap (λ b. within (item_by lead) b (start_of bare)) blank ∙ rw less refl in
       let there : behind (item_by lead ∷ outer) bare ≡ record { kept = 0; state = start_of bare } = ap (step_on outer (start_of bare)) none in
-      let kept : (behind (item_by lead ∷ outer) bare).kept ≡ 0 = ap (λ b. b.kept) there in
-      (λ inside. omega (arith, kept, inside), subst (λ b. IsLazy asked b.state) (sym there) q.goes_on)
+      (there, q.goes_on)
 
   -- a line with text stands in the item as in one of which the first line alone is read
   pub begun_same : (outer : List Container) (line : List ℕ) → is_blank line ≡ false

@@ -1,58 +1,70 @@
 -- Where lines have behind their containers what other lines have behind others, they are the same block.
 use Rattle.std.proofs.Common.{ℕ, Bool, true, false, ◌≡◌, ◌⊎◌, ◌↔◌, List, [], ◌∷◌}
 use Rattle.std.proofs.Common.{◌++◌, None, refl, sym, ap, ◌∙◌, subst, inl, inr, append_assoc, append-nil}
-use Rattle.std.specs.Prelude.{⊤, MatchBool}
+use Rattle.std.specs.Prelude.{⊤, IsTrue, MatchBool}
 use Rattle.std.specs.List.{AllByRecursion, AllZip, flat_map}
 use Rattle.std.proofs.lemmas.List.Concat.{flat_map-append}
 use Rattle.markdown_values.specs.declared.values.HeadingLevel.{HeadingLevel}
 use Rattle.markdown_scanners_tree.specs.declared.scanners.html_kinds.HtmlBlockKind.{HtmlBlockKind}
 use Rattle.markdown_scanners_tree.specs.scanners.html_kinds.HtmlKinds.{ends_before_blank}
-use Rattle.markdown_blocks.specs.containers.Containers.{Outer, Rest, rest_in, begun_at, behind, IsInside}
+use Rattle.markdown_blocks.specs.containers.Containers.{Outer, Rest, rest_in, asked_in, begun_at, behind, IsInside, without_terms}
 use Rattle.markdown_blocks.specs.declared.blocks.BlockKind.{BlockKind}
 use Rattle.markdown_blocks.specs.declared.blocks.BlockKind.TheVariants.{Blank, Break, Heading, Setext, Indented}
 use Rattle.markdown_blocks.specs.declared.blocks.BlockKind.TheVariants.{Fenced, Html, Table, Definition, Paragraph}
+use Rattle.markdown_blocks.specs.declared.containers.BlockExtensions.{BlockExtensions}
 use Rattle.markdown_blocks.specs.declared.containers.Container.{Container}
+use Rattle.markdown_blocks.specs.blocks.Pages.{IsTerm}
 use Rattle.markdown_blocks.specs.blocks.Tables.{IsDelimiter}
 use Rattle.markdown_blocks.specs.blocks.Leaves.{IsBlank, HasIndent, Begins, EndsParagraph, ClosesFence, EndsHtml}
 use Rattle.markdown_blocks.specs.blocks.Leaves.{IsUnderline, Interrupts, IsLazy, In, OutOr, Leaves}
 use Rattle.markdown_blocks.specs.blocks.Leaves.{EndsContent, LeavesParagraph, LeavesBehind, Underlines, IsHead, IsRow}
 use Rattle.markdown_blocks.specs.info.Info.{without_front}
-use Rattle.markdown_blocks.specs.definitions.Content.{content_of, words_in}
+use Rattle.markdown_blocks.specs.definitions.Content.{content_in, content_of, words_in}
 use Rattle.markdown_blocks.specs.definitions.Definitions.{HasText}
 use Rattle.markdown_blocks.specs.blocks.Leaves.{OnFirst, BeginsNoTable, NoneBehind, StopsAt, StopsBefore}
 use Rattle.markdown_blocks.specs.blocks.Leaves.{StopsBehind, EndsIndented, NoMoreIndented, LastHasText, EndsAsHtml, IsLeaf}
+use Rattle.markdown_blocks.proofs.laws.AlikeLemmas.{Alike, alike_back, same_rest}
+use Rattle.markdown_blocks.proofs.laws.SameContainers.{alike_none, same_begun}
 
 -- what is read of the second line behind the other containers is what is read of the first behind these
 pub record Moves (outer other : Outer) (line moved : List ℕ) : Type 0 where
   pub same : outer.extensions ≡ other.extensions
+  pub asked : asked_in outer line ≡ asked_in other moved
   pub inside : IsInside outer.containers line ↔ IsInside other.containers moved
-  pub rest : rest_in outer.containers line ≡ rest_in other.containers moved
-  pub begins : (begun_at outer.extensions (behind outer.containers line).state ≡ None) ↔
-      (begun_at other.extensions (behind other.containers moved).state ≡ None)
+  pub state : Alike (behind outer.containers line).state (behind other.containers moved).state
 
 pub moves_back : (outer other : Outer) (line moved : List ℕ) → Moves outer other line moved → Moves other outer moved line
 moves_back outer other line moved m =
-    record { same = sym m.same; inside = (m.inside.1, m.inside.0); rest = sym m.rest; begins = (m.begins.1, m.begins.0) }
+    record { same = sym m.same; asked = sym m.asked; inside = (m.inside.1, m.inside.0); state = alike_back _ _ m.state }
 
 -- what is told of one line
 module _ (outer other : Outer) (line moved : List ℕ) (m : Moves outer other line moved) where
+  rest_moves : rest_in outer.containers line ≡ rest_in other.containers moved
+  rest_moves = same_rest _ _ m.state
+
+  none_moves_on : (asked : BlockExtensions) → begun_at asked (behind outer.containers line).state ≡ None
+      → begun_at asked (behind other.containers moved).state ≡ None
+  none_moves_on asked = alike_none _ _ (same_begun asked _ _ m.state)
+
   in_moves : (P : Rest → Type 0) → In outer.containers P line → In other.containers P moved
-  in_moves P h = (m.inside.0 h.0, subst P m.rest h.1)
+  in_moves P h = (m.inside.0 h.0, subst P rest_moves h.1)
 
   out_moves : (P : Rest → Type 0) → OutOr outer.containers P line → OutOr other.containers P moved
   out_moves P (inl out) = inl (λ i. out (m.inside.1 i))
   out_moves P (inr here) = inr (in_moves P here)
 
-  lazy_moves : IsLazy outer.extensions (behind outer.containers line).state → IsLazy other.extensions (behind other.containers moved).state
-  lazy_moves h = (
-    m.begins.0 h.0,
-    subst (λ (r : Rest). ¬ IsBlank r) m.rest h.1,
-    subst (λ x. HasIndent (rest_in other.containers moved) ⊎ (¬ Interrupts x (rest_in other.containers moved).text)) m.same
-        (subst (λ (r : Rest). HasIndent r ⊎ (¬ Interrupts outer.extensions r.text)) m.rest h.2),
+  lazy_moves : IsLazy (asked_in outer line) (behind outer.containers line).state → IsLazy (asked_in other moved) (behind other.containers moved).state
+  lazy_moves h = subst (λ x. IsLazy x (behind other.containers moved).state) m.asked (
+    none_moves_on (asked_in outer line) h.0,
+    subst (λ (r : Rest). ¬ IsBlank r) rest_moves h.1,
+    subst (λ (r : Rest). HasIndent r ⊎ (¬ Interrupts (asked_in outer line) r.text)) rest_moves h.2,
   )
 
   row_moves : IsRow outer line → IsRow other moved
-  row_moves h = (m.begins.0 h.0, in_moves (Begins Paragraph) h.1)
+  row_moves h = (
+    subst (λ x. begun_at (without_terms x) (behind other.containers moved).state ≡ None) m.same (none_moves_on (without_terms outer.extensions) h.0),
+    in_moves (Begins Paragraph) h.1,
+  )
 
 leaves_by : (outer other : Outer) (line moved : List ℕ) → Moves outer other line moved → (P : Rest → Type 0)
     → Leaves outer P line → Leaves other P moved
@@ -72,9 +84,10 @@ content_leaves outer other line moved m content h =
 head_moves : (outer other : Outer) (line moved : List ℕ) → Moves outer other line moved → (text : List ℕ) (columns : ℕ)
     → IsHead outer text columns line → IsHead other text columns moved
 head_moves outer other line moved m text columns h = (
-  λ leaves. h.0 (leaves_moves other outer moved line (moves_back outer other line moved m) leaves),
-  in_moves outer other line moved m (IsDelimiter columns) h.1,
-  h.2,
+  subst (λ x. x.no_tables ≡ false) m.same h.0,
+  λ leaves. h.1 (leaves_moves other outer moved line (moves_back outer other line moved m) leaves),
+  in_moves outer other line moved m (IsDelimiter columns) h.2,
+  h.3,
 )
 
 -- lists of lines, place by place
@@ -99,12 +112,6 @@ module _ (R : List ℕ → List ℕ → Type 0) where
   first_moves P Q to [] (moved ∷ others) two h = absurd two
   first_moves P Q to (line ∷ lines) [] two h = absurd two
   first_moves P Q to (line ∷ lines) (moved ∷ others) two h = to line moved two h
-
-  first_two : (lines others : List (List ℕ)) → AllZip R lines others → FirstTwo lines others
-  first_two [] [] z = tt
-  first_two [] (moved ∷ others) z = z
-  first_two (line ∷ lines) [] z = z
-  first_two (line ∷ lines) (moved ∷ others) z = z.0
 
   none_moves : (lines others : List (List ℕ)) → lines ≡ [] → AllZip R lines others → others ≡ []
   none_moves [] [] none z = refl
@@ -139,7 +146,7 @@ module _ (outer other : Outer) where
   abbrev pub LaterMoves : BlockKind → List ℕ → List ℕ → Type 0
   LaterMoves kind line moved =
       Moves outer other line moved
-      ⊎ ((kind ≡ Paragraph) × (¬ IsInside other.containers moved) × IsLazy other.extensions (behind other.containers moved).state
+      ⊎ ((kind ≡ Paragraph) × (¬ IsInside other.containers moved) × IsLazy (asked_in other moved) (behind other.containers moved).state
       × (words_in outer.containers line ≡ words_in other.containers moved))
 
   all_move : (kind : BlockKind) → ¬ (kind ≡ Paragraph) → (lines others : List (List ℕ)) → AllZip (LaterMoves kind) lines others
@@ -235,16 +242,20 @@ module _ (outer other : Outer) where
       → ((columns : ℕ) → ¬ IsHead outer first.text columns line) → (columns : ℕ) → ¬ IsHead other first.text columns moved
   no_head first kind line moved (inl m) none columns h =
       none columns (head_moves other outer moved line (moves_back outer other line moved m) first.text columns h)
-  no_head first kind line moved (inr lazy) none columns h = lazy.1 h.1.0
+  no_head first kind line moved (inr lazy) none columns h = lazy.1 h.2.0
 
-  no_table : (first : Rest) (kind : BlockKind) (lines others : List (List ℕ)) → FirstTwo (LaterMoves kind) lines others
-      → BeginsNoTable outer first lines → BeginsNoTable other first others
-  no_table first kind = first_moves (LaterMoves kind) (λ l. (columns : ℕ) → ¬ IsHead outer first.text columns l)
-      (λ l. (columns : ℕ) → ¬ IsHead other first.text columns l) (no_head first kind)
+  no_table : (first : Rest) (kind : BlockKind) (lines others rest after : List (List ℕ)) → AllZip (LaterMoves kind) lines others
+      → FirstTwo (Moves outer other) rest after → BeginsNoTable outer first (lines ++ rest) → BeginsNoTable other first (others ++ after)
+  no_table first kind [] [] rest after z two h =
+      first_moves (Moves outer other) (λ l. (columns : ℕ) → ¬ IsHead outer first.text columns l)
+      (λ l. (columns : ℕ) → ¬ IsHead other first.text columns l) (λ l k m. no_head first kind l k (inl m)) rest after two h
+  no_table first kind [] (moved ∷ others) rest after z two h = absurd z
+  no_table first kind (line ∷ lines) [] rest after z two h = absurd z
+  no_table first kind (line ∷ lines) (moved ∷ others) rest after z two h = no_head first kind line moved z.0 h
 
   -- the content of a paragraph
   words_move : (kind : BlockKind) (line moved : List ℕ) → LaterMoves kind line moved → words_in outer.containers line ≡ words_in other.containers moved
-  words_move kind line moved (inl m) = ap (λ (r : Rest). without_front r.text) m.rest
+  words_move kind line moved (inl m) = ap (λ (r : Rest). without_front r.text) (rest_moves outer other line moved m)
   words_move kind line moved (inr lazy) = lazy.3
 
   content_moves : (kind : BlockKind) (text : List ℕ) (lines others : List (List ℕ)) → AllZip (LaterMoves kind) lines others
@@ -312,8 +323,8 @@ module _ (outer other : Outer) where
 
   -- a setext heading: the lines before its underline, and that
   setext_moves : (level : HeadingLevel) (first : Rest) (lines others rest after : List (List ℕ)) → AllZip (Moves outer other) lines others
-      → IsLeaf outer (Setext level) first lines rest → IsLeaf other (Setext level) first others after
-  setext_moves level first lines others rest after z leaf =
+      → FirstTwo (Moves outer other) rest after → IsLeaf outer (Setext level) first lines rest → IsLeaf other (Setext level) first others after
+  setext_moves level first lines others rest after z two leaf =
       let middle = leaf.1 in
       let last = leaf.2 in
       let zipped : AllZip (Moves outer other) (middle ++ last ∷ []) others = subst (λ ls. AllZip (Moves outer other) ls others) leaf.3 z in
@@ -322,8 +333,7 @@ module _ (outer other : Outer) where
         cut.0,
         cut.1,
         cut.2,
-        first_moves (Moves outer other) (λ l. (columns : ℕ) → ¬ IsHead outer first.text columns l) (λ l. (columns : ℕ) → ¬ IsHead other first.text columns l)
-            (λ l k m. no_head first (Setext level) l k (inl m)) middle cut.0 (first_two (Moves outer other) middle cut.0 cut.3) leaf.4,
+        no_table first (Setext level) lines others rest after (as_later (Setext level) lines others z) two leaf.4,
         stops_at (Setext level) first.text middle cut.0 (last ∷ rest) (cut.1 ∷ after) (as_later (Setext level) middle cut.0 cut.3) cut.4 leaf.5,
         (
           in_moves outer other last cut.1 cut.4 (IsUnderline level) leaf.6.0,
@@ -351,6 +361,27 @@ module _ (outer other : Outer) where
             (subst (λ ls. StopsBefore (λ l. ¬ IsRow outer l) ls rest) are_rows leaf.5),
       )
 
+  -- a term
+  term_moves : (kind : BlockKind) (text : List ℕ) (lines others : List (List ℕ)) → AllZip (LaterMoves kind) lines others → (asked : BlockExtensions)
+      → IsTerm asked kind (content_in kind outer.containers text lines) → IsTerm asked kind (content_in kind other.containers text others)
+  term_moves kind text lines others z asked h =
+      let here = ap (λ k. content_in k outer.containers text lines) h.1 in
+      let there = ap (λ k. content_in k other.containers text others) h.1 in
+      (h.0, h.1, subst HasText (here ∙ content_moves kind text lines others z ∙ sym there) h.2)
+
+  term_back : (kind : BlockKind) (text : List ℕ) (lines others : List (List ℕ)) → AllZip (LaterMoves kind) lines others → (asked : BlockExtensions)
+      → IsTerm asked kind (content_in kind other.containers text others) → IsTerm asked kind (content_in kind outer.containers text lines)
+  term_back kind text lines others z asked h =
+      let here = ap (λ k. content_in k outer.containers text lines) h.1 in
+      let there = ap (λ k. content_in k other.containers text others) h.1 in
+      (h.0, h.1, subst HasText (sym (here ∙ content_moves kind text lines others z ∙ sym there)) h.2)
+
+  pub told_moves : (kind : BlockKind) (text : List ℕ) (lines others : List (List ℕ)) → AllZip (LaterMoves kind) lines others → (asked : BlockExtensions)
+      (term : Bool) → IsTrue term ↔ IsTerm asked kind (content_in kind outer.containers text lines)
+      → IsTrue term ↔ IsTerm asked kind (content_in kind other.containers text others)
+  told_moves kind text lines others z asked term told =
+      (λ t. term_moves kind text lines others z asked (told.0 t), λ h. told.1 (term_back kind text lines others z asked h))
+
   -- the block
   module _ (first : Rest) (lines others rest after : List (List ℕ)) (f : Follows rest after) where
     pub leaf_moves : (kind : BlockKind) → AllZip (LaterMoves kind) lines others → IsLeaf outer kind first lines rest
@@ -360,7 +391,7 @@ module _ (outer other : Outer) where
     leaf_moves Break z leaf = (leaf.0, none_moves (LaterMoves Break) lines others leaf.1 z)
     leaf_moves (Heading level) z leaf = (leaf.0, none_moves (LaterMoves (Heading level)) lines others leaf.1 z)
     leaf_moves Definition z leaf = (leaf.0, none_moves (LaterMoves Definition) lines others leaf.1 z)
-    leaf_moves (Setext level) z leaf = setext_moves level first lines others rest after (all_move (Setext level) (λ e. cc) lines others z) leaf
+    leaf_moves (Setext level) z leaf = setext_moves level first lines others rest after (all_move (Setext level) (λ e. cc) lines others z) f.first leaf
     leaf_moves Indented z leaf =
         let zipped = all_move Indented (λ e. cc) lines others z in (
           leaf.0,
@@ -378,7 +409,7 @@ module _ (outer other : Outer) where
         table_moves columns first lines others rest after (all_move (Table columns) (λ e. cc) lines others z) f.first leaf
     leaf_moves Paragraph z leaf = (
       leaf.0,
-      no_table first Paragraph lines others (first_two (LaterMoves Paragraph) lines others z) leaf.1,
+      no_table first Paragraph lines others rest after z f.first leaf.1,
       stops_at Paragraph first.text lines others rest after z f.first leaf.2,
       first_moves (Moves outer other) (λ l. (level : HeadingLevel) → ¬ Underlines outer.containers first.text lines level l)
           (λ l. (level : HeadingLevel) → ¬ Underlines other.containers first.text others level l)

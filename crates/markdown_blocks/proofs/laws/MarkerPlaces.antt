@@ -13,7 +13,7 @@ use Rattle.markdown_scanners_tree.specs.scanners.list_items.ListItem.{IsListMark
 use Rattle.markdown_scanners_tree.specs.scanners.list_items.ListMarker.{Marker, list_marker}
 use Rattle.markdown_scanners_tree.proofs.PrefixLemmas.{both_true}
 use Rattle.markdown_scanners_tree.proofs.line.ItemLemmas.{marker-is}
-use Rattle.markdown_blocks.specs.containers.Containers.{begun_at, begun_behind, either_begun, footnote_of, item_of}
+use Rattle.markdown_blocks.specs.containers.Containers.{begun_at, begun_behind, either_begun, extension_of, item_of}
 use Rattle.markdown_blocks.specs.declared.containers.BlockExtensions.{BlockExtensions}
 use Rattle.markdown_blocks.specs.declared.containers.Container.TheVariants.{Item}
 use Rattle.markdown_blocks.specs.laws.Items.{Lead, IsLead}
@@ -81,7 +81,7 @@ module _ (lead : Lead) (is : IsLead lead) (changed tail : List ℕ) (parts : cha
         let far : (lead.indent == 4) ≡ false = near lead.indent (omega (arith, is.few)) in
         let other : begins_with (λ b. b == greater_than_sign) (unscanned before_marker) ≡ false =
         ap (begins_with (λ b. b == greater_than_sign)) at_marker.text ∙ plain.1 in
-        rw (far, other) (ap (λ f. either_begun f (footnote_of asked before_marker)) (ap item_of found_here
+        rw (far, other) (ap (λ f. either_begun f (extension_of asked lead.indent before_marker)) (ap item_of found_here
         ∙ ap (λ b. Some (Item (record { delimiter = lead.delimiter; begun = b; width = width; start = lead.start }), next)) blank))
 
     pub begun_there : begun_at asked (start_of changed)

@@ -3,6 +3,7 @@ use Rattle.std.proofs.Common.{ℕ, ◌≡◌, List, [], ◌∷◌, ◌++◌, ref
 use Rattle.std.specs.List.{AllZip, concat}
 use Rattle.markdown_scanners_tree.specs.Ascii.{greater_than_sign}
 use Rattle.markdown_scanners_tree.specs.scanners.TextLines.{lines_of}
+use Rattle.markdown_blocks.specs.containers.Containers.{without_terms}
 use Rattle.markdown_blocks.specs.declared.containers.BlockExtensions.{BlockExtensions}
 use Rattle.markdown_blocks.specs.declared.containers.Container.TheVariants.{Quote}
 use Rattle.markdown_blocks.specs.blocks.Pages.{Piece, lines_in, root, AreBlocks, IsPage}
@@ -11,14 +12,14 @@ use Rattle.markdown_blocks.proofs.blocks.OneText.{one_page}
 use Rattle.markdown_blocks.proofs.laws.HeldLaw.{held_blocks, held_lines}
 use Rattle.markdown_blocks.proofs.laws.MarkedLines.{IsMarked, marked_lines, none_spaces, none_of_spaces}
 use Rattle.markdown_blocks.proofs.laws.Places.{spaces}
-use Rattle.markdown_blocks.proofs.laws.QuotePlaces.{place_in, line_alike, begun_there, kept_there, state_there, bare_outside, bare_lazy}
+use Rattle.markdown_blocks.proofs.laws.QuotePlaces.{place_in, line_alike, begun_there, kept_there, state_there, bare_outside}
 
 quoted_blocks : (asked : BlockExtensions) (pieces others : List Piece) → AreInQuote asked pieces others → AreBlocks (root asked) pieces []
     → AreBlocks (root asked) others []
 quoted_blocks asked = held_blocks asked Quote IsQuoted IsQuoted (IsBare asked) refl
-    (λ line quoted q. (place_in line quoted q, begun_there line quoted q asked, line_alike line quoted q))
+    (λ line quoted q. (place_in line quoted q, begun_there line quoted q (without_terms asked), line_alike line quoted q))
     (λ line quoted q outer. (kept_there line quoted q outer, state_there line quoted q outer))
-    (λ line bare b outer. (bare_outside asked line bare b outer, bare_lazy asked line bare b outer))
+    (λ line bare b outer. (bare_outside asked line bare b outer, b.goes_on))
 
 -- the lines are those of the text that they make
 quoted_marked : (line quoted : List ℕ) → IsQuoted line quoted → IsMarked line quoted

@@ -7,16 +7,15 @@ use Rattle.markdown_scanners_tree.specs.Bytes.{begins_with, is_blank, is_space_o
 use Rattle.markdown_scanners_tree.specs.line.ItemRules.{start_of}
 use Rattle.markdown_scanners_tree.specs.line.Outcome.{after_quote, item_outcome}
 use Rattle.markdown_scanners_tree.specs.line.State.{LineState, unscanned, bytes_further, space_within, after_space}
-use Rattle.markdown_blocks.specs.containers.Containers.{behind_quote, begun_at, begun_behind, either_begun, footnote_of}
-use Rattle.markdown_blocks.specs.containers.Containers.{within, within_quote, behind, IsInside, item_of}
+use Rattle.markdown_blocks.specs.containers.Containers.{behind_quote, begun_at, begun_behind, either_begun, extension_of}
+use Rattle.markdown_blocks.specs.containers.Containers.{within, within_quote, without_terms, behind, item_of}
 use Rattle.markdown_blocks.specs.declared.containers.BlockExtensions.{BlockExtensions}
 use Rattle.markdown_blocks.specs.declared.containers.Container.{Container}
 use Rattle.markdown_blocks.specs.declared.containers.Container.TheVariants.{Quote}
-use Rattle.markdown_blocks.specs.blocks.Leaves.{IsLazy}
 use Rattle.markdown_blocks.specs.laws.Quotes.{IsQuoted, IsBare}
-use Rattle.markdown_blocks.proofs.containers.ContainerLemmas.{near}
+use Rattle.markdown_blocks.proofs.containers.ContainerLemmas.{near, step_on}
 use Rattle.markdown_blocks.proofs.laws.AlikeLemmas.{Alike}
-use Rattle.markdown_blocks.proofs.laws.SameContainers.{same_on, step_on}
+use Rattle.markdown_blocks.proofs.laws.SameContainers.{same_on}
 use Rattle.markdown_blocks.proofs.laws.Places.{spaces, IsAt, at_start, at_byte, found_there, at_space, alike_at, not_true}
 
 -- the place behind the marker of a quoted line
@@ -99,15 +98,9 @@ no_marker_by false false s other none = refl
 no_marker_of : (asked : BlockExtensions) (indent : ℕ) (s : LineState) → begun_behind asked indent s ≡ None → behind_quote indent s ≡ None
 no_marker_of asked indent s none =
     no_marker_by (indent == 4) (begins_with (λ b. b == greater_than_sign) (unscanned s)) (after_quote s)
-    (either_begun (item_of (item_outcome indent s)) (footnote_of asked s)) none
+    (either_begun (item_of (item_outcome indent s)) (extension_of asked indent s)) none
 
-module _ (asked : BlockExtensions) (line bare : List ℕ) (q : IsBare asked line bare) (outer : List Container) where
-  outside_there : behind (Quote ∷ outer) bare ≡ record { kept = 0; state = start_of bare }
-  outside_there = ap (λ found. step_on outer (start_of bare) (within_quote found))
-      (no_marker_of asked (space_within 4 (start_of bare)) (after_space 4 (start_of bare)) q.goes_on.0)
-
-  pub bare_outside : ¬ IsInside (Quote ∷ outer) bare
-  bare_outside inside = let kept : (behind (Quote ∷ outer) bare).kept ≡ 0 = ap (λ b. b.kept) outside_there in omega (arith, kept, inside)
-
-  pub bare_lazy : IsLazy asked (behind (Quote ∷ outer) bare).state
-  bare_lazy = subst (λ b. IsLazy asked b.state) (sym outside_there) q.goes_on
+pub bare_outside : (asked : BlockExtensions) (line bare : List ℕ) → IsBare asked line bare → (outer : List Container)
+    → behind (Quote ∷ outer) bare ≡ record { kept = 0; state = start_of bare }
+bare_outside asked line bare q outer = ap (λ found. step_on outer (start_of bare) (within_quote found))
+    (no_marker_of (without_terms asked) (space_within 4 (start_of bare)) (after_space 4 (start_of bare)) q.goes_on.0)

@@ -1,18 +1,21 @@
 -- At two places with the same text behind them a line goes on with the same containers, and begins the same.
 use Rattle.std.proofs.Common.{ℕ, suc, Bool, true, false, ◌==◌, ◌+◌, ◌≡◌, List, [], ◌∷◌, length, Option, Some, None, refl, sym, ap, ◌∙◌, subst}
 use Rattle.std.specs.Prelude.{if◌then◌else◌, ⊤}
-use Rattle.markdown_scanners_tree.specs.Ascii.{greater_than_sign}
+use Rattle.markdown_scanners_tree.specs.Ascii.{colon, greater_than_sign}
 use Rattle.markdown_scanners_tree.specs.Bytes.{begins_with, is_blank}
-use Rattle.markdown_scanners_tree.specs.line.Outcome.{Outcome, after_quote, further_spaces, item_outcome}
+use Rattle.markdown_scanners_tree.specs.line.Outcome.{Outcome, after_quote, definition_outcome, further_spaces, item_outcome}
 use Rattle.markdown_scanners_tree.specs.line.Outcome.{item_outcome_after, item_outcome_by, not_found, space_or_end_follows}
+use Rattle.markdown_scanners_tree.specs.line.PlainStep.{definition_spaces}
 use Rattle.markdown_scanners_tree.specs.line.State.{LineState, unscanned, rest_of, leading_spaces, bytes_further, space_within, after_space}
 use Rattle.markdown_scanners_tree.specs.scanners.list_items.ListMarker.{Marker, list_marker}
-use Rattle.markdown_blocks.specs.containers.Containers.{behind_quote, begun_at, begun_behind, either_begun, footnote_by, footnote_of}
-use Rattle.markdown_blocks.specs.containers.Containers.{item_of, within, within_quote, go_on, Behind, Opens}
+use Rattle.markdown_blocks.specs.containers.Containers.{behind_quote, begun_at, begun_behind, either_begun, extension_of}
+use Rattle.markdown_blocks.specs.containers.Containers.{footnote_by, footnote_of, term_definition_by, term_definition_of, item_of, without_terms}
+use Rattle.markdown_blocks.specs.containers.Containers.{within, within_quote, within_width, go_on, Opens}
 use Rattle.markdown_blocks.specs.containers.Footnotes.{after_columns, footnote_label}
 use Rattle.markdown_blocks.specs.declared.containers.BlockExtensions.{BlockExtensions}
 use Rattle.markdown_blocks.specs.declared.containers.Container.{Container}
-use Rattle.markdown_blocks.specs.declared.containers.Container.TheVariants.{Quote, Item, Footnote}
+use Rattle.markdown_blocks.specs.declared.containers.Container.TheVariants.{Quote, Item, Footnote, TermDefinition}
+use Rattle.markdown_blocks.proofs.containers.ContainerLemmas.{step_on}
 use Rattle.markdown_blocks.proofs.laws.AlikeLemmas.{Alike, space_alike, bytes_alike, same_left, same_quote, same_further, same_end, same_space}
 
 either_alike : (b c : Bool) (s t s' t' : LineState) → b ≡ c → Alike s t → Alike s' t' → Alike (if b then s else s') (if c then t else t')
@@ -63,7 +66,7 @@ item_after indent m s t a = record {
   states = subst (λ n. Alike (after_space n s) (after_space (further_spaces t) t)) (sym (same_further s t a)) (space_alike s t a (further_spaces t));
 }
 
-either_outcome : (b c : Bool) (o o' p p' : Outcome (ℕ × ℕ × ℕ)) → b ≡ c → SameOutcome o o' → SameOutcome p p'
+either_outcome : {A : Type 0} (b c : Bool) (o o' p p' : Outcome A) → b ≡ c → SameOutcome o o' → SameOutcome p p'
     → SameOutcome (if b then o else p) (if c then o' else p')
 either_outcome true c o o' p p' same h h' = rw (← same) h
 either_outcome false c o o' p p' same h h' = rw (← same) h'
@@ -117,6 +120,38 @@ footnote_alike asked s t a =
     (subst (λ l. FoundAlike (footnote_by s (footnote_label (unscanned s))) (footnote_by t l)) (ap footnote_label a.text)
     (label_alike s t (footnote_label (unscanned s)) a)) tt
 
+-- definitions of terms
+same_definition : (indent : ℕ) (s t : LineState) → Alike s t → SameOutcome (definition_outcome indent s) (definition_outcome indent t)
+same_definition indent s t a =
+    let after = bytes_alike s t a 1 in
+    let columns = ap definition_spaces (ap leading_spaces (same_left (bytes_further 1 s) (bytes_further 1 t) after)) in
+    let n = definition_spaces (leading_spaces (rest_of (bytes_further 1 t))) in
+    either_outcome (begins_with (λ b. b == colon) (unscanned s)) (begins_with (λ b. b == colon) (unscanned t)) _ _ (not_found s) (not_found t)
+    (ap (begins_with (λ b. b == colon)) a.text)
+    (record {
+      answers = ap (λ k. Some (indent + 1 + k)) columns;
+      states = subst (λ k. Alike (after_space k (bytes_further 1 s)) (after_space n (bytes_further 1 t))) (sym columns)
+          (space_alike (bytes_further 1 s) (bytes_further 1 t) after n);
+    })
+    (record { answers = refl; states = a })
+
+definition_made : (answer : Option ℕ) (s t : LineState) → Alike s t
+    → FoundAlike (term_definition_by (record { answer = answer; state = s })) (term_definition_by (record { answer = answer; state = t }))
+definition_made None s t a = tt
+definition_made (Some width) s t a = (ap (λ bs. TermDefinition (record { begun = is_blank bs; width = width })) a.text, a)
+
+found_definition : (found other : Outcome ℕ) → SameOutcome found other → FoundAlike (term_definition_by found) (term_definition_by other)
+found_definition found other same =
+    subst (λ answer. FoundAlike (term_definition_by found) (term_definition_by (record { answer = answer; state = other.state }))) same.answers
+    (definition_made found.answer found.state other.state same.states)
+
+definition_alike : (asked : BlockExtensions) (indent : ℕ) (s t : LineState) → Alike s t
+    → FoundAlike (term_definition_of asked indent s) (term_definition_of asked indent t)
+definition_alike asked indent s t a =
+    either_found asked.definition_lists asked.definition_lists (term_definition_by (definition_outcome indent s))
+    (term_definition_by (definition_outcome indent t)) None None refl
+    (found_definition (definition_outcome indent s) (definition_outcome indent t) (same_definition indent s t a)) tt
+
 first_alike : (f g f' g' : Option (Container × LineState)) → FoundAlike f g → FoundAlike f' g' → FoundAlike (either_begun f f') (either_begun g g')
 first_alike None None f' g' h h' = h'
 first_alike None (Some q) f' g' h h' = absurd h
@@ -127,10 +162,12 @@ begun_alike : (asked : BlockExtensions) (indent : ℕ) (s t : LineState) → Ali
 begun_alike asked indent s t a =
     either_found (indent == 4) (indent == 4) None None _ _ refl tt
     (either_found (begins_with (λ b. b == greater_than_sign) (unscanned s)) (begins_with (λ b. b == greater_than_sign) (unscanned t))
-    (Some (Quote, after_quote s)) (Some (Quote, after_quote t)) (either_begun (item_of (item_outcome indent s)) (footnote_of asked s))
-    (either_begun (item_of (item_outcome indent t)) (footnote_of asked t)) (same_quote s t a) (refl, quote_alike s t a)
-    (first_alike (item_of (item_outcome indent s)) (item_of (item_outcome indent t)) (footnote_of asked s) (footnote_of asked t)
-    (found_item (item_outcome indent s) (item_outcome indent t) (same_item indent s t a)) (footnote_alike asked s t a)))
+    (Some (Quote, after_quote s)) (Some (Quote, after_quote t)) (either_begun (item_of (item_outcome indent s)) (extension_of asked indent s))
+    (either_begun (item_of (item_outcome indent t)) (extension_of asked indent t)) (same_quote s t a) (refl, quote_alike s t a)
+    (first_alike (item_of (item_outcome indent s)) (item_of (item_outcome indent t)) (extension_of asked indent s) (extension_of asked indent t)
+    (found_item (item_outcome indent s) (item_outcome indent t) (same_item indent s t a))
+    (first_alike (footnote_of asked s) (footnote_of asked t) (term_definition_of asked indent s) (term_definition_of asked indent t)
+    (footnote_alike asked s t a) (definition_alike asked indent s t a))))
 
 pub same_begun : (asked : BlockExtensions) (s t : LineState) → Alike s t → FoundAlike (begun_at asked s) (begun_at asked t)
 same_begun asked s t a =
@@ -143,7 +180,7 @@ same_opens asked [] s t after a o =
     (t, (alike_none (begun_at asked s) (begun_at asked t) (same_begun asked s t a) o.0, refl), subst (λ z. Alike z t) (sym o.1) a)
 same_opens asked (c ∷ begun) s t after a o =
     let next = alike_some (begun_at asked s) (begun_at asked t) (c, o.0) (same_begun asked s t a) o.1 in
-    let more = same_opens asked begun o.0 next.0 after next.2 o.2 in
+    let more = same_opens (without_terms asked) begun o.0 next.0 after next.2 o.2 in
     (more.0, (next.0, next.1, more.1), more.2)
 
 -- the containers that the line goes on with there
@@ -164,30 +201,24 @@ quoted_alike None (Some q) same = absurd same
 quoted_alike (Some p) None same = absurd same
 quoted_alike (Some p) (Some q) same = (ap is_blank same.text, same)
 
+same_width : (begun : Bool) (width : ℕ) (blank : Bool) (s t : LineState) → Alike s t
+    → FoundAlike (within_width begun width blank s) (within_width begun width blank t)
+same_width begun width true s t a = either_found begun begun None None (Some (true, s)) (Some (true, t)) refl tt (refl, a)
+same_width begun width false s t a =
+    either_found (space_within width s == width) (space_within width t == width) (Some (false, after_space width s)) (Some (false, after_space width t))
+    None None (ap (λ n. n == width) (same_space s t a width)) (refl, space_alike s t a width) tt
+
 same_within : (c : Container) (blank : Bool) (s t : LineState) → Alike s t → FoundAlike (within c blank s) (within c blank t)
 same_within Quote blank s t a =
     subst (λ n. FoundAlike (within Quote blank s) (within_quote (behind_quote n (after_space 4 t)))) (same_space s t a 4)
     (quoted_alike _ _ (behind_alike (space_within 4 s) (after_space 4 s) (after_space 4 t) (space_alike s t a 4)))
-same_within (Item item) true s t a =
-    either_found item.begun item.begun None None (Some (true, s)) (Some (true, t)) refl tt (refl, a)
-same_within (Item item) false s t a =
-    either_found (space_within item.width s == item.width) (space_within item.width t == item.width)
-    (Some (false, after_space item.width s)) (Some (false, after_space item.width t)) None None
-    (ap (λ n. n == item.width) (same_space s t a item.width)) (refl, space_alike s t a item.width) tt
-same_within Footnote true s t a = (refl, a)
-same_within Footnote false s t a =
-    either_found (space_within 4 s == 4) (space_within 4 t == 4) (Some (false, after_space 4 s)) (Some (false, after_space 4 t)) None None
-    (ap (λ n. n == 4) (same_space s t a 4)) (refl, space_alike s t a 4) tt
+same_within (Item item) blank s t a = same_width item.begun item.width blank s t a
+same_within Footnote blank s t a = same_width false 4 blank s t a
+same_within (TermDefinition definition) blank s t a = same_width definition.begun definition.width blank s t a
 
 abbrev Go : List Container → Type 0
 Go inner = (blank : Bool) (s t : LineState) → Alike s t → ((go_on blank inner s).kept ≡ (go_on blank inner t).kept)
     × Alike (go_on blank inner s).state (go_on blank inner t).state
-
-abbrev pub step_on : List Container → LineState → Option (Bool × LineState) → Behind
-step_on inner s found = elim found [
-  | Some r ↦ (let more = go_on r.0 inner r.1 in record { kept = suc more.kept; state = more.state })
-  | None ↦ record { kept = 0; state = s }
-]
 
 same_step : (inner : List Container) (s t : LineState) (f g : Option (Bool × LineState)) → Go inner → Alike s t → FoundAlike f g
     → ((step_on inner s f).kept ≡ (step_on inner t g).kept) × Alike (step_on inner s f).state (step_on inner t g).state

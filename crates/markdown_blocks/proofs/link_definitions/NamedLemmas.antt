@@ -17,7 +17,7 @@ use Rattle.markdown_scanners_tree.specs.linklabel.Label.{Label, IsLabel, IsLabel
 use Rattle.markdown_scanners_tree.specs.NoSkips.{SkipsNothing}
 use Rattle.markdown_scanners_tree.proofs.ForCallers.{one_label_unskipped}
 use Rattle.markdown_blocks.specs.blocks.Pages.{Piece, IsPiece, AreBlocks, lines_in, root}
-use Rattle.markdown_blocks.specs.containers.Containers.{Outer, Rest}
+use Rattle.markdown_blocks.specs.containers.Containers.{Between, Rest}
 use Rattle.markdown_blocks.specs.declared.containers.BlockExtensions.{BlockExtensions}
 use Rattle.markdown_blocks.specs.declared.step.Step.{Step}
 use Rattle.markdown_blocks.specs.definitions.Content.{content_in}
@@ -175,13 +175,13 @@ gathered_named content gathered named (inr plain) names = at names.definitions n
 -- ---- the definitions of a page
 
 -- what the blocks name that are left, where these containers are open
-pub record Left (open_now : Outer) (text : List ℕ) (named : List Named) : Type 0 where
+pub record Left (open_now : Between) (text : List ℕ) (named : List Named) : Type 0 where
   pub pieces : List Piece
   pub joined : lines_in pieces ≡ lines_of text
   pub each : AreBlocks open_now pieces []
   pub are_named : AreNamedIn pieces named
 
-pub none_left : (open_now : Outer) (text : List ℕ) → text ≡ [] → Left open_now text []
+pub none_left : (open_now : Between) (text : List ℕ) → text ≡ [] → Left open_now text []
 none_left open_now text last = record { pieces = []; joined = sym (ap lines_of last); each = tt; are_named = refl }
 
 pub whole_page : (asked : BlockExtensions) (page : List ℕ) (named : List Named) → Left (root asked) page named → HasDefinitions asked page named
@@ -191,14 +191,14 @@ whole_page asked page named left = record {
   are_named = left.are_named;
 }
 
-pub block_named : (old new : Outer) (lines : List ℕ) (step : Step) (content : List ℕ) (here later : List Named)
+pub block_named : (old new : Between) (lines : List ℕ) (step : Step) (content : List ℕ) (here later : List Named)
     → IsStep old lines [] step new → IsContentOf step new.containers content → Names content here
     → Left new (drop step.block.taken.bytes lines) later → Left old lines (here ++ later)
 block_named old new lines step content here later s c names left =
     let gathered : IsGathered (piece_content s.piece) content =
     subst (λ (w : Rest). IsGathered (content_in s.piece.kind (s.piece.kept ++ s.piece.begun) w.text s.piece.later) content) (sym s.words)
     (subst (λ k. IsGathered (content_in k (s.piece.kept ++ s.piece.begun) step.text.now s.piece.later) content) (sym s.kind)
-    (subst (λ (o : Outer). IsGathered (content_in step.block.kind o.containers step.text.now s.piece.later) content) s.open_now
+    (subst (λ (o : Between). IsGathered (content_in step.block.kind o.containers step.text.now s.piece.later) content) s.open_now
     (c s.piece.first s.piece.later s.all))) in
     record {
       pieces = s.piece ∷ left.pieces;

@@ -5,7 +5,7 @@ use Rattle.std.proofs.Common.{refl, sym, ap, ◌∙◌}
 use Rattle.std.proofs.lemmas.Bool.{eqb-true}
 use Rattle.std.specs.Option.{option_to_list}
 use Rattle.markdown_blocks.specs.declared.containers.Container.{Container}
-use Rattle.markdown_blocks.specs.declared.containers.Container.TheVariants.{Quote, Item, Footnote}
+use Rattle.markdown_blocks.specs.declared.containers.Container.TheVariants.{Quote, Item, Footnote, TermDefinition}
 use Rattle.markdown_blocks.specs.declared.lists.ListBlock.{ListBlock}
 use Rattle.markdown_blocks.specs.lists.Lists.{Child, ends_blank, last_end, are_alike, are_parted, are_loose, list_from, list_of, lists_among}
 
@@ -14,6 +14,7 @@ abbrev pub is_item_of : Option ListBlock → Option Container → Bool
 is_item_of list None = false
 is_item_of list (Some Quote) = false
 is_item_of list (Some Footnote) = false
+is_item_of list (Some (TermDefinition definition)) = false
 is_item_of None (Some (Item item)) = false
 is_item_of (Some list) (Some (Item item)) = list.delimiter == item.delimiter
 
@@ -82,6 +83,7 @@ module _ (depth : ℕ) where
   list_more None first more child = refl
   list_more (Some Quote) first more child = refl
   list_more (Some Footnote) first more child = refl
+  list_more (Some (TermDefinition definition)) first more child = refl
   list_more (Some (Item item)) first more child =
       let list : Bool → ℕ → Option ListBlock = λ loose end. Some (record {
         delimiter = item.delimiter;
@@ -98,12 +100,14 @@ module _ (depth : ℕ) where
   list_alone None child = refl
   list_alone (Some Quote) child = refl
   list_alone (Some Footnote) child = refl
+  list_alone (Some (TermDefinition definition)) child = refl
   list_alone (Some (Item item)) child = refl
 
   no_list : (c : Option Container) → is_item_of None c ≡ false
   no_list None = refl
   no_list (Some Quote) = refl
   no_list (Some Footnote) = refl
+  no_list (Some (TermDefinition definition)) = refl
   no_list (Some (Item item)) = refl
 
   item_of_list : (one other : Option Container) (first : Child) (more : List Child)
@@ -111,9 +115,11 @@ module _ (depth : ℕ) where
   item_of_list None other first more = no_list other
   item_of_list (Some Quote) other first more = no_list other
   item_of_list (Some Footnote) other first more = no_list other
+  item_of_list (Some (TermDefinition definition)) other first more = no_list other
   item_of_list (Some (Item item)) None first more = refl
   item_of_list (Some (Item item)) (Some Quote) first more = refl
   item_of_list (Some (Item item)) (Some Footnote) first more = refl
+  item_of_list (Some (Item item)) (Some (TermDefinition definition)) first more = refl
   item_of_list (Some (Item item)) (Some (Item i)) first more = refl
 
   -- the same lists
@@ -170,9 +176,11 @@ module _ (depth : ℕ) where
       longer_alike (Some l) None other is = cc
       longer_alike (Some l) (Some Quote) other is = cc
       longer_alike (Some l) (Some Footnote) other is = cc
+      longer_alike (Some l) (Some (TermDefinition definition)) other is = cc
       longer_alike (Some l) (Some (Item i)) None is = refl
       longer_alike (Some l) (Some (Item i)) (Some Quote) is = refl
       longer_alike (Some l) (Some (Item i)) (Some Footnote) is = refl
+      longer_alike (Some l) (Some (Item i)) (Some (TermDefinition definition)) is = refl
       longer_alike (Some l) (Some (Item i)) (Some (Item j)) is = ap (λ d. d == j.delimiter) (eqb-true l.delimiter i.delimiter is)
 
       by_case : (goes : Bool) → is_item_of list child.container ≡ goes

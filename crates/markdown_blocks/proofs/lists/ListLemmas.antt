@@ -3,13 +3,14 @@ use Rattle.std.proofs.Common.{ℕ, suc, Bool, true, false, not, ◌&&◌, ◌||�
 use Rattle.std.proofs.Common.{refl, sym, ap, ◌∙◌, append_assoc}
 use Rattle.std.specs.Option.{option_map, option_to_list}
 use Rattle.markdown_blocks.specs.declared.containers.Container.{Container}
-use Rattle.markdown_blocks.specs.declared.containers.Container.TheVariants.{Quote, Item, Footnote}
+use Rattle.markdown_blocks.specs.declared.containers.Container.TheVariants.{Quote, Item, Footnote, TermDefinition}
 use Rattle.markdown_blocks.specs.declared.lists.Level.{Level}
 use Rattle.markdown_blocks.specs.declared.lists.ListBlock.{ListBlock}
 use Rattle.markdown_blocks.specs.declared.lists.OpenList.{OpenList}
 use Rattle.markdown_blocks.specs.events.Events.{Event, ends, LeafBlock}
 use Rattle.markdown_blocks.specs.lists.Lists.{Nodes, nothing, leaf_then, container_then}
-use Rattle.markdown_blocks.specs.lists.Lists.{flatten, line_behind, lines_passed, is_blank_kind, begins_blank}
+use Rattle.markdown_blocks.specs.blocks.Pages.{is_blank_kind}
+use Rattle.markdown_blocks.specs.lists.Lists.{flatten, line_behind, lines_passed, begins_blank}
 use Rattle.markdown_blocks.specs.lists.Lists.{Child, ends_blank, last_end}
 use Rattle.markdown_blocks.proofs.lists.Followed.{is_item_of, item_list, longer, list_behind, list_before, lists_followed, parted_followed}
 use Rattle.markdown_blocks.proofs.lists.Followed.{lists_are_followed, parted_is_followed}
@@ -102,12 +103,14 @@ list_ended : (c : Container) (list : Option OpenList) (end : ℕ) (outer : List 
     ≡ (if is_item_of (now list end outer) (Some c) then None else now list end outer)
 list_ended Quote list end outer = refl
 list_ended Footnote list end outer = refl
+list_ended (TermDefinition definition) list end outer = refl
 list_ended (Item i) None end outer = refl
 list_ended (Item i) (Some l) end outer = refl
 
 joined : (c : Container) (list : Option OpenList) (end : ℕ) (outer : List Level) → joins list c ≡ is_item_of (now list end outer) (Some c)
 joined Quote list end outer = refl
 joined Footnote list end outer = refl
+joined (TermDefinition definition) list end outer = refl
 joined (Item i) None end outer = refl
 joined (Item i) (Some l) end outer = refl
 
@@ -117,6 +120,7 @@ list_then : (c : Container) (list : Option OpenList) (blank : Bool) (outer : Lis
     ≡ (if is_item_of (now list before outer) (Some c) then longer (now list before outer) blank child else item_list (length outer) child (Some c))
 list_then Quote list blank outer before child = refl
 list_then Footnote list blank outer before child = refl
+list_then (TermDefinition definition) list blank outer before child = refl
 list_then (Item i) None blank outer before child = refl
 list_then (Item i) (Some l) blank outer before child = alike (l.delimiter == i.delimiter)
   where
@@ -130,11 +134,13 @@ end_is : (c : Container) (line passed : ℕ) (content : List Child)
     → (if ends_with_block c then last_end line content else passed) ≡ end_of c line passed content
 end_is Quote line passed content = refl
 end_is Footnote line passed content = refl
+end_is (TermDefinition definition) line passed content = refl
 end_is (Item i) line passed content = refl
 
 blank_is : (c : Container) (content : List Child) → (ends_with_block c && ends_blank false content) ≡ ends_blank_line c content
 blank_is Quote content = refl
 blank_is Footnote content = refl
+blank_is (TermDefinition definition) content = refl
 blank_is (Item i) content = refl
 
 -- the lists of nodes, and those behind the end of what they stand in

@@ -7,7 +7,7 @@ use Rattle.markdown_blocks.proofs.events.EventLemmas.{kept_fewer, one_list_of_ev
 use Rattle.markdown_blocks.proofs.lists.ListLemmas.{page_lists}
 use Rattle.markdown_blocks.specs.blocks.Pages.{Piece, IsPiece, AreBlocks, open_behind, root}
 use Rattle.markdown_scanners_tree.specs.line.State.{LineState}
-use Rattle.markdown_blocks.specs.containers.Containers.{Outer, behind, marker_place, after_marker}
+use Rattle.markdown_blocks.specs.containers.Containers.{Between, behind, marker_place, after_marker}
 use Rattle.markdown_blocks.specs.declared.containers.BlockExtensions.{BlockExtensions}
 use Rattle.markdown_blocks.specs.declared.containers.Container.{Container}
 use Rattle.markdown_blocks.specs.declared.lists.ListBlock.{ListBlock}
@@ -61,18 +61,18 @@ nest_none : (depth : ℕ) → AreNested depth (replicate depth ends)
 nest_none zero = (nothing, refl)
 nest_none (suc depth) = nest_end depth (replicate depth ends) (nest_none depth)
 
-kept_few : (outer : Outer) (piece : Piece) (rest : List (List ℕ)) → IsPiece outer piece rest → length piece.kept ≤ length outer.containers
+kept_few : (outer : Between) (piece : Piece) (rest : List (List ℕ)) → IsPiece outer piece rest → length piece.kept ≤ length outer.containers
 kept_few outer piece rest p =
     let count = (behind outer.containers piece.first).kept in
     let here : length piece.kept ≡ length (take count outer.containers) = ap length p.opened.goes_on ∙ kept_fewer (take count outer.containers) in
     omega (arith, here, length-take count outer.containers)
 
 -- the events of a piece, and those after it
-regroup : (x y z blocks all : List Event) → x ++ y ++ z ++ blocks ++ all ≡ x ++ (y ++ (z ++ (blocks ++ all)))
+pub regroup : (x y z blocks all : List Event) → x ++ y ++ z ++ blocks ++ all ≡ x ++ (y ++ (z ++ (blocks ++ all)))
 regroup x y z blocks all =
     append_assoc (x ++ y ++ z) blocks all ∙ append_assoc (x ++ y) z (blocks ++ all) ∙ append_assoc x y (z ++ (blocks ++ all))
 
-events_nested : (pieces : List Piece) (outer : Outer) (line start : ℕ) (blocks : List Event) → AreBlocks outer pieces []
+events_nested : (pieces : List Piece) (outer : Between) (line start : ℕ) (blocks : List Event) → AreBlocks outer pieces []
     → AreEvents outer.containers line start pieces blocks
     → AreNested (length outer.containers) (blocks ++ replicate (open_after (length outer.containers) pieces) ends)
 events_nested [] outer line start blocks each are = subst (λ es. AreNested (length outer.containers) (es ++ replicate (length outer.containers) ends))

@@ -1,12 +1,12 @@
 -- Cells of a row, read from its front, and lines that are rows.
 use Rattle.std.proofs.Common.{ℕ, ◌+◌, ◌<◌, ◌≤◌, Bool, true, false, IsTrue, List, [], ◌∷◌, length, drop, get_or, None}
 use Rattle.std.proofs.Common.{◌≡◌, refl, sym, ap, subst, ◌∙◌, arith}
-use Rattle.std.proofs.lemmas.List.{at_drop_more}
+use Rattle.std.proofs.lemmas.List.{at_drop_more, drop_all}
 use mir.Val.{bool_byte}
 use Rattle.markdown_values.specs.declared.values.Alignment.{Alignment}
 use Rattle.markdown_scanners_tree.proofs.ForCallers.{one_row}
 use Rattle.markdown_scanners_tree.specs.line.State.{LineState}
-use Rattle.markdown_blocks.specs.containers.Containers.{Outer, Rest, rest_at, begun_at, behind, IsInside, rest_in}
+use Rattle.markdown_blocks.specs.containers.Containers.{Outer, Rest, rest_at, asked_first, asked_in, begun_at, behind, IsInside, rest_in, without_terms}
 use Rattle.markdown_blocks.specs.declared.blocks.BlockKind.TheVariants.{Paragraph}
 use Rattle.markdown_blocks.specs.blocks.Leaves.{Begins, IsRow, In, IsHead, LeavesParagraph}
 use Rattle.markdown_blocks.specs.blocks.Tables.{separates, separators, ends_separated, cells, IsDelimiter}
@@ -45,13 +45,21 @@ pub few_more : (separated : Bool) (count i n : ℕ) → n ≡ bool_byte separate
 few_more true count i n one few = omega (arith, one, few)
 few_more false count i n one few = omega (arith, one, few)
 
+-- a line that stands in the containers begins no definition of a term
+inside_asked : (outer : Outer) (line : List ℕ) → IsInside outer.containers line → asked_in outer line ≡ without_terms outer.extensions
+inside_asked outer line inside =
+    ap (asked_first outer.extensions false) (drop_all (behind outer.containers line).kept outer.containers (omega (arith, inside)))
+
 -- a test of a line in which none begins
 pub row_told : (outer : Outer) (line : List ℕ) (s : LineState) (rest : Rest) (r : Bool) → s ≡ (behind outer.containers line).state → rest ≡ rest_at s
-    → IsInside outer.containers line → begun_at outer.extensions s ≡ None → (IsTrue r → Begins Paragraph rest) × (Begins Paragraph rest → IsTrue r)
+    → IsInside outer.containers line → begun_at (asked_in outer line) s ≡ None → (IsTrue r → Begins Paragraph rest) × (Begins Paragraph rest → IsTrue r)
     → (IsTrue r → IsRow outer line) × (IsRow outer line → IsTrue r)
 row_told outer line s rest r same is inside none tells =
     let at : rest ≡ rest_at (behind outer.containers line).state = is ∙ ap rest_at same in (
-      λ t. (subst (λ z. begun_at outer.extensions z ≡ None) same none, (inside, subst (Begins Paragraph) at (tells.0 t))),
+      λ t. (
+        subst (λ z. begun_at (without_terms outer.extensions) z ≡ None) same (subst (λ x. begun_at x s ≡ None) (inside_asked outer line inside) none),
+        (inside, subst (Begins Paragraph) at (tells.0 t)),
+      ),
       λ row. tells.1 (subst (Begins Paragraph) (sym at) row.1.1),
     )
 
@@ -64,11 +72,11 @@ one_number rest columns other d o =
 -- a line that is the delimiter row of no table
 pub no_delimiter : (outer : Outer) (text line : List ℕ) → ((columns : ℕ) → ¬ In outer.containers (IsDelimiter columns) line)
     → (columns : ℕ) → ¬ IsHead outer text columns line
-no_delimiter outer text line none columns head = none columns head.1
+no_delimiter outer text line none columns head = none columns head.2
 
 -- or of a table of so many columns
 module _ (outer : Outer) (text line : List ℕ) (columns : ℕ) (found : In outer.containers (IsDelimiter columns) line) where
   pub no_head : (cells text ≡ columns → LeavesParagraph outer line) → (other : ℕ) → ¬ IsHead outer text other line
   no_head leaves other head =
-      let same : other ≡ columns = one_number (rest_in outer.containers line) columns other found.1 head.1.1 in
-      head.0 (leaves (head.2 ∙ same))
+      let same : other ≡ columns = one_number (rest_in outer.containers line) columns other found.1 head.2.1 in
+      head.1 (leaves (head.3 ∙ same))

@@ -83,3 +83,8 @@ front_of (b ∷ bs) (suc n) = λ ls within parts. by (ends_line (b ∷ bs)) refl
 pub lines_of_taken : (text : List ℕ) (taken : Taken) (lines : List (List ℕ)) → IsTaken text taken lines → lines_of (take taken.bytes text) ≡ lines
 unfolding IsFrontOf
 lines_of_taken text taken lines h = front_of text taken.bytes lines h.within h.parts
+
+pub front_lines : (text : List ℕ) (n : ℕ) (lines : List (List ℕ)) → n ≤ length text → lines_of text ≡ lines ++ lines_of (drop n text)
+    → lines_of (take n text) ≡ lines
+unfolding IsFrontOf
+front_lines text n lines within parts = front_of text n lines within parts

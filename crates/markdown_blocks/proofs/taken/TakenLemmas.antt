@@ -14,7 +14,7 @@ use Rattle.markdown_blocks.specs.containers.Containers.{IsInside}
 use Rattle.markdown_blocks.specs.blocks.Leaves.{OnFirst, StopsBefore, StopsBehind}
 
 -- a slice from a place on is what is behind it
-pub slice_behind : (text : List ℕ) (b : ℕ) → take (length text - b) (drop b text) ≡ drop b text
+pub slice_behind : {A : Type 0} (text : List A) (b : ℕ) → take (length text - b) (drop b text) ≡ drop b text
 slice_behind text b = take_all (length text - b) (drop b text) (omega (arith, length-drop b text))
 
 -- the line that is taken from the front of what is left

@@ -1,14 +1,14 @@
 -- What a scan for the end of a block looks for in a line.
-use Rattle.std.specs.Prelude.{ℕ, List, IsTrue, ◌↔◌}
+use Rattle.std.specs.Prelude.{ℕ, List, Option, Some, None, IsTrue, ◌↔◌}
 use Rattle.markdown_values.specs.declared.values.HeadingLevel.{HeadingLevel}
 use Rattle.markdown_blocks.specs.containers.Containers.{Outer, Rest, rest_in}
 use Rattle.markdown_blocks.specs.declared.blocks.Ending.{Ending}
 use Rattle.markdown_blocks.specs.declared.blocks.Ending.TheVariants.{Text, Paragraph, Fence, Html}
 use Rattle.markdown_blocks.specs.declared.blocks.NextLine.{NextLine}
 use Rattle.markdown_blocks.specs.declared.blocks.NextLine.TheVariants as next
-use Rattle.markdown_blocks.specs.declared.blocks.Underline.{Underline}
+use Rattle.markdown_blocks.specs.declared.blocks.TextEnd.{TextEnd}
 use Rattle.markdown_blocks.specs.declared.containers.BlockExtensions.{BlockExtensions}
-use Rattle.markdown_blocks.specs.blocks.Leaves.{IsBlank, EndsParagraph, ClosesFence, EndsHtml, In, Interrupts, OutOr, IsUnderline}
+use Rattle.markdown_blocks.specs.blocks.Leaves.{IsBlank, EndsParagraph, ClosesFence, EndsHtml, In, Interrupts, OutOr, IsUnderline, DefinesTerm}
 use Rattle.markdown_blocks.specs.blocks.Leaves.{LeavesParagraph, LeavesBehind, Underlines}
 
 -- what a line has in the open containers where it ends the block
@@ -23,10 +23,15 @@ abbrev pub IsEnd : Outer → Ending → List ℕ → Type 0
 IsEnd outer Paragraph line = LeavesParagraph outer line
 IsEnd outer ending line = OutOr outer.containers (Ends outer.extensions ending) line
 
--- the line is an underline in the containers, of this level, and interrupts a paragraph where it is said
-pub record IsUnderlineIn (outer : Outer) (underline : Underline) (line : List ℕ) : Type 0 where
-  pub underlines : In outer.containers (IsUnderline underline.level) line
-  pub interrupts : IsTrue underline.interrupts ↔ Interrupts outer.extensions (rest_in outer.containers line).text
+-- the rest of a line is an underline of this level, or without one the marker of a definition
+abbrev pub IsUnderOrDefines : BlockExtensions → Option HeadingLevel → Rest → Type 0
+IsUnderOrDefines asked (Some level) rest = IsUnderline level rest
+IsUnderOrDefines asked None rest = DefinesTerm asked rest
+
+-- the line ends a paragraph with text so in the containers, and interrupts a paragraph where it is said
+pub record EndsText (outer : Outer) (found : TextEnd) (line : List ℕ) : Type 0 where
+  pub ends : In outer.containers (IsUnderOrDefines outer.extensions found.level) line
+  pub interrupts : IsTrue found.interrupts ↔ Interrupts outer.extensions (rest_in outer.containers line).text
 
 -- what the line is to a paragraph whose first line has this text, with these later lines before it
 abbrev pub IsNextLine : Outer → List ℕ → List (List ℕ) → List ℕ → NextLine → Type 0

@@ -1,8 +1,9 @@
 -- Where the blocks of a page begin and end, line by line, in their containers. (CommonMark 0.31.2, chapter 4)
-use Rattle.std.specs.Prelude.{ℕ, ◌&&◌, List, [], ◌∷◌, ◌++◌, ◌≡◌, ◌⊎◌, ⊤, None, is_some, IsTrue, MatchBool}
+use Rattle.std.specs.Prelude.{ℕ, false, ◌&&◌, ◌==◌, List, [], ◌∷◌, ◌++◌, ◌≡◌, ◌≢◌, ◌⊎◌, ⊤, None, is_some, IsTrue, MatchBool}
 use Rattle.std.specs.List.{AllByRecursion}
 use Rattle.markdown_values.specs.declared.values.HeadingLevel.{HeadingLevel}
-use Rattle.markdown_scanners_tree.specs.Bytes.{is_blank}
+use Rattle.markdown_scanners_tree.specs.Ascii.{colon}
+use Rattle.markdown_scanners_tree.specs.Bytes.{begins_with, is_blank}
 use Rattle.markdown_scanners_tree.specs.declared.scanners.html_kinds.HtmlBlockKind.{HtmlBlockKind}
 use Rattle.markdown_scanners_tree.specs.line.State.{LineState}
 use Rattle.markdown_scanners_tree.specs.scanners.Breaks.{IsThematicBreak}
@@ -10,7 +11,7 @@ use Rattle.markdown_scanners_tree.specs.scanners.Fences.{IsCodeFence, IsClosingC
 use Rattle.markdown_scanners_tree.specs.scanners.Headings.{IsAtxHeading, IsSetextUnderline}
 use Rattle.markdown_scanners_tree.specs.scanners.Interrupts.{InterruptsParagraph}
 use Rattle.markdown_scanners_tree.specs.scanners.html_kinds.HtmlKinds.{IsHtmlBlockStart, ends_before_blank, is_html_end}
-use Rattle.markdown_blocks.specs.containers.Containers.{Outer, Rest, rest_at, begun_at, behind, IsInside, rest_in}
+use Rattle.markdown_blocks.specs.containers.Containers.{Outer, Rest, rest_at, asked_in, begun_at, behind, IsInside, rest_in, without_terms}
 use Rattle.markdown_blocks.specs.containers.Footnotes.{footnote_label}
 use Rattle.markdown_blocks.specs.declared.containers.BlockExtensions.{BlockExtensions}
 use Rattle.markdown_blocks.specs.declared.blocks.BlockKind.{BlockKind}
@@ -64,16 +65,21 @@ abbrev pub EndsParagraph : BlockExtensions → Rest → Type 0
 EndsParagraph asked rest =
     IsBlank rest ⊎ (((level : HeadingLevel) × IsUnderline level rest) ⊎ ((¬ HasIndent rest) × Interrupts asked rest.text))
 
--- It goes on with no paragraph that has this content before it: it is blank, an underline behind text, or interrupts it. Behind
--- definitions alone an underline is text. (4.3, 4.7)
+-- where definition lists are on, it is the marker of a definition, whose term is the paragraph before it
+abbrev pub DefinesTerm : BlockExtensions → Rest → Type 0
+DefinesTerm asked rest = (¬ HasIndent rest) × IsTrue (asked.definition_lists && begins_with (λ b. b == colon) rest.text)
+
+-- It goes on with no paragraph that has this content before it: it is blank, an underline behind text, or the marker of a definition
+-- behind it, or interrupts it. Behind link reference definitions alone an underline is text, and so is a marker. (4.3, 4.7)
 abbrev pub EndsContent : BlockExtensions → List ℕ → Rest → Type 0
 EndsContent asked content rest =
     IsBlank rest
-    ⊎ ((((level : HeadingLevel) × IsUnderline level rest) × HasText content) ⊎ ((¬ HasIndent rest) × Interrupts asked rest.text))
+    ⊎ (((((level : HeadingLevel) × IsUnderline level rest) ⊎ DefinesTerm asked rest) × HasText content)
+    ⊎ ((¬ HasIndent rest) × Interrupts asked rest.text))
 
--- it closes fenced code with this fence (4.5)
+-- It closes fenced code with this fence. A last line that is nothing but spaces is none: it is code. (4.5)
 abbrev pub ClosesFence : ℕ → ℕ → Rest → Type 0
-ClosesFence count byte rest = (¬ HasIndent rest) × (n : ℕ) × IsClosingCodeFence rest.text byte count n
+ClosesFence count byte rest = (¬ HasIndent rest) × (rest.text ≢ []) × (n : ℕ) × IsClosingCodeFence rest.text byte count n
 
 -- it meets the end condition of an HTML block (4.6)
 abbrev pub EndsHtml : HtmlBlockKind → Rest → Type 0
@@ -96,7 +102,7 @@ OutOr outer P line = (¬ IsInside outer line) ⊎ In outer P line
 -- the line neither stands in them nor is lazy, or what it has behind them has the property
 abbrev pub Leaves : Outer → (Rest → Type 0) → List ℕ → Type 0
 Leaves outer P line =
-    ((¬ IsInside outer.containers line) × (¬ IsLazy outer.extensions (behind outer.containers line).state))
+    ((¬ IsInside outer.containers line) × (¬ IsLazy (asked_in outer line) (behind outer.containers line).state))
     ⊎ In outer.containers P line
 
 -- the line goes on with no paragraph in them
@@ -112,16 +118,19 @@ LeavesBehind outer text before line =
 abbrev pub Underlines : List Container → List ℕ → List (List ℕ) → HeadingLevel → List ℕ → Type 0
 Underlines outer text before level line = In outer (IsUnderline level) line × HasText (content_of outer text before)
 
--- In them the line is the delimiter row of a table of so many columns, behind a line with this text: that has as many cells, and
--- it would go on with a paragraph of that. (GitHub Flavored Markdown 0.29, section 4.10)
+-- In them the line is the delimiter row of a table of so many columns, behind a line with this text: tables are not left out, that has
+-- as many cells, and it would go on with a paragraph of that. (GitHub Flavored Markdown 0.29, section 4.10)
 abbrev pub IsHead : Outer → List ℕ → ℕ → List ℕ → Type 0
 IsHead outer text columns line =
-    (¬ LeavesParagraph outer line) × In outer.containers (IsDelimiter columns) line × (cells text ≡ columns)
+    (outer.extensions.no_tables ≡ false)
+    × (¬ LeavesParagraph outer line) × In outer.containers (IsDelimiter columns) line × (cells text ≡ columns)
 
--- a row of a table: it stands in the containers, is not blank, and begins no container and no other block (the same section)
+-- a row of a table, which is no term: it stands in the containers, is not blank, and begins no container and no other block (the same
+-- section)
 abbrev pub IsRow : Outer → List ℕ → Type 0
 IsRow outer line =
-    (begun_at outer.extensions (behind outer.containers line).state ≡ None) × In outer.containers (Begins Paragraph) line
+    (begun_at (without_terms outer.extensions) (behind outer.containers line).state ≡ None)
+    × In outer.containers (Begins Paragraph) line
 
 -- the first of the lines, if there is one
 abbrev pub OnFirst : (List ℕ → Type 0) → List (List ℕ) → Type 0
@@ -196,10 +205,10 @@ IsLeaf outer (Table columns) first later rest =
     × (head : List ℕ) × (rows : List (List ℕ)) × (later ≡ head ∷ rows)
     × IsHead outer first.text columns head × StopsBefore (λ line. ¬ IsRow outer line) rows rest
 IsLeaf outer Paragraph first later rest =
-    Begins Paragraph first × BeginsNoTable outer first later × StopsAt (LeavesBehind outer first.text) later rest
+    Begins Paragraph first × BeginsNoTable outer first (later ++ rest) × StopsAt (LeavesBehind outer first.text) later rest
     × OnFirst (λ line. (level : HeadingLevel) → ¬ Underlines outer.containers first.text later level line) rest
 IsLeaf outer (Setext level) first later rest =
     Begins Paragraph first
-    × (middle : List (List ℕ)) × (last : List ℕ) × (later ≡ middle ++ last ∷ []) × BeginsNoTable outer first middle
+    × (middle : List (List ℕ)) × (last : List ℕ) × (later ≡ middle ++ last ∷ []) × BeginsNoTable outer first (later ++ rest)
     × StopsAt (LeavesBehind outer first.text) middle (last ∷ rest) × Underlines outer.containers first.text middle level last
 IsLeaf outer kind first later rest = Begins kind first × (later ≡ [])

@@ -1,16 +1,16 @@
--- Block quotes, list items and footnote definitions, line by line.
--- (CommonMark 0.31.2, sections 5.1 and 5.2, and "Parsing strategy", phase 1; GitHub Docs, footnotes)
-use Rattle.std.specs.Prelude.{ℕ, suc, Bool, true, false, not, ◌==◌, ◌≡◌, List, [], ◌∷◌, length, Option, Some, None, if◌then◌else◌}
+-- Block quotes, list items, footnote definitions and definitions of terms, line by line.
+-- (CommonMark 0.31.2, sections 5.1 and 5.2, and "Parsing strategy", phase 1; GitHub Docs, footnotes; pulldown-cmark, definition lists)
+use Rattle.std.specs.Prelude.{ℕ, suc, Bool, true, false, not, ◌==◌, ◌≡◌, List, [], ◌∷◌, length, drop, Option, Some, None, if◌then◌else◌}
 use Rattle.std.specs.Option.{option_map}
 use Rattle.markdown_scanners_tree.specs.Ascii.{greater_than_sign}
 use Rattle.markdown_scanners_tree.specs.Bytes.{begins_with, is_blank}
 use Rattle.markdown_scanners_tree.specs.line.ItemRules.{start_of}
-use Rattle.markdown_scanners_tree.specs.line.Outcome.{Outcome, after_quote, item_outcome}
+use Rattle.markdown_scanners_tree.specs.line.Outcome.{Outcome, after_quote, item_outcome, definition_outcome}
 use Rattle.markdown_scanners_tree.specs.line.State.{LineState, unscanned, space_within, after_space}
 use Rattle.markdown_blocks.specs.containers.Footnotes.{footnote_label, behind_footnote}
 use Rattle.markdown_blocks.specs.declared.containers.BlockExtensions.{BlockExtensions}
 use Rattle.markdown_blocks.specs.declared.containers.Container.{Container}
-use Rattle.markdown_blocks.specs.declared.containers.Container.TheVariants.{Quote, Item, Footnote}
+use Rattle.markdown_blocks.specs.declared.containers.Container.TheVariants.{Quote, Item, Footnote, TermDefinition}
 
 -- what a line has behind its containers: at most four columns of space, and the text behind them
 pub record Rest : Type 0 where
@@ -39,10 +39,22 @@ footnote_by s label = option_map (λ l. (Footnote, behind_footnote l s)) label
 abbrev pub footnote_of : BlockExtensions → LineState → Option (Container × LineState)
 footnote_of asked s = if asked.footnotes then footnote_by s (footnote_label (unscanned s)) else None
 
+-- the definition of a term that a definition's marker begins, and what is left of the line behind it
+abbrev pub term_definition_by : Outcome ℕ → Option (Container × LineState)
+term_definition_by found =
+    option_map (λ width. (TermDefinition (record { begun = is_blank (unscanned found.state); width = width }), found.state)) found.answer
+
+abbrev pub term_definition_of : BlockExtensions → ℕ → LineState → Option (Container × LineState)
+term_definition_of asked indent s = if asked.definition_lists then term_definition_by (definition_outcome indent s) else None
+
 -- the first of two, if it is there, or the second
 abbrev pub either_begun : (first second : Option (Container × LineState)) → Option (Container × LineState)
 either_begun None second = second
 either_begun (Some begun) second = Some begun
+
+-- the container of these extensions whose marker stands here, behind so much space, and what is left of the line behind it
+abbrev pub extension_of : BlockExtensions → ℕ → LineState → Option (Container × LineState)
+extension_of asked indent s = either_begun (footnote_of asked s) (term_definition_of asked indent s)
 
 -- with these extensions on the container whose marker stands here, behind so much space, and what is left of the line behind it
 -- (5.1, 5.2)
@@ -50,18 +62,22 @@ abbrev pub begun_behind : BlockExtensions → ℕ → LineState → Option (Cont
 begun_behind asked indent s =
     if indent == 4 then None
     else if begins_with (λ b. b == greater_than_sign) (unscanned s) then Some (Quote, after_quote s)
-    else either_begun (item_of (item_outcome indent s)) (footnote_of asked s)
+    else either_begun (item_of (item_outcome indent s)) (extension_of asked indent s)
 
 -- the container that the rest of a line begins
 abbrev pub begun_at : BlockExtensions → LineState → Option (Container × LineState)
 begun_at asked s = begun_behind asked (space_within 4 s) (after_space 4 s)
 
--- no extension, and all of them
+-- no extension that begins containers, and all of them; tables begin with either
 abbrev pub no_extensions : BlockExtensions
-no_extensions = record { footnotes = false }
+no_extensions = record { footnotes = false; definition_lists = false; no_tables = false }
 
 abbrev pub all_extensions : BlockExtensions
-all_extensions = record { footnotes = true }
+all_extensions = record { footnotes = true; definition_lists = true; no_tables = false }
+
+-- these extensions where no term stands, so that no definition of one begins
+abbrev pub without_terms : BlockExtensions → BlockExtensions
+without_terms asked = record asked { definition_lists = false }
 
 -- The place in the line of that container's marker, and what is left of the line after the marker. It is the same whichever of
 -- the extensions with which a container begins there are on.
@@ -75,25 +91,29 @@ after_marker s =
       | None ↦ after_space 4 s
     ]
 
--- The rest of a line goes on with a container: with a block quote where its marker stands, with an item where the rest is
--- indented as the item's text is, or blank, and with a footnote definition where it has four columns of space, or is blank. An
--- item that begins with a blank line does not go on with a second one. What is left of the line then, and whether that is blank.
+-- The rest of a line goes on with a container: with a block quote where its marker stands, with an item or the definition of a term
+-- where the rest is indented as its text is, or blank, and with a footnote definition where it has four columns of space, or is
+-- blank. An item that begins with a blank line does not go on with a second one, nor does the definition of a term. What is left of
+-- the line then, and whether that is blank.
 abbrev pub within_quote : Option LineState → Option (Bool × LineState)
 within_quote behind = option_map (λ s. (is_blank (unscanned s), s)) behind
 
+abbrev pub within_width : Bool → ℕ → Bool → LineState → Option (Bool × LineState)
+within_width begun width true s = if begun then None else Some (true, s)
+within_width begun width false s = if space_within width s == width then Some (false, after_space width s) else None
+
 abbrev pub within : Container → Bool → LineState → Option (Bool × LineState)
 within Quote blank s = within_quote (behind_quote (space_within 4 s) (after_space 4 s))
-within Footnote true s = Some (true, s)
-within Footnote false s = if space_within 4 s == 4 then Some (false, after_space 4 s) else None
-within (Item item) true s = if item.begun then None else Some (true, s)
-within (Item item) false s =
-    if space_within item.width s == item.width then Some (false, after_space item.width s) else None
+within Footnote blank s = within_width false 4 blank s
+within (Item item) blank s = within_width item.begun item.width blank s
+within (TermDefinition definition) blank s = within_width definition.begun definition.width blank s
 
 -- a blank line goes on with the container, whatever space it has
 abbrev pub goes_on_blank : Container → Bool
 goes_on_blank Quote = false
 goes_on_blank Footnote = true
 goes_on_blank (Item item) = not item.begun
+goes_on_blank (TermDefinition definition) = not definition.begun
 
 -- how many of the containers a line goes on with, the outermost first, and what is left of it behind them
 pub record Behind : Type 0 where
@@ -117,6 +137,13 @@ pub record Outer : Type 0 where
   pub extensions : BlockExtensions
   pub containers : List Container
 
+-- The containers that are open between two blocks, the outermost first, the extensions that are on, and whether a term stands directly
+-- before the next line, or with one blank line between.
+pub record Between : Type 0 where
+  pub extensions : BlockExtensions
+  pub containers : List Container
+  pub term : Bool
+
 -- a line where these containers are open
 pub record Line : Type 0 where
   pub outer : Outer
@@ -130,16 +157,34 @@ IsInside outer line = (behind outer line).kept ≡ length outer
 abbrev pub rest_in : List Container → List ℕ → Rest
 rest_in outer line = rest_at (behind outer line).state
 
--- with these extensions on the rest of a line begins these containers, one in the other, and no further one
+-- The extensions with which the rest of a line begins a container, where these are the open ones that the line ends: the definition of a
+-- term begins where none of them ends and a term stands, or where the outermost that ends is another definition.
+abbrev pub asked_first : BlockExtensions → Bool → List Container → BlockExtensions
+asked_first asked term [] = if term then asked else without_terms asked
+asked_first asked term (TermDefinition definition ∷ inner) = asked
+asked_first asked term (c ∷ inner) = without_terms asked
+
+-- the same of a line that comes next, and of a later line of a block
+abbrev pub asked_between : Between → List ℕ → BlockExtensions
+asked_between before line =
+    asked_first before.extensions before.term (drop (behind before.containers line).kept before.containers)
+
+abbrev pub asked_in : Outer → List ℕ → BlockExtensions
+asked_in outer line = asked_first outer.extensions false (drop (behind outer.containers line).kept outer.containers)
+
+-- With these extensions on the rest of a line begins these containers, one in the other, and no further one. In a container that begins
+-- there stands no term.
 abbrev pub Opens : BlockExtensions → LineState → List Container → LineState → Type 0
 Opens asked s [] after = (begun_at asked s ≡ None) × (after ≡ s)
-Opens asked s (c ∷ inner) after = (next : LineState) × (begun_at asked s ≡ Some (c, next)) × Opens asked next inner after
+Opens asked s (c ∷ inner) after =
+    (next : LineState) × (begun_at asked s ≡ Some (c, next)) × Opens (without_terms asked) next inner after
 
--- An item of which a second line is read, and the last of open containers so.
+-- An item or the definition of a term of which a second line is read, and the last of open containers so.
 abbrev pub settled : Container → Container
 settled Quote = Quote
 settled Footnote = Footnote
 settled (Item item) = Item (record item { begun = false })
+settled (TermDefinition definition) = TermDefinition (record definition { begun = false })
 
 abbrev pub settled_last : List Container → List Container
 settled_last [] = []

@@ -13,7 +13,7 @@ use Rattle.markdown_blocks.specs.containers.Containers.{all_extensions, begun_at
 use Rattle.markdown_blocks.specs.declared.blocks.BlockKind.{BlockKind}
 use Rattle.markdown_blocks.specs.declared.blocks.BlockKind.TheVariants.{Blank, Break, Heading, Setext, Indented, Fenced, Html, Table}
 use Rattle.markdown_blocks.specs.declared.containers.Container.{Container}
-use Rattle.markdown_blocks.specs.declared.containers.Container.TheVariants.{Quote, Item, Footnote}
+use Rattle.markdown_blocks.specs.declared.containers.Container.TheVariants.{Quote, Item, Footnote, TermDefinition}
 use Rattle.markdown_blocks.specs.info.Info.{behind_fence, without_end, without_front}
 
 -- a part of a line: so many columns of a tab that is cut, which are spaces (2.2), and the bytes from this place on
@@ -39,13 +39,16 @@ after_markers (suc n) s = elim (begun_at all_extensions s) [ Some r ↦ after_ma
 abbrev pub first_place : ℕ → List Container → List ℕ → LineState
 first_place kept outer line = after_markers (length outer - kept) (behind (take kept outer) line).state
 
--- of a blank line as much of the indent of an item or a footnote definition as is there is left out (5.2)
+-- of a blank line as much of the indent of an item or a definition as is there is left out (5.2)
+abbrev pub after_width : ℕ → Bool → LineState → LineState
+after_width width false s = s
+after_width width true s = after_space width s
+
 abbrev pub after_indent : Container → Bool → LineState → LineState
 after_indent Quote blank s = s
-after_indent (Item item) false s = s
-after_indent (Item item) true s = after_space item.width s
-after_indent Footnote false s = s
-after_indent Footnote true s = after_space 4 s
+after_indent (Item item) blank s = after_width item.width blank s
+after_indent Footnote blank s = after_width 4 blank s
+after_indent (TermDefinition definition) blank s = after_width definition.width blank s
 
 -- the place in a line of code or HTML after the containers that it goes on with
 abbrev pub after_containers : Bool → List Container → LineState → LineState

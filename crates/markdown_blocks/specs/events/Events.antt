@@ -28,6 +28,10 @@ pub record LeafBlock : Type 0 where
   pub text : List ℕ
   pub place : ℕ
 
+-- how many bytes of the page stand before what follows a leaf block
+abbrev pub block_end : LeafBlock → ℕ
+block_end block = block.start + block.bytes
+
 -- a container begins, before whose marker so many bytes of the page stand; a leaf block stands in those that have begun; or the
 -- innermost of them ends
 pub data Event : Type 0 where

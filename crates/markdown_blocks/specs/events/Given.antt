@@ -1,10 +1,10 @@
 -- The events that are left of a block and of a page, while they are given one after the other.
-use Rattle.std.specs.Prelude.{ℕ, ◌+◌, ◌-◌, ◌*◌, ◌≡◌, List, [], ◌++◌, length, drop, map, replicate, Option, Some, None}
+use Rattle.std.specs.Prelude.{ℕ, Bool, ◌+◌, ◌-◌, ◌*◌, ◌≡◌, List, [], ◌++◌, length, drop, map, replicate, Option, Some, None}
 use Rattle.markdown_scanners_tree.specs.line.State.{LineState}
 use Rattle.markdown_scanners_tree.specs.scanners.TextLines.{lines_of}
 use Rattle.markdown_blocks.specs.blocks.Pages.{Piece, AreBlocks, lines_in}
 use Rattle.markdown_blocks.specs.declared.blocks.BlockKind.{BlockKind}
-use Rattle.markdown_blocks.specs.containers.Containers.{Outer}
+use Rattle.markdown_blocks.specs.containers.Containers.{Between}
 use Rattle.markdown_blocks.specs.declared.containers.BlockExtensions.{BlockExtensions}
 use Rattle.markdown_blocks.specs.declared.containers.Container.{Container}
 use Rattle.markdown_blocks.specs.declared.step.Step.{Step}
@@ -53,12 +53,14 @@ pub record Pending : Type 0 where
   pub content : List ℕ
 
 -- How far a page is read: the extensions that are on; what is left of it after the block that is read, the containers that are
--- open there, how many of them have begun and not ended where no block is read, how many lines and bytes stand before it, and that
+-- open there, whether a term stands before it, how many of them have begun and not ended where no block is read, how many lines
+-- and bytes stand before it, and that
 -- block.
 pub record Left : Type 0 where
   pub text : List ℕ
   pub extensions : BlockExtensions
   pub containers : List Container
+  pub term : Bool
   pub begun : ℕ
   pub line : ℕ
   pub start : ℕ
@@ -73,15 +75,15 @@ abbrev pub depth_then : ℕ → List Container → Option Pending → ℕ
 depth_then begun containers None = begun
 depth_then begun containers (Some pending) = length containers
 
--- its containers and extensions
-abbrev pub outer_of : Left → Outer
-outer_of left = record { extensions = left.extensions; containers = left.containers }
+-- its extensions, its containers, and whether a term stands there
+abbrev pub between_of : Left → Between
+between_of left = record { extensions = left.extensions; containers = left.containers; term = left.term }
 
 -- from here the page gives these events
 pub record Gives (left : Left) (events : List Event) : Type 0 where
   pub pieces : List Piece
   pub joined : lines_in pieces ≡ lines_of left.text
-  pub each : AreBlocks (outer_of left) pieces []
+  pub each : AreBlocks (between_of left) pieces []
   pub pending : List Event
   pub is_pending : GivesPending left.containers left.next pending
   pub blocks : List Event

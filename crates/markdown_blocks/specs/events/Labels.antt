@@ -1,19 +1,22 @@
--- The labels of the footnote definitions of a page. (GitHub Docs, footnotes)
-use Rattle.std.specs.Prelude.{ℕ, List, [], ◌∷◌, drop, is_some, IsTrue, ⊤}
+-- The markers of footnote definitions and definitions of terms on a page. (GitHub Docs, footnotes; pulldown-cmark, definition lists)
+use Rattle.std.specs.Prelude.{ℕ, ◌==◌, List, [], ◌∷◌, drop, is_some, IsTrue, ⊤}
+use Rattle.markdown_scanners_tree.specs.Ascii.{colon}
+use Rattle.markdown_scanners_tree.specs.Bytes.{begins_with}
 use Rattle.markdown_blocks.specs.containers.Footnotes.{footnote_label}
 use Rattle.markdown_blocks.specs.declared.containers.Container.{Container}
-use Rattle.markdown_blocks.specs.declared.containers.Container.TheVariants.{Quote, Item, Footnote}
+use Rattle.markdown_blocks.specs.declared.containers.Container.TheVariants.{Quote, Item, Footnote, TermDefinition}
 use Rattle.markdown_blocks.specs.events.Events.{Event, starts, leaf, ends}
 
--- where a footnote definition begins in the page, a label stands
-abbrev pub HasLabelAt : List ℕ → Container → ℕ → Type 0
-HasLabelAt page Quote place = ⊤
-HasLabelAt page (Item item) place = ⊤
-HasLabelAt page Footnote place = IsTrue (is_some (footnote_label (drop place page)))
+-- a label stands at the front of a text if it begins a footnote definition, and a colon if it begins the definition of a term
+abbrev pub IsMarked : Container → List ℕ → Type 0
+IsMarked Quote text = ⊤
+IsMarked (Item item) text = ⊤
+IsMarked Footnote text = IsTrue (is_some (footnote_label text))
+IsMarked (TermDefinition definition) text = IsTrue (begins_with (λ b. b == colon) text)
 
 -- the same of each that begins in these events
-abbrev pub HaveLabels : List ℕ → List Event → Type 0
-HaveLabels page [] = ⊤
-HaveLabels page (starts container place ∷ later) = HasLabelAt page container place × HaveLabels page later
-HaveLabels page (leaf block ∷ later) = HaveLabels page later
-HaveLabels page (ends ∷ later) = HaveLabels page later
+abbrev pub AreMarked : List ℕ → List Event → Type 0
+AreMarked page [] = ⊤
+AreMarked page (starts container place ∷ later) = IsMarked container (drop place page) × AreMarked page later
+AreMarked page (leaf block ∷ later) = AreMarked page later
+AreMarked page (ends ∷ later) = AreMarked page later

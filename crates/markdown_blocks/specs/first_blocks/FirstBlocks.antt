@@ -4,7 +4,8 @@ use Rattle.std.specs.Option.{option_to_list}
 use Rattle.markdown_blocks.specs.declared.containers.Container.{Container}
 use Rattle.markdown_blocks.specs.declared.first_blocks.FirstBlock.{FirstBlock}
 use Rattle.markdown_blocks.specs.events.Events.{LeafBlock, seen_leaf}
-use Rattle.markdown_blocks.specs.lists.Lists.{Nodes, nothing, leaf_then, container_then, is_blank_kind}
+use Rattle.markdown_blocks.specs.blocks.Pages.{is_blank_kind}
+use Rattle.markdown_blocks.specs.lists.Lists.{Nodes, nothing, leaf_then, container_then}
 
 -- a container, and the leaf block that is the first block in it
 pub record First : Type 0 where

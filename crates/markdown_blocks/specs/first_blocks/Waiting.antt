@@ -4,7 +4,7 @@ use Rattle.std.specs.Option.{option_map, option_to_list}
 use Rattle.markdown_blocks.specs.declared.containers.Container.{Container}
 use Rattle.markdown_blocks.specs.events.Events.{Event, starts, leaf, ends}
 use Rattle.markdown_blocks.specs.first_blocks.FirstBlocks.{First}
-use Rattle.markdown_blocks.specs.lists.Lists.{is_blank_kind}
+use Rattle.markdown_blocks.specs.blocks.Pages.{is_blank_kind}
 
 -- the innermost container behind an event, where it has no block yet, and before the event this one had none
 abbrev pub waiting_behind : Option Container → Event → Option Container

@@ -30,6 +30,7 @@ pub record IsHeldIn (First Later Lazy : Change) (kept begun : List Container) (p
   pub begun_are : held.begun ≡ begun
   pub words : held.words ≡ piece.words
   pub kind : held.kind ≡ piece.kind
+  pub term : held.term ≡ piece.term
   pub first : First piece.first held.first
   pub later : AllZip (λ line changed. Later line changed ⊎ ((piece.kind ≡ Paragraph) × Lazy line changed × HasSameWords piece held line changed))
       piece.later held.later

@@ -7,7 +7,7 @@ use Rattle.markdown_scanners_tree.specs.Bytes.{begins_with, is_blank, is_line_en
 use Rattle.markdown_scanners_tree.specs.line.ItemRules.{start_of}
 use Rattle.markdown_scanners_tree.specs.scanners.Breaks.{is_thematic_break}
 use Rattle.markdown_scanners_tree.specs.scanners.list_items.ListItem.{IsListMarker}
-use Rattle.markdown_blocks.specs.containers.Containers.{rest_at}
+use Rattle.markdown_blocks.specs.containers.Containers.{rest_at, without_terms}
 use Rattle.markdown_blocks.specs.declared.blocks.BlockKind.TheVariants.{Blank}
 use Rattle.markdown_blocks.specs.declared.containers.BlockExtensions.{BlockExtensions}
 use Rattle.markdown_blocks.specs.declared.containers.Container.{Container}
@@ -67,7 +67,7 @@ pub record IsLessIndented (asked : BlockExtensions) (width : ℕ) (line bare : L
   pub fewer : left < width
   pub text : IsTrue (not (begins_with is_space_or_tab rest))
   pub some : IsTrue (not (is_blank rest))
-  pub goes_on : IsLazy asked (start_of bare)
+  pub goes_on : IsLazy (without_terms asked) (start_of bare)
 
 -- The blocks are one list item of these: their lines behind a marker and its spaces, which stand before the first line, and as many
 -- spaces before the others. (rules 1, 2, 4 and 5)

@@ -4,6 +4,7 @@ use Rattle.std.specs.Prelude.{ℕ, not, ◌≡◌, ◌≤◌, ◌+◌, ◌⊎◌
 use Rattle.markdown_scanners_tree.specs.Ascii.{space, greater_than_sign}
 use Rattle.markdown_scanners_tree.specs.Bytes.{begins_with, is_space_or_tab}
 use Rattle.markdown_scanners_tree.specs.line.ItemRules.{start_of}
+use Rattle.markdown_blocks.specs.containers.Containers.{without_terms}
 use Rattle.markdown_blocks.specs.declared.containers.BlockExtensions.{BlockExtensions}
 use Rattle.markdown_blocks.specs.declared.containers.Container.TheVariants.{Quote}
 use Rattle.markdown_blocks.specs.blocks.Leaves.{IsLazy}
@@ -25,7 +26,7 @@ pub record IsBare (asked : BlockExtensions) (line bare : List ℕ) : Type 0 wher
   pub indent : ℕ
   pub few : indent ≤ 3
   pub parts : bare ≡ replicate indent space ++ line
-  pub goes_on : IsLazy asked (start_of bare)
+  pub goes_on : IsLazy (without_terms asked) (start_of bare)
 
 -- The blocks are one block quote of these: their lines with a marker before each, which may be left out before a paragraph's later
 -- lines, where they are paragraph continuation text. (rules 1 and 2)

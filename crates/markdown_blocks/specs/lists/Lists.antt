@@ -1,11 +1,10 @@
 -- The lists of a page. (CommonMark 0.31.2, section 5.3)
 use Rattle.std.specs.Prelude.{ℕ, suc, ◌+◌, Bool, true, false, not, ◌&&◌, ◌||◌, ◌==◌, ◌≡◌, List, [], ◌∷◌, ◌++◌, Option, Some, None, if◌then◌else◌}
 use Rattle.std.specs.Option.{option_to_list}
-use Rattle.markdown_blocks.specs.declared.blocks.BlockKind.{BlockKind}
-use Rattle.markdown_blocks.specs.declared.blocks.BlockKind.TheVariants.{Blank}
 use Rattle.markdown_blocks.specs.declared.containers.BlockExtensions.{BlockExtensions}
 use Rattle.markdown_blocks.specs.declared.containers.Container.{Container}
-use Rattle.markdown_blocks.specs.declared.containers.Container.TheVariants.{Quote, Item, Footnote}
+use Rattle.markdown_blocks.specs.declared.containers.Container.TheVariants.{Quote, Item, Footnote, TermDefinition}
+use Rattle.markdown_blocks.specs.blocks.Pages.{is_blank_kind}
 use Rattle.markdown_blocks.specs.declared.lists.ListBlock.{ListBlock}
 use Rattle.markdown_blocks.specs.events.Events.{Event, starts, leaf, ends, LeafBlock, IsEventsOf}
 
@@ -31,18 +30,13 @@ lines_passed line nothing = line
 lines_passed line (leaf_then block later) = lines_passed (line_behind block) later
 lines_passed line (container_then container place inner later) = lines_passed (lines_passed line inner) later
 
--- blank lines, which are no block
-abbrev pub is_blank_kind : BlockKind → Bool
-is_blank_kind Blank = true
-is_blank_kind kind = false
-
 abbrev pub begins_blank : Nodes → Bool
 begins_blank (leaf_then block later) = is_blank_kind block.kind
 begins_blank nodes = false
 
 -- A block in a container or in the page: the container that it is, if it is no leaf block; the lines before it, and those before
 -- what follows its last; whether a blank line stands between two blocks directly in it; whether it is followed by a blank line,
--- or is an item or a footnote definition that ends with one; and the lists in it.
+-- or is an item or a definition that ends with one; and the lists in it.
 pub record Child : Type 0 where
   pub container : Option Container
   pub line : ℕ
@@ -106,17 +100,19 @@ lists_among depth items (child ∷ later) =
     (if goes_on items child then [] else option_to_list (list_of depth items)) ++ child.inside
     ++ lists_among depth (if goes_on items child then items ++ child ∷ [] else child ∷ []) later
 
--- An item or a footnote definition ends with its last block, and may end with a blank line; to a block quote each of its lines
+-- An item or a definition ends with its last block, and may end with a blank line; to a block quote each of its lines
 -- belongs.
 abbrev pub end_of : Container → ℕ → ℕ → List Child → ℕ
 end_of Quote line passed content = passed
 end_of (Item item) line passed content = last_end line content
 end_of Footnote line passed content = last_end line content
+end_of (TermDefinition definition) line passed content = last_end line content
 
 abbrev pub ends_blank_line : Container → List Child → Bool
 ends_blank_line Quote content = false
 ends_blank_line (Item item) content = ends_blank false content
 ends_blank_line Footnote content = ends_blank false content
+ends_blank_line (TermDefinition definition) content = ends_blank false content
 
 -- the child that is a leaf block, or that is a container with this content
 abbrev pub leaf_child : LeafBlock → ℕ → Bool → Child
@@ -144,7 +140,7 @@ child_unless true child later = later
 child_unless false child later = child ∷ later
 
 -- The blocks in a container or in the page: in so many containers, with so many lines of the page before them. What stands first
--- may be blank: in an item or a footnote definition it is the rest of the marker's line, and no blank line; else nothing stands
+-- may be blank: in an item or a definition it is the rest of the marker's line, and no blank line; else nothing stands
 -- before it.
 abbrev pub children : Bool → ℕ → ℕ → Nodes → List Child
 children is_first depth line nothing = []

@@ -2,12 +2,13 @@
 use Rattle.std.specs.Prelude.{ℕ, Bool, true, false, not, ◌&&◌, ◌||◌, ◌==◌, List, [], ◌∷◌, ◌++◌, length, Option, Some, None, if◌then◌else◌}
 use Rattle.std.specs.Option.{option_map, option_to_list}
 use Rattle.markdown_blocks.specs.declared.containers.Container.{Container}
-use Rattle.markdown_blocks.specs.declared.containers.Container.TheVariants.{Quote, Item, Footnote}
+use Rattle.markdown_blocks.specs.declared.containers.Container.TheVariants.{Quote, Item, Footnote, TermDefinition}
 use Rattle.markdown_blocks.specs.declared.lists.Level.{Level}
 use Rattle.markdown_blocks.specs.declared.lists.ListBlock.{ListBlock}
 use Rattle.markdown_blocks.specs.declared.lists.OpenList.{OpenList}
 use Rattle.markdown_blocks.specs.events.Events.{Event, starts, leaf, ends, LeafBlock}
-use Rattle.markdown_blocks.specs.lists.Lists.{is_blank_kind, line_behind}
+use Rattle.markdown_blocks.specs.blocks.Pages.{is_blank_kind}
+use Rattle.markdown_blocks.specs.lists.Lists.{line_behind}
 
 -- How far the events are followed: the lines before what comes next, and before what follows the last block; whether a blank line
 -- stands behind that block; whether the innermost container has no block yet; what is known of it, and of those around it.
@@ -48,6 +49,7 @@ closed s = option_map (list_now (length s.outer) s.end) s.level.list
 abbrev pub joins : Option OpenList → Container → Bool
 joins list Quote = false
 joins list Footnote = false
+joins list (TermDefinition definition) = false
 joins None (Item item) = false
 joins (Some list) (Item item) = list.delimiter == item.delimiter
 
@@ -58,6 +60,7 @@ loosened (Some list) loose = Some (record list { is_loose = list.is_loose || loo
 abbrev pub list_begun : Container → ℕ → Option OpenList
 list_begun Quote line = None
 list_begun Footnote line = None
+list_begun (TermDefinition definition) line = None
 list_begun (Item item) line = Some (record { delimiter = item.delimiter; is_loose = false; start = item.start; line = line })
 
 -- a container in which this one begins, behind a blank line or not and so many lines
@@ -67,11 +70,12 @@ begun outer container blank line = record outer {
   list = if joins outer.list container then loosened outer.list blank else list_begun container line;
 }
 
--- the container itself: an item or a footnote definition ends with its last block
+-- the container itself: an item or a definition ends with its last block
 abbrev pub ends_with_block : Container → Bool
 ends_with_block Quote = false
 ends_with_block (Item item) = true
 ends_with_block Footnote = true
+ends_with_block (TermDefinition definition) = true
 
 abbrev pub level_within : Container → Level
 level_within container = record { ends_with_block = ends_with_block container; is_parted = false; list = None }

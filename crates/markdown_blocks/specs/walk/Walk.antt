@@ -1,9 +1,9 @@
--- One step of a walk over a page: the next block, and the containers that are open then.
+-- One step of a walk over a page: the next block, and what is between it and the next one.
 use Rattle.std.specs.Prelude.{ℕ, ◌≡◌, ◌⊎◌, List, [], ◌∷◌, ◌++◌, drop, length}
 use Rattle.markdown_scanners_tree.specs.declared.scanners.reference_definitions.ReferenceDefinition.{ReferenceDefinition}
 use Rattle.markdown_scanners_tree.specs.scanners.TextLines.{lines_of}
 use Rattle.markdown_blocks.specs.blocks.Pages.{Piece, AreOpened, IsPiece, open_behind}
-use Rattle.markdown_blocks.specs.containers.Containers.{Outer, Rest, behind}
+use Rattle.markdown_blocks.specs.containers.Containers.{Between, Rest, behind}
 use Rattle.markdown_blocks.specs.declared.containers.Container.{Container}
 use Rattle.markdown_blocks.specs.declared.step.Step.{Step}
 use Rattle.markdown_blocks.specs.definitions.Content.{content_in}
@@ -11,7 +11,7 @@ use Rattle.markdown_blocks.specs.definitions.Definitions.{IsDefinition}
 use Rattle.markdown_blocks.specs.taken.Lines.{IsTaken}
 
 -- where these containers are open, the line opens new ones, so many of which were open before, and what is left of it is this
-pub record IsOpening (old : Outer) (line : List ℕ) (new : List Container) (count : ℕ) (words : Rest) : Type 0 where
+pub record IsOpening (old : Between) (line : List ℕ) (new : List Container) (count : ℕ) (words : Rest) : Type 0 where
   pub kept : List Container
   pub begun : List Container
   pub open_now : new ≡ kept ++ begun
@@ -24,7 +24,7 @@ rest_of step = record { indent = step.indent; text = step.text.now }
 
 -- Where these containers are open, the step is the block at the front of the lines, if these further lines stand behind them;
 -- then the new ones are open.
-pub record IsStep (old : Outer) (lines : List ℕ) (more : List (List ℕ)) (step : Step) (new : Outer) : Type 0 where
+pub record IsStep (old : Between) (lines : List ℕ) (more : List (List ℕ)) (step : Step) (new : Between) : Type 0 where
   pub piece : Piece
   pub is_piece : IsPiece old piece (lines_of (drop step.block.taken.bytes lines) ++ more)
   pub taken : IsTaken lines step.block.taken (piece.first ∷ piece.later)

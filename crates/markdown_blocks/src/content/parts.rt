@@ -1,9 +1,10 @@
 //! The parts of a leaf block's lines that are its content, one after the other.
-ghost use Rattle.std.specs.Prelude.{◌≡◌, ◌↔◌, ◌+◌, ◌-◌, ◌<◌, ◌≤◌, List, true, drop, length, take, IsTrue, None, Some};
+ghost use Rattle.std.specs.Prelude.{◌≡◌, ◌↔◌, ◌+◌, ◌-◌, ◌<◌, ◌≤◌, List, ℕ, true, drop, length, take, IsTrue, None, Some};
 ghost use Rattle.markdown_scanners_tree.specs.scanners.TextLines.{lines_of};
 ghost use Rattle.markdown_blocks.specs.blocks.Leaves.{ClosesFence, In};
 ghost use Rattle.markdown_blocks.specs.containers.Containers.{all_extensions, begun_at};
-ghost use Rattle.markdown_blocks.specs.content.Parts.{AreInner, IsLeftOut, after_containers, after_indent, first_place, heading_part, later_place, part_at};
+ghost use Rattle.markdown_blocks.specs.content.Parts.{AreInner, IsLeftOut, after_containers, after_indent, after_width, first_place, heading_part};
+ghost use Rattle.markdown_blocks.specs.content.Parts.{later_place, part_at};
 ghost use Rattle.markdown_blocks.specs.content.Parts.{place_inside, text_place, without_closing, without_signs};
 ghost use Rattle.markdown_blocks.specs.content.Seen.{IsFirstIn, IsIn, seen_part};
 ghost use Rattle.markdown_blocks.specs.declared.containers.Container.{Container};
@@ -133,67 +134,42 @@ impl<'a> Parts<'a> {
         }
     }
 
-    /// The next part, and those after it.
-    pub(crate) fn next(self) -> Option<(LinePart<'a>, Parts<'a>)>
-        ensures some { IfSome result (λ r. parts_left self.entry ≡ seen_part r.0 ∷ parts_left r.1) }
-        ensures none { IfNone result (parts_left self.entry ≡ []) }
-        ensures inside { IfSome result (λ r. IsIn self.entry.lines.now (seen_part r.0)) }
-        ensures lines { IfSome result (λ r. r.1.lines.now ≡ self.entry.lines.now) }
+    /// The next part. The others are left then.
+    pub(crate) fn next(&mut self) -> Option<LinePart<'a>>
+        ensures some { IfSome result (λ part.
+            parts_left self.old ≡ seen_part part ∷ parts_left self.new) }
+        ensures none { IfNone result (parts_left self.old ≡ []) }
+        ensures inside { IfSome result (λ part. IsIn self.old.lines.now (seen_part part)) }
+        ensures lines { self.new.lines.now ≡ self.old.lines.now }
     {
-        let Parts {
-            lines,
-            first,
-            read,
-            count,
-            cut,
-        } = self;
-        match first {
-            Some(part) => {
-                return Some((
-                    part,
-                    Parts {
-                        lines,
-                        first: None,
-                        read,
-                        count,
-                        cut,
-                    },
-                ));
-            }
-            None => {}
+        if let Some(part) = self.first {
+            self.first = None;
+            return Some(part);
         }
-        if read.lines >= count {
+        if self.read.lines >= self.count {
             return None;
         }
-        let (line, more) = read.next(lines)?;
-        let part = text_part(
-            line,
-            later_place(line, cut.kind, cut.outer),
-            cut.kind,
-            cut.indent,
-        );
-        let part = LinePart {
-            place: read.bytes + part.place,
+        let before = self.read.bytes;
+        let (line, more) = self.read.next(self.lines)?;
+        self.read = more;
+        let place = later_place(line, self.cut.kind, self.cut.outer);
+        let part = text_part(line, place, self.cut.kind, self.cut.indent);
+        Some(LinePart {
+            place: before + part.place,
             ..part
-        };
-        Some((
-            part,
-            Parts {
-                lines,
-                first,
-                read: more,
-                count,
-                cut,
-            },
-        ))
+        })
     }
 }
 
-// How many of the lines are read and content: of those after the first all, or all but the last.
+// How many of the lines are read and content: of those after the first all, or all but the last. Where
+// it is all, as of most kinds, the lines are not read, and more are answered than there are.
 fn count_inner(lines: &[u8], first: Taken, kind: BlockKind, outer: &Outer) -> usize
     ensures { AreInner kind outer.now.containers (lines_of (drop first.bytes lines.now))
         (take (result - first.lines) (lines_of (drop first.bytes lines.now))) }
 {
+    if is_all_content(kind) {
+        return usize::MAX;
+    }
     let mut read = first;
     while let Some((line, more)) = read.next(lines) {
         let is_last = more.bytes == lines.len();
@@ -203,6 +179,14 @@ fn count_inner(lines: &[u8], first: Taken, kind: BlockKind, outer: &Outer) -> us
         read = more;
     }
     read.lines
+}
+
+// Whether all lines of a block of this kind are content, the last one too.
+fn is_all_content(kind: BlockKind) -> bool
+    ensures { IsTrue result → (outer : List Container) (last : List ℕ)
+        → ¬ IsLeftOut kind outer last }
+{
+    !matches!(kind, BlockKind::Setext(_) | BlockKind::Fenced(..))
 }
 
 // Whether the line is the last of its block, and no content.
@@ -230,8 +214,12 @@ fn is_closing_fence(line: &[u8], count: usize, byte: u8, outer: &Outer) -> bool
     }
 }
 
-// The place in a block's first line after its containers.
-fn first_place<'a>(line: &'a [u8], containers: &[Container], kept: usize) -> LineStart<'a>
+/// The place in a block's first line after its containers.
+pub(crate) fn first_place<'a>(
+    line: &'a [u8],
+    containers: &[Container],
+    kept: usize,
+) -> LineStart<'a>
     ensures place { result ≡ first_place kept containers.now line.now }
     ensures bytes { result.bytes ≡ line.now }
 {
@@ -314,16 +302,25 @@ fn pass_indent_left(start: &mut LineStart, container: Container, blank: bool) ->
     ensures bytes { start.new.bytes ≡ start.old.bytes }
 {
     match container {
-        Container::Item(item) if blank => {
-            start.scan_space_upto(item.width as usize);
-            start.remaining_space() == 0 && start.is_at_eol()
-        }
-        Container::Footnote if blank => {
-            start.scan_space_upto(4);
-            start.remaining_space() == 0 && start.is_at_eol()
-        }
-        _ => false,
+        Container::Quote => false,
+        Container::Item(item) => pass_width_left(start, item.width, blank),
+        Container::Footnote => pass_width_left(start, 4, blank),
+        Container::TermDefinition(d) => pass_width_left(start, d.width, blank),
     }
+}
+
+// Passes at most so many columns of space of a blank line. Answers whether nothing of it is left.
+fn pass_width_left(start: &mut LineStart, width: u8, blank: bool) -> bool
+    ensures place { start.new ≡ after_width width blank start.old }
+    ensures spent { IsTrue result → (inner : List Container)
+        → after_containers true inner start.new ≡ start.new }
+    ensures bytes { start.new.bytes ≡ start.old.bytes }
+{
+    if !blank {
+        return false;
+    }
+    start.scan_space_upto(width as usize);
+    start.remaining_space() == 0 && start.is_at_eol()
 }
 
 // What a line has for the content, from this place after its containers on.

@@ -8,7 +8,7 @@ use Rattle.std.proofs.lemmas.List.Folds.{concat-append}
 use Rattle.markdown_scanners_tree.specs.declared.scanners.reference_definitions.ReferenceDefinition.{ReferenceDefinition}
 use Rattle.markdown_scanners_tree.specs.line.State.{LineState}
 use Rattle.markdown_scanners_tree.specs.scanners.TextLines.{lines_of}
-use Rattle.markdown_blocks.specs.containers.Containers.{Outer, behind, after_marker}
+use Rattle.markdown_blocks.specs.containers.Containers.{Between, behind, after_marker}
 use Rattle.markdown_blocks.specs.declared.containers.BlockExtensions.{BlockExtensions}
 use Rattle.markdown_blocks.specs.declared.blocks.BlockKind.{BlockKind}
 use Rattle.markdown_blocks.specs.declared.blocks.BlockKind.TheVariants.{Definition}
@@ -120,7 +120,7 @@ behind-piece outer piece leaves line start are =
     ∙ behind-started piece.begun start (behind outer piece.first).state (place line start) (map leaf leaves)
     ∙ behind-leaves leaves (piece.kept ++ piece.begun) piece.kind (part_of line start piece) (piece_content piece) (place line start) refl are
 
-module _ (form : Form) (outer now : Outer) (before : Taken) (lists : Tracked) (step : Step) (lines : List ℕ) (more : List (List ℕ))
+module _ (form : Form) (outer now : Between) (before : Taken) (lists : Tracked) (step : Step) (lines : List ℕ) (more : List (List ℕ))
     (s : IsStep outer lines more step now) (content : List ℕ) (given : List Event) (shown : List Shown) (gathered : IsContentOf step now.containers content)
     (gives : GivesBlock now.containers content (block_left step before (length outer.containers)) given) (are_shown : AreShown content given shown) where
   abbrev so_far : Printed
@@ -169,12 +169,12 @@ module _ (form : Form) (outer now : Outer) (before : Taken) (lists : Tracked) (s
   unfolding GoesOnTelling left
   telling-next page text longer next is_next tells goes later others rest is each are =
       let front = front_with later rest is each in
-      let behind = subst (λ (o : Outer). AreShownOf o.containers (before.lines + length (s.piece.first ∷ s.piece.later))
+      let behind = subst (λ (o : Between). AreShownOf o.containers (before.lines + length (s.piece.first ∷ s.piece.later))
       (before.bytes + length (concat (s.piece.first ∷ s.piece.later))) later others) s.open_now
       (subst (λ (q : Place). AreShownOf now.containers q.lines q.bytes later others) (step_place next is_next) are) in
       let whole = goes (s.piece ∷ later) (shown ++ others) rest front.0 front.1
       (leaves_are.0, shown, others, leaves_are.1, written_are, refl, behind) in
-      let on : now.extensions ≡ outer.extensions = ap (λ (o : Outer). o.extensions) s.open_now in
+      let on : now.extensions ≡ outer.extensions = ap (λ (o : Between). o.extensions) s.open_now in
       record {
         pieces = whole.pieces;
         shown = whole.shown;
@@ -185,10 +185,10 @@ module _ (form : Form) (outer now : Outer) (before : Taken) (lists : Tracked) (s
             ∙ append_assoc text (lines_of_events form so_far shown) _
             ∙ ap (λ t. text ++ t) (sym (lines-append form so_far shown others)) ∙ whole.lines;
         so_far = ap (λ (q : Printed). after_all q others) is_next ∙ sym (after-append so_far shown others) ∙ whole.so_far;
-        open_now = ap (λ (o : Outer). open_after (length o.containers) later) s.open_now ∙ whole.open_now;
+        open_now = ap (λ (o : Between). open_after (length o.containers) later) s.open_now ∙ whole.open_now;
       }
 
-pub telling-first : (form : Form) (page : List ℕ) (p : Printed) (outer : Outer) (text : List ℕ) → p ≡ the_front → outer ≡ root outer.extensions → text ≡ []
+pub telling-first : (form : Form) (page : List ℕ) (p : Printed) (outer : Between) (text : List ℕ) → p ≡ the_front → outer ≡ root outer.extensions → text ≡ []
     → GoesOnTelling form page text p outer (lines_of page)
 unfolding GoesOnTelling
 telling-first form page p outer text front none empty later shown rest is each are = record {
@@ -196,14 +196,14 @@ telling-first form page p outer text front none empty later shown rest is each a
   shown = shown;
   are_its_blocks = record { joined = sym is; each = subst (λ o. AreBlocks o later rest) none each };
   are_their_events = subst (λ (q : Printed). AreShownOf [] q.at.lines q.at.bytes later shown) front
-      (subst (λ (o : Outer). AreShownOf o.containers p.at.lines p.at.bytes later shown) none are);
+      (subst (λ (o : Between). AreShownOf o.containers p.at.lines p.at.bytes later shown) none are);
   lines = ap (λ t. t ++ lines_of_events form p shown) empty ∙ ap (λ (q : Printed). lines_of_events form q shown) front;
   so_far = ap (λ (q : Printed). after_all q shown) front;
-  open_now = ap (λ (o : Outer). open_after (length o.containers) later) none;
+  open_now = ap (λ (o : Between). open_after (length o.containers) later) none;
 }
 
 -- the text, in this form, prints blocks at the front of the page
-pub telling-front : (asked : BlockExtensions) (form other : Form) (page text words : List ℕ) (p : Printed) (outer : Outer) (lines : List (List ℕ))
+pub telling-front : (asked : BlockExtensions) (form other : Form) (page text words : List ℕ) (p : Printed) (outer : Between) (lines : List (List ℕ))
     → form ≡ other → outer.extensions ≡ asked → text ≡ words → GoesOnTelling form page text p outer lines → TellsFront asked other page words
 unfolding GoesOnTelling
 telling-front asked form other page text words p outer lines same on is goes =
@@ -226,7 +226,7 @@ to_end form p shown later =
     ∙ ap (λ (q : Printed). lines_of_events form p (shown ++ later) ++ ended_line form (closed q.lists)) (sym (after-append p shown later))
 
 -- with the last lines it prints the whole page
-pub telling-page : (form : Form) (page text longer : List ℕ) (p : Printed) (outer : Outer)
+pub telling-page : (form : Form) (page text longer : List ℕ) (p : Printed) (outer : Between)
     → longer ≡ text ++ last_lines form p (length outer.containers) → GoesOnTelling form page text p outer [] → TellsPage outer.extensions form page longer
 unfolding GoesOnTelling
 telling-page form page text longer p outer tells goes =

@@ -9,7 +9,7 @@ use Rattle.page_blocks.specs.declared.page.Telling.{Telling}
 use Rattle.page_blocks.specs.declared.words.Form.{Form}
 use Rattle.page_blocks.specs.page.Going.{HasTold, Tells}
 use Rattle.page_blocks.specs.page.Told.{TellsPage, TellsFront, IsToldTo, IsBegunTo}
-use Rattle.markdown_blocks.specs.containers.Containers.{Outer}
+use Rattle.markdown_blocks.specs.containers.Containers.{Between}
 use Rattle.page_blocks.specs.printer.Printers.{printed_of}
 use Rattle.page_blocks.proofs.page.PageLemmas.{telling-front}
 use Rattle.page_programs.proofs.ReadingLemmas.{consumes-none, consumes-more, appends-more}
@@ -73,7 +73,7 @@ module _ (asked : BlockExtensions) (form : Form) (title : List ℕ) (input old :
     appended = appended-more new longer b.written (string_bytes next.printer.text) b.appended writes;
     goes = λ more. rw (form_is, so_far_is, walk_is, cleared_is, rest_is, append-nil) (tells more (b.read ++ more) b.written (b.goes more));
     in_form = form_is ∙ same ∙ b.in_form;
-    is_asked = ap (λ (o : Outer). o.extensions) walk_is ∙ on ∙ b.is_asked;
+    is_asked = ap (λ (o : Between). o.extensions) walk_is ∙ on ∙ b.is_asked;
   }
 
   -- a fault of the reader or of memory

@@ -7,7 +7,7 @@ use Rattle.markdown_blocks.specs.declared.blocks.BlockKind.{BlockKind}
 use Rattle.markdown_blocks.specs.declared.blocks.BlockKind.TheVariants.{Blank, Break, Heading, Setext, Indented}
 use Rattle.markdown_blocks.specs.declared.blocks.BlockKind.TheVariants.{Fenced, Html, Table, Definition, Paragraph}
 use Rattle.markdown_blocks.specs.declared.containers.Container.{Container}
-use Rattle.markdown_blocks.specs.declared.containers.Container.TheVariants.{Quote, Item, Footnote}
+use Rattle.markdown_blocks.specs.declared.containers.Container.TheVariants.{Quote, Item, Footnote, TermDefinition}
 use Rattle.markdown_blocks.specs.declared.lists.ListBlock.{ListBlock}
 use Rattle.markdown_blocks.specs.events.Shown.{Written}
 use Rattle.markdown_blocks.specs.info.Info.{info_of}
@@ -79,9 +79,10 @@ kind_json (Table columns) first written = codes "\"table\",\"columns\":" ++ deci
 kind_json Definition first written = codes "\"definition\"" ++ definition_json written
 kind_json Paragraph first written = codes "\"paragraph\""
 
--- the kind of a container; of an item its marker too, and by how many columns its text is indented
+-- the kind of a container; of an item its marker too; and by how many columns its text is indented, or that of a definition
 abbrev pub container_json : Container → List ℕ
 container_json Quote = codes "\"quote\""
 container_json Footnote = codes "\"footnote\""
+container_json (TermDefinition definition) = codes "\"term_definition\",\"indent\":" ++ decimal definition.width
 container_json (Item item) =
     codes "\"item\"" ++ marker_json item.delimiter item.start ++ codes ",\"indent\":" ++ decimal item.width

@@ -1,7 +1,7 @@
 -- How a page is printed block by block.
 use Rattle.std.specs.Prelude.{ℕ, ◌≡◌, List, [], ◌++◌, length, string_bytes}
 use Rattle.markdown_blocks.specs.blocks.Pages.{Piece, AreBlocks, IsFront, lines_in}
-use Rattle.markdown_blocks.specs.containers.Containers.{Outer}
+use Rattle.markdown_blocks.specs.containers.Containers.{Between}
 use Rattle.markdown_blocks.specs.declared.containers.BlockExtensions.{BlockExtensions}
 use Rattle.markdown_blocks.specs.events.Events.{open_after}
 use Rattle.markdown_blocks.specs.events.Shown.{AreShownOf, Shown}
@@ -23,7 +23,7 @@ pub record IsPrinted (asked : BlockExtensions) (form : Form) (page text : List �
 
 -- The text prints a page as far as these lines, before which the page is printed so far and these containers are open: whatever
 -- blocks the first of them are, with the lines of their events it prints blocks at the front of the page.
-unfoldable pub GoesOnTelling : Form → List ℕ → List ℕ → Printed → Outer → List (List ℕ) → Type 0
+unfoldable pub GoesOnTelling : Form → List ℕ → List ℕ → Printed → Between → List (List ℕ) → Type 0
 GoesOnTelling form page text p outer lines =
     (later : List Piece) (shown : List Shown) (rest : List (List ℕ)) → lines ≡ lines_in later ++ rest → AreBlocks outer later rest
     → AreShownOf outer.containers p.at.lines p.at.bytes later shown

@@ -12,7 +12,7 @@ use Rattle.markdown_blocks.specs.declared.blocks.BlockKind.TheVariants.{Blank, B
 use Rattle.markdown_blocks.specs.declared.blocks.BlockKind.TheVariants.{Fenced, Html, Table, Definition, Paragraph}
 use Rattle.markdown_blocks.specs.declared.containers.BlockExtensions.{BlockExtensions}
 use Rattle.markdown_blocks.specs.declared.containers.Container.{Container}
-use Rattle.markdown_blocks.specs.declared.containers.Container.TheVariants.{Quote, Item, Footnote}
+use Rattle.markdown_blocks.specs.declared.containers.Container.TheVariants.{Quote, Item, Footnote, TermDefinition}
 use Rattle.markdown_blocks.specs.declared.lists.ListBlock.{ListBlock}
 use Rattle.markdown_blocks.specs.events.Events.{Event, starts, leaf, ends, LeafBlock}
 use Rattle.markdown_blocks.specs.events.Shown.{AreShownOf, IsShownOf, Shown, Written, end_shown, events_in}
@@ -54,6 +54,7 @@ kind_text Paragraph first = codes "paragraph"
 abbrev pub container_text : Container → List ℕ
 container_text Quote = codes "quote"
 container_text Footnote = codes "footnote"
+container_text (TermDefinition definition) = codes "term_definition"
 container_text (Item item) = codes "item " ++ encode_utf8 item.delimiter ++ codes " " ++ decimal item.start
 
 -- the same in a form: words, or JSON, which has what is written in a definition

@@ -19,6 +19,7 @@ returns-then-ends c =
 
 pub returns : goal.returns
 returns c = (
+  rw (c.extensions.ensures, c.outer.ensures) at c.if-extensions.false,
   not_told c.if-ends.false c.ends.ensures.1,
   rw c.in-Some.is at c.in_ok-columns.ensures,
   sym c.count_cells.ensures ∙ sym c.if-columns-count_cells.false,

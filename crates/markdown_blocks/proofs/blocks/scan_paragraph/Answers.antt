@@ -1,6 +1,7 @@
-use Rattle.std.proofs.Common.{[], ap}
+use Rattle.std.proofs.Common.{[], ap, subst}
 use Rattle.std.proofs.lemmas.Result.{IfOk-weaker}
-use Rattle.markdown_blocks.specs.containers.Containers.{Rest}
+use Rattle.markdown_blocks.specs.containers.Containers.{Line, Rest}
+use Rattle.markdown_blocks.specs.blocks.Leaves.{IsHead}
 use Rattle.markdown_blocks.proofs.blocks.BlockLemmas.{paragraph_block, setext_block, table_block}
 use Rattle.markdown_blocks.proofs.blocks.ParagraphLemmas.{reached-first}
 use Rattle.markdown_blocks.proofs.blocks.scan_paragraph.Goals as goal
@@ -13,7 +14,9 @@ returns-in_default c = λ line h begins.
 
 pub returns-in-Some-2 : goal.returns-in-Some-2
 returns-in-Some-2 c = λ line h begins.
-    let head = rw (c.in-Some-2.is, c.new-line.ensures, ap (λ (r : Rest). r.text) c.rest.view_is) at c.in_ok-columns.ensures in
+    let told = rw c.in-Some-2.is at c.in_ok-columns.ensures in
+    let there = subst (λ (l : Line). IsHead l.outer c.rest.inside.text.now c.in-Some-2.columns l.bytes) c.new-line.ensures told in
+    let head = subst (λ (r : Rest). IsHead c.args.outer.now r.text c.in-Some-2.columns c.in-Some.line.now) c.rest.view_is there in
     table_block c.args.text.now c.args.outer.now line c.args.rest.now c.args.first h
     c.in-Some-2.columns c.in-Some.line.now c.in-Some.second c.take_rows.result begins c.in-Some.ensures.line head c.take_rows.ensures
 

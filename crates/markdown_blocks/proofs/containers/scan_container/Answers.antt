@@ -1,6 +1,6 @@
 use Rattle.std.proofs.Common.{Some, None, sym, ap, ◌≡◌, ◌∙◌, subst, arith}
 use Rattle.std.specs.Prelude.{IfSome, IfNone}
-use Rattle.markdown_blocks.specs.containers.Containers.{either_begun, footnote_of}
+use Rattle.markdown_blocks.specs.containers.Containers.{either_begun, extension_of}
 use Rattle.markdown_blocks.proofs.containers.ContainerLemmas.{begun_other, no_marker, no_quote}
 use Rattle.markdown_blocks.proofs.containers.scan_container.Goals as goal
 
@@ -11,9 +11,9 @@ returns-clause-found c =
     let other = no_marker c.scan_blockquote_marker.result _ c.if-scan_blockquote_marker.false c.scan_blockquote_marker.ensures.answer in
     let same = no_quote s t other c.scan_blockquote_marker.ensures.state in
     let begun = begun_other c.args.extensions c.args.indent s t (grind (arith, c.if-indent-eq4.false)) other same
-    ∙ ap (λ f. either_begun f (footnote_of c.args.extensions t)) c.in_default.ensures.none
-    ∙ ap (footnote_of c.args.extensions) (sym c.in_default.ensures.unchanged) in
-    subst (λ x. IfSome c.scan_footnote.result (λ container. x ≡ Some (container, c.scan_footnote.new.start))) (sym begun) c.scan_footnote.ensures.found
+    ∙ ap (λ f. either_begun f (extension_of c.args.extensions c.args.indent t)) c.in_default.ensures.none
+    ∙ ap (extension_of c.args.extensions c.args.indent) (sym c.in_default.ensures.unchanged) in
+    subst (λ x. IfSome c.scan_extension.result (λ container. x ≡ Some (container, c.scan_extension.new.start))) (sym begun) c.scan_extension.ensures.found
 
 pub returns-clause-none : goal.returns-clause-none
 returns-clause-none c =
@@ -22,6 +22,6 @@ returns-clause-none c =
     let other = no_marker c.scan_blockquote_marker.result _ c.if-scan_blockquote_marker.false c.scan_blockquote_marker.ensures.answer in
     let same = no_quote s t other c.scan_blockquote_marker.ensures.state in
     let begun = begun_other c.args.extensions c.args.indent s t (grind (arith, c.if-indent-eq4.false)) other same
-    ∙ ap (λ f. either_begun f (footnote_of c.args.extensions t)) c.in_default.ensures.none
-    ∙ ap (footnote_of c.args.extensions) (sym c.in_default.ensures.unchanged) in
-    subst (λ x. IfNone c.scan_footnote.result (x ≡ None)) (sym begun) c.scan_footnote.ensures.none
+    ∙ ap (λ f. either_begun f (extension_of c.args.extensions c.args.indent t)) c.in_default.ensures.none
+    ∙ ap (extension_of c.args.extensions c.args.indent) (sym c.in_default.ensures.unchanged) in
+    subst (λ x. IfNone c.scan_extension.result (x ≡ None)) (sym begun) c.scan_extension.ensures.none

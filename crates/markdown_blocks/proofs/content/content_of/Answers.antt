@@ -4,10 +4,12 @@ use Rattle.markdown_blocks.specs.content.Left.{IsRun}
 use Rattle.markdown_blocks.specs.content.Parts.{AreOneRun, AreParts, Part}
 use Rattle.markdown_blocks.specs.declared.blocks.BlockKind.{BlockKind}
 use Rattle.markdown_blocks.specs.declared.containers.Container.{Container}
+use Rattle.std.specs.Str.{IsUtf8}
 use Rattle.std.proofs.Common.{ℕ, List, ◌≡◌, Result, Ok, Err, IfOk, subst}
 use Rattle.markdown_blocks.specs.content.Left.{parts_left}
 use Rattle.markdown_scanners_tree.specs.scanners.TextLines.{lines_of}
 use Rattle.markdown_blocks.proofs.content.ByteLemmas.{content_bytes}
+use Rattle.markdown_blocks.proofs.content.Utf8Lemmas.{content_utf8}
 use Rattle.markdown_blocks.proofs.content.OneContent.{one_list_of_parts}
 use Rattle.markdown_blocks.proofs.content.content_of.Goals as goal
 
@@ -24,6 +26,13 @@ built_bytes (Err e) kind outer kept lines parts are is = tt
 built_bytes (Ok content) kind outer kept lines parts are is =
     content_bytes kind outer kept lines content (record { parts = parts; are_parts = are; is_content = is })
 
+built_utf8 : {E : Type 0} (r : Result Placed E) (kind : BlockKind) (outer : List Container) (kept : ℕ) (lines : List ℕ) (parts : List Part)
+    → AreParts kind outer kept (lines_of lines) parts → IfOk r (λ content. content ≡ content_with kind parts)
+    → IfOk r (λ content. IsUtf8 lines → IsUtf8 content.text)
+built_utf8 (Err e) kind outer kept lines parts are is = tt
+built_utf8 (Ok content) kind outer kept lines parts are is =
+    content_utf8 kind outer kept lines content (record { parts = parts; are_parts = are; is_content = is })
+
 pub returns-in-Some-clause-bytes : goal.returns-in-Some-clause-bytes
 returns-in-Some-clause-bytes c =
     let parts = parts_left c.of-parts.result in
@@ -34,7 +43,22 @@ returns-in-Some-clause-bytes c =
       is_content = c.lent.ensures parts run.2;
     })
 
+pub returns-in-Some-clause-utf8 : goal.returns-in-Some-clause-utf8
+returns-in-Some-clause-utf8 c =
+    let parts = parts_left c.of-parts.result in
+    let run = subst (λ ls. IsRun ls parts c.in-Some.begin c.in-Some.end) c.of-parts.ensures.lines c.in-Some.ensures.run in
+    content_utf8 c.args.kind c.args.containers.now c.args.kept c.args.lines.now c.lent.result (record {
+      parts = parts;
+      are_parts = rw c.new-outer.ensures at c.of-parts.ensures.parts;
+      is_content = c.lent.ensures parts run.2;
+    })
+
 pub returns-clause-bytes : goal.returns-clause-bytes
 returns-clause-bytes c =
     built_bytes c.built.result c.args.kind c.args.containers.now c.args.kept c.args.lines.now (parts_left c.of-parts.result)
+    (rw c.new-outer.ensures at c.of-parts.ensures.parts) c.built.ensures
+
+pub returns-clause-utf8 : goal.returns-clause-utf8
+returns-clause-utf8 c =
+    built_utf8 c.built.result c.args.kind c.args.containers.now c.args.kept c.args.lines.now (parts_left c.of-parts.result)
     (rw c.new-outer.ensures at c.of-parts.ensures.parts) c.built.ensures

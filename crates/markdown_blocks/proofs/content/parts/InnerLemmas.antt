@@ -2,7 +2,7 @@
 use Rattle.std.proofs.Common.{ℕ, ◌+◌, ◌-◌, ◌≤◌, ◌≡◌, List, [], ◌∷◌, ◌++◌, length, take, drop, refl, sym, ap, ◌∙◌, subst, inl, inr, arith}
 use Rattle.std.proofs.Common.{append_assoc, append-nil, length-append}
 use Rattle.std.proofs.Math.Seq.{take-append_seam}
-use Rattle.std.proofs.lemmas.List.{drop_all, length-drop, same_from_push}
+use Rattle.std.proofs.lemmas.List.{drop_all, length-drop, same_from_push, take_all}
 use Rattle.markdown_scanners_tree.specs.scanners.TextLines.{lines_of}
 use Rattle.markdown_blocks.specs.content.Parts.{AreInner, IsLeftOut}
 use Rattle.markdown_blocks.specs.declared.blocks.BlockKind.{BlockKind}
@@ -10,6 +10,7 @@ use Rattle.markdown_blocks.specs.declared.containers.Container.{Container}
 use Rattle.markdown_blocks.specs.declared.taken.Taken.{Taken}
 use Rattle.markdown_blocks.specs.taken.Lines.{IsNext}
 use Rattle.markdown_blocks.proofs.whole.WholeLemmas.{some_lines}
+use Rattle.markdown_blocks.proofs.block_events.PartLemmas.{lines_few}
 
 no_push : (ls : List (List ℕ)) (l : List ℕ) → [] ≡ ls ++ l ∷ [] → ⊥
 no_push [] l is = cc
@@ -65,3 +66,14 @@ module _ (kind : BlockKind) (outer : List Container) (text : List ℕ) (first : 
       let parts : lines_of (drop first.bytes text) ≡ r.before ++ line ∷ [] =
       r.parts ∙ ap (λ ls. r.before ++ ls) (n.parts ∙ ap (λ ls. line ∷ ls) (none_left text more.bytes all)) in
       inl (line, parts ∙ ap (λ ls. ls ++ line ∷ []) (sym (front read r)), out)
+
+-- of a block of which no line is left out, all lines are content, and so are at most as many as there are bytes
+pub none_left_out : (kind : BlockKind) (outer : List Container) (text : List ℕ) (first : Taken) (count : ℕ) → length text ≤ count
+    → ((last : List ℕ) → ¬ IsLeftOut kind outer last)
+    → AreInner kind outer (lines_of (drop first.bytes text)) (take (count - first.lines) (lines_of (drop first.bytes text)))
+none_left_out kind outer text first count room none =
+    let rest = drop first.bytes text in
+    inr (
+      take_all (count - first.lines) (lines_of rest) (omega (arith, lines_few rest, length-drop first.bytes text, room, first.few)),
+      λ ls l is. none l,
+    )

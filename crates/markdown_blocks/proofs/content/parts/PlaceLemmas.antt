@@ -10,11 +10,10 @@ use Rattle.markdown_scanners_tree.specs.Bytes.{begins_with, is_at_line_end, is_s
 use Rattle.markdown_scanners_tree.specs.line.State.{LineState, unscanned, rest_of, leading_spaces, space_within, after_space, columns_further}
 use Rattle.markdown_scanners_tree.proofs.line.SpaceLemmas.{none_at_front}
 use Rattle.markdown_scanners_tree.proofs.line.StepLemmas.{no_space_taken, rest-none}
-use Rattle.markdown_blocks.specs.containers.Containers.{all_extensions, begun_at, begun_behind, behind, behind_quote, within, within_quote}
-use Rattle.markdown_blocks.specs.content.Parts.{after_containers, after_indent, after_markers, first_place}
+use Rattle.markdown_blocks.specs.containers.Containers.{all_extensions, begun_at, begun_behind, behind, behind_quote, within, within_quote, within_width}
+use Rattle.markdown_blocks.specs.content.Parts.{after_containers, after_indent, after_markers, after_width, first_place}
 use Rattle.markdown_blocks.specs.declared.containers.Container.{Container}
-use Rattle.markdown_blocks.specs.declared.containers.ListItem.{ListItem}
-use Rattle.markdown_blocks.specs.declared.containers.Container.TheVariants.{Quote, Item, Footnote}
+use Rattle.markdown_blocks.specs.declared.containers.Container.TheVariants.{Quote, Item, Footnote, TermDefinition}
 
 -- by what the line has of the first container
 goes : Bool → Container → List Container → LineState → Option (Bool × LineState) → LineState
@@ -77,11 +76,11 @@ module _ (s : LineState) (small : s.phase < 4) (none : s.pending ≡ 0) (end : i
       let zero : space_within n s ≡ space_within 0 s = omega (arith, no_space) in
       ap (λ t. columns_further t s) zero ∙ sym (no_space_taken s small)
 
-  item_spent : (item : ListItem) (inner : List Container) (begun : Bool) → item.begun ≡ begun → after_containers true inner s ≡ s
-      → after_containers true (Item item ∷ inner) s ≡ s
-  item_spent item inner true is rest = stays-none true (Item item) inner s (rw is refl)
-  item_spent item inner false is rest =
-      goes-some true true (Item item) inner s s (rw is refl) ∙ ap (after_containers true inner) (stays item.width) ∙ rest
+  width_spent : (c : Container) (inner : List Container) (begun : Bool) (width : ℕ) → within c true s ≡ within_width begun width true s
+      → after_indent c true s ≡ after_width width true s → after_containers true inner s ≡ s → after_containers true (c ∷ inner) s ≡ s
+  width_spent c inner true width is indent rest = stays-none true c inner s is
+  width_spent c inner false width is indent rest =
+      goes-some true true c inner s s is ∙ ap (after_containers true inner) (indent ∙ stays width) ∙ rest
 
   spent : (inner : List Container) → after_containers true inner s ≡ s
   spent [] = refl
@@ -89,9 +88,10 @@ module _ (s : LineState) (small : s.phase < 4) (none : s.pending ≡ 0) (end : i
       let same = stays 4 in
       stays-none true Quote inner s (ap within_quote (no_quote (space_within 4 s) (after_space 4 s)
       (subst (λ t. begins_with (λ b. b == greater_than_sign) (unscanned t) ≡ false) (sym same) (end_no_quote (unscanned s) end))))
-  spent (Item item ∷ inner) = item_spent item inner item.begun refl (spent inner)
-  spent (Footnote ∷ inner) =
-      goes-some true true Footnote inner s s refl ∙ ap (after_containers true inner) (stays 4) ∙ spent inner
+  spent (Item item ∷ inner) = width_spent (Item item) inner item.begun item.width refl refl (spent inner)
+  spent (Footnote ∷ inner) = width_spent Footnote inner false 4 refl refl (spent inner)
+  spent (TermDefinition definition ∷ inner) =
+      width_spent (TermDefinition definition) inner definition.begun definition.width refl refl (spent inner)
 
 pub spent_after : (n : ℕ) (old s : LineState) → s ≡ after_space n old → s.pending ≡ 0 → is_at_line_end (unscanned s) ≡ true
     → (inner : List Container) → after_containers true inner s ≡ s

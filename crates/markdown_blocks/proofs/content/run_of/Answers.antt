@@ -12,9 +12,9 @@ loop-next-init c =
       c.in-Some.ensures.lines,
       omega arith,
       inside.0,
-      run_first c.args.parts.lines.now (parts_left c.args.parts) (parts_left c.in-Some.rest) p none inside c.in-Some.ensures.some,
-      (go_first (parts_left c.args.parts) (parts_left c.in-Some.rest) p none c.in-Some.ensures.some).0,
-      (go_first (parts_left c.args.parts) (parts_left c.in-Some.rest) p none c.in-Some.ensures.some).1,
+      run_first c.args.parts.lines.now (parts_left c.args.parts) (parts_left c.next.new.self) p none inside c.in-Some.ensures.some,
+      (go_first (parts_left c.args.parts) (parts_left c.next.new.self) p none c.in-Some.ensures.some).0,
+      (go_first (parts_left c.args.parts) (parts_left c.next.new.self) p none c.in-Some.ensures.some).1,
     )
 
 pub loop-next-preserved : goal.loop-next-preserved
@@ -26,8 +26,8 @@ loop-next-preserved c =
       c.in-Some-next.ensures.lines ∙ l.invariant.0,
       omega (arith, l.invariant.1),
       omega (arith, inside.0, c.if-next-end.false),
-      run_next c.args.parts.lines.now (parts_left c.args.parts) (parts_left l.rest) (parts_left c.in-Some-next.more) p c.in-Some.part.place l.end none
+      run_next c.args.parts.lines.now (parts_left c.args.parts) (parts_left l.rest) (parts_left c.next-in-loop-next.new.self) p c.in-Some.part.place l.end none
           c.if-next-end.false inside l.invariant.1 c.in-Some-next.ensures.some l.invariant.3,
-      λ on. l.invariant.4 ((go_next (parts_left l.rest) (parts_left c.in-Some-next.more) p l.end none c.if-next-end.false c.in-Some-next.ensures.some).0 on),
-      λ on. (go_next (parts_left l.rest) (parts_left c.in-Some-next.more) p l.end none c.if-next-end.false c.in-Some-next.ensures.some).1 (l.invariant.5 on),
+      λ on. l.invariant.4 ((go_next (parts_left l.rest) (parts_left c.next-in-loop-next.new.self) p l.end none c.if-next-end.false c.in-Some-next.ensures.some).0 on),
+      λ on. (go_next (parts_left l.rest) (parts_left c.next-in-loop-next.new.self) p l.end none c.if-next-end.false c.in-Some-next.ensures.some).1 (l.invariant.5 on),
     )

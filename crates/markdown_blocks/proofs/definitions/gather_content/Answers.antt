@@ -1,6 +1,5 @@
-use Rattle.std.proofs.Common.{inl}
-use Rattle.std.proofs.lemmas.Result.{on_ok_weaker}
-use Rattle.markdown_blocks.proofs.definitions.GatherLemmas.{none_gathered}
+use Rattle.std.proofs.Common.{inl, ap, not, ◌∙◌}
+use Rattle.markdown_blocks.proofs.definitions.GatherLemmas.{none_gathered, nothing_gathered}
 use Rattle.markdown_blocks.proofs.definitions.gather_content.Goals as goal
 
 pub returns-then-begins_with_text : goal.returns-then-begins_with_text
@@ -8,6 +7,11 @@ returns-then-begins_with_text c = λ line later t.
     none_gathered c.args.block.kind c.args.containers.now c.args.text.now later c.clear.new.self.items c.clear.ensures.items
     (c.begins_with_text.ensures.none c.if-begins_with_text.true)
 
-pub returns : goal.returns
-returns c =
-    on_ok_weaker c.add_content.result (λ told line later t. inl (rw c.clear.ensures.items at (told line later t))) c.add_content.ensures
+pub returns-then-is_none : goal.returns-then-is_none
+returns-then-is_none c = λ line later t.
+    let content = c.deref.ensures.value ∙ (rw c.clear.ensures.items at (c.in_ok-add_content.ensures line later t)) in
+    nothing_gathered c.args.block.kind c.args.containers.now c.args.text.now later c.deref.result.now c.clear-then-is_none.new.self.items
+    c.scan_definition.result c.clear-then-is_none.ensures.items content c.scan_definition.ensures.found (c.is_none.ensures ∙ ap not c.if-is_none.true)
+
+pub returns-else-is_none : goal.returns-else-is_none
+returns-else-is_none c = λ line later t. inl (rw c.clear.ensures.items at (c.in_ok-add_content.ensures line later t))

@@ -5,8 +5,13 @@ use Rattle.markdown_blocks.proofs.walk.open_containers.Given as goal
 -- the containers that are begun so far are open, and each has a byte at least
 abbrev pub invariant-loop-container : goal.invariant-loop-container
 invariant-loop-container l =
-    (l.start.bytes ≡ l.line) × (l.rest.indent ≤ 4) × Opening (record { extensions = l.extensions; containers = l.fn.outer.items }) l.line l.outer.items
-    l.count l.rest l.start
+    (l.start.bytes ≡ l.line) × (l.rest.indent ≤ 4) × Opening (record {
+      extensions = l.extensions;
+      containers = l.fn.outer.items;
+      term =
+          l.is_after_term;
+    }) l.line
+    l.outer.items l.count l.rest l.start l.asked
     × (length l.outer.items ≤ l.count + l.start.place) × (l.start.place ≤ length l.line)
 
 abbrev pub decreases-loop-container : goal.decreases-loop-container

@@ -1,12 +1,17 @@
-use Rattle.std.proofs.Common.{◌∷◌, [], IsTrue, inl, length, refl, sym, ap, ◌∙◌, arith}
+use Rattle.std.proofs.Common.{ℕ, Bool, ◌&&◌, ◌==◌, ◌∷◌, [], IsTrue, inl, length, refl, sym, ap, ◌∙◌, subst, arith}
 use Rattle.std.proofs.lemmas.List.{length-take-le}
+use Rattle.markdown_blocks.specs.blocks.Pages.{is_blank_kind}
+use Rattle.markdown_blocks.specs.containers.Containers.{Between}
 use Rattle.markdown_blocks.specs.events.Events.{first_of}
 use Rattle.markdown_blocks.proofs.kinds.KindLemmas.{not_told}
 use Rattle.markdown_blocks.proofs.blocks.OverLemmas.{leaf-more}
 use Rattle.markdown_blocks.proofs.taken.TakenLemmas.{taken-next, first_within}
 use Rattle.markdown_blocks.proofs.taken.FrontLemmas.{lines_of_taken}
 use Rattle.markdown_blocks.proofs.whole.WholeLemmas.{some_lines}
-use Rattle.markdown_blocks.proofs.walk.WalkLemmas.{some_bytes, step_here, content_here, none_over}
+use Rattle.markdown_blocks.specs.definitions.Content.{content_in}
+use Rattle.markdown_blocks.specs.walk.Walk.{IsGathered}
+use Rattle.markdown_blocks.proofs.terms.TermLemmas.{leaf_some}
+use Rattle.markdown_blocks.proofs.walk.WalkLemmas.{some_bytes, step_here, content_here, none_over, with_open}
 use Rattle.markdown_blocks.proofs.walk.Walk.next_block.Goals as goal
 
 pub returns-in_default-clause-all : goal.returns-in_default-clause-all
@@ -26,7 +31,11 @@ returns-then-not-is_over-clause-none c =
     let block = rw (c.new-outer.ensures, c.deref-2.ensures.value) at (c.in_ok-block.ensures c.in-Some.line.now one) in
     let over = rw (c.new-outer.ensures, c.deref-2.ensures.value) at (c.is_over.ensures (c.in-Some.line.now ∷ block.later) block.taken) in
     let opening = rw (c.in_ok-extend_from_slice.ensures.items, c.clear.ensures.items, c.deref.ensures.value) at c.in_ok-opened.ensures.opening in
-    rw (← c.self.view_is) (none_over (record { extensions = c.self.inside.extensions; containers = c.self.inside.open.items })
+    rw (← c.self.view_is) (none_over (record {
+      extensions = c.self.inside.extensions;
+      containers = c.self.inside.open.items;
+      term = c.self.inside.is_after_term;
+    })
     c.open_containers.new.outer.items c.in-Some.line.now
     c.args.lines.now c.args.has_ended c.in_ok-opened.opened.kept _ c.in_ok-block.block opening block (not_told c.if-not-is_over.true over.1))
 
@@ -42,18 +51,32 @@ returns-clause-within c =
 
 pub returns-clause-step : goal.returns-clause-step
 returns-clause-step c = λ more none.
+    let old : Between = record {
+      extensions = c.self.inside.extensions;
+      containers = c.self.inside.open.items;
+      term = c.self.inside.is_after_term;
+    } in
+    let inner = c.open_containers.new.outer.items in
     let one = taken-next c.args.lines.now c.nothing.result c.in-Some.first [] c.in-Some.line.now (c.nothing.ensures c.args.lines.now) c.in-Some.ensures.line in
     let block = rw (c.new-outer.ensures, c.deref-2.ensures.value, ← c.rest.view_is) at (c.in_ok-block.ensures c.in-Some.line.now one) in
     let over = rw (c.new-outer.ensures, c.deref-2.ensures.value) at (c.is_over.ensures (c.in-Some.line.now ∷ block.later) block.taken) in
     let opening = rw (c.in_ok-extend_from_slice.ensures.items, c.clear.ensures.items, c.deref.ensures.value, ← c.rest.view_is)
     at c.in_ok-opened.ensures.opening in
     let place = rw (c.in_ok-extend_from_slice.ensures.items, c.clear.ensures.items, c.deref.ensures.value) at c.in_ok-opened.ensures.place in
-    let leaf = leaf-more (record { extensions = c.self.inside.extensions; containers = c.open_containers.new.outer.items }) more c.in_ok-block.block.kind _
+    let leaf = leaf-more (with_open old inner) more c.in_ok-block.block.kind _
     block.later _ c.args.has_ended
     (over.0 c.if-not-is_over.false) none block.leaf in
-    rw (← c.self.view_is, c.swap.ensures.x_after) (step_here (record { extensions = c.self.inside.extensions; containers = c.self.inside.open.items })
-    c.open_containers.new.outer.items
-    c.in-Some.line.now c.args.lines.now more _ opening refl place refl block leaf)
+    let gathered = rw c.deref-3.ensures.value at (c.in_ok-gather_content.ensures c.in-Some.line.now block.later block.taken) in
+    let told = c.is_term-is_term.ensures (content_in c.in_ok-block.block.kind inner c.rest.inside.text.now block.later)
+    (leaf_some (with_open old inner) c.in_ok-block.block.kind _ block.later _ block.leaf)
+    (subst (IsGathered (content_in c.in_ok-block.block.kind inner c.rest.inside.text.now block.later)) (sym c.deref-4.ensures.value) gathered) in
+    let test : ℕ → ℕ → Bool = λ before after. is_blank_kind c.in_ok-block.block.kind && (c.in_ok-block.block.taken.lines == 1)
+    && (c.in_ok-opened.opened.kept == before) && (after == c.in_ok-opened.opened.kept) in
+    let tests = c.is_blank_between-is_between.ensures
+    ∙ ap (λ n. test n c.len-after.result) (c.len-before.ensures ∙ c.self.inside.open.ok.0)
+    ∙ ap (test (length c.self.inside.open.items)) (c.len-after.ensures ∙ c.open_containers.new.outer.ok.0) in
+    rw (← c.self.view_is, c.swap.ensures.x_after) (step_here old inner c.in-Some.line.now c.args.lines.now more _ opening refl place refl block leaf
+    c.is_term-is_term.result c.follows_term-stays.result c.is_blank_between-is_between.result told tests c.follows_term-stays.ensures)
 
 pub returns-clause-content : goal.returns-clause-content
 returns-clause-content c =

@@ -1,5 +1,5 @@
 use Rattle.std.proofs.Common.{[], ◌++◌, length, string_bytes, refl, sym, ap, ◌∙◌, arith, append_assoc}
-use Rattle.markdown_blocks.specs.containers.Containers.{Outer}
+use Rattle.markdown_blocks.specs.containers.Containers.{Between}
 use Rattle.markdown_blocks.specs.events.Given.{block_left}
 use Rattle.page_blocks.specs.printer.Printers.{HasPrinted, printed_of}
 use Rattle.page_blocks.proofs.page.PageLemmas.{step_size, telling-next}
@@ -40,4 +40,4 @@ returns-clause-bytes c =
 
 pub returns-clause-asked : goal.returns-clause-asked
 returns-clause-asked c =
-    ap (λ (o : Outer). o.extensions) ((rw c.in-Some.is at c.in_ok-step.ensures.step) [] (λ ended. refl)).open_now
+    ap (λ (o : Between). o.extensions) ((rw c.in-Some.is at c.in_ok-step.ensures.step) [] (λ ended. refl)).open_now

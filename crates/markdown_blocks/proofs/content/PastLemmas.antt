@@ -1,0 +1,179 @@
+-- The places of a content rise.
+use Rattle.std.proofs.Common.{ℕ, zero, suc, Bool, true, false, ◌==◌, ◌+◌, ◌-◌, ◌<◌, ◌≤◌, ◌≡◌, List, [], ◌∷◌, ◌++◌, length, take, replicate, if◌then◌else◌}
+use Rattle.std.proofs.Common.{refl, sym, ap, subst, inl, inr, arith, append_assoc}
+use Rattle.std.specs.Prelude.{⊤, slice_index}
+use Rattle.markdown_values.specs.declared.values.HeadingLevel.{HeadingLevel}
+use Rattle.std.specs.List.{flat_map, range_with_len}
+use Rattle.std.proofs.lemmas.Bool.{eqb-true}
+use Rattle.std.proofs.lemmas.Bool.Decides.{leb_tells}
+use Rattle.markdown_scanners_tree.specs.Ascii.{space}
+use Rattle.markdown_blocks.specs.content.Content.{IsContent, Placed, places_of, text_of}
+use Rattle.markdown_blocks.specs.content.Parts.{AreParts, Part, later_parts}
+use Rattle.markdown_blocks.specs.declared.blocks.BlockKind.{BlockKind}
+use Rattle.markdown_blocks.specs.declared.blocks.BlockKind.TheVariants.{Heading, Paragraph, Setext}
+use Rattle.markdown_blocks.specs.declared.containers.Container.{Container}
+use Rattle.markdown_blocks.proofs.content.ByteLemmas.{StandBehind, parts_behind}
+
+-- No place stands before this one. Each stands after the one before it, or there where that is the place of a space, which may be a
+-- column of the same tab.
+abbrev pub RisePast : ℕ → List ℕ → List ℕ → Type 0
+RisePast from [] places = ⊤
+RisePast from (b ∷ bytes) [] = ⊤
+RisePast from (b ∷ bytes) (place ∷ places) = (from ≤ place) × RisePast (if b == space then place else suc place) bytes places
+
+earlier_past : (from to : ℕ) (bytes places : List ℕ) → from ≤ to → RisePast to bytes places → RisePast from bytes places
+earlier_past from to [] places less rise = tt
+earlier_past from to (b ∷ bytes) [] less rise = tt
+earlier_past from to (b ∷ bytes) (place ∷ places) less rise = (omega (arith, less, rise.0), rise.1)
+
+at_most_next : (test : Bool) (place : ℕ) → (if test then place else suc place) ≤ place + 1
+at_most_next true place = omega arith
+at_most_next false place = omega arith
+
+run_past : (bytes : List ℕ) (place : ℕ) (more rest : List ℕ) → RisePast (place + length bytes) more rest
+    → RisePast place (bytes ++ more) (range_with_len place (length bytes) ++ rest)
+run_past [] place more rest rise = earlier_past place (place + 0) more rest (omega arith) rise
+run_past (b ∷ bytes) place more rest rise = (
+  omega arith,
+  earlier_past (if b == space then place else suc place) (place + 1) (bytes ++ more) _ (at_most_next (b == space) place)
+      (run_past bytes (place + 1) more rest (subst (λ n. RisePast n more rest) (omega arith) rise)),
+)
+
+columns_past : (n place : ℕ) (more rest : List ℕ) → RisePast place more rest → RisePast place (replicate n space ++ more) (replicate n place ++ rest)
+columns_past zero place more rest rise = rise
+columns_past (suc n) place more rest rise = (omega arith, columns_past n place more rest rise)
+
+part_past : (from : ℕ) (p : Part) (more rest : List ℕ) → from ≤ p.place → (0 < p.columns → from < p.place)
+    → RisePast (p.place + length p.bytes) more rest → RisePast from (text_of p ++ more) (places_of p ++ rest)
+part_past from p more rest low behind rise =
+    let run = run_past p.bytes p.place more rest rise in
+    subst (λ (t : List ℕ). RisePast from t (places_of p ++ rest)) (sym (append_assoc (replicate p.columns space) p.bytes more))
+    (subst (RisePast from (replicate p.columns space ++ (p.bytes ++ more)))
+    (sym (append_assoc (replicate p.columns (p.place - 1)) (range_with_len p.place (length p.bytes)) rest))
+    (elim (leb_tells 1 p.columns) [
+      | inl some ↦ earlier_past from (p.place - 1) _ _ (omega (arith, behind (omega (arith, some.1))))
+          (columns_past p.columns (p.place - 1) _ _ (earlier_past (p.place - 1) p.place _ _ (omega arith) run))
+      | inr none ↦ (let zero_columns : p.columns ≡ 0 = omega (arith, none.1) in
+          subst (λ n. RisePast from (replicate n space ++ (p.bytes ++ more))
+          (replicate n (p.place - 1) ++ (range_with_len p.place (length p.bytes) ++ rest))) (sym zero_columns)
+          (earlier_past from p.place _ _ low run))
+    ]))
+
+parts_past : (from : ℕ) (parts : List Part) → StandBehind from parts → RisePast from (flat_map text_of parts) (flat_map places_of parts)
+parts_past from [] behind = tt
+parts_past from (p ∷ parts) behind =
+    part_past from p (flat_map text_of parts) (flat_map places_of parts) behind.0 behind.1 (parts_past (p.place + length p.bytes) parts behind.2)
+
+front_past : (n from : ℕ) (bytes places : List ℕ) → RisePast from bytes places → RisePast from (take n bytes) (take n places)
+front_past zero from bytes places rise = tt
+front_past (suc n) from [] places rise = tt
+front_past (suc n) from (b ∷ bytes) [] rise = tt
+front_past (suc n) from (b ∷ bytes) (place ∷ places) rise = (rise.0, front_past n _ bytes places rise.1)
+
+-- the places of a content rise
+pub content_past : (kind : BlockKind) (outer : List Container) (kept : ℕ) (lines : List (List ℕ)) (content : Placed)
+    → IsContent kind outer kept lines content → RisePast 0 content.text content.places
+content_past kind outer kept lines content is =
+    subst (λ (c : Placed). RisePast 0 c.text c.places) (sym is.is_content)
+    (front_past _ 0 (flat_map text_of is.parts) (flat_map places_of is.parts)
+    (parts_past 0 is.parts (parts_behind kind outer kept lines is.parts is.are_parts)))
+
+-- ---- by offsets
+
+past_from : (bytes places : List ℕ) (from j : ℕ) → RisePast from bytes places → length places ≡ length bytes → j < length places
+    → from ≤ slice_index places j
+past_from [] places from j rise each low = absurd (omega (arith, each, low))
+past_from (b ∷ bytes) [] from j rise each low = absurd (omega (arith, low))
+past_from (b ∷ bytes) (place ∷ places) from zero rise each low = rise.0
+past_from (b ∷ bytes) (place ∷ places) from (suc j) rise each low =
+    omega (arith, rise.0, past_from bytes places _ j rise.1 (omega (arith, each)) (omega (arith, low)), least (b == space))
+  where
+    least : (test : Bool) → place ≤ (if test then place else suc place)
+    least true = omega arith
+    least false = omega arith
+
+-- what stands after a byte that is no space stands after it on the page
+pub places_past : (bytes places : List ℕ) (from i j : ℕ) → RisePast from bytes places → length places ≡ length bytes → i < j
+    → j < length places → ¬ (slice_index bytes i ≡ space) → slice_index places i < slice_index places j
+places_past [] places from i j rise each less low other = absurd (omega (arith, each, low))
+places_past (b ∷ bytes) [] from i j rise each less low other = absurd (omega (arith, low))
+places_past (b ∷ bytes) (place ∷ places) from i zero rise each less low other = absurd (omega (arith, less))
+places_past (b ∷ bytes) (place ∷ places) from (suc i) (suc j) rise each less low other =
+    places_past bytes places _ i j rise.1 (omega (arith, each)) (omega (arith, less)) (omega (arith, low)) other
+places_past (b ∷ bytes) (place ∷ places) from zero (suc j) rise each less low other = by (b == space) refl rise.1
+  where
+    by : (test : Bool) → (b == space) ≡ test → RisePast (if test then place else suc place) bytes places → place < slice_index places j
+    by true is rest = absurd (other (eqb-true b space is))
+    by false is rest =
+        let there = past_from bytes places (suc place) j rest (omega (arith, each)) (omega (arith, low)) in
+        omega (arith, there)
+
+-- ---- text in which no tab is cut
+
+-- each place stands after the one before it, and none before this one
+abbrev pub RiseStrictly : ℕ → List ℕ → Type 0
+RiseStrictly from [] = ⊤
+RiseStrictly from (place ∷ places) = (from ≤ place) × RiseStrictly (suc place) places
+
+earlier_strictly : (from to : ℕ) (places : List ℕ) → from ≤ to → RiseStrictly to places → RiseStrictly from places
+earlier_strictly from to [] less rise = tt
+earlier_strictly from to (place ∷ places) less rise = (omega (arith, less, rise.0), rise.1)
+
+run_strictly : (n place : ℕ) (rest : List ℕ) → RiseStrictly (place + n) rest → RiseStrictly place (range_with_len place n ++ rest)
+run_strictly zero place rest rise = earlier_strictly place (place + 0) rest (omega arith) rise
+run_strictly (suc n) place rest rise = (
+  omega arith,
+  earlier_strictly (suc place) (place + 1) _ (omega arith)
+      (run_strictly n (place + 1) rest (subst (λ k. RiseStrictly k rest) (omega arith) rise)),
+)
+
+abbrev AreUncut : List Part → Type 0
+AreUncut [] = ⊤
+AreUncut (p ∷ parts) = (p.columns ≡ 0) × AreUncut parts
+
+parts_strictly : (parts : List Part) (from : ℕ) → StandBehind from parts → AreUncut parts → RiseStrictly from (flat_map places_of parts)
+parts_strictly [] from behind uncut = tt
+parts_strictly (p ∷ parts) from behind uncut =
+    let rest = parts_strictly parts (p.place + length p.bytes) behind.2 uncut.1 in
+    let run = run_strictly (length p.bytes) p.place (flat_map places_of parts) rest in
+    subst (λ n. RiseStrictly from ((replicate n (p.place - 1) ++ range_with_len p.place (length p.bytes)) ++ flat_map places_of parts)) (sym uncut.0)
+    (earlier_strictly from p.place _ behind.0 run)
+
+front_strictly : (n : ℕ) (places : List ℕ) (from : ℕ) → RiseStrictly from places → RiseStrictly from (take n places)
+front_strictly zero places from rise = tt
+front_strictly (suc n) [] from rise = tt
+front_strictly (suc n) (place ∷ places) from rise = (rise.0, front_strictly n places (suc place) rise.1)
+
+-- a block whose content is inlines
+abbrev pub HasInlines : BlockKind → Type 0
+HasInlines (Heading level) = ⊤
+HasInlines (Setext level) = ⊤
+HasInlines Paragraph = ⊤
+HasInlines kind = ⊥
+
+module _ (outer : List Container) where
+  setext_uncut : (level : HeadingLevel) (before : ℕ) (lines : List (List ℕ)) → AreUncut (later_parts (Setext level) outer 0 before lines)
+  setext_uncut level before [] = tt
+  setext_uncut level before (line ∷ lines) = (refl, setext_uncut level (before + length line) lines)
+
+  paragraph_uncut : (before : ℕ) (lines : List (List ℕ)) → AreUncut (later_parts Paragraph outer 0 before lines)
+  paragraph_uncut before [] = tt
+  paragraph_uncut before (line ∷ lines) = (refl, paragraph_uncut (before + length line) lines)
+
+  parts_uncut : (kind : BlockKind) (kept : ℕ) (lines : List (List ℕ)) (parts : List Part) → HasInlines kind → AreParts kind outer kept lines parts
+      → AreUncut parts
+  parts_uncut kind kept [] parts inlines none = subst AreUncut (sym none) tt
+  parts_uncut (Heading level) kept (line ∷ later) parts inlines is = subst AreUncut (sym is) (refl, tt)
+  parts_uncut (Setext level) kept (line ∷ later) parts inlines (inner, are, is) =
+      subst AreUncut (sym is) (refl, setext_uncut level (length line) inner)
+  parts_uncut Paragraph kept (line ∷ later) parts inlines (inner, are, is) =
+      subst AreUncut (sym is) (refl, paragraph_uncut (length line) inner)
+  parts_uncut kind kept (line ∷ later) parts inlines is = absurd inlines
+
+-- the places of a content of inlines rise
+pub inlines_strictly : (kind : BlockKind) (outer : List Container) (kept : ℕ) (lines : List (List ℕ)) (content : Placed) → HasInlines kind
+    → IsContent kind outer kept lines content → RiseStrictly 0 content.places
+inlines_strictly kind outer kept lines content inlines is =
+    subst (λ (c : Placed). RiseStrictly 0 c.places) (sym is.is_content)
+    (front_strictly _ (flat_map places_of is.parts) 0
+    (parts_strictly is.parts 0 (parts_behind kind outer kept lines is.parts is.are_parts) (parts_uncut outer kind kept lines is.parts inlines is.are_parts)))

@@ -1,0 +1,87 @@
+-- Blocks of a page stand in order: where each begins and ends, and where containers do. (CommonMark 0.31.2, chapter 3, "Blocks and
+-- inlines", and chapter 5)
+use Rattle.std.specs.Prelude.{ℕ, suc, ◌+◌, ◌≤◌, ◌<◌, ◌≡◌, ◌≢◌, List, [], ◌∷◌, ◌++◌, length, take, drop, slice_index, ⊤}
+use Rattle.markdown_scanners_tree.specs.scanners.TextLines.{lines_of}
+use Rattle.markdown_blocks.specs.containers.Containers.{settled}
+use Rattle.markdown_blocks.specs.content.Content.{IsContent, Placed}
+use Rattle.markdown_blocks.specs.declared.blocks.BlockKind.{BlockKind}
+use Rattle.markdown_blocks.specs.declared.blocks.BlockKind.TheVariants.{Indented, Html}
+use Rattle.markdown_blocks.specs.declared.containers.Container.{Container}
+use Rattle.markdown_blocks.specs.events.Events.{Event, starts, leaf, ends, LeafBlock, block_end, first_of}
+use Rattle.markdown_blocks.specs.lists.Lists.{Nodes, nothing, leaf_then, container_then}
+
+-- how many bytes of a page stand before the end of the line that begins after so many
+abbrev pub line_end : List ℕ → ℕ → ℕ
+line_end page line = line + length (first_of (lines_of (drop line page)))
+
+-- The leaf block begins with the line before which so many bytes of the page stand. Its text stands in that line, after so many
+-- bytes of the page, and the whole line is of the block.
+pub record BeginsIn (page : List ℕ) (line passed : ℕ) (block : LeafBlock) : Type 0 where
+  pub start : block.start ≡ line
+  pub after : passed ≤ block.place
+  pub in_line : block.place ≤ line_end page line
+  pub whole : line_end page line ≤ block_end block
+
+-- Events of a page from the line on before which so many of its bytes stand, where so many are passed with what begins in that line.
+-- A container begins in the line, after those that begin there before it; a leaf block has its first line from there, and the next
+-- block begins where it ends. After the last of them the whole page is passed.
+abbrev pub Follow : List ℕ → ℕ → ℕ → List Event → Type 0
+Follow page line passed [] = (line ≡ length page) × (passed ≡ length page)
+Follow page line passed (starts container place ∷ later) =
+    (passed ≤ place) × (place < line_end page line) × Follow page line (suc place) later
+Follow page line passed (leaf block ∷ later) =
+    BeginsIn page line passed block × Follow page (block_end block) (block_end block) later
+Follow page line passed (ends ∷ later) = Follow page line passed later
+
+-- the events of a page stand in it in order
+abbrev pub StandInOrder : List ℕ → List Event → Type 0
+StandInOrder page events = Follow page 0 0 events
+
+-- ---- the same of what stands in a container
+
+-- how many bytes of the page stand before what follows nodes, with blank lines at their end, where so many are passed before them
+abbrev pub passed_after : ℕ → Nodes → ℕ
+passed_after passed nothing = passed
+passed_after passed (leaf_then block later) = passed_after (block_end block) later
+passed_after passed (container_then container place inner later) = passed_after (passed_after (suc place) inner) later
+
+-- The nodes stand one after the other, where so many bytes of the page are passed before them: the text of a leaf block in it, and
+-- what is in a container after the first byte of its marker.
+abbrev pub NodesStand : ℕ → Nodes → Type 0
+NodesStand passed nothing = ⊤
+NodesStand passed (leaf_then block later) =
+    (passed ≤ block.place) × (block.place ≤ block_end block) × NodesStand (block_end block) later
+NodesStand passed (container_then container place inner later) =
+    (passed ≤ place) × NodesStand (suc place) inner × NodesStand (passed_after (suc place) inner) later
+
+-- each container among the nodes holds something
+abbrev pub HoldSome : Nodes → Type 0
+HoldSome nothing = ⊤
+HoldSome (leaf_then block later) = HoldSome later
+HoldSome (container_then container place inner later) = (inner ≢ nothing) × HoldSome inner × HoldSome later
+
+-- ---- contents
+
+-- Where the content of a block of this kind begins in the page, or after that, where so many bytes are passed before the block and
+-- its text begins at this place: that of indented code and of HTML may have the block's indent, or a part of it. (4.4, 4.6)
+abbrev pub content_from : BlockKind → ℕ → ℕ → ℕ
+content_from Indented passed place = passed
+content_from (Html kind) passed place = passed
+content_from kind passed place = place
+
+-- The content of a leaf block in these containers, of which its first line goes on with so many, stands there, byte by byte.
+abbrev pub HoldsContent : List ℕ → List Container → ℕ → ℕ → LeafBlock → Type 0
+HoldsContent page outer kept passed block =
+    (content : Placed) → IsContent block.kind outer kept (lines_of (take block.bytes (drop block.start page))) content
+    → (offset : ℕ) → offset < length content.places
+    → content_from block.kind passed block.place ≤ block.start + slice_index content.places offset
+
+-- the same of each leaf block among nodes in these containers, of which the line goes on with so many, and where so many bytes of the
+-- page are passed before them
+abbrev pub ContentsStand : List ℕ → List Container → ℕ → ℕ → Nodes → Type 0
+ContentsStand page outer kept passed nothing = ⊤
+ContentsStand page outer kept passed (leaf_then block later) =
+    HoldsContent page outer kept passed block × ContentsStand page outer (length outer) (block_end block) later
+ContentsStand page outer kept passed (container_then container place inner later) =
+    ContentsStand page (outer ++ settled container ∷ []) kept (suc place) inner
+    × ContentsStand page outer (length outer) (passed_after (suc place) inner) later
