@@ -33,6 +33,9 @@ fn show(text: &mut String, event: BlockEvent) -> Result<(), AllocError> {
         BlockEvent::Start(Container::Quote, place) => write!(text, "quote {place}"),
         BlockEvent::Start(Container::Footnote, place) => write!(text, "footnote {place}"),
         BlockEvent::Start(Container::Item(_), place) => write!(text, "item {place}"),
+        BlockEvent::Start(Container::TermDefinition(_), place) => {
+            write!(text, "term_definition {place}")
+        }
         BlockEvent::Block(leaf) => {
             let first = leaf.line as u128 + 1;
             let last = leaf.line as u128 + leaf.lines as u128;

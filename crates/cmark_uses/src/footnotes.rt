@@ -7,7 +7,10 @@ use std::alloc::{AllocError, Global};
 
 /// The labels of a page's footnote definitions, in order.
 pub fn footnote_labels<'a>(alloc: Global, page: &'a [u8]) -> Result<Vec<&'a [u8]>, AllocError> {
-    let asked = BlockExtensions { footnotes: true };
+    let asked = BlockExtensions {
+        footnotes: true,
+        ..BlockExtensions::none()
+    };
     let mut labels = Vec::new(alloc);
     for event in page_events_ext(alloc, page, asked) {
         if let Some(label) = label_of(page, event?) {

@@ -16,5 +16,7 @@ pub mod links;
 pub mod lists;
 pub mod options;
 pub mod outline;
+pub mod pages;
 pub mod pass;
+pub mod tables;
 pub mod walk;

@@ -1,4 +1,5 @@
 //! Runs of the program over arrays, and over a reader and a writer that fail.
+mod definition_lists;
 mod definitions;
 mod files;
 mod footnotes;

@@ -139,7 +139,10 @@ const PAGES: &[(&str, &str)] = &[
 
 #[test]
 fn footnote_definitions_are_containers(rt: HostRuntime) {
-    let asked = BlockExtensions { footnotes: true };
+    let asked = BlockExtensions {
+        footnotes: true,
+        ..BlockExtensions::none()
+    };
     for (page, events) in PAGES {
         assert_text(
             &rt,

@@ -6,6 +6,8 @@ mod asserts;
 #[cfg(test)]
 mod blocks;
 #[cfg(test)]
+mod definition_lists;
+#[cfg(test)]
 mod events;
 #[cfg(test)]
 mod extensions;
@@ -15,6 +17,8 @@ mod footnotes;
 mod inlines;
 #[cfg(test)]
 mod lists;
+#[cfg(test)]
+mod no_tables;
 #[cfg(test)]
 mod runs;
 #[cfg(test)]

@@ -10,5 +10,7 @@ mod link_definitions;
 mod links;
 mod options;
 mod outline;
+mod pages;
 mod pass;
+mod tables;
 mod walk;

@@ -29,6 +29,11 @@ pub record LiesIn (from to : ℕ) (range : Range ℕ) : Type 0 where
   pub in_order : range.start ≤ range.end
   pub ends : range.end ≤ to
 
+-- each range does
+abbrev pub LieIn : ℕ → ℕ → List RangedEvent → Type 0
+LieIn from to [] = ⊤
+LieIn from to (event ∷ later) = LiesIn from to event.1 × LieIn from to later
+
 -- Ranges rise, and what an element holds lies within its range. From a place on, with elements started that end at these places, the
 -- innermost first, and the text last.
 abbrev pub RiseIn : List ℕ → ℕ → List RangedEvent → Type 0

@@ -10,7 +10,8 @@ use Rattle.markdown_inlines.specs.Links.{IsLabelAt}
 use Rattle.markdown_inlines.specs.declared.links.Link.{Link}
 use Rattle.markdown_inlines.specs.declared.links.LinkTarget.{LinkTarget}
 use Rattle.markdown_inlines.specs.declared.links.LinkTarget.TheVariants.{Inline, Full, Collapsed, Shortcut, Wiki}
-use Rattle.markdown_events.specs.Targets.{Target, Targets}
+use Rattle.markdown_blocks.specs.link_definitions.LinkDefinitions.{Target}
+use Rattle.markdown_events.specs.Targets.{Targets}
 
 -- what stands in a range of a text
 abbrev pub within : List ℕ → Range ℕ → List ℕ
@@ -26,6 +27,18 @@ pub record IsMeaning (text meaning : List ℕ) : Type 0 where
 abbrev pub IsTitle : Option (List ℕ) → List ℕ → Type 0
 IsTitle None meaning = meaning ≡ []
 IsTitle (Some title) meaning = IsMeaning title meaning
+
+-- what the title of a definition means, where it has one
+abbrev pub IsDefinedTitle : Option (List ℕ) → Option (List ℕ) → Type 0
+IsDefinedTitle None meaning = meaning ≡ None
+IsDefinedTitle (Some title) meaning = (words : List ℕ) × IsMeaning title words × (meaning ≡ Some words)
+
+-- A label leads somewhere, and this is what is meant by the destination and the title there. (4.7)
+pub record IsTargetMeaning (leads : Option Target) (meaning : Target) : Type 0 where
+  pub written : Target
+  pub is_written : leads ≡ Some written
+  pub is_destination : IsMeaning written.destination meaning.destination
+  pub is_title : IsDefinedTitle written.title meaning.title
 
 -- Where a link with this link text leads, as it is written, and the label by which it does: by its own destination and title, which
 -- have none, as has the target of a wikilink; by the label that follows it; or by its text. (6.3)

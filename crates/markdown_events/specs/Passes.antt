@@ -11,7 +11,8 @@ use Rattle.markdown_events.specs.declared.elements.Element.{Element}
 use Rattle.markdown_events.specs.InlineEvents.{RangedEvent, ranged, ArePieceEvents, Begins, closing, end_in}
 use Rattle.markdown_events.specs.Meanings.{IsWrittenTarget}
 use Rattle.markdown_events.specs.TagEnds.{tag_end}
-use Rattle.markdown_events.specs.Targets.{Target, Targets}
+use Rattle.markdown_blocks.specs.link_definitions.LinkDefinitions.{Target}
+use Rattle.markdown_events.specs.Targets.{Targets}
 
 -- ---- the pass from the last inline to the first
 

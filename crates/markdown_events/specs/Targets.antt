@@ -1,13 +1,10 @@
 -- Where the labels of link reference definitions lead. (CommonMark 0.31.2, section 4.7)
-use Rattle.std.specs.Prelude.{ℕ, List, Option}
+use Rattle.std.specs.Prelude.{ℕ, List, Option, Some, None}
 use Rattle.std.specs.Option.{is_some, option_map}
+use Rattle.markdown_values.specs.strings.Text.{cow_text}
+use Rattle.markdown_blocks.specs.link_definitions.LinkDefinitions.{Target}
 use Rattle.markdown_inlines.specs.Links.{Known}
 use Rattle.markdown_events.specs.declared.definitions.Target.{Target as Lent}
-
--- where a link leads, and its title if it has one, as they are written
-pub record Target : Type 0 where
-  pub destination : List ℕ
-  pub title : Option (List ℕ)
 
 -- where each label leads that is defined
 abbrev pub Targets : Type 0
@@ -19,4 +16,12 @@ leads targets label = is_some (targets label)
 
 -- what a definition's texts are
 abbrev pub seen_target : Lent → Target
-seen_target lent = record { destination = lent.destination.now; title = option_map (λ title. title.now) lent.title }
+seen_target lent = record { destination = cow_text lent.destination; title = option_map cow_text lent.title }
+
+-- no label leads anywhere
+abbrev pub nowhere : Targets
+nowhere label = None
+
+-- where a label leads by the first of two, or if it leads nowhere by that, by the second
+abbrev pub or_else : Targets → Targets → Targets
+or_else first second label = elim (first label) [ Some target ↦ Some target | None ↦ second label ]

@@ -1,10 +1,10 @@
 //! The elements of a text, which hold other inlines: where each ends that begins in it.
-ghost use Rattle.std.specs.Prelude.{◌≡◌, ◌^◌, List, reverse, slice_index, IfOk, OnOk};
+ghost use Rattle.std.specs.Prelude.{◌≡◌, ◌^◌, List, reverse, slice_index, OnOk};
 ghost use Rattle.std.specs.List.{All};
 ghost use Rattle.markdown_events.specs.InlineEvents.{ends_before};
 ghost use Rattle.markdown_events.specs.Passes.{EndsBelow, with_end, element_ends};
 
-use markdown_inlines::inlines::Inline;
+use markdown_inlines::inlines::{Inline, InlineFinder};
 use markdown_values::values::TagEnd;
 use std::alloc::{AllocError, Global};
 
@@ -19,19 +19,49 @@ pub(crate) struct Element {
     pub(crate) to: usize,
 }
 
-/// Where the elements end that these inlines begin, the first at the end.
-pub(crate) fn element_ends(alloc: Global, inlines: &[Inline]) -> Result<Vec<usize>, AllocError>
+/// The memory in which the inlines of one text after another are found and written. Nothing depends
+/// on what is in it.
+#[derive(Drop)]
+pub(crate) struct InlineMemory {
+    pub(crate) finder: InlineFinder,
+    // Where the elements end that are open before an inline, the innermost at the end.
+    pub(crate) inner: Vec<usize>,
+    // Where those end that are yet to begin, the first at the end.
+    pub(crate) ends: Vec<usize>,
+    // Those that have begun and not ended, the innermost at the end.
+    pub(crate) elements: Vec<Element>,
+}
+
+impl InlineMemory {
+    /// No memory is asked for.
+    pub(crate) fn new(alloc: Global) -> InlineMemory {
+        InlineMemory {
+            finder: InlineFinder::new(alloc),
+            inner: Vec::new(alloc),
+            ends: Vec::new(alloc),
+            elements: Vec::new(alloc),
+        }
+    }
+}
+
+/// Puts in where the elements end that these inlines begin, the first at the end. Nothing depends on
+/// what was in the vectors.
+pub(crate) fn element_ends(
+    inner: &mut Vec<usize>,
+    ends: &mut Vec<usize>,
+    inlines: &[Inline],
+) -> Result<(), AllocError>
     requires { All (EndsBelow (2 ^ 64)) inlines.now }
-    ensures { IfOk result (λ ends. reverse ends.items ≡ element_ends inlines.now) }
+    ensures { OnOk result (reverse ends.new.items ≡ element_ends inlines.now) }
 {
-    let mut inner = Vec::new(alloc);
-    let mut ends = Vec::new(alloc);
+    inner.clear();
+    ends.clear();
     let mut index = inlines.len();
     while index > 0 {
         index -= 1;
-        read_end(&mut inner, &mut ends, inlines[index])?;
+        read_end(inner, ends, inlines[index])?;
     }
-    Ok(ends)
+    Ok(())
 }
 
 // Reads an inline, after which elements are open that end at these places.

@@ -1,5 +1,5 @@
 //! The events of a text's inlines. (CommonMark 0.31.2, chapter 6)
-ghost use Rattle.std.specs.Prelude.{◌≡◌, ◌<◌, ◌≤◌, ◌+◌, ◌-◌, ◌==◌, ℕ, List, [], length, drop, map, IfOk, OnOk, if◌then◌else◌};
+ghost use Rattle.std.specs.Prelude.{◌≡◌, ◌<◌, ◌≤◌, ◌+◌, ◌-◌, ◌==◌, ℕ, List, [], length, drop, map, IfOk, OnOk, slice_range, if◌then◌else◌};
 ghost use Rattle.std.specs.List.{All};
 ghost use Rattle.std.specs.Str.{IsCharBoundary};
 ghost use Rattle.html_entities.specs.Entities.{html_entity};
@@ -8,6 +8,7 @@ ghost use Rattle.markdown_values.specs.values.Tags.{TagView, tag_view, emphasis,
 ghost use Rattle.markdown_scanners_tree.specs.scanners.entities.CharacterReference.{StartsWithReference};
 ghost use Rattle.markdown_events.specs.Found.{HasParts};
 ghost use Rattle.markdown_scanners_tree.specs.scanners.reference_definitions.ReferenceDefinition.{IsCutAt};
+ghost use Rattle.markdown_inlines.specs.CodeContent.{code_text};
 ghost use Rattle.markdown_inlines.specs.declared.links.LinkTarget.TheVariants.{Wiki};
 ghost use Rattle.markdown_inlines.specs.Sources.{IsLinkSource, IsSource};
 ghost use Rattle.markdown_events.specs.EventLaws.{AreBalanced, AreWithin};
@@ -16,20 +17,23 @@ ghost use Rattle.markdown_events.specs.Meanings.{IsLinkTag};
 ghost use Rattle.markdown_events.specs.Passes.{IsFound, IsWritten, Leads, begun, element_ends, with_events};
 
 use crate::definitions::{Defined, Definitions};
-use crate::elements::element_ends;
+use crate::elements::{InlineMemory, element_ends};
 use crate::link_tags::{has_pipe, tag_of};
+use crate::page::source::Source;
 use crate::parts::part;
 use crate::writer::Writer;
 use html_entities::HtmlEntities;
 use markdown_inlines::code_content::code_text;
 use markdown_inlines::extensions::InlineExtensions;
-use markdown_inlines::inlines::{Inline, find_inlines};
+use markdown_inlines::inlines::Inline;
 use markdown_inlines::links::{Link, LinkTarget};
 use markdown_inlines::pieces::{Piece, PieceKind};
 use markdown_scanners_tree::scanners::scan_entity;
 use markdown_values::strings::CowStr;
 use markdown_values::values::{Event, LinkType, Tag};
 use std::alloc::{AllocError, Global};
+use std::marker::PhantomData;
+use std::mem;
 use std::ops::Range;
 
 /// The events of the content of a block, with the extensions that are asked for, each with the
@@ -39,16 +43,17 @@ use std::ops::Range;
 ///
 /// Texts are lent from the text, or from the definitions, wherever they are a run of it.
 ///
-/// The time is linear in the length of the text. Memory is asked for as by `find_inlines`, by the
-/// events, and by each text that is no run of the text.
+/// The time is linear in the length of the text and, for each link that leads to a definition, of
+/// that. Memory is asked for as by `find_inlines`, by the events, and by each text that is no run
+/// of the text.
 ///
 /// # Errors
 ///
 /// `AllocError` where that memory is refused.
-pub fn inline_events<'a, D: Definitions>(
+pub fn inline_events<'a, D: Definitions<'a>>(
     alloc: Global,
     text: &'a str,
-    definitions: &'a D,
+    definitions: &D,
     extensions: InlineExtensions,
 ) -> Result<Vec<(Event<'a>, Range<usize>)>, AllocError>
     ensures events { IfOk result (λ events. AreInlineEvents text.now
@@ -61,61 +66,92 @@ pub fn inline_events<'a, D: Definitions>(
     // Ranges rise, and what an element holds lies within its own.
     ensures within { IfOk result (λ events. AreWithin text.now (map seen_event events.items)) }
 {
-    let defined = Defined { definitions };
-    let found = find_inlines(alloc, text, &defined, extensions)?;
-    let ends = element_ends(alloc, &found.inlines)?;
-    let mut writer = Writer::new(alloc, ends);
+    let mut memory = InlineMemory::new(alloc);
+    let source = Source::of_text(text);
+    source_events(alloc, &mut memory, &source, definitions, extensions)
+}
+
+/// The same of the text of a source, with ranges in that text. Its inlines are found and
+/// written in this memory, whatever is in it.
+pub(crate) fn source_events<'a, D: Definitions<'a>>(
+    alloc: Global,
+    memory: &mut InlineMemory,
+    source: &Source<'a, '_>,
+    definitions: &D,
+    extensions: InlineExtensions,
+) -> Result<Vec<(Event<'a>, Range<usize>)>, AllocError>
+    ensures events { IfOk result (λ events. AreInlineEvents source.now
+        (record { asked = extensions; targets = D.targets definitions.now })
+        (map seen_event events.items)) }
+    ensures balanced { IfOk result (λ events. AreBalanced (map seen_event events.items)) }
+    ensures within { IfOk result (λ events. AreWithin source.now (map seen_event events.items)) }
+{
+    let defined = Defined {
+        definitions,
+        lent: PhantomData,
+    };
+    memory
+        .finder
+        .find(alloc, source.text(), &defined, extensions)?;
+    element_ends(&mut memory.inner, &mut memory.ends, memory.finder.inlines())?;
+    let ends = mem::replace(&mut memory.ends, Vec::new(alloc));
+    let elements = mem::replace(&mut memory.elements, Vec::new(alloc));
+    let count = memory.finder.inlines().len();
+    let mut writer: Writer<'a> = Writer::within(alloc, elements, ends, count)?;
     push_inlines(
         alloc,
-        text,
+        source,
         definitions,
-        &found.links,
+        memory.finder.links(),
         &mut writer,
-        &found.inlines,
+        memory.finder.inlines(),
     )?;
-    Ok(writer.into_events())
+    let (events, elements, ends) = writer.into_parts();
+    memory.elements = elements;
+    memory.ends = ends;
+    Ok(events)
 }
 
 // Adds the events of the inlines of a text with these links, of which none is written.
-fn push_inlines<'a, D: Definitions>(
+fn push_inlines<'a, D: Definitions<'a>>(
     alloc: Global,
-    text: &'a str,
-    definitions: &'a D,
+    source: &Source<'a, '_>,
+    definitions: &D,
     links: &[Option<Link>],
     writer: &mut Writer<'a>,
     inlines: &[Inline],
 ) -> Result<(), AllocError>
-    requires found { All (IsFound text.now (D.targets definitions.now) links.now) inlines.now }
+    requires found { All (IsFound source.now (D.targets definitions.now) links.now) inlines.now }
     requires at_start { writer.old ≡
         record { events = []; elements = []; ends = element_ends inlines.now } }
-    ensures { OnOk result (AreEvents text.now (D.targets definitions.now) links.now []
+    ensures { OnOk result (AreEvents source.now (D.targets definitions.now) links.now []
         inlines.now writer.new.events) }
 {
     for inline in inlines {
-        push_inline(alloc, text, definitions, links, writer, *inline)?;
+        push_inline(alloc, source, definitions, links, writer, *inline)?;
     }
     Ok(())
 }
 
 // Adds the events of an inline of a text with these links.
-fn push_inline<'a, D: Definitions>(
+fn push_inline<'a, D: Definitions<'a>>(
     alloc: Global,
-    text: &'a str,
-    definitions: &'a D,
+    source: &Source<'a, '_>,
+    definitions: &D,
     links: &[Option<Link>],
     writer: &mut Writer<'a>,
     inline: Inline,
 ) -> Result<(), AllocError>
-    requires { IsFound text.now (D.targets definitions.now) links.now inline }
-    ensures { OnOk result (IsWritten text.now (D.targets definitions.now) links.now inline
+    requires { IsFound source.now (D.targets definitions.now) links.now inline }
+    ensures { OnOk result (IsWritten source.now (D.targets definitions.now) links.now inline
         writer.old writer.new) }
 {
     match inline {
-        Inline::Leaf(piece) => push_piece(alloc, text, writer, piece),
+        Inline::Leaf(piece) => push_piece(alloc, source, writer, piece),
         Inline::StartEmphasis(place, count) => writer.begin(emphasis_tag(count), place),
         Inline::StartStrikethrough(place, _) => writer.begin(Tag::Strikethrough, place),
         Inline::StartLink(number) => match links.get(number) {
-            Some(Some(link)) => begin_link(alloc, text, definitions, writer, link),
+            Some(Some(link)) => begin_link(alloc, source, definitions, writer, link),
             _ => Ok(()),
         },
         Inline::EndEmphasis(..) | Inline::EndStrikethrough(..) | Inline::EndLink(_) => writer.end(),
@@ -123,44 +159,45 @@ fn push_inline<'a, D: Definitions>(
 }
 
 // Begins a link or an image; a wikilink without a pipe shows its target.
-fn begin_link<'a, D: Definitions>(
+fn begin_link<'a, D: Definitions<'a>>(
     alloc: Global,
-    text: &'a str,
-    definitions: &'a D,
+    source: &Source<'a, '_>,
+    definitions: &D,
     writer: &mut Writer<'a>,
     link: &Link,
 ) -> Result<(), AllocError>
-    requires source { IsLinkSource text.now link.now }
-    requires leads { Leads text.now (D.targets definitions.now) link.now }
+    requires source { IsLinkSource source.now link.now }
+    requires leads { Leads source.now (D.targets definitions.now) link.now }
     ensures { OnOk result ((tag : TagView (List ℕ))
-        × IsLinkTag text.now (D.targets definitions.now) link.now tag
-        × (writer.new ≡ with_events (shown_target text.now link.now.text link.now.target)
+        × IsLinkTag source.now (D.targets definitions.now) link.now tag
+        × (writer.new ≡ with_events (shown_target source.now link.now.text link.now.target)
         (begun tag link.now.source.start writer.old))) }
 {
-    let tag = tag_of(alloc, text, definitions, link)?;
+    let tag = tag_of(alloc, source, definitions, link)?;
     writer.begin(tag, link.source.start)?;
     match &link.target {
-        LinkTarget::Wiki(target) => show_target(text, writer, &link.text, target),
+        LinkTarget::Wiki(target) => show_target(alloc, source, writer, &link.text, target),
         _ => Ok(()),
     }
 }
 
 // Adds the target of a wikilink as a text, unless a pipe stands after it.
 fn show_target<'a>(
-    text: &'a str,
+    alloc: Global,
+    source: &Source<'a, '_>,
     writer: &mut Writer<'a>,
     words: &Range<usize>,
     target: &Range<usize>,
 ) -> Result<(), AllocError>
-    requires { IsCutAt text.now target.now }
+    requires { IsCutAt source.now target.now }
     ensures { OnOk result (writer.new ≡ with_events
-        (shown_target text.now words.now (Wiki target.now)) writer.old) }
+        (shown_target source.now words.now (Wiki target.now)) writer.old) }
 {
     if has_pipe(words, target) {
         return Ok(());
     }
-    let shown = part(text, target.start, target.end);
-    writer.push(Event::Text(CowStr::from(shown)), target.start, target.end)
+    let shown = source.part(alloc, target.start, target.end)?;
+    writer.push(Event::Text(shown), target.start, target.end)
 }
 
 // The tag of emphasis with so many delimiters on each side.
@@ -177,40 +214,40 @@ fn emphasis_tag<'a>(count: usize) -> Tag<'a>
 // Adds the events of a piece that holds no others.
 fn push_piece<'a>(
     alloc: Global,
-    text: &'a str,
+    source: &Source<'a, '_>,
     writer: &mut Writer<'a>,
     piece: Piece,
 ) -> Result<(), AllocError>
-    requires source { IsSource text.now piece }
-    requires parts { HasParts piece.kind text.now piece }
-    ensures { OnOk result ((here : List RangedEvent) × ArePieceEvents piece.kind text.now piece here
+    requires source { IsSource source.now piece }
+    requires parts { HasParts piece.kind source.now piece }
+    ensures { OnOk result ((here : List RangedEvent) × ArePieceEvents piece.kind source.now piece here
         × (writer.new ≡ with_events here writer.old)) }
 {
     let (start, end) = (piece.start, piece.end);
     match piece.kind {
-        PieceKind::Uri => push_autolink(text, writer, LinkType::Autolink, piece),
-        PieceKind::Email => push_autolink(text, writer, LinkType::Email, piece),
+        PieceKind::Uri => push_autolink(alloc, source, writer, LinkType::Autolink, piece),
+        PieceKind::Email => push_autolink(alloc, source, writer, LinkType::Email, piece),
         PieceKind::HardBreak => writer.push(Event::HardBreak, start, end),
         PieceKind::SoftBreak => writer.push(Event::SoftBreak, start, end),
         PieceKind::Escape => {
-            let escaped = part(text, start + 1, end);
-            writer.push(Event::Text(CowStr::from(escaped)), start, end)
+            let escaped = source.part(alloc, start + 1, end)?;
+            writer.push(Event::Text(escaped), start, end)
         }
         PieceKind::Reference => {
-            let meaning = meaning_at(text, start);
+            let meaning = meaning_at(source.text(), start);
             writer.push(Event::Text(meaning), start, end)
         }
         PieceKind::Code(backticks) => {
-            let content = part(text, start + backticks, end - backticks);
-            writer.push(Event::Code(code_text(alloc, content)?), start, end)
+            let code = code_of(alloc, source, start + backticks, end - backticks)?;
+            writer.push(Event::Code(code), start, end)
         }
         PieceKind::Html => {
-            let html = part(text, start, end);
-            writer.push(Event::InlineHtml(CowStr::from(html)), start, end)
+            let html = source.part(alloc, start, end)?;
+            writer.push(Event::InlineHtml(html), start, end)
         }
         _ => {
-            let words = part(text, start, end);
-            writer.push(Event::Text(CowStr::from(words)), start, end)
+            let words = source.part(alloc, start, end)?;
+            writer.push(Event::Text(words), start, end)
         }
     }
 }
@@ -229,29 +266,50 @@ fn meaning_at(text: &str, place: usize) -> CowStr<'static>
     }
 }
 
+// The text of the code span whose content stands from one place up to another.
+fn code_of<'a>(
+    alloc: Global,
+    source: &Source<'a, '_>,
+    start: usize,
+    end: usize,
+) -> Result<CowStr<'a>, AllocError>
+    requires begins { IsCharBoundary source.now start }
+    requires ends { IsCharBoundary source.now end }
+    ensures { IfOk result (λ code. cow_text code ≡ code_text (slice_range source.now start end)) }
+{
+    if let Some(run) = source.run() {
+        return code_text(alloc, part(run, start, end));
+    }
+    let content = part(source.text(), start, end);
+    let code = code_text(alloc, content)?;
+    // What is lent is the content, or the content without a byte at each end.
+    let padding = content.len().saturating_sub(code.as_str().len()) / 2;
+    source.lend(alloc, code, start.saturating_add(padding))
+}
+
 // Adds the events of an autolink.
 fn push_autolink<'a>(
-    text: &'a str,
+    alloc: Global,
+    source: &Source<'a, '_>,
     writer: &mut Writer<'a>,
     kind: LinkType,
     piece: Piece,
 ) -> Result<(), AllocError>
-    requires begins { IsCharBoundary text.now (piece.start + 1) }
-    requires ends { IsCharBoundary text.now (piece.end - 1) }
+    requires begins { IsCharBoundary source.now (piece.start + 1) }
+    requires ends { IsCharBoundary source.now (piece.end - 1) }
     requires some { piece.start < piece.end }
-    requires within { piece.end ≤ length text.now }
-    ensures { OnOk result (writer.new ≡ with_events (autolink kind text.now piece) writer.old) }
+    requires within { piece.end ≤ length source.now }
+    ensures { OnOk result (writer.new ≡ with_events (autolink kind source.now piece) writer.old) }
 {
     let (from, to) = (piece.start + 1, piece.end - 1);
-    let address = part(text, from, to);
     let tag = Tag::Link {
         link_type: kind,
-        dest_url: CowStr::from(address),
+        dest_url: source.part(alloc, from, to)?,
         title: CowStr::from(""),
         id: CowStr::from(""),
     };
     let end = tag.to_end();
     writer.push(Event::Start(tag), piece.start, piece.end)?;
-    writer.push(Event::Text(CowStr::from(address)), from, to)?;
+    writer.push(Event::Text(source.part(alloc, from, to)?), from, to)?;
     writer.push(Event::End(end), piece.start, piece.end)
 }

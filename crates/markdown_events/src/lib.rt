@@ -1,12 +1,17 @@
 //! The events of Markdown: the parts of a text in its order, as a list in which starts and ends
-//! balance. So far those of the inlines of a block's content. (CommonMark 0.31.2, chapter 6)
+//! balance. `Parser` has those of a page, and `inline_events` those of the content of a block.
+//! (CommonMark 0.31.2, chapters 4 to 6)
 #![tactic(auto)]
 
 pub mod definitions;
 mod elements;
+pub mod event_reader;
 pub mod inline_events;
 mod link_tags;
+mod page;
+pub mod parser;
 mod parts;
+mod settings;
 #[cfg(test)]
 mod tests;
 mod writer;

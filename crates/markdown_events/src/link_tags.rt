@@ -10,31 +10,33 @@ ghost use Rattle.markdown_inlines.specs.Links.{IsLabelAt};
 ghost use Rattle.markdown_inlines.specs.Sources.{IsLinkSource};
 ghost use Rattle.markdown_events.specs.Meanings.{IsDestination, IsLinkTag, IsTitle, IsWrittenTarget, has_pipe, link_or_image, link_type, within};
 ghost use Rattle.markdown_events.specs.Passes.{Leads};
-ghost use Rattle.markdown_events.specs.Targets.{Targets, Target as Written, seen_target};
+ghost use Rattle.markdown_blocks.specs.link_definitions.LinkDefinitions.{Target as Written};
+ghost use Rattle.markdown_events.specs.Targets.{Targets, seen_target};
 
 use crate::definitions::{Definitions, Target};
-use crate::parts::{meaning_of, part};
+use crate::page::source::Source;
+use crate::parts::meaning_of;
+use markdown_inlines::link_targets::scan_label;
 use markdown_inlines::links::{Link, LinkTarget};
-use markdown_scanners_tree::linklabel::scan_link_label_rest;
 use markdown_values::strings::CowStr;
 use markdown_values::values::{LinkType, Tag};
 use std::alloc::{AllocError, Global};
 use std::ops::Range;
 
 /// The tag of a link or an image of a text.
-pub(crate) fn tag_of<'a, D: Definitions>(
+pub(crate) fn tag_of<'a, D: Definitions<'a>>(
     alloc: Global,
-    text: &'a str,
-    definitions: &'a D,
+    source: &Source<'a, '_>,
+    definitions: &D,
     link: &Link,
 ) -> Result<Tag<'a>, AllocError>
-    requires source { IsLinkSource text.now link.now }
-    requires leads { Leads text.now (D.targets definitions.now) link.now }
+    requires source { IsLinkSource source.now link.now }
+    requires leads { Leads source.now (D.targets definitions.now) link.now }
     ensures { IfOk result (λ tag.
-        IsLinkTag text.now (D.targets definitions.now) link.now (tag_view cow_text tag)) }
+        IsLinkTag source.now (D.targets definitions.now) link.now (tag_view cow_text tag)) }
 {
-    let label = label_of(alloc, text, link)?;
-    let target = target_of(text, definitions, link, label.as_str())?;
+    let label = label_of(alloc, source, link)?;
+    let target = target_of(alloc, source, definitions, link, label.as_str())?;
     let destination = destination_of(alloc, &link.target, target.destination)?;
     let title = title_of(alloc, target.title)?;
     let kind = link_type(&link.text, &link.target);
@@ -42,65 +44,87 @@ pub(crate) fn tag_of<'a, D: Definitions>(
 }
 
 // The label by which a link leads, and no text where it leads by itself.
-fn label_of<'a>(alloc: Global, text: &'a str, link: &Link) -> Result<CowStr<'a>, AllocError>
-    requires source { IsLinkSource text.now link.now }
-    requires cut { IsLabelCut text.now link.now.target }
+fn label_of<'a>(
+    alloc: Global,
+    source: &Source<'a, '_>,
+    link: &Link,
+) -> Result<CowStr<'a>, AllocError>
+    requires source { IsLinkSource source.now link.now }
+    requires cut { IsLabelCut source.now link.now.target }
     ensures { IfOk result (λ label. (targets : Targets) (name : List ℕ) (target : Written)
-        → IsWrittenTarget text.now targets link.now.text link.now.target name target
+        → IsWrittenTarget source.now targets link.now.text link.now.target name target
         → cow_text label ≡ name) }
 {
+    // The place after the bracket of a label is within it.
+    let _text = source.text();
     match &link.target {
         LinkTarget::Inline(..) => Ok(CowStr::from("")),
-        LinkTarget::Full(label) => label_at(alloc, text, label.start + 1),
-        LinkTarget::Collapsed => label_at(alloc, text, link.text.start),
-        LinkTarget::Shortcut => label_at(alloc, text, link.text.start),
+        LinkTarget::Full(label) => label_at(alloc, source, label.start + 1),
+        LinkTarget::Collapsed => label_at(alloc, source, link.text.start),
+        LinkTarget::Shortcut => label_at(alloc, source, link.text.start),
         LinkTarget::Wiki(_) => Ok(CowStr::from("")),
     }
 }
 
 // The label that stands from a place up to its right bracket.
-fn label_at<'a>(alloc: Global, text: &'a str, place: usize) -> Result<CowStr<'a>, AllocError>
+fn label_at<'a>(
+    alloc: Global,
+    source: &Source<'a, '_>,
+    place: usize,
+) -> Result<CowStr<'a>, AllocError>
+    requires { IsCharBoundary source.now place }
+    ensures { IfOk result (λ label. (close : ℕ) (name : List ℕ)
+        → IsLabelAt source.now place close name → cow_text label ≡ name) }
+{
+    if let Some(run) = source.run() {
+        return read_label(alloc, run, place);
+    }
+    // It begins at the place, where no white space stands before it.
+    let label = read_label(alloc, source.text(), place)?;
+    source.lend(alloc, label, place)
+}
+
+// The label that stands in a text from a place up to its right bracket.
+fn read_label<'t>(alloc: Global, text: &'t str, place: usize) -> Result<CowStr<'t>, AllocError>
     requires { IsCharBoundary text.now place }
     ensures { IfOk result (λ label. (close : ℕ) (name : List ℕ)
         → IsLabelAt text.now place close name → cow_text label ≡ name) }
 {
-    let skips_nothing = |_rest: &[u8]| -> Option<usize>
-        ensures { result ≡ Some 0 }
-    { Some(0) };
-    let (_, rest) = text.split_at(place);
-    match scan_link_label_rest(alloc, rest, &skips_nothing, false)? {
+    match scan_label(alloc, text, place)? {
         Some((_, label)) => Ok(label),
         None => Ok(CowStr::from("")),
     }
 }
 
 // Where a link leads, whose label this is, as it is written.
-fn target_of<'a, D: Definitions>(
-    text: &'a str,
-    definitions: &'a D,
+fn target_of<'a, D: Definitions<'a>>(
+    alloc: Global,
+    source: &Source<'a, '_>,
+    definitions: &D,
     link: &Link,
     label: &str,
 ) -> Result<Target<'a>, AllocError>
-    requires source { IsLinkSource text.now link.now }
+    requires source { IsLinkSource source.now link.now }
     ensures { IfOk result (λ target. (wanted : Written)
-        → IsWrittenTarget text.now (D.targets definitions.now) link.now.text link.now.target
+        → IsWrittenTarget source.now (D.targets definitions.now) link.now.text link.now.target
         label.now wanted → seen_target target ≡ wanted) }
 {
     match &link.target {
         LinkTarget::Inline(destination, title) => Ok(Target {
-            destination: part(text, destination.start, destination.end),
-            title: written_title(text, title),
+            destination: source.part(alloc, destination.start, destination.end)?,
+            title: written_title(alloc, source, title)?,
         }),
         LinkTarget::Wiki(target) => Ok(Target {
-            destination: part(text, target.start, target.end),
+            destination: source.part(alloc, target.start, target.end)?,
             title: None,
         }),
-        _ => Ok(
-            definitions.find(label)?.unwrap_or(Target {
-                destination: "",
+        _ => match definitions.find(label)? {
+            Some(target) => Ok(target),
+            None => Ok(Target {
+                destination: CowStr::from(""),
                 title: None,
             }),
-        ),
+        },
     }
 }
 
@@ -108,32 +132,37 @@ fn target_of<'a, D: Definitions>(
 fn destination_of<'a>(
     alloc: Global,
     target: &LinkTarget,
-    destination: &'a str,
+    destination: CowStr<'a>,
 ) -> Result<CowStr<'a>, AllocError>
     ensures { IfOk result (λ meaning.
-        IsDestination target.now destination.now (cow_text meaning)) }
+        IsDestination target.now (cow_text destination.entry) (cow_text meaning)) }
 {
     match target {
-        LinkTarget::Wiki(_) => Ok(CowStr::from(destination)),
+        LinkTarget::Wiki(_) => Ok(destination),
         _ => meaning_of(alloc, destination),
     }
 }
 
 // The title that stands in a range of the text, if there is one.
-fn written_title<'a>(text: &'a str, title: &Option<Range<usize>>) -> Option<&'a str>
-    requires { IfSome title.now (IsCutAt text.now) }
-    ensures { option_map (λ title. title.now) result ≡ option_map (within text.now) title.now }
+fn written_title<'a>(
+    alloc: Global,
+    source: &Source<'a, '_>,
+    title: &Option<Range<usize>>,
+) -> Result<Option<CowStr<'a>>, AllocError>
+    requires { IfSome title.now (IsCutAt source.now) }
+    ensures { IfOk result (λ written.
+        option_map cow_text written ≡ option_map (within source.now) title.now) }
 {
     match title {
-        Some(title) => Some(part(text, title.start, title.end)),
-        None => None,
+        Some(title) => Ok(Some(source.part(alloc, title.start, title.end)?)),
+        None => Ok(None),
     }
 }
 
 // What is meant by a title; no text where there is none.
-fn title_of<'a>(alloc: Global, title: Option<&'a str>) -> Result<CowStr<'a>, AllocError>
+fn title_of<'a>(alloc: Global, title: Option<CowStr<'a>>) -> Result<CowStr<'a>, AllocError>
     ensures { IfOk result (λ meaning.
-        IsTitle (option_map (λ title. title.now) title.entry) (cow_text meaning)) }
+        IsTitle (option_map cow_text title.entry) (cow_text meaning)) }
 {
     match title {
         Some(title) => meaning_of(alloc, title),

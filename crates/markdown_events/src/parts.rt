@@ -8,6 +8,7 @@ use html_entities::HtmlEntities;
 use markdown_scanners_tree::scanners::unescape;
 use markdown_values::strings::CowStr;
 use std::alloc::{AllocError, Global};
+use std::str::from_utf8;
 
 /// What stands in a text from one place up to another, at both of which it may be cut.
 pub(crate) fn part(text: &str, start: usize, end: usize) -> &str
@@ -22,8 +23,23 @@ pub(crate) fn part(text: &str, start: usize, end: usize) -> &str
 }
 
 /// What is meant by a text, its backslash escapes and character references resolved.
-pub(crate) fn meaning_of<'a>(alloc: Global, text: &'a str) -> Result<CowStr<'a>, AllocError>
-    ensures { IfOk result (λ meaning. IsMeaning text.now (cow_text meaning)) }
+pub(crate) fn meaning_of<'a>(alloc: Global, text: CowStr<'a>) -> Result<CowStr<'a>, AllocError>
+    ensures { IfOk result (λ meaning. IsMeaning (cow_text text.entry) (cow_text meaning)) }
 {
-    unescape(alloc, CowStr::from(text), false, &HtmlEntities)
+    unescape(alloc, text, false, &HtmlEntities)
+}
+
+/// The text that bytes of a page are.
+///
+/// # Errors
+///
+/// `AllocError` where they are not UTF-8.
+pub(crate) fn text_of(bytes: &[u8]) -> Result<&str, AllocError>
+    ensures { IfOk result (λ text. text.now ≡ bytes.now) }
+{
+    match from_utf8(bytes) {
+        Ok(text) => Ok(text),
+        // Not reached: the page is UTF-8, and content is cut at ASCII bytes.
+        Err(_) => Err(AllocError),
+    }
 }

@@ -1,7 +1,14 @@
 //! The events of examples of CommonMark 0.31.2, chapter 6, and of extensions.
-ghost use Rattle.std.specs.Prelude.{find, option_map};
+ghost use Rattle.std.specs.Prelude.{◌≡◌, find, option_map};
 ghost use Rattle.std.specs.Str.{bytes_eq};
-ghost use Rattle.markdown_events.specs.Targets.{Target};
+ghost use Rattle.markdown_values.specs.strings.Text.{cow_text};
+ghost use Rattle.markdown_blocks.specs.link_definitions.LinkDefinitions.{Target};
+
+mod known;
+mod leaves;
+mod memory;
+mod sources;
+mod tasks;
 
 use crate::definitions::{Definitions, Target};
 use crate::inline_events::inline_events;
@@ -20,19 +27,33 @@ struct Page {
     rows: &'static [Row],
 }
 
-impl Definitions for Page {
+impl<'a> Definitions<'a> for Page {
     ghost targets = { λ it label. option_map
         (λ row. record { destination = row.1.now; title = option_map (λ title. title.now) row.2 })
         (find (λ row. bytes_eq row.0.now label) it.rows.now) };
 
-    fn find(&self, label: &str) -> Result<Option<Target<'_>>, AllocError> {
+    fn find(&self, label: &str) -> Result<Option<Target<'a>>, AllocError> {
         match self.rows.iter().find(|row| row.0 == label) {
             Some(row) => Ok(Some(Target {
-                destination: row.1,
-                title: row.2,
+                destination: CowStr::from(row.1),
+                title: title_of(row.2),
             })),
             None => Ok(None),
         }
+    }
+
+    fn is_defined(&self, label: &str) -> Result<bool, AllocError> {
+        Ok(self.find(label)?.is_some())
+    }
+}
+
+// The title of a definition, if it has one.
+fn title_of(title: Option<&'static str>) -> Option<CowStr<'static>>
+    ensures { option_map cow_text result ≡ option_map (λ title. title.now) title.entry }
+{
+    match title {
+        Some(title) => Some(CowStr::from(title)),
+        None => None,
     }
 }
 
@@ -176,7 +197,7 @@ fn shown(alloc: Global, text: &str, page: &Page) -> Result<String, AllocError> {
     Ok(out)
 }
 
-fn push_event(out: &mut String, event: &Event) -> Result<(), AllocError> {
+pub(crate) fn push_event(out: &mut String, event: &Event) -> Result<(), AllocError> {
     match event {
         Event::Start(tag) => push_start(out, tag),
         Event::End(end) => push_words(out, "end ", end_name(*end)),

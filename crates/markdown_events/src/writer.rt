@@ -1,5 +1,5 @@
 //! The events of a text that are written one after another.
-ghost use Rattle.std.specs.Prelude.{◌≡◌, [], reverse, map, OnOk};
+ghost use Rattle.std.specs.Prelude.{◌≡◌, [], reverse, map, IfOk, OnOk};
 ghost use Rattle.markdown_values.specs.strings.Text.{cow_text};
 ghost use Rattle.markdown_values.specs.values.Events.{event_view};
 ghost use Rattle.markdown_values.specs.values.Tags.{tag_view};
@@ -36,22 +36,32 @@ impl<'a> Model for Writer<'a> {
 }
 
 impl<'a> Writer<'a> {
-    /// None is written. The elements end at these places, the first at the end.
-    pub(crate) fn new(alloc: Global, ends: Vec<usize>) -> Writer<'a>
-        ensures { result ≡ record { events = []; elements = []; ends = reverse ends.items } }
+    /// None is written. The elements end at these places, the first at the end, and are put into the
+    /// memory of others. There is room for the events of so many inlines, and for the start and the
+    /// end of their block.
+    pub(crate) fn within(
+        alloc: Global,
+        elements: Vec<Element>,
+        ends: Vec<usize>,
+        inlines: usize,
+    ) -> Result<Writer<'a>, AllocError>
+        ensures { IfOk result (λ writer. writer
+            ≡ record { events = []; elements = []; ends = reverse ends.items }) }
     {
-        Writer {
-            events: Vec::new(alloc),
-            elements: Vec::new(alloc),
+        let mut elements = elements;
+        elements.clear();
+        Ok(Writer {
+            events: Vec::with_capacity(alloc, inlines.saturating_add(2))?,
+            elements,
             ends,
-        }
+        })
     }
 
-    /// The events that are written.
-    pub(crate) fn into_events(self) -> Vec<(Event<'a>, Range<usize>)>
-        ensures { map seen_event result.items ≡ self.entry.events }
+    /// The events that are written, and the memory of the elements and of their ends.
+    pub(crate) fn into_parts(self) -> (Vec<(Event<'a>, Range<usize>)>, Vec<Element>, Vec<usize>)
+        ensures { map seen_event result.0.items ≡ self.entry.events }
     {
-        self.events
+        (self.events, self.elements, self.ends)
     }
 
     /// Adds an event from one place of the text up to another.

@@ -7,7 +7,7 @@ use std::process::Abort;
 
 // As `help.txt` of `cmark_blocks` has it.
 const HELP: &str = "\
-usage: cmark_blocks [--json] [--footnotes] [--] [FILE ..]
+usage: cmark_blocks [--json] [--footnotes] [--definition-lists] [--] [FILE ..]
        cmark_blocks -h | --help | --version
 
 Prints a line for each block of a page of Markdown: the number of its first line, the number of
@@ -32,6 +32,7 @@ list has a line where it is shown to have ended: before the lines of what shows 
   quote            a block quote
   item C START     a list item: its bullet or delimiter, and the number that it starts at
   footnote         a footnote definition, where --footnotes asks for them
+  term_definition  a definition of the term before it, where --definition-lists asks for them
   list C START tight
   list C START loose
                    a list: the bullet or delimiter of its items, the number that it starts at, and
@@ -46,7 +47,8 @@ of that line that the text or the marker begins with, counted from 1; of a block
 bytes its lines have; level of a heading; count, fence and info of fenced code; condition of an HTML
 block; columns of a table; label, destination and, if there is one, title of a definition, as they
 are written, without what stands around them; delimiter and start of an item or a list; tight of a
-list; and indent of an item, by how many columns its text is indented from the container around it.
+list; and indent of an item or a term_definition, by how many columns its text is indented from the
+container around it.
 Where info, label, destination or title is not UTF-8, each part of it that isn't is U+FFFD, and
 info_bytes, label_bytes, destination_bytes or title_bytes has two hexadecimal digits for each of its
 bytes.
@@ -57,6 +59,10 @@ or more files are named, an object of one member, page, has the name of each bef
 
 With --footnotes a line that begins with [^, a label and ]: begins a footnote definition, as on
 GitHub: a container of what follows on that line, and of the lines that are indented by four columns.
+
+With --definition-lists a paragraph is a term where a line that begins with : follows it, at once or
+after one blank line. That line begins a definition of it: a container of what follows on that line,
+and of the lines that are indented as that is. Further definitions of the term may follow.
 
 Together the blocks contain every line of the page.
 
@@ -97,7 +103,7 @@ fn the_version_is_that_of_the_repository(rt: HostRuntime) {
 
 // What is said of an option that is not known.
 const USAGE: &str = "
-usage: cmark_blocks [--json] [--footnotes] [--] [FILE ..]
+usage: cmark_blocks [--json] [--footnotes] [--definition-lists] [--] [FILE ..]
        cmark_blocks -h | --help | --version
 ";
 

@@ -16,7 +16,8 @@ use Rattle.markdown_inlines.specs.declared.links.LinkTarget.{LinkTarget}
 use Rattle.markdown_inlines.specs.declared.links.LinkTarget.TheVariants.{Inline as Within, Full, Collapsed, Shortcut, Wiki}
 use Rattle.markdown_events.specs.Meanings.{IsWrittenTarget, within}
 use Rattle.markdown_events.specs.Passes.{EndsBelow, IsFound, Leads}
-use Rattle.markdown_events.specs.Targets.{Target, Targets, leads}
+use Rattle.markdown_blocks.specs.link_definitions.LinkDefinitions.{Target}
+use Rattle.markdown_events.specs.Targets.{Targets, leads}
 
 -- ---- where a link leads
 

@@ -51,7 +51,7 @@ first_of [] n is = absurd (omega (arith, is))
 first_of (to ∷ later) n is = refl
 
 -- from an earlier place on
-rise_from : (ends : List ℕ) (from from' : ℕ) (events : List RangedEvent) → from ≤ from' → RiseIn ends from' events → RiseIn ends from events
+pub rise_from : (ends : List ℕ) (from from' : ℕ) (events : List RangedEvent) → from ≤ from' → RiseIn ends from' events → RiseIn ends from events
 rise_from ends from from' [] less is = tt
 rise_from [] from from' (event ∷ later) less is = absurd is
 rise_from (to ∷ outer) from from' ((start tag, range) ∷ later) less is =

@@ -23,7 +23,8 @@ use Rattle.markdown_events.specs.InlineEvents.{AreInlineEvents, AreEvents, ArePi
 use Rattle.markdown_events.specs.InlineEvents.{closing, end_in, ranged, shown_target}
 use Rattle.markdown_events.specs.Meanings.{IsDestination, IsMeaning, IsTitle, IsLinkTag, IsWrittenTarget, link_or_image, link_type}
 use Rattle.markdown_events.specs.TagEnds.{tag_end}
-use Rattle.markdown_events.specs.Targets.{Target, Targets}
+use Rattle.markdown_blocks.specs.link_definitions.LinkDefinitions.{Target}
+use Rattle.markdown_events.specs.Targets.{Targets}
 use Rattle.markdown_events.specs.declared.elements.Element.{Element}
 
 -- a text has one meaning

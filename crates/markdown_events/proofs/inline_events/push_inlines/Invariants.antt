@@ -3,4 +3,4 @@ use Rattle.markdown_events.proofs.inline_events.PassLemmas.{Goes}
 use Rattle.markdown_events.proofs.inline_events.push_inlines.Given as goal
 
 abbrev pub invariant-loop-inline : goal.invariant-loop-inline
-invariant-loop-inline g l = Goes l.text (g.D.Definitions.targets l.definitions) l.links l.inlines l.inline-index l.writer
+invariant-loop-inline g l = Goes l.source (g.D.Definitions.targets l.definitions) l.links l.inlines l.inline-index l.writer

@@ -1,0 +1,58 @@
+use Rattle.std.proofs.Common.{[], ◌++◌, map, reverse, refl, sym, ap, subst, ◌∙◌}
+use Rattle.markdown_blocks.specs.events.Events.{seen_event as seen_block}
+use Rattle.markdown_events.specs.InlineEvents.{seen_event}
+use Rattle.markdown_events.specs.Targets.{nowhere}
+use Rattle.markdown_events.specs.page.OpenElements.{none_open}
+use Rattle.markdown_events.specs.page.PageEvents.{ArePageEvents, ArePageEventsWith}
+use Rattle.markdown_events.proofs.page.PageBalance.{page_events_balance}
+use Rattle.markdown_events.proofs.page.ParserLemmas.{given_with, page_events, page_events_with, reverse_twice}
+use Rattle.markdown_events.proofs.event_reader.EventReader.with_setting.Goals as goal
+
+pub returns-clause-page : goal.returns-clause-page
+returns-clause-page c = λ events g.
+    let page = c.args.page.now in
+    let setting = c.args.setting in
+    let all = c.in_ok-blocks.blocks.items in
+    let known = c.in_ok-blocks.definitions in
+    let found = reverse c.in_ok-spans.spans.items in
+    let of_page = rw c.blocks-asked.ensures at c.in_ok-blocks.ensures.blocks in
+    let first = rw c.blocks-asked.ensures at c.in_ok-blocks.ensures.first in
+    let are_spans = rw c.deref.ensures.value at c.in_ok-spans.ensures in
+    let none = ap (λ items. map seen_event items) (c.into_iter.ensures.rest ∙ c.new-2.ensures.items) in
+    let later = rw (c.new.ensures, c.reverse.ensures.items, reverse_twice all) at g.are_later in
+    let without = given_with (record {
+      page = page;
+      tasks = setting.tasks;
+      extensions = setting.inlines;
+      known = known;
+      ready = [];
+      elements = none_open found;
+      blocks = map seen_block all;
+    }) g.rest (record { rest = g.rest; are_later = later; given = refl }) in
+    subst (λ es. ArePageEvents page setting es) (sym (g.given ∙ (ap (λ es. es ++ g.rest) none ∙ without.given)))
+    (page_events page setting without.rest (page_events_with page setting nowhere (map seen_block all) known found without.rest of_page first.0
+    first.1 first.2 are_spans without.are_later))
+
+pub returns-clause-balanced : goal.returns-clause-balanced
+returns-clause-balanced c = λ events g. page_events_balance c.args.page.now c.args.setting events (returns-clause-page c events g)
+
+pub returns-clause-definitions : goal.returns-clause-definitions
+returns-clause-definitions c =
+    let first = rw c.blocks-asked.ensures at c.in_ok-blocks.ensures.first in record {
+      named = first.0;
+      are_defined = first.1;
+      are_first = first.2;
+    }
+
+pub returns-clause-broken : goal.returns-clause-broken
+returns-clause-broken c = λ more events g.
+    let page = c.args.page.now in
+    let setting = c.args.setting in
+    let all = c.in_ok-blocks.blocks.items in
+    let of_page = rw c.blocks-asked.ensures at c.in_ok-blocks.ensures.blocks in
+    let first = rw c.blocks-asked.ensures at c.in_ok-blocks.ensures.first in
+    let none = ap (λ items. map seen_event items) (c.into_iter.ensures.rest ∙ c.new-2.ensures.items) in
+    let later = rw (c.new.ensures, c.reverse.ensures.items, reverse_twice all) at g.are_later in
+    subst (λ es. ArePageEventsWith page setting more es) (sym (g.given ∙ ap (λ es. es ++ g.rest) none))
+    (page_events_with page setting more (map seen_block all) c.in_ok-blocks.definitions (reverse c.in_ok-spans.spans.items) g.rest of_page
+    first.0 first.1 first.2 (rw c.deref.ensures.value at c.in_ok-spans.ensures) later)

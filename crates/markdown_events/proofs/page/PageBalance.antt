@@ -1,0 +1,156 @@
+-- The events of a page balance.
+use Rattle.std.proofs.Common.{ℕ, Bool, true, false, not, List, [], ◌∷◌, ◌++◌, Option, Some, None, ◌≡◌, refl, sym, subst, append-nil, append_assoc}
+use Rattle.std.proofs.Common.{if◌then◌else◌}
+use Rattle.std.specs.Prelude.{IsTrue, is_some}
+use Rattle.markdown_values.specs.values.Tags.{TagView, item}
+use Rattle.markdown_blocks.specs.blocks.Pages.{is_blank_kind}
+use Rattle.markdown_blocks.specs.declared.containers.Container.{Container}
+use Rattle.markdown_blocks.specs.declared.containers.Container.TheVariants.{Quote, Item, Footnote, TermDefinition}
+use Rattle.markdown_blocks.specs.declared.containers.ListItem.{ListItem}
+use Rattle.markdown_blocks.specs.events.Events.{LeafBlock, leaf}
+use Rattle.markdown_blocks.specs.first_blocks.Waiting.{waiting_behind}
+use Rattle.markdown_blocks.specs.link_definitions.LinkDefinitions.{first_of}
+use Rattle.markdown_blocks.specs.lists.Lists.{Nodes, nothing, leaf_then, container_then}
+use Rattle.markdown_events.specs.EventLaws.{AreBalanced, AreBalancedIn, Started}
+use Rattle.markdown_events.specs.InlineEvents.{RangedEvent}
+use Rattle.markdown_events.specs.TagEnds.{tag_end}
+use Rattle.markdown_events.specs.declared.elements.Element.{Element}
+use Rattle.markdown_events.specs.declared.event_reader.PageSetting.{PageSetting}
+use Rattle.markdown_events.specs.declared.page.levels.ItemList.{ItemList}
+use Rattle.markdown_events.specs.page.LeafEvents.{Place}
+use Rattle.markdown_events.specs.page.PageEvents.{AreNodeEvents, ArePageEvents, OpenList, after_block, block_setting, container_tag, ending, inside}
+use Rattle.markdown_events.specs.page.PageEvents.{list_after, list_end, list_in, list_tag, outermost}
+use Rattle.markdown_events.specs.page.Places.{element}
+use Rattle.markdown_events.specs.page.TaskEvents.{BlockSetting}
+use Rattle.markdown_events.specs.page.Spans.{container_end, front_list, is_alike, span_of}
+use Rattle.markdown_events.proofs.page.OnePage.{OtherEvents}
+use Rattle.markdown_events.proofs.page.leaf_events.BalanceLemmas.{balanced_before, element_balances}
+use Rattle.markdown_events.proofs.page.task_events.TaskLaws.{block_events_balance}
+
+-- ---- the list that is open
+
+abbrev started_as : TagView (List ℕ) → Element → Started
+started_as tag one = (tag, record { start = one.from; end = one.to })
+
+-- The list is the innermost of these elements, and nodes go on with it; the others are around it. Where none is open, they are all.
+abbrev AreOpen : Option OpenList → Nodes → List Started → List Started → Type 0
+AreOpen None nodes elements outer = elements ≡ outer
+AreOpen (Some list) nodes elements outer =
+    (tag : TagView (List ℕ)) × (list.element.tag ≡ tag_end tag) × (elements ≡ started_as tag list.element ∷ outer)
+    × IsTrue (is_some (front_list nodes))
+
+-- a list that goes on does so in the nodes that follow
+alike_is_some : (one : ListItem) (list : Option ItemList) → is_alike one list ≡ true → IsTrue (is_some list)
+alike_is_some one None is = absurd (cc)
+alike_is_some one (Some list) is = refl
+
+-- a blank line leaves it open, and no other leaf block stands before its items
+open_after_leaf : (block : LeafBlock) (later : Nodes) (current : Option OpenList) (elements outer : List Started)
+    → AreOpen current (leaf_then block later) elements outer → AreOpen current later elements outer
+open_after_leaf block later None elements outer are = are
+open_after_leaf block later (Some list) elements outer (tag, closes, are, some) = (tag, closes, are, by_kind (is_blank_kind block.kind) some)
+  where
+    by_kind : (k : Bool) → IsTrue (is_some (if k then front_list later else None)) → IsTrue (is_some (front_list later))
+    by_kind true some = some
+    by_kind false some = absurd (let lost : false ≡ true = some in cc)
+
+-- ---- nodes
+
+pub reassociated : (a b c d : List RangedEvent) → a ++ b ++ c ++ d ≡ a ++ (b ++ (c ++ d))
+reassociated a b c d = simp append_assoc
+
+goes_on : (alike : Bool) → false ≡ not alike → alike ≡ true
+goes_on true is = refl
+goes_on false is = absurd (cc)
+
+module _ (page : List ℕ) (setting : BlockSetting) where
+  -- with these elements open, of which the nodes end their list, what balances after them does so after their events
+  abbrev Balance : Nodes → Type 0
+  Balance nodes = (here : Place) (waiting : Option Container) (current : Option OpenList) (elements outer : List Started) (events more : List RangedEvent)
+      → AreOpen current nodes elements outer → AreNodeEvents page setting here waiting current nodes events → AreBalancedIn outer more
+      → AreBalancedIn elements (events ++ more)
+
+  -- nodes where no list is open balance
+  alone : (nodes : Nodes) → Balance nodes → (here : Place) (waiting : Option Container) (events : List RangedEvent)
+      → AreNodeEvents page setting here waiting None nodes events → AreBalanced events
+  alone nodes balance here waiting events are =
+      subst (AreBalancedIn []) (append-nil events) (balance here waiting None [] [] events [] refl are refl)
+
+  -- an item of a list that is open, and what follows it
+  item_in_list : (one : ListItem) (later : Nodes) → Balance later → (here : Place) (list : OpenList) (tag : TagView (List ℕ))
+      → list.element.tag ≡ tag_end tag → (is_last : Bool) → is_last ≡ not (is_alike one (front_list later))
+      → (outer : List Started) (whole rest more : List RangedEvent) → AreBalanced whole
+      → AreNodeEvents page setting here None (list_after is_last list) later rest → AreBalancedIn outer more
+      → AreBalancedIn (started_as tag list.element ∷ outer) (whole ++ list_end is_last list ++ rest ++ more)
+  item_in_list one later balance here list tag closes true last outer whole rest more balanced are gives =
+      let elements : List Started = started_as tag list.element ∷ outer in
+      let after = balance here None None outer outer rest more refl are gives in
+      subst (AreBalancedIn elements) (sym (reassociated whole (ending list.element) rest more))
+      (balanced_before [] elements whole (ending list.element ++ (rest ++ more)) balanced (tag, outer, refl, closes, after))
+  item_in_list one later balance here list tag closes false last outer whole rest more balanced are gives =
+      let elements : List Started = started_as tag list.element ∷ outer in
+      let some = alike_is_some one (front_list later) (goes_on (is_alike one (front_list later)) last) in
+      let after = balance here None (Some list) elements outer rest more (tag, closes, refl, some) are gives in
+      subst (AreBalancedIn elements) (sym (reassociated whole [] rest more))
+      (balanced_before [] elements whole ([] ++ (rest ++ more)) balanced after)
+
+  -- a container that is no item
+  other_balances : (container : Container) (place : ℕ) (inner later : Nodes) → Balance inner → Balance later → (here : Place)
+      (elements outer : List Started) (events more : List RangedEvent) → elements ≡ outer
+      → OtherEvents page setting container place inner later here events → AreBalancedIn outer more → AreBalancedIn elements (events ++ more)
+  other_balances container place inner later in_it after_it here elements outer events more are_open (held, rest, are_held, are_rest, is) gives =
+      let to = container_end inner in
+      let whole = element (container_tag container) place to held in
+      let balanced = element_balances (container_tag container) place to held (alone inner in_it (inside container false here) (Some container) held are_held) in
+      subst (λ (es : List RangedEvent). AreBalancedIn elements (es ++ more)) (sym is)
+      (subst (AreBalancedIn elements) (sym (append_assoc whole rest more))
+      (balanced_before [] elements whole (rest ++ more) balanced
+      (after_it (after_block here) None None elements outer rest more are_open are_rest gives)))
+
+  nodes_balance : (nodes : Nodes) → Balance nodes
+  nodes_balance nothing here waiting None elements outer events more are_open is gives =
+      subst (λ (es : List RangedEvent). AreBalancedIn elements (es ++ more)) (sym is) (subst (λ (e : List Started). AreBalancedIn e more) (sym are_open) gives)
+  nodes_balance nothing here waiting (Some list) elements outer events more (tag, closes, are, some) is gives =
+      absurd (let lost : false ≡ true = some in cc)
+  nodes_balance (leaf_then block later) here waiting current elements outer events more are_open (own, rest, are_own, are_rest, is) gives =
+      subst (λ (es : List RangedEvent). AreBalancedIn elements (es ++ more)) (sym is)
+      (subst (AreBalancedIn elements) (sym (append_assoc own rest more))
+      (balanced_before [] elements own (rest ++ more) (block_events_balance page setting here waiting block own are_own)
+      (nodes_balance later (after_block here) (waiting_behind waiting (leaf block)) current elements outer rest more
+      (open_after_leaf block later current elements outer are_open) are_rest gives)))
+  nodes_balance (container_then (Item one) place inner later) here waiting None elements outer events more are_open (held, rest, are_held, are_rest, is) gives =
+      let span = span_of (Item one) inner later in
+      let now = list_in None one place span in
+      let balanced = element_balances item place span.to held
+      (alone inner (nodes_balance inner) (inside (Item one) now.is_tight here) (Some (Item one)) held are_held) in
+      subst (λ (es : List RangedEvent). AreBalancedIn elements (es ++ more)) (sym is)
+      (subst (λ (e : List Started). AreBalancedIn (started_as (list_tag one) now.element ∷ e)
+      (element item place span.to held ++ list_end span.is_last now ++ rest ++ more)) (sym are_open)
+      (item_in_list one later (nodes_balance later) (after_block here) now (list_tag one) refl span.is_last refl outer
+      (element item place span.to held) rest more balanced are_rest gives))
+  nodes_balance (container_then (Item one) place inner later) here waiting (Some list) elements outer events more (tag, closes, are_open, some)
+      (held, rest, are_held, are_rest, is) gives =
+      let span = span_of (Item one) inner later in
+      let balanced = element_balances item place span.to held
+      (alone inner (nodes_balance inner) (inside (Item one) list.is_tight here) (Some (Item one)) held are_held) in
+      subst (λ (es : List RangedEvent). AreBalancedIn elements (es ++ more)) (sym is)
+      (subst (λ (e : List Started). AreBalancedIn e (element item place span.to held ++ list_end span.is_last list ++ rest ++ more)) (sym are_open)
+      (item_in_list one later (nodes_balance later) (after_block here) list tag closes span.is_last refl outer
+      (element item place span.to held) rest more balanced are_rest gives))
+  nodes_balance (container_then Quote place inner later) here waiting None elements outer events more are_open are gives =
+      other_balances Quote place inner later (nodes_balance inner) (nodes_balance later) here elements outer events more are_open are gives
+  nodes_balance (container_then Footnote place inner later) here waiting None elements outer events more are_open are gives =
+      other_balances Footnote place inner later (nodes_balance inner) (nodes_balance later) here elements outer events more are_open are gives
+  nodes_balance (container_then (TermDefinition one) place inner later) here waiting None elements outer events more are_open are gives =
+      other_balances (TermDefinition one) place inner later (nodes_balance inner) (nodes_balance later) here elements outer events more are_open are gives
+  nodes_balance (container_then c place inner later) here waiting (Some list) elements outer events more (tag, closes, are, some) is gives =
+      absurd (let lost : false ≡ true = some in cc)
+
+-- ---- the page
+
+-- starts and ends balance
+pub page_events_balance : (page : List ℕ) (setting : PageSetting) (events : List RangedEvent) → ArePageEvents page setting events
+    → AreBalanced events
+page_events_balance page setting events are =
+    let read_with = block_setting setting (λ label. first_of label are.named) in
+    alone page read_with are.nodes (nodes_balance page read_with are.nodes) outermost None events are.are_events

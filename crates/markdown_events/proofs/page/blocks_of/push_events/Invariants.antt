@@ -1,0 +1,14 @@
+use Rattle.std.proofs.Common.{List, ◌≡◌, ◌++◌, map}
+use Rattle.markdown_blocks.specs.events.Events.{Event, seen_event}
+use Rattle.markdown_blocks.specs.events.Given.{GivesBlock, block_events_left}
+use Rattle.markdown_events.proofs.page.blocks_of.push_events.Given as goal
+
+-- whatever events are left, the block gives those that are added and these
+abbrev pub invariant-loop-event : goal.invariant-loop-event
+invariant-loop-event l =
+    (later : List Event) → GivesBlock l.containers l.content l.events later → (given : List Event)
+    × GivesBlock l.containers l.content l.fn.events given
+    × (map seen_event l.blocks.items ++ later ≡ map seen_event l.fn.blocks.items ++ given)
+
+abbrev pub decreases-loop-event : goal.decreases-loop-event
+decreases-loop-event l = block_events_left l.containers l.events

@@ -1,0 +1,117 @@
+-- The cells that a row shows, and their contents, stand in the row.
+use Rattle.std.proofs.Common.{ℕ, zero, suc, ◌+◌, ◌-◌, ◌^◌, ◌<◌, ◌≤◌, ◌≡◌, Bool, true, false, List, [], ◌∷◌, ◌++◌, length, map}
+use Rattle.std.proofs.Common.{ap, sym, subst, ◌∙◌, append-nil, append_assoc, arith, refl}
+use Rattle.std.specs.Prelude.{⊤}
+use Rattle.markdown_values.specs.values.Tags.{table_cell}
+use Rattle.markdown_blocks.specs.cells.Cells.{AreBetween, cells_of}
+use Rattle.markdown_blocks.specs.content.Bytes.{AreBytesOf}
+use Rattle.markdown_blocks.specs.cells.Contents.{bytes_of_cell, content_of_cell, escapes_pipe, unescaped, unescaped_places}
+use Rattle.markdown_blocks.specs.declared.cells.Cell.{Cell}
+use Rattle.markdown_blocks.proofs.ForCallers.{DoNotFall}
+use Rattle.markdown_events.specs.InlineEvents.{AreInlineEvents, EventSetting, RangedEvent}
+use Rattle.markdown_events.specs.page.LeafContent.{CanPlace}
+use Rattle.markdown_events.specs.page.Places.{element, placed}
+use Rattle.markdown_events.specs.page.TableEvents.{AreCellEvents, row_len, shown_cells}
+
+-- each of the cells begins before it ends, and ends within so many bytes
+abbrev pub StandWithin : ℕ → List Cell → Type 0
+StandWithin count [] = ⊤
+StandWithin count (cell ∷ later) = (cell.start ≤ cell.end) × (cell.end ≤ count) × StandWithin count later
+
+between_within : (begin count : ℕ) (cells : List Cell) → AreBetween begin count cells → StandWithin count cells
+between_within begin count [] are = tt
+between_within begin count (cell ∷ later) are = (are.1, are.2, between_within cell.end count later are.3)
+
+shown_within : (columns end count : ℕ) (cells : List Cell) → end ≤ count → StandWithin count cells → StandWithin count (shown_cells columns end cells)
+shown_within zero end count cells low are = tt
+shown_within (suc columns) end count [] low are = (omega arith, low, shown_within columns end count [] low tt)
+shown_within (suc columns) end count (cell ∷ later) low are = (are.0, are.1, shown_within columns end count later low are.2)
+
+pub shown_between : (columns end count : ℕ) (cells : List Cell) → end ≤ count → AreBetween 0 count cells
+    → StandWithin count (shown_cells columns end cells)
+shown_between columns end count cells low are = shown_within columns end count cells low (between_within 0 count cells are)
+
+-- ---- contents
+
+places_sizes : (place : ℕ) (bytes : List ℕ) → length (unescaped_places place bytes) ≡ length (unescaped bytes)
+places_sizes place [] = refl
+places_sizes place (b ∷ bs) = by (escapes_pipe (b ∷ bs)) refl (places_sizes (place + 1) bs)
+  where
+    by : (s : Bool) → escapes_pipe (b ∷ bs) ≡ s → length (unescaped_places (place + 1) bs) ≡ length (unescaped bs)
+        → length (unescaped_places place (b ∷ bs)) ≡ length (unescaped (b ∷ bs))
+    by true is here = rw is here
+    by false is here = rw is (ap suc here)
+
+places_from : (from to : ℕ) (places : List ℕ) → from ≤ to → DoNotFall to places → DoNotFall from places
+places_from from to [] low are = tt
+places_from from to (place ∷ places) low are = (omega (arith, low, are.0), are.1)
+
+places_rise : (place : ℕ) (bytes : List ℕ) → DoNotFall place (unescaped_places place bytes)
+places_rise place [] = tt
+places_rise place (b ∷ bs) =
+    by (escapes_pipe (b ∷ bs)) refl (places_from place (place + 1) (unescaped_places (place + 1) bs) (omega arith) (places_rise (place + 1) bs))
+  where
+    by : (s : Bool) → escapes_pipe (b ∷ bs) ≡ s → DoNotFall place (unescaped_places (place + 1) bs)
+        → DoNotFall place (unescaped_places place (b ∷ bs))
+    by true is here = rw is here
+    by false is here = rw is (omega arith, here)
+
+-- the content of a cell has a place for each byte, and they don't fall
+pub cell_sizes : (row : List ℕ) (cell : Cell) → length (content_of_cell row cell).places ≡ length (content_of_cell row cell).text
+cell_sizes row cell = places_sizes cell.start (bytes_of_cell row cell)
+
+pub cell_rises : (row : List ℕ) (cell : Cell) → DoNotFall 0 (content_of_cell row cell).places
+cell_rises row cell =
+    places_from 0 cell.start (content_of_cell row cell).places (omega arith) (places_rise cell.start (bytes_of_cell row cell))
+
+pub cell_can_place : (before : ℕ) (row : List ℕ) (cell : Cell) → before + length row < 2 ^ 64
+    → AreBytesOf row (content_of_cell row cell) → CanPlace before (content_of_cell row cell)
+cell_can_place before row cell fits stand = record {
+  each = cell_sizes row cell;
+  fits = λ offset low. omega (arith, (stand offset low).0, fits);
+  begins = omega (arith, fits);
+}
+
+-- ---- events of cells, one after the other
+
+-- before the first
+pub cells_begin : (setting : EventSetting) (before : ℕ) (text : List ℕ) (columns end : ℕ) (cells : List Cell) (events : List RangedEvent)
+    → end ≡ row_len text → cells ≡ cells_of text → events ≡ [] → (later : List RangedEvent)
+    → AreCellEvents setting before text (shown_cells columns end cells) later
+    → AreCellEvents setting before text (shown_cells columns (row_len text) (cells_of text)) (events ++ later)
+cells_begin setting before text columns end cells events end_is cells_are none later are =
+    subst (λ (es : List RangedEvent). AreCellEvents setting before text (shown_cells columns (row_len text) (cells_of text)) (es ++ later)) (sym none)
+    (subst (λ (cs : List Cell). AreCellEvents setting before text (shown_cells columns (row_len text) cs) later) cells_are
+    (subst (λ n. AreCellEvents setting before text (shown_cells columns n cells) later) end_is are))
+
+module _ (left end : ℕ) (old new : List Cell) (cell : Cell) (some : 0 < left)
+    (next : shown_cells (suc (left - 1)) end old ≡ cell ∷ shown_cells (left - 1) end new) where
+  shown : shown_cells left end old ≡ cell ∷ shown_cells (left - 1) end new
+  shown = let one : left ≡ suc (left - 1) = omega (arith, some) in ap (λ n. shown_cells n end old) one ∙ next
+
+  pub stand_more : (count : ℕ) → StandWithin count (shown_cells left end old)
+      → (cell.start ≤ cell.end) × (cell.end ≤ count) × StandWithin count (shown_cells (left - 1) end new)
+  stand_more count stand = subst (StandWithin count) shown stand
+
+  -- the next
+  pub cells_more : (setting : EventSetting) (before : ℕ) (text : List ℕ) (all : List Cell) (events more here inlines : List RangedEvent)
+      → AreInlineEvents (content_of_cell text cell).text setting inlines
+      → here ≡ element table_cell (before + cell.start) (before + cell.end) (map (placed before (content_of_cell text cell).places) inlines)
+      → more ≡ events ++ here
+      → ((later : List RangedEvent) → AreCellEvents setting before text (shown_cells left end old) later
+      → AreCellEvents setting before text all (events ++ later)) → (later : List RangedEvent)
+      → AreCellEvents setting before text (shown_cells (left - 1) end new) later → AreCellEvents setting before text all (more ++ later)
+  cells_more setting before text all events more here inlines are is added told later rest =
+      let whole : AreCellEvents setting before text (cell ∷ shown_cells (left - 1) end new) (here ++ later) =
+      (inlines, later, are, rest, ap (λ (es : List RangedEvent). es ++ later) is) in
+      subst (λ (es : List RangedEvent). AreCellEvents setting before text all es)
+      (sym (ap (λ (es : List RangedEvent). es ++ later) added ∙ append_assoc events here later))
+      (told (here ++ later) (subst (λ (cs : List Cell). AreCellEvents setting before text cs (here ++ later)) (sym shown) whole))
+
+-- after the last
+pub cells_end : (setting : EventSetting) (before : ℕ) (text : List ℕ) (left end : ℕ) (cells all : List Cell) (events : List RangedEvent) → left ≡ 0
+    → ((later : List RangedEvent) → AreCellEvents setting before text (shown_cells left end cells) later
+    → AreCellEvents setting before text all (events ++ later)) → AreCellEvents setting before text all events
+cells_end setting before text left end cells all events none told =
+    subst (λ (es : List RangedEvent). AreCellEvents setting before text all es) (append-nil events)
+    (told [] (subst (λ n. AreCellEvents setting before text (shown_cells n end cells) []) (sym none) refl))

@@ -1,0 +1,2 @@
+pub mod RestLemmas
+pub mod TaskLaws

@@ -1,0 +1,12 @@
+pub mod Given
+pub mod Iterated
+pub mod LeafContent
+pub mod LeafEvents
+pub mod Levels
+pub mod OpenElements
+pub mod PageEvents
+pub mod Places
+pub mod Settings
+pub mod Spans
+pub mod TableEvents
+pub mod TaskEvents

@@ -1,0 +1,70 @@
+-- The events of a page that are left, while they are given one after another.
+use Rattle.std.specs.Prelude.{ℕ, Bool, ◌≡◌, ◌+◌, ◌*◌, ◌^◌, length, List, [], ◌∷◌, ◌++◌}
+use Rattle.markdown_blocks.specs.events.Events.{Event, starts, leaf, ends}
+use Rattle.markdown_blocks.specs.link_definitions.LinkDefinitions.{Known, known_as}
+use Rattle.markdown_inlines.specs.declared.extensions.InlineExtensions.{InlineExtensions}
+use Rattle.markdown_events.specs.InlineEvents.{RangedEvent}
+use Rattle.markdown_events.specs.Targets.{Targets, or_else}
+use Rattle.markdown_events.specs.page.OpenElements.{OpenElements, begun, ended, passed, place_in, start_events, end_events, next_span}
+use Rattle.markdown_events.specs.page.TaskEvents.{AreBlockEvents, BlockSetting}
+
+-- These are the events of the block events that follow, with these elements open.
+abbrev pub AreEventsFrom : List ℕ → BlockSetting → OpenElements → List Event → List RangedEvent → Type 0
+AreEventsFrom page setting s [] events = events ≡ []
+AreEventsFrom page setting s (starts container place ∷ later) events =
+    (rest : List RangedEvent) × AreEventsFrom page setting (begun container place s) later rest
+    × (events ≡ start_events container place (next_span s.spans) s.elements ++ rest)
+AreEventsFrom page setting s (leaf block ∷ later) events =
+    (here : List RangedEvent) × (rest : List RangedEvent) × AreBlockEvents page setting (place_in s) s.waiting block here
+    × AreEventsFrom page setting (passed block s) later rest × (events ≡ here ++ rest)
+AreEventsFrom page setting s (ends ∷ later) events =
+    (rest : List RangedEvent) × AreEventsFrom page setting (ended s) later rest × (events ≡ end_events s.elements ++ rest)
+
+-- How far the events of a page are given: what it is read with, the events that are ready, the elements that are open after them, and
+-- the block events that follow.
+pub record PageLeft : Type 0 where
+  pub page : List ℕ
+  pub tasks : Bool
+  pub extensions : InlineExtensions
+  pub known : Known
+  pub ready : List RangedEvent
+  pub elements : OpenElements
+  pub blocks : List Event
+
+abbrev pub setting_of : PageLeft → BlockSetting
+setting_of left = record {
+  tasks = left.tasks;
+  texts = record { asked = left.extensions; targets = known_as left.known };
+}
+
+-- the same where labels that the page does not define lead as these say
+abbrev pub setting_with : Targets → PageLeft → BlockSetting
+setting_with more left = record {
+  tasks = left.tasks;
+  texts = record { asked = left.extensions; targets = or_else (known_as left.known) more };
+}
+
+-- the same with other events ready, other elements open and other block events left
+abbrev pub left_with : PageLeft → List RangedEvent → OpenElements → List Event → PageLeft
+left_with old ready elements blocks = record old { ready = ready; elements = elements; blocks = blocks }
+
+-- from here these events are given
+pub record Gives (left : PageLeft) (events : List RangedEvent) : Type 0 where
+  pub rest : List RangedEvent
+  pub are_later : AreEventsFrom left.page (setting_of left) left.elements left.blocks rest
+  pub given : events ≡ left.ready ++ rest
+
+-- the same where labels that the page does not define lead as these say
+pub record GivesWith (more : Targets) (left : PageLeft) (events : List RangedEvent) : Type 0 where
+  pub rest : List RangedEvent
+  pub are_later : AreEventsFrom left.page (setting_with more left) left.elements left.blocks rest
+  pub given : events ≡ left.ready ++ rest
+
+-- a number that each event lowers: a block has fewer than 2 ^ 64 events
+abbrev pub events_left : PageLeft → ℕ
+events_left left = 2 ^ 64 * length left.blocks + length left.ready
+
+-- no event is left
+pub record IsDone (left : PageLeft) : Type 0 where
+  pub none_ready : left.ready ≡ []
+  pub no_blocks : left.blocks ≡ []

@@ -1,0 +1,436 @@
+//! The events of a page, one after another.
+ghost use Rattle.std.specs.Prelude.{◌≡◌, ◌∷◌, ◌<◌, ◌^◌, [], List, drop, false, length, map, IsTrue, IfErr, IfOk, IfSome, IfNone, OnOk};
+ghost use Rattle.markdown_events.specs.EventLaws.{AreBalanced};
+ghost use Rattle.markdown_events.specs.InlineEvents.{RangedEvent, seen_event};
+ghost use Rattle.markdown_blocks.specs.events.Events.{seen_event as seen_block, seen_leaf};
+ghost use Rattle.markdown_events.specs.page.Given.{Gives, GivesWith, IsDone, events_left, left_with, setting_with};
+ghost use Rattle.markdown_events.specs.page.OpenElements.{begun, end_events, ended, next_span, passed, place_in, start_events};
+ghost use Rattle.markdown_events.specs.page.PageEvents.{AreDefinitionsOf, ArePageEvents, ArePageEventsWith, commonmark};
+ghost use Rattle.markdown_events.specs.Targets.{Targets};
+ghost use Rattle.markdown_events.specs.page.Settings.{Explains, asked_by, not_built};
+ghost use Rattle.markdown_events.specs.page.TaskEvents.{AreBlockEvents, task_here};
+
+use crate::definitions::{Definitions, NoBrokenLinks, PageDefinitions};
+use crate::elements::InlineMemory;
+use crate::page::blocks_of::read_page;
+use crate::page::definitions::WithBrokenLinks;
+use crate::page::leaf_events::leaf_events;
+use crate::page::open_elements::{Edge, OpenElements, event_of};
+use crate::page::spans::spans_of;
+use crate::page::task_events::task_events;
+pub use crate::settings::NewError;
+use crate::settings::setting_of;
+use markdown_blocks::containers::{BlockExtensions, Container};
+use markdown_blocks::events::{BlockEvent, Leaf};
+use markdown_blocks::first_blocks::{FirstBlock, Task};
+use markdown_inlines::extensions::InlineExtensions;
+use markdown_values::values::{Event, Options};
+use std::alloc::{AllocError, Global};
+use std::marker::Model;
+use std::ops::Range;
+use std::vec::IntoIter;
+
+/// What a page is read with: whether tables and task list markers are read, and the extensions of
+/// inlines.
+#[derive(Clone, Copy)]
+pub struct PageSetting {
+    /// Tables of rows and cells. (GFM, section 4.10)
+    pub tables: bool,
+    /// The markers of task list items. (GFM, section 5.3)
+    pub tasks: bool,
+    /// The extensions of inlines.
+    pub inlines: InlineExtensions,
+}
+
+impl PageSetting {
+    ghost use Rattle.std.specs.Prelude.{◌≡◌};
+    ghost use Rattle.markdown_events.specs.page.PageEvents.{blocks_of, commonmark};
+
+    /// CommonMark, without extensions.
+    pub fn commonmark() -> PageSetting
+        ensures { result ≡ commonmark }
+    {
+        PageSetting {
+            tables: false,
+            tasks: false,
+            inlines: InlineExtensions::none(),
+        }
+    }
+
+    // The extensions of blocks that it asks for.
+    fn blocks(self) -> BlockExtensions
+        ensures { result ≡ blocks_of self }
+    {
+        BlockExtensions {
+            no_tables: !self.tables,
+            ..BlockExtensions::none()
+        }
+    }
+}
+
+/// The events of a page, from the first to the last, each with the range of its source.
+#[derive(Drop)]
+pub struct EventReader<'a> {
+    alloc: Global,
+    page: &'a str,
+    tasks: bool,
+    extensions: InlineExtensions,
+    definitions: PageDefinitions<'a>,
+    // The block events of the page that are not read, the next at the end.
+    blocks: Vec<BlockEvent<'a>>,
+    elements: OpenElements,
+    // The events that are ready: at most two of containers and lists, and those of a leaf block.
+    first: Option<Edge>,
+    second: Option<Edge>,
+    leaf: IntoIter<(Event<'a>, Range<usize>)>,
+    // The memory in which the inlines of one leaf block after another are read.
+    memory: InlineMemory,
+}
+
+impl<'a> Model for EventReader<'a> {
+    ghost use Rattle.std.specs.Prelude.{◌++◌, map, reverse};
+    ghost use Rattle.std.specs.Option.{option_to_list};
+    ghost use Rattle.std.specs.Vec.Iter.{into_iter_items};
+    ghost use Rattle.markdown_blocks.specs.events.Events.{seen_event as seen_block};
+    ghost use Rattle.markdown_events.specs.InlineEvents.{seen_event};
+    ghost use Rattle.markdown_events.specs.page.Given.{PageLeft};
+    ghost use Rattle.markdown_events.specs.page.OpenElements.{edge_event};
+
+    ghost Value = { PageLeft };
+
+    ghost view = { λ p. record {
+      page = p.page.now;
+      tasks = p.tasks;
+      extensions = p.extensions;
+      known = p.definitions;
+      ready = map edge_event (option_to_list p.first ++ option_to_list p.second)
+          ++ map seen_event (into_iter_items p.leaf);
+      elements = p.elements;
+      blocks = map seen_block (reverse p.blocks.items);
+    } };
+}
+
+impl<'a> EventReader<'a> {
+    /// The events of a page of CommonMark, without extensions.
+    ///
+    /// Memory is asked for by the block events of the page, and by its link reference definitions.
+    ///
+    /// # Errors
+    ///
+    /// `AllocError` where that memory is refused.
+    pub fn new(alloc: Global, text: &'a str) -> Result<EventReader<'a>, AllocError>
+        ensures page { IfOk result (λ reader. (events : List RangedEvent) → Gives reader events
+            → ArePageEvents text.now commonmark events) }
+        ensures balanced { IfOk result (λ reader. (events : List RangedEvent) → Gives reader events
+            → AreBalanced events) }
+        ensures definitions { IfOk result (λ reader.
+            AreDefinitionsOf text.now commonmark reader.known) }
+    {
+        EventReader::with_setting(alloc, text, PageSetting::commonmark())
+    }
+
+    /// The events of a page with these options. Memory is asked for as by `EventReader::new`.
+    ///
+    /// # Errors
+    ///
+    /// `NotBuilt` with those of the options that are not built, where one is, and `Refused` where
+    /// memory is refused.
+    pub fn new_ext(
+        alloc: Global,
+        text: &'a str,
+        options: Options,
+    ) -> Result<EventReader<'a>, NewError>
+        ensures page { IfOk result (λ reader. (events : List RangedEvent) → Gives reader events
+            → ArePageEvents text.now (asked_by options) events) }
+        ensures balanced { IfOk result (λ reader. (events : List RangedEvent) → Gives reader events
+            → AreBalanced events) }
+        ensures definitions { IfOk result (λ reader.
+            AreDefinitionsOf text.now (asked_by options) reader.known) }
+        ensures built { IfOk result (λ _. not_built options ≡ 0) }
+        ensures refused { IfErr result (Explains options) }
+    {
+        let setting = setting_of(options)?;
+        match EventReader::with_setting(alloc, text, setting) {
+            Ok(reader) => Ok(reader),
+            Err(refused) => Err(NewError::Refused(refused)),
+        }
+    }
+
+    /// The events of a page with this setting. Memory is asked for as by `EventReader::new`.
+    ///
+    /// # Errors
+    ///
+    /// `AllocError` where that memory is refused.
+    pub fn with_setting(
+        alloc: Global,
+        page: &'a str,
+        setting: PageSetting,
+    ) -> Result<EventReader<'a>, AllocError>
+        ensures page { IfOk result (λ reader. (events : List RangedEvent) → Gives reader events
+            → ArePageEvents page.now setting events) }
+        ensures balanced { IfOk result (λ reader. (events : List RangedEvent) → Gives reader events
+            → AreBalanced events) }
+        ensures definitions { IfOk result (λ reader.
+            AreDefinitionsOf page.now setting reader.known) }
+        ensures broken { IfOk result (λ reader. (more : Targets) (events : List RangedEvent)
+            → GivesWith more reader events → ArePageEventsWith page.now setting more events) }
+    {
+        let asked = setting.blocks();
+        let (mut blocks, definitions) = read_page(alloc, page, asked)?;
+        let spans = spans_of(alloc, &blocks)?;
+        blocks.reverse();
+        Ok(EventReader {
+            alloc,
+            page,
+            tasks: setting.tasks,
+            extensions: setting.inlines,
+            definitions,
+            blocks,
+            elements: OpenElements::new(alloc, spans),
+            first: None,
+            second: None,
+            leaf: Vec::new(alloc).into_iter(),
+            memory: InlineMemory::new(alloc),
+        })
+    }
+
+    /// The link reference definitions of the page.
+    pub fn reference_definitions(&self) -> &PageDefinitions<'a>
+        ensures { result.now ≡ self.now.known }
+    {
+        &self.definitions
+    }
+
+    /// The next event of the page, with the range of its source, or None after the last.
+    ///
+    /// Memory is asked for as by `content_of` and `inline_events`. After a refusal the same event may
+    /// be asked for again.
+    ///
+    /// # Errors
+    ///
+    /// `AllocError` where memory is refused.
+    pub fn next(&mut self) -> Result<Option<(Event<'a>, Range<usize>)>, AllocError>
+        ensures event { IfOk result (λ found. IfSome found (λ event. (events : List RangedEvent)
+            → Gives self.new events → Gives self.old (seen_event event ∷ events))) }
+        ensures fewer { IfOk result (λ found. IfSome found (λ _.
+            events_left self.new < events_left self.old)) }
+        ensures none { IfOk result (λ found. IfNone found (Gives self.old [])) }
+        ensures done { IfOk result (λ found. IfNone found (IsDone self.new)) }
+        ensures refused { IfErr result (λ _. (events : List RangedEvent)
+            → Gives self.new events → Gives self.old events) }
+        ensures definitions { self.new.known ≡ self.old.known }
+    {
+        self.next_with(&NoBrokenLinks)
+    }
+
+    /// The next event of the page, as `next` gives it, but a label that the page doesn't define leads
+    /// where `broken` says, if it says so of that label. `broken` is asked about each label of the
+    /// page that might be one of a link.
+    ///
+    /// Memory is asked for as by `next`, and by `broken`. After a refusal the same event may be asked
+    /// for again.
+    ///
+    /// # Errors
+    ///
+    /// `AllocError` where memory is refused.
+    pub fn next_with<B: Definitions<'a>>(
+        &mut self,
+        broken: &B,
+    ) -> Result<Option<(Event<'a>, Range<usize>)>, AllocError>
+        ensures event { IfOk result (λ found. IfSome found (λ event. (events : List RangedEvent)
+            → GivesWith (B.targets broken.now) self.new events
+            → GivesWith (B.targets broken.now) self.old (seen_event event ∷ events))) }
+        ensures fewer { IfOk result (λ found. IfSome found (λ _.
+            events_left self.new < events_left self.old)) }
+        ensures none { IfOk result (λ found. IfNone found (
+            GivesWith (B.targets broken.now) self.old [])) }
+        ensures done { IfOk result (λ found. IfNone found (IsDone self.new)) }
+        ensures refused { IfErr result (λ _. (events : List RangedEvent)
+            → GivesWith (B.targets broken.now) self.new events
+            → GivesWith (B.targets broken.now) self.old events) }
+        ensures definitions { self.new.known ≡ self.old.known }
+    {
+        while self.is_waiting() {
+            self.read_block(broken)?;
+        }
+        Ok(self.take_ready())
+    }
+
+    // Whether no event is ready, and block events are left.
+    fn is_waiting(&self) -> bool
+        ensures waiting { IsTrue result
+            → (self.now.ready ≡ []) × (0 < length self.now.blocks) }
+        ensures done { result ≡ false → self.now.ready ≡ [] → self.now.blocks ≡ [] }
+    {
+        self.first.is_none()
+            && self.second.is_none()
+            && self.leaf.len() == 0
+            && !self.blocks.is_empty()
+    }
+
+    // Reads the next block event, so that its events are ready.
+    fn read_block<B: Definitions<'a>>(&mut self, broken: &B) -> Result<(), AllocError>
+        requires waiting { self.old.ready ≡ [] }
+        ensures same { OnOk result ((events : List RangedEvent)
+            → GivesWith (B.targets broken.now) self.new events
+            → GivesWith (B.targets broken.now) self.old events) }
+        ensures fewer { OnOk result (self.new.blocks ≡ drop 1 self.old.blocks) }
+        ensures few { OnOk result (length self.new.ready < 2 ^ 64) }
+        ensures definitions { self.new.known ≡ self.old.known }
+        ensures refused { IfErr result (λ _. self.new ≡ self.old) }
+    {
+        match self.next_block() {
+            Some(BlockEvent::Start(container, place)) => self.read_start(container, place),
+            Some(BlockEvent::Block(leaf)) => self.read_leaf(leaf, broken),
+            Some(BlockEvent::End) => {
+                self.read_end();
+                Ok(())
+            }
+            None => Ok(()),
+        }
+    }
+
+    // The next block event, if one is left.
+    fn next_block(&self) -> Option<BlockEvent<'a>>
+        ensures next { IfSome result (λ block.
+            self.now.blocks ≡ seen_block block ∷ drop 1 self.now.blocks) }
+        ensures none { IfNone result (self.now.blocks ≡ []) }
+    {
+        match self.blocks.last() {
+            Some(block) => Some(*block),
+            None => None,
+        }
+    }
+
+    // Reads the start of a container, which is the next block event.
+    fn read_start(&mut self, container: Container, place: usize) -> Result<(), AllocError>
+        requires waiting { self.old.ready ≡ [] }
+        ensures read { OnOk result (self.new ≡ left_with self.old
+            (start_events container place (next_span self.old.elements.spans)
+            self.old.elements.elements)
+            (begun container place self.old.elements) (drop 1 self.old.blocks)) }
+        ensures refused { IfErr result (λ _. self.new ≡ self.old) }
+    {
+        let (list, start) = self.elements.begin(container, place)?;
+        self.first = list;
+        self.second = Some(start);
+        self.blocks.pop();
+        Ok(())
+    }
+
+    // Reads a leaf block, which is the next block event.
+    fn read_leaf<B: Definitions<'a>>(
+        &mut self,
+        block: Leaf<'a>,
+        broken: &B,
+    ) -> Result<(), AllocError>
+        requires waiting { self.old.ready ≡ [] }
+        ensures read { OnOk result ((here : List RangedEvent)
+            × AreBlockEvents self.old.page (setting_with (B.targets broken.now) self.old)
+            (place_in self.old.elements) self.old.elements.waiting (seen_leaf block.entry) here
+            × (self.new ≡ left_with self.old here (passed (seen_leaf block.entry) self.old.elements)
+            (drop 1 self.old.blocks))) }
+        ensures few { OnOk result (length self.new.ready < 2 ^ 64) }
+        ensures refused { IfErr result (λ _. self.new ≡ self.old) }
+    {
+        let events = self.leaf_events(block, broken)?;
+        self.make_ready(block, events);
+        Ok(())
+    }
+
+    // The events of a leaf block that comes next.
+    fn leaf_events<B: Definitions<'a>>(
+        &mut self,
+        block: Leaf<'a>,
+        broken: &B,
+    ) -> Result<Vec<(Event<'a>, Range<usize>)>, AllocError>
+        ensures events { IfOk result (λ events. AreBlockEvents self.old.page
+            (setting_with (B.targets broken.now) self.old) (place_in self.old.elements)
+            self.old.elements.waiting (seen_leaf block.entry) (map seen_event events.items)) }
+        ensures unchanged { self.new ≡ self.old }
+    {
+        let task = self.task(block);
+        let definitions = WithBrokenLinks::new(&self.definitions, broken);
+        if let Some(task) = task {
+            return task_events(
+                self.alloc,
+                &mut self.memory,
+                self.page,
+                self.extensions,
+                &definitions,
+                self.elements.containers(),
+                self.elements.kept(),
+                self.elements.is_tight(),
+                block,
+                task,
+            );
+        }
+        leaf_events(
+            self.alloc,
+            &mut self.memory,
+            self.page,
+            self.extensions,
+            &definitions,
+            self.elements.containers(),
+            self.elements.kept(),
+            self.elements.is_tight(),
+            block,
+        )
+    }
+
+    // The task list marker that a leaf block begins with that comes next, if they are asked for.
+    fn task(&self, block: Leaf) -> Option<Task>
+        ensures { result
+            ≡ task_here self.now.tasks self.now.elements.waiting (seen_leaf block.entry) }
+    {
+        if !self.tasks {
+            return None;
+        }
+        let container = self.elements.waiting()?;
+        let first = FirstBlock {
+            container,
+            leaf: block,
+        };
+        first.task()
+    }
+
+    // Makes the events of the leaf block that comes next ready, and passes it.
+    fn make_ready(&mut self, block: Leaf, events: Vec<(Event<'a>, Range<usize>)>)
+        requires waiting { self.old.ready ≡ [] }
+        ensures ready { self.new ≡ left_with self.old (map seen_event events.entry.items)
+            (passed (seen_leaf block.entry) self.old.elements) (drop 1 self.old.blocks) }
+        ensures few { length self.new.ready < 2 ^ 64 }
+    {
+        self.leaf = events.into_iter();
+        self.elements.pass(block);
+        self.blocks.pop();
+    }
+
+    // Reads the end of a container, which is the next block event.
+    fn read_end(&mut self)
+        requires waiting { self.old.ready ≡ [] }
+        ensures read { self.new ≡ left_with self.old (end_events self.old.elements.elements)
+            (ended self.old.elements) (drop 1 self.old.blocks) }
+    {
+        let (end, list) = self.elements.end();
+        self.first = end;
+        self.second = list;
+        self.blocks.pop();
+    }
+
+    // The first of the events that are ready.
+    fn take_ready(&mut self) -> Option<(Event<'a>, Range<usize>)>
+        ensures event { IfSome result (λ event.
+            self.old ≡ record self.new { ready = seen_event event ∷ self.new.ready }) }
+        ensures none { IfNone result (self.old.ready ≡ []) }
+        ensures unchanged { IfNone result (self.new ≡ self.old) }
+    {
+        if let Some(edge) = self.first.take() {
+            return Some(event_of(edge));
+        }
+        if let Some(edge) = self.second.take() {
+            return Some(event_of(edge));
+        }
+        self.leaf.next()
+    }
+}

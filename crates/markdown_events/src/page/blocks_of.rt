@@ -1,0 +1,92 @@
+//! The blocks of a page and its link reference definitions, read in one pass.
+ghost use Rattle.std.specs.Prelude.{◌≡◌, ◌++◌, List, ℕ, map, replicate, IfOk, OnOk};
+ghost use Rattle.markdown_blocks.specs.events.Events.{Event, IsEventsOf, ends, seen_event};
+ghost use Rattle.markdown_blocks.specs.events.Given.{GivesBlock};
+ghost use Rattle.markdown_blocks.specs.link_definitions.LinkDefinitions.{Named, HasDefinitions, first_of, known_as};
+
+use crate::page::definitions::PageDefinitions;
+use markdown_blocks::containers::{BlockExtensions, Container};
+use markdown_blocks::events::{BlockEvent, BlockEvents};
+use markdown_blocks::link_definitions::LinkDefinitions;
+use markdown_blocks::taken::Taken;
+use markdown_blocks::walk::Walk;
+use std::alloc::{AllocError, Global};
+
+/// The block events of a page with these extensions on, and its link reference definitions.
+pub(crate) fn read_page<'a>(
+    alloc: Global,
+    page: &'a str,
+    extensions: BlockExtensions,
+) -> Result<(Vec<BlockEvent<'a>>, PageDefinitions<'a>), AllocError>
+    ensures blocks { IfOk result (λ read.
+        IsEventsOf extensions page.now (map seen_event read.0.items)) }
+    ensures first { IfOk result (λ read. (named : List Named)
+        × HasDefinitions extensions page.now named
+        × ((label : List ℕ) → known_as read.1 label ≡ first_of label named)) }
+{
+    read_bytes(alloc, page.as_bytes(), extensions)
+}
+
+// The same of the bytes of the page.
+fn read_bytes<'a>(
+    alloc: Global,
+    page: &'a [u8],
+    extensions: BlockExtensions,
+) -> Result<(Vec<BlockEvent<'a>>, PageDefinitions<'a>), AllocError>
+    ensures blocks { IfOk result (λ read.
+        IsEventsOf extensions page.now (map seen_event read.0.items)) }
+    ensures first { IfOk result (λ read. (named : List Named)
+        × HasDefinitions extensions page.now named
+        × ((label : List ℕ) → known_as read.1 label ≡ first_of label named)) }
+{
+    let mut blocks = Vec::new(alloc);
+    let mut known = LinkDefinitions::new(alloc);
+    let mut walk = Walk::new_ext(alloc, extensions);
+    let mut content = Vec::new(alloc);
+    let mut lines = 0;
+    let mut bytes = 0;
+    loop {
+        let before = Taken { lines, bytes };
+        let depth = walk.containers().len();
+        let Some(step) = walk.next_block(alloc, &mut content, &page[bytes..], true)? else {
+            push_ends(&mut blocks, depth)?;
+            return Ok((blocks, PageDefinitions::new(alloc, known)));
+        };
+        let taken = step.block.taken;
+        known.add_content(&content, step.lines)?;
+        let events = BlockEvents::new(step, before, depth);
+        push_events(&mut blocks, walk.containers(), &content, events)?;
+        lines += taken.lines;
+        bytes += taken.bytes;
+    }
+}
+
+// Adds the events of a block, in these containers and with this content.
+fn push_events<'a>(
+    blocks: &mut Vec<BlockEvent<'a>>,
+    containers: &[Container],
+    content: &[u8],
+    mut events: BlockEvents<'a>,
+) -> Result<(), AllocError>
+    ensures { OnOk result ((given : List Event)
+        × GivesBlock containers.now content.now events.entry given
+        × (map seen_event blocks.new.items ≡ map seen_event blocks.old.items ++ given)) }
+{
+    while let Some(event) = events.next(containers, content) {
+        blocks.push(event)?;
+    }
+    Ok(())
+}
+
+// Adds the ends of so many containers.
+fn push_ends(blocks: &mut Vec<BlockEvent>, count: usize) -> Result<(), AllocError>
+    ensures { OnOk result (map seen_event blocks.new.items
+        ≡ map seen_event blocks.old.items ++ replicate count ends) }
+{
+    let mut left = count;
+    while left > 0 {
+        blocks.push(BlockEvent::End)?;
+        left -= 1;
+    }
+    Ok(())
+}

@@ -1,0 +1,145 @@
+//! The link reference definitions of a page. (CommonMark 0.31.2, section 4.7)
+ghost use Rattle.std.specs.Prelude.{◌≡◌, IfNone, IfOk, IfSome, None, Some};
+ghost use Rattle.markdown_values.specs.strings.Text.{cow_text};
+ghost use Rattle.markdown_blocks.specs.link_definitions.LinkDefinitions.{known_as};
+ghost use Rattle.markdown_events.specs.Meanings.{IsTargetMeaning};
+ghost use Rattle.markdown_events.specs.Targets.{or_else, seen_target};
+
+use crate::definitions::{Definitions, Target};
+use crate::parts::{meaning_of, text_of};
+use markdown_blocks::link_definitions::{LinkDefinition, LinkDefinitions};
+use markdown_values::strings::CowStr;
+use std::alloc::{AllocError, Global};
+use std::marker::Model;
+
+/// The link reference definitions of a page, by their labels: of each label the first. What of them
+/// is a run of the page is lent from it. `find` answers where a label leads as it is written, and
+/// `get` what is meant by that.
+#[derive(Drop)]
+pub struct PageDefinitions<'a> {
+    alloc: Global,
+    known: LinkDefinitions<'a>,
+}
+
+impl<'a> Model for PageDefinitions<'a> {
+    ghost use Rattle.markdown_blocks.specs.link_definitions.LinkDefinitions.{Known};
+
+    ghost Value = { Known };
+
+    ghost view = { λ d. d.known };
+}
+
+impl<'a> PageDefinitions<'a> {
+    /// The definitions that are known of a page.
+    pub(crate) fn new(alloc: Global, known: LinkDefinitions<'a>) -> PageDefinitions<'a>
+        ensures { result ≡ known.entry }
+    {
+        PageDefinitions { alloc, known }
+    }
+
+    /// Where a label leads, if it is defined: the destination and the title of its first definition,
+    /// their backslash escapes and character references resolved. Each run of white space in the
+    /// label is one space, and none stands at its ends; its case doesn't matter.
+    ///
+    /// Memory is asked for the label's case folding, and for a text that isn't a run of the page.
+    ///
+    /// # Errors
+    ///
+    /// `AllocError` where memory is refused.
+    pub fn get(&self, label: &str) -> Result<Option<Target<'a>>, AllocError>
+        ensures found { IfOk result (λ found. IfSome found (λ target.
+            IsTargetMeaning (known_as self.now label.now) (seen_target target))) }
+        ensures none { IfOk result (λ found. IfNone found (known_as self.now label.now ≡ None)) }
+    {
+        match self.find(label)? {
+            Some(written) => Ok(Some(target_meaning(self.alloc, written)?)),
+            None => Ok(None),
+        }
+    }
+}
+
+// What is meant by where a definition leads.
+fn target_meaning<'a>(alloc: Global, written: Target<'a>) -> Result<Target<'a>, AllocError>
+    ensures { IfOk result (λ target.
+        IsTargetMeaning (Some (seen_target written.entry)) (seen_target target)) }
+{
+    let destination = meaning_of(alloc, written.destination)?;
+    let title = match written.title {
+        Some(title) => Some(meaning_of(alloc, title)?),
+        None => None,
+    };
+    Ok(Target { destination, title })
+}
+
+impl<'a> Definitions<'a> for PageDefinitions<'a> {
+    ghost targets = { known_as };
+
+    fn find(&self, label: &str) -> Result<Option<Target<'a>>, AllocError> {
+        match self.known.get(label)? {
+            Some(definition) => Ok(Some(target_of(self.alloc, definition)?)),
+            None => Ok(None),
+        }
+    }
+
+    fn is_defined(&self, label: &str) -> Result<bool, AllocError> {
+        Ok(self.known.get(label)?.is_some())
+    }
+}
+
+/// The definitions of a page, and of labels that it doesn't define those of `broken`.
+#[derive(Drop)]
+pub(crate) struct WithBrokenLinks<'a, 'd, B> {
+    page: &'d PageDefinitions<'a>,
+    broken: &'d B,
+}
+
+impl<'a, 'd, B: Definitions<'a>> WithBrokenLinks<'a, 'd, B> {
+    /// The definitions of a page before these.
+    pub(crate) fn new(page: &'d PageDefinitions<'a>, broken: &'d B) -> WithBrokenLinks<'a, 'd, B>
+        ensures page { result.page.now ≡ page.now }
+        ensures broken { result.broken.now ≡ broken.now }
+    {
+        WithBrokenLinks { page, broken }
+    }
+}
+
+impl<'a, 'd, B: Definitions<'a>> Definitions<'a> for WithBrokenLinks<'a, 'd, B> {
+    ghost targets = { λ it. or_else (known_as it.page.now) (B.targets it.broken.now) };
+
+    fn find(&self, label: &str) -> Result<Option<Target<'a>>, AllocError> {
+        match self.page.find(label)? {
+            Some(target) => Ok(Some(target)),
+            None => self.broken.find(label),
+        }
+    }
+
+    fn is_defined(&self, label: &str) -> Result<bool, AllocError> {
+        if self.page.is_defined(label)? {
+            return Ok(true);
+        }
+        self.broken.is_defined(label)
+    }
+}
+
+// Where a definition leads.
+fn target_of<'a>(alloc: Global, definition: &LinkDefinition<'a>) -> Result<Target<'a>, AllocError>
+    ensures { IfOk result (λ target. seen_target target ≡ definition.now) }
+{
+    let destination = match definition.lent_destination() {
+        Some(lent) => CowStr::from(text_of(lent)?),
+        None => copy_of(alloc, definition.destination())?,
+    };
+    let title = match (definition.lent_title(), definition.title()) {
+        (Some(lent), _) => Some(CowStr::from(text_of(lent)?)),
+        (None, Some(title)) => Some(copy_of(alloc, title)?),
+        (None, None) => None,
+    };
+    Ok(Target { destination, title })
+}
+
+// A copy of a text.
+fn copy_of(alloc: Global, bytes: &[u8]) -> Result<CowStr<'static>, AllocError>
+    ensures { IfOk result (λ copy. cow_text copy ≡ bytes.now) }
+{
+    CowStr::from(text_of(bytes)?).into_static(alloc)
+}

@@ -1,0 +1,209 @@
+//! The content of a leaf block of a page, and what it holds: lines, or inlines.
+ghost use Rattle.std.specs.Prelude.{◌≡◌, ◌≤◌, Bool, List, ℕ, length, take, drop, map, slice_index, IfOk};
+ghost use Rattle.markdown_values.specs.strings.Text.{cow_text};
+ghost use Rattle.markdown_values.specs.values.Events.{event_view};
+ghost use Rattle.markdown_scanners_tree.specs.scanners.TextLines.{lines_of};
+ghost use Rattle.markdown_blocks.specs.content.Content.{IsContent};
+ghost use Rattle.markdown_blocks.specs.events.Events.{seen_leaf};
+ghost use Rattle.markdown_events.specs.InlineEvents.{seen_event};
+ghost use Rattle.markdown_events.specs.page.LeafEvents.{AreLineEvents, AreTextEvents, line_events, lines_in_page, page_range, placed};
+ghost use Rattle.markdown_events.specs.page.LeafContent.{CanPlace, EndWithin, LieInBlock, line_event};
+
+use crate::definitions::Definitions;
+use crate::elements::InlineMemory;
+use crate::inline_events::source_events;
+use crate::page::source::Source;
+use markdown_blocks::containers::Container;
+use markdown_blocks::content::{Content, content_of};
+use markdown_blocks::events::Leaf;
+use markdown_inlines::extensions::InlineExtensions;
+use markdown_scanners_tree::scanners::scan_line;
+use markdown_values::strings::CowStr;
+use markdown_values::values::Event;
+use std::alloc::{AllocError, Global};
+use std::ops::Range;
+
+/// The events of the inlines of a leaf block, with their ranges in the page. Its first line goes on
+/// with `kept` of the containers.
+pub(crate) fn text_events<'a, D: Definitions<'a>>(
+    alloc: Global,
+    memory: &mut InlineMemory,
+    page: &'a str,
+    extensions: InlineExtensions,
+    definitions: &D,
+    containers: &[Container],
+    kept: usize,
+    leaf: Leaf,
+) -> Result<Vec<(Event<'a>, Range<usize>)>, AllocError>
+    ensures events { IfOk result (λ events. (is_tight : Bool) → AreTextEvents page.now
+        (record { asked = extensions; targets = D.targets definitions.now })
+        (record { containers = containers.now; kept = kept; is_tight = is_tight })
+        (seen_leaf leaf.entry) (map seen_event events.items)) }
+    ensures within { IfOk result (λ events.
+        LieInBlock (seen_leaf leaf.entry) (map seen_event events.items)) }
+{
+    let content = content_in(alloc, page, containers, kept, leaf)?;
+    let source = source_in(page, leaf.start, &content)?;
+    let events = source_events(alloc, memory, &source, definitions, extensions)?;
+    Ok(in_page(events, leaf.start, &content))
+}
+
+/// An event for each line of a leaf block, HTML or text, with its range in the page. Its first line
+/// goes on with `kept` of the containers.
+pub(crate) fn code_events<'a>(
+    alloc: Global,
+    page: &'a str,
+    containers: &[Container],
+    kept: usize,
+    leaf: Leaf,
+    is_html: bool,
+) -> Result<Vec<(Event<'a>, Range<usize>)>, AllocError>
+    ensures events { IfOk result (λ events. (is_tight : Bool) → AreLineEvents page.now
+        (record { containers = containers.now; kept = kept; is_tight = is_tight })
+        (seen_leaf leaf.entry) (line_event is_html) (map seen_event events.items)) }
+    ensures within { IfOk result (λ events.
+        LieInBlock (seen_leaf leaf.entry) (map seen_event events.items)) }
+{
+    let content = content_in(alloc, page, containers, kept, leaf)?;
+    let source = source_in(page, leaf.start, &content)?;
+    let events = line_events(alloc, &source, is_html, leaf.lines)?;
+    Ok(in_page(events, leaf.start, &content))
+}
+
+/// The content of a leaf block of the page.
+pub(crate) fn content_in<'a>(
+    alloc: Global,
+    page: &'a str,
+    containers: &[Container],
+    kept: usize,
+    leaf: Leaf,
+) -> Result<Content<'a>, AllocError>
+    ensures content { IfOk result (λ content. IsContent leaf.entry.kind containers.now kept
+        (lines_in_page page.now (seen_leaf leaf.entry)) content) }
+    ensures places { IfOk result (λ content. CanPlace leaf.entry.start content) }
+{
+    let lines = lines_in(page.as_bytes(), leaf);
+    let content = content_of(alloc, lines, leaf.kind, containers, kept)?;
+    Ok(content)
+}
+
+/// The lines of the page that a leaf block has.
+pub(crate) fn lines_in<'a>(page: &'a [u8], leaf: Leaf) -> &'a [u8]
+    ensures { result.now ≡ take leaf.entry.bytes (drop leaf.entry.start page.now) }
+{
+    let start = leaf.start.min(page.len());
+    let end = (leaf.start + leaf.bytes).min(page.len());
+    &page[start..end]
+}
+
+/// A content as a source, whose block begins in the page after so many bytes.
+pub(crate) fn source_in<'a: 'c, 'c>(
+    page: &'a str,
+    before: usize,
+    content: &'c Content<'_>,
+) -> Result<Source<'a, 'c>, AllocError>
+    ensures { IfOk result (λ source. source ≡ content.now.text) }
+{
+    match Source::of_content(page, before, content) {
+        Some(source) => Ok(source),
+        None => Err(not_utf8()),
+    }
+}
+
+/// What is answered where bytes of the page are no text.
+pub(crate) fn not_utf8() -> AllocError {
+    // Not reached: the page is UTF-8, and content is cut at ASCII bytes.
+    AllocError
+}
+
+// An event for each line of a source, which is of a block of so many lines. There is room for them,
+// and for the start and the end of the block.
+fn line_events<'a>(
+    alloc: Global,
+    source: &Source<'a, '_>,
+    is_html: bool,
+    lines: usize,
+) -> Result<Vec<(Event<'a>, Range<usize>)>, AllocError>
+    ensures lines { IfOk result (λ events. map seen_event events.items
+        ≡ line_events (line_event is_html) 0 (lines_of source.now)) }
+    ensures within { IfOk result (λ events.
+        EndWithin (length source.now) (map seen_event events.items)) }
+{
+    let text = source.text().as_bytes();
+    let mut events = Vec::with_capacity(alloc, lines.saturating_add(2))?;
+    let mut from = 0;
+    while from < text.len() {
+        let to = from + scan_line(&text[from..]);
+        let line = source.part(alloc, from, to)?;
+        events.push((line_event(line, is_html), from..to))?;
+        from = to;
+    }
+    Ok(events)
+}
+
+fn line_event(line: CowStr<'_>, is_html: bool) -> Event<'_>
+    ensures { event_view cow_text result ≡ line_event is_html (cow_text line.entry) }
+{
+    if is_html {
+        Event::Html(line)
+    } else {
+        Event::Text(line)
+    }
+}
+
+/// Events of the content with their ranges in the page, in which so many bytes stand before its
+/// block.
+pub(crate) fn in_page<'a>(
+    events: Vec<(Event<'a>, Range<usize>)>,
+    before: usize,
+    content: &Content,
+) -> Vec<(Event<'a>, Range<usize>)>
+    requires places { CanPlace before content.now }
+    requires within { EndWithin (length content.now.text) (map seen_event events.items) }
+    ensures { map seen_event result.items
+        ≡ map (placed before content.now.places) (map seen_event events.entry.items) }
+{
+    let mut events = events;
+    move_to_page(&mut events, before, content);
+    events
+}
+
+// Moves the ranges of events from the content to the page, in which so many bytes stand before its
+// block.
+fn move_to_page(events: &mut [(Event, Range<usize>)], before: usize, content: &Content)
+    requires places { CanPlace before content.now }
+    requires within { EndWithin (length content.now.text) (map seen_event events.old) }
+    ensures { map seen_event events.new
+        ≡ map (placed before content.now.places) (map seen_event events.old) }
+{
+    for event in events.iter_mut() {
+        event.1 = page_range(before, content, event.1.start, event.1.end);
+    }
+}
+
+// The range in the page of a range of the content.
+fn page_range(before: usize, content: &Content, start: usize, end: usize) -> Range<usize>
+    requires places { CanPlace before content.now }
+    requires within { end ≤ length content.now.text }
+    ensures { result ≡ page_range before content.now.places
+        (record { start = start; end = end }) }
+{
+    let from = before + place_in(content, start);
+    if start < end {
+        from..before + place_in(content, end - 1) + 1
+    } else {
+        from..from
+    }
+}
+
+// The place of a byte of the content in the lines of its block.
+fn place_in(content: &Content, offset: usize) -> usize
+    requires { length content.now.places ≡ length content.now.text }
+    ensures { result ≡ slice_index content.now.places offset }
+{
+    if offset < content.text().len() {
+        content.place(offset)
+    } else {
+        0
+    }
+}

@@ -1,0 +1,203 @@
+//! The events of a leaf block. (CommonMark 0.31.2, chapter 4)
+ghost use Rattle.std.specs.Prelude.{◌≡◌, [], ◌∷◌, map, IfOk};
+ghost use Rattle.markdown_values.specs.strings.Text.{cow_text};
+ghost use Rattle.markdown_values.specs.values.Events.{rule};
+ghost use Rattle.markdown_values.specs.values.Tags.{tag_view};
+ghost use Rattle.markdown_blocks.specs.events.Events.{seen_leaf};
+ghost use Rattle.markdown_blocks.specs.info.Info.{info_of};
+ghost use Rattle.markdown_events.specs.InlineEvents.{ranged, seen_event};
+ghost use Rattle.markdown_events.specs.Meanings.{IsMeaning};
+ghost use Rattle.markdown_events.specs.page.LeafContent.{HasPlace, LieInBlock};
+ghost use Rattle.markdown_events.specs.page.LeafEvents.{AreLeafEvents, enclosed, enclosed_lines, in_paragraph, lines_place, plain_heading};
+ghost use Rattle.markdown_events.specs.page.Spans.{block_end};
+
+use crate::definitions::Definitions;
+use crate::elements::InlineMemory;
+use crate::page::element::element;
+use crate::page::leaf_content::{code_events, not_utf8, text_events};
+use crate::page::table_events::table_events;
+use crate::parts::meaning_of;
+use markdown_blocks::blocks::BlockKind;
+use markdown_blocks::containers::Container;
+use markdown_blocks::events::Leaf;
+use markdown_blocks::info::info_of;
+use markdown_inlines::extensions::InlineExtensions;
+use markdown_values::strings::CowStr;
+use markdown_values::values::{CodeBlockKind, Event, HeadingLevel, Tag};
+use std::alloc::{AllocError, Global};
+use std::ops::Range;
+
+/// The events of a leaf block of a page, each with its range in the page. The block stands in these
+/// containers, of which its first line goes on with `kept`, directly in an item of a tight list or
+/// not.
+pub(crate) fn leaf_events<'a, D: Definitions<'a>>(
+    alloc: Global,
+    memory: &mut InlineMemory,
+    page: &'a str,
+    extensions: InlineExtensions,
+    definitions: &D,
+    containers: &[Container],
+    kept: usize,
+    is_tight: bool,
+    leaf: Leaf<'a>,
+) -> Result<Vec<(Event<'a>, Range<usize>)>, AllocError>
+    ensures events { IfOk result (λ events. AreLeafEvents page.now
+        (record { asked = extensions; targets = D.targets definitions.now })
+        (record { containers = containers.now; kept = kept; is_tight = is_tight })
+        (seen_leaf leaf.entry) (map seen_event events.items)) }
+
+    // Each range stands within the lines of the block.
+    ensures within { IfOk result (λ events. HasPlace (seen_leaf leaf.entry)
+        → LieInBlock (seen_leaf leaf.entry) (map seen_event events.items)) }
+{
+    match leaf.kind {
+        BlockKind::Blank | BlockKind::Definition => Ok(Vec::new(alloc)),
+        BlockKind::Break => rule(alloc, leaf),
+        BlockKind::Heading(level) | BlockKind::Setext(level) => {
+            let inner = text_events(
+                alloc,
+                memory,
+                page,
+                extensions,
+                definitions,
+                containers,
+                kept,
+                leaf,
+            )?;
+            enclosed(heading(alloc, level), leaf, inner)
+        }
+        BlockKind::Paragraph => {
+            let inner = text_events(
+                alloc,
+                memory,
+                page,
+                extensions,
+                definitions,
+                containers,
+                kept,
+                leaf,
+            )?;
+            in_paragraph(is_tight, leaf, inner)
+        }
+        BlockKind::Indented => {
+            let inner = code_events(alloc, page, containers, kept, leaf, false)?;
+            enclosed_lines(Tag::CodeBlock(CodeBlockKind::Indented), leaf, inner)
+        }
+        BlockKind::Fenced(_, byte) => {
+            let inner = code_events(alloc, page, containers, kept, leaf, false)?;
+            let info = info_meaning(alloc, leaf.text, byte)?;
+            enclosed_lines(Tag::CodeBlock(CodeBlockKind::Fenced(info)), leaf, inner)
+        }
+        BlockKind::Html(_) => {
+            let inner = code_events(alloc, page, containers, kept, leaf, true)?;
+            enclosed_lines(Tag::HtmlBlock, leaf, inner)
+        }
+        BlockKind::Table(columns) => table_events(
+            alloc,
+            memory,
+            page,
+            extensions,
+            definitions,
+            containers,
+            kept,
+            leaf,
+            columns,
+        ),
+    }
+}
+
+// A thematic break. (4.1)
+fn rule<'a>(alloc: Global, leaf: Leaf) -> Result<Vec<(Event<'a>, Range<usize>)>, AllocError>
+    ensures rule { IfOk result (λ events. map seen_event events.items
+        ≡ ranged rule leaf.entry.place (block_end (seen_leaf leaf.entry)) ∷ []) }
+    ensures within { IfOk result (λ events. HasPlace (seen_leaf leaf.entry)
+        → LieInBlock (seen_leaf leaf.entry) (map seen_event events.items)) }
+{
+    let mut events = Vec::new(alloc);
+    events.push((Event::Rule, leaf.place..leaf.start + leaf.bytes))?;
+    Ok(events)
+}
+
+// What a block holds, between its start and its end.
+fn enclosed<'a>(
+    tag: Tag<'a>,
+    leaf: Leaf,
+    inner: Vec<(Event<'a>, Range<usize>)>,
+) -> Result<Vec<(Event<'a>, Range<usize>)>, AllocError>
+    ensures enclosed { IfOk result (λ events. map seen_event events.items
+        ≡ enclosed (tag_view cow_text tag.entry) (seen_leaf leaf.entry)
+        (map seen_event inner.entry.items)) }
+    ensures within { IfOk result (λ events. HasPlace (seen_leaf leaf.entry)
+        → LieInBlock (seen_leaf leaf.entry) (map seen_event inner.entry.items)
+        → LieInBlock (seen_leaf leaf.entry) (map seen_event events.items)) }
+{
+    element(tag, leaf.place, leaf.start + leaf.bytes, inner)
+}
+
+// Lines of code or HTML, between the start and the end of their block.
+fn enclosed_lines<'a>(
+    tag: Tag<'a>,
+    leaf: Leaf,
+    lines: Vec<(Event<'a>, Range<usize>)>,
+) -> Result<Vec<(Event<'a>, Range<usize>)>, AllocError>
+    ensures enclosed { IfOk result (λ events. map seen_event events.items
+        ≡ enclosed_lines (tag_view cow_text tag.entry) (seen_leaf leaf.entry)
+        (map seen_event lines.entry.items)) }
+    ensures within { IfOk result (λ events. HasPlace (seen_leaf leaf.entry)
+        → LieInBlock (seen_leaf leaf.entry) (map seen_event lines.entry.items)
+        → LieInBlock (seen_leaf leaf.entry) (map seen_event events.items)) }
+{
+    let from = lines_place(leaf, &lines);
+    element(tag, from, leaf.start + leaf.bytes, lines)
+}
+
+// Where a block of lines begins: with its text, or where its first line does. (2.2, 4.6)
+fn lines_place(leaf: Leaf, lines: &[(Event, Range<usize>)]) -> usize
+    ensures { result ≡ lines_place (seen_leaf leaf.entry) (map seen_event lines.now) }
+{
+    match lines {
+        [first, ..] => leaf.place.min(first.1.start),
+        [] => leaf.place,
+    }
+}
+
+/// The inlines of a paragraph, enclosed unless it stands in a tight list. (5.3)
+pub(crate) fn in_paragraph<'a>(
+    is_tight: bool,
+    leaf: Leaf,
+    inner: Vec<(Event<'a>, Range<usize>)>,
+) -> Result<Vec<(Event<'a>, Range<usize>)>, AllocError>
+    ensures enclosed { IfOk result (λ events. map seen_event events.items
+        ≡ in_paragraph is_tight (seen_leaf leaf.entry) (map seen_event inner.entry.items)) }
+    ensures within { IfOk result (λ events. HasPlace (seen_leaf leaf.entry)
+        → LieInBlock (seen_leaf leaf.entry) (map seen_event inner.entry.items)
+        → LieInBlock (seen_leaf leaf.entry) (map seen_event events.items)) }
+{
+    if is_tight {
+        Ok(inner)
+    } else {
+        enclosed(Tag::Paragraph, leaf, inner)
+    }
+}
+
+// The tag of a heading without attributes. (4.2, 4.3)
+fn heading<'a>(alloc: Global, level: HeadingLevel) -> Tag<'a>
+    ensures { tag_view cow_text result ≡ plain_heading level }
+{
+    Tag::Heading {
+        level,
+        id: None,
+        classes: Vec::new(alloc),
+        attrs: Vec::new(alloc),
+    }
+}
+
+// What is meant by the info string behind a fence of this byte. (4.5)
+fn info_meaning<'a>(alloc: Global, fence: &'a [u8], byte: u8) -> Result<CowStr<'a>, AllocError>
+    ensures { IfOk result (λ info. IsMeaning (info_of byte fence.now) (cow_text info)) }
+{
+    match std::str::from_utf8(info_of(fence, byte)) {
+        Ok(info) => meaning_of(alloc, CowStr::from(info)),
+        Err(_) => Err(not_utf8()),
+    }
+}

@@ -1,0 +1,186 @@
+//! What inlines are read from: a text, or the content of a block of a page.
+ghost use Rattle.std.specs.Prelude.{◌≡◌, ◌≤◌, drop, length, slice_range, IfOk, IfSome, IfNone};
+ghost use Rattle.std.specs.Str.{IsCharBoundary, IsUtf8};
+ghost use Rattle.markdown_values.specs.strings.Text.{cow_text};
+
+use crate::parts::part;
+use markdown_blocks::content::Content;
+use markdown_values::strings::CowStr;
+use std::alloc::{AllocError, Global};
+use std::marker::Model;
+use std::str::from_utf8;
+
+/// A text in which inlines are read. Its parts are lent for `'a` where they stand in the page as they
+/// are.
+#[derive(Drop)]
+pub(crate) struct Source<'a, 'c> {
+    text: &'c str,
+    // The same text, where it is one run of the page, or a text of its own.
+    run: Option<&'a str>,
+    // Where its bytes stand, if it is the content of a block.
+    placed: Option<Placed<'a, 'c>>,
+}
+
+// A content, of which so many bytes stand before the text, and its page, of which so many stand before
+// the content's block.
+#[derive(Clone, Copy)]
+struct Placed<'a, 'c> {
+    page: &'a str,
+    before: usize,
+    content: &'c Content<'c>,
+    front: usize,
+}
+
+impl<'a, 'c> Model for Source<'a, 'c> {
+    ghost use Rattle.std.specs.Prelude.{◌≡◌, List, ℕ, IfSome};
+
+    ghost Value = { List ℕ };
+
+    ghost view = { λ s. s.text.now };
+
+    ghost invariant = { λ s. IfSome s.run (λ run. run.now ≡ s.text.now) };
+}
+
+impl<'a: 'c, 'c> Source<'a, 'c> {
+    /// The content of a block of a page, before which so many bytes stand, if it is UTF-8.
+    pub(crate) fn of_content(
+        page: &'a str,
+        before: usize,
+        content: &'c Content<'_>,
+    ) -> Option<Source<'a, 'c>>
+        ensures text { IfSome result (λ source. source ≡ content.now.text) }
+        ensures none { IfNone result (¬ IsUtf8 content.now.text) }
+    {
+        Source::of_rest(page, before, content, 0)
+    }
+
+    /// What such a content has after `front` bytes, if that is UTF-8.
+    ///
+    /// A run of the page is compared with it, and only what is no run is checked for UTF-8.
+    pub(crate) fn of_rest(
+        page: &'a str,
+        before: usize,
+        content: &'c Content<'_>,
+        front: usize,
+    ) -> Option<Source<'a, 'c>>
+        requires { front ≤ length content.now.text }
+        ensures text { IfSome result (λ source. source ≡ drop front content.now.text) }
+        ensures none { IfNone result (¬ IsUtf8 (drop front content.now.text)) }
+    {
+        let rest = &content.text()[front..];
+        let placed = Placed {
+            page,
+            before,
+            content,
+            front,
+        };
+        if let Some(run) = placed.find(rest, 0) {
+            return Some(Source {
+                text: run,
+                run: Some(run),
+                placed: Some(placed),
+            });
+        }
+        match from_utf8(rest) {
+            Ok(text) => Some(Source {
+                text,
+                run: None,
+                placed: Some(placed),
+            }),
+            Err(_) => None,
+        }
+    }
+}
+
+impl<'a, 'c> Source<'a, 'c> {
+    /// A text of its own.
+    pub(crate) fn of_text(text: &'a str) -> Source<'a, 'a>
+        ensures { result ≡ text.now }
+    {
+        Source {
+            text,
+            run: Some(text),
+            placed: None,
+        }
+    }
+
+    /// The text.
+    pub(crate) fn text(&self) -> &'c str
+        ensures { result.now ≡ self.now }
+    {
+        self.text
+    }
+
+    /// The same text, where it is one run of the page, or a text of its own.
+    pub(crate) fn run(&self) -> Option<&'a str>
+        ensures { IfSome result (λ run. run.now ≡ self.now) }
+    {
+        self.run
+    }
+
+    /// What stands from one place up to another, at both of which the text may be cut. It is lent
+    /// where it stands in the page as it is, and else copied.
+    pub(crate) fn part(
+        &self,
+        alloc: Global,
+        start: usize,
+        end: usize,
+    ) -> Result<CowStr<'a>, AllocError>
+        requires begins { IsCharBoundary self.now start }
+        requires ends { IsCharBoundary self.now end }
+        ensures { IfOk result (λ part. cow_text part ≡ slice_range self.now start end) }
+    {
+        match self.run {
+            Some(run) => Ok(CowStr::from(part(run, start, end))),
+            None => self.lend(alloc, CowStr::from(part(self.text, start, end)), start),
+        }
+    }
+
+    /// The same words. They are lent where they stand in the page from the offset in the text on, and
+    /// else have memory of their own.
+    pub(crate) fn lend(
+        &self,
+        alloc: Global,
+        words: CowStr<'c>,
+        offset: usize,
+    ) -> Result<CowStr<'a>, AllocError>
+        ensures { IfOk result (λ lent. cow_text lent ≡ cow_text words.entry) }
+    {
+        match self.find(words.as_str(), offset) {
+            Some(run) => Ok(CowStr::from(run)),
+            None => words.into_static(alloc),
+        }
+    }
+
+    // The run of the page that begins with the byte at the offset in the text, if it is these words.
+    fn find(&self, words: &str, offset: usize) -> Option<&'a str>
+        ensures { IfSome result (λ run. run.now ≡ words.now) }
+    {
+        match &self.placed {
+            Some(placed) => placed.find(words.as_bytes(), offset),
+            None => None,
+        }
+    }
+}
+
+impl<'a, 'c> Placed<'a, 'c> {
+    // The run of the page that begins with the byte at the offset in the text, if it is these bytes.
+    fn find(&self, words: &[u8], offset: usize) -> Option<&'a str>
+        ensures { IfSome result (λ run. run.now ≡ words.now) }
+    {
+        if words.is_empty() {
+            return Some("");
+        }
+        let offset = self.front.saturating_add(offset);
+        if offset >= self.content.text().len() {
+            return None;
+        }
+        let from = self.before.saturating_add(self.content.place(offset));
+        let run = self.page.get(from..from.saturating_add(words.len()))?;
+        if run.as_bytes() == words {
+            Some(run)
+        } else {
+            None
+        }
+    }
+}

@@ -1,0 +1,262 @@
+//! The events of a table. (GitHub Flavored Markdown 0.29, section 4.10)
+ghost use Rattle.std.specs.Prelude.{◌≡◌, ◌+◌, ◌-◌, ◌^◌, ◌<◌, ◌≤◌, ◌∷◌, Bool, true, List, ℕ, suc, length, map, IfOk};
+ghost use Rattle.markdown_values.specs.strings.Text.{cow_text};
+ghost use Rattle.markdown_values.specs.values.Tags.{table_cell, tag_view};
+ghost use Rattle.markdown_blocks.specs.cells.Cells.{cells_of};
+ghost use Rattle.markdown_blocks.specs.cells.Contents.{content_of_cell};
+ghost use Rattle.markdown_blocks.specs.events.Events.{seen_leaf};
+ghost use Rattle.markdown_events.specs.EventLaws.{LieIn};
+ghost use Rattle.markdown_events.specs.InlineEvents.{AreInlineEvents, RangedEvent, seen_event};
+ghost use Rattle.markdown_events.specs.page.LeafContent.{HasPlace, LieInBlock};
+ghost use Rattle.markdown_events.specs.page.Places.{element, placed};
+ghost use Rattle.markdown_events.specs.page.TableEvents.{AreCellEvents, AreRowEvents, AreTableEvents, RowsEndBy, row_len, row_tag, shown_cells};
+
+use crate::definitions::Definitions;
+use crate::elements::InlineMemory;
+use crate::inline_events::source_events;
+use crate::page::element::{element, push_all};
+use crate::page::leaf_content::{in_page, lines_in, source_in};
+use markdown_blocks::cells::{Cell, Cells, cells_of};
+use markdown_blocks::containers::Container;
+use markdown_blocks::content::cell_content;
+use markdown_blocks::events::Leaf;
+use markdown_blocks::rows::{Rows, alignments_of, rows_of};
+use markdown_inlines::extensions::InlineExtensions;
+use markdown_scanners_tree::scanners::line_head;
+use markdown_values::values::{Event, Tag};
+use std::alloc::{AllocError, Global};
+use std::ops::Range;
+
+/// The events of a table with so many columns, each with its range in the page. Its first line goes
+/// on with `kept` of the containers.
+///
+/// The time is linear in the lines and in the events: each row has as many cells as there are
+/// columns, however few its line has.
+pub(crate) fn table_events<'a, D: Definitions<'a>>(
+    alloc: Global,
+    memory: &mut InlineMemory,
+    page: &'a str,
+    extensions: InlineExtensions,
+    definitions: &D,
+    containers: &[Container],
+    kept: usize,
+    leaf: Leaf,
+    columns: usize,
+) -> Result<Vec<(Event<'a>, Range<usize>)>, AllocError>
+    ensures events { IfOk result (λ events. (is_tight : Bool) → AreTableEvents page.now
+        (record { asked = extensions; targets = D.targets definitions.now })
+        (record { containers = containers.now; kept = kept; is_tight = is_tight })
+        (seen_leaf leaf.entry) columns (map seen_event events.items)) }
+    ensures within { IfOk result (λ events. HasPlace (seen_leaf leaf.entry)
+        → LieInBlock (seen_leaf leaf.entry) (map seen_event events.items)) }
+{
+    let lines = lines_in(page.as_bytes(), leaf);
+    let alignments = alignments_of(alloc, lines, containers)?;
+    let rows = rows_of(lines, containers, kept);
+    let inner = rows_events(
+        alloc,
+        memory,
+        page,
+        extensions,
+        definitions,
+        leaf.start,
+        columns,
+        rows,
+    )?;
+    element(
+        Tag::Table(alignments),
+        leaf.place,
+        leaf.start + leaf.bytes,
+        inner,
+    )
+}
+
+// The events of the rows of a table with so many columns, before whose lines so many bytes of the
+// page stand.
+fn rows_events<'a, D: Definitions<'a>>(
+    alloc: Global,
+    memory: &mut InlineMemory,
+    page: &'a str,
+    extensions: InlineExtensions,
+    definitions: &D,
+    before: usize,
+    columns: usize,
+    rows: Rows,
+) -> Result<Vec<(Event<'a>, Range<usize>)>, AllocError>
+    requires { RowsEndBy before (2 ^ 64 - 1) rows }
+    ensures events { IfOk result (λ events. AreRowEvents
+        (record { asked = extensions; targets = D.targets definitions.now })
+        columns before true rows.entry (map seen_event events.items)) }
+    ensures within { IfOk result (λ events. (to : ℕ) → RowsEndBy before to rows.entry
+        → LieIn before to (map seen_event events.items)) }
+{
+    let mut rows = rows;
+    let mut is_head = true;
+    let mut events = Vec::new(alloc);
+    while let Some(row) = rows.next() {
+        let from = before + row.place;
+        push_all(
+            &mut events,
+            row_events(
+                alloc,
+                memory,
+                page,
+                extensions,
+                definitions,
+                from,
+                columns,
+                row.text,
+                is_head,
+            )?,
+        )?;
+        is_head = false;
+    }
+    Ok(events)
+}
+
+// The events of a row with this text, before which so many bytes of the page stand.
+fn row_events<'a, D: Definitions<'a>>(
+    alloc: Global,
+    memory: &mut InlineMemory,
+    page: &'a str,
+    extensions: InlineExtensions,
+    definitions: &D,
+    before: usize,
+    columns: usize,
+    text: &[u8],
+    is_head: bool,
+) -> Result<Vec<(Event<'a>, Range<usize>)>, AllocError>
+    requires { before + length text.now < 2 ^ 64 }
+    ensures events { IfOk result (λ events. (cells : List RangedEvent)
+        × AreCellEvents (record { asked = extensions; targets = D.targets definitions.now })
+        before text.now (shown_cells columns (row_len text.now) (cells_of text.now)) cells
+        × (map seen_event events.items
+        ≡ element (row_tag is_head) before (before + row_len text.now) cells)) }
+    ensures within { IfOk result (λ events.
+        LieIn before (before + length text.now) (map seen_event events.items)) }
+{
+    let inner = cells_events(
+        alloc,
+        memory,
+        page,
+        extensions,
+        definitions,
+        before,
+        columns,
+        text,
+    )?;
+    element(row_tag(is_head), before, before + row_len(text), inner)
+}
+
+// The first row is the head.
+fn row_tag<'a>(is_head: bool) -> Tag<'a>
+    ensures { tag_view cow_text result ≡ row_tag is_head }
+{
+    if is_head {
+        Tag::TableHead
+    } else {
+        Tag::TableRow
+    }
+}
+
+// How many bytes a row has, without the spaces and tabs at its end, and the line ending.
+fn row_len(text: &[u8]) -> usize
+    ensures length { result ≡ row_len text.now }
+    ensures within { result ≤ length text.now }
+{
+    let line = line_head(text);
+    let mut end = line.len();
+    while end > 0 && matches!(line[end - 1], b' ' | b'\t') {
+        end -= 1;
+    }
+    end
+}
+
+// The events of the cells of a row with this text, before which so many bytes of the page stand.
+fn cells_events<'a, D: Definitions<'a>>(
+    alloc: Global,
+    memory: &mut InlineMemory,
+    page: &'a str,
+    extensions: InlineExtensions,
+    definitions: &D,
+    before: usize,
+    columns: usize,
+    text: &[u8],
+) -> Result<Vec<(Event<'a>, Range<usize>)>, AllocError>
+    requires { before + length text.now < 2 ^ 64 }
+    ensures events { IfOk result (λ events. AreCellEvents
+        (record { asked = extensions; targets = D.targets definitions.now })
+        before text.now (shown_cells columns (row_len text.now) (cells_of text.now))
+        (map seen_event events.items)) }
+    ensures within { IfOk result (λ events.
+        LieIn before (before + length text.now) (map seen_event events.items)) }
+{
+    let end = row_len(text);
+    let mut cells = cells_of(text);
+    let mut events = Vec::new(alloc);
+    let mut left = columns;
+    while left > 0 {
+        let cell = next_cell(&mut cells, end);
+        push_all(
+            &mut events,
+            cell_events(
+                alloc,
+                memory,
+                page,
+                extensions,
+                definitions,
+                before,
+                text,
+                cell,
+            )?,
+        )?;
+        left -= 1;
+    }
+    Ok(events)
+}
+
+// The next cell, or an empty one at the end of the row.
+fn next_cell(cells: &mut Cells, end: usize) -> Cell
+    ensures { (columns : ℕ) → shown_cells (suc columns) end cells.old
+        ≡ result ∷ shown_cells columns end cells.new }
+{
+    match cells.next() {
+        Some(cell) => cell,
+        None => Cell { start: end, end },
+    }
+}
+
+// The events of a cell of the row with this text, before which so many bytes of the page stand.
+fn cell_events<'a, D: Definitions<'a>>(
+    alloc: Global,
+    memory: &mut InlineMemory,
+    page: &'a str,
+    extensions: InlineExtensions,
+    definitions: &D,
+    before: usize,
+    text: &[u8],
+    cell: Cell,
+) -> Result<Vec<(Event<'a>, Range<usize>)>, AllocError>
+    requires fits { before + length text.now < 2 ^ 64 }
+    requires in_order { cell.start ≤ cell.end }
+    requires within { cell.end ≤ length text.now }
+    ensures events { IfOk result (λ events. (inlines : List RangedEvent)
+        × AreInlineEvents (content_of_cell text.now cell).text
+        (record { asked = extensions; targets = D.targets definitions.now }) inlines
+        × (map seen_event events.items
+        ≡ element table_cell (before + cell.start) (before + cell.end)
+        (map (placed before (content_of_cell text.now cell).places) inlines))) }
+    ensures within { IfOk result (λ events.
+        LieIn before (before + length text.now) (map seen_event events.items)) }
+{
+    let content = cell_content(alloc, text, cell)?;
+    let source = source_in(page, before, &content)?;
+    let inlines = source_events(alloc, memory, &source, definitions, extensions)?;
+    let inner = in_page(inlines, before, &content);
+    element(
+        Tag::TableCell,
+        before + cell.start,
+        before + cell.end,
+        inner,
+    )
+}

@@ -1,0 +1,42 @@
+//! What a page is read with, by options.
+ghost use Rattle.std.specs.Prelude.{◌≡◌};
+ghost use Rattle.std.specs.Prelude.{IfErr, IfOk};
+ghost use Rattle.markdown_events.specs.page.Settings.{Explains, asked_by, not_built};
+
+use crate::event_reader::PageSetting;
+use bitflags::Flags;
+use markdown_inlines::extensions::InlineExtensions;
+use markdown_values::values::Options;
+use std::alloc::AllocError;
+
+/// Why the events of a page can't be given.
+#[derive(Clone, Copy, Debug)]
+pub enum NewError {
+    /// These of the options are not built.
+    NotBuilt(Options),
+    /// Memory was refused.
+    Refused(AllocError),
+}
+
+// The bits of the options that are not built.
+const NOT_BUILT: u32 = 0xffff_7fe5;
+
+/// What the options ask for, if all of them are built.
+pub(crate) fn setting_of(options: Options) -> Result<PageSetting, NewError>
+    ensures setting { IfOk result (λ setting. setting ≡ asked_by options) }
+    ensures built { IfOk result (λ _. not_built options ≡ 0) }
+    ensures refused { IfErr result (Explains options) }
+{
+    let left = options.bits() & NOT_BUILT;
+    if left != 0 {
+        return Err(NewError::NotBuilt(Options::from_bits_retain(left)));
+    }
+    Ok(PageSetting {
+        tables: options.contains(Options::ENABLE_TABLES),
+        tasks: options.contains(Options::ENABLE_TASKLISTS),
+        inlines: InlineExtensions {
+            strikethrough: options.contains(Options::ENABLE_STRIKETHROUGH),
+            wikilinks: options.contains(Options::ENABLE_WIKILINKS),
+        },
+    })
+}

@@ -1,0 +1,3 @@
+pub mod page
+pub mod printing
+pub mod words

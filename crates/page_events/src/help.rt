@@ -1,0 +1,68 @@
+//! What the program says of itself.
+
+/// What is written on standard error after the name of an option that is not known.
+pub const USAGE: &str = "
+usage: cmark_events [--tables] [--strikethrough] [--wikilinks] [--tasks] [--] [FILE ..]
+       cmark_events -h | --help | --version
+";
+
+/// What `--version` prints.
+pub const VERSION: &str = "cmark_events 0.1.0\n";
+
+/// What `--help` prints.
+pub const HELP: &str = "\
+usage: cmark_events [--tables] [--strikethrough] [--wikilinks] [--tasks] [--] [FILE ..]
+       cmark_events -h | --help | --version
+
+Prints a line for each event of a page of Markdown, in order: how many bytes of the page stand
+before its source, how many before what follows that, and what it is. An element has two events, its
+start and its end, with the same numbers; what it holds stands between them.
+
+  start ELEMENT    an element begins
+  end ELEMENT      the element that began last, and has not ended, ends
+  text TEXT        text, or a line of code; escapes and references are resolved
+  code TEXT        a code span
+  html TEXT        a line of an HTML block
+  inline html TEXT raw HTML in a line
+  soft break       a soft line break
+  hard break       a hard line break
+  rule             a thematic break
+  checked task     the marker of a task list item of GitHub Flavored Markdown, where --tasks asks
+  unchecked task   for them; after it stands what the item's first paragraph has besides
+
+An element is one of
+
+  paragraph        a paragraph; one of a tight list has no events of its own
+  heading LEVEL    a heading
+  block quote      a block quote
+  code block       a code block; its start has the info string after it, if the block is fenced
+  html block       an HTML block
+  list             a list; if it is ordered its start has the number of the first item after it
+  item             a list item
+  table            a table of GitHub Flavored Markdown, where --tables asks for them; its start has the
+                   alignment of each column after it: none, left, center or right
+  table head       the header row of a table; what it holds are cells
+  table row        another row
+  table cell       a cell
+  emphasis         emphasis
+  strong           strong emphasis
+  strikethrough    text that is struck through, where --strikethrough asks for it
+  link             a link or an image; its start has after it how it is written, its destination,
+  image              its title, and of a reference the label: it is written inline, reference,
+                     collapsed, shortcut, autolink, email, wikilink or piped wikilink, the last two
+                     where --wikilinks asks for them
+
+Texts, info strings, labels, destinations and titles stand in quotation marks. Each byte of them
+that is a quotation mark, a backslash or not printable ASCII is printed as \\u00 and two hexadecimal
+digits. Of a page that is not UTF-8 one line is printed instead, not UTF-8.
+
+FILE is a page; - is standard input, and so is no FILE. The lines of the pages follow one another,
+and the bytes of each page are counted from its front. After the word -- all words are files.
+
+A page is read whole before its lines are printed. Where a page can't be read, memory is refused or
+the output can't be written, the program stops and says why on standard error, unless the reader of
+the output has left.
+
+The status is 0 where all is printed, 2 for an option that is not known, and 3 where the program
+stopped.
+";

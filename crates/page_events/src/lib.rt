@@ -1,0 +1,9 @@
+//! What `cmark_events` prints of the events of a page of Markdown.
+#![tactic(auto)]
+
+mod elements;
+pub mod help;
+pub mod page;
+mod printing;
+pub mod program;
+mod words;

@@ -1,0 +1,21 @@
+//! The words of the command line.
+ghost use Rattle.std.specs.Prelude.{◌≡◌};
+ghost use Rattle.page_events.specs.words.Words.{setting_of};
+
+use markdown_events::event_reader::PageSetting;
+use markdown_inlines::extensions::InlineExtensions;
+use page_programs::words::has_option;
+
+/// The extensions that the words ask for.
+pub(crate) fn setting_of(words: &[&str]) -> PageSetting
+    ensures { result ≡ setting_of words.now }
+{
+    PageSetting {
+        tables: has_option(words, "--tables"),
+        tasks: has_option(words, "--tasks"),
+        inlines: InlineExtensions {
+            strikethrough: has_option(words, "--strikethrough"),
+            wikilinks: has_option(words, "--wikilinks"),
+        },
+    }
+}
