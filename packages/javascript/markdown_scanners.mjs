@@ -12,7 +12,7 @@
  *     start.listItem(2); // { delimiter: "-", start: 0, indent: 4 }
  *     page.scanLinkDest(start.place + 4); // { end: 25, start: 21, stop: 24 }
  */
-import { FOOTNOTES, VERSION } from "./lib/c.mjs";
+import { DEFINITION_LISTS, FOOTNOTES, VERSION } from "./lib/c.mjs";
 import { Block, Engine } from "./lib/engine.mjs";
 import { BadModule, isAnswer, ModuleMissing, WrongVersion } from "./lib/errors.mjs";
 import { byteOf, bytesOf, characterOf, flagOf, optionsOf, wrongType } from "./lib/given.mjs";
@@ -61,12 +61,13 @@ export class Scanners {
 
     /**
      * What reads a page that comes piece by piece. Where `footnotes` is true, `[^label]:` begins a footnote definition, as on
-     * GitHub. (3, 4, 5)
-     * @param {{ footnotes?: boolean }} [options]
+     * GitHub; where `definitionLists` is, `:` after a paragraph begins a definition of it. (3, 4, 5)
+     * @param {{ footnotes?: boolean, definitionLists?: boolean }} [options]
      */
     blockReader(options = {}) {
-        const { footnotes = false } = optionsOf(options, "footnotes");
-        return new BlockReader(this.#engine, flagOf("footnotes", footnotes) ? FOOTNOTES : 0);
+        const { footnotes = false, definitionLists = false } = optionsOf(options, "footnotes", "definitionLists");
+        const asked = flagOf("footnotes", footnotes) ? FOOTNOTES : 0;
+        return new BlockReader(this.#engine, flagOf("definitionLists", definitionLists) ? asked + DEFINITION_LISTS : asked);
     }
 
     /**

@@ -23,6 +23,11 @@ ROWS = [
     b"|-|", b"-|-", b"-", b"|a", b"a|b", b"|a|b|", b"a\\|b", b"a\\\\|b", b"|a", b"|", b"||", b"a|b|c", b"|:-:|-:|", b"---|---",
     b"-|-|-", b":-|:-", b"|--|", b"    -|-", b"- | -", b"--", b"a | `b|c`", b"a|b\\", b" a|b ", b"> -|-", b"|- |",
 ]
+# Lines that begin with a task list marker, and lines that do not.
+TASKS = [
+    b"[ ] a", b"[x] b", b"[X]\tc", b"[ ]", b"[x] ", b"[ ]  *d*", b"[y] e", b"[x]f", b"[\t] g", b"[ ] `h`", b"[ ] [i]", b"[ ] \\*j", b"k [x] l", b"[ ] [x] m",
+    b"[x] # n", b"[ ]     o",
+]
 # What cmark 0.30.2 and cmark-gfm are known to see in another way, and bytes that are not UTF-8.
 ODD = [
     b"<!a", b"<!a>", b"<![cdata[", b"<pre/>", b"<SCRIPT/>", b"<search>", b"</source>", b"#\f", b"##\v#", b"\f", b" \v", b":-", b"-:", b":-:",
@@ -32,6 +37,14 @@ ODD = [
 BY_OLDER_RULES = re.compile(rb"<b|</(?:b|pre|style|h7)|<textarea")
 WITH_ROWS = [it for it in LINES if not BY_OLDER_RULES.match(it)] + 3 * ROWS
 WITH_ODD = LINES + ODD
+WITH_TASKS = LINES + 4 * TASKS
+
+# What made paragraphs are made of, and what stands after them: a definition of a label that they have.
+PARTS = [
+    b"*", b"**", b"***", b"_", b"__", b"`", b"``", b"[", b"]", b"![", b"](", b")", b"[]", b"[a]", b"](b", b"<", b">", b"<c>", b"<!--", b"-->", b"&",
+    b"&amp;", b' "d")', b" ", b"  ", b"\\", b"e", b"f", b"\n", b"\n> ", b"<g@h>", b"<ij:k>", b"~~", b"\t", b"\xc2\xa0", b"\xe2\x80\x9c",
+]
+DEFINITION = b"\n\n[a]: /l 'm'\n"
 
 EXAMPLE = re.compile(rb'let original = r##"(.*?)"##;', re.S)
 MARKDOWN = re.compile(r".*\.(?:md|markdown|mkd|mdown)(?:\.gz|\.xz)?", re.I)
@@ -49,6 +62,12 @@ def made(lines, seed, count):
     """So many pages of such lines, the same for a seed each time."""
     chosen = random.Random(seed)
     return [made_page(chosen, lines) for _ in range(count)]
+
+
+def made_paragraphs(seed, count):
+    """So many pages of a paragraph and a definition, the same for a seed each time."""
+    chosen = random.Random(seed)
+    return [b"b" + b"".join(chosen.choices(PARTS, k=chosen.randint(1, 16))) + DEFINITION for _ in range(count)]
 
 
 def examples(path):

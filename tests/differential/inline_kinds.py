@@ -25,8 +25,8 @@ def has_symbol(text):
 
 
 def has_runs(text):
-    """That there are three delimiter runs of `_` or more, not all as long."""
-    runs = re.findall(rb"_+", text)
+    """That there are three delimiter runs of `_` or more, not all as long, of what isn't escaped."""
+    runs = re.findall(rb"_+", re.sub(rb"\\[!-/:-@[-`{-~]", b"\\\\", text))
     return len(runs) > 2 and len({len(it) for it in runs}) > 1
 
 

@@ -18,7 +18,7 @@ READS = None
 # What is said of an option that is not known.
 USAGE = (
     b"cmark_blocks: unknown option --hepl\n"
-    b"usage: cmark_blocks [--json] [--footnotes] [--] [FILE ..]\n       cmark_blocks -h | --help | --version\n"
+    b"usage: cmark_blocks [--json] [--footnotes] [--definition-lists] [--] [FILE ..]\n       cmark_blocks -h | --help | --version\n"
 )
 HELP = (TOP / "crates/cmark_blocks/help.txt").read_bytes()
 VERSION = b"cmark_blocks " + (TOP / "VERSION").read_bytes()

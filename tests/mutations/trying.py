@@ -26,7 +26,7 @@ TELLERS = {
     "markdown_blocks": ["run cmark_blocks", "tests cmark_vectors_programs"],
     "markdown_inlines": ["tests cmark_vectors_programs"],
     "markdown_events": ["tests markdown_events"],
-    "page_programs": ["run cmark_blocks", "run cmark_inlines", "tests cmark_vectors_programs"],
+    "page_programs": ["run cmark_blocks", "run cmark_inlines", "run cmark_events", "tests cmark_vectors_programs"],
     "page_blocks": ["run cmark_blocks", "tests cmark_vectors_programs"],
 }
 

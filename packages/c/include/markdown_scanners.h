@@ -608,12 +608,14 @@ enum mds_block_kind {
     MDS_BLOCK_TABLE = 10,      /* a table (GitHub Flavored Markdown 0.29, 4.10) */
     MDS_BLOCK_DEFINITION = 11, /* a link reference definition (4.7) */
     MDS_BLOCK_PARAGRAPH = 12,  /* a paragraph (4.8) */
-    MDS_BLOCK_FOOTNOTE = 13    /* a footnote definition begins, a container, where it is asked for */
+    MDS_BLOCK_FOOTNOTE = 13,   /* a footnote definition begins, a container, where it is asked for */
+    MDS_BLOCK_TERM_DEFINITION = 14 /* a definition of the term before it begins, a container, where it is asked for */
 };
 
 /* Extensions of CommonMark's blocks. Each is a bit; those that are asked for are given as their sum. */
 enum mds_block_extension {
-    MDS_FOOTNOTES = 1 /* `[^label]:` begins a footnote definition, as on GitHub: it goes on with blank lines, and behind four columns */
+    MDS_FOOTNOTES = 1, /* `[^label]:` begins a footnote definition, as on GitHub: it goes on with blank lines, and behind four columns */
+    MDS_DEFINITION_LISTS = 2 /* a paragraph is a term where `:` begins a definition of it, at once or after one blank line */
 };
 
 /* A container that begins, the end of one, or a leaf block. */
@@ -621,7 +623,7 @@ struct mds_block {
     uint32_t kind;       /* of enum mds_block_kind */
     uint32_t number;     /* the level of a heading; the start of a list item; of HTML its kind, of enum mds_html_kind */
     uint8_t byte;        /* of a list item its bullet or delimiter; of fenced code the byte of its fence */
-    uint8_t width;       /* of a list item how many columns its later lines are indented by */
+    uint8_t width;       /* of a list item or a definition of a term how many columns its later lines are indented by */
     size_t count;        /* of fenced code how many bytes its fence has; of a table how many columns it has; see mds_block_line */
     size_t indent;       /* of a leaf block the columns of space in its first line after its containers, at most four */
     size_t line, lines;  /* of a leaf block how many lines of the page stand before it, and how many it has */
@@ -680,7 +682,7 @@ struct mds_text mds_block_content(
 struct mds_open_blocks {
     size_t depth;        /* how many containers are open: so many at the front of the caller's array */
     uint32_t extensions; /* bits of enum mds_block_extension, the same for a whole page */
-    uint32_t state;      /* is kept for extensions to come: a call leaves it as it is */
+    uint32_t state;      /* 1 where a term stands before the next block, which a definition may follow, and else 0 */
 };
 
 /* The containers of a block, where the status is MDS_OK or MDS_TOO_SHORT. */
@@ -699,16 +701,16 @@ struct mds_line_block {
  *
  * `containers` is an array of the caller's, of which `open->depth` at the front are open, outermost first. Where the status is
  * MDS_OK those that are open after the block are written there, and their number to `open->depth`. They are as mds_block_content
- * takes them, with `kept`; those that begin have the place of their marker, and the others 0; and `count` is 1 of an item of which
- * one line is read, that is blank after its marker. At the end of the page those that are open end. With another status all is
- * left as it was.
+ * takes them, with `kept`; those that begin have the place of their marker, and the others 0; and `count` is 1 of an item or a
+ * definition of a term of which one line is read, that is blank after its marker. At the end of the page those that are open end.
+ * With another status all is left as it was.
  *
  * All is as mds_scan_blocks tells it of the whole page, but that a paragraph which begins with link reference definitions is one
  * block: they stand at the front of its content, where mds_scan_reference_definition reads them.
  *
  * MDS_TOO_SHORT where the array has no room for `depth` containers. MDS_BAD_KIND where an unknown bit is set, MDS_BAD_STATE where
- * `open->depth` is above `capacity`, or what is open there is no container. Memory is asked for, for the containers and while
- * the block is read: MDS_NO_MEMORY. (3, 4, 5)
+ * `open->depth` is above `capacity`, `open->state` above 1, or what is open there is no container. Memory is asked for, for the
+ * containers and while the block is read: MDS_NO_MEMORY. (3, 4, 5)
  *
  *     struct mds_block containers[2], block;
  *     struct mds_open_blocks open = {0, 0, 0};

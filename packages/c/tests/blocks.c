@@ -272,7 +272,7 @@ static void refusals(void) {
     refused(__LINE__, block, MDS_BLOCK_QUOTE, MDS_OK);
     refused(__LINE__, block, MDS_BLOCK_ITEM, MDS_OK);
     for (uint32_t kind = 0; kind < 16; kind++)
-        refused(__LINE__, block, kind, kind == 1 || kind == 2 || kind == 13 ? MDS_OK : MDS_BAD_KIND);
+        refused(__LINE__, block, kind, kind == 1 || kind == 2 || kind == 13 || kind == 14 ? MDS_OK : MDS_BAD_KIND);
     refused(__LINE__, block, UINT32_MAX, MDS_BAD_KIND);
     block.bytes = 6, refused(__LINE__, block, MDS_BLOCK_QUOTE, MDS_OK);
     block.bytes = 7, refused(__LINE__, block, MDS_BLOCK_QUOTE, MDS_PAST_END);
@@ -308,18 +308,24 @@ static struct mds_line_block line_in(
     return mds_block_line(given(BYTES, text, length), length, true, containers, capacity, open, block);
 }
 
-/* What is refused, and that all is left as it was then. */
-static void refused_line(int line, uint32_t kind, size_t depth, uint32_t extensions, size_t capacity, uint32_t status) {
-    struct mds_open_blocks open = {depth, extensions, 7};
+/* What is refused in this state, and that all is left as it was then; behind a paragraph a term stands where it is asked for. */
+static void refused_in(int line, uint32_t state, uint32_t kind, size_t depth, uint32_t extensions, size_t capacity, uint32_t status) {
+    struct mds_open_blocks open = {depth, extensions, state};
     struct mds_block block = {.kind = 99};
     struct mds_line_block found = line_in("> > a", 5, kind, capacity, &open, &block);
     const struct mds_block *containers = (const void *)(at_front ? whole(BUFFER) : whole(BUFFER) + ROOM_SIZE - capacity * sizeof(block));
     same(line, "status", found.status, status);
     same(line, "block", block.kind, status == MDS_OK ? MDS_BLOCK_PARAGRAPH : 99);
     same(line, "depth", found.depth, status == MDS_OK || status == MDS_TOO_SHORT ? 2 : 0);
-    same(line, "open", open.depth, status == MDS_OK ? 2 : depth), same(line, "state", open.state, 7);
+    same(line, "open", open.depth, status == MDS_OK ? 2 : depth), same(line, "extensions", open.extensions, extensions);
+    same(line, "state", open.state, status == MDS_OK ? extensions / MDS_DEFINITION_LISTS : state);
     for (size_t i = 0; i < capacity; i++)
         same(line, "a container", containers[i].kind, status == MDS_OK && i < 2 ? MDS_BLOCK_QUOTE : kind);
+}
+
+static void refused_line(int line, uint32_t kind, size_t depth, uint32_t extensions, size_t capacity, uint32_t status) {
+    for (uint32_t state = 0; state < 2; state++)
+        refused_in(line, state, kind, depth, extensions, capacity, status);
 }
 
 static void refused_lines(void) {
@@ -328,9 +334,11 @@ static void refused_lines(void) {
     for (size_t depth = 0; depth < 5; depth++)
         refused_line(__LINE__, MDS_BLOCK_ITEM, depth, MDS_FOOTNOTES, 3, depth > 3 ? MDS_BAD_STATE : MDS_OK);
     for (uint32_t kind = 0; kind < 16; kind++)
-        refused_line(__LINE__, kind, 3, 0, 3, kind == 1 || kind == 2 || kind == 13 ? MDS_OK : MDS_BAD_STATE);
+        refused_line(__LINE__, kind, 3, 0, 3, kind == 1 || kind == 2 || kind == 13 || kind == 14 ? MDS_OK : MDS_BAD_STATE);
+    for (uint32_t asked = 0; asked < 4; asked++)
+        refused_line(__LINE__, MDS_BLOCK_QUOTE, 1, asked, 2, MDS_OK), refused_in(__LINE__, 2, MDS_BLOCK_QUOTE, 1, asked, 2, MDS_BAD_STATE);
     refused_line(__LINE__, MDS_BLOCK_END, SIZE_MAX, 0, 2, MDS_BAD_STATE);
-    for (uint32_t bit = 2; bit > 0; bit *= 2)
+    for (uint32_t bit = 4; bit > 0; bit *= 2)
         refused_line(__LINE__, MDS_BLOCK_QUOTE, 0, bit, 2, MDS_BAD_KIND), refused_line(__LINE__, 0, 9, bit + 1, 2, MDS_BAD_KIND);
 }
 
@@ -357,6 +365,7 @@ static void open_items(void) {
     in_items(__LINE__, "a\n", false, 2, 0, 0, 0, MDS_BLOCK_PARAGRAPH);
     in_items(__LINE__, "[^a]: b\n", false, 0, 0, 0, 0, MDS_BLOCK_PARAGRAPH);
     in_items(__LINE__, "[^a]: b\n", false, 0, MDS_FOOTNOTES, 0, 1, MDS_BLOCK_PARAGRAPH);
+    in_items(__LINE__, ": a\n", false, 0, MDS_DEFINITION_LISTS, 0, 0, MDS_BLOCK_PARAGRAPH);
     struct mds_open_blocks open = {0, 0, 0};
     struct mds_block block, item;
     SAME(mds_block_line(OF("-\n\n"), false, &item, 1, &open, &block).status, MDS_OK);
@@ -364,6 +373,24 @@ static void open_items(void) {
     SAME(mds_block_line(OF("\n  foo\n"), false, &item, 1, &open, &block).kept, 0), SAME(open.depth, 0);
     SAME(mds_block_line(OF(""), false, &item, 1, &open, &block).status, MDS_NOTHING);
     SAME(mds_block_line(NULL, 0, true, NULL, 0, &open, &block).status, MDS_NOTHING);
+}
+
+/* A term, a blank line, and two definitions of the term, of which the first begins with a blank line. */
+static void open_terms(void) {
+    struct mds_open_blocks open = {0, MDS_DEFINITION_LISTS, 0};
+    struct mds_block block, definition;
+    SAME(mds_block_line(OF("a\n\n:\n"), false, &definition, 1, &open, &block).status, MDS_OK);
+    SAME(open.depth, 0), SAME(block.kind, MDS_BLOCK_PARAGRAPH), SAME(open.state, 1);
+    SAME(mds_block_line(OF("\n:\n"), false, &definition, 1, &open, &block).status, MDS_OK);
+    SAME(open.depth, 0), SAME(block.kind, MDS_BLOCK_BLANK), SAME(open.state, 1);
+    SAME(mds_block_line(OF(":\n  b\n"), false, &definition, 1, &open, &block).status, MDS_OK);
+    SAME(open.depth, 1), SAME(block.kind, MDS_BLOCK_BLANK), SAME(open.state, 0);
+    SAME(definition.kind, MDS_BLOCK_TERM_DEFINITION), SAME(definition.count, 1), SAME(definition.width, 1), SAME(definition.place, 0);
+    SAME(mds_block_line(OF("  b\n : c"), false, &definition, 1, &open, &block).status, MDS_NOTHING);
+    SAME(mds_block_line(OF("  b\n: c\n"), false, &definition, 1, &open, &block).kept, 1);
+    SAME(open.depth, 1), SAME(block.kind, MDS_BLOCK_PARAGRAPH), SAME(block.lines, 1), SAME(open.state, 1), SAME(definition.count, 0);
+    SAME(mds_block_line(OF(": c\n"), true, &definition, 1, &open, &block).kept, 0);
+    SAME(open.depth, 1), SAME(block.kind, MDS_BLOCK_PARAGRAPH), SAME(definition.width, 2);
 }
 
 static uint64_t seed = 9;
@@ -438,7 +465,7 @@ static void wrong_numbers(void) {
 int main(void) {
     for (size_t front = 0; front < 2; front++) {
         at_front = front;
-        examples(), places(), refusals(), refused_lines(), open_items();
+        examples(), places(), refusals(), refused_lines(), open_items(), open_terms();
     }
     made_pages(), wrong_numbers();
     return report("blocks");

@@ -50,8 +50,10 @@ export const BLOCK_TABLE = 10;
 export const BLOCK_DEFINITION = 11;
 export const BLOCK_PARAGRAPH = 12;
 export const BLOCK_FOOTNOTE = 13;
+export const BLOCK_TERM_DEFINITION = 14;
 
 export const FOOTNOTES = 1;
+export const DEFINITION_LISTS = 2;
 
 export const INLINE_TEXT = 0;
 export const INLINE_ESCAPE = 1;

@@ -8,7 +8,8 @@ import { Source } from "./source.mjs";
 /** @typedef {{ kind: "quote", place: number }} BlockQuote its marker stands at the place (5.1) */
 /** @typedef {{ kind: "item", place: number, delimiter: string, start: number, width: number }} Item (5.2) */
 /** @typedef {{ kind: "footnote", place: number }} Footnote a footnote definition, where it is asked for (GitHub) */
-/** @typedef {BlockQuote | Item | Footnote} Container */
+/** @typedef {{ kind: "termDefinition", place: number, width: number }} TermDefinition of the paragraph before it, where it is asked for */
+/** @typedef {BlockQuote | Item | Footnote | TermDefinition} Container */
 /** @typedef {{ delimiter: string, start: number, isLoose: boolean, depth: number, line: number, lines: number }} List (5.3) */
 
 /** @type {Record<number, BlockKind>} */
@@ -252,6 +253,7 @@ export class Pages extends Source {
 export function containerOf(told, place) {
     if (told.kind === c.BLOCK_QUOTE) return { kind: "quote", place };
     if (told.kind === c.BLOCK_FOOTNOTE) return { kind: "footnote", place };
+    if (told.kind === c.BLOCK_TERM_DEFINITION) return { kind: "termDefinition", place, width: told.width };
     return { kind: "item", place, delimiter: String.fromCharCode(told.byte), start: told.number, width: told.width };
 }
 

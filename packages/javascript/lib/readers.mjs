@@ -30,6 +30,8 @@ export class BlockReader {
     #room = new Uint8Array(8 * SIZE);
     /** @type {{ struct: Uint8Array, container: import("./pages.mjs").Container }[]} */
     #open = [];
+    /** Whether a term stands before the next block. */
+    #state = 0;
     /** How much of the page is told. */
     #start = 0;
     #line = 0;
@@ -92,7 +94,7 @@ export class BlockReader {
             this.#engine.bring(text);
             const capacity = this.#room.length / SIZE;
             const room = this.#engine.room(this.#room.length);
-            const open = this.#engine.rows("openBlocks", [{ depth: this.#open.length, extensions: this.#extensions, state: 0 }]);
+            const open = this.#engine.rows("openBlocks", [{ depth: this.#open.length, extensions: this.#extensions, state: this.#state }]);
             const block = this.#engine.room(SIZE);
             heap.bytes.set(this.#room, room);
             const { status, kept, depth } = calls.blockLine(text.address + at, this.#size, hasEnded, room, capacity, open, block);
@@ -103,6 +105,7 @@ export class BlockReader {
             } else if (!isAnswer(status)) return null;
             else {
                 this.#room.set(heap.bytes.subarray(room, room + depth * SIZE));
+                this.#state = this.#engine.read("openBlocks", open).state;
                 const begun = Array.from({ length: depth - kept }, (_, it) => this.#engine.read("block", room + (kept + it) * SIZE));
                 return { kept, begun, leaf: this.#engine.read("block", block), struct: heap.bytes.slice(block, block + SIZE) };
             }

@@ -44,6 +44,16 @@ test("a paragraph that begins with definitions is one block, and footnotes are a
     assert.throws(() => reader.feed(1), TypeError);
 });
 
+test("definition lists are asked for", () => {
+    const page = "apple\n\n: red\n: round\n  fruit";
+    const reader = scanners.blockReader({ definitionLists: true });
+    const found = [...page].flatMap((it) => reader.feed(it));
+    const containers = [...found, ...reader.close()].map((it) => it.containers);
+    const definition = (/** @type {number} */ place) => [{ kind: "termDefinition", place, width: 2 }];
+    assert.deepEqual(containers, [[], [], definition(7), definition(13)]);
+    assert.throws(() => scanners.blockReader({ definitionLists: 1 }), TypeError);
+});
+
 test("deep nesting, and a long block", () => {
     const reader = scanners.blockReader();
     const found = reader.feed(">".repeat(1000));

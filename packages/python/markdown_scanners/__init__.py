@@ -100,7 +100,8 @@ from .line_scanners import (
     scan_while,
     scan_whitespace_in_line,
 )
-from .pages import Block, BlockKind, BlockQuote, Container, FootnoteDefinition, Item, ListBlock, scan_blocks, scan_lists
+from .pages import Block, BlockKind, BlockQuote, Container, FootnoteDefinition, Item, ListBlock, TermDefinition
+from .pages import scan_blocks, scan_lists
 from .readers import BlockReader, read_blocks
 from .runs import CallKind, LineAnswer, line_rest, run_inline_html, run_line
 from .skips import Skips
@@ -151,6 +152,7 @@ __all__ = [
     "StoppedError",
     "TableHead",
     "Tag",
+    "TermDefinition",
     "TooLargeError",
     "Underline",
     "calc_indent",

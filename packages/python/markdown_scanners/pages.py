@@ -55,7 +55,14 @@ class FootnoteDefinition(NamedTuple):
     place: int  #: where its marker stands
 
 
-Container = Union[BlockQuote, Item, FootnoteDefinition]
+class TermDefinition(NamedTuple):
+    """A definition of a term, the paragraph before it or before another one of it, where it is asked for. (pulldown-cmark)"""
+
+    place: int  #: where its marker stands
+    width: int  #: how many columns its later lines are indented by
+
+
+Container = Union[BlockQuote, Item, FootnoteDefinition, TermDefinition]
 
 
 class Block(Generic[Made]):
@@ -170,6 +177,8 @@ def _leaves(page: tuple[Any, int, Optional[int]], origin: int, blocks: Any, coun
 def container_of(place: int, it: Any) -> Container:
     if it.kind == _c.BLOCK_FOOTNOTE:
         return FootnoteDefinition(place)
+    if it.kind == _c.BLOCK_TERM_DEFINITION:
+        return TermDefinition(place, it.width)
     return BlockQuote(place) if it.kind == _c.BLOCK_QUOTE else Item(place, it.byte, it.number, it.width)
 
 

@@ -33,11 +33,13 @@ class BlockReader:
 
     __slots__ = ("_pieces", "_size", "_wanted", "_ready", "_open", "_room", "_containers", "_began", "_start", "_line")
 
-    def __init__(self, *, footnotes: bool = False) -> None:
+    def __init__(self, *, footnotes: bool = False, definition_lists: bool = False) -> None:
         self._pieces: list[bytes] = []  # what is not told yet
         self._size = self._wanted = 0  # how many bytes these have, and have to have before they are read again
         self._ready: list[Block[bytes]] = []  # what is told and not answered, as memory was refused then
-        self._open = _c.OpenBlocks(0, _c.FOOTNOTES if flag("footnotes", footnotes) else 0, 0)
+        asked = _c.FOOTNOTES if flag("footnotes", footnotes) else 0
+        asked |= _c.DEFINITION_LISTS if flag("definition_lists", definition_lists) else 0
+        self._open = _c.OpenBlocks(0, asked, 0)
         self._room = (_c.Block * 8)()
         self._containers: tuple[Container, ...] = ()
         self._began: tuple[Any, ...] = ()
@@ -95,14 +97,14 @@ class BlockReader:
         return block
 
 
-def read_blocks(pieces: Iterable[Buffer], *, footnotes: bool = False) -> Iterator[Block[bytes]]:
+def read_blocks(pieces: Iterable[Buffer], *, footnotes: bool = False, definition_lists: bool = False) -> Iterator[Block[bytes]]:
     r"""The leaf blocks of a page that comes in pieces, as a file open for reading bytes has lines, with memory for the longest
     block and the deepest nesting. See `BlockReader`.
 
     >>> [(it.kind.name, it.line, it.content()) for it in read_blocks([b"# A\n\nb", b"\nc"])]
     [('HEADING', 0, b'A'), ('BLANK', 1, b''), ('PARAGRAPH', 2, b'b\nc')]
     """
-    reader = BlockReader(footnotes=footnotes)
+    reader = BlockReader(footnotes=footnotes, definition_lists=definition_lists)
     for piece in pieces:
         yield from reader.feed(piece)
     yield from reader.close()

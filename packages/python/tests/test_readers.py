@@ -2,7 +2,7 @@
 import unittest
 
 import markdown_scanners as mds
-from markdown_scanners import BlockKind, BlockReader, FootnoteDefinition, read_blocks
+from markdown_scanners import BlockKind, BlockReader, FootnoteDefinition, TermDefinition, read_blocks
 from test_blocks import rows
 
 
@@ -59,6 +59,14 @@ class Readers(unittest.TestCase):
         self.assertEqual([it.content() for it in blocks], [b"b", b"", b"c"])
         self.assertEqual([it.containers for it in read_blocks(page)], [()] * 3)
 
+    def test_definition_lists_are_asked_for(self):
+        page = [b"apple\n\n: red\n: round\n", b"  fruit"]
+        blocks = list(read_blocks(page, definition_lists=True))
+        self.assertEqual([it.containers for it in blocks], [(), (), (TermDefinition(7, 2),), (TermDefinition(13, 2),)])
+        self.assertEqual([(it.content(), it.kept) for it in blocks], [(b"apple", 0), (b"", 0), (b"red", 0), (b"round\nfruit", 0)])
+        self.assertEqual([it.containers for it in read_blocks(page)], [()] * 3)
+        self.assertEqual([it.containers for it in read_blocks(page, footnotes=True)], [()] * 3)
+
     def test_deep_and_long(self):
         reader = BlockReader()
         found = reader.feed(b">" * 1000)
@@ -71,3 +79,4 @@ class Readers(unittest.TestCase):
         for given in ("a", 1, None):
             self.assertRaises(TypeError, BlockReader().feed, given)
         self.assertRaises(TypeError, BlockReader, footnotes=1)
+        self.assertRaises(TypeError, BlockReader, definition_lists=1)

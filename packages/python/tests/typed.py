@@ -26,7 +26,7 @@ def of_bytes(page: bytes) -> None:
 
 
 def of_pieces(pieces: list[bytes]) -> None:
-    assert_type(mds.read_blocks(pieces, footnotes=True), Iterator[mds.Block[bytes]])
+    assert_type(mds.read_blocks(pieces, footnotes=True, definition_lists=True), Iterator[mds.Block[bytes]])
     assert_type(mds.BlockReader().feed(pieces[0]), list[mds.Block[bytes]])
 
 

@@ -57,6 +57,14 @@ pub enum Container {
         /// Where its marker stands.
         place: usize,
     },
+    /// A definition of the term before it, where it is asked for: the paragraph before it, or before another definition.
+    /// (pulldown-cmark)
+    TermDefinition {
+        /// Where its marker stands.
+        place: usize,
+        /// How many columns its later lines are indented by.
+        width: u8,
+    },
 }
 
 /// Which extensions of CommonMark's blocks are asked for; by default none.
@@ -64,6 +72,8 @@ pub enum Container {
 pub struct BlockExtensions {
     /// `[^label]:` begins a footnote definition, as on GitHub.
     pub footnotes: bool,
+    /// `:` after a paragraph begins a definition of it.
+    pub definition_lists: bool,
 }
 
 /// A leaf block, in its containers.
@@ -215,6 +225,7 @@ fn container_of(told: &ffi::Block, place: usize) -> Container {
     match told.kind {
         ffi::BLOCK_QUOTE => Container::Quote { place },
         ffi::BLOCK_FOOTNOTE => Container::Footnote { place },
+        ffi::BLOCK_TERM_DEFINITION => Container::TermDefinition { place, width: told.width },
         _ => Container::Item { place, delimiter: told.byte, start: told.number, width: told.width },
     }
 }
@@ -262,14 +273,21 @@ impl BlockReader {
     ///
     /// ```
     /// use markdown_scanners::{BlockExtensions, BlockReader, Container};
-    /// let mut reader = BlockReader::new(BlockExtensions { footnotes: true });
+    /// let mut reader = BlockReader::new(BlockExtensions { footnotes: true, ..BlockExtensions::default() });
     /// reader.feed(b"[^a]: b\n");
     /// reader.end();
     /// assert_eq!(reader.next_block().unwrap().containers(), [Container::Footnote { place: 0 }]);
+    ///
+    /// let mut reader = BlockReader::new(BlockExtensions { definition_lists: true, ..BlockExtensions::default() });
+    /// reader.feed(b"apple\n: red\n");
+    /// reader.end();
+    /// assert_eq!(reader.next_block().unwrap().content(), b"apple");
+    /// assert_eq!(reader.next_block().unwrap().containers(), [Container::TermDefinition { place: 6, width: 2 }]);
     /// ```
     #[must_use]
     pub fn new(extensions: BlockExtensions) -> BlockReader {
-        let extensions = if extensions.footnotes { ffi::FOOTNOTES } else { 0 };
+        let BlockExtensions { footnotes, definition_lists } = extensions;
+        let extensions = u32::from(footnotes) * ffi::FOOTNOTES + u32::from(definition_lists) * ffi::DEFINITION_LISTS;
         BlockReader { page: ffi::OpenBlocks { extensions, ..ffi::OpenBlocks::default() }, ..BlockReader::default() }
     }
 

@@ -53,8 +53,10 @@ pub const BLOCK_TABLE: u32 = 10;
 pub const BLOCK_DEFINITION: u32 = 11;
 pub const BLOCK_PARAGRAPH: u32 = 12;
 pub const BLOCK_FOOTNOTE: u32 = 13;
+pub const BLOCK_TERM_DEFINITION: u32 = 14;
 
 pub const FOOTNOTES: u32 = 1;
+pub const DEFINITION_LISTS: u32 = 2;
 
 pub const INLINE_TEXT: u32 = 0;
 pub const INLINE_ESCAPE: u32 = 1;

@@ -1,0 +1,329 @@
+"""The ways in which cmark_events is known to differ from pulldown-cmark 0.9.2, each with the section that decides.
+
+Sections are of CommonMark 0.31.2.
+"""
+import re
+from collections import namedtuple
+
+from block_trees import CMARK
+from event_lines import TASKS
+from event_shapes import WITH_EXTENSIONS, how_many_alike, our_shape, their_shape
+from inline_kinds import has_symbol
+
+# A comment that was none in 0.30, and a declaration that was none.
+COMMENT = re.compile(rb"<!--(?:-?>|(?s:.)*?--(?!>)|(?s:.)*?--->)")
+DECLARATION = re.compile(rb"<![a-z]|<![A-Z]+>")
+# Nothing but blank lines, in block quotes or not.
+BLANK = re.compile(rb"[ \t>\r\n]*")
+# The marker of a task, and the white space after it.
+MARKER = re.compile(rb"\[[ \t\v\fxX]\]\s*")
+# The rest of a line that has nothing but white space.
+BLANK_REST = re.compile(rb"[ \t\v\f]*(?:[\r\n]|\Z)")
+INDENT = re.compile(rb"^[ \t]+", re.M)
+ELEMENT = re.compile(r"(?:start|end) (block quote|list|item|code block|link|image|table head|table row|table cell)")
+CONTAINERS = ("block quote", "list", "item")
+ROWS = ("table head", "table row")
+
+
+class Pair(namedtuple("Pair", "our their")):
+    """An event of ours and one of theirs; None where there is no more."""
+
+    def are_alike(self):
+        """Whether they are the same but for ranges, and for texts that differ in a known way."""
+        return bool(self.our and self.their and self.our.words == self.their.words and (self.our.texts == self.their.texts or kind_of_text(self)))
+
+    def of(self, words):
+        return self.our and self.our.words == words and self.their and self.their.words == words
+
+    def element(self):
+        """The element that the pair begins or ends, if it is one that may differ."""
+        found = self.our and ELEMENT.match(self.our.words)
+        return found[1] if found else ""
+
+
+# A way to differ: what a page, an event or a place of it has, the section that decides, and whether one is of it.
+Kind = namedtuple("Kind", "words section fits")
+
+
+class Parting(namedtuple("Parting", "page options pairs at")):
+    """Where the events of a page part, which is read with these options: at this pair, of all pairs."""
+
+    @property
+    def our(self):
+        return self.pairs[self.at].our
+
+    @property
+    def their(self):
+        return self.pairs[self.at].their
+
+    def are(self, words):
+        """Whether both are events of these words."""
+        return self.pairs[self.at].of(words)
+
+    def around(self):
+        """The lines in which their sources stand."""
+        places = [place for it in self.pairs[self.at] if it for place in it[:2]]
+        start, end = self.page.rfind(b"\n", 0, min(places)) + 1, self.page.find(b"\n", max(places))
+        return self.page[start : end if end >= 0 else len(self.page)]
+
+
+def is_line_end(page, place):
+    return page[place : place + 1] in (b"", b"\r", b"\n")
+
+
+def without_end(it, spaces):
+    """Whether our text is theirs without such spaces at its end, and how our next event is called; if it is nothing but these there is no such
+    event of ours, and the next is the one that stands there."""
+    if not (it.our and it.their and it.their.words == "text" and is_line_end(it.page, it.their.end)):
+        return False, ""
+    left = it.their.texts[0].rstrip(spaces)
+    is_without = left != it.their.texts[0] and (not left or it.our.words == "text" and it.our.texts == (left,))
+    after = it.our if not left else it.pairs[it.at + 1].our
+    return is_without, after.words if after else ""
+
+
+def has_spaces(it):
+    """That spaces stand before a soft line break, which are left out."""
+    return without_end(it, b" ") == (True, "soft break")
+
+
+def has_tabs(it):
+    """That a tab, and no two spaces after it, stand before a line ending: only spaces are left out there."""
+    if not (it.our and it.their and it.our.words == "text" and it.our.texts[0].endswith(b"\t")):
+        return False
+    left = it.our.texts[0].rstrip(b" \t")
+    is_without = it.their.texts == (left,) if left else it.their.words in ("soft break", "hard break")
+    return is_without and it.page[it.our.end :].lstrip(b" ")[:1] in (b"\r", b"\n")
+
+
+def has_last_spaces(it):
+    """That spaces or tabs stand after the last text of a block, where the line ends."""
+    is_without, after = without_end(it, b" \t")
+    return is_without and after.startswith("end ")
+
+
+def has_return(it):
+    """That a carriage return alone ends a line of code or HTML, which goes on for pulldown-cmark."""
+    if not ((it.are("text") or it.are("html")) and it.our.start == it.their.start):
+        return False
+    return re.search(rb"\r(?!\n)", it.page[it.their.start : it.their.end]) is not None
+
+
+def has_bare_header(it):
+    """That the header row of a table is one cell without a pipe."""
+    if not (it.our and it.our.words.startswith("start table ")):
+        return False
+    row = re.split(rb"[\r\n]", it.page[it.our.start :], maxsplit=1)[0]
+    return b"|" not in row.replace(b"\\|", b"")
+
+
+def has_columns(it):
+    """That HTML has a tab of which some columns are text, which are a text of their own for pulldown-cmark."""
+    found = b""
+    for their in (pair.their for pair in it.pairs[it.at :] if pair.their):
+        if their.words == "text" and their.start == their.end and not their.texts[0].strip(b" "):
+            return it.our is not None and it.our.words == "html" and in_lines(it.our.texts[0]).startswith(in_lines(found) + their.texts[0])
+        if their.words != "html":
+            return False
+        found += their.texts[0]
+    return False
+
+
+def others(it):
+    """What cmark says of the page, and if it is read with extensions cmark-gfm."""
+    return [their_shape(it.page, program) for program in ([CMARK, WITH_EXTENSIONS] if it.options else [CMARK])]
+
+
+def is_alone(it):
+    """That cmark has the events that cmark_events has."""
+    ours = our_shape([pair.our for pair in it.pairs if pair.our])
+    return any(how_many_alike(it.page, ours, other) == len(ours) == len(other) for other in others(it))
+
+
+def is_alone_there(it):
+    """That cmark has the events that cmark_events has up to where the two part, and not those of pulldown-cmark."""
+    if it.our is None:
+        return False
+    ours = our_shape([pair.our for pair in it.pairs if pair.our])
+    front, theirs = (our_shape([pair[side] for pair in it.pairs[: it.at + 1] if pair[side]]) for side in (0, 1))
+    return any(how_many_alike(it.page, ours, other) >= len(front) and theirs != other[: len(theirs)] for other in others(it))
+
+
+def task_at(it):
+    """The marker of a task that one of the pair is, or one of the pair before it."""
+    near = [event for pair in it.pairs[max(it.at - 1, 0) : it.at + 1] for event in pair]
+    return next((event for event in reversed(near) if event and event.words in TASKS), None)
+
+
+def has_marker_alone(it):
+    """That nothing but white space stands in the line after the marker of a task."""
+    marker = task_at(it)
+    return marker is not None and BLANK_REST.match(it.page, marker.end) is not None
+
+
+def has_marker_below(it):
+    """That the marker of a task begins a line, in which no list marker stands."""
+    marker = task_at(it)
+    return marker is not None and not it.page[it.page.rfind(b"\n", 0, marker.start) + 1 : marker.start].strip(b" \t>")
+
+
+def has_block_in_task(it):
+    """That a block begins after the marker of a task for pulldown-cmark, or that the marker begins a heading or code."""
+    begins = it.their and it.their.words.startswith("start ") or it.our and it.our.words.startswith(("start heading", "start code block"))
+    return task_at(it) is not None and bool(begins)
+
+
+def has_quote(it):
+    """That a block quote of ours begins in the next line, where their paragraph goes on."""
+    if not (it.our and it.their and it.our.words.startswith("end ") and it.their.words == "soft break"):
+        return False
+    place = it.their.end + len(it.page[it.their.end :]) - len(it.page[it.their.end :].lstrip(b" "))
+    return any(pair.our and pair.our.words == "start block quote" and pair.our.start == place for pair in it.pairs[it.at :])
+
+
+def has(pattern):
+    return lambda it: pattern.search(it.around()) is not None
+
+
+def in_lines(text):
+    """The text with a line feed for each line ending."""
+    return text.replace(b"\r\n", b"\n")
+
+
+def has_endings(pair):
+    """That lines of code or HTML end in a carriage return and a line feed."""
+    return pair.our.words in ("text", "html") and in_lines(pair.our.texts[0]) in (pair.their.texts[0], in_lines(pair.their.texts[0]))
+
+
+def has_indent(pair):
+    """That lines of HTML are indented."""
+    ours, theirs = (INDENT.sub(b"", in_lines(it.texts[0])) for it in pair) if pair.of("html") else (True, False)
+    return ours == theirs
+
+
+def has_ending_in_code(pair):
+    """That a code span has a line ending at its edge."""
+    return pair.of("code") and pair.our.texts[0].split() == pair.their.texts[0].split()
+
+
+def has_escaped_pipe(pair):
+    """That a code span in a cell of a table has an escaped pipe."""
+    return pair.of("code") and pair.their.texts[0] != pair.our.texts[0] == pair.their.texts[0].replace(b"\\|", b"|")
+
+
+TEXT_KINDS = {
+    "endings": Kind("have lines of code or HTML that end in CR LF, which is a line feed for pulldown-cmark", "2.1", has_endings),
+    "indent": Kind("have HTML lines with an indent, which pulldown-cmark may leave out", "4.6", has_indent),
+    "code": Kind("are a code span with a line ending at its edge, which is a space", "6.1", has_ending_in_code),
+    "pipe": Kind("are a code span with an escaped pipe in a table, whose backslash pulldown-cmark keeps", "GFM 4.10", has_escaped_pipe),
+}
+
+EVENT_KINDS = {
+    "spaces": Kind("have spaces before a soft line break, which are no part of it for pulldown-cmark", "6.8", has_spaces),
+    "tabs": Kind("have a tab before a line ending, which is left out for pulldown-cmark as spaces are", "6.7, 6.8", has_tabs),
+    "last": Kind("have spaces or tabs at the end of a block, which are text for pulldown-cmark", "4.8", has_last_spaces),
+    "return": Kind("have a CR without a LF, which ends no line for pulldown-cmark", "2.1", has_return),
+    "header": Kind("have a table whose header row has no pipe, which is none for pulldown-cmark", "GFM 4.10", has_bare_header),
+    "columns": Kind("have HTML with a tab of which some columns are text", "2.2", has_columns),
+    "comment": Kind("have a comment with two hyphens in it, or that begins with > or ->", "6.6", has(COMMENT)),
+    "declaration": Kind("have a declaration with a small letter, or a letter alone", "6.6", has(DECLARATION)),
+    "symbol": Kind("have a symbol that is not ASCII beside delimiters", "6.2", lambda it: has_symbol(it.around())),
+    "ends": Kind("have the marker of a task that ends its line, which is none for pulldown-cmark or followed by a new paragraph", "GFM 5.3", has_marker_alone),
+    "below": Kind("have the marker of a task in a later line than that of its item, which is none for pulldown-cmark", "GFM 5.3", has_marker_below),
+    "inside": Kind("have a heading or code that begins with the marker of a task, or for pulldown-cmark a block after one", "GFM 5.3", has_block_in_task),
+    "alone": Kind("have for cmark, or with extensions for cmark-gfm, the events that they have here", "pulldown-cmark 0.9.2 alone", is_alone),
+    "there": Kind("have them up to where they part from pulldown-cmark", "pulldown-cmark 0.9.2 alone", is_alone_there),
+    "quote": Kind("have a block quote that interrupts a paragraph, which goes on for pulldown-cmark", "5.1", has_quote),
+}
+
+
+# A place: of which pair it is, whether it is the end of its range, and where it is for ours and for theirs.
+Place = namedtuple("Place", "page pair is_end our their")
+
+
+def is_escape(it):
+    return it.pair.of("text") and not it.is_end and it.page[it.our : it.their] == b"\\"
+
+
+def is_marker(it):
+    return it.pair.element() in CONTAINERS and not it.is_end and it.their < it.our and not it.page[it.their : it.our].strip(b" \t")
+
+
+def is_tab(it):
+    return (it.pair.of("text") or it.pair.element() == "code block") and not it.is_end and it.page[it.our : it.their] == b"\t"
+
+
+def is_half_ending(it):
+    return it.pair.of("text") and not it.is_end and it.page[it.our : it.their] == b"\r"
+
+
+def is_indent(it):
+    return it.pair.of("html") and not it.is_end and it.our < it.their and not it.page[it.our : it.their].strip(b" \t")
+
+
+def is_last_line(it):
+    """That a page ends with spaces after HTML that is closed."""
+    return it.pair.of("html") and it.is_end and it.their == len(it.page) and not it.page[it.our : it.their].strip(b" \t")
+
+
+def is_fence(it):
+    return it.pair.element() == "code block" and it.is_end and it.page[it.their : it.our] in (b"\n", b"\r\n", b"\r")
+
+
+def is_blank(it):
+    return it.pair.element() in CONTAINERS and it.is_end and it.our < it.their and BLANK.fullmatch(it.page, it.our, it.their) is not None
+
+
+def is_of_task(it):
+    return it.pair.our.words.endswith(" paragraph") and not it.is_end and MARKER.fullmatch(it.page, it.our, it.their) is not None
+
+
+def is_before_start(it):
+    return it.is_end and it.their < it.pair.their.start
+
+
+def is_collapsed(it):
+    return it.pair.element() in ("link", "image") and it.is_end and it.page[it.their : it.our] == b"[]"
+
+
+def is_row(it):
+    beyond = it.page[it.our : it.their]
+    return it.pair.element() in ROWS and it.is_end and it.our < it.their and not beyond.strip(b" \t\r\n")
+
+
+def is_cell(it):
+    beside = it.page[it.our : it.their] if it.is_end else it.page[it.their : it.our]
+    return it.pair.element() == "table cell" and (not beside.strip(b" \t") or it.pair.our.start == it.pair.our.end)
+
+
+PLACE_KINDS = {
+    "escape": Kind("begin with the backslash of an escape, for pulldown-cmark after it", "2.4", is_escape),
+    "marker": Kind("begin with the marker of a container, for pulldown-cmark with the space before it", "5.1, 5.2", is_marker),
+    "tab": Kind("begin with a tab of which some columns are text, for pulldown-cmark after it", "2.2", is_tab),
+    "half": Kind("begin with the CR of CR LF, for pulldown-cmark after it", "2.1", is_half_ending),
+    "indent": Kind("begin with the indent of HTML, for pulldown-cmark after it", "4.6", is_indent),
+    "closed": Kind("end with the line that closes HTML, for pulldown-cmark after the spaces at the end of the page", "4.6", is_last_line),
+    "fence": Kind("end with the line of a closing fence, for pulldown-cmark before its line ending", "4.5", is_fence),
+    "blank": Kind("end with the last block of a container, for pulldown-cmark after the blank lines that follow", "5.1, 5.2", is_blank),
+    "row": Kind("end with the text of a row, for pulldown-cmark after its line ending", "GFM 4.10", is_row),
+    "cell": Kind("are those of a cell's content, for pulldown-cmark with the spaces around it", "GFM 4.10", is_cell),
+    "task": Kind("begin with the marker of a task, for pulldown-cmark after it", "GFM 5.3", is_of_task),
+    "turned": Kind("end before they begin for pulldown-cmark, after the marker of a task alone", "pulldown-cmark 0.9.2 alone", is_before_start),
+    "collapsed": Kind("end after the [] of a collapsed reference, for pulldown-cmark before it", "6.3", is_collapsed),
+}
+
+
+def kind_of_text(pair):
+    """The way in which the texts of a pair are known to differ, or None."""
+    return next((name for name, kind in TEXT_KINDS.items() if kind.fits(pair)), None)
+
+
+def kind_of_events(parting):
+    """The way in which a page is known to differ whose events part there, or None."""
+    return next((name for name, kind in EVENT_KINDS.items() if kind.fits(parting)), None)
+
+
+def kinds_of_places(page, pair):
+    """The ways in which the places of a pair are known to differ, `agree` where they are the same, or None."""
+    places = [Place(page, pair, False, pair.our.start, pair.their.start), Place(page, pair, True, pair.our.end, pair.their.end)]
+    return ["agree" if it.our == it.their else next((name for name, kind in PLACE_KINDS.items() if kind.fits(it)), None) for it in places]

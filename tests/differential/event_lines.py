@@ -1,0 +1,81 @@
+"""What cmark_events and pulldown-cmark 0.9.2 say of the events of a page, in one form. Pages and texts of them are bytes."""
+import os
+import re
+from collections import namedtuple
+
+from block_trees import TOP, said_by
+
+OURS = [os.environ.get("CMARK_EVENTS", str(TOP / "crates/cmark_events/out/cmark_events"))]
+
+LINE = re.compile(rb'([0-9]+) ([0-9]+) ([a-z][a-z0-9 ]*?)((?: "[^"]*"| (?:id|class) "[^"]*")*)')
+NO_TEXT = b"not UTF-8\n"
+QUOTED = re.compile(rb'"([^"]*)"')
+NUMBERED = re.compile(rb"\\u00(..)")
+# How links and images are written that have a label, which pulldown-cmark 0.9.2 doesn't tell.
+TEXTS_OF_A_LINK = 2
+
+# The markers of tasks.
+TASKS = ("checked task", "unchecked task")
+
+# An event: where its source begins and ends, what it is, and the texts that are told with it.
+Event = namedtuple("Event", "start end words texts")
+
+
+def bytes_of(quoted):
+    """The bytes that are printed in quotation marks."""
+    return NUMBERED.sub(lambda it: bytes([int(it[1], 16)]), quoted)
+
+
+def event_of(line):
+    start, end, words, texts = LINE.fullmatch(line).groups()
+    return Event(int(start), int(end), words.decode(), tuple(bytes_of(it) for it in QUOTED.findall(texts)))
+
+
+def renamed(event):
+    """The event under the names of 0.9.2, which has no label of a link, and one name for HTML of both kinds; None where it has no such event."""
+    if event.words in ("start html block", "end html block"):
+        return None
+    if event.words.startswith(("start link", "start image")):
+        return event._replace(texts=event.texts[:TEXTS_OF_A_LINK])
+    return event._replace(words="html") if event.words == "inline html" else event
+
+
+def joined(events):
+    """The same, with neighbours of text, and of HTML, as one event each. Empty texts are left out."""
+    found = []
+    for it in events:
+        if it.words in ("text", "html"):
+            if it.texts == (b"",):
+                continue
+            if found and found[-1].words == it.words:
+                last = found.pop()
+                it = Event(last.start, it.end, it.words, (last.texts[0] + it.texts[0],))
+        found.append(it)
+    return found
+
+
+def with_tasks(events):
+    """The same with each marker of a task in its paragraph, before which 0.9.2 has it."""
+    found = []
+    for it in events:
+        if found and found[-1].words in TASKS and it.words == "start paragraph":
+            found.insert(-1, it)
+        else:
+            found.append(it)
+    return found
+
+
+def said(program, page):
+    """The events that a program prints of a page; None where it is not UTF-8."""
+    text = said_by(program, page)
+    return None if text == NO_TEXT else [event_of(line) for line in text.splitlines()]
+
+
+def our_events(page, options=()):
+    events = said([*OURS, *options], page)
+    return events and joined([it for it in map(renamed, events) if it])
+
+
+def their_events(program, page, options=()):
+    events = said([program, *options], page)
+    return events and joined(with_tasks(events))

@@ -1,0 +1,132 @@
+"""What cmark_events and cmark, or cmark-gfm with tables and strikethrough, say of the elements and texts of a page, in one form, without
+ranges. Pages and texts of them are bytes."""
+import re
+
+from block_trees import CMARK, CMARK_GFM, in_attribute, name_of, parsed, said_by, without_control
+
+ENDINGS = re.compile(rb"\r\n|\r")
+WITH_EXTENSIONS = [*CMARK_GFM, "-e", "strikethrough"]
+# A code fence after a tab, of which a container may take some columns.
+FENCE_AFTER_TAB = re.compile(rb"\t *(?:```|~~~)")
+THEIR_NAMES = {"block_quote": "block quote", "list": "list", "item": "item", "code_block": "code block", "paragraph": "paragraph",
+               "heading": "heading", "emph": "emphasis", "strong": "strong", "link": "link", "image": "image", "table": "table",
+               "table_header": "table head", "table_row": "table row", "table_cell": "table cell", "strikethrough": "strikethrough"}
+THEIR_LEAVES = {"thematic_break": "rule", "softbreak": "soft break", "linebreak": "hard break"}
+ALIGNMENTS = ("none", "left", "center", "right")
+THEIR_TEXTS = {"text": "text", "code": "code", "html_inline": "html", "html_block": "html", "code_block": "text"}
+
+
+def in_text(text):
+    """The text as cmark's XML has it, in which each line ending is a line feed."""
+    return without_control(ENDINGS.sub(b"\n", text))
+
+
+def joined(said):
+    """The same, with neighbours of text, and of HTML, as one, each without its last line feed, which cmark adds to the last line of a page.
+    Empty texts are left out."""
+    found = []
+    for it in said:
+        if it[0] in ("text", "html") and found and found[-1][0] == it[0]:
+            it = (it[0], found.pop()[1] + it[1])
+        if it[1:] != (b"",) or it[0] == "code":
+            found.append(it)
+    return [(it[0], it[1].removesuffix(b"\n")) if it[0] in ("text", "html") else it for it in found]
+
+
+def our_link(how, texts):
+    destination, title = texts
+    return in_attribute(b"mailto:" * (how == "email") + destination), in_attribute(title)
+
+
+def our_said(event):
+    """What an event says, in the form of both."""
+    if event.words.startswith("end "):
+        return ("end",)
+    kind, _, element = event.words.partition(" ")
+    if kind != "start":
+        return (event.words, *map(in_text, event.texts))
+    name = re.sub(" [0-9]+$", "", element)
+    if name.startswith("table ") and name.split()[1] in ALIGNMENTS:
+        return ("start", "table", name.removeprefix("table "))
+    if name == "code block":
+        return ("start", name, in_attribute(b"".join(event.texts)))
+    if name.startswith(("link ", "image ")):
+        name, how = name.split(" ", 1)
+        return ("start", name, *our_link(how, event.texts))
+    return ("start", name, element[len(name) :].strip())
+
+
+def our_shape(events):
+    return joined(map(our_said, events))
+
+
+def their_details(element, name):
+    if name == "heading":
+        return (element.get("level"),)
+    if name == "list":
+        return (element.get("start") or "",)
+    if name == "table":
+        head = next(it for it in element if name_of(it) == "table_header")
+        return (" ".join(it.get("align") or "none" for it in head),)
+    if name == "code block":
+        return (in_attribute((element.get("info") or "").encode("latin-1")),)
+    if name in ("link", "image"):
+        return tuple(in_attribute(element.get(it, "").encode("latin-1")) for it in ("destination", "title"))
+    return ("",)
+
+
+def their_shape(page, program=CMARK):
+    """The same of cmark, or of cmark-gfm. The paragraphs of a tight list are none."""
+    said, waiting = [], [(iter(parsed(said_by(program, page))), False, None)]
+    while waiting:
+        held, is_tight, end = waiting[-1]
+        element = next(held, None)
+        if element is None:
+            waiting.pop()
+            said += [end] if end else []
+            continue
+        name, text = name_of(element), (element.text or "").encode("latin-1")
+        if name in THEIR_LEAVES:
+            said.append((THEIR_LEAVES[name],))
+        elif name not in THEIR_NAMES:
+            said.append((THEIR_TEXTS[name], text))
+        elif name == "paragraph" and is_tight:
+            waiting.append((iter(element), False, None))
+        else:
+            said.append(("start", THEIR_NAMES[name], *their_details(element, THEIR_NAMES[name])))
+            said += [("text", text)] if name == "code_block" else []
+            tight = element.get("tight") == "true" if name == "list" else name == "item" and is_tight
+            waiting.append((iter(element), tight, ("end",)))
+    return joined(said)
+
+
+def without_runs(text):
+    """The text with one space for each run of white space, and with none at its ends."""
+    return b" ".join(text.split())
+
+
+def is_same(page, before, our, after, their):
+    """Whether what we say, with what is said before and after it, is what cmark says: the same, or a text in which cmark is known to part from
+    the specification. It leaves out tabs before a line ending, where only spaces are left out (6.7, 6.8); keeps the indent of a lazy line in code
+    and HTML, though the line is as one with the markers of its containers (5.1, 5.2), and after a backslash (6.7); and takes the indent of a
+    fence for less than it is where a container has some columns of a tab (2.2, 4.5)."""
+    if our == their or our is None or their is None or len(our) != 2 or our[0] != their[0]:
+        return our == their
+    kind, ours, theirs = *our, their[1]
+    if kind == "text" and before == ("hard break",):
+        theirs = theirs.lstrip(b" \t")
+    if kind == "text" and after in (("soft break",), ("hard break",)) and ours.endswith(b"\t"):
+        ours = ours.rstrip(b" \t")
+    if kind == "text" and (before is None or before[:2] != ("start", "code block")):
+        return ours == theirs
+    if kind in ("code", "html"):
+        return without_runs(ours) == without_runs(theirs)
+    if FENCE_AFTER_TAB.search(page):
+        return [it.lstrip(b" ") for it in ours.split(b"\n")] == [it.lstrip(b" ") for it in theirs.split(b"\n")]
+    return False
+
+
+def how_many_alike(page, ours, theirs):
+    """How many of what we say cmark says too, from the first on."""
+    around = zip([None, *ours], ours, [*ours[1:], None], [*theirs, *[None] * len(ours)])
+    return next((number for number, it in enumerate(around) if not is_same(page, *it)), len(ours))
