@@ -1,4 +1,5 @@
 pub mod BlankLemmas
+pub mod EndingLanes
 pub mod LaneLemmas
 pub mod LineLemmas
 pub mod OneQuoteStart

@@ -5,12 +5,16 @@ ghost use Rattle.markdown_scanners_tree.specs.SomeExactly.{SomeExactly, IsOnly};
 ghost use Rattle.markdown_scanners_tree.specs.Bytes.{is_line_ending, line_ending, line_head, line_length, IsBlankLine, blank_line};
 ghost use Rattle.markdown_scanners_tree.specs.scanners.Lines.{next_line, IsBlockQuoteStart};
 
+use crate::scanners::classes::is_line_ending;
 use crate::scanners::runs::scan_whitespace_no_nl;
 use memchr::{memchr, memchr2};
 use std::simd::prelude::*;
 
 // How many bytes a vector holds.
 const LANES: usize = 32;
+
+// How many a vector of half the size holds: a line's end is most often in the first few.
+const HALF_LANES: usize = 16;
 
 // Where a line is so long that a search has paid for its beginning.
 const FAR: usize = 256;
@@ -71,32 +75,57 @@ fn head_len(bytes: &[u8]) -> usize
     ensures head { result ≡ prefix_len (λ b. not (is_line_ending b)) bytes.now }
     ensures within { result ≤ length bytes.now }
 {
-    // Most lines are short, and a search takes longer to begin than a few vectors.
+    if bytes.len() < HALF_LANES {
+        return few_head_len(bytes);
+    }
+    let last = bytes.len() - HALF_LANES;
     let mut from = 0;
-    while bytes.len() - from >= LANES && from < FAR {
+    while from < last {
+        // Most lines are short, and a search takes longer to begin than a few vectors.
+        if from >= FAR {
+            return from + far_head_len(&bytes[from..]);
+        }
         let before = count_in_line(&bytes[from..]);
         from += before;
-        if before < LANES {
+        if before < HALF_LANES {
             return from;
         }
     }
-    match memchr2(b'\n', b'\r', &bytes[from..]) {
-        Some(place) => from + place,
+    // Some bytes of the last vector may have been read.
+    last + count_in_line(&bytes[last..])
+}
+
+// The same of bytes that fill no vector.
+fn few_head_len(bytes: &[u8]) -> usize
+    ensures head { result ≡ prefix_len (λ b. not (is_line_ending b)) bytes.now }
+    ensures within { result ≤ length bytes.now }
+{
+    bytes.iter().take_while(|b| !is_line_ending(**b)).count()
+}
+
+// The same where the first LF or CR may be far.
+fn far_head_len(bytes: &[u8]) -> usize
+    ensures head { result ≡ prefix_len (λ b. not (is_line_ending b)) bytes.now }
+    ensures within { result ≤ length bytes.now }
+{
+    match memchr2(b'\n', b'\r', bytes) {
+        Some(place) => place,
         None => bytes.len(),
     }
 }
 
-// How many of the bytes in a vector stand before the first LF or CR.
+// How many of the bytes in half a vector stand before the first LF or CR.
 fn count_in_line(bytes: &[u8]) -> usize
-    requires { LANES ≤ length bytes.now }
-    ensures { result ≡ prefix_len (λ b. not (is_line_ending b)) (take LANES bytes.now) }
+    requires { HALF_LANES ≤ length bytes.now }
+    ensures { result ≡ prefix_len (λ b. not (is_line_ending b)) (take HALF_LANES bytes.now) }
 {
-    let before_feed = count_before(b'\n', bytes);
-    let before_return = count_before(b'\r', bytes);
-    if before_feed < before_return {
-        before_feed
+    let lanes = u8x16::from_slice(bytes);
+    let is_ending = lanes.simd_eq(u8x16::splat(b'\n')) | lanes.simd_eq(u8x16::splat(b'\r'));
+    let mask = is_ending.to_bitmask();
+    if mask == 0 {
+        HALF_LANES
     } else {
-        before_return
+        mask.trailing_zeros() as usize
     }
 }
 

@@ -1,23 +1,16 @@
 use Rattle.std.proofs.Common.{take, arith}
-use Rattle.markdown_scanners_tree.proofs.scanners.lines.LineLemmas.{head-of_both}
+use Rattle.std.proofs.lemmas.List.{get_or-take, length-take-le}
+use Rattle.markdown_scanners_tree.proofs.scanners.lines.EndingLanes.{none_ends, some_ends}
 use Rattle.markdown_scanners_tree.proofs.scanners.lines.count_in_line.Goals as goal
 
-pub returns-then-before_feed-before_return : goal.returns-then-before_feed-before_return
-returns-then-before_feed-before_return c =
-    omega (
-      arith,
-      head-of_both (take 32 c.args.bytes.now),
-      c.count_before-before_feed.ensures,
-      c.count_before-before_return.ensures,
-      c.if-before_feed-before_return.true,
-    )
+pub returns-then-mask-eq0 : goal.returns-then-mask-eq0
+returns-then-mask-eq0 c =
+    let bytes = c.args.bytes.now in
+    none_ends (take 16 bytes) (length-take-le 16 bytes c.requires)
+    (λ k less. omega (arith, get_or-take 16 bytes k 0 less, c.type_inv.bytes k)) c.if-mask-eq0.true
 
-pub returns-else-before_feed-before_return : goal.returns-else-before_feed-before_return
-returns-else-before_feed-before_return c =
-    omega (
-      arith,
-      head-of_both (take 32 c.args.bytes.now),
-      c.count_before-before_feed.ensures,
-      c.count_before-before_return.ensures,
-      c.if-before_feed-before_return.false,
-    )
+pub returns-else-mask-eq0 : goal.returns-else-mask-eq0
+returns-else-mask-eq0 c =
+    let bytes = c.args.bytes.now in
+    some_ends (take 16 bytes) (length-take-le 16 bytes c.requires)
+    (λ k less. omega (arith, get_or-take 16 bytes k 0 less, c.type_inv.bytes k)) c.if-mask-eq0.false
