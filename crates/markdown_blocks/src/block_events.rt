@@ -2,6 +2,7 @@
 //! left of the block after them.
 ghost use Rattle.std.specs.Prelude.{◌≡◌, ◌∷◌, ◌<◌, ◌≤◌, ◌+◌, ◌-◌, ◌^◌, ◌↔◌, [], List, ℕ, length, take, drop, IsTrue, IfSome, IfNone};
 ghost use Rattle.markdown_scanners_tree.specs.scanners.TextLines.{lines_of};
+ghost use Rattle.markdown_scanners_tree.specs.line.State.{after_space};
 ghost use Rattle.markdown_blocks.specs.containers.Containers.{marker_place, after_marker};
 ghost use Rattle.markdown_blocks.specs.events.Events.{Event, LeafBlock, AreLeaves, leaf_of, first_lines, first_of, later_lines, first_rest};
 ghost use Rattle.markdown_blocks.specs.events.Events.{seen_event, seen_leaf};
@@ -137,10 +138,24 @@ impl<'a> BlockEvents<'a> {
         if self.begun < containers.len() {
             let container = containers[self.begun];
             self.begun += 1;
+            // What stands after the last marker is the leaf block's.
+            if self.begun == containers.len() {
+                return Some(BlockEvent::Start(container, self.marker_offset()));
+            }
             return Some(BlockEvent::Start(container, self.pass_marker()));
         }
         let leaf = self.next_leaf(containers, content)?;
         Some(BlockEvent::Block(leaf))
+    }
+
+    // How many bytes of the page stand before the marker of the next container. The space before it
+    // is passed.
+    fn marker_offset(&mut self) -> usize
+        ensures place { result ≡ self.old.front + marker_place self.old.place }
+        ensures passed { self.new ≡ record self.old { place = after_space 4 self.old.place } }
+    {
+        self.start.scan_space_upto(4);
+        self.front + self.start.bytes_scanned()
     }
 
     // Passes the marker of the next container. Answers how many bytes of the page stand before it.
@@ -172,10 +187,31 @@ impl<'a> BlockEvents<'a> {
             return None;
         }
         let Some(taken) = take_definition(content_from(content, self.used)) else {
-            return Some(self.take_lines(self.leaf.kind, self.leaf.lines, containers));
+            return Some(self.take_all());
         };
         self.used += taken.bytes;
         Some(self.take_lines(BlockKind::Definition, taken.lines, containers))
+    }
+
+    // Takes all that is left, as a leaf block of the block's own kind.
+    fn take_all(&mut self) -> Leaf<'a>
+        ensures leaf { seen_leaf result ≡ leaf_of self.old.kind self.old.part }
+        ensures none { self.new.part.lines ≡ [] }
+        ensures same { self.new ≡ record self.old { part = self.new.part } }
+    {
+        let whole = self.leaf;
+        self.lines = &[];
+        self.leaf = Leaf {
+            kind: whole.kind,
+            line: whole.line + whole.lines,
+            lines: 0,
+            start: whole.start + whole.bytes,
+            bytes: 0,
+            indent: 0,
+            text: &[],
+            place: whole.start + whole.bytes,
+        };
+        whole
     }
 
     // Takes so many lines from the front of what is left, or all where there are fewer, as a leaf

@@ -336,6 +336,7 @@ fn head_columns(alloc: Global, line: &Line, words: &[u8]) -> Result<Option<usize
 }
 
 // Whether the line ends a block with this ending.
+#[inline(always)]
 fn ends(line: &Line, ending: Ending) -> bool
     ensures { IsTrue result ↔ IsEnd line.now.outer ending line.now.bytes }
 {

@@ -185,7 +185,24 @@ fn goes_on_blank(container: Container) -> bool
 }
 
 /// How many of the open containers the line goes on with, and its place behind them.
+///
+/// It is inlined, so that where none is open, as most often, it costs no call.
+#[inline(always)]
 pub(crate) fn go_on<'a>(line: &'a [u8], outer: &Outer) -> (usize, LineStart<'a>)
+    ensures kept { result.0 ≡ (behind outer.now.containers line.now).kept }
+    ensures few { result.0 ≤ length outer.now.containers }
+    ensures state { result.1 ≡ (behind outer.now.containers line.now).state }
+    ensures bytes { result.1.bytes ≡ line.now }
+{
+    if outer.containers.is_empty() {
+        return (0, LineStart::new(line));
+    }
+    go_on_in(line, outer)
+}
+
+// The same of a line where some are open.
+#[inline(always)]
+fn go_on_in<'a>(line: &'a [u8], outer: &Outer) -> (usize, LineStart<'a>)
     ensures kept { result.0 ≡ (behind outer.now.containers line.now).kept }
     ensures few { result.0 ≤ length outer.now.containers }
     ensures state { result.1 ≡ (behind outer.now.containers line.now).state }
@@ -211,6 +228,7 @@ pub(crate) fn go_on<'a>(line: &'a [u8], outer: &Outer) -> (usize, LineStart<'a>)
 
 /// Passes what the line has of the container, if it goes on with it. Answers whether what is left is
 /// blank, as it was before or not.
+#[inline(always)]
 pub(crate) fn pass(
     line: &[u8],
     start: &mut LineStart,
@@ -234,6 +252,7 @@ pub(crate) fn pass(
 
 // Passes so many columns of space, if they are there, before text. A blank rest has them always, but
 // not where only the first line is read, and that is blank.
+#[inline(always)]
 fn pass_width(start: &mut LineStart, blank: bool, begun: bool, width: u8) -> Option<bool>
     ensures passed { IfSome result (λ more.
         within_width begun width blank start.old ≡ Some (more, start.new)) }
@@ -248,6 +267,7 @@ fn pass_width(start: &mut LineStart, blank: bool, begun: bool, width: u8) -> Opt
 }
 
 // Passes so many columns of space, if they are there, before text.
+#[inline(always)]
 fn pass_indent(start: &mut LineStart, width: usize) -> Option<bool>
     ensures passed { IfSome result (λ more. (more ≡ false) × (space_within width start.old ≡ width)
         × (start.new ≡ after_space width start.old)) }

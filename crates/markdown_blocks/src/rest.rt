@@ -23,6 +23,7 @@ impl<'a> Model for Rest<'a> {
 }
 
 /// The rest of the line at a place, which stands after its space then.
+#[inline(always)]
 pub(crate) fn scan_rest<'a>(line: &'a [u8], start: &mut LineStart) -> Rest<'a>
     requires { start.old.bytes ≡ line.now }
     ensures rest { result ≡ rest_at start.old }

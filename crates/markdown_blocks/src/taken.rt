@@ -24,6 +24,7 @@ impl Taken {
     }
 
     /// The line behind these, if there is one, and what is taken with it.
+    #[inline(always)]
     pub(crate) fn next(self, text: &[u8]) -> Option<(&[u8], Taken)>
         ensures line { IfSome result (λ r. IsNext text.now self r.0.now r.1) }
         ensures none { IfNone result (lines_of (drop self.bytes text.now) ≡ []) }

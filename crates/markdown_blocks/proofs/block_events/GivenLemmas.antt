@@ -3,6 +3,7 @@ use Rattle.std.proofs.Common.{ℕ, zero, suc, List, [], ◌∷◌, ◌++◌, ◌
 use Rattle.std.proofs.Common.{refl, sym, ap, ◌∙◌, subst, arith}
 use Rattle.std.specs.Prelude.{map, replicate, IfNone, slice_index_or}
 use Rattle.std.proofs.lemmas.List.{take_all, drop_all, drop-drop}
+use Rattle.markdown_scanners_tree.specs.line.State.{LineState}
 use Rattle.markdown_scanners_tree.specs.declared.scanners.reference_definitions.ReferenceDefinition.{ReferenceDefinition}
 use Rattle.markdown_blocks.specs.containers.Containers.{marker_place, after_marker}
 use Rattle.markdown_blocks.specs.declared.blocks.BlockKind.{BlockKind}
@@ -21,22 +22,12 @@ no_leaves outer kind part content (block ∷ more) none are = absurd (are.0 none
 
 module _ (outer : List Container) (content : List ℕ) (old : BlockLeft) where
   -- what is left of the block is a leaf block
-  pub own_leaf : (new : BlockLeft) (block : LeafBlock) (n : ℕ) → ((d : ReferenceDefinition) → ¬ IsDefinition (drop old.used content) d)
-      → old.part.lines ≢ [] → n ≡ length old.part.lines → block ≡ leaf_of old.kind (first_lines n old.part)
-      → new ≡ record old { part = later_lines outer n old.part } → (later : List LeafBlock)
+  pub own_leaf : (new : BlockLeft) (block : LeafBlock) → ((d : ReferenceDefinition) → ¬ IsDefinition (drop old.used content) d)
+      → old.part.lines ≢ [] → block ≡ leaf_of old.kind old.part → new.part.lines ≡ [] → (later : List LeafBlock)
       → AreLeaves outer new.kind new.part (drop new.used content) later
       → AreLeaves outer old.kind old.part (drop old.used content) (block ∷ later)
-  own_leaf new block n plain some size is moved later are =
-      let whole : take n old.part.lines ≡ old.part.lines = take_all n old.part.lines (omega (arith, size)) in
-      let none : drop n old.part.lines ≡ [] = drop_all n old.part.lines (omega (arith, size)) in
-      let none_left : new.part.lines ≡ [] = ap (λ (l : BlockLeft). l.part.lines) moved ∙ none in (
-        some,
-        inr (
-          plain,
-          is ∙ ap (λ ls. leaf_of old.kind (record old.part { lines = ls })) whole,
-          no_leaves outer new.kind new.part (drop new.used content) later none_left are,
-        ),
-      )
+  own_leaf new block plain some is none later are =
+      (some, inr (plain, is, no_leaves outer new.kind new.part (drop new.used content) later none are))
 
   -- the definition at the front of what is left of the content is one
   pub definition_leaf : (new : BlockLeft) (block : LeafBlock) (d : ReferenceDefinition) (taken : Taken) → IsDefinition (drop old.used content) d
@@ -90,6 +81,24 @@ module _ (outer : List Container) (content : List ℕ) (old : BlockLeft) where
             ∙ ap (λ cs. started old.front old.place cs ++ map leaf g.leaves) (sym next)
             ∙ ap (λ n. replicate n ends ++ started old.front old.place (drop old.begun outer) ++ map leaf g.leaves) (sym none);
       }
+
+  -- the last container begins: where its marker is passed to is no matter
+  pub last_given : (new : BlockLeft) (c : Container) (place : ℕ) (s : LineState) → old.ending ≡ 0
+      → drop old.begun outer ≡ c ∷ drop (suc old.begun) outer → length outer ≤ suc old.begun
+      → place ≡ old.front + marker_place old.place
+      → new ≡ record old { begun = old.begun + 1; place = s } → (later : List Event)
+      → GivesBlock outer content new later → GivesBlock outer content old (starts c place ∷ later)
+  last_given new c place s none next all at moved later g0 =
+      let g : GivesBlock outer content (record old { begun = old.begun + 1; place = s }) later =
+      subst (λ l. GivesBlock outer content l later) moved g0 in
+      let end : drop (old.begun + 1) outer ≡ [] = drop_all (old.begun + 1) outer (omega (arith, all)) in
+      let marked : LineState → List Container → List Event = λ t cs.
+      replicate old.ending ends ++ started old.front t cs ++ map leaf g.leaves in
+      start_given (record old { begun = old.begun + 1; place = after_marker old.place }) c place none next at refl later (record {
+        leaves = g.leaves;
+        are_leaves = g.are_leaves;
+        given = g.given ∙ ap (marked s) end ∙ sym (ap (marked (after_marker old.place)) end);
+      })
 
   module _ (none : old.ending ≡ 0) (all : length outer ≤ old.begun) where
     leaves_alone : (leaves : List LeafBlock)

@@ -135,6 +135,7 @@ impl<'a> Parts<'a> {
     }
 
     /// The next part. The others are left then.
+    #[inline(always)]
     pub(crate) fn next(&mut self) -> Option<LinePart<'a>>
         ensures some { IfSome result (λ part.
             parts_left self.old ≡ seen_part part ∷ parts_left self.new) }
@@ -324,6 +325,7 @@ fn pass_width_left(start: &mut LineStart, width: u8, blank: bool) -> bool
 }
 
 // What a line has for the content, from this place after its containers on.
+#[inline(always)]
 fn text_part<'a>(
     line: &'a [u8],
     mut start: LineStart,

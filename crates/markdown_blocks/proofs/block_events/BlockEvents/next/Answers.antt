@@ -1,7 +1,7 @@
 use Rattle.std.proofs.Common.{◌-◌, ap, arith}
 use Rattle.markdown_blocks.specs.events.Events.{seen_leaf}
 use Rattle.markdown_blocks.specs.events.Given.{BlockLeft}
-use Rattle.markdown_blocks.proofs.block_events.GivenLemmas.{end_given, start_given, leaf_given, none_given, container_at, if_none}
+use Rattle.markdown_blocks.proofs.block_events.GivenLemmas.{end_given, start_given, last_given, leaf_given, none_given, container_at, if_none}
 use Rattle.markdown_blocks.proofs.block_events.BlockEvents.next.Goals as goal
 
 pub returns-then-self-gt0-clause-event : goal.returns-then-self-gt0-clause-event
@@ -13,6 +13,13 @@ returns-then-self-containers-clause-event c =
     rw (← c.self.view_is) (start_given c.args.containers.now c.args.content.now _ c.pass_marker.new.self _ c.pass_marker.result
     (omega (arith, c.if-self-gt0.false)) (container_at c.self.inside.begun c.args.containers.now _ (omega (arith, c.if-self-containers.true)))
     c.pass_marker.ensures.place c.pass_marker.ensures.passed)
+
+pub returns-then-self-containers-2-clause-event : goal.returns-then-self-containers-2-clause-event
+returns-then-self-containers-2-clause-event c =
+    rw (← c.self.view_is) (last_given c.args.containers.now c.args.content.now _ c.marker_offset.new.self _ c.marker_offset.result _
+    (omega (arith, c.if-self-gt0.false)) (container_at c.self.inside.begun c.args.containers.now _ (omega (arith, c.if-self-containers.true)))
+    (omega (arith, c.if-self-containers-2.true))
+    c.marker_offset.ensures.place c.marker_offset.ensures.passed)
 
 pub returns-in_err-leaf-clause-none : goal.returns-in_err-leaf-clause-none
 returns-in_err-leaf-clause-none c =

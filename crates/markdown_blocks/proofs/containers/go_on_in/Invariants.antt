@@ -1,6 +1,6 @@
 use Rattle.std.proofs.Common.{◌≡◌, ◌+◌, drop, length}
 use Rattle.markdown_blocks.specs.containers.Containers.{behind, go_on}
-use Rattle.markdown_blocks.proofs.containers.go_on.Given as goal
+use Rattle.markdown_blocks.proofs.containers.go_on_in.Given as goal
 
 -- what the line goes on with of the rest, it goes on with of all
 abbrev pub invariant-loop-rest : goal.invariant-loop-rest

@@ -2,7 +2,7 @@ use Rattle.std.proofs.Common.{sym, ap, ◌≡◌, ◌+◌, ◌∙◌, arith, dro
 use Rattle.std.specs.List.{list_all}
 use Rattle.markdown_blocks.specs.containers.Containers.{Behind, Outer, goes_on_blank}
 use Rattle.markdown_blocks.proofs.containers.ContainerLemmas.{plain_rest}
-use Rattle.markdown_blocks.proofs.containers.go_on.Goals as goal
+use Rattle.markdown_blocks.proofs.containers.go_on_in.Goals as goal
 
 pub returns-then-kept-outer-clause-kept : goal.returns-then-kept-outer-clause-kept
 returns-then-kept-outer-clause-kept c =
