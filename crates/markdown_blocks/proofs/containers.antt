@@ -1,2 +1,3 @@
 pub mod ContainerLemmas
+pub mod MarkerLemmas
 pub mod StartLemmas

@@ -2,10 +2,12 @@
 //! a line goes on with those that are open, and what it begins. (CommonMark 0.31.2, sections 5.1 and
 //! 5.2; GitHub Docs, footnotes; pulldown-cmark, definition lists)
 ghost use Rattle.std.specs.Prelude.{◌≡◌, ◌<◌, ◌≤◌, length, false, Some, None, IfSome, IfNone};
+ghost use Rattle.markdown_scanners_tree.specs.Bytes.{begins_with};
 ghost use Rattle.markdown_scanners_tree.specs.line.Outcome.{item_outcome};
 ghost use Rattle.markdown_scanners_tree.specs.line.State.{space_within, after_space};
 ghost use Rattle.markdown_blocks.specs.containers.Containers.{begun_behind, behind, behind_quote, extension_of, goes_on_blank, item_of};
 ghost use Rattle.markdown_blocks.specs.containers.Containers.{settled, within, within_quote, within_width};
+ghost use Rattle.markdown_blocks.specs.containers.private.Markers.{is_marker_byte};
 
 use crate::footnotes::scan_footnote;
 use crate::kinds::is_blank;
@@ -308,6 +310,9 @@ fn pass_quote(line: &[u8], start: &mut LineStart) -> Option<bool>
 
 /// Passes the marker of the container that begins at the place, behind so many columns of space, if
 /// one does.
+///
+/// It is inlined, so that where no byte of a marker stands, as most often, it costs no call.
+#[inline(always)]
 pub(crate) fn scan_container<'a>(
     line: &'a [u8],
     start: &mut LineStart<'a>,
@@ -326,6 +331,38 @@ pub(crate) fn scan_container<'a>(
     if indent == 4 {
         return None;
     }
+    if !begins_with_marker_byte(&line[start.bytes_scanned()..]) {
+        return None;
+    }
+    scan_marked(line, start, indent, extensions)
+}
+
+// Whether a byte of a marker stands at the front.
+fn begins_with_marker_byte(bytes: &[u8]) -> bool
+    ensures { result ≡ begins_with is_marker_byte bytes.now }
+{
+    matches!(
+        bytes,
+        [b'>' | b'-' | b'+' | b'*' | b'0'..=b'9' | b'[' | b':', ..]
+    )
+}
+
+// The same where less than four columns of space stand before the place.
+fn scan_marked<'a>(
+    line: &'a [u8],
+    start: &mut LineStart<'a>,
+    indent: usize,
+    extensions: BlockExtensions,
+) -> Option<Container>
+    requires bytes { start.old.bytes ≡ line.now }
+    requires near { indent < 4 }
+    ensures found { IfSome result (λ container.
+        begun_behind extensions indent start.old ≡ Some (container, start.new)) }
+    ensures none { IfNone result (begun_behind extensions indent start.old ≡ None) }
+    ensures unchanged { IfNone result (start.new ≡ start.old) }
+    ensures bytes { start.new.bytes ≡ line.now }
+    ensures rises { IfSome result (λ _. start.old.place < start.new.place) }
+{
     if start.scan_blockquote_marker() {
         return Some(Container::Quote);
     }

@@ -13,26 +13,25 @@ use std::marker::Model;
 pub(crate) struct Line<'a> {
     outer: &'a Outer<'a>,
     bytes: &'a [u8],
-    is_inside: bool,
-    // The extensions with which it may begin a container after those that it goes on with.
-    asked: BlockExtensions,
+    // How many of the open containers it goes on with.
+    kept: usize,
     // What it has after the containers that it goes on with, and the place after the space there.
     rest: Rest<'a>,
     after: LineStart<'a>,
 }
 
 impl<'a> Model for Line<'a> {
-    ghost use Rattle.std.specs.Prelude.{◌≡◌, ◌↔◌, IsTrue};
+    ghost use Rattle.std.specs.Prelude.{◌≡◌, ◌≤◌, length};
     ghost use Rattle.markdown_scanners_tree.specs.line.State.{after_space};
-    ghost use Rattle.markdown_blocks.specs.containers.Containers.{Line, asked_in, behind, rest_in, IsInside};
+    ghost use Rattle.markdown_blocks.specs.containers.Containers.{Line, behind, rest_in};
 
     ghost Value = { Line };
 
     ghost view = { λ l. record { outer = l.outer.now; bytes = l.bytes.now } };
 
     ghost invariant = { λ l.
-        (IsTrue l.is_inside ↔ IsInside l.outer.now.containers l.bytes.now)
-        × (l.asked ≡ asked_in l.outer.now l.bytes.now)
+        (l.kept ≡ (behind l.outer.now.containers l.bytes.now).kept)
+        × (l.kept ≤ length l.outer.now.containers)
         × (l.rest ≡ rest_in l.outer.now.containers l.bytes.now)
         × (l.after ≡ after_space 4 (behind l.outer.now.containers l.bytes.now).state)
         × (l.after.bytes ≡ l.bytes.now) };
@@ -48,8 +47,7 @@ impl<'a> Line<'a> {
         Line {
             outer,
             bytes,
-            is_inside: kept == outer.count(),
-            asked: asked_first(outer.extensions(), false, &outer.containers()[kept..]),
+            kept,
             rest,
             after: start,
         }
@@ -69,7 +67,7 @@ impl<'a> Line<'a> {
         ensures inside { IfSome result (λ _. IsInside self.now.outer.containers self.now.bytes) }
         ensures none { IfNone result (¬ IsInside self.now.outer.containers self.now.bytes) }
     {
-        if self.is_inside {
+        if self.kept == self.outer.count() {
             return Some(&self.rest);
         }
         None
@@ -86,7 +84,8 @@ impl<'a> Line<'a> {
     pub(crate) fn asked(&self) -> BlockExtensions
         ensures { result ≡ asked_in self.now.outer self.now.bytes }
     {
-        self.asked
+        let left = &self.outer.containers()[self.kept..];
+        asked_first(self.outer.extensions(), false, left)
     }
 
     /// Whether it begins a container after those that it goes on with.
@@ -98,6 +97,6 @@ impl<'a> Line<'a> {
         let Ok(mut start) = self.after.clone() else {
             return false;
         };
-        scan_container(self.bytes, &mut start, rest.indent, self.asked).is_some()
+        scan_container(self.bytes, &mut start, rest.indent, self.asked()).is_some()
     }
 }

@@ -111,10 +111,14 @@ no_marker r false fails tells = refl
 pub no_quote : (s after : LineState) → begins_with (λ b. b == greater_than_sign) (unscanned s) ≡ false → after ≡ after_quote s → after ≡ s
 no_quote s after other is = rw other at is
 
--- what is left of the line from a place on is blank
+-- what is left of the line from a place on
+pub rest_at_place : (line : List ℕ) (s : LineState) (p : ℕ) → s.bytes ≡ line → p ≡ s.place → unscanned s ≡ take (length line - p) (drop p line)
+rest_at_place line s p same place = sym (slice_behind line p ∙ rw (same, place) refl)
+
+-- that is blank
 pub blank_at : (line : List ℕ) (s : LineState) (p : ℕ) (blank : Bool) → s.bytes ≡ line → p ≡ s.place → blank ≡ is_blank (take (length line - p) (drop p line))
     → blank ≡ is_blank (unscanned s)
-blank_at line s p blank same place is = is ∙ ap is_blank (slice_behind line p) ∙ rw (same, place) refl
+blank_at line s p blank same place is = is ∙ ap is_blank (sym (rest_at_place line s p same place))
 
 -- a line behind a container, by what it has of that
 abbrev pub step_on : List Container → LineState → Option (Bool × LineState) → Behind

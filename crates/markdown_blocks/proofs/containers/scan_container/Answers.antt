@@ -1,27 +1,12 @@
-use Rattle.std.proofs.Common.{Some, None, sym, ap, ◌≡◌, ◌∙◌, subst, arith}
-use Rattle.std.specs.Prelude.{IfSome, IfNone}
-use Rattle.markdown_blocks.specs.containers.Containers.{either_begun, extension_of}
-use Rattle.markdown_blocks.proofs.containers.ContainerLemmas.{begun_other, no_marker, no_quote}
+use Rattle.std.proofs.Common.{◌∙◌, sym, ap}
+use Rattle.markdown_scanners_tree.specs.Bytes.{begins_with}
+use Rattle.markdown_blocks.specs.containers.private.Markers.{is_marker_byte}
+use Rattle.markdown_blocks.proofs.containers.ContainerLemmas.{rest_at_place}
+use Rattle.markdown_blocks.proofs.containers.MarkerLemmas.{none_begun}
 use Rattle.markdown_blocks.proofs.containers.scan_container.Goals as goal
 
-pub returns-clause-found : goal.returns-clause-found
-returns-clause-found c =
-    let s = c.args.start.now in
-    let t = c.scan_blockquote_marker.new.self in
-    let other = no_marker c.scan_blockquote_marker.result _ c.if-scan_blockquote_marker.false c.scan_blockquote_marker.ensures.answer in
-    let same = no_quote s t other c.scan_blockquote_marker.ensures.state in
-    let begun = begun_other c.args.extensions c.args.indent s t (grind (arith, c.if-indent-eq4.false)) other same
-    ∙ ap (λ f. either_begun f (extension_of c.args.extensions c.args.indent t)) c.in_default.ensures.none
-    ∙ ap (extension_of c.args.extensions c.args.indent) (sym c.in_default.ensures.unchanged) in
-    subst (λ x. IfSome c.scan_extension.result (λ container. x ≡ Some (container, c.scan_extension.new.start))) (sym begun) c.scan_extension.ensures.found
-
-pub returns-clause-none : goal.returns-clause-none
-returns-clause-none c =
-    let s = c.args.start.now in
-    let t = c.scan_blockquote_marker.new.self in
-    let other = no_marker c.scan_blockquote_marker.result _ c.if-scan_blockquote_marker.false c.scan_blockquote_marker.ensures.answer in
-    let same = no_quote s t other c.scan_blockquote_marker.ensures.state in
-    let begun = begun_other c.args.extensions c.args.indent s t (grind (arith, c.if-indent-eq4.false)) other same
-    ∙ ap (λ f. either_begun f (extension_of c.args.extensions c.args.indent t)) c.in_default.ensures.none
-    ∙ ap (extension_of c.args.extensions c.args.indent) (sym c.in_default.ensures.unchanged) in
-    subst (λ x. IfNone c.scan_extension.result (x ≡ None)) (sym begun) c.scan_extension.ensures.none
+pub returns-then-not-begins_with_marker_byte-clause-none : goal.returns-then-not-begins_with_marker_byte-clause-none
+returns-then-not-begins_with_marker_byte-clause-none c =
+    let there = rest_at_place c.args.line.now c.args.start.now c.bytes_scanned.result c.requires.bytes c.bytes_scanned.ensures.place in
+    none_begun c.args.extensions c.args.indent c.args.start.now (ap (begins_with is_marker_byte) there
+    ∙ sym c.begins_with_marker_byte.ensures ∙ c.if-not-begins_with_marker_byte.true)

@@ -7,5 +7,7 @@ pub returns : goal.returns
 returns c = rw (← c.self.view_is) (
     let columns = ap (λ (r : Rest). r.indent) (c.rest.view_is ∙ (rw (← c.self.view_is) at c.rest-rest.ensures)) in
     let same : c.in-Ok.start ≡ c.self.inside.after = c.in-Ok.ensures.cases in
-    c.is_some.ensures ∙ rw c.self.invariant.1 at (begun_told c.self.inside.asked _ c.in-Ok.start c.scan_container.new.start _ c.scan_container.result
-    columns (same ∙ c.self.invariant.3) c.scan_container.ensures.found c.scan_container.ensures.none))
+    let asked = rw (← c.self.view_is) at c.asked.ensures in
+    let begun = begun_told c.asked.result _ c.in-Ok.start c.scan_container.new.start _ c.scan_container.result columns
+    (same ∙ c.self.invariant.3) c.scan_container.ensures.found c.scan_container.ensures.none in
+    c.is_some.ensures ∙ rw asked at begun)
