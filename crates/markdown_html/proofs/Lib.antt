@@ -1,0 +1,10 @@
+pub mod AddressLemmas
+pub mod LineLemmas
+mod Rows
+pub mod RunLemmas
+pub mod SafeAddresses
+pub mod SafeEvents
+pub mod SafeLemmas
+mod SafeRows
+pub mod SafeSteps
+pub mod SafeTags

@@ -1,0 +1,11 @@
+pub mod Addresses
+pub mod Blocks
+pub mod Escapes
+pub mod Html
+pub mod Inlines
+pub mod Nesting
+pub mod SafeHtml
+pub mod SafeSetting
+pub mod Settings
+pub mod States
+pub mod TagEnds

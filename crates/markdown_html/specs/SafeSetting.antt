@@ -1,0 +1,15 @@
+-- Settings by which HTML is safe.
+use Rattle.std.specs.Prelude.{ℕ, Bool, true, false, ◌≡◌, List}
+use Rattle.markdown_html.specs.declared.setting.RawHtml.{RawHtml}
+use Rattle.markdown_html.specs.declared.setting.RawHtml.TheVariants.{Kept}
+use Rattle.markdown_html.specs.Addresses.{is_allowed_address}
+use Rattle.markdown_html.specs.Settings.{Setting}
+
+abbrev pub is_kept : RawHtml → Bool
+is_kept Kept = true
+is_kept raw = false
+
+-- Raw HTML is not kept, and no address of another scheme is allowed.
+pub record IsSafeSetting (schemes : List (List ℕ)) (setting : Setting) : Type 0 where
+  pub raw : is_kept setting.raw ≡ false
+  pub addresses : (address : List ℕ) → setting.allows address ≡ true → is_allowed_address schemes address ≡ true
