@@ -1,5 +1,6 @@
 -- Lemmas that other crates cite.
 pub use Rattle.markdown_blocks.proofs.blocks.OneText.{one_piece, one_page}
+pub use Rattle.markdown_blocks.proofs.cells.LawLemmas.{row_between}
 pub use Rattle.markdown_blocks.proofs.cells.PieceLaws.{one_list_of_pieces, row_pieces}
 pub use Rattle.markdown_blocks.proofs.containers.ContainerLemmas.{begun_by_all}
 pub use Rattle.markdown_blocks.proofs.content.ByteLemmas.{DoNotFall, content_bytes, content_rises, content_sizes}
@@ -11,6 +12,7 @@ pub use Rattle.markdown_blocks.proofs.events.EventLemmas.{one_list_of_events, st
 pub use Rattle.markdown_blocks.proofs.events.LabelLemmas.{extensions_are_marked}
 pub use Rattle.markdown_blocks.proofs.events.ShownLemmas.{one_list_of_shown, one_written, page_shown, shown_events, shown_next, step_shown}
 pub use Rattle.markdown_blocks.proofs.first_blocks.OnePage.{one_list_of_alerts, one_list_of_tasks}
+pub use Rattle.markdown_blocks.proofs.first_blocks.TaskLemmas.{task_within}
 pub use Rattle.markdown_blocks.proofs.laws.CharacterLaw.{page_cut_out}
 pub use Rattle.markdown_blocks.proofs.laws.ContentLaw.{page_contents_stand}
 pub use Rattle.markdown_blocks.proofs.laws.FilledLaw.{containers_hold_some}

@@ -18,3 +18,4 @@ pub mod Rows
 pub mod SameContainers
 pub mod SettledLemmas
 pub mod TermLaw
+pub mod TextLaw

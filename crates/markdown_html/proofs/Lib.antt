@@ -1,4 +1,6 @@
 pub mod AddressLemmas
+pub mod EscapeLaws
+pub mod EventLemmas
 pub mod LineLemmas
 mod Rows
 pub mod RunLemmas

@@ -1,5 +1,6 @@
 pub mod Addresses
 pub mod Blocks
+pub mod EscapeLaws
 pub mod Escapes
 pub mod Html
 pub mod Inlines

@@ -2,6 +2,7 @@
 ghost use Rattle.std.specs.Prelude.{◌≡◌, ◌<◌, ◌++◌, IfOk, IsTrue, OnOk, length, not, string_bytes};
 ghost use Rattle.std.specs.List.{prefix_len};
 ghost use Rattle.markdown_scanners_tree.specs.Bytes.{is_alphanumeric};
+ghost use Rattle.markdown_html.specs.EscapeLaws.{IsTextOf};
 ghost use Rattle.markdown_html.specs.Escapes.{address_byte, escaped, escaped_byte, is_special, percent_encoded, stands_in_address, written_address};
 
 use std::alloc::AllocError;
@@ -13,8 +14,9 @@ use std::alloc::AllocError;
 ///
 /// `AllocError` where memory is refused; a part of the text may be appended then.
 pub fn push_escaped(out: &mut String, text: &str) -> Result<(), AllocError>
-    ensures { OnOk result
+    ensures text { OnOk result
         (string_bytes out.new ≡ string_bytes out.old ++ escaped text.now) }
+    ensures reads { IsTextOf text.now (escaped text.now) }
 {
     let mut rest = text;
     while !rest.is_empty() {

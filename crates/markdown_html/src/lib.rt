@@ -5,6 +5,7 @@
 pub mod addresses;
 mod blocks;
 pub mod escapes;
+pub mod html;
 mod inlines;
 pub mod schemes;
 pub mod setting;

@@ -110,10 +110,13 @@ cells-le text =
     let row = without_end (line_head text) in
     omega (arith, cells_in-le row, length-cells_of_row row, without_end-le (line_head text), line_head-le text)
 
-pub between : (text : List ℕ) → AreBetween 0 (length text) (cells_of text)
-between text =
+-- the cells of a line stand within its row
+pub row_between : (text : List ℕ) (end : ℕ) → length (without_end (line_head text)) ≤ end → AreBetween 0 end (cells_of text)
+row_between text end within =
     let row = without_end (line_head text) in
-    let within : length row ≤ length text = omega (arith, without_end-le (line_head text), line_head-le text) in
-    between_take (cells_in row) 0 (length text) (drop (if begins_with is_pipe row then 1 else 0) (cells_at 0 (pieces space row)))
-    (between_drop (if begins_with is_pipe row then 1 else 0) 0 (length text) (cells_at 0 (pieces space row))
-    (between_at 0 0 (length text) (pieces space row) (omega arith) (omega (arith, within, ap length (pieces_joined space row)))))
+    between_take (cells_in row) 0 end (drop (if begins_with is_pipe row then 1 else 0) (cells_at 0 (pieces space row)))
+    (between_drop (if begins_with is_pipe row then 1 else 0) 0 end (cells_at 0 (pieces space row))
+    (between_at 0 0 end (pieces space row) (omega arith) (omega (arith, within, ap length (pieces_joined space row)))))
+
+pub between : (text : List ℕ) → AreBetween 0 (length text) (cells_of text)
+between text = row_between text (length text) (omega (arith, without_end-le (line_head text), line_head-le text))

@@ -1,9 +1,10 @@
 -- What the scanner of task list markers answers at a text.
-use Rattle.std.proofs.Common.{ℕ, Bool, ◌≡◌, Some, None, ap, ◌∙◌}
+use Rattle.std.proofs.Common.{ℕ, Bool, List, [], ◌∷◌, ◌≡◌, ◌≤◌, ◌+◌, Option, Some, None, ap, sym, refl, ◌∙◌, arith, length}
 use Rattle.std.specs.Option.{option_map}
+use Rattle.std.proofs.lemmas.List.{length-drop}
 use Rattle.markdown_scanners_tree.specs.line.ItemRules.{start_of}
-use Rattle.markdown_scanners_tree.specs.line.Outcome.{task_outcome}
-use Rattle.markdown_scanners_tree.specs.line.State.{LineState}
+use Rattle.markdown_scanners_tree.specs.line.Outcome.{Outcome, not_found, task_box, task_outcome}
+use Rattle.markdown_scanners_tree.specs.line.State.{LineState, after_space, bytes_further, unscanned}
 use Rattle.markdown_blocks.specs.declared.first_blocks.Task.{Task}
 use Rattle.markdown_blocks.specs.events.Events.{LeafBlock}
 use Rattle.markdown_blocks.specs.first_blocks.Tasks.{task_of}
@@ -21,3 +22,41 @@ module _ (block : LeafBlock) (s : LineState) (here : s ≡ start_of block.text) 
   task_some checked len found place =
       ap (λ l. Some (task_with l checked)) (place ∙ ap (λ s. (task_outcome s).state.place) here)
       ∙ ap (option_map (task_with (task_outcome (start_of block.text)).state.place)) (found ∙ ap (λ s. (task_outcome s).answer) here)
+
+-- ---- a marker stands in the text
+
+box_some : (bytes : List ℕ) (checked : Bool) → task_box bytes ≡ Some checked → 4 ≤ length bytes
+box_some [] checked is = absurd (cc)
+box_some (a ∷ []) checked is = absurd (cc)
+box_some (a ∷ b ∷ []) checked is = absurd (cc)
+box_some (a ∷ b ∷ c ∷ []) checked is = absurd (cc)
+box_some (a ∷ b ∷ c ∷ d ∷ more) checked is = omega arith
+
+module _ (block : LeafBlock) where
+  abbrev behind_space : LineState
+  behind_space = after_space 3 (start_of block.text)
+
+  abbrev outcome_of : Option Bool → Outcome Bool
+  outcome_of box =
+      elim box [
+        | Some checked ↦ record { answer = Some checked; state = bytes_further 3 behind_space }
+        | None ↦ not_found (start_of block.text)
+      ]
+
+  abbrev task_by : Option Bool → Option Task
+  task_by box =
+      option_map (λ checked. record { is_checked = checked; place = block.place; len = (outcome_of box).state.place }) (outcome_of box).answer
+
+  by_box : (task : Task) (box : Option Bool) → box ≡ task_box (unscanned behind_space) → task_by box ≡ Some task
+      → (task.place ≡ block.place) × (task.len ≤ length block.text)
+  by_box task None found is = absurd (cc)
+  by_box task (Some checked) found is =
+      let it : record { is_checked = checked; place = block.place; len = behind_space.place + 3 } ≡ task = cc in
+      let some = box_some (unscanned behind_space) checked (sym found) in (
+        sym (ap (λ (t : Task). t.place) it),
+        omega (arith, ap (λ (t : Task). t.len) it, some, length-drop behind_space.place behind_space.bytes),
+      )
+
+  -- The task list marker of a block stands at the front of its text.
+  pub task_within : (task : Task) → task_of block ≡ Some task → (task.place ≡ block.place) × (task.len ≤ length block.text)
+  task_within task is = by_box task (task_box (unscanned behind_space)) refl is

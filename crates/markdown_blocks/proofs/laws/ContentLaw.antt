@@ -4,7 +4,6 @@ use Rattle.std.proofs.Common.{inl, inr, refl, ap, arith, subst, sym, append_asso
 use Rattle.std.specs.Prelude.{⊤, slice_index}
 use Rattle.std.specs.List.{concat, flat_map, prefix_len}
 use Rattle.std.proofs.lemmas.List.{length-append, length-drop, length-map, length-take, map-append, take-append-drop, take-take, take_all}
-use Rattle.std.proofs.lemmas.List.Folds.{concat-append}
 use Rattle.std.proofs.Math.Seq.{take-append_seam}
 use Rattle.markdown_scanners_tree.specs.Ascii.{number_sign}
 use Rattle.markdown_scanners_tree.specs.Bytes.{is_blank, is_space_or_tab}
@@ -13,7 +12,7 @@ use Rattle.markdown_scanners_tree.specs.line.ItemRules.{start_of}
 use Rattle.markdown_scanners_tree.specs.line.Outcome.{after_all_space}
 use Rattle.markdown_scanners_tree.specs.line.State.{LineState, after_space, space_within, unscanned}
 use Rattle.markdown_scanners_tree.specs.scanners.TextLines.{lines_of}
-use Rattle.markdown_scanners_tree.proofs.ForCallers.{all_space_forward, lines_joined}
+use Rattle.markdown_scanners_tree.proofs.ForCallers.{all_space_forward}
 use Rattle.markdown_blocks.specs.blocks.Leaves.{IsBlank, IsLeaf}
 use Rattle.markdown_blocks.specs.blocks.Pages.{IsPiece, Piece, AreBlocks, lines_in, open_behind, outer_of, root}
 use Rattle.markdown_blocks.specs.containers.Containers.{Between, Opens, Outer, Rest, after_marker, asked_between, behind, marker_place}
@@ -32,7 +31,7 @@ use Rattle.markdown_blocks.specs.events.Events.{AreEvents, AreLeaves, Event, IsE
 use Rattle.markdown_blocks.specs.events.Events.{first_rest, later_lines, leaf, leaf_of, lines_taken, open_after, part_of}
 use Rattle.markdown_blocks.specs.events.Events.{piece_content, started, starts}
 use Rattle.markdown_blocks.specs.info.Info.{behind_fence, without_front}
-use Rattle.markdown_blocks.specs.laws.Order.{ContentsStand, HoldsContent, content_from, passed_after}
+use Rattle.markdown_blocks.specs.laws.Order.{ContentsStand, HoldsContent, HoldsText, content_from, passed_after}
 use Rattle.markdown_blocks.specs.lists.Lists.{Nodes, nothing, leaf_then, container_then, flatten}
 use Rattle.markdown_blocks.proofs.containers.ContainerLemmas.{begun_by_all}
 use Rattle.markdown_blocks.proofs.content.ByteLemmas.{DoNotFall, StandBehind, earlier_parts, front_rises, later_behind, parts_rise}
@@ -45,9 +44,9 @@ use Rattle.markdown_blocks.proofs.laws.FurtherPlaces.{IsFurther, begun_further, 
 use Rattle.markdown_blocks.proofs.laws.OrderLaw.{cons_first, first_kept, parted, some_kept, some_taken}
 use Rattle.markdown_blocks.proofs.laws.SettledLemmas.{AreSettled, FrontSettled, all_settled, blank_behind, both_settled, filled, front_both, kept_settled}
 use Rattle.markdown_blocks.proofs.laws.SettledLemmas.{last_settled, opened_front, opened_settled, settled_on}
+use Rattle.markdown_blocks.proofs.laws.TextLaw.{IsBehind, block_lines, text_holds}
 use Rattle.markdown_blocks.proofs.lists.PageLemmas.{regroup}
-use Rattle.markdown_blocks.proofs.taken.FrontLemmas.{front_lines}
-use Rattle.markdown_blocks.proofs.taken.LineCuts.{lines_behind, page_behind}
+use Rattle.markdown_blocks.proofs.taken.LineCuts.{page_behind}
 
 -- ---- the content of a block whose first line has this place after the containers
 
@@ -143,29 +142,7 @@ from_moved (Table columns) passed place start low text at first second is = omeg
 from_moved Definition passed place start low text at first second is = omega (arith, second, is)
 from_moved Paragraph passed place start low text at first second is = omega (arith, second, is)
 
--- ---- lines
-
--- the lines of a block are those of its bytes
-block_lines : (page : List ℕ) (start : ℕ) (lines rest : List (List ℕ)) → lines_of (drop start page) ≡ lines ++ rest
-    → lines_of (take (length (concat lines)) (drop start page)) ≡ lines
-block_lines page start lines rest is =
-    let sizes : length (drop start page) ≡ length (concat lines) + length (concat rest) =
-    ap length (sym (lines_joined (drop start page)) ∙ ap concat is ∙ concat-append lines rest) ∙ length-append (concat lines) (concat rest) in
-    front_lines (drop start page) (length (concat lines)) lines (omega (arith, sizes))
-    (is ∙ ap (λ ls. lines ++ ls) (sym (lines_behind lines (drop start page) rest is)))
-
 -- ---- leaf blocks
-
--- The place after the containers in the first line of a block, with what the line has there, where so many bytes of the page stand
--- before the line, and so many are passed.
-record IsBehind (outer : List Container) (kept : ℕ) (line : List ℕ) (start : ℕ) (words : Rest) (passed : ℕ) : Type 0 where
-  place : LineState
-  is_first : first_place kept outer line ≡ place
-  reached : Reached line place
-  begun : start ≤ passed
-  far : passed ≤ start + place.place
-  pending : 0 < place.pending → passed < start + place.place
-  is_rest : words ≡ rest_at place
 
 module _ (page : List ℕ) where
   leaf_holds : (kind : BlockKind) (outer : List Container) (kept : ℕ) (part : Part) (others : List (List ℕ)) (passed : ℕ) → part.lines ≢ []
@@ -190,12 +167,21 @@ module _ (page : List ℕ) where
       from_moved kind passed (leaf_of kind part).place part.start low (after_space 4 s).place (slice_index content.places offset)
       (omega arith) (omega (arith, words, size, within)) (place_behind _ content.places offset rise inside)
 
+  abbrev Holds : List Container → ℕ → ℕ → LeafBlock → Type 0
+  Holds outer kept passed block = HoldsContent page outer kept passed block × HoldsText page outer kept block
+
+  holds : (kind : BlockKind) (outer : List Container) (kept : ℕ) (part : Part) (others : List (List ℕ)) (passed : ℕ) → part.lines ≢ []
+      → lines_of (drop part.start page) ≡ part.lines ++ others
+      → IsBehind outer kept (first_of part.lines) part.start part.words passed → Holds outer kept passed (leaf_of kind part)
+  holds kind outer kept part others passed some stands b =
+      (leaf_holds kind outer kept part others passed some stands b, text_holds page kind outer kept part others passed some stands b)
+
   -- the same of each leaf block among events
   abbrev EventsHold : List Container → ℕ → ℕ → List Event → Type 0
   EventsHold outer kept passed [] = ⊤
   EventsHold outer kept passed (starts container place ∷ later) = EventsHold (outer ++ settled container ∷ []) kept (suc place) later
   EventsHold outer kept passed (leaf block ∷ later) =
-      HoldsContent page outer kept passed block × EventsHold outer (length outer) (block_end block) later
+      Holds outer kept passed block × EventsHold outer (length outer) (block_end block) later
   EventsHold outer kept passed (ends ∷ later) = EventsHold (take (length outer - 1) outer) (length outer - 1) passed later
 
   -- a later line, in containers of which more than the first line is read
@@ -244,7 +230,7 @@ module _ (page : List ℕ) where
       let alike = same definition is in
       let end : part.start + length (concat part.lines) ≡ start + length (concat (drop n part.lines)) = omega (arith, parted n part.lines) in
       subst (λ b. EventsHold tree kept passed (leaf b ∷ map leaf more ++ rest)) (sym first) (
-        leaf_holds Definition tree kept front (drop n part.lines ++ others) passed (some_kept n part.lines count some) left
+        holds Definition tree kept front (drop n part.lines ++ others) passed (some_kept n part.lines count some) left
             (subst (λ l. IsBehind tree kept l part.start part.words passed) (sym (first_kept n part.lines count)) (behind some)),
         leaves_hold tree outer kind more (length tree) (later_lines outer n part) (drop definition.len content) others start rest later
             (λ d found. alike) (page_behind page part.start (take n part.lines) (drop n part.lines ++ others) left)
@@ -253,7 +239,7 @@ module _ (page : List ℕ) where
       )
   leaves_hold tree outer kind (block ∷ more) kept part content others passed rest (some, inr (none, only, last)) same stands behind at hold =
       subst (λ b. EventsHold tree kept passed (leaf b ∷ map leaf more ++ rest)) (sym only) (
-        leaf_holds kind tree kept part others passed some stands (behind some),
+        holds kind tree kept part others passed some stands (behind some),
         subst (λ (m : List LeafBlock). EventsHold tree (length tree) (part.start + length (concat part.lines)) (map leaf m ++ rest)) (sym last) hold,
       )
 
@@ -448,7 +434,7 @@ nodes_hold : (page : List ℕ) (nodes : Nodes) (outer : List Container) (kept pa
 nodes_hold page nothing outer kept passed rest hold = (tt, (kept, hold))
 nodes_hold page (leaf_then block later) outer kept passed rest hold =
     let more = nodes_hold page later outer (length outer) (block_end block) rest hold.1 in
-    ((hold.0, more.0), more.1)
+    ((hold.0.0, hold.0.1, more.0), more.1)
 nodes_hold page (container_then container place inner later) outer kept passed rest hold =
     let within = outer ++ settled container ∷ [] in
     let held = nodes_hold page inner within kept (suc place) (ends ∷ (flatten later ++ rest))

@@ -1,5 +1,5 @@
 -- Each container of a page holds something.
-use Rattle.std.proofs.Common.{ℕ, zero, suc, Bool, true, false, ◌-◌, ◌≡◌, ◌∙◌, List, [], ◌∷◌, ◌++◌, length, map, replicate, inl, inr, refl, sym, subst}
+use Rattle.std.proofs.Common.{ℕ, zero, suc, Bool, true, false, ◌-◌, ◌≡◌, ◌∙◌, List, [], ◌∷◌, ◌++◌, length, map, replicate, refl, sym, subst}
 use Rattle.std.proofs.Common.{append_assoc, append-nil}
 use Rattle.std.specs.Prelude.{◌≢◌, ⊤}
 use Rattle.markdown_scanners_tree.specs.line.State.{LineState}

@@ -53,7 +53,7 @@ some_kept zero lines some has_one = absurd (omega (arith, some))
 some_kept (suc n) [] some has_one = absurd (has_one refl)
 some_kept (suc n) (line ∷ lines) some has_one = λ none. cc
 
-first_shorter : (lines : List (List ℕ)) → length (first_of lines) ≤ length (concat lines)
+pub first_shorter : (lines : List (List ℕ)) → length (first_of lines) ≤ length (concat lines)
 first_shorter [] = omega arith
 first_shorter (line ∷ lines) = omega (arith, length-append line (concat lines))
 

@@ -1,5 +1,5 @@
 -- Each definition of a term has that before it.
-use Rattle.std.proofs.Common.{ℕ, suc, min, Bool, true, false, IsTrue, ◌&&◌, ◌||◌, ◌==◌, ◌+◌, ◌≤◌, ◌≡◌, ◌⊎◌, List, [], ◌∷◌, ◌++◌, length, take, drop}
+use Rattle.std.proofs.Common.{ℕ, suc, Bool, true, false, IsTrue, ◌&&◌, ◌||◌, ◌==◌, ◌≤◌, ◌≡◌, List, [], ◌∷◌, ◌++◌, length, take, drop}
 use Rattle.std.proofs.Common.{Option, Some, None, refl, sym, ap, ◌∙◌, subst, inl, inr, arith, append_assoc}
 use Rattle.std.specs.Prelude.{if◌then◌else◌, ⊤}
 use Rattle.std.proofs.lemmas.Bool.{eqb-true}
@@ -12,9 +12,9 @@ use Rattle.markdown_scanners_tree.specs.line.State.{LineState, unscanned, space_
 use Rattle.markdown_blocks.specs.blocks.Leaves.{IsBlank, In, OnFirst, OutOr, IsLeaf}
 use Rattle.markdown_blocks.specs.blocks.Pages.{Piece, lines_in, root, containers_of, outer_of, open_behind, is_blank_kind, is_blank_between}
 use Rattle.markdown_blocks.specs.blocks.Pages.{AreOpened, IsPiece, AreBlocks, IsPage}
-use Rattle.markdown_blocks.specs.containers.Containers.{Between, Rest, rest_at, asked_first, asked_between, begun_at, behind, either_begun, extension_of}
+use Rattle.markdown_blocks.specs.containers.Containers.{Between, rest_at, asked_first, asked_between, begun_at, behind, extension_of}
 use Rattle.markdown_blocks.specs.containers.Containers.{footnote_by, footnote_of, go_on, item_of, rest_in, term_definition_by, term_definition_of}
-use Rattle.markdown_blocks.specs.containers.Containers.{within, without_terms, IsInside, Opens, settled_last}
+use Rattle.markdown_blocks.specs.containers.Containers.{within, without_terms, Opens}
 use Rattle.markdown_blocks.specs.containers.Footnotes.{behind_footnote, footnote_label}
 use Rattle.markdown_blocks.specs.declared.blocks.BlockKind.{BlockKind}
 use Rattle.markdown_blocks.specs.declared.blocks.BlockKind.TheVariants.{Blank, Break, Heading, Setext, Indented}

@@ -9,6 +9,7 @@ use Rattle.markdown_blocks.specs.declared.blocks.BlockKind.TheVariants.{Indented
 use Rattle.markdown_blocks.specs.declared.containers.Container.{Container}
 use Rattle.markdown_blocks.specs.events.Events.{Event, starts, leaf, ends, LeafBlock, block_end, first_of}
 use Rattle.markdown_blocks.specs.lists.Lists.{Nodes, nothing, leaf_then, container_then}
+use Rattle.markdown_blocks.specs.rows.Rows.{TextAt, rows_of}
 
 -- how many bytes of a page stand before the end of the line that begins after so many
 abbrev pub line_end : List ℕ → ℕ → ℕ
@@ -76,12 +77,18 @@ HoldsContent page outer kept passed block =
     → (offset : ℕ) → offset < length content.places
     → content_from block.kind passed block.place ≤ block.start + slice_index content.places offset
 
+-- The text of a leaf block in these containers stands in its lines from its place on. If it is a table, so does the first of its rows.
+pub record HoldsText (page : List ℕ) (outer : List Container) (kept : ℕ) (block : LeafBlock) : Type 0 where
+  pub within : block.place + length block.text ≤ block_end block
+  pub row : (row : TextAt) (later : List TextAt) → rows_of kept outer (lines_of (take block.bytes (drop block.start page))) ≡ row ∷ later
+      → block.start + row.place ≡ block.place
+
 -- the same of each leaf block among nodes in these containers, of which the line goes on with so many, and where so many bytes of the
 -- page are passed before them
 abbrev pub ContentsStand : List ℕ → List Container → ℕ → ℕ → Nodes → Type 0
 ContentsStand page outer kept passed nothing = ⊤
 ContentsStand page outer kept passed (leaf_then block later) =
-    HoldsContent page outer kept passed block × ContentsStand page outer (length outer) (block_end block) later
+    HoldsContent page outer kept passed block × HoldsText page outer kept block × ContentsStand page outer (length outer) (block_end block) later
 ContentsStand page outer kept passed (container_then container place inner later) =
     ContentsStand page (outer ++ settled container ∷ []) kept (suc place) inner
     × ContentsStand page outer (length outer) (passed_after (suc place) inner) later

@@ -1,0 +1,33 @@
+//! The HTML of a list of events.
+ghost use Rattle.std.specs.Prelude.{◌≡◌, IfOk, map, string_bytes};
+ghost use Rattle.markdown_values.specs.strings.Text.{cow_text};
+ghost use Rattle.markdown_values.specs.values.Events.{event_view};
+ghost use Rattle.markdown_html.specs.Html.{html_of};
+ghost use Rattle.markdown_html.specs.Settings.{seen_setting};
+
+use crate::setting::{AllowedAddresses, HtmlSetting};
+use crate::writer::HtmlWriter;
+use markdown_values::values::Event;
+use std::alloc::{AllocError, Global};
+
+/// The HTML of these events, as those of a page or of a part of it that a caller has chosen or
+/// changed.
+///
+/// # Errors
+///
+/// `AllocError` where memory is refused.
+pub fn html_of_events<'a, A: AllowedAddresses>(
+    alloc: Global,
+    setting: &HtmlSetting<A>,
+    events: Vec<Event<'a>>,
+) -> Result<String, AllocError>
+    ensures { IfOk result (λ html. string_bytes html
+        ≡ html_of (seen_setting A.allows setting.now)
+        (map (event_view cow_text) events.entry.items)) }
+{
+    let mut writer = HtmlWriter::new(alloc);
+    for event in events {
+        writer.push(setting, event)?;
+    }
+    Ok(writer.into_string())
+}
