@@ -1,11 +1,11 @@
 //! The content of leaf blocks: what is handed to the inline pass, and the text of code and HTML, with the place of each of its
 //! bytes. (CommonMark 0.31.2, sections 2.2, 4.2 to 4.6 and 4.8)
-ghost use Rattle.std.specs.Prelude.{◌≡◌, ◌^◌, ◌++◌, ◌+◌, ◌-◌, ◌<◌, ◌≤◌, List, length, replicate, slice_index, IfOk, IfSome, IfNone, IsOk, OnOk};
+ghost use Rattle.std.specs.Prelude.{◌≡◌, ◌^◌, ◌++◌, ◌+◌, ◌-◌, ◌<◌, ◌≤◌, ℕ, List, length, replicate, slice_index, IfOk, IfSome, IfNone, IsOk, IsTrue, OnOk};
 ghost use Rattle.std.specs.Str.{IsUtf8};
 ghost use Rattle.markdown_scanners_tree.specs.Ascii.{space};
 ghost use Rattle.markdown_scanners_tree.specs.scanners.TextLines.{lines_of};
 ghost use Rattle.markdown_blocks.specs.content.Bytes.{AreBytesOf};
-ghost use Rattle.markdown_blocks.specs.content.Content.{IsContent, content_len, content_with, text_of, words_len};
+ghost use Rattle.markdown_blocks.specs.content.Content.{IsContent, StandsFrom, content_len, content_with, text_of, words_len};
 ghost use Rattle.markdown_blocks.specs.content.Left.{IsRun, IsRunAt, parts_left};
 ghost use Rattle.markdown_blocks.specs.content.Parts.{AreOneRun, AreParts, Part};
 ghost use Rattle.markdown_blocks.specs.content.Seen.{seen_part};
@@ -112,6 +112,29 @@ impl<'a> Content<'a> {
         }
         segment.place + (further - segment.columns)
     }
+
+    /// The place in the block's lines of its first byte, where each further byte stands there
+    /// directly after the one before it, and None where that isn't known.
+    pub fn run_place(&self) -> Option<usize>
+        ensures { IfSome result (λ place. StandsFrom place self.now) }
+    {
+        if is_run(self.first, &self.later) {
+            Some(self.first.place)
+        } else {
+            None
+        }
+    }
+}
+
+// Whether the bytes stand one directly after another, as they do in one segment without columns.
+fn is_run(first: Segment, later: &[Segment]) -> bool
+    ensures { IsTrue result
+        → (offset : ℕ) → place_at first later.now offset ≡ first.place + offset }
+{
+    if first.offset > 0 || first.columns > 0 {
+        return false;
+    }
+    later.is_empty()
 }
 
 // The last of the segments that begins at the offset or before it.

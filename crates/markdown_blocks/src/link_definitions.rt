@@ -192,6 +192,10 @@ impl<'a> LinkDefinitions<'a> {
         ensures refused { IfErr result (λ _. (place : ℕ)
             × AreAddedUpTo place content.now self.old self.new) }
     {
+        // Most blocks begin with no definition, and have no content gathered.
+        if content.is_empty() {
+            return Ok(());
+        }
         let mut used = 0;
         let mut rest = lines;
         while let Some(definition) = scan_definition(&content[used..]) {

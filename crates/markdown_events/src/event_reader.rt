@@ -1,5 +1,5 @@
 //! The events of a page, one after another.
-ghost use Rattle.std.specs.Prelude.{◌≡◌, ◌∷◌, ◌<◌, ◌^◌, [], List, drop, false, length, map, IsTrue, IfErr, IfOk, IfSome, IfNone, OnOk};
+ghost use Rattle.std.specs.Prelude.{◌≡◌, ◌∷◌, ◌<◌, ◌≤◌, ◌^◌, [], List, drop, false, length, map, IsTrue, IfErr, IfOk, IfSome, IfNone, OnOk};
 ghost use Rattle.markdown_events.specs.EventLaws.{AreBalanced};
 ghost use Rattle.markdown_events.specs.InlineEvents.{RangedEvent, seen_event};
 ghost use Rattle.markdown_blocks.specs.events.Events.{seen_event as seen_block, seen_leaf};
@@ -250,10 +250,39 @@ impl<'a> EventReader<'a> {
             → GivesWith (B.targets broken.now) self.old events) }
         ensures definitions { self.new.known ≡ self.old.known }
     {
+        self.read_until_ready(broken)?;
+        Ok(self.take_ready())
+    }
+
+    // Reads block events until an event is ready, or none is left.
+    #[inline(always)]
+    fn read_until_ready<B: Definitions<'a>>(&mut self, broken: &B) -> Result<(), AllocError>
+        ensures same { (events : List RangedEvent)
+            → GivesWith (B.targets broken.now) self.new events
+            → GivesWith (B.targets broken.now) self.old events }
+        ensures no_more { events_left self.new ≤ events_left self.old }
+        ensures done { OnOk result (self.new.ready ≡ [] → IsDone self.new) }
+        ensures definitions { self.new.known ≡ self.old.known }
+    {
         while self.is_waiting() {
             self.read_block(broken)?;
         }
-        Ok(self.take_ready())
+        Ok(())
+    }
+
+    /// Reads ahead until `take_ready` has the next event of the page, or none is left. After a
+    /// refusal the same event may be asked for again.
+    ///
+    /// # Errors
+    ///
+    /// `AllocError` where memory is refused, which is asked for as by `next`.
+    #[inline(always)]
+    pub(crate) fn read_ahead(&mut self) -> Result<(), AllocError>
+        ensures same { (events : List RangedEvent) → Gives self.new events → Gives self.old events }
+        ensures no_more { events_left self.new ≤ events_left self.old }
+        ensures done { OnOk result (self.new.ready ≡ [] → IsDone self.new) }
+    {
+        self.read_until_ready(&NoBrokenLinks)
     }
 
     // Whether no event is ready, and block events are left.
@@ -418,8 +447,9 @@ impl<'a> EventReader<'a> {
         self.blocks.pop();
     }
 
-    // The first of the events that are ready.
-    fn take_ready(&mut self) -> Option<(Event<'a>, Range<usize>)>
+    /// The first of the events that are ready.
+    #[inline(always)]
+    pub(crate) fn take_ready(&mut self) -> Option<(Event<'a>, Range<usize>)>
         ensures event { IfSome result (λ event.
             self.old ≡ record self.new { ready = seen_event event ∷ self.new.ready }) }
         ensures none { IfNone result (self.old.ready ≡ []) }

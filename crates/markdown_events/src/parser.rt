@@ -124,13 +124,13 @@ impl<'a> Iterator for Parser<'a> {
         if self.is_stopped {
             return None;
         }
-        match self.reader.next() {
-            Ok(Some((event, _))) => Some(Ok(event)),
-            Ok(None) => None,
-            Err(refused) => {
-                self.is_stopped = true;
-                Some(Err(refused))
-            }
+        if let Err(refused) = self.reader.read_ahead() {
+            self.is_stopped = true;
+            return Some(Err(refused));
+        }
+        match self.reader.take_ready() {
+            Some((event, _)) => Some(Ok(event)),
+            None => None,
         }
     }
 }
@@ -146,13 +146,13 @@ impl<'a> Iterator for OffsetIter<'a> {
         if self.is_stopped {
             return None;
         }
-        match self.reader.next() {
-            Ok(Some(event)) => Some(Ok(event)),
-            Ok(None) => None,
-            Err(refused) => {
-                self.is_stopped = true;
-                Some(Err(refused))
-            }
+        if let Err(refused) = self.reader.read_ahead() {
+            self.is_stopped = true;
+            return Some(Err(refused));
+        }
+        match self.reader.take_ready() {
+            Some(event) => Some(Ok(event)),
+            None => None,
         }
     }
 }

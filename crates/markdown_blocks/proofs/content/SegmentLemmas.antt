@@ -2,9 +2,9 @@
 use Rattle.std.proofs.Common.{ℕ, zero, suc, true, false, ◌+◌, ◌-◌, ◌^◌, ◌<◌, ◌≤◌, ◌≡◌, nat_le, List, [], ◌∷◌, ◌++◌, length, take, drop, map, replicate, get_or}
 use Rattle.std.proofs.Common.{refl, sym, ap, ◌∙◌, subst, inl, inr, arith, length-append}
 use Rattle.std.specs.List.{AllByRecursion, flat_map, range_with_len}
-use Rattle.std.proofs.lemmas.Bool.{le-leb, lt-leb, lt-ltb, le-ltb}
+use Rattle.std.proofs.lemmas.Bool.{eqb-true, le-leb, lt-leb, lt-ltb, le-ltb}
 use Rattle.std.proofs.lemmas.Bool.Decides.{leb_tells}
-use Rattle.std.specs.Prelude.{slice_index, ◌⊎◌}
+use Rattle.std.specs.Prelude.{slice_index, ◌==◌, ◌⊎◌}
 use Rattle.std.proofs.lemmas.List.{drop-drop, drop_all, drop_more, get_or_default, length-replicate, length-take-le, map-append}
 use Rattle.std.proofs.lemmas.List.FromFn.{get_or-map-range_with_len, take-map-range_with_len}
 use Rattle.markdown_scanners_tree.specs.Ascii.{space}
@@ -103,6 +103,13 @@ told_in_columns s offset further r is low told = rw (← is, lt-ltb further s.co
 pub told_in_bytes : (s : Segment) (offset further r : ℕ) → further ≡ offset - s.offset → s.columns ≤ further → r ≡ s.place + (further - s.columns)
     → r ≡ place_in s offset
 told_in_bytes s offset further r is low told = rw (← is, le-ltb further s.columns low) told
+
+-- where there is one segment without columns, which begins at the first byte
+pub run_at : (s : Segment) (later : List Segment) → (length later == 0) ≡ true → s.offset ≡ 0 → s.columns ≡ 0 → (offset : ℕ)
+    → place_at s later offset ≡ s.place + offset
+run_at s [] one first none offset =
+    sym (told_in_bytes s offset offset (s.place + offset) (omega (arith, first)) (omega (arith, none)) (omega (arith, none)))
+run_at s (t ∷ later) one first none offset = absurd (omega (arith, eqb-true (length (t ∷ later)) 0 one))
 
 -- the segments of parts
 pub rising_parts : (offset : ℕ) (parts : List Part) → (low : ℕ) → low ≤ offset → Rising low (segments_from offset parts)

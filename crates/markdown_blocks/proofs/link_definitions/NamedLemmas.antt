@@ -1,13 +1,13 @@
 -- What the definitions of a page name, and which of them a label finds.
 use Rattle.std.proofs.Common.{ℕ, List, [], ◌∷◌, ◌++◌, ◌≡◌, ◌⊎◌, inl, inr, Option, Some, None, drop, take, cond, false, Bool, true}
-use Rattle.std.proofs.Common.{refl, sym, ap, ◌∙◌, subst, string_bytes}
-use Rattle.std.specs.Prelude.{map, is_some}
+use Rattle.std.proofs.Common.{arith, refl, sym, ap, ◌∙◌, subst, string_bytes}
+use Rattle.std.specs.Prelude.{◌==◌, length, map, is_some}
 use Rattle.std.specs.Map.{lookup}
 use Rattle.std.specs.Ordering.{is_eq, nat_cmp}
 use Rattle.std.specs.Str.{IsUtf8, bytes_eq}
 use Rattle.std.specs.declared.string.String.{String}
 use Rattle.std.specs.Cmp.Lexicographic.{slice_cmp}
-use Rattle.std.proofs.lemmas.Bool.{cases_Bool}
+use Rattle.std.proofs.lemmas.Bool.{cases_Bool, eqb-true}
 use Rattle.std.proofs.lemmas.Map.Text.{is_eq-slice_cmp}
 use Rattle.std.proofs.lemmas.Slice.Eq.{bytes_eq-Decides}
 use Rattle.markdown_scanners_tree.specs.scanners.TextLines.{lines_of}
@@ -162,6 +162,10 @@ front_named text d here later is named more = record {
 
 pub none_named : (text : List ℕ) → ((d : ReferenceDefinition) → ¬ IsDefinition text d) → Names text []
 none_named text none = record { definitions = []; rest = text; are_definitions = (refl, none); are_named = refl }
+
+pub names_nothing : (text : List ℕ) → (length text == 0) ≡ true → Names text []
+names_nothing [] none = none_named [] no_text
+names_nothing (b ∷ text) none = absurd (omega (arith, eqb-true (length (b ∷ text)) 0 none))
 
 -- what is gathered of a content has its definitions
 gathered_named : (content gathered : List ℕ) (named : List Named) → IsGathered content gathered → Names gathered named → Names content named

@@ -1,5 +1,5 @@
 -- The content of leaf blocks, with the place of each byte. (CommonMark 0.31.2, sections 2.2, 4.2 to 4.6 and 4.8)
-use Rattle.std.specs.Prelude.{ℕ, ◌||◌, ◌-◌, List, ◌++◌, ◌≡◌, length, take, replicate}
+use Rattle.std.specs.Prelude.{ℕ, ◌||◌, ◌+◌, ◌-◌, ◌<◌, List, ◌++◌, ◌≡◌, length, take, replicate, slice_index}
 use Rattle.std.specs.List.{flat_map, range_with_len, suffix_len}
 use Rattle.markdown_scanners_tree.specs.Ascii.{space}
 use Rattle.markdown_scanners_tree.specs.Bytes.{is_line_ending, is_space_or_tab}
@@ -12,6 +12,10 @@ use Rattle.markdown_blocks.specs.declared.containers.Container.{Container}
 pub record Placed : Type 0 where
   pub text : List ℕ
   pub places : List ℕ
+
+-- the bytes stand in the block's lines one directly after another, from this place on
+abbrev pub StandsFrom : ℕ → Placed → Type 0
+StandsFrom place content = (offset : ℕ) → offset < length content.text → slice_index content.places offset ≡ place + offset
 
 -- the columns of a cut tab are spaces, and stand where the tab does, directly before the bytes (2.2)
 abbrev pub text_of : Part → List ℕ

@@ -1,9 +1,9 @@
 //! The content of a leaf block of a page, and what it holds: lines, or inlines.
-ghost use Rattle.std.specs.Prelude.{◌≡◌, ◌≤◌, Bool, List, ℕ, length, take, drop, map, slice_index, IfOk};
+ghost use Rattle.std.specs.Prelude.{◌≡◌, ◌≤◌, Bool, List, ℕ, length, take, drop, map, slice_index, IfOk, IfSome};
 ghost use Rattle.markdown_values.specs.strings.Text.{cow_text};
 ghost use Rattle.markdown_values.specs.values.Events.{event_view};
 ghost use Rattle.markdown_scanners_tree.specs.scanners.TextLines.{lines_of};
-ghost use Rattle.markdown_blocks.specs.content.Content.{IsContent};
+ghost use Rattle.markdown_blocks.specs.content.Content.{IsContent, StandsFrom};
 ghost use Rattle.markdown_blocks.specs.events.Events.{seen_leaf};
 ghost use Rattle.markdown_events.specs.InlineEvents.{seen_event};
 ghost use Rattle.markdown_events.specs.page.LeafEvents.{AreLineEvents, AreTextEvents, line_events, lines_in_page, page_range, placed};
@@ -176,13 +176,36 @@ fn move_to_page(events: &mut [(Event, Range<usize>)], before: usize, content: &C
     ensures { map seen_event events.new
         ≡ map (placed before content.now.places) (map seen_event events.old) }
 {
+    // Most contents are one run of the page.
+    let run = content.run_place();
     for event in events.iter_mut() {
-        event.1 = page_range(before, content, event.1.start, event.1.end);
+        event.1 = page_range(before, run, content, event.1.start, event.1.end);
     }
 }
 
-// The range in the page of a range of the content.
-fn page_range(before: usize, content: &Content, start: usize, end: usize) -> Range<usize>
+// The range in the page of a range of the content, whose bytes stand in the lines of its block one
+// after another from the place of the run on, if that is known.
+fn page_range(
+    before: usize,
+    run: Option<usize>,
+    content: &Content,
+    start: usize,
+    end: usize,
+) -> Range<usize>
+    requires places { CanPlace before content.now }
+    requires within { end ≤ length content.now.text }
+    requires run { IfSome run (λ place. StandsFrom place content.now) }
+    ensures { result ≡ page_range before content.now.places
+        (record { start = start; end = end }) }
+{
+    match run {
+        Some(place) if start < end => before + place + start..before + place + end,
+        _ => placed_range(before, content, start, end),
+    }
+}
+
+// The range in the page of a range of the content, by the places of its first and its last byte.
+fn placed_range(before: usize, content: &Content, start: usize, end: usize) -> Range<usize>
     requires places { CanPlace before content.now }
     requires within { end ≤ length content.now.text }
     ensures { result ≡ page_range before content.now.places

@@ -2,8 +2,15 @@ use Rattle.std.proofs.Common.{[], ◌++◌, ap, sym, ◌∙◌, subst, length, a
 use Rattle.std.proofs.lemmas.List.{drop-drop, length-drop}
 use Rattle.markdown_blocks.specs.link_definitions.LinkDefinitions.{Names, known_before}
 use Rattle.markdown_blocks.proofs.taken.TakenLemmas.{slice_behind}
-use Rattle.markdown_blocks.proofs.link_definitions.NamedLemmas.{front_named, none_named, none_later, added_before}
+use Rattle.markdown_blocks.proofs.link_definitions.NamedLemmas.{front_named, names_nothing, none_named, none_later, added_before}
 use Rattle.markdown_blocks.proofs.link_definitions.LinkDefinitions.add_content.Goals as goal
+
+pub returns-then-is_empty-clause-added : goal.returns-then-is_empty-clause-added
+returns-then-is_empty-clause-added c = (
+  [],
+  names_nothing c.args.content.now (sym c.is_empty.ensures ∙ c.if-is_empty.true),
+  λ asked. none_later c.args.self.now asked,
+)
 
 pub loop-definition-init : goal.loop-definition-init
 loop-definition-init c = (
