@@ -1,3 +1,4 @@
 pub mod CutFacts
+pub mod FilledFacts
 pub mod InlineFacts
 pub mod PieceFacts

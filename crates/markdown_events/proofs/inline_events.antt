@@ -1,5 +1,6 @@
 pub mod Balance
 pub mod Facts
+pub mod Filled
 pub mod Found
 pub mod Laws
 pub mod PassLemmas

@@ -6,3 +6,4 @@ pub mod PageBalance
 pub mod ParserLemmas
 pub mod ReadLemmas
 pub mod TreeLemmas
+pub mod PageRanges

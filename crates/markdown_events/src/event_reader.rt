@@ -1,6 +1,6 @@
 //! The events of a page, one after another.
 ghost use Rattle.std.specs.Prelude.{◌≡◌, ◌∷◌, ◌<◌, ◌≤◌, ◌^◌, [], List, drop, false, length, map, IsTrue, IfErr, IfOk, IfSome, IfNone, OnOk};
-ghost use Rattle.markdown_events.specs.EventLaws.{AreBalanced};
+ghost use Rattle.markdown_events.specs.EventLaws.{AreBalanced, AreWithin};
 ghost use Rattle.markdown_events.specs.InlineEvents.{RangedEvent, seen_event};
 ghost use Rattle.markdown_blocks.specs.events.Events.{seen_event as seen_block, seen_leaf};
 ghost use Rattle.markdown_events.specs.page.Given.{Gives, GivesWith, IsDone, events_left, left_with, setting_with};
@@ -123,6 +123,8 @@ impl<'a> EventReader<'a> {
             → ArePageEvents text.now commonmark events) }
         ensures balanced { IfOk result (λ reader. (events : List RangedEvent) → Gives reader events
             → AreBalanced events) }
+        ensures within { IfOk result (λ reader. (events : List RangedEvent) → Gives reader events
+            → AreWithin text.now events) }
         ensures definitions { IfOk result (λ reader.
             AreDefinitionsOf text.now commonmark reader.known) }
     {
@@ -144,6 +146,8 @@ impl<'a> EventReader<'a> {
             → ArePageEvents text.now (asked_by options) events) }
         ensures balanced { IfOk result (λ reader. (events : List RangedEvent) → Gives reader events
             → AreBalanced events) }
+        ensures within { IfOk result (λ reader. (events : List RangedEvent) → Gives reader events
+            → AreWithin text.now events) }
         ensures definitions { IfOk result (λ reader.
             AreDefinitionsOf text.now (asked_by options) reader.known) }
         ensures built { IfOk result (λ _. not_built options ≡ 0) }
@@ -170,6 +174,8 @@ impl<'a> EventReader<'a> {
             → ArePageEvents page.now setting events) }
         ensures balanced { IfOk result (λ reader. (events : List RangedEvent) → Gives reader events
             → AreBalanced events) }
+        ensures within { IfOk result (λ reader. (events : List RangedEvent) → Gives reader events
+            → AreWithin page.now events) }
         ensures definitions { IfOk result (λ reader.
             AreDefinitionsOf page.now setting reader.known) }
         ensures broken { IfOk result (λ reader. (more : Targets) (events : List RangedEvent)

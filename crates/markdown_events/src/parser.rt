@@ -1,7 +1,7 @@
 //! The events of a page as iterators.
 ghost use Rattle.std.specs.Prelude.{◌≡◌, false, List, IfErr, IfOk};
 ghost use Rattle.std.specs.Iterator.{at_most};
-ghost use Rattle.markdown_events.specs.EventLaws.{AreBalanced};
+ghost use Rattle.markdown_events.specs.EventLaws.{AreBalanced, AreWithin};
 ghost use Rattle.markdown_events.specs.InlineEvents.{RangedEvent};
 ghost use Rattle.markdown_events.specs.page.Given.{Gives};
 ghost use Rattle.markdown_events.specs.page.Iterated.{GivesNext, GivesNextEvent, Iterated, items_left};
@@ -53,6 +53,8 @@ impl<'a> Parser<'a> {
             → Gives parser.left events → ArePageEvents text.now commonmark events) }
         ensures balanced { IfOk result (λ parser. (events : List RangedEvent)
             → Gives parser.left events → AreBalanced events) }
+        ensures within { IfOk result (λ parser. (events : List RangedEvent)
+            → Gives parser.left events → AreWithin text.now events) }
         ensures definitions { IfOk result (λ parser.
             AreDefinitionsOf text.now commonmark parser.left.known) }
         ensures goes { IfOk result (λ parser. parser.is_stopped ≡ false) }
@@ -74,6 +76,8 @@ impl<'a> Parser<'a> {
             → Gives parser.left events → ArePageEvents text.now (asked_by options) events) }
         ensures balanced { IfOk result (λ parser. (events : List RangedEvent)
             → Gives parser.left events → AreBalanced events) }
+        ensures within { IfOk result (λ parser. (events : List RangedEvent)
+            → Gives parser.left events → AreWithin text.now events) }
         ensures definitions { IfOk result (λ parser.
             AreDefinitionsOf text.now (asked_by options) parser.left.known) }
         ensures goes { IfOk result (λ parser. parser.is_stopped ≡ false) }

@@ -86,11 +86,24 @@ IsKept links links' = (n : ℕ) (a : Link) → slice_get links n ≡ Some (Some 
 abbrev pub AreAimed : List ℕ → Known → List (Option Link) → Type 0
 AreAimed text known links = (n : ℕ) (a : Link) → slice_get links n ≡ Some (Some a) → IsAimed text known a
 
+-- each link has an opener of some bytes
+abbrev pub HaveOpeners : List (Option Link) → Type 0
+HaveOpeners links = (n : ℕ) (a : Link) → slice_get links n ≡ Some (Some a) → a.source.start < a.text.start
+
+-- a right bracket ends what has some bytes
+pub closer_some : (known : Known) (openers : List Opener) (reading : Reading) (start end : ℕ) (next : Reading)
+    → IsClosed known openers reading start end next → start < end
+closer_some known [] reading start end next is = omega (arith, is.0)
+closer_some known (opener ∷ outer) reading start end next (inl is) =
+    omega (arith, link_ends_after reading.text known opener start is.link.target is.link.source.end is.is_link.target, is.end_is)
+closer_some known (opener ∷ outer) reading start end next (inr is) = omega (arith, is.end_is)
+
 module _ (text : List ℕ) (known : Known) where
   record Holds (reading : Reading) : Type 0 where
     text_is : reading.text ≡ text
     unused : AreUnused reading.links (length reading.links) reading.openers
     aimed : AreAimed text known reading.links
+    begun : HaveOpeners reading.links
 
   -- what a step of the reading does
   record Steps (reading next : Reading) : Type 0 where
@@ -114,6 +127,7 @@ module _ (text : List ℕ) (known : Known) where
         unused_more reading.links (length reading.links) reading.openers holds.unused,
       );
       aimed = λ n a is. holds.aimed n a (added_in reading.links n a is);
+      begun = λ n a is. holds.begun n a (added_in reading.links n a is);
     };
   }
 
@@ -129,7 +143,7 @@ module _ (text : List ℕ) (known : Known) where
   with_piece_steps K.Html piece reading holds = stays reading reading refl holds
   with_piece_steps (K.Delimiters run) piece reading holds = record {
     kept = λ n a is. is;
-    holds = record { text_is = holds.text_is; unused = holds.unused; aimed = holds.aimed };
+    holds = record { text_is = holds.text_is; unused = holds.unused; aimed = holds.aimed; begun = holds.begun };
   }
   with_piece_steps K.LinkOpener piece reading holds = opened false piece reading holds
   with_piece_steps K.ImageOpener piece reading holds = opened true piece reading holds
@@ -151,6 +165,7 @@ module _ (text : List ℕ) (known : Known) where
             (omega (arith, unused.0, length-set reading.links opener.number (Some link)))
             (unused_put reading.links opener.number (Some link) opener.number outer (omega arith) unused.2);
         aimed = λ n a there. by n a (put_in reading.links opener.number n (Some link) a there);
+        begun = λ n a there. begins n a (put_in reading.links opener.number n (Some link) a there);
       };
     }
       where
@@ -173,10 +188,29 @@ module _ (text : List ℕ) (known : Known) where
         by n a (inl (at, same)) = subst (IsAimed text known) (let it : link ≡ a = cc in it) here
         by n a (inr old) = holds.aimed n a old
 
+        -- its opener is a bracket, or the head of a wikilink
+        bracket_later : (is_image : Bool) → opener.start ≤ (if is_image then opener.start + 1 else opener.start)
+        bracket_later true = omega arith
+        bracket_later false = omega arith
+
+        some_opener : link.source.start < link.text.start
+        some_opener = elim is.target [
+          | inl target ↦ omega (arith, is.begins, is.text_begins, target.0, bracket_later opener.is_image)
+          | inr wiki ↦ elim wiki.2.ends [
+            | inl piped ↦ omega (arith, is.begins, is.text_begins, bracket_later opener.is_image, wiki.2.begins, wiki.2.some, piped.1)
+            | inr bare ↦ omega (arith, is.begins, is.text_begins, bracket_later opener.is_image, wiki.2.begins, wiki.2.some, bare.1)
+          ]
+        ]
+
+        begins : (n : ℕ) (a : Link) → ((n ≡ opener.number) × (Some link ≡ Some a)) ⊎ (slice_get reading.links n ≡ Some (Some a))
+            → a.source.start < a.text.start
+        begins n a (inl (at, same)) = subst (λ (l : Link). l.source.start < l.text.start) (let it : link ≡ a = cc in it) some_opener
+        begins n a (inr old) = holds.begun n a old
+
     none_ended : Steps reading (record reading { openers = outer })
     none_ended = record {
       kept = λ n a is. is;
-      holds = record { text_is = holds.text_is; unused = outer_unused; aimed = holds.aimed };
+      holds = record { text_is = holds.text_is; unused = outer_unused; aimed = holds.aimed; begun = holds.begun };
     }
 
   -- a right bracket, and where a text may be cut after it
@@ -189,7 +223,7 @@ module _ (text : List ℕ) (known : Known) where
       → IsClosed known openers reading piece.start piece.end next → Closes reading piece next
   closed [] reading piece next are holds is = record {
     steps = stays reading next is.1 holds;
-    some = omega (arith, is.0);
+    some = closer_some known [] reading piece.start piece.end next is;
     end = inl is.0;
   }
   closed (opener ∷ outer) reading piece next are holds (inl is) =
@@ -197,8 +231,7 @@ module _ (text : List ℕ) (known : Known) where
       let steps = ended reading opener outer piece.start holds unused is.link is.is_link in
       record {
         steps = subst (Steps reading) (sym is.next_is) steps;
-        some = (let later = link_ends_after reading.text known opener piece.start is.link.target is.link.source.end is.is_link.target in
-            omega (arith, later, is.end_is));
+        some = closer_some known (opener ∷ outer) reading piece.start piece.end next (inl is);
         end = inr (
           opener.number,
           is.link,
@@ -292,6 +325,7 @@ start_holds text known = record {
   text_is = refl;
   unused = tt;
   aimed = λ n a is. absurd (let none : None ≡ Some (Some a) = is in cc);
+  begun = λ n a is. absurd (let none : None ≡ Some (Some a) = is in cc);
 }
 
 -- each link leads where its text is followed
@@ -300,6 +334,13 @@ pub links_aimed : (text : List ℕ) (setting : Setting) (pieces : List Piece) (l
 links_aimed text setting pieces links emphasis is =
     subst (AreAimed text setting.known) (sym is.links_are)
     (all_steps text setting.known setting refl 0 (at_start text) pieces is.last is.read (start_holds text setting.known)).holds.aimed
+
+-- and has an opener
+pub links_opened : (text : List ℕ) (setting : Setting) (pieces : List Piece) (links : List (Option Link)) (emphasis : List Emphasis)
+    → IsCut text setting pieces links emphasis → HaveOpeners links
+links_opened text setting pieces links emphasis is =
+    subst HaveOpeners (sym is.links_are)
+    (all_steps text setting.known setting refl 0 (at_start text) pieces is.last is.read (start_holds text setting.known)).holds.begun
 
 -- each piece stands in the text
 pub pieces_known : (text : List ℕ) (setting : Setting) (pieces : List Piece) (links : List (Option Link)) (emphasis : List Emphasis)

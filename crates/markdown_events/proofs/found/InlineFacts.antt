@@ -34,7 +34,7 @@ use Rattle.markdown_events.proofs.found.PieceFacts.{IsKnown, HasDelimiters, low_
 
 -- ---- links
 
-defined : {A : Type 0} (found : Option A) → is_some found ≡ true → (a : A) × (found ≡ Some a)
+pub defined : {A : Type 0} (found : Option A) → is_some found ≡ true → (a : A) × (found ≡ Some a)
 defined None is = (let lost : false ≡ true = is in absurd cc)
 defined (Some a) is = (a, refl)
 
@@ -80,7 +80,7 @@ before text known it (inr (range, same, head, closes, end)) = subst (λ t. HasTa
 
 -- ---- inlines of pieces
 
-all_both : {X : Type 0} (P : X → Type 0) (xs ys : List X) → AllByRecursion P xs → AllByRecursion P ys → AllByRecursion P (xs ++ ys)
+pub all_both : {X : Type 0} (P : X → Type 0) (xs ys : List X) → AllByRecursion P xs → AllByRecursion P ys → AllByRecursion P (xs ++ ys)
 all_both P [] ys these those = those
 all_both P (x ∷ xs) ys these those = (these.0, all_both P xs ys these.1 those)
 

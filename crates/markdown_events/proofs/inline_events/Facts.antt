@@ -108,7 +108,7 @@ module _ (text : List ℕ) (targets : Targets) (links : List (Option Link)) wher
 
   -- ---- where inlines end
 
-  pub stands_later : (inline : Inline) (from to : ℕ) → IsFact inline → StandsAt links inline from to → from ≤ to
+  stands_later : (inline : Inline) (from to : ℕ) → IsFact inline → StandsAt links inline from to → from ≤ to
   stands_later (I.Leaf piece) from to fact is = omega (arith, fact.0.some, is.0, is.1)
   stands_later (I.StartEmphasis place count) from to fact is = omega (arith, is.0, is.1)
   stands_later (I.EndEmphasis place count) from to fact is = omega (arith, is.0, is.1)

@@ -1,5 +1,5 @@
 -- What is known of the inlines that are found in a text.
-use Rattle.std.proofs.Common.{ℕ, List, [], ◌≡◌, ◌<◌, length, sym, subst, Option}
+use Rattle.std.proofs.Common.{ℕ, List, [], ◌∷◌, ◌≡◌, ◌<◌, length, sym, subst, Option}
 use Rattle.std.specs.List.{All, AllByRecursion}
 use Rattle.std.specs.Str.{IsUtf8}
 use Rattle.markdown_inlines.specs.Nesting.{Nest, StandFrom}
@@ -8,12 +8,14 @@ use Rattle.markdown_inlines.specs.Sources.{AreLinkSources}
 use Rattle.markdown_inlines.specs.declared.extensions.InlineExtensions.{InlineExtensions}
 use Rattle.markdown_inlines.specs.declared.inlines.Inline.{Inline}
 use Rattle.markdown_inlines.specs.declared.links.Link.{Link}
+use Rattle.markdown_events.proofs.found.FilledFacts.{inlines_filled}
 use Rattle.markdown_events.proofs.found.InlineFacts.{inlines_found}
 use Rattle.markdown_events.specs.EventLaws.{AreWithin}
 use Rattle.markdown_events.specs.InlineEvents.{AreEvents, RangedEvent}
 use Rattle.markdown_events.specs.Passes.{EndsBelow, IsFound}
 use Rattle.markdown_events.specs.Targets.{Targets, leads}
 use Rattle.markdown_events.proofs.inline_events.Facts.{IsFact, all_found, all_known, by_index, ends_below}
+use Rattle.markdown_events.proofs.inline_events.Filled.{filled_rise}
 use Rattle.markdown_events.proofs.inline_events.Rise.{all_rise}
 
 module _ (text : List ℕ) (asked : InlineExtensions) (targets : Targets) (inlines : List Inline) (links : List (Option Link))
@@ -40,4 +42,6 @@ module _ (text : List ℕ) (asked : InlineExtensions) (targets : Targets) (inlin
   -- so do the events
   pub text_within : (events : List RangedEvent) → Nest links inlines → StandFrom links 0 inlines (length text)
       → AreEvents text targets links [] inlines events → AreWithin text events
-  text_within events nested stand gives = all_rise text targets links (length text) inlines events facts nested stand gives
+  text_within events nested stand gives =
+      filled_rise (length text ∷ []) 0 events
+      (all_rise text targets links (length text) inlines events (inlines_filled text _ inlines links are) nested stand gives)

@@ -1,5 +1,5 @@
 -- The ranges of the events of nodes rise, and lie within those of the elements that hold them, where the nodes stand in order.
-use Rattle.std.proofs.Common.{ℕ, suc, ◌+◌, ◌≤◌, ◌==◌, Bool, true, false, not, List, [], ◌∷◌, ◌++◌, length, Option, Some, None, ◌≡◌, refl, sym, ap}
+use Rattle.std.proofs.Common.{ℕ, suc, ◌≤◌, Bool, true, false, not, List, [], ◌∷◌, ◌++◌, length, Option, Some, None, ◌≡◌, refl, sym, ap}
 use Rattle.std.proofs.Common.{subst, ◌∙◌, append_assoc, append-nil, arith, if◌then◌else◌}
 use Rattle.std.specs.Prelude.{⊤}
 use Rattle.markdown_values.specs.values.Events.{start, end}
@@ -15,8 +15,9 @@ use Rattle.markdown_blocks.specs.declared.first_blocks.Task.{Task}
 use Rattle.markdown_blocks.specs.events.Events.{LeafBlock, leaf}
 use Rattle.markdown_blocks.specs.first_blocks.Tasks.{task_in}
 use Rattle.markdown_blocks.specs.first_blocks.Waiting.{waiting_behind}
+use Rattle.markdown_blocks.specs.laws.Order.{passed_after}
 use Rattle.markdown_blocks.specs.lists.Lists.{Nodes, nothing, leaf_then, container_then}
-use Rattle.markdown_events.specs.EventLaws.{AreWithin, LiesIn, RiseIn}
+use Rattle.markdown_events.specs.EventLaws.{AreWithin, RiseIn}
 use Rattle.markdown_events.specs.InlineEvents.{RangedEvent, ranged}
 use Rattle.markdown_events.specs.TagEnds.{tag_end}
 use Rattle.markdown_events.specs.declared.page.levels.ItemList.{ItemList}
@@ -51,12 +52,6 @@ abbrev first_or : ℕ → Nodes → ℕ
 first_or passed nothing = passed
 first_or passed (leaf_then block later) = block.place
 first_or passed (container_then container place inner later) = place
-
--- how many bytes of the page stand before what follows nodes, where so many have passed before them
-abbrev pub passed_after : ℕ → Nodes → ℕ
-passed_after passed nothing = passed
-passed_after passed (leaf_then block later) = passed_after (block_end block) later
-passed_after passed (container_then container place inner later) = passed_after (passed_after (suc place) inner) later
 
 abbrev pub AreSome : Nodes → Type 0
 AreSome nothing = ⊥

@@ -1,8 +1,7 @@
 -- The events that a parser gives are those of its page.
 use mathlib.Core.Path.{fun_ext}
 use Rattle.std.proofs.lemmas.List.{reverse-append}
-use Rattle.std.proofs.Common.{ℕ, ◌+◌, ◌<◌, List, [], ◌∷◌, ◌++◌, map, reverse, drop, length, Option, Some, None, Result, Ok, Err, IfOk, IfErr, IfSome, IfNone, ◌≡◌, refl, sym, ap, subst, ◌∙◌, append_assoc}
-use Rattle.std.proofs.Common.{append-nil}
+use Rattle.std.proofs.Common.{ℕ, List, [], ◌∷◌, ◌++◌, reverse, Option, Some, None, Result, Ok, Err, IfOk, IfErr, IfSome, IfNone, ◌≡◌, refl, sym, ap, subst, ◌∙◌}
 use Rattle.markdown_blocks.proofs.ForCallers.{events_of_nodes}
 use Rattle.markdown_blocks.specs.declared.containers.Container.{Container}
 use Rattle.markdown_blocks.specs.events.Events.{Event, IsEventsOf, LeafBlock, starts, leaf, ends}
@@ -13,10 +12,10 @@ use Rattle.markdown_events.specs.Targets.{Targets, nowhere, or_else}
 use Rattle.markdown_events.specs.declared.page.spans.Span.{Span}
 use Rattle.markdown_events.specs.declared.event_reader.PageSetting.{PageSetting}
 use Rattle.markdown_events.specs.page.Given.{AreEventsFrom, Gives, GivesWith, PageLeft, left_with, setting_with}
-use Rattle.markdown_events.specs.page.OpenElements.{OpenElements, begun, end_events, ended, next_span, none_open, passed, place_in, start_events}
+use Rattle.markdown_events.specs.page.OpenElements.{begun, end_events, ended, next_span, none_open, passed, place_in, start_events}
 use Rattle.markdown_events.specs.page.PageEvents.{block_setting, blocks_of, ArePageEvents, ArePageEventsWith, AreNodeEvents, outermost}
 use Rattle.markdown_events.specs.page.Spans.{spans}
-use Rattle.markdown_events.specs.page.TaskEvents.{AreBlockEvents, BlockSetting}
+use Rattle.markdown_events.specs.page.TaskEvents.{AreBlockEvents}
 use Rattle.markdown_events.proofs.page.TreeLemmas.{page_tree}
 
 -- with no other labels

@@ -1,2 +1,3 @@
 pub mod RestLemmas
 pub mod TaskLaws
+pub mod TaskRanges

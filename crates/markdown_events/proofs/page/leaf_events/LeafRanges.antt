@@ -1,40 +1,29 @@
--- The ranges of a leaf block's events rise, where its content stands after what has passed and its inlines rise in that content.
-use Rattle.std.proofs.Common.{ℕ, ◌+◌, ◌<◌, ◌≤◌, ◌≡◌, Bool, true, false, List, [], ◌∷◌, ◌++◌, length, take, drop, Some, None, sym, subst, arith}
-use Rattle.std.specs.Prelude.{⊤, slice_index}
+-- The ranges of a leaf block's events rise, where its content stands after what has passed.
+use Rattle.std.proofs.Common.{ℕ, ◌≤◌, ◌≡◌, Bool, true, false, List, [], ◌∷◌, ◌++◌, length, take, drop, Some, None, sym, subst, arith}
 use Rattle.std.proofs.lemmas.List.{length-take}
 use Rattle.markdown_values.specs.values.Tags.{TagView, code_block, html_block, paragraph}
-use Rattle.markdown_blocks.specs.content.Content.{Placed}
 use Rattle.markdown_blocks.specs.declared.blocks.BlockKind.{BlockKind}
 use Rattle.markdown_blocks.specs.declared.blocks.BlockKind.TheVariants.{Blank, Break, Heading, Setext, Indented, Fenced, Html, Paragraph, Definition, Table}
-use Rattle.markdown_blocks.specs.declared.containers.Container.{Container}
 use Rattle.markdown_blocks.specs.events.Events.{LeafBlock}
+use Rattle.markdown_blocks.specs.laws.Order.{HoldsText}
 use Rattle.markdown_blocks.proofs.ForCallers.{HasInlines, content_bytes, content_sizes, inlines_strictly}
 use Rattle.markdown_events.specs.EventLaws.{RiseIn}
-use Rattle.markdown_events.specs.InlineEvents.{AreInlineEvents, EventSetting, RangedEvent}
-use Rattle.markdown_events.specs.page.LeafEvents.{AreLeafEvents, AreLeafEventsOf, AreTextEvents, IsContentOf, Place, enclosed, enclosed_lines, in_paragraph}
+use Rattle.markdown_events.specs.InlineEvents.{EventSetting, RangedEvent}
+use Rattle.markdown_events.specs.page.LeafEvents.{AreLeafEvents, AreLeafEventsOf, AreTextEvents, Place, enclosed, in_paragraph}
 use Rattle.markdown_events.specs.page.LeafEvents.{lines_in_page, plain_heading}
-use Rattle.markdown_events.specs.page.TableEvents.{AreTableEvents}
 use Rattle.markdown_events.specs.page.Spans.{block_end}
-use Rattle.markdown_events.proofs.inline_events.Laws.{events_balance}
+use Rattle.markdown_events.proofs.inline_events.Filled.{RiseFilled}
+use Rattle.markdown_events.proofs.inline_events.Laws.{events_balance, events_filled}
 use Rattle.markdown_events.proofs.inline_events.Rise.{rise_from}
 use Rattle.markdown_events.proofs.page.NodeRanges.{element_rises}
 use Rattle.markdown_events.proofs.page.leaf_events.LineRanges.{ContentAfter, enclosed_rises}
-use Rattle.markdown_events.proofs.page.leaf_events.TextRanges.{RiseFilled, placed_rise}
+use Rattle.markdown_events.proofs.page.leaf_events.TextRanges.{placed_rise}
+use Rattle.markdown_events.proofs.page.table_events.TableRanges.{table_rises}
 
 -- what rises after the end of a block does so after these events of it, from one place on
-abbrev RiseTo : ℕ → LeafBlock → List RangedEvent → Type 0
+abbrev pub RiseTo : ℕ → LeafBlock → List RangedEvent → Type 0
 RiseTo passed block events = (from to : ℕ) (ends : List ℕ) (rest : List RangedEvent) → from ≤ passed → block_end block ≤ to
     → RiseIn (to ∷ ends) (block_end block) rest → RiseIn (to ∷ ends) from (events ++ rest)
-
--- the inlines of a content rise in it
-abbrev pub InlinesRise : List ℕ → EventSetting → Place → LeafBlock → Type 0
-InlinesRise page setting here block = (content : Placed) → IsContentOf page here block content → (inlines : List RangedEvent)
-    → AreInlineEvents content.text setting inlines → RiseFilled (length content.text ∷ []) 0 inlines
-
--- so do the rows of a table
-abbrev pub TableRises : List ℕ → EventSetting → Place → LeafBlock → ℕ → Type 0
-TableRises page setting here block passed =
-    (columns : ℕ) (events : List RangedEvent) → AreTableEvents page setting here block columns events → RiseTo passed block events
 
 module _ (page : List ℕ) (setting : EventSetting) (here : Place) (block : LeafBlock) (passed : ℕ) (own : passed ≤ block.place)
     (ends_after : block.place ≤ block_end block) where
@@ -46,15 +35,15 @@ module _ (page : List ℕ) (setting : EventSetting) (here : Place) (block : Leaf
       rise_from (to ∷ ends) from (block_end block) rest (omega (arith, low, own, ends_after)) gives)
 
   -- text from the place on where the block's own begins
-  text_rises : HasInlines block.kind → InlinesRise page setting here block → ContentAfter block.place page here block
+  text_rises : HasInlines block.kind → ContentAfter block.place page here block
       → (inner : List RangedEvent) → AreTextEvents page setting here block inner → RiseTo block.place block inner
-  text_rises has inlines after inner are from to ends rest low fits gives =
+  text_rises has after inner are from to ends rest low fits gives =
       let content = are.content in
       let text = take block.bytes (drop block.start page) in
       let each = content_sizes block.kind here.containers here.kept (lines_in_page page block) content are.is_content in
       let stands = content_bytes block.kind here.containers here.kept text content are.is_content in
       let few : length text ≤ block.bytes = omega (arith, length-take block.bytes (drop block.start page)) in
-      let filled = inlines content are.is_content are.inlines are.are_inlines in
+      let filled = events_filled content.text setting are.inlines are.are_inlines in
       subst (λ (es : List RangedEvent). RiseIn (to ∷ ends) from (es ++ rest)) (sym are.are_events)
       (placed_rise block.start content.places
       (inlines_strictly block.kind here.containers here.kept (lines_in_page page block) content has are.is_content) (block_end block)
@@ -69,11 +58,11 @@ module _ (page : List ℕ) (setting : EventSetting) (here : Place) (block : Leaf
       element_rises tag block.place (block_end block) from to ends inner rest (omega (arith, low, own)) ends_after fits
       (λ more closed. rises block.place (block_end block) (to ∷ ends) more (omega arith) (omega arith) closed) gives
 
-  paragraph_rises : (is_tight : Bool) (inner : List RangedEvent) → RiseTo block.place block inner → RiseTo passed block (in_paragraph is_tight block inner)
+  pub paragraph_rises : (is_tight : Bool) (inner : List RangedEvent) → RiseTo block.place block inner → RiseTo passed block (in_paragraph is_tight block inner)
   paragraph_rises true inner rises = λ from to ends rest low fits gives. rises from to ends rest (omega (arith, low, own)) fits gives
   paragraph_rises false inner rises = whole_rises paragraph inner rises
 
-  module _ (after : ContentAfter passed page here block) (table : TableRises page setting here block passed) where
+  module _ (after : ContentAfter passed page here block) (holds : HoldsText page here.containers here.kept block) where
     kind_rises : (kind : BlockKind) (events : List RangedEvent) → AreLeafEventsOf kind page setting here block events
         → ((HasInlines kind) → (inner : List RangedEvent) → AreTextEvents page setting here block inner → RiseTo block.place block inner)
         → RiseTo passed block events
@@ -90,19 +79,13 @@ module _ (page : List ℕ) (setting : EventSetting) (here : Place) (block : Leaf
         rises_with events _ is (enclosed_rises page here block passed own ends_after after (code_block (Some info)) false inner are)
     kind_rises (Html kind) events (inner, are, is) text =
         rises_with events _ is (enclosed_rises page here block passed own ends_after after html_block true inner are)
-    kind_rises (Table columns) events is text = table columns events is
+    kind_rises (Table columns) events is text = table_rises page setting here block passed own ends_after holds columns events is
 
--- The events of a leaf block rise: where its content stands after what has passed, and that of inlines from the block's own text on; where
--- the inlines rise in that content, and where the rows of a table do.
-pub leaf_rises : (page : List ℕ) (setting : EventSetting) (outer : List Container) (kept passed : ℕ) (block : LeafBlock) → passed ≤ block.place
-    → block.place ≤ block_end block
-    → ((is_tight : Bool) → let here : Place = record { containers = outer; kept = kept; is_tight = is_tight } in
-    ContentAfter passed page here block × (HasInlines block.kind → ContentAfter block.place page here block)
-    × InlinesRise page setting here block × TableRises page setting here block passed)
-    → (is_tight : Bool) (events : List RangedEvent)
-    → AreLeafEvents page setting (record { containers = outer; kept = kept; is_tight = is_tight }) block events → RiseTo passed block events
-leaf_rises page setting outer kept passed block own ends_after facts is_tight events are =
-    let here : Place = record { containers = outer; kept = kept; is_tight = is_tight } in
-    let known = facts is_tight in
-    kind_rises page setting here block passed own ends_after known.0 known.3 block.kind events are
-    (λ has inner are_inner. text_rises page setting here block passed own ends_after has known.2 (known.1 has) inner are_inner)
+-- The events of a leaf block rise: where its content stands after what has passed, and that of inlines from the block's own text on.
+pub leaf_rises : (page : List ℕ) (setting : EventSetting) (here : Place) (passed : ℕ) (block : LeafBlock) → passed ≤ block.place
+    → block.place ≤ block_end block → ContentAfter passed page here block → (HasInlines block.kind → ContentAfter block.place page here block)
+    → HoldsText page here.containers here.kept block → (events : List RangedEvent) → AreLeafEvents page setting here block events
+    → RiseTo passed block events
+leaf_rises page setting here passed block own ends_after after own_after holds events are =
+    kind_rises page setting here block passed own ends_after after holds block.kind events are
+    (λ has inner are_inner. text_rises page setting here block passed own ends_after has (own_after has) inner are_inner)

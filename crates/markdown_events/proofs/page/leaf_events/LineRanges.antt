@@ -1,14 +1,13 @@
 -- The ranges of the events of lines of code and HTML rise on the page.
-use Rattle.std.proofs.Common.{ℕ, zero, suc, ◌+◌, ◌-◌, ◌<◌, ◌≤◌, ◌≡◌, ◌==◌, ◌&&◌, ◌||◌, Bool, true, false, List, [], ◌∷◌, ◌++◌, length, drop, map, take}
-use Rattle.std.proofs.Common.{ap, ◌∙◌, refl, sym, subst, inl, inr, arith, get_or, length-append, if◌then◌else◌, nat_lt}
-use Rattle.std.specs.Prelude.{⊤, slice_index, min}
+use Rattle.std.proofs.Common.{ℕ, zero, suc, ◌+◌, ◌-◌, ◌<◌, ◌≤◌, ◌≡◌, Bool, true, false, List, [], ◌∷◌, ◌++◌, length, drop, map, take}
+use Rattle.std.proofs.Common.{ap, ◌∙◌, refl, sym, subst, inl, inr, arith, get_or, length-append}
+use Rattle.std.specs.Prelude.{⊤, slice_index}
 use Rattle.std.specs.List.{concat}
 use Rattle.std.specs.declared.ops.Range.{Range}
 use Rattle.std.proofs.lemmas.Bool.{lt-ltb}
 use Rattle.std.proofs.lemmas.Bool.{cases_Bool}
 use Rattle.std.proofs.lemmas.List.{drop-drop, get_or-drop, get_or_append_left, length-take}
 use Rattle.std.proofs.Math.Seq.{drop-append_seam}
-use Rattle.markdown_values.specs.values.Events.{EventView}
 use Rattle.markdown_values.specs.values.Tags.{TagView}
 use Rattle.markdown_scanners_tree.specs.Ascii.{space}
 use Rattle.markdown_scanners_tree.specs.scanners.TextLines.{ends_line, lines_of, with_first}
@@ -17,7 +16,7 @@ use Rattle.markdown_blocks.specs.content.Content.{Placed}
 use Rattle.markdown_blocks.specs.events.Events.{LeafBlock}
 use Rattle.markdown_blocks.proofs.ForCallers.{DoNotFall, RisePast, content_bytes, content_past, content_rises, content_sizes, places_past}
 use Rattle.markdown_events.specs.EventLaws.{LiesIn, RiseIn}
-use Rattle.markdown_events.specs.InlineEvents.{RangedEvent, ranged}
+use Rattle.markdown_events.specs.InlineEvents.{RangedEvent}
 use Rattle.markdown_events.specs.page.LeafContent.{line_event}
 use Rattle.markdown_events.specs.page.LeafEvents.{AreLineEvents, IsContentOf, Place, enclosed_lines, line_events, lines_in_page, lines_place}
 use Rattle.markdown_events.specs.page.Places.{page_range, placed}

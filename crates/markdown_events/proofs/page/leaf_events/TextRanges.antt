@@ -1,7 +1,7 @@
 -- The ranges of the events of inlines rise on the page as they do in the content of their block.
 use Rattle.std.proofs.Common.{ℕ, zero, suc, ◌+◌, ◌-◌, ◌<◌, ◌≤◌, ◌≡◌, Bool, true, false, List, [], ◌∷◌, ◌++◌, length, map, inl, inr}
-use Rattle.std.proofs.Common.{ap, ◌∙◌, refl, sym, subst, arith, if◌then◌else◌}
-use Rattle.std.specs.Prelude.{⊤, nat_lt, slice_index}
+use Rattle.std.proofs.Common.{ap, ◌∙◌, refl, sym, subst, arith}
+use Rattle.std.specs.Prelude.{nat_lt, slice_index}
 use Rattle.std.specs.declared.ops.Range.{Range}
 use Rattle.std.proofs.lemmas.Bool.{lt-ltb, ltb-true}
 use Rattle.std.proofs.lemmas.Bool.Decides.{leb_tells}
@@ -11,20 +11,10 @@ use Rattle.markdown_blocks.proofs.ForCallers.{RiseStrictly}
 use Rattle.markdown_events.specs.EventLaws.{AreBalancedIn, LiesIn, RiseIn, Started}
 use Rattle.markdown_events.specs.InlineEvents.{RangedEvent}
 use Rattle.markdown_events.specs.page.Places.{page_range, placed}
+use Rattle.markdown_events.proofs.inline_events.Filled.{RiseFilled}
 use Rattle.markdown_events.proofs.inline_events.Rise.{rise_from}
 
--- Ranges rise as in RiseIn. No element is empty, and each range begins before the end of the element that holds it.
-abbrev pub RiseFilled : List ℕ → ℕ → List RangedEvent → Type 0
-RiseFilled ends from [] = ⊤
-RiseFilled [] from (event ∷ later) = ⊥
-RiseFilled (to ∷ outer) from ((start tag, range) ∷ later) =
-    (from ≤ range.start) × (range.start < range.end) × (range.end ≤ to) × RiseFilled (range.end ∷ to ∷ outer) range.start later
-RiseFilled (to ∷ outer) from ((end closer, range) ∷ later) =
-    (from ≤ to) × (range.start < range.end) × (range.end ≡ to) × RiseFilled outer to later
-RiseFilled (to ∷ outer) from ((event, range) ∷ later) =
-    (from ≤ range.start) × (range.start ≤ range.end) × (range.end ≤ to) × (range.start < to) × RiseFilled (to ∷ outer) range.end later
-
-strictly_from : (places : List ℕ) (from j : ℕ) → RiseStrictly from places → j < length places → from ≤ slice_index places j
+pub strictly_from : (places : List ℕ) (from j : ℕ) → RiseStrictly from places → j < length places → from ≤ slice_index places j
 strictly_from [] from j rise low = absurd (omega (arith, low))
 strictly_from (place ∷ places) from zero rise low = rise.0
 strictly_from (place ∷ places) from (suc j) rise low =

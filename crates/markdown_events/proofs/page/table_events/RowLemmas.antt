@@ -20,7 +20,7 @@ use Rattle.markdown_events.specs.page.Places.{element}
 use Rattle.markdown_events.specs.page.TableEvents.{AreCellEvents, AreRowEvents, RowsEndBy, row_len, row_tag, shown_cells}
 
 -- a row ends in its line
-row_ends : (before : ℕ) (line : List ℕ) (s : LineState) → Reached line s
+pub row_ends : (before : ℕ) (line : List ℕ) (s : LineState) → Reached line s
     → (row_at before s).place + length (row_at before s).text ≤ before + length line
 row_ends before line s r =
     let t = after_space 4 s in

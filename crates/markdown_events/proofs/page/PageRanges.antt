@@ -1,0 +1,103 @@
+-- The ranges of the events of a page rise, and what an element holds lies within its range.
+use Rattle.std.proofs.Common.{ℕ, suc, ◌≤◌, ◌≡◌, ◌≢◌, Bool, List, [], ◌∷◌, ◌++◌, length, refl, arith}
+use Rattle.markdown_blocks.specs.containers.Containers.{settled}
+use Rattle.markdown_blocks.specs.declared.blocks.BlockKind.{BlockKind}
+use Rattle.markdown_blocks.specs.declared.blocks.BlockKind.TheVariants.{Blank, Break, Heading, Setext, Indented, Fenced, Html, Paragraph, Definition, Table}
+use Rattle.markdown_blocks.specs.declared.containers.Container.{Container}
+use Rattle.markdown_blocks.specs.events.Events.{LeafBlock}
+use Rattle.markdown_blocks.specs.laws.Order.{ContentsStand, HoldSome, HoldsContent, HoldsText, NodesStand, content_from, passed_after}
+use Rattle.markdown_blocks.specs.link_definitions.LinkDefinitions.{first_of}
+use Rattle.markdown_blocks.specs.lists.Lists.{Nodes, nothing, leaf_then, container_then}
+use Rattle.markdown_blocks.proofs.ForCallers.{HasInlines, containers_hold_some, content_sizes, page_contents_stand, page_nodes_stand}
+use Rattle.markdown_events.specs.EventLaws.{AreWithin}
+use Rattle.markdown_events.specs.InlineEvents.{RangedEvent}
+use Rattle.markdown_events.specs.declared.event_reader.PageSetting.{PageSetting}
+use Rattle.markdown_events.specs.page.LeafEvents.{Place}
+use Rattle.markdown_events.specs.page.PageEvents.{ArePageEvents, block_setting, blocks_of}
+use Rattle.markdown_events.specs.page.Places.{lines_in_page}
+use Rattle.markdown_events.specs.page.Spans.{block_end}
+use Rattle.markdown_events.specs.page.TaskEvents.{BlockSetting}
+use Rattle.markdown_events.proofs.page.NodeRanges.{AreSome, LeafRises, Stand, page_events_rise}
+use Rattle.markdown_events.proofs.page.leaf_events.LineRanges.{ContentAfter}
+use Rattle.markdown_events.proofs.page.task_events.TaskRanges.{block_rises}
+
+-- ---- contents
+
+-- a content begins after what has passed, and that of inlines with the text
+from_passed : (kind : BlockKind) (passed place : ℕ) → passed ≤ place → passed ≤ content_from kind passed place
+from_passed Indented passed place low = omega arith
+from_passed (Html kind) passed place low = omega arith
+from_passed Blank passed place low = low
+from_passed Break passed place low = low
+from_passed (Heading level) passed place low = low
+from_passed (Setext level) passed place low = low
+from_passed (Fenced count byte) passed place low = low
+from_passed (Table columns) passed place low = low
+from_passed Definition passed place low = low
+from_passed Paragraph passed place low = low
+
+from_text : (kind : BlockKind) (passed place : ℕ) → HasInlines kind → content_from kind passed place ≡ place
+from_text (Heading level) passed place has = refl
+from_text (Setext level) passed place has = refl
+from_text Paragraph passed place has = refl
+from_text Indented passed place has = absurd has
+from_text (Html kind) passed place has = absurd has
+from_text Blank passed place has = absurd has
+from_text Break passed place has = absurd has
+from_text (Fenced count byte) passed place has = absurd has
+from_text (Table columns) passed place has = absurd has
+from_text Definition passed place has = absurd has
+
+module _ (page : List ℕ) (outer : List Container) (kept passed : ℕ) (block : LeafBlock) (stands : HoldsContent page outer kept passed block)
+    (is_tight : Bool) where
+  content_after : (from : ℕ) → from ≤ content_from block.kind passed block.place
+      → ContentAfter from page (record { containers = outer; kept = kept; is_tight = is_tight }) block
+  content_after from low content is offset inside =
+      let each = content_sizes block.kind outer kept (lines_in_page page block) content is in
+      omega (arith, low, stands content is offset (omega (arith, inside, each)))
+
+-- ---- nodes
+
+some_inside : (inner : Nodes) → inner ≢ nothing → AreSome inner
+some_inside nothing some = absurd (some refl)
+some_inside (leaf_then block later) some = tt
+some_inside (container_then container place inner later) some = tt
+
+module _ (page : List ℕ) (setting : BlockSetting) where
+  leaf_stands : (outer : List Container) (kept passed : ℕ) (block : LeafBlock) → passed ≤ block.place → block.place ≤ block_end block
+      → HoldsContent page outer kept passed block → HoldsText page outer kept block → LeafRises page setting passed outer kept block
+  leaf_stands outer kept passed block own ends_after stands holds is_tight waiting events are =
+      let here : Place = record { containers = outer; kept = kept; is_tight = is_tight } in
+      block_rises page setting here passed block own ends_after
+      (content_after page outer kept passed block stands is_tight passed (from_passed block.kind passed block.place own))
+      (λ has. content_after page outer kept passed block stands is_tight block.place (omega (arith, from_text block.kind passed block.place has)))
+      holds waiting events are
+
+  nodes_stand : (nodes : Nodes) (outer : List Container) (kept passed : ℕ) → NodesStand passed nodes → HoldSome nodes
+      → ContentsStand page outer kept passed nodes → Stand page setting outer kept passed nodes
+  nodes_stand nothing outer kept passed stand some contents = tt
+  nodes_stand (leaf_then block later) outer kept passed stand some contents = (
+    stand.0,
+    stand.1,
+    leaf_stands outer kept passed block stand.0 stand.1 contents.0 contents.1,
+    nodes_stand later outer (length outer) (block_end block) stand.2 some contents.2,
+  )
+  nodes_stand (container_then container place inner later) outer kept passed stand some contents = (
+    stand.0,
+    some_inside inner some.0,
+    nodes_stand inner (outer ++ settled container ∷ []) kept (suc place) stand.1 some.1 contents.0,
+    nodes_stand later outer (length outer) (passed_after (suc place) inner) stand.2 some.2 contents.1,
+  )
+
+-- ---- the page
+
+-- Ranges rise, and what an element holds lies within its range.
+pub page_events_within : (page : List ℕ) (setting : PageSetting) (events : List RangedEvent) → ArePageEvents page setting events
+    → AreWithin page events
+page_events_within page setting events are =
+    let read_with = block_setting setting (λ label. first_of label are.named) in
+    let asked = blocks_of setting in
+    let found = page_nodes_stand asked page are.nodes are.are_blocks in
+    let stand = nodes_stand page read_with are.nodes [] 0 0 found.0 (containers_hold_some asked page are.nodes are.are_blocks)
+    (page_contents_stand asked page are.nodes are.are_blocks) in
+    page_events_rise page read_with are.nodes events stand (omega (arith, found.1)) are.are_events

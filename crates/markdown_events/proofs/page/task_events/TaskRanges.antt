@@ -1,0 +1,147 @@
+-- The ranges of a leaf block's events rise, where it may begin with a task list marker.
+use Rattle.std.proofs.Common.{ℕ, zero, suc, ◌+◌, ◌<◌, ◌≤◌, ◌≡◌, Bool, true, false, List, [], ◌∷◌, length, map, take, drop, Option, Some}
+use Rattle.std.proofs.Common.{None, refl, sym, subst, arith}
+use Rattle.std.specs.Prelude.{slice_index}
+use Rattle.std.proofs.lemmas.List.{length-drop, length-take}
+use Rattle.markdown_blocks.specs.declared.blocks.BlockKind.{BlockKind}
+use Rattle.markdown_blocks.specs.declared.blocks.BlockKind.TheVariants.{Blank, Break, Heading, Setext, Indented, Fenced, Html, Paragraph, Definition, Table}
+use Rattle.markdown_blocks.specs.declared.containers.Container.{Container}
+use Rattle.markdown_blocks.specs.declared.containers.Container.TheVariants.{Quote, Item, Footnote, TermDefinition}
+use Rattle.markdown_blocks.specs.declared.first_blocks.Task.{Task}
+use Rattle.markdown_blocks.specs.events.Events.{LeafBlock}
+use Rattle.markdown_blocks.specs.first_blocks.Tasks.{task_in}
+use Rattle.markdown_blocks.specs.laws.Order.{HoldsText}
+use Rattle.markdown_blocks.proofs.ForCallers.{HasInlines, RiseStrictly, content_bytes, content_sizes, inlines_strictly, task_within}
+use Rattle.markdown_events.specs.InlineEvents.{EventSetting, RangedEvent}
+use Rattle.markdown_events.specs.page.LeafEvents.{Place, lines_in_page, placed}
+use Rattle.markdown_events.specs.page.Spans.{block_end}
+use Rattle.markdown_events.specs.page.TaskEvents.{AreBlockEvents, AreEventsWith, AreTaskEvents, BlockSetting, after_marker, marker_end, marker_event, task_here}
+use Rattle.markdown_events.proofs.inline_events.Filled.{RiseFilled}
+use Rattle.markdown_events.proofs.inline_events.Laws.{events_balance, events_filled}
+use Rattle.markdown_events.proofs.page.leaf_events.LeafRanges.{RiseTo, leaf_rises, paragraph_rises}
+use Rattle.markdown_events.proofs.page.leaf_events.LineRanges.{ContentAfter}
+use Rattle.markdown_events.proofs.page.leaf_events.TextRanges.{placed_rise}
+use Rattle.markdown_events.proofs.page.task_events.RestLemmas.{place_further}
+
+-- ---- places
+
+later_strictly : (count from : ℕ) (places : List ℕ) → RiseStrictly from places → RiseStrictly from (drop count places)
+later_strictly zero from places rise = rise
+later_strictly (suc count) from [] rise = tt
+later_strictly (suc count) from (place ∷ places) rise =
+    earlier from (suc place) (drop count places) (omega (arith, rise.0)) (later_strictly count (suc place) places rise.1)
+  where
+    earlier : (from to : ℕ) (places : List ℕ) → from ≤ to → RiseStrictly to places → RiseStrictly from places
+    earlier from to [] less rise = tt
+    earlier from to (place ∷ places) less rise = (omega (arith, less, rise.0), rise.1)
+
+counted_from : (places : List ℕ) (from i : ℕ) → RiseStrictly from places → i < length places → from + i ≤ slice_index places i
+counted_from [] from i rise inside = absurd (omega (arith, inside))
+counted_from (place ∷ places) from zero rise inside = omega (arith, rise.0)
+counted_from (place ∷ places) from (suc i) rise inside =
+    omega (arith, rise.0, counted_from places (suc place) i rise.1 (omega (arith, inside)))
+
+-- each place is as many further as there are before it
+counted : (places : List ℕ) (i : ℕ) → RiseStrictly 0 places → i < length places → slice_index places 0 + i ≤ slice_index places i
+counted [] i rise inside = absurd (omega (arith, inside))
+counted (place ∷ places) i rise inside = counted_from (place ∷ places) place i (omega arith, rise.1) inside
+
+-- ---- a paragraph with a marker
+
+module _ (page : List ℕ) (setting : EventSetting) (here : Place) (block : LeafBlock) (passed : ℕ) (own : passed ≤ block.place)
+    (ends_after : block.place ≤ block_end block) where
+  module _ (task : Task) (has : HasInlines block.kind) (after : ContentAfter block.place page here block) (at : task.place ≡ block.place)
+      (fits : block.place + task.len ≤ block_end block) (events : List RangedEvent) (is : AreTaskEvents page setting here block task events) where
+    abbrev count : ℕ
+    count = marker_end task.len is.content.text
+
+    abbrev places : List ℕ
+    places = is.content.places
+
+    each : length places ≡ length is.content.text
+    each = content_sizes block.kind here.containers here.kept (lines_in_page page block) is.content is.is_content
+
+    strict : RiseStrictly 0 places
+    strict = inlines_strictly block.kind here.containers here.kept (lines_in_page page block) is.content has is.is_content
+
+    inside : (i : ℕ) → i < length (drop count places) → count + i < length places
+    inside i low = omega (arith, low, length-drop count places)
+
+    within : (i : ℕ) → i < length (drop count places) → block.start + slice_index (drop count places) i + 1 ≤ block_end block
+    within i low =
+        let few = length-take block.bytes (drop block.start page) in
+        let there = content_bytes block.kind here.containers here.kept (take block.bytes (drop block.start page)) is.content is.is_content (count + i)
+        (omega (arith, inside i low, each)) in
+        omega (arith, place_further places count i, there.0, few)
+
+    -- what follows the marker stands after it
+    first : (i : ℕ) → i < length (drop count places) → task.place + task.len ≤ block.start + slice_index (drop count places) i
+    first i low =
+        let begins = after is.content is.is_content 0 (omega (arith, inside i low, each)) in
+        omega (arith, at, begins, place_further places count i, counted places (count + i) strict (inside i low))
+
+    rises : RiseTo block.place block (marker_event task ∷ map (placed block.start (after_marker task is.content).places) is.inlines)
+    rises = λ from to ends rest low enough gives. (
+      record { begins = omega (arith, low, at); in_order = omega arith; ends = omega (arith, at, fits, enough) },
+      placed_rise block.start (drop count places) (later_strictly count 0 places strict) (block_end block) within to ends rest enough gives is.inlines
+          (task.place + task.len) (omega (arith, at, fits)) first
+          (events_balance (after_marker task is.content).text setting is.inlines is.are_inlines)
+          (subst (λ n. RiseFilled (n ∷ []) 0 is.inlines)
+          (let sizes : length (drop count is.content.text) ≡ length (drop count places) =
+          omega (arith, each, length-drop count places, length-drop count is.content.text) in sizes)
+          (events_filled (after_marker task is.content).text setting is.inlines is.are_inlines)),
+    )
+
+    marked_rises : RiseTo passed block events
+    marked_rises =
+        subst (RiseTo passed block) (sym is.are_events)
+        (paragraph_rises page setting here block passed own ends_after here.is_tight _ rises)
+
+-- ---- a leaf block
+
+-- what is known of the marker of a block
+record IsMarker (block : LeafBlock) (task : Task) : Type 0 where
+  inlines : HasInlines block.kind
+  place : task.place ≡ block.place
+  len : task.len ≤ length block.text
+
+marker_in : (container : Container) (kind : BlockKind) (block : LeafBlock) (task : Task) → block.kind ≡ kind → task_in container kind block ≡ Some task
+    → IsMarker block task
+marker_in (Item one) Paragraph block task kind is =
+    let found = task_within block task is in
+    record { inlines = subst HasInlines (sym kind) tt; place = found.0; len = found.1 }
+marker_in (Item one) Blank block task kind is = absurd (cc)
+marker_in (Item one) Break block task kind is = absurd (cc)
+marker_in (Item one) Definition block task kind is = absurd (cc)
+marker_in (Item one) (Heading level) block task kind is = absurd (cc)
+marker_in (Item one) (Setext level) block task kind is = absurd (cc)
+marker_in (Item one) Indented block task kind is = absurd (cc)
+marker_in (Item one) (Fenced count byte) block task kind is = absurd (cc)
+marker_in (Item one) (Html html) block task kind is = absurd (cc)
+marker_in (Item one) (Table columns) block task kind is = absurd (cc)
+marker_in Quote kind block task same is = absurd (cc)
+marker_in Footnote kind block task same is = absurd (cc)
+marker_in (TermDefinition one) kind block task same is = absurd (cc)
+
+marker_here : (asked : Bool) (waiting : Option Container) (block : LeafBlock) (task : Task) → task_here asked waiting block ≡ Some task
+    → IsMarker block task
+marker_here true (Some container) block task is = marker_in container block.kind block task refl is
+marker_here true None block task is = absurd (cc)
+marker_here false (Some container) block task is = absurd (cc)
+marker_here false None block task is = absurd (cc)
+
+-- The events of a leaf block rise: where its content stands after what has passed, and that of inlines from the block's own text on.
+pub block_rises : (page : List ℕ) (setting : BlockSetting) (here : Place) (passed : ℕ) (block : LeafBlock) → passed ≤ block.place
+    → block.place ≤ block_end block → ContentAfter passed page here block → (HasInlines block.kind → ContentAfter block.place page here block)
+    → HoldsText page here.containers here.kept block → (waiting : Option Container) (events : List RangedEvent)
+    → AreBlockEvents page setting here waiting block events → RiseTo passed block events
+block_rises page setting here passed block own ends_after after own_after holds waiting events are =
+    by (task_here setting.tasks waiting block) refl are
+  where
+    by : (task : Option Task) → task_here setting.tasks waiting block ≡ task → AreEventsWith task page setting.texts here block events
+        → RiseTo passed block events
+    by None none is = leaf_rises page setting.texts here passed block own ends_after after own_after holds events is
+    by (Some task) found is =
+        let marker = marker_here setting.tasks waiting block task found in
+        marked_rises page setting.texts here block passed own ends_after task marker.inlines (own_after marker.inlines) marker.place
+        (omega (arith, marker.len, holds.within)) events is
