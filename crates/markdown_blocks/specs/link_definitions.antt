@@ -1,1 +1,2 @@
 pub mod LinkDefinitions
+pub mod Listed

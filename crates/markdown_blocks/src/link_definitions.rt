@@ -2,6 +2,8 @@
 ghost use Rattle.std.specs.Prelude.{◌≡◌, ◌<◌, ◌≤◌, [], ◌∷◌, false, List, ℕ, length, option_map, string_bytes};
 ghost use Rattle.std.specs.Prelude.{is_none, IfOk, IfErr, IfSome, OnOk, Some};
 ghost use Rattle.std.specs.Cow.{cow_slice_items};
+ghost use Rattle.std.specs.Iterator.{at_most};
+ghost use Rattle.std.specs.Map.Iter.{TakesFirst, deref_pair};
 ghost use Rattle.std.specs.Option.{option_copied};
 ghost use Rattle.markdown_values.specs.strings.Text.{cow_text};
 ghost use Rattle.markdown_scanners_tree.specs.NoSkips.{SkipsNothing};
@@ -12,6 +14,7 @@ ghost use Rattle.markdown_blocks.specs.containers.Containers.{no_extensions};
 ghost use Rattle.markdown_blocks.specs.definitions.Definitions.{IsDefinition};
 ghost use Rattle.markdown_blocks.specs.link_definitions.LinkDefinitions.{Named, Target, Known, HasDefinitions, Names, IsNamed};
 ghost use Rattle.markdown_blocks.specs.link_definitions.LinkDefinitions.{AreAddedUpTo, first_of, known_as, known_before, slice, target_of};
+ghost use Rattle.markdown_blocks.specs.link_definitions.Listed.{AreListed};
 
 use crate::containers::BlockExtensions;
 use crate::definitions::scan_definition;
@@ -22,7 +25,7 @@ use markdown_scanners_tree::scanners::{ReferenceDefinition, scan_line};
 use markdown_values::strings::CowStr;
 use std::alloc::{AllocError, Global};
 use std::borrow::CowSlice;
-use std::collections::BTreeMap;
+use std::collections::{BTreeMap, btree_map};
 use std::marker::Model;
 use std::ops::Range;
 
@@ -102,11 +105,16 @@ pub struct LinkDefinitions<'a> {
 
 impl<'a> Model for LinkDefinitions<'a> {
     ghost use Rattle.std.specs.Prelude.{map, string_bytes};
+    ghost use Rattle.std.specs.List.{All};
+    ghost use Rattle.std.specs.Map.{keys_of};
     ghost use Rattle.markdown_blocks.specs.link_definitions.LinkDefinitions.{Known};
+    ghost use Rattle.markdown_blocks.specs.link_definitions.Listed.{IsFolding};
 
     ghost Value = { Known };
 
     ghost view = { λ d. map (λ e. (string_bytes e.0, e.1)) d.by_key.entries };
+
+    ghost invariant = { λ d. All (λ key. IsFolding (string_bytes key)) (keys_of d.by_key.entries) };
 }
 
 impl<'a> LinkDefinitions<'a> {
@@ -162,6 +170,17 @@ impl<'a> LinkDefinitions<'a> {
         }
         let key = key_of(self.alloc, label)?;
         Ok(self.by_key.get(key.as_str()))
+    }
+
+    /// The definitions that are known, each with the case folding of its label, in the order of these
+    /// foldings.
+    pub fn iter(&self) -> KnownDefinitions<'_, 'a>
+        ensures all { result ≡ self.now }
+        ensures listed { AreListed self.now }
+    {
+        KnownDefinitions {
+            entries: self.by_key.iter(),
+        }
     }
 
     /// Adds the definition of a label, unless the label has one. Answers whether it is added. The
@@ -230,6 +249,36 @@ impl<'a> LinkDefinitions<'a> {
         let target = read_target(self.alloc, text, definition, lines)?;
         self.add(label.as_str(), target)?;
         Ok(())
+    }
+}
+
+/// Definitions that are known, one after another, each with the case folding of its label.
+#[derive(Drop)]
+pub struct KnownDefinitions<'d, 'a> {
+    entries: btree_map::Iter<'d, String, LinkDefinition<'a>>,
+}
+
+impl<'d, 'a> Model for KnownDefinitions<'d, 'a> {
+    ghost use Rattle.std.specs.Prelude.{map, string_bytes};
+    ghost use Rattle.markdown_blocks.specs.link_definitions.LinkDefinitions.{Known};
+
+    ghost Value = { Known };
+
+    ghost view = { λ d. map (λ e. (string_bytes e.0, e.1)) d.entries };
+}
+
+impl<'d, 'a> Iterator for KnownDefinitions<'d, 'a> {
+    type Item = (&'d str, &'d LinkDefinition<'a>);
+
+    ghost next_gives = { TakesFirst deref_pair };
+
+    ghost remaining = { λ d. at_most (length d) };
+
+    fn next(&mut self) -> Option<(&'d str, &'d LinkDefinition<'a>)> {
+        match self.entries.next() {
+            Some((key, definition)) => Some((key.as_str(), definition)),
+            None => None,
+        }
     }
 }
 

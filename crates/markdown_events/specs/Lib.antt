@@ -1,8 +1,10 @@
 pub mod EventLaws
 pub mod Found
 pub mod InlineEvents
+pub mod JoinedWords
 pub mod Meanings
 pub mod Passes
 pub mod page
 pub mod TagEnds
 pub mod Targets
+pub mod TextMerge

@@ -260,9 +260,14 @@ impl<'a> EventReader<'a> {
         Ok(self.take_ready())
     }
 
-    // Reads block events until an event is ready, or none is left.
+    /// Reads block events until `take_ready` has the next event of the page, or none is left. After a
+    /// refusal the same event may be asked for again.
+    ///
+    /// # Errors
+    ///
+    /// `AllocError` where memory is refused, which is asked for as by `next_with`.
     #[inline(always)]
-    fn read_until_ready<B: Definitions<'a>>(&mut self, broken: &B) -> Result<(), AllocError>
+    pub(crate) fn read_until_ready<B: Definitions<'a>>(&mut self, broken: &B) -> Result<(), AllocError>
         ensures same { (events : List RangedEvent)
             → GivesWith (B.targets broken.now) self.new events
             → GivesWith (B.targets broken.now) self.old events }
@@ -274,21 +279,6 @@ impl<'a> EventReader<'a> {
             self.read_block(broken)?;
         }
         Ok(())
-    }
-
-    /// Reads ahead until `take_ready` has the next event of the page, or none is left. After a
-    /// refusal the same event may be asked for again.
-    ///
-    /// # Errors
-    ///
-    /// `AllocError` where memory is refused, which is asked for as by `next`.
-    #[inline(always)]
-    pub(crate) fn read_ahead(&mut self) -> Result<(), AllocError>
-        ensures same { (events : List RangedEvent) → Gives self.new events → Gives self.old events }
-        ensures no_more { events_left self.new ≤ events_left self.old }
-        ensures done { OnOk result (self.new.ready ≡ [] → IsDone self.new) }
-    {
-        self.read_until_ready(&NoBrokenLinks)
     }
 
     // Whether no event is ready, and block events are left.

@@ -3,10 +3,12 @@
 //! (CommonMark 0.31.2, chapters 4 to 6)
 #![tactic(auto)]
 
+pub mod broken_links;
 pub mod definitions;
 mod elements;
 pub mod event_reader;
 pub mod inline_events;
+mod joined_text;
 mod link_tags;
 mod page;
 pub mod parser;
@@ -14,4 +16,6 @@ mod parts;
 mod settings;
 #[cfg(test)]
 mod tests;
+pub mod text_merge;
+pub mod text_merge_stream;
 mod writer;

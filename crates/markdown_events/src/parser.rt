@@ -1,14 +1,14 @@
 //! The events of a page as iterators.
-ghost use Rattle.std.specs.Prelude.{◌≡◌, false, List, IfErr, IfOk};
+ghost use Rattle.std.specs.Prelude.{◌≡◌, ◌<◌, false, List, IfErr, IfOk, IfSome};
 ghost use Rattle.std.specs.Iterator.{at_most};
 ghost use Rattle.markdown_events.specs.EventLaws.{AreBalanced, AreWithin};
 ghost use Rattle.markdown_events.specs.InlineEvents.{RangedEvent};
 ghost use Rattle.markdown_events.specs.page.Given.{Gives};
-ghost use Rattle.markdown_events.specs.page.Iterated.{GivesNext, GivesNextEvent, Iterated, items_left};
+ghost use Rattle.markdown_events.specs.page.Iterated.{GivesNext, GivesNextEvent, GivesNextEventWith, GivesNextWith, Iterated, items_left};
 ghost use Rattle.markdown_events.specs.page.PageEvents.{AreDefinitionsOf, ArePageEvents, commonmark};
 ghost use Rattle.markdown_events.specs.page.Settings.{Explains, asked_by, not_built};
 
-use crate::definitions::PageDefinitions;
+use crate::definitions::{Definitions, NoBrokenLinks, PageDefinitions};
 use crate::event_reader::{EventReader, NewError};
 use markdown_values::values::{Event, Options};
 use std::alloc::{AllocError, Global};
@@ -19,8 +19,7 @@ use std::ops::Range;
 /// would ask for the same event again takes an `EventReader`.
 #[derive(Drop)]
 pub struct Parser<'a> {
-    reader: EventReader<'a>,
-    is_stopped: bool,
+    events: OffsetIter<'a>,
 }
 
 /// The same events, each with the range of its source.
@@ -33,7 +32,7 @@ pub struct OffsetIter<'a> {
 impl<'a> Model for Parser<'a> {
     ghost Value = { Iterated };
 
-    ghost view = { λ p. record { left = p.reader; is_stopped = p.is_stopped } };
+    ghost view = { λ p. p.events };
 }
 
 impl<'a> Model for OffsetIter<'a> {
@@ -59,10 +58,7 @@ impl<'a> Parser<'a> {
             AreDefinitionsOf text.now commonmark parser.left.known) }
         ensures goes { IfOk result (λ parser. parser.is_stopped ≡ false) }
     {
-        Ok(Parser {
-            reader: EventReader::new(alloc, text)?,
-            is_stopped: false,
-        })
+        Ok(Parser::of_reader(EventReader::new(alloc, text)?))
     }
 
     /// The events of a page with these options.
@@ -84,26 +80,49 @@ impl<'a> Parser<'a> {
         ensures built { IfOk result (λ _. not_built options ≡ 0) }
         ensures refused { IfErr result (Explains options) }
     {
-        Ok(Parser {
-            reader: EventReader::new_ext(alloc, text, options)?,
-            is_stopped: false,
-        })
+        Ok(Parser::of_reader(EventReader::new_ext(alloc, text, options)?))
+    }
+
+    // The events that a reader has left.
+    pub(crate) fn of_reader(reader: EventReader<'a>) -> Parser<'a>
+        ensures left { result.left ≡ reader.entry }
+        ensures goes { result.is_stopped ≡ false }
+    {
+        Parser {
+            events: OffsetIter {
+                reader,
+                is_stopped: false,
+            },
+        }
     }
 
     /// The link reference definitions of the page.
     pub fn reference_definitions(&self) -> &PageDefinitions<'a>
         ensures { result.now ≡ self.now.left.known }
     {
-        self.reader.reference_definitions()
+        self.events.reference_definitions()
     }
 
     /// The events that are left, each with the range of its source.
     pub fn into_offset_iter(self) -> OffsetIter<'a>
         ensures { result ≡ self.entry }
     {
-        OffsetIter {
-            reader: self.reader,
-            is_stopped: self.is_stopped,
+        self.events
+    }
+
+    /// The next event, as `next` gives it, but a label that the page doesn't define leads where
+    /// `broken` says, as `EventReader::next_with` has it.
+    pub fn next_with<B: Definitions<'a>>(
+        &mut self,
+        broken: &B,
+    ) -> Option<Result<Event<'a>, AllocError>>
+        ensures next { GivesNextEventWith (B.targets broken.now) self.old result self.new }
+        ensures fewer { IfSome result (λ _. items_left self.new < items_left self.old) }
+    {
+        match self.events.next_with(broken) {
+            Some(Ok((event, _))) => Some(Ok(event)),
+            Some(Err(refused)) => Some(Err(refused)),
+            None => None,
         }
     }
 }
@@ -115,6 +134,42 @@ impl<'a> OffsetIter<'a> {
     {
         self.reader.reference_definitions()
     }
+
+    // Whether memory was refused, after which no item comes.
+    pub(crate) fn is_stopped(&self) -> bool
+        ensures { result ≡ self.now.is_stopped }
+    {
+        self.is_stopped
+    }
+
+    // The events that are left.
+    pub(crate) fn into_reader(self) -> EventReader<'a>
+        ensures { result ≡ self.entry.left }
+    {
+        self.reader
+    }
+
+    /// The next event with its range, as `next` gives it, but a label that the page doesn't define
+    /// leads where `broken` says, as `EventReader::next_with` has it.
+    pub fn next_with<B: Definitions<'a>>(
+        &mut self,
+        broken: &B,
+    ) -> Option<Result<(Event<'a>, Range<usize>), AllocError>>
+        ensures next { GivesNextWith (B.targets broken.now) self.old result self.new }
+        ensures fewer { IfSome result (λ _. items_left self.new < items_left self.old) }
+    {
+        if self.is_stopped {
+            return None;
+        }
+        if let Err(refused) = self.reader.read_until_ready(broken) {
+            self.is_stopped = true;
+            return Some(Err(refused));
+        }
+        match self.reader.take_ready() {
+            Some(event) => Some(Ok(event)),
+            None => None,
+        }
+    }
 }
 
 impl<'a> Iterator for Parser<'a> {
@@ -125,17 +180,7 @@ impl<'a> Iterator for Parser<'a> {
     ghost remaining = { λ p. at_most (items_left p) };
 
     fn next(&mut self) -> Option<Result<Event<'a>, AllocError>> {
-        if self.is_stopped {
-            return None;
-        }
-        if let Err(refused) = self.reader.read_ahead() {
-            self.is_stopped = true;
-            return Some(Err(refused));
-        }
-        match self.reader.take_ready() {
-            Some((event, _)) => Some(Ok(event)),
-            None => None,
-        }
+        self.next_with(&NoBrokenLinks)
     }
 }
 
@@ -147,16 +192,6 @@ impl<'a> Iterator for OffsetIter<'a> {
     ghost remaining = { λ p. at_most (items_left p) };
 
     fn next(&mut self) -> Option<Result<(Event<'a>, Range<usize>), AllocError>> {
-        if self.is_stopped {
-            return None;
-        }
-        if let Err(refused) = self.reader.read_ahead() {
-            self.is_stopped = true;
-            return Some(Err(refused));
-        }
-        match self.reader.take_ready() {
-            Some(event) => Some(Ok(event)),
-            None => None,
-        }
+        self.next_with(&NoBrokenLinks)
     }
 }

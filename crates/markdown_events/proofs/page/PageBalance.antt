@@ -18,8 +18,9 @@ use Rattle.markdown_events.specs.declared.elements.Element.{Element}
 use Rattle.markdown_events.specs.declared.event_reader.PageSetting.{PageSetting}
 use Rattle.markdown_events.specs.declared.page.levels.ItemList.{ItemList}
 use Rattle.markdown_events.specs.page.LeafEvents.{Place}
-use Rattle.markdown_events.specs.page.PageEvents.{AreNodeEvents, ArePageEvents, OpenList, after_block, block_setting, container_tag, ending, inside}
+use Rattle.markdown_events.specs.page.PageEvents.{AreNodeEvents, ArePageEvents, ArePageEventsWith, OpenList, after_block, block_setting, container_tag, ending, inside}
 use Rattle.markdown_events.specs.page.PageEvents.{list_after, list_end, list_in, list_tag, outermost}
+use Rattle.markdown_events.specs.Targets.{Targets, or_else}
 use Rattle.markdown_events.specs.page.Places.{element}
 use Rattle.markdown_events.specs.page.TaskEvents.{BlockSetting}
 use Rattle.markdown_events.specs.page.Spans.{container_end, front_list, is_alike, span_of}
@@ -153,4 +154,11 @@ pub page_events_balance : (page : List ℕ) (setting : PageSetting) (events : Li
     → AreBalanced events
 page_events_balance page setting events are =
     let read_with = block_setting setting (λ label. first_of label are.named) in
+    alone page read_with are.nodes (nodes_balance page read_with are.nodes) outermost None events are.are_events
+
+-- also where labels that the page does not define lead as these say
+pub page_events_with_balance : (page : List ℕ) (setting : PageSetting) (more : Targets) (events : List RangedEvent)
+    → ArePageEventsWith page setting more events → AreBalanced events
+page_events_with_balance page setting more events are =
+    let read_with = block_setting setting (or_else (λ label. first_of label are.named) more) in
     alone page read_with are.nodes (nodes_balance page read_with are.nodes) outermost None events are.are_events

@@ -2,12 +2,13 @@
 ghost use Rattle.std.specs.Prelude.{◌≡◌, IfNone, IfOk, IfSome, None, Some};
 ghost use Rattle.markdown_values.specs.strings.Text.{cow_text};
 ghost use Rattle.markdown_blocks.specs.link_definitions.LinkDefinitions.{known_as};
+ghost use Rattle.markdown_blocks.specs.link_definitions.Listed.{AreListed};
 ghost use Rattle.markdown_events.specs.Meanings.{IsTargetMeaning};
 ghost use Rattle.markdown_events.specs.Targets.{or_else, seen_target};
 
 use crate::definitions::{Definitions, Target};
 use crate::parts::{meaning_of, text_of};
-use markdown_blocks::link_definitions::{LinkDefinition, LinkDefinitions};
+use markdown_blocks::link_definitions::{KnownDefinitions, LinkDefinition, LinkDefinitions};
 use markdown_values::strings::CowStr;
 use std::alloc::{AllocError, Global};
 use std::marker::Model;
@@ -55,6 +56,15 @@ impl<'a> PageDefinitions<'a> {
             Some(written) => Ok(Some(target_meaning(self.alloc, written)?)),
             None => Ok(None),
         }
+    }
+
+    /// The definitions of the page, of each label the first, with the case folding of its label, in the
+    /// order of these foldings. The texts of a definition are as they are written.
+    pub fn iter(&self) -> KnownDefinitions<'_, 'a>
+        ensures all { result ≡ self.now }
+        ensures listed { AreListed self.now }
+    {
+        self.known.iter()
     }
 }
 

@@ -1,7 +1,11 @@
-use Rattle.std.proofs.Common.{ap, sym, ◌∙◌, cond, Some, string_bytes}
+use Rattle.std.proofs.Common.{ap, subst, sym, ◌∙◌, cond, Some, string_bytes}
 use Rattle.std.specs.Prelude.{is_some, is_none, not}
 use Rattle.std.specs.Str.{bytes_eq}
+use Rattle.std.specs.List.{All}
+use Rattle.std.specs.Map.{keys_of}
+use Rattle.std.proofs.lemmas.Map.Views.{All-keys-insert_entry}
 use Rattle.std.proofs.lemmas.Map.Text.{btree_map_updates_text}
+use Rattle.markdown_blocks.specs.link_definitions.Listed.{IsFolding}
 use Rattle.markdown_blocks.proofs.link_definitions.NamedLemmas.{already_known, newly_known, none_found, found_by_text}
 use Rattle.markdown_blocks.proofs.link_definitions.LinkDefinitions.add.Goals as goal
 
@@ -35,3 +39,12 @@ returns-clause-added c =
     ∙ btree_map_updates_text (string_bytes c.in_ok-key.key) c.self.inside.by_key c.insert.new.self _ c.in_ok-insert.ensures.updates key
     ∙ ap (λ found. cond (bytes_eq (string_bytes c.in_ok-key.key) key) (Some c.args.definition) found)
     (found_by_text c.self.inside.by_key.entries key)))
+
+pub invariant_of-self : goal.invariant_of-self
+invariant_of-self c =
+    subst (λ es. All (λ key. IsFolding (string_bytes key)) (keys_of es)) (sym c.in_err-insert.ensures.err) c.self.invariant
+
+pub invariant_of-self-2 : goal.invariant_of-self-2
+invariant_of-self-2 c =
+    subst (λ es. All (λ key. IsFolding (string_bytes key)) (keys_of es)) (sym c.in_ok-insert.ensures.entries)
+    (All-keys-insert_entry _ _ _ (λ key. IsFolding (string_bytes key)) _ c.self.invariant (c.args.label.now, c.in_ok-key.ensures))

@@ -1,0 +1,22 @@
+-- Items where no label leads that the page does not define.
+use Rattle.std.proofs.Common.{ℕ, List, Option, Some, None, Result, Ok, Err, inl, inr}
+use Rattle.std.specs.declared.alloc.AllocError.{AllocError}
+use Rattle.std.specs.declared.ops.Range.{Range}
+use Rattle.markdown_values.specs.declared.values.events.Event.{Event}
+use Rattle.markdown_events.specs.Targets.{nowhere}
+use Rattle.markdown_events.specs.page.Iterated.{GivesNext, GivesNextEvent, GivesNextEventWith, GivesNextWith, Iterated}
+use Rattle.markdown_events.proofs.page.ParserLemmas.{given_with, given_without}
+
+pub next_without : (old : Iterated) (item : Option (Result (Event × Range ℕ) AllocError)) (new : Iterated) → GivesNextWith nowhere old item new
+    → GivesNext old item new
+next_without old None new (inl stopped) = inl stopped
+next_without old None new (inr none) = inr (given_without _ _ none)
+next_without old (Some (Ok event)) new gives = λ events g. given_without _ _ (gives events (given_with _ _ g))
+next_without old (Some (Err refused)) new stopped = stopped
+
+pub next_event_without : (old : Iterated) (item : Option (Result Event AllocError)) (new : Iterated) → GivesNextEventWith nowhere old item new
+    → GivesNextEvent old item new
+next_event_without old None new (inl stopped) = inl stopped
+next_event_without old None new (inr none) = inr (given_without _ _ none)
+next_event_without old (Some (Ok event)) new (range, gives) = (range, λ events g. given_without _ _ (gives events (given_with _ _ g)))
+next_event_without old (Some (Err refused)) new stopped = stopped
