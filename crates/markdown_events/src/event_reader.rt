@@ -267,7 +267,10 @@ impl<'a> EventReader<'a> {
     ///
     /// `AllocError` where memory is refused, which is asked for as by `next_with`.
     #[inline(always)]
-    pub(crate) fn read_until_ready<B: Definitions<'a>>(&mut self, broken: &B) -> Result<(), AllocError>
+    pub(crate) fn read_until_ready<B: Definitions<'a>>(
+        &mut self,
+        broken: &B,
+    ) -> Result<(), AllocError>
         ensures same { (events : List RangedEvent)
             → GivesWith (B.targets broken.now) self.new events
             → GivesWith (B.targets broken.now) self.old events }

@@ -23,7 +23,7 @@ use Rattle.markdown_html.specs.SafeHtml.{is_text, is_address, IsSafeIn, finished
 use Rattle.markdown_html.specs.SafeSetting.{is_kept, IsSafeSetting}
 use Rattle.markdown_html.specs.Settings.{Setting}
 use Rattle.markdown_html.specs.States.{HtmlState, is_in_image, ended_line, ended_text, on_line, written, nothing_written}
-use Rattle.markdown_html.specs.TagEnds.{tag_end}
+use Rattle.markdown_events.specs.TagEnds.{tag_end}
 use Rattle.markdown_html.proofs.SafeLemmas.{escaped_is_text}
 use Rattle.markdown_html.proofs.SafeAddresses.{address_is_safe}
 use Rattle.markdown_html.proofs.SafeSteps.{Step, both, text_step, escaped_step, line_ended, text_ended, line_step, heading_step, heading_end_step}

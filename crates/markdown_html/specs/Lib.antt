@@ -5,8 +5,8 @@ pub mod Escapes
 pub mod Html
 pub mod Inlines
 pub mod Nesting
+pub mod PageHtml
 pub mod SafeHtml
 pub mod SafeSetting
 pub mod Settings
 pub mod States
-pub mod TagEnds

@@ -4,7 +4,7 @@ use Rattle.std.specs.List.{list_all}
 use Rattle.markdown_values.specs.declared.values.Alignment.{Alignment}
 use Rattle.markdown_values.specs.values.Events.{EventView, start, end}
 use Rattle.markdown_values.specs.values.Tags.{TagView, table, table_head, table_row, table_cell}
-use Rattle.markdown_html.specs.TagEnds.{tag_end}
+use Rattle.markdown_events.specs.TagEnds.{tag_end}
 
 -- a tag that says this
 abbrev pub Tag : Type 0

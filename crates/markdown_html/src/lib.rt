@@ -7,6 +7,7 @@ mod blocks;
 pub mod escapes;
 pub mod html;
 mod inlines;
+pub mod page;
 pub mod schemes;
 pub mod setting;
 pub mod writer;

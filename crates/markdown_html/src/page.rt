@@ -1,0 +1,68 @@
+//! The HTML of a page.
+ghost use Rattle.std.specs.Prelude.{◌≡◌, IfErr, IfOk, string_bytes};
+ghost use Rattle.markdown_events.specs.page.PageEvents.{commonmark};
+ghost use Rattle.markdown_events.specs.page.Settings.{Explains, asked_by, not_built};
+ghost use Rattle.markdown_html.specs.PageHtml.{IsHtmlFrom, IsHtmlOf};
+ghost use Rattle.markdown_html.specs.Settings.{seen_setting};
+
+use crate::setting::{AllowedAddresses, HtmlSetting};
+use crate::writer::HtmlWriter;
+use markdown_events::event_reader::{EventReader, NewError};
+use markdown_values::values::Options;
+use std::alloc::{AllocError, Global};
+
+/// The HTML of a page of CommonMark, without extensions.
+///
+/// # Errors
+///
+/// `AllocError` where memory is refused.
+pub fn html_of_page<A: AllowedAddresses>(
+    alloc: Global,
+    page: &str,
+    setting: &HtmlSetting<A>,
+) -> Result<String, AllocError>
+    ensures html { IfOk result (λ html. IsHtmlOf page.now commonmark
+        (seen_setting A.allows setting.now) (string_bytes html)) }
+{
+    html_of_reader(alloc, EventReader::new(alloc, page)?, setting)
+}
+
+/// The HTML of a page with these options.
+///
+/// # Errors
+///
+/// `NotBuilt` with those of the options that are not built, where one is, and `Refused` where memory
+/// is refused.
+pub fn html_of_page_ext<A: AllowedAddresses>(
+    alloc: Global,
+    page: &str,
+    options: Options,
+    setting: &HtmlSetting<A>,
+) -> Result<String, NewError>
+    ensures html { IfOk result (λ html. IsHtmlOf page.now (asked_by options)
+        (seen_setting A.allows setting.now) (string_bytes html)) }
+    ensures built { IfOk result (λ _. not_built options ≡ 0) }
+    ensures refused { IfErr result (Explains options) }
+{
+    let reader = EventReader::new_ext(alloc, page, options)?;
+    match html_of_reader(alloc, reader, setting) {
+        Ok(html) => Ok(html),
+        Err(refused) => Err(NewError::Refused(refused)),
+    }
+}
+
+// The HTML of the events that a reader has left.
+fn html_of_reader<A: AllowedAddresses>(
+    alloc: Global,
+    mut reader: EventReader<'_>,
+    setting: &HtmlSetting<A>,
+) -> Result<String, AllocError>
+    ensures { IfOk result (λ html. IsHtmlFrom reader.entry
+        (seen_setting A.allows setting.now) (string_bytes html)) }
+{
+    let mut writer = HtmlWriter::new(alloc);
+    while let Some((event, _)) = reader.next()? {
+        writer.push(setting, event)?;
+    }
+    Ok(writer.into_string())
+}
