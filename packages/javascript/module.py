@@ -138,7 +138,7 @@ def text_of(code, toolchain, room):
 def linked(text, toolchain, room, features):
     """The bytes of a module with a 64-bit memory."""
     made, module = room / "module.o", room / "module.wasm"
-    how = [f"--target={TARGET}", "-Werror", *features, "-O3", "-ffunction-sections", "-fdata-sections"]
+    how = [f"--target={TARGET}", "-Werror", *features, "-Os", "-ffunction-sections", "-fdata-sections"]
     run(toolchain / "bin/clang", *how, "-x", "ir", text, "-c", "-o", made)
     (room / "imports").write_text("rattle_alloc\nrattle_realloc\nrattle_dealloc\n")
     words = ["-flavor", "wasm", "-mwasm64", "--no-entry", "--stack-first", "--gc-sections", "--strip-all", "--fatal-warnings"]
