@@ -279,7 +279,8 @@ def is_of_task(it):
 
 
 def is_before_start(it):
-    return it.is_end and it.their < it.pair.their.start
+    """That a range has no bytes for pulldown-cmark."""
+    return it.is_end and it.their <= it.pair.their.start < it.our
 
 
 def is_collapsed(it):
@@ -308,7 +309,7 @@ PLACE_KINDS = {
     "row": Kind("end with the text of a row, for pulldown-cmark after its line ending", "GFM 4.10", is_row),
     "cell": Kind("are those of a cell's content, for pulldown-cmark with the spaces around it", "GFM 4.10", is_cell),
     "task": Kind("begin with the marker of a task, for pulldown-cmark after it", "GFM 5.3", is_of_task),
-    "turned": Kind("end before they begin for pulldown-cmark, after the marker of a task alone", "pulldown-cmark 0.9.2 alone", is_before_start),
+    "turned": Kind("end before or where they begin for pulldown-cmark, after the marker of a task alone", "pulldown-cmark 0.9.2 alone", is_before_start),
     "collapsed": Kind("end after the [] of a collapsed reference, for pulldown-cmark before it", "6.3", is_collapsed),
 }
 
