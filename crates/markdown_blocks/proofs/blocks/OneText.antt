@@ -124,7 +124,7 @@ one_opening asked s (c ∷ begun) (c' ∷ begun') after after' o o' =
     let more = one_opening (without_terms asked) o'.0 begun begun' after after' (subst (λ z. Opens (without_terms asked) z begun after) next o.2) o'.2 in
     (ap (λ p. p.0 ∷ begun) pair ∙ ap (λ cs. c' ∷ cs) more.0, more.1)
 
--- whether a block may be a term is told in one way
+-- whether a block may be a term has one answer
 same_told : (b c : Bool) (P : Type 0) → (IsTrue b → P) × (P → IsTrue b) → (IsTrue c → P) × (P → IsTrue c) → b ≡ c
 same_told true c P h h' = sym (h'.1 (h.0 refl))
 same_told false true P h h' = h.1 (h'.0 refl)
