@@ -2,6 +2,7 @@
 #![tactic(auto)]
 
 pub mod blocks;
+pub mod comments;
 pub mod contents;
 pub mod definitions;
 pub mod events;

@@ -1,5 +1,6 @@
 //! Tests of `cmark_uses`, under the names of its modules.
 mod blocks;
+mod comments;
 mod contents;
 mod definitions;
 mod headings;

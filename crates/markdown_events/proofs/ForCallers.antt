@@ -6,6 +6,6 @@ pub use Rattle.markdown_events.proofs.page.leaf_events.BalanceLemmas.{leaf_event
 pub use Rattle.markdown_events.proofs.page.leaf_events.OneLeaf.{one_list_of_leaf_events}
 pub use Rattle.markdown_events.proofs.page.leaf_events.PagePlaces.{LeavesStandIn, StandsIn, page_leaves_stand}
 pub use Rattle.markdown_events.proofs.page.OnePage.{one_list_of_page_events}
-pub use Rattle.markdown_events.proofs.page.PageBalance.{page_events_balance}
+pub use Rattle.markdown_events.proofs.page.PageBalance.{page_events_balance, page_events_nest}
 pub use Rattle.markdown_events.proofs.page.PageRanges.{page_events_within}
 pub use Rattle.markdown_events.proofs.page.task_events.TaskLaws.{block_events_balance, one_list_of_block_events}

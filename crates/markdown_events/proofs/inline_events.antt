@@ -3,6 +3,7 @@ pub mod Facts
 pub mod Filled
 pub mod Found
 pub mod Laws
+pub mod NoTables
 pub mod PassLemmas
 pub mod Rise
 pub mod Unique

@@ -1,6 +1,7 @@
 pub mod FrontLists
 pub mod IteratedLemmas
 pub mod LevelLemmas
+pub mod NestLemmas
 pub mod NodeRanges
 pub mod OnePage
 pub mod PageBalance

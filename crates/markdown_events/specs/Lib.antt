@@ -1,8 +1,10 @@
 pub mod EventLaws
 pub mod Found
 pub mod InlineEvents
+pub mod InsecureCharacters
 pub mod JoinedWords
 pub mod Meanings
+pub mod Nesting
 pub mod Passes
 pub mod page
 pub mod TagEnds

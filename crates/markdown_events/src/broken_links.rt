@@ -3,6 +3,7 @@ ghost use Rattle.std.specs.Prelude.{◌≡◌, false, List, IfErr, IfOk};
 ghost use Rattle.std.specs.Iterator.{at_most};
 ghost use Rattle.markdown_events.specs.EventLaws.{AreBalanced};
 ghost use Rattle.markdown_events.specs.InlineEvents.{RangedEvent};
+ghost use Rattle.markdown_events.specs.Nesting.{AreNested, without_ranges};
 ghost use Rattle.markdown_events.specs.page.Given.{GivesWith};
 ghost use Rattle.markdown_events.specs.page.Iterated.{GivesNextEventWith, GivesNextWith, items_left};
 ghost use Rattle.markdown_events.specs.page.PageEvents.{AreDefinitionsOf, ArePageEventsWith};
@@ -55,6 +56,9 @@ impl<'a, B: Definitions<'a> + Drop> BrokenLinkParser<'a, B> {
             → ArePageEventsWith text.now (asked_by options) (B.targets broken) events) }
         ensures balanced { IfOk result (λ parser. (events : List RangedEvent)
             → GivesWith (B.targets broken) parser.events.left events → AreBalanced events) }
+        ensures nested { IfOk result (λ parser. (events : List RangedEvent)
+            → GivesWith (B.targets broken) parser.events.left events
+            → AreNested (without_ranges events)) }
         ensures definitions { IfOk result (λ parser.
             AreDefinitionsOf text.now (asked_by options) parser.events.left.known) }
         ensures broken { IfOk result (λ parser. parser.broken ≡ broken) }

@@ -2,6 +2,7 @@
 ghost use Rattle.std.specs.Prelude.{◌≡◌, ◌∷◌, ◌<◌, ◌≤◌, ◌^◌, [], List, drop, false, length, map, IsTrue, IfErr, IfOk, IfSome, IfNone, OnOk};
 ghost use Rattle.markdown_events.specs.EventLaws.{AreBalanced, AreWithin};
 ghost use Rattle.markdown_events.specs.InlineEvents.{RangedEvent, seen_event};
+ghost use Rattle.markdown_events.specs.Nesting.{AreNested, without_ranges};
 ghost use Rattle.markdown_blocks.specs.events.Events.{seen_event as seen_block, seen_leaf};
 ghost use Rattle.markdown_events.specs.page.Given.{Gives, GivesWith, IsDone, events_left, left_with, setting_with};
 ghost use Rattle.markdown_events.specs.page.OpenElements.{begun, end_events, ended, next_span, passed, place_in, start_events};
@@ -123,6 +124,8 @@ impl<'a> EventReader<'a> {
             → ArePageEvents text.now commonmark events) }
         ensures balanced { IfOk result (λ reader. (events : List RangedEvent) → Gives reader events
             → AreBalanced events) }
+        ensures nested { IfOk result (λ reader. (events : List RangedEvent) → Gives reader events
+            → AreNested (without_ranges events)) }
         ensures within { IfOk result (λ reader. (events : List RangedEvent) → Gives reader events
             → AreWithin text.now events) }
         ensures definitions { IfOk result (λ reader.
@@ -146,6 +149,8 @@ impl<'a> EventReader<'a> {
             → ArePageEvents text.now (asked_by options) events) }
         ensures balanced { IfOk result (λ reader. (events : List RangedEvent) → Gives reader events
             → AreBalanced events) }
+        ensures nested { IfOk result (λ reader. (events : List RangedEvent) → Gives reader events
+            → AreNested (without_ranges events)) }
         ensures within { IfOk result (λ reader. (events : List RangedEvent) → Gives reader events
             → AreWithin text.now events) }
         ensures definitions { IfOk result (λ reader.
@@ -174,6 +179,8 @@ impl<'a> EventReader<'a> {
             → ArePageEvents page.now setting events) }
         ensures balanced { IfOk result (λ reader. (events : List RangedEvent) → Gives reader events
             → AreBalanced events) }
+        ensures nested { IfOk result (λ reader. (events : List RangedEvent) → Gives reader events
+            → AreNested (without_ranges events)) }
         ensures within { IfOk result (λ reader. (events : List RangedEvent) → Gives reader events
             → AreWithin page.now events) }
         ensures definitions { IfOk result (λ reader.

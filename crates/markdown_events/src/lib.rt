@@ -8,6 +8,7 @@ pub mod definitions;
 mod elements;
 pub mod event_reader;
 pub mod inline_events;
+pub mod insecure_characters;
 mod joined_text;
 mod link_tags;
 mod page;

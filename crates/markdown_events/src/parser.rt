@@ -3,6 +3,7 @@ ghost use Rattle.std.specs.Prelude.{◌≡◌, ◌<◌, false, List, IfErr, IfOk
 ghost use Rattle.std.specs.Iterator.{at_most};
 ghost use Rattle.markdown_events.specs.EventLaws.{AreBalanced, AreWithin};
 ghost use Rattle.markdown_events.specs.InlineEvents.{RangedEvent};
+ghost use Rattle.markdown_events.specs.Nesting.{AreNested, without_ranges};
 ghost use Rattle.markdown_events.specs.page.Given.{Gives};
 ghost use Rattle.markdown_events.specs.page.Iterated.{GivesNext, GivesNextEvent, GivesNextEventWith, GivesNextWith, Iterated, items_left};
 ghost use Rattle.markdown_events.specs.page.PageEvents.{AreDefinitionsOf, ArePageEvents, commonmark};
@@ -52,6 +53,8 @@ impl<'a> Parser<'a> {
             → Gives parser.left events → ArePageEvents text.now commonmark events) }
         ensures balanced { IfOk result (λ parser. (events : List RangedEvent)
             → Gives parser.left events → AreBalanced events) }
+        ensures nested { IfOk result (λ parser. (events : List RangedEvent)
+            → Gives parser.left events → AreNested (without_ranges events)) }
         ensures within { IfOk result (λ parser. (events : List RangedEvent)
             → Gives parser.left events → AreWithin text.now events) }
         ensures definitions { IfOk result (λ parser.
@@ -72,6 +75,8 @@ impl<'a> Parser<'a> {
             → Gives parser.left events → ArePageEvents text.now (asked_by options) events) }
         ensures balanced { IfOk result (λ parser. (events : List RangedEvent)
             → Gives parser.left events → AreBalanced events) }
+        ensures nested { IfOk result (λ parser. (events : List RangedEvent)
+            → Gives parser.left events → AreNested (without_ranges events)) }
         ensures within { IfOk result (λ parser. (events : List RangedEvent)
             → Gives parser.left events → AreWithin text.now events) }
         ensures definitions { IfOk result (λ parser.

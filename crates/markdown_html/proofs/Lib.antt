@@ -7,6 +7,7 @@ pub mod RunLemmas
 pub mod SafeAddresses
 pub mod SafeEvents
 pub mod SafeLemmas
+pub mod SafePages
 mod SafeRows
 pub mod SafeSteps
 pub mod SafeTags

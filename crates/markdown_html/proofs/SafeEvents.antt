@@ -18,7 +18,7 @@ use Rattle.markdown_html.specs.Blocks.{table_end, task_box, head_end}
 use Rattle.markdown_html.specs.Escapes.{escaped}
 use Rattle.markdown_html.specs.Html.{started, ended, with_event, with_text_of, after_event, after_events, html_of}
 use Rattle.markdown_html.specs.Inlines.{raw_html, raw_text, target, address, link_tag, before_image, after_image, code_element, image_ended}
-use Rattle.markdown_html.specs.Nesting.{Tag, MayStart, AreNestedIn, AreNested}
+use Rattle.markdown_events.specs.Nesting.{Tag, MayStart, AreNestedIn, AreNested}
 use Rattle.markdown_html.specs.SafeHtml.{is_text, is_address, IsSafeIn, finished, with_start, with_end, with_void, IsSafeHtml}
 use Rattle.markdown_html.specs.SafeSetting.{is_kept, IsSafeSetting}
 use Rattle.markdown_html.specs.Settings.{Setting}

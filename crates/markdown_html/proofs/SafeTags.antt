@@ -9,7 +9,7 @@ use Rattle.markdown_values.specs.values.Tags.{table, table_head, table_row}
 use Rattle.markdown_values.specs.values.Tags.{table_cell, emphasis, strong, strikethrough, superscript, subscript, link, image}
 use Rattle.markdown_scanners_tree.proofs.PrefixLemmas.{both_true}
 use Rattle.markdown_html.specs.Blocks.{cell_name}
-use Rattle.markdown_html.specs.Nesting.{Tag, is_in_table, MayStart}
+use Rattle.markdown_events.specs.Nesting.{Tag, is_in_table, MayStart}
 use Rattle.markdown_html.specs.States.{is_in_image}
 use Rattle.markdown_html.proofs.SafeSteps.{list_element, table_elements}
 

@@ -4,7 +4,6 @@ pub mod EscapeLaws
 pub mod Escapes
 pub mod Html
 pub mod Inlines
-pub mod Nesting
 pub mod PageHtml
 pub mod SafeHtml
 pub mod SafeSetting

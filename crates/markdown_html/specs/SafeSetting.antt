@@ -3,6 +3,7 @@ use Rattle.std.specs.Prelude.{ℕ, Bool, true, false, ◌≡◌, List}
 use Rattle.markdown_html.specs.declared.setting.RawHtml.{RawHtml}
 use Rattle.markdown_html.specs.declared.setting.RawHtml.TheVariants.{Kept}
 use Rattle.markdown_html.specs.Addresses.{is_allowed_address}
+use Rattle.markdown_html.specs.SafeHtml.{IsSafeHtml}
 use Rattle.markdown_html.specs.Settings.{Setting}
 
 abbrev pub is_kept : RawHtml → Bool
@@ -13,3 +14,7 @@ is_kept raw = false
 pub record IsSafeSetting (schemes : List (List ℕ)) (setting : Setting) : Type 0 where
   pub raw : is_kept setting.raw ≡ false
   pub addresses : (address : List ℕ) → setting.allows address ≡ true → is_allowed_address schemes address ≡ true
+
+-- HTML is safe by each list of schemes by which the setting is that it was written with.
+abbrev pub IsSafeWith : Setting → List ℕ → Type 0
+IsSafeWith setting html = (schemes : List (List ℕ)) → IsSafeSetting schemes setting → IsSafeHtml schemes html

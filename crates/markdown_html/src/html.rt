@@ -2,7 +2,9 @@
 ghost use Rattle.std.specs.Prelude.{◌≡◌, IfOk, map, string_bytes};
 ghost use Rattle.markdown_values.specs.strings.Text.{cow_text};
 ghost use Rattle.markdown_values.specs.values.Events.{event_view};
+ghost use Rattle.markdown_events.specs.Nesting.{AreNested};
 ghost use Rattle.markdown_html.specs.Html.{html_of};
+ghost use Rattle.markdown_html.specs.SafeSetting.{IsSafeWith};
 ghost use Rattle.markdown_html.specs.Settings.{seen_setting};
 
 use crate::setting::{AllowedAddresses, HtmlSetting};
@@ -16,14 +18,17 @@ use std::alloc::{AllocError, Global};
 /// # Errors
 ///
 /// `AllocError` where memory is refused.
+#[tactic(auto, using(crate::proofs::SafePages::nested_html_is_safe))]
 pub fn html_of_events<'a, A: AllowedAddresses>(
     alloc: Global,
     setting: &HtmlSetting<A>,
     events: Vec<Event<'a>>,
 ) -> Result<String, AllocError>
-    ensures { IfOk result (λ html. string_bytes html
+    ensures html { IfOk result (λ html. string_bytes html
         ≡ html_of (seen_setting A.allows setting.now)
         (map (event_view cow_text) events.entry.items)) }
+    ensures safe { IfOk result (λ html. AreNested (map (event_view cow_text) events.entry.items)
+        → IsSafeWith (seen_setting A.allows setting.now) (string_bytes html)) }
 {
     let mut writer = HtmlWriter::new(alloc);
     for event in events {

@@ -3,11 +3,13 @@ ghost use Rattle.std.specs.Prelude.{◌≡◌, IfErr, IfOk, string_bytes};
 ghost use Rattle.markdown_events.specs.page.PageEvents.{commonmark};
 ghost use Rattle.markdown_events.specs.page.Settings.{Explains, asked_by, not_built};
 ghost use Rattle.markdown_html.specs.PageHtml.{IsHtmlFrom, IsHtmlOf};
+ghost use Rattle.markdown_html.specs.SafeSetting.{IsSafeWith};
 ghost use Rattle.markdown_html.specs.Settings.{seen_setting};
 
 use crate::setting::{AllowedAddresses, HtmlSetting};
 use crate::writer::HtmlWriter;
 use markdown_events::event_reader::{EventReader, NewError};
+use markdown_events::insecure_characters::with_replacements;
 use markdown_values::values::Options;
 use std::alloc::{AllocError, Global};
 
@@ -16,6 +18,7 @@ use std::alloc::{AllocError, Global};
 /// # Errors
 ///
 /// `AllocError` where memory is refused.
+#[tactic(auto, using(crate::proofs::SafePages::page_html_is_safe))]
 pub fn html_of_page<A: AllowedAddresses>(
     alloc: Global,
     page: &str,
@@ -23,8 +26,11 @@ pub fn html_of_page<A: AllowedAddresses>(
 ) -> Result<String, AllocError>
     ensures html { IfOk result (λ html. IsHtmlOf page.now commonmark
         (seen_setting A.allows setting.now) (string_bytes html)) }
+    ensures safe { IfOk result (λ html. IsSafeWith
+        (seen_setting A.allows setting.now) (string_bytes html)) }
 {
-    html_of_reader(alloc, EventReader::new(alloc, page)?, setting)
+    let text = with_replacements(alloc, page)?;
+    html_of_reader(alloc, EventReader::new(alloc, text.as_str())?, setting)
 }
 
 /// The HTML of a page with these options.
@@ -33,6 +39,7 @@ pub fn html_of_page<A: AllowedAddresses>(
 ///
 /// `NotBuilt` with those of the options that are not built, where one is, and `Refused` where memory
 /// is refused.
+#[tactic(auto, using(crate::proofs::SafePages::page_html_is_safe))]
 pub fn html_of_page_ext<A: AllowedAddresses>(
     alloc: Global,
     page: &str,
@@ -41,10 +48,15 @@ pub fn html_of_page_ext<A: AllowedAddresses>(
 ) -> Result<String, NewError>
     ensures html { IfOk result (λ html. IsHtmlOf page.now (asked_by options)
         (seen_setting A.allows setting.now) (string_bytes html)) }
+    ensures safe { IfOk result (λ html. IsSafeWith
+        (seen_setting A.allows setting.now) (string_bytes html)) }
     ensures built { IfOk result (λ _. not_built options ≡ 0) }
     ensures refused { IfErr result (Explains options) }
 {
-    let reader = EventReader::new_ext(alloc, page, options)?;
+    let Ok(text) = with_replacements(alloc, page) else {
+        return Err(NewError::Refused(AllocError));
+    };
+    let reader = EventReader::new_ext(alloc, text.as_str(), options)?;
     match html_of_reader(alloc, reader, setting) {
         Ok(html) => Ok(html),
         Err(refused) => Err(NewError::Refused(refused)),

@@ -1,7 +1,7 @@
--- The events of a page balance.
-use Rattle.std.proofs.Common.{ℕ, Bool, true, false, not, List, [], ◌∷◌, ◌++◌, Option, Some, None, ◌≡◌, refl, sym, subst, append-nil, append_assoc}
+-- The events of a page balance, and nest.
+use Rattle.std.proofs.Common.{ℕ, Bool, true, false, not, List, [], ◌∷◌, ◌++◌, Option, Some, None, ◌≡◌, refl, sym, subst, append_assoc}
 use Rattle.std.proofs.Common.{if◌then◌else◌}
-use Rattle.std.specs.Prelude.{IsTrue, is_some}
+use Rattle.std.specs.Prelude.{⊤, IsTrue, is_some}
 use Rattle.markdown_values.specs.values.Tags.{TagView, item}
 use Rattle.markdown_blocks.specs.blocks.Pages.{is_blank_kind}
 use Rattle.markdown_blocks.specs.declared.containers.Container.{Container}
@@ -11,8 +11,9 @@ use Rattle.markdown_blocks.specs.events.Events.{LeafBlock, leaf}
 use Rattle.markdown_blocks.specs.first_blocks.Waiting.{waiting_behind}
 use Rattle.markdown_blocks.specs.link_definitions.LinkDefinitions.{first_of}
 use Rattle.markdown_blocks.specs.lists.Lists.{Nodes, nothing, leaf_then, container_then}
-use Rattle.markdown_events.specs.EventLaws.{AreBalanced, AreBalancedIn, Started}
+use Rattle.markdown_events.specs.EventLaws.{AreBalanced, Started}
 use Rattle.markdown_events.specs.InlineEvents.{RangedEvent}
+use Rattle.markdown_events.specs.Nesting.{AreNested, without_ranges}
 use Rattle.markdown_events.specs.TagEnds.{tag_end}
 use Rattle.markdown_events.specs.declared.elements.Element.{Element}
 use Rattle.markdown_events.specs.declared.event_reader.PageSetting.{PageSetting}
@@ -25,8 +26,9 @@ use Rattle.markdown_events.specs.page.Places.{element}
 use Rattle.markdown_events.specs.page.TaskEvents.{BlockSetting}
 use Rattle.markdown_events.specs.page.Spans.{container_end, front_list, is_alike, span_of}
 use Rattle.markdown_events.proofs.page.OnePage.{OtherEvents}
-use Rattle.markdown_events.proofs.page.leaf_events.BalanceLemmas.{balanced_before, element_balances}
-use Rattle.markdown_events.proofs.page.task_events.TaskLaws.{block_events_balance}
+use Rattle.markdown_events.proofs.inline_events.NoTables.{IsOther}
+use Rattle.markdown_events.proofs.page.NestLemmas.{AreOutside, Stand, StandIn, alone_balance, alone_nested, element_stands, more_outside}
+use Rattle.markdown_events.proofs.page.task_events.TaskLaws.{block_events_stand}
 
 -- ---- the list that is open
 
@@ -37,8 +39,15 @@ started_as tag one = (tag, record { start = one.from; end = one.to })
 abbrev AreOpen : Option OpenList → Nodes → List Started → List Started → Type 0
 AreOpen None nodes elements outer = elements ≡ outer
 AreOpen (Some list) nodes elements outer =
-    (tag : TagView (List ℕ)) × (list.element.tag ≡ tag_end tag) × (elements ≡ started_as tag list.element ∷ outer)
+    (tag : TagView (List ℕ)) × (list.element.tag ≡ tag_end tag) × IsOther tag × (elements ≡ started_as tag list.element ∷ outer)
     × IsTrue (is_some (front_list nodes))
+
+-- no element is a table or a part of one, where the others aren't
+open_outside : (current : Option OpenList) (nodes : Nodes) (elements outer : List Started) → AreOpen current nodes elements outer → AreOutside outer
+    → AreOutside elements
+open_outside None nodes elements outer are outside = subst AreOutside (sym are) outside
+open_outside (Some list) nodes elements outer (tag, closes, other, are, some) outside =
+    subst AreOutside (sym are) (more_outside (started_as tag list.element) outer other outside)
 
 -- a list that goes on does so in the nodes that follow
 alike_is_some : (one : ListItem) (list : Option ItemList) → is_alike one list ≡ true → IsTrue (is_some list)
@@ -49,7 +58,8 @@ alike_is_some one (Some list) is = refl
 open_after_leaf : (block : LeafBlock) (later : Nodes) (current : Option OpenList) (elements outer : List Started)
     → AreOpen current (leaf_then block later) elements outer → AreOpen current later elements outer
 open_after_leaf block later None elements outer are = are
-open_after_leaf block later (Some list) elements outer (tag, closes, are, some) = (tag, closes, are, by_kind (is_blank_kind block.kind) some)
+open_after_leaf block later (Some list) elements outer (tag, closes, other, are, some) =
+    (tag, closes, other, are, by_kind (is_blank_kind block.kind) some)
   where
     by_kind : (k : Bool) → IsTrue (is_some (if k then front_list later else None)) → IsTrue (is_some (front_list later))
     by_kind true some = some
@@ -64,101 +74,129 @@ goes_on : (alike : Bool) → false ≡ not alike → alike ≡ true
 goes_on true is = refl
 goes_on false is = absurd (cc)
 
-module _ (page : List ℕ) (setting : BlockSetting) where
-  -- with these elements open, of which the nodes end their list, what balances after them does so after their events
-  abbrev Balance : Nodes → Type 0
-  Balance nodes = (here : Place) (waiting : Option Container) (current : Option OpenList) (elements outer : List Started) (events more : List RangedEvent)
-      → AreOpen current nodes elements outer → AreNodeEvents page setting here waiting current nodes events → AreBalancedIn outer more
-      → AreBalancedIn elements (events ++ more)
+other_container : (container : Container) → IsOther (container_tag container)
+other_container Quote = refl
+other_container (Item one) = refl
+other_container Footnote = refl
+other_container (TermDefinition one) = refl
 
-  -- nodes where no list is open balance
-  alone : (nodes : Nodes) → Balance nodes → (here : Place) (waiting : Option Container) (events : List RangedEvent)
-      → AreNodeEvents page setting here waiting None nodes events → AreBalanced events
-  alone nodes balance here waiting events are =
-      subst (AreBalancedIn []) (append-nil events) (balance here waiting None [] [] events [] refl are refl)
+module _ (page : List ℕ) (setting : BlockSetting) where
+  -- with these elements open, of which the nodes end their list, what stands after them does so after their events
+  abbrev NodesStand : Nodes → Type 0
+  NodesStand nodes = (here : Place) (waiting : Option Container) (current : Option OpenList) (elements outer : List Started) (events more : List RangedEvent)
+      → AreOpen current nodes elements outer → AreNodeEvents page setting here waiting current nodes events → AreOutside outer → StandIn outer more
+      → StandIn elements (events ++ more)
+
+  -- nodes where no list is open stand outside of tables
+  alone : (nodes : Nodes) → NodesStand nodes → (here : Place) (waiting : Option Container) (events : List RangedEvent)
+      → AreNodeEvents page setting here waiting None nodes events → Stand events
+  alone nodes stand here waiting events are elements rest outside gives =
+      stand here waiting None elements elements events rest refl are outside gives
 
   -- an item of a list that is open, and what follows it
-  item_in_list : (one : ListItem) (later : Nodes) → Balance later → (here : Place) (list : OpenList) (tag : TagView (List ℕ))
-      → list.element.tag ≡ tag_end tag → (is_last : Bool) → is_last ≡ not (is_alike one (front_list later))
-      → (outer : List Started) (whole rest more : List RangedEvent) → AreBalanced whole
-      → AreNodeEvents page setting here None (list_after is_last list) later rest → AreBalancedIn outer more
-      → AreBalancedIn (started_as tag list.element ∷ outer) (whole ++ list_end is_last list ++ rest ++ more)
-  item_in_list one later balance here list tag closes true last outer whole rest more balanced are gives =
+  item_in_list : (one : ListItem) (later : Nodes) → NodesStand later → (here : Place) (list : OpenList) (tag : TagView (List ℕ))
+      → list.element.tag ≡ tag_end tag → IsOther tag → (is_last : Bool) → is_last ≡ not (is_alike one (front_list later))
+      → (outer : List Started) (whole rest more : List RangedEvent) → Stand whole
+      → AreNodeEvents page setting here None (list_after is_last list) later rest → AreOutside outer → StandIn outer more
+      → StandIn (started_as tag list.element ∷ outer) (whole ++ list_end is_last list ++ rest ++ more)
+  item_in_list one later stand here list tag closes other true last outer whole rest more stands are outside gives =
       let elements : List Started = started_as tag list.element ∷ outer in
-      let after = balance here None None outer outer rest more refl are gives in
-      subst (AreBalancedIn elements) (sym (reassociated whole (ending list.element) rest more))
-      (balanced_before [] elements whole (ending list.element ++ (rest ++ more)) balanced (tag, outer, refl, closes, after))
-  item_in_list one later balance here list tag closes false last outer whole rest more balanced are gives =
+      let after = stand here None None outer outer rest more refl are outside gives in
+      subst (StandIn elements) (sym (reassociated whole (ending list.element) rest more))
+      (stands elements (ending list.element ++ (rest ++ more)) (more_outside (started_as tag list.element) outer other outside)
+      (tag, outer, refl, closes, after))
+  item_in_list one later stand here list tag closes other false last outer whole rest more stands are outside gives =
       let elements : List Started = started_as tag list.element ∷ outer in
       let some = alike_is_some one (front_list later) (goes_on (is_alike one (front_list later)) last) in
-      let after = balance here None (Some list) elements outer rest more (tag, closes, refl, some) are gives in
-      subst (AreBalancedIn elements) (sym (reassociated whole [] rest more))
-      (balanced_before [] elements whole ([] ++ (rest ++ more)) balanced after)
+      let after = stand here None (Some list) elements outer rest more (tag, closes, other, refl, some) are outside gives in
+      subst (StandIn elements) (sym (reassociated whole [] rest more))
+      (stands elements ([] ++ (rest ++ more)) (more_outside (started_as tag list.element) outer other outside) after)
 
   -- a container that is no item
-  other_balances : (container : Container) (place : ℕ) (inner later : Nodes) → Balance inner → Balance later → (here : Place)
+  other_stands : (container : Container) (place : ℕ) (inner later : Nodes) → NodesStand inner → NodesStand later → (here : Place)
       (elements outer : List Started) (events more : List RangedEvent) → elements ≡ outer
-      → OtherEvents page setting container place inner later here events → AreBalancedIn outer more → AreBalancedIn elements (events ++ more)
-  other_balances container place inner later in_it after_it here elements outer events more are_open (held, rest, are_held, are_rest, is) gives =
+      → OtherEvents page setting container place inner later here events → AreOutside outer → StandIn outer more → StandIn elements (events ++ more)
+  other_stands container place inner later in_it after_it here elements outer events more are_open (held, rest, are_held, are_rest, is) outside gives =
       let to = container_end inner in
       let whole = element (container_tag container) place to held in
-      let balanced = element_balances (container_tag container) place to held (alone inner in_it (inside container false here) (Some container) held are_held) in
-      subst (λ (es : List RangedEvent). AreBalancedIn elements (es ++ more)) (sym is)
-      (subst (AreBalancedIn elements) (sym (append_assoc whole rest more))
-      (balanced_before [] elements whole (rest ++ more) balanced
-      (after_it (after_block here) None None elements outer rest more are_open are_rest gives)))
+      let stands = element_stands (container_tag container) place to held (other_container container)
+      (alone inner in_it (inside container false here) (Some container) held are_held) in
+      subst (λ (es : List RangedEvent). StandIn elements (es ++ more)) (sym is)
+      (subst (StandIn elements) (sym (append_assoc whole rest more))
+      (stands elements (rest ++ more) (subst AreOutside (sym are_open) outside)
+      (after_it (after_block here) None None elements outer rest more are_open are_rest outside gives)))
 
-  nodes_balance : (nodes : Nodes) → Balance nodes
-  nodes_balance nothing here waiting None elements outer events more are_open is gives =
-      subst (λ (es : List RangedEvent). AreBalancedIn elements (es ++ more)) (sym is) (subst (λ (e : List Started). AreBalancedIn e more) (sym are_open) gives)
-  nodes_balance nothing here waiting (Some list) elements outer events more (tag, closes, are, some) is gives =
+  nodes_stand : (nodes : Nodes) → NodesStand nodes
+  nodes_stand nothing here waiting None elements outer events more are_open is outside gives =
+      subst (λ (es : List RangedEvent). StandIn elements (es ++ more)) (sym is) (subst (λ (e : List Started). StandIn e more) (sym are_open) gives)
+  nodes_stand nothing here waiting (Some list) elements outer events more (tag, closes, other, are, some) is outside gives =
       absurd (let lost : false ≡ true = some in cc)
-  nodes_balance (leaf_then block later) here waiting current elements outer events more are_open (own, rest, are_own, are_rest, is) gives =
-      subst (λ (es : List RangedEvent). AreBalancedIn elements (es ++ more)) (sym is)
-      (subst (AreBalancedIn elements) (sym (append_assoc own rest more))
-      (balanced_before [] elements own (rest ++ more) (block_events_balance page setting here waiting block own are_own)
-      (nodes_balance later (after_block here) (waiting_behind waiting (leaf block)) current elements outer rest more
-      (open_after_leaf block later current elements outer are_open) are_rest gives)))
-  nodes_balance (container_then (Item one) place inner later) here waiting None elements outer events more are_open (held, rest, are_held, are_rest, is) gives =
+  nodes_stand (leaf_then block later) here waiting current elements outer events more are_open (own, rest, are_own, are_rest, is) outside gives =
+      subst (λ (es : List RangedEvent). StandIn elements (es ++ more)) (sym is)
+      (subst (StandIn elements) (sym (append_assoc own rest more))
+      (block_events_stand page setting here waiting block own are_own elements (rest ++ more)
+      (open_outside current (leaf_then block later) elements outer are_open outside)
+      (nodes_stand later (after_block here) (waiting_behind waiting (leaf block)) current elements outer rest more
+      (open_after_leaf block later current elements outer are_open) are_rest outside gives)))
+  nodes_stand (container_then (Item one) place inner later) here waiting None elements outer events more are_open (held, rest, are_held, are_rest, is)
+      outside gives =
       let span = span_of (Item one) inner later in
       let now = list_in None one place span in
-      let balanced = element_balances item place span.to held
-      (alone inner (nodes_balance inner) (inside (Item one) now.is_tight here) (Some (Item one)) held are_held) in
-      subst (λ (es : List RangedEvent). AreBalancedIn elements (es ++ more)) (sym is)
-      (subst (λ (e : List Started). AreBalancedIn (started_as (list_tag one) now.element ∷ e)
-      (element item place span.to held ++ list_end span.is_last now ++ rest ++ more)) (sym are_open)
-      (item_in_list one later (nodes_balance later) (after_block here) now (list_tag one) refl span.is_last refl outer
-      (element item place span.to held) rest more balanced are_rest gives))
-  nodes_balance (container_then (Item one) place inner later) here waiting (Some list) elements outer events more (tag, closes, are_open, some)
-      (held, rest, are_held, are_rest, is) gives =
+      let stands = element_stands item place span.to held refl
+      (alone inner (nodes_stand inner) (inside (Item one) now.is_tight here) (Some (Item one)) held are_held) in
+      subst (λ (es : List RangedEvent). StandIn elements (es ++ more)) (sym is)
+      (subst (λ (e : List Started). ⊤ × StandIn (started_as (list_tag one) now.element ∷ e)
+      (element item place span.to held ++ list_end span.is_last now ++ rest ++ more)) (sym are_open) (
+        tt,
+        item_in_list one later (nodes_stand later) (after_block here) now (list_tag one) refl refl span.is_last refl outer
+            (element item place span.to held) rest more stands are_rest outside gives,
+      ))
+  nodes_stand (container_then (Item one) place inner later) here waiting (Some list) elements outer events more (tag, closes, other, are_open, some)
+      (held, rest, are_held, are_rest, is) outside gives =
       let span = span_of (Item one) inner later in
-      let balanced = element_balances item place span.to held
-      (alone inner (nodes_balance inner) (inside (Item one) list.is_tight here) (Some (Item one)) held are_held) in
-      subst (λ (es : List RangedEvent). AreBalancedIn elements (es ++ more)) (sym is)
-      (subst (λ (e : List Started). AreBalancedIn e (element item place span.to held ++ list_end span.is_last list ++ rest ++ more)) (sym are_open)
-      (item_in_list one later (nodes_balance later) (after_block here) list tag closes span.is_last refl outer
-      (element item place span.to held) rest more balanced are_rest gives))
-  nodes_balance (container_then Quote place inner later) here waiting None elements outer events more are_open are gives =
-      other_balances Quote place inner later (nodes_balance inner) (nodes_balance later) here elements outer events more are_open are gives
-  nodes_balance (container_then Footnote place inner later) here waiting None elements outer events more are_open are gives =
-      other_balances Footnote place inner later (nodes_balance inner) (nodes_balance later) here elements outer events more are_open are gives
-  nodes_balance (container_then (TermDefinition one) place inner later) here waiting None elements outer events more are_open are gives =
-      other_balances (TermDefinition one) place inner later (nodes_balance inner) (nodes_balance later) here elements outer events more are_open are gives
-  nodes_balance (container_then c place inner later) here waiting (Some list) elements outer events more (tag, closes, are, some) is gives =
+      let stands = element_stands item place span.to held refl
+      (alone inner (nodes_stand inner) (inside (Item one) list.is_tight here) (Some (Item one)) held are_held) in
+      subst (λ (es : List RangedEvent). StandIn elements (es ++ more)) (sym is)
+      (subst (λ (e : List Started). StandIn e (element item place span.to held ++ list_end span.is_last list ++ rest ++ more)) (sym are_open)
+      (item_in_list one later (nodes_stand later) (after_block here) list tag closes other span.is_last refl outer
+      (element item place span.to held) rest more stands are_rest outside gives))
+  nodes_stand (container_then Quote place inner later) here waiting None elements outer events more are_open are outside gives =
+      other_stands Quote place inner later (nodes_stand inner) (nodes_stand later) here elements outer events more are_open are outside gives
+  nodes_stand (container_then Footnote place inner later) here waiting None elements outer events more are_open are outside gives =
+      other_stands Footnote place inner later (nodes_stand inner) (nodes_stand later) here elements outer events more are_open are outside gives
+  nodes_stand (container_then (TermDefinition one) place inner later) here waiting None elements outer events more are_open are outside gives =
+      other_stands (TermDefinition one) place inner later (nodes_stand inner) (nodes_stand later) here elements outer events more are_open are outside gives
+  nodes_stand (container_then c place inner later) here waiting (Some list) elements outer events more (tag, closes, other, are, some) is outside gives =
       absurd (let lost : false ≡ true = some in cc)
 
 -- ---- the page
 
+page_events_stand : (page : List ℕ) (setting : PageSetting) (events : List RangedEvent) → ArePageEvents page setting events → Stand events
+page_events_stand page setting events are =
+    let read_with = block_setting setting (λ label. first_of label are.named) in
+    alone page read_with are.nodes (nodes_stand page read_with are.nodes) outermost None events are.are_events
+
+-- also where labels that the page does not define lead as these say
+page_events_with_stand : (page : List ℕ) (setting : PageSetting) (more : Targets) (events : List RangedEvent)
+    → ArePageEventsWith page setting more events → Stand events
+page_events_with_stand page setting more events are =
+    let read_with = block_setting setting (or_else (λ label. first_of label are.named) more) in
+    alone page read_with are.nodes (nodes_stand page read_with are.nodes) outermost None events are.are_events
+
 -- starts and ends balance
 pub page_events_balance : (page : List ℕ) (setting : PageSetting) (events : List RangedEvent) → ArePageEvents page setting events
     → AreBalanced events
-page_events_balance page setting events are =
-    let read_with = block_setting setting (λ label. first_of label are.named) in
-    alone page read_with are.nodes (nodes_balance page read_with are.nodes) outermost None events are.are_events
+page_events_balance page setting events are = alone_balance events (page_events_stand page setting events are)
 
--- also where labels that the page does not define lead as these say
 pub page_events_with_balance : (page : List ℕ) (setting : PageSetting) (more : Targets) (events : List RangedEvent)
     → ArePageEventsWith page setting more events → AreBalanced events
-page_events_with_balance page setting more events are =
-    let read_with = block_setting setting (or_else (λ label. first_of label are.named) more) in
-    alone page read_with are.nodes (nodes_balance page read_with are.nodes) outermost None events are.are_events
+page_events_with_balance page setting more events are = alone_balance events (page_events_with_stand page setting more events are)
+
+-- rows stand in tables, cells in rows, and no table in another
+pub page_events_nest : (page : List ℕ) (setting : PageSetting) (events : List RangedEvent) → ArePageEvents page setting events
+    → AreNested (without_ranges events)
+page_events_nest page setting events are = alone_nested events (page_events_stand page setting events are)
+
+pub page_events_with_nest : (page : List ℕ) (setting : PageSetting) (more : Targets) (events : List RangedEvent)
+    → ArePageEventsWith page setting more events → AreNested (without_ranges events)
+page_events_with_nest page setting more events are = alone_nested events (page_events_with_stand page setting more events are)

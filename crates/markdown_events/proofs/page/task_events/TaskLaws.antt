@@ -1,5 +1,5 @@
 -- The laws of leaf blocks hold where they may begin with a task list marker.
-use Rattle.std.proofs.Common.{ℕ, List, [], ◌∷◌, ◌≡◌, ◌∙◌, Option, Some, None, ap, map, sym, subst}
+use Rattle.std.proofs.Common.{ℕ, List, ◌∷◌, ◌≡◌, ◌∙◌, Option, Some, None, ap, map, sym, subst}
 use Rattle.markdown_blocks.proofs.ForCallers.{one_content}
 use Rattle.markdown_blocks.specs.content.Content.{Placed}
 use Rattle.markdown_blocks.specs.declared.containers.Container.{Container}
@@ -10,9 +10,9 @@ use Rattle.markdown_events.specs.InlineEvents.{AreInlineEvents, EventSetting, Ra
 use Rattle.markdown_events.specs.page.LeafEvents.{Place, in_paragraph}
 use Rattle.markdown_events.specs.page.Places.{lines_in_page, placed}
 use Rattle.markdown_events.specs.page.TaskEvents.{AreBlockEvents, AreEventsWith, AreTaskEvents, BlockSetting, after_marker, marker_event, task_here}
-use Rattle.markdown_events.proofs.inline_events.Laws.{events_balance}
 use Rattle.markdown_events.proofs.inline_events.Unique.{one_list_of_inline_events}
-use Rattle.markdown_events.proofs.page.leaf_events.BalanceLemmas.{leaf_events_balance, paragraph_balanced, placed_balanced}
+use Rattle.markdown_events.proofs.page.NestLemmas.{Stand, alone_balance, inlines_stand}
+use Rattle.markdown_events.proofs.page.leaf_events.BalanceLemmas.{leaf_events_stand, paragraph_stands}
 use Rattle.markdown_events.proofs.page.leaf_events.OneLeaf.{one_list_of_leaf_events}
 
 module _ (page : List ℕ) (setting : EventSetting) (here : Place) (block : LeafBlock) where
@@ -31,16 +31,15 @@ module _ (page : List ℕ) (setting : EventSetting) (here : Place) (block : Leaf
   one_with None events events' is is' = one_list_of_leaf_events page setting here block events events' is is'
   one_with (Some task) events events' is is' = one_task task events events' is is'
 
-  task_balanced : (task : Task) (events : List RangedEvent) → AreTaskEvents page setting here block task events → AreBalanced events
-  task_balanced task events is =
-      let rest = after_marker task is.content in
-      let inner = placed_balanced block.start rest.places [] is.inlines (events_balance rest.text setting is.inlines is.are_inlines) in
-      paragraph_balanced page setting here block here.is_tight events (marker_event task ∷ map (placed block.start rest.places) is.inlines) inner
-      is.are_events
+  task_stands : (task : Task) (events : List RangedEvent) → AreTaskEvents page setting here block task events → Stand events
+  task_stands task events is =
+      let left = after_marker task is.content in
+      paragraph_stands page setting here block here.is_tight events (marker_event task ∷ map (placed block.start left.places) is.inlines)
+      (λ elements rest outside. inlines_stand block.start left.places left.text setting is.inlines is.are_inlines elements rest) is.are_events
 
-  balanced_with : (task : Option Task) (events : List RangedEvent) → AreEventsWith task page setting here block events → AreBalanced events
-  balanced_with None events is = leaf_events_balance page setting here block events is
-  balanced_with (Some task) events is = task_balanced task events is
+  stands_with : (task : Option Task) (events : List RangedEvent) → AreEventsWith task page setting here block events → Stand events
+  stands_with None events is = leaf_events_stand page setting here block events is
+  stands_with (Some task) events is = task_stands task events is
 
 -- a leaf block of a page has one list of events where it stands
 pub one_list_of_block_events : (page : List ℕ) (setting : BlockSetting) (here : Place) (waiting : Option Container) (block : LeafBlock)
@@ -49,8 +48,14 @@ pub one_list_of_block_events : (page : List ℕ) (setting : BlockSetting) (here 
 one_list_of_block_events page setting here waiting block events events' is is' =
     one_with page setting.texts here block (task_here setting.tasks waiting block) events events' is is'
 
+-- they stand outside of tables
+pub block_events_stand : (page : List ℕ) (setting : BlockSetting) (here : Place) (waiting : Option Container) (block : LeafBlock)
+    → (events : List RangedEvent) → AreBlockEvents page setting here waiting block events → Stand events
+block_events_stand page setting here waiting block events is =
+    stands_with page setting.texts here block (task_here setting.tasks waiting block) events is
+
 -- starts and ends balance
 pub block_events_balance : (page : List ℕ) (setting : BlockSetting) (here : Place) (waiting : Option Container) (block : LeafBlock)
     → (events : List RangedEvent) → AreBlockEvents page setting here waiting block events → AreBalanced events
 block_events_balance page setting here waiting block events is =
-    balanced_with page setting.texts here block (task_here setting.tasks waiting block) events is
+    alone_balance events (block_events_stand page setting here waiting block events is)

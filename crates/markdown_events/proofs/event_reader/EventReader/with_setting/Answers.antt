@@ -4,7 +4,7 @@ use Rattle.markdown_events.specs.InlineEvents.{seen_event}
 use Rattle.markdown_events.specs.Targets.{nowhere}
 use Rattle.markdown_events.specs.page.OpenElements.{none_open}
 use Rattle.markdown_events.specs.page.PageEvents.{ArePageEvents, ArePageEventsWith}
-use Rattle.markdown_events.proofs.page.PageBalance.{page_events_balance}
+use Rattle.markdown_events.proofs.page.PageBalance.{page_events_balance, page_events_nest}
 use Rattle.markdown_events.proofs.page.PageRanges.{page_events_within}
 use Rattle.markdown_events.proofs.page.ParserLemmas.{given_with, page_events, page_events_with, reverse_twice}
 use Rattle.markdown_events.proofs.event_reader.EventReader.with_setting.Goals as goal
@@ -36,6 +36,9 @@ returns-clause-page c = λ events g.
 
 pub returns-clause-balanced : goal.returns-clause-balanced
 returns-clause-balanced c = λ events g. page_events_balance c.args.page.now c.args.setting events (returns-clause-page c events g)
+
+pub returns-clause-nested : goal.returns-clause-nested
+returns-clause-nested c = λ events g. page_events_nest c.args.page.now c.args.setting events (returns-clause-page c events g)
 
 pub returns-clause-within : goal.returns-clause-within
 returns-clause-within c = λ events g. page_events_within c.args.page.now c.args.setting events (returns-clause-page c events g)

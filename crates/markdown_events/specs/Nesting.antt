@@ -1,10 +1,15 @@
 -- Events whose starts and ends balance, and whose rows and cells stand in tables: as those of a page do.
-use Rattle.std.specs.Prelude.{ℕ, Bool, true, false, ◌≡◌, List, [], ◌∷◌, ⊤, IsTrue, not}
+use Rattle.std.specs.Prelude.{ℕ, Bool, true, false, ◌≡◌, List, [], ◌∷◌, ⊤, IsTrue, map, not}
 use Rattle.std.specs.List.{list_all}
 use Rattle.markdown_values.specs.declared.values.Alignment.{Alignment}
 use Rattle.markdown_values.specs.values.Events.{EventView, start, end}
 use Rattle.markdown_values.specs.values.Tags.{TagView, table, table_head, table_row, table_cell}
+use Rattle.markdown_events.specs.InlineEvents.{RangedEvent}
 use Rattle.markdown_events.specs.TagEnds.{tag_end}
+
+-- events without the ranges of their sources
+abbrev pub without_ranges : List RangedEvent → List (EventView (List ℕ))
+without_ranges events = map (λ event. event.0) events
 
 -- a tag that says this
 abbrev pub Tag : Type 0
