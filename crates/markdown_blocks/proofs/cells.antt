@@ -1,4 +1,5 @@
 pub mod CellLemmas
+pub mod CutLemmas
 pub mod LawLemmas
 pub mod PieceLaws
 pub mod Rows

@@ -1,7 +1,10 @@
 pub mod AsciiCuts
 pub mod ByteLemmas
+pub mod CutMoves
+pub mod EndCuts
 pub mod OneContent
 pub mod PastLemmas
+pub mod PlainFront
 pub mod ReachedLemmas
 pub mod ReachedPlaces
 pub mod RunLemmas

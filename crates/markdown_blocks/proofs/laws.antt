@@ -3,6 +3,7 @@ pub mod BlankItem
 pub mod CharacterLaw
 pub mod ContentLaw
 pub mod FilledLaw
+pub mod FirstTextLaw
 pub mod FurtherPlaces
 pub mod HeldLaw
 pub mod ItemLaw

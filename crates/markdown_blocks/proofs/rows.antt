@@ -1,2 +1,3 @@
+pub mod RowCuts
 pub mod RowLemmas
 pub mod TableLaws

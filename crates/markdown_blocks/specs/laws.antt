@@ -1,4 +1,5 @@
 pub mod Characters
+pub mod FirstTexts
 pub mod Held
 pub mod Items
 pub mod Order

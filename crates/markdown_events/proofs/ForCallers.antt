@@ -1,5 +1,6 @@
 -- Lemmas that other crates cite.
 pub use Rattle.markdown_events.proofs.found.InlineFacts.{inlines_found}
+pub use Rattle.markdown_events.proofs.inline_events.Boundaries.{events_at_boundaries}
 pub use Rattle.markdown_events.proofs.inline_events.Laws.{events_balance, events_filled}
 pub use Rattle.markdown_events.proofs.inline_events.Unique.{one_list_of_inline_events, one_meaning}
 pub use Rattle.markdown_events.proofs.page.leaf_events.BalanceLemmas.{leaf_events_balance}
@@ -7,5 +8,6 @@ pub use Rattle.markdown_events.proofs.page.leaf_events.OneLeaf.{one_list_of_leaf
 pub use Rattle.markdown_events.proofs.page.leaf_events.PagePlaces.{LeavesStandIn, StandsIn, page_leaves_stand}
 pub use Rattle.markdown_events.proofs.page.OnePage.{one_list_of_page_events}
 pub use Rattle.markdown_events.proofs.page.PageBalance.{page_events_balance, page_events_nest}
+pub use Rattle.markdown_events.proofs.page.PageCuts.{page_events_at_boundaries}
 pub use Rattle.markdown_events.proofs.page.PageRanges.{page_events_within}
 pub use Rattle.markdown_events.proofs.page.task_events.TaskLaws.{block_events_balance, one_list_of_block_events}

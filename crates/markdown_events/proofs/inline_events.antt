@@ -1,4 +1,5 @@
 pub mod Balance
+pub mod Boundaries
 pub mod Facts
 pub mod Filled
 pub mod Found

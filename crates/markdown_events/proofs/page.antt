@@ -2,9 +2,11 @@ pub mod FrontLists
 pub mod IteratedLemmas
 pub mod LevelLemmas
 pub mod NestLemmas
+pub mod NodeCuts
 pub mod NodeRanges
 pub mod OnePage
 pub mod PageBalance
+pub mod PageCuts
 pub mod ParserLemmas
 pub mod ReadLemmas
 pub mod TreeLemmas

@@ -3,6 +3,7 @@ use Rattle.std.specs.Prelude.{ℕ, ◌≡◌, ◌≤◌, List, [], ◌∷◌, le
 use Rattle.std.specs.declared.ops.Range.{Range}
 use Rattle.markdown_values.specs.values.Events.{start, end}
 use Rattle.markdown_values.specs.values.Tags.{TagView}
+use Rattle.markdown_scanners_tree.specs.scanners.reference_definitions.ReferenceDefinition.{IsCutAt}
 use Rattle.markdown_events.specs.InlineEvents.{RangedEvent}
 use Rattle.markdown_events.specs.TagEnds.{tag_end}
 
@@ -45,3 +46,8 @@ RiseIn (to ∷ outer) from ((event, range) ∷ later) = LiesIn from to range × 
 
 abbrev pub AreWithin : List ℕ → List RangedEvent → Type 0
 AreWithin source events = RiseIn (length source ∷ []) 0 events
+
+-- Each range begins and ends at a character boundary of the text.
+abbrev pub AreAtBoundaries : List ℕ → List RangedEvent → Type 0
+AreAtBoundaries source [] = ⊤
+AreAtBoundaries source (event ∷ later) = IsCutAt source event.1 × AreAtBoundaries source later

@@ -49,11 +49,21 @@ IsAimed text known it =
     IsTarget text known it.text.start it.text.end it.target it.source.end
     ⊎ IsWikiTarget text (link_bracket it) it.text.start it.text.end it.target it.source.end
 
--- A piece stands in the text, and the opener that begins a link has one.
+-- A piece stands in the text, a delimiter begins where the text may be cut, and the opener that begins a link has one, of which this holds.
+abbrev pub IsThereWith : List ℕ → List (Option Link) → (Link → Type 0) → Inline → Type 0
+IsThereWith text links Holds (I.Leaf piece) = IsSource text piece × HasParts piece.kind text piece
+IsThereWith text links Holds (I.StartLink number) = (it : Link) × (slice_get links number ≡ Some (Some it)) × Holds it
+IsThereWith text links Holds (I.EndLink piece) = IsSource text piece
+IsThereWith text links Holds (I.StartEmphasis place count) = IsCharBoundary text place
+IsThereWith text links Holds (I.EndEmphasis place count) = IsCharBoundary text place
+IsThereWith text links Holds (I.StartStrikethrough place count) = IsCharBoundary text place
+IsThereWith text links Holds (I.EndStrikethrough place count) = IsCharBoundary text place
+
+-- what is known of a link
+abbrev pub IsKnownLink : List ℕ → Known → Link → Type 0
+IsKnownLink text known it =
+    IsLinkSource text it × IsLabelCut text it.target × HasTargetBefore it.target it × IsAimed text known it
+
+-- An inline stands in the text, and a link is known.
 abbrev pub IsThere : List ℕ → Known → List (Option Link) → Inline → Type 0
-IsThere text known links (I.Leaf piece) = IsSource text piece × HasParts piece.kind text piece
-IsThere text known links (I.StartLink number) =
-    (it : Link) × (slice_get links number ≡ Some (Some it)) × IsLinkSource text it × IsLabelCut text it.target
-    × HasTargetBefore it.target it × IsAimed text known it
-IsThere text known links (I.EndLink piece) = IsSource text piece
-IsThere text known links inline = ⊤
+IsThere text known links inline = IsThereWith text links (IsKnownLink text known) inline

@@ -1,6 +1,6 @@
 //! The events of a page, one after another.
 ghost use Rattle.std.specs.Prelude.{◌≡◌, ◌∷◌, ◌<◌, ◌≤◌, ◌^◌, [], List, drop, false, length, map, IsTrue, IfErr, IfOk, IfSome, IfNone, OnOk};
-ghost use Rattle.markdown_events.specs.EventLaws.{AreBalanced, AreWithin};
+ghost use Rattle.markdown_events.specs.EventLaws.{AreAtBoundaries, AreBalanced, AreWithin};
 ghost use Rattle.markdown_events.specs.InlineEvents.{RangedEvent, seen_event};
 ghost use Rattle.markdown_events.specs.Nesting.{AreNested, without_ranges};
 ghost use Rattle.markdown_blocks.specs.events.Events.{seen_event as seen_block, seen_leaf};
@@ -128,6 +128,8 @@ impl<'a> EventReader<'a> {
             → AreNested (without_ranges events)) }
         ensures within { IfOk result (λ reader. (events : List RangedEvent) → Gives reader events
             → AreWithin text.now events) }
+        ensures boundaries { IfOk result (λ reader. (events : List RangedEvent) → Gives reader events
+            → AreAtBoundaries text.now events) }
         ensures definitions { IfOk result (λ reader.
             AreDefinitionsOf text.now commonmark reader.known) }
     {
@@ -153,6 +155,8 @@ impl<'a> EventReader<'a> {
             → AreNested (without_ranges events)) }
         ensures within { IfOk result (λ reader. (events : List RangedEvent) → Gives reader events
             → AreWithin text.now events) }
+        ensures boundaries { IfOk result (λ reader. (events : List RangedEvent) → Gives reader events
+            → AreAtBoundaries text.now events) }
         ensures definitions { IfOk result (λ reader.
             AreDefinitionsOf text.now (asked_by options) reader.known) }
         ensures built { IfOk result (λ _. not_built options ≡ 0) }
@@ -183,6 +187,8 @@ impl<'a> EventReader<'a> {
             → AreNested (without_ranges events)) }
         ensures within { IfOk result (λ reader. (events : List RangedEvent) → Gives reader events
             → AreWithin page.now events) }
+        ensures boundaries { IfOk result (λ reader. (events : List RangedEvent) → Gives reader events
+            → AreAtBoundaries page.now events) }
         ensures definitions { IfOk result (λ reader.
             AreDefinitionsOf page.now setting reader.known) }
         ensures broken { IfOk result (λ reader. (more : Targets) (events : List RangedEvent)

@@ -11,7 +11,7 @@ ghost use Rattle.markdown_scanners_tree.specs.scanners.reference_definitions.Ref
 ghost use Rattle.markdown_inlines.specs.CodeContent.{code_text};
 ghost use Rattle.markdown_inlines.specs.declared.links.LinkTarget.TheVariants.{Wiki};
 ghost use Rattle.markdown_inlines.specs.Sources.{IsLinkSource, IsSource};
-ghost use Rattle.markdown_events.specs.EventLaws.{AreBalanced, AreWithin};
+ghost use Rattle.markdown_events.specs.EventLaws.{AreAtBoundaries, AreBalanced, AreWithin};
 ghost use Rattle.markdown_events.specs.InlineEvents.{AreEvents, AreInlineEvents, ArePieceEvents, RangedEvent, seen_event, autolink, shown_target};
 ghost use Rattle.markdown_events.specs.Meanings.{IsLinkTag};
 ghost use Rattle.markdown_events.specs.Passes.{IsFound, IsWritten, Leads, begun, element_ends, with_events};
@@ -65,6 +65,10 @@ pub fn inline_events<'a, D: Definitions<'a>>(
 
     // Ranges rise, and what an element holds lies within its own.
     ensures within { IfOk result (λ events. AreWithin text.now (map seen_event events.items)) }
+
+    // Each range begins and ends at a character boundary.
+    ensures boundaries { IfOk result (λ events.
+        AreAtBoundaries text.now (map seen_event events.items)) }
 {
     let mut memory = InlineMemory::new(alloc);
     let source = Source::of_text(text);

@@ -1,7 +1,7 @@
 //! The events of a page as iterators.
 ghost use Rattle.std.specs.Prelude.{◌≡◌, ◌<◌, false, List, IfErr, IfOk, IfSome};
 ghost use Rattle.std.specs.Iterator.{at_most};
-ghost use Rattle.markdown_events.specs.EventLaws.{AreBalanced, AreWithin};
+ghost use Rattle.markdown_events.specs.EventLaws.{AreAtBoundaries, AreBalanced, AreWithin};
 ghost use Rattle.markdown_events.specs.InlineEvents.{RangedEvent};
 ghost use Rattle.markdown_events.specs.Nesting.{AreNested, without_ranges};
 ghost use Rattle.markdown_events.specs.page.Given.{Gives};
@@ -57,6 +57,8 @@ impl<'a> Parser<'a> {
             → Gives parser.left events → AreNested (without_ranges events)) }
         ensures within { IfOk result (λ parser. (events : List RangedEvent)
             → Gives parser.left events → AreWithin text.now events) }
+        ensures boundaries { IfOk result (λ parser. (events : List RangedEvent)
+            → Gives parser.left events → AreAtBoundaries text.now events) }
         ensures definitions { IfOk result (λ parser.
             AreDefinitionsOf text.now commonmark parser.left.known) }
         ensures goes { IfOk result (λ parser. parser.is_stopped ≡ false) }
@@ -79,6 +81,8 @@ impl<'a> Parser<'a> {
             → Gives parser.left events → AreNested (without_ranges events)) }
         ensures within { IfOk result (λ parser. (events : List RangedEvent)
             → Gives parser.left events → AreWithin text.now events) }
+        ensures boundaries { IfOk result (λ parser. (events : List RangedEvent)
+            → Gives parser.left events → AreAtBoundaries text.now events) }
         ensures definitions { IfOk result (λ parser.
             AreDefinitionsOf text.now (asked_by options) parser.left.known) }
         ensures goes { IfOk result (λ parser. parser.is_stopped ≡ false) }

@@ -12,3 +12,4 @@ pub use Rattle.markdown_inlines.proofs.cut.LinkLaws.{links_hold_none}
 pub use Rattle.markdown_inlines.proofs.cut.StrikethroughLaws.{none_struck_unasked}
 pub use Rattle.markdown_inlines.proofs.cut.WikilinkLaws.{no_wikilink_unasked}
 pub use Rattle.markdown_inlines.proofs.inlines.Nests.{inlines_nest, inlines_stand}
+pub use Rattle.markdown_inlines.proofs.wiki_links.WikiLinkLemmas.{head_ends}

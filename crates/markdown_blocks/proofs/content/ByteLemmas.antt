@@ -30,11 +30,11 @@ use Rattle.markdown_blocks.proofs.content.ReachedPlaces.{first_reached, later_re
 use Rattle.markdown_blocks.proofs.content.parts.HeadingLemmas.{heading_in, heading_is}
 
 -- a part's bytes stand in the lines at its place, and directly before them the tab of its columns, if it has any
-abbrev IsPartIn : List ℕ → Part → Type 0
+abbrev pub IsPartIn : List ℕ → Part → Type 0
 IsPartIn lines p = IsIn lines p × (0 < p.columns → (0 < p.place) × (get_or lines (p.place - 1) 0 ≡ tab))
 
 -- what is left of a line
-left_in : (line : List ℕ) (s : LineState) → Reached line s → IsPartIn line (part_at s)
+pub left_in : (line : List ℕ) (s : LineState) → Reached line s → IsPartIn line (part_at s)
 left_in line s r =
     let size : length (unscanned s) ≡ length line - s.place = length-drop s.place s.bytes ∙ ap (λ l. length l - s.place) r.of_line in
     let inside = r.within in
@@ -48,7 +48,7 @@ left_in line s r =
     )
 
 -- what stands in a line stands in the text, before whose line so many bytes stand
-moved_in : (text line rest : List ℕ) (before : ℕ) → before ≤ length text → drop before text ≡ line ++ rest → (p : Part) → IsPartIn line p
+pub moved_in : (text line rest : List ℕ) (before : ℕ) → before ≤ length text → drop before text ≡ line ++ rest → (p : Part) → IsPartIn line p
     → IsPartIn text (moved before p)
 moved_in text line rest before within stands p is =
     let e = p.place + length p.bytes in
@@ -73,7 +73,7 @@ moved_in text line rest before within stands p is =
           ),
     )
 
-first_in : (text line rest : List ℕ) → text ≡ line ++ rest → (p : Part) → IsPartIn line p → IsPartIn text p
+pub first_in : (text line rest : List ℕ) → text ≡ line ++ rest → (p : Part) → IsPartIn line p → IsPartIn text p
 first_in text line rest stands p is =
     let at : 0 + p.place ≡ p.place = omega arith in
     subst (λ n. IsPartIn text (record { columns = p.columns; place = n; bytes = p.bytes })) at (moved_in text line rest 0 (omega arith) stands p is)
@@ -145,17 +145,17 @@ module _ (text line : List ℕ) (later : List (List ℕ)) (stands : text ≡ lin
   at_first Definition s r parts are = text_in Definition s r parts are
   at_first Paragraph s r parts are = text_in Paragraph s r parts are
 
-parts_in : (kind : BlockKind) (outer : List Container) (kept : ℕ) (text : List ℕ) (lines : List (List ℕ)) → text ≡ concat lines → (parts : List Part)
+pub parts_in : (kind : BlockKind) (outer : List Container) (kept : ℕ) (text : List ℕ) (lines : List (List ℕ)) → text ≡ concat lines → (parts : List Part)
     → AreParts kind outer kept lines parts → AllByRecursion (IsPartIn text) parts
 parts_in kind outer kept text [] stands parts none = subst (AllByRecursion (IsPartIn text)) (sym none) tt
 parts_in kind outer kept text (line ∷ later) stands parts are =
     at_first text line later stands outer kind (first_place kept outer line) (first_reached line kept outer) parts are
 
 -- how many bytes a part has, and as many places
-text_size : (p : Part) → length (text_of p) ≡ p.columns + length p.bytes
+pub text_size : (p : Part) → length (text_of p) ≡ p.columns + length p.bytes
 text_size p = length-append (replicate p.columns space) p.bytes ∙ ap (λ n. n + length p.bytes) (length-replicate p.columns space)
 
-places_size : (p : Part) → length (places_of p) ≡ length (text_of p)
+pub places_size : (p : Part) → length (places_of p) ≡ length (text_of p)
 places_size p =
     length-append (replicate p.columns (p.place - 1)) (range_with_len p.place (length p.bytes))
     ∙ ap (λ n. n + length (range_with_len p.place (length p.bytes))) (length-replicate p.columns (p.place - 1))

@@ -17,7 +17,7 @@ use Rattle.markdown_scanners_tree.specs.line.State.{leading_spaces, rest_of, spa
 use Rattle.markdown_scanners_tree.proofs.line.ColumnLemmas.{after-more, below-cons, bool_cases, none_below, written-cons, written-end}
 use Rattle.markdown_blocks.proofs.content.AsciiCuts.{at_front, spaces_low}
 
-below_end : (c b : ℕ) (bs : List ℕ) (k : ℕ) → is_line_ending b ≡ true → bytes_below c (b ∷ bs) k ≡ 0
+pub below_end : (c b : ℕ) (bs : List ℕ) (k : ℕ) → is_line_ending b ≡ true → bytes_below c (b ∷ bs) k ≡ 0
 below_end c b bs k ends = rw ends refl
 
 -- no more bytes stand below a column than there are
@@ -69,7 +69,7 @@ last_tab (b ∷ bs) c k n is some past =
         ap (λ j. get_or (b ∷ bs) (j - 1) 0) more ∙ ap (λ j. get_or (b ∷ bs) j 0) one ∙ ap (λ j. get_or bs j 0) two ∙ later m rest (omega arith) there
 
 -- the spaces at the front of a text after others
-spaces_before : (n : ℕ) (rest : List ℕ) → leading_spaces (replicate n space ++ rest) ≡ n + leading_spaces rest
+pub spaces_before : (n : ℕ) (rest : List ℕ) → leading_spaces (replicate n space ++ rest) ≡ n + leading_spaces rest
 spaces_before zero rest = omega arith
 spaces_before (suc n) rest = omega (arith, spaces_before n rest)
 
@@ -129,7 +129,7 @@ all_space (b ∷ bs) c =
         ∙ after_none ∙ ap (λ k. c + k) (sym none)))
 
 -- a byte that begins with a space, written out, is a space or a tab, and the spaces go on behind it
-space_first : (b : ℕ) (bs : List ℕ) (c : ℕ) → is_line_ending b ≡ false → 1 ≤ leading_spaces (written_out c (b ∷ bs))
+pub space_first : (b : ℕ) (bs : List ℕ) (c : ℕ) → is_line_ending b ≡ false → 1 ≤ leading_spaces (written_out c (b ∷ bs))
     → (b < 128) × (c + leading_spaces (written_out c (b ∷ bs)) ≡ column_after c b + leading_spaces (written_out (column_after c b) bs))
 space_first b bs c goes some =
     let whole : leading_spaces (written_out c (b ∷ bs)) ≡ leading_spaces (written_byte c b ++ written_out (column_after c b) bs) =

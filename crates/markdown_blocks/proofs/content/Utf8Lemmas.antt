@@ -46,12 +46,7 @@ module _ (line : List ℕ) (utf8 : IsUtf8 line) where
   pub rest_utf8 : (s : LineState) → Reached line s → IsUtf8 (unscanned s)
   rest_utf8 s r = subst (λ (l : List ℕ). IsUtf8 (drop s.place l)) (sym r.of_line) (IsUtf8-drop line s.place utf8 (place_cut s r))
 
-  part_utf8 : (s : LineState) → Reached line s → IsUtf8 (text_of (part_at s))
-  part_utf8 s r =
-      IsUtf8-append (replicate s.pending space) (unscanned s) (IsUtf8-from_ascii (replicate s.pending space) (spaces_ascii s.pending))
-      (rest_utf8 s r)
-
-  heading_utf8 : (s : LineState) → Reached line s → IsUtf8 (text_of (heading_part s))
+  heading_utf8 : (s : LineState) → Reached line s → IsUtf8 (heading_part s).bytes
   heading_utf8 s r =
       let text = unscanned (after_all_space (after_space 4 s)) in
       let after = without_front (behind_fence number_sign text) in
@@ -59,14 +54,15 @@ module _ (line : List ℕ) (utf8 : IsUtf8 line) where
       closing_utf8 (without_end (line_head after))
       (end_utf8 (line_head after) (head_utf8 after (front_utf8 (behind_fence number_sign text) (fence_utf8 number_sign (omega arith) text whole))))
 
-abbrev AreUtf8 : List Part → Type 0
-AreUtf8 parts = AllByRecursion (λ p. IsUtf8 (text_of p)) parts
+-- the bytes of each part are UTF-8
+abbrev pub AreUtf8 : List Part → Type 0
+AreUtf8 parts = AllByRecursion (λ p. IsUtf8 p.bytes) parts
 
 later_are : (kind : BlockKind) (outer : List Container) (indent before : ℕ) (lines : List (List ℕ)) → AllByRecursion IsUtf8 lines
     → AreUtf8 (later_parts kind outer indent before lines)
 later_are kind outer indent before [] all = tt
 later_are kind outer indent before (line ∷ lines) all = (
-  part_utf8 line all.0 (text_place kind indent (later_place kind outer line))
+  rest_utf8 line all.0 (text_place kind indent (later_place kind outer line))
       (text_reached line kind indent (later_place kind outer line) (later_reached line kind outer)),
   later_are kind outer indent (before + length line) lines all.1,
 )
@@ -88,7 +84,7 @@ module _ (line : List ℕ) (later : List (List ℕ)) (outer : List Container) (u
       → (inner : List (List ℕ)) × AreInner kind outer later inner
       × (parts ≡ part_at (text_place kind 0 s) ∷ later_parts kind outer 0 (length line) inner) → AreUtf8 parts
   text_are kind s r parts (inner, are, is) =
-      subst AreUtf8 (sym is) (part_utf8 line utf8 (text_place kind 0 s) (text_reached line kind 0 s r), inner_are kind 0 inner are)
+      subst AreUtf8 (sym is) (rest_utf8 line utf8 (text_place kind 0 s) (text_reached line kind 0 s r), inner_are kind 0 inner are)
 
   none_are : (parts : List Part) → parts ≡ [] → AreUtf8 parts
   none_are parts none = subst AreUtf8 (sym none) tt
@@ -107,7 +103,7 @@ module _ (line : List ℕ) (later : List (List ℕ)) (outer : List Container) (u
   parts_are Definition s r parts are = text_are Definition s r parts are
   parts_are Paragraph s r parts are = text_are Paragraph s r parts are
 
-block_parts_are : (kind : BlockKind) (outer : List Container) (kept : ℕ) (lines : List (List ℕ)) (parts : List Part) → AllByRecursion IsUtf8 lines
+pub block_parts_are : (kind : BlockKind) (outer : List Container) (kept : ℕ) (lines : List (List ℕ)) (parts : List Part) → AllByRecursion IsUtf8 lines
     → AreParts kind outer kept lines parts → AreUtf8 parts
 block_parts_are kind outer kept [] parts all none = subst AreUtf8 (sym none) tt
 block_parts_are kind outer kept (line ∷ later) parts all are =
@@ -115,9 +111,12 @@ block_parts_are kind outer kept (line ∷ later) parts all are =
 
 -- ---- the content
 
-joined_utf8 : (parts : List Part) → AreUtf8 parts → IsUtf8 (flat_map text_of parts)
+text_utf8 : (p : Part) → IsUtf8 p.bytes → IsUtf8 (text_of p)
+text_utf8 p utf8 = IsUtf8-append (replicate p.columns space) p.bytes (IsUtf8-from_ascii (replicate p.columns space) (spaces_ascii p.columns)) utf8
+
+pub joined_utf8 : (parts : List Part) → AreUtf8 parts → IsUtf8 (flat_map text_of parts)
 joined_utf8 [] all = IsUtf8-nil
-joined_utf8 (p ∷ parts) all = IsUtf8-append (text_of p) (flat_map text_of parts) all.0 (joined_utf8 parts all.1)
+joined_utf8 (p ∷ parts) all = IsUtf8-append (text_of p) (flat_map text_of parts) (text_utf8 p all.0) (joined_utf8 parts all.1)
 
 code_utf8 : (text : List ℕ) → IsUtf8 text → IsUtf8 (take (length text) text)
 code_utf8 text utf8 = subst IsUtf8 (sym (take_all (length text) text (omega arith))) utf8

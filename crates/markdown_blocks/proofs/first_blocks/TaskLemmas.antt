@@ -1,7 +1,11 @@
 -- What the scanner of task list markers answers at a text.
-use Rattle.std.proofs.Common.{ℕ, Bool, List, [], ◌∷◌, ◌≡◌, ◌≤◌, ◌+◌, Option, Some, None, ap, sym, refl, ◌∙◌, arith, length}
+use Rattle.std.proofs.Common.{ℕ, Bool, true, false, ◌==◌, ◌&&◌, List, [], ◌∷◌, ◌≡◌, ◌≤◌, ◌+◌, ◌-◌, Option, Some, None, ap, sym, refl, ◌∙◌, arith, get_or}
+use Rattle.std.proofs.Common.{length}
 use Rattle.std.specs.Option.{option_map}
-use Rattle.std.proofs.lemmas.List.{length-drop}
+use Rattle.std.proofs.lemmas.Bool.Decides.{nat_tests}
+use Rattle.std.proofs.lemmas.List.{get_or-drop, length-drop}
+use Rattle.markdown_scanners_tree.specs.Ascii.{left_bracket, right_bracket}
+use Rattle.markdown_scanners_tree.specs.Bytes.{is_white_space}
 use Rattle.markdown_scanners_tree.specs.line.ItemRules.{start_of}
 use Rattle.markdown_scanners_tree.specs.line.Outcome.{Outcome, not_found, task_box, task_outcome}
 use Rattle.markdown_scanners_tree.specs.line.State.{LineState, after_space, bytes_further, unscanned}
@@ -32,6 +36,18 @@ box_some (a ∷ b ∷ []) checked is = absurd (cc)
 box_some (a ∷ b ∷ c ∷ []) checked is = absurd (cc)
 box_some (a ∷ b ∷ c ∷ d ∷ more) checked is = omega arith
 
+-- with its right bracket
+box_bracket : (bytes : List ℕ) (checked : Bool) → task_box bytes ≡ Some checked → get_or bytes 2 0 ≡ right_bracket
+box_bracket [] checked is = absurd (cc)
+box_bracket (a ∷ []) checked is = absurd (cc)
+box_bracket (a ∷ b ∷ []) checked is = absurd (cc)
+box_bracket (a ∷ b ∷ c ∷ []) checked is = absurd (cc)
+box_bracket (a ∷ b ∷ c ∷ d ∷ more) checked is = by (a == left_bracket && c == right_bracket && is_white_space d) refl
+  where
+    by : (t : Bool) → (a == left_bracket && c == right_bracket && is_white_space d) ≡ t → c ≡ right_bracket
+    by true all = grind (arith, nat_tests)
+    by false none = absurd (let lost = rw none at is in cc)
+
 module _ (block : LeafBlock) where
   abbrev behind_space : LineState
   behind_space = after_space 3 (start_of block.text)
@@ -46,6 +62,22 @@ module _ (block : LeafBlock) where
   abbrev task_by : Option Bool → Option Task
   task_by box =
       option_map (λ checked. record { is_checked = checked; place = block.place; len = (outcome_of box).state.place }) (outcome_of box).answer
+
+  bracket_by : (task : Task) (box : Option Bool) → box ≡ task_box (unscanned behind_space) → task_by box ≡ Some task
+      → (1 ≤ task.len) × (get_or block.text (task.len - 1) 0 ≡ right_bracket)
+  bracket_by task None found is = absurd (cc)
+  bracket_by task (Some checked) found is =
+      let it : record { is_checked = checked; place = block.place; len = behind_space.place + 3 } ≡ task = cc in
+      let len = ap (λ (t : Task). t.len) it in
+      let last : task.len - 1 ≡ behind_space.place + 2 = omega (arith, len) in (
+        omega (arith, len),
+        ap (λ n. get_or block.text n 0) last ∙ sym (get_or-drop behind_space.place block.text 2 0)
+            ∙ box_bracket (unscanned behind_space) checked (sym found),
+      )
+
+  -- The task list marker of a block ends with a right bracket.
+  pub task_bracket : (task : Task) → task_of block ≡ Some task → (1 ≤ task.len) × (get_or block.text (task.len - 1) 0 ≡ right_bracket)
+  task_bracket task is = bracket_by task (task_box (unscanned behind_space)) refl is
 
   by_box : (task : Task) (box : Option Bool) → box ≡ task_box (unscanned behind_space) → task_by box ≡ Some task
       → (task.place ≡ block.place) × (task.len ≤ length block.text)

@@ -20,6 +20,7 @@ use Rattle.markdown_blocks.specs.events.Events.{AreEvents, AreLeaves, Event, IsE
 use Rattle.markdown_blocks.specs.events.Events.{later_lines, leaf, leaf_of, lines_taken, open_after, part_of, piece_content, started}
 use Rattle.markdown_blocks.specs.laws.Characters.{AreCutOut, IsCutOut}
 use Rattle.markdown_blocks.proofs.containers.ContainerLemmas.{begun_by_all}
+use Rattle.markdown_blocks.proofs.content.CutMoves.{cut_of_first}
 use Rattle.markdown_blocks.proofs.content.ReachedLemmas.{Reached, after_some}
 use Rattle.markdown_blocks.proofs.content.ReachedPlaces.{begun_reached, behind_reached}
 use Rattle.markdown_blocks.proofs.content.Utf8Lemmas.{rest_utf8}
@@ -107,6 +108,21 @@ module _ (page : List ℕ) where
             (subst (IsCharBoundary text) place (place_in_text text first (drop 1 part.lines ++ others) (after_space 4 r.place) lines stand.utf8 there));
         text = subst (λ (w : Rest). IsUtf8 w.text) (sym r.is_rest)
             (rest_utf8 first (first_utf8 text first (drop 1 part.lines ++ others) lines stand.utf8) (after_space 4 r.place) there);
+        in_text = λ offset cut.
+            let more = concat (drop 1 part.lines ++ others) in
+            let whole : text ≡ first ++ more = sym (lines_joined text) ∙ ap concat lines in
+            let own = first_utf8 text first (drop 1 part.lines ++ others) lines stand.utf8 in
+            let left : part.words.text ≡ drop (after_space 4 r.place).place first =
+            ap (λ (w : Rest). w.text) r.is_rest ∙ ap (drop (after_space 4 r.place).place) there.of_line in
+            let in_line : IsCharBoundary first ((after_space 4 r.place).place + offset) =
+            IsCharBoundary-from_rest first (after_space 4 r.place).place offset inside (subst (λ (t : List ℕ). IsCharBoundary t offset) left cut) in
+            let in_lines : IsCharBoundary text ((after_space 4 r.place).place + offset) =
+            subst (λ (t : List ℕ). IsCharBoundary t ((after_space 4 r.place).place + offset)) (sym whole)
+            (cut_of_first first more ((after_space 4 r.place).place + offset) (subst IsUtf8 whole stand.utf8) own in_line) in
+            let at : part.start + ((after_space 4 r.place).place + offset) ≡ part.start + (length first - length part.words.text) + offset =
+            omega (arith, place) in
+            subst (IsCharBoundary page) at
+            (IsCharBoundary-from_rest page part.start ((after_space 4 r.place).place + offset) stand.within in_lines);
       }
 
   rest_reached : (outer : List Container) (lines : List (List ℕ)) → lines ≢ [] → IsReached (first_of lines) (first_rest outer lines)

@@ -1,14 +1,19 @@
 -- The text of the leaf blocks of a page stands in their lines.
-use Rattle.std.proofs.Common.{ℕ, ◌+◌, ◌-◌, ◌<◌, ◌≤◌, ◌≡◌, ◌≢◌, ◌∙◌, List, [], ◌∷◌, ◌++◌, length, take, drop, ap, arith, sym}
-use Rattle.std.specs.List.{concat}
-use Rattle.std.proofs.lemmas.List.{length-append, length-drop}
+use Rattle.std.proofs.Common.{ℕ, ◌+◌, ◌-◌, ◌<◌, ◌≤◌, ◌≡◌, ◌≢◌, ◌∙◌, List, [], ◌∷◌, ◌++◌, length, take, drop, get_or, ap, arith, subst, sym}
+use Rattle.std.specs.Prelude.{slice_index}
+use Rattle.std.specs.List.{concat, flat_map, prefix_len}
+use Rattle.std.proofs.lemmas.List.{get_or-take, get_or_append_left, length-append, length-drop, length-take}
 use Rattle.std.proofs.lemmas.List.Folds.{concat-append}
-use Rattle.markdown_scanners_tree.specs.line.State.{LineState, after_space}
+use Rattle.markdown_scanners_tree.specs.Bytes.{is_space_or_tab}
+use Rattle.markdown_scanners_tree.specs.line.Outcome.{after_all_space}
+use Rattle.markdown_scanners_tree.specs.line.State.{LineState, after_space, unscanned}
 use Rattle.markdown_scanners_tree.specs.scanners.TextLines.{lines_of}
 use Rattle.markdown_scanners_tree.proofs.ForCallers.{lines_joined}
 use Rattle.markdown_blocks.specs.containers.Containers.{Rest, rest_at}
-use Rattle.markdown_blocks.specs.content.Parts.{first_place}
+use Rattle.markdown_blocks.specs.content.Content.{IsContent, Placed, content_len, joined, text_of}
+use Rattle.markdown_blocks.specs.content.Parts.{ArePartsAt, first_place, later_parts}
 use Rattle.markdown_blocks.specs.declared.blocks.BlockKind.{BlockKind}
+use Rattle.markdown_blocks.specs.declared.blocks.BlockKind.TheVariants.{Paragraph}
 use Rattle.markdown_blocks.specs.declared.containers.Container.{Container}
 use Rattle.markdown_blocks.specs.events.Events.{Part, first_of, leaf_of}
 use Rattle.markdown_blocks.specs.laws.Order.{HoldsText}
@@ -38,6 +43,27 @@ pub record IsBehind (outer : List Container) (kept : ℕ) (line : List ℕ) (sta
   pub pending : 0 < place.pending → passed < start + place.place
   pub is_rest : words ≡ rest_at place
 
+-- the content of a paragraph whose text begins with neither a space nor a tab begins with that text
+paragraph_front : (outer : List Container) (kept : ℕ) (line : List ℕ) (later : List (List ℕ)) (s : LineState) (words : Rest)
+    → first_place kept outer line ≡ s → words ≡ rest_at s → prefix_len is_space_or_tab words.text ≡ 0 → (content : Placed)
+    → IsContent Paragraph outer kept (line ∷ later) content → (offset : ℕ) → offset < length content.text → offset < length words.text
+    → slice_index content.text offset ≡ slice_index words.text offset
+paragraph_front outer kept line later s words first is_rest plain content is offset low inside =
+    let parts = subst (λ z. ArePartsAt Paragraph outer z (length line) later is.parts) first is.are_parts in
+    let t = after_space 4 s in
+    let text = ap (λ (w : Rest). w.text) is_rest in
+    let none : prefix_len is_space_or_tab (unscanned t) ≡ 0 = ap (prefix_len is_space_or_tab) (sym text) ∙ plain in
+    let place : t.place + prefix_len is_space_or_tab (unscanned t) ≡ t.place = omega (arith, none) in
+    let own : unscanned (after_all_space t) ≡ words.text = ap (λ n. drop n t.bytes) place ∙ sym text in
+    let more = flat_map text_of (later_parts Paragraph outer 0 (length line) parts.0) in
+    let joined_is : (joined is.parts).text ≡ words.text ++ more = ap (flat_map text_of) parts.2 ∙ ap (λ l. l ++ more) own in
+    let n = content_len Paragraph (joined is.parts).text in
+    let content_text : content.text ≡ take n (words.text ++ more) =
+    ap (λ (c : Placed). c.text) is.is_content ∙ ap (take n) joined_is in
+    let short = length-take n (words.text ++ more) in
+    let below : offset < n = omega (arith, low, ap length content_text, short) in
+    ap (λ l. get_or l offset 0) content_text ∙ get_or-take n (words.text ++ more) offset 0 below ∙ get_or_append_left words.text more 0 offset inside
+
 -- the text of a block and of its first row
 pub text_holds : (page : List ℕ) (kind : BlockKind) (outer : List Container) (kept : ℕ) (part : Part) (others : List (List ℕ)) (passed : ℕ) → part.lines ≢ []
     → lines_of (drop part.start page) ≡ part.lines ++ others
@@ -57,6 +83,10 @@ text_holds page kind outer kept part others passed some stands b =
           (let rows = ap (rows_of kept outer) (sym lines) ∙ is in
           let place : 0 + (after_space 4 (first_place kept outer first)).place ≡ row.place = ap place_of_first rows in
           omega (arith, place, ap (λ (z : LineState). (after_space 4 z).place) b.is_first, words, size, inside));
+      front = λ paragraph plain content is.
+          paragraph_front outer kept first (drop 1 part.lines) s part.words b.is_first b.is_rest plain content
+          (subst (λ k. IsContent k outer kept (first ∷ drop 1 part.lines) content) paragraph
+          (subst (λ ls. IsContent kind outer kept ls content) lines is));
     }
   where
     place_of_first : List TextAt → ℕ

@@ -28,8 +28,8 @@ use Rattle.markdown_inlines.specs.declared.marks.Mark.TheVariants as M
 use Rattle.markdown_inlines.specs.declared.pieces.Piece.{Piece}
 use Rattle.markdown_inlines.specs.declared.pieces.PieceKind.{PieceKind}
 use Rattle.markdown_inlines.specs.declared.pieces.PieceKind.TheVariants as K
-use Rattle.markdown_events.specs.Found.{HasTargetBefore, IsAimed, IsThere, IsLabelCut}
-use Rattle.markdown_events.proofs.found.CutFacts.{AreAimed, links_aimed, pieces_known}
+use Rattle.markdown_events.specs.Found.{HasTargetBefore, IsAimed, IsKnownLink, IsThere, IsThereWith, IsLabelCut}
+use Rattle.markdown_events.proofs.found.CutFacts.{links_aimed, pieces_known}
 use Rattle.markdown_events.proofs.found.PieceFacts.{IsKnown, HasDelimiters, low_cut}
 
 -- ---- links
@@ -84,10 +84,10 @@ pub all_both : {X : Type 0} (P : X → Type 0) (xs ys : List X) → AllByRecursi
 all_both P [] ys these those = those
 all_both P (x ∷ xs) ys these those = (these.0, all_both P xs ys these.1 those)
 
-module _ (text : List ℕ) (labels : Known) (links : List (Option Link)) (emphasis : List Emphasis) (utf8 : IsUtf8 text)
-    (sources : AreLinkSources text links) (aimed : AreAimed text labels links) where
+module _ (text : List ℕ) (links : List (Option Link)) (emphasis : List Emphasis) (utf8 : IsUtf8 text) (Holds : Link → Type 0)
+    (holds : (n : ℕ) (a : Link) → slice_get links n ≡ Some (Some a) → Holds a) where
   abbrev IsFact : Inline → Type 0
-  IsFact = IsThere text labels links
+  IsFact = IsThereWith text links Holds
 
   leaf_fact : (piece : Piece) → IsKnown text piece → IsFact (I.Leaf piece)
   leaf_fact piece known = (known.source, known.parts)
@@ -99,14 +99,7 @@ module _ (text : List ℕ) (labels : Known) (links : List (Option Link)) (emphas
       let found = defined (get_or links number None) begins in
       let inside : number < length links = below number found.0 found.1 in
       let there : slice_get links number ≡ Some (Some found.0) = slice_get-get_or links number None inside ∙ ap (λ o. Some o) found.1 in
-      let source = subst (λ (o : Option Link). IfSome o (IsLinkSource text)) found.1 (sources number None inside) in (
-        found.0,
-        there,
-        source,
-        aimed_cut text labels found.0 utf8 (aimed number found.0 there),
-        before text labels found.0 (aimed number found.0 there),
-        aimed number found.0 there,
-      )
+      (found.0, there, holds number found.0 there)
     where
       below : (n : ℕ) (it : Link) → get_or links n None ≡ Some it → n < length links
       below n it is = elim (cases_lt n (length links)) [
@@ -142,14 +135,14 @@ module _ (text : List ℕ) (labels : Known) (links : List (Option Link)) (emphas
   delimiter_facts : (mark : Mark) (place : ℕ) → place < length text → get_or text place 0 < 128
       → AllByRecursion IsFact (delimiter_with mark place)
   delimiter_facts M.Nothing place inside low = (byte_fact place inside low, tt)
-  delimiter_facts M.OpensEmphasis place inside low = (tt, tt)
-  delimiter_facts M.OpensStrong place inside low = (tt, tt)
-  delimiter_facts M.ClosesEmphasis place inside low = (tt, tt)
-  delimiter_facts M.ClosesStrong place inside low = (tt, tt)
-  delimiter_facts M.OpensStrikethrough place inside low = (tt, tt)
-  delimiter_facts M.OpensStrikethroughOfTwo place inside low = (tt, tt)
-  delimiter_facts M.ClosesStrikethrough place inside low = (tt, tt)
-  delimiter_facts M.ClosesStrikethroughOfTwo place inside low = (tt, tt)
+  delimiter_facts M.OpensEmphasis place inside low = (low_cut text place (omega (arith, inside)) low, tt)
+  delimiter_facts M.OpensStrong place inside low = (low_cut text place (omega (arith, inside)) low, tt)
+  delimiter_facts M.ClosesEmphasis place inside low = (low_cut text place (omega (arith, inside)) low, tt)
+  delimiter_facts M.ClosesStrong place inside low = (low_cut text place (omega (arith, inside)) low, tt)
+  delimiter_facts M.OpensStrikethrough place inside low = (low_cut text place (omega (arith, inside)) low, tt)
+  delimiter_facts M.OpensStrikethroughOfTwo place inside low = (low_cut text place (omega (arith, inside)) low, tt)
+  delimiter_facts M.ClosesStrikethrough place inside low = (low_cut text place (omega (arith, inside)) low, tt)
+  delimiter_facts M.ClosesStrikethroughOfTwo place inside low = (low_cut text place (omega (arith, inside)) low, tt)
   delimiter_facts M.Second place inside low = tt
   delimiter_facts M.EndsLink place inside low = (byte_fact place inside low, tt)
 
@@ -187,16 +180,29 @@ module _ (text : List ℕ) (labels : Known) (links : List (Option Link)) (emphas
       all_both IsFact (inlines_at piece.kind links emphasis number piece) (inlines_from links emphasis (counted piece.kind number) later)
       (piece_facts piece.kind number piece refl known.0) (all_facts (counted piece.kind number) later known.1)
 
+-- where each piece of a text stands in it, each inline does, and of each link this holds
+pub inlines_there : (text : List ℕ) (setting : Setting) (inlines : List Inline) (links : List (Option Link)) → IsUtf8 text
+    → ((n : ℕ) (a : Link) → slice_get links n ≡ Some (Some a) → IsCharBoundary text a.source.end) → (Holds : Link → Type 0)
+    → ((n : ℕ) (a : Link) → slice_get links n ≡ Some (Some a) → Holds a) → AreInlines text setting inlines links
+    → AllByRecursion (IsThereWith text links Holds) inlines
+inlines_there text setting inlines links utf8 ends_cut Holds holds are =
+    subst (AllByRecursion (IsThereWith text links Holds)) (sym are.inlines_are)
+    (all_facts text links are.emphasis utf8 Holds holds 0 are.pieces
+    (pieces_known text setting are.pieces links are.emphasis utf8 are.cut ends_cut))
+
 -- each inline of a text stands in it
 pub inlines_found : (text : List ℕ) (setting : Setting) (inlines : List Inline) (links : List (Option Link)) → IsUtf8 text
     → AreLinkSources text links → AreInlines text setting inlines links → AllByRecursion (IsThere text setting.known links) inlines
 inlines_found text setting inlines links utf8 sources are =
-    subst (AllByRecursion (IsThere text setting.known links)) (sym are.inlines_are)
-    (all_facts text setting.known links are.emphasis utf8 sources (links_aimed text setting are.pieces links are.emphasis are.cut) 0 are.pieces
-    (pieces_known text setting are.pieces links are.emphasis utf8 are.cut ends_cut))
+    inlines_there text setting inlines links utf8 (λ n a is. (source n a is).source.1) (IsKnownLink text setting.known) known are
   where
-    ends_cut : (n : ℕ) (a : Link) → slice_get links n ≡ Some (Some a) → IsCharBoundary text a.source.end
-    ends_cut n a is =
+    source : (n : ℕ) (a : Link) → slice_get links n ≡ Some (Some a) → IsLinkSource text a
+    source n a is =
         let inside = slice_get_within links n (Some a) is in
         let there = get_or_from_slice_get links n (Some a) None is in
-        (subst (λ (o : Option Link). IfSome o (IsLinkSource text)) there (sources n None inside)).source.1
+        subst (λ (o : Option Link). IfSome o (IsLinkSource text)) there (sources n None inside)
+
+    known : (n : ℕ) (a : Link) → slice_get links n ≡ Some (Some a) → IsKnownLink text setting.known a
+    known n a is =
+        let aimed = links_aimed text setting are.pieces links are.emphasis are.cut n a is in
+        (source n a is, aimed_cut text setting.known a utf8 aimed, before text setting.known a aimed, aimed)

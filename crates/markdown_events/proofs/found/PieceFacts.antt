@@ -29,7 +29,7 @@ low_cut text place within low = (within, λ inside high. absurd (omega (arith, l
 byte_in : (text : List ℕ) (place k : ℕ) (rest : List ℕ) → drop place text ≡ rest → get_or text (place + k) 0 ≡ get_or rest k 0
 byte_in text place k rest parts = sym (get_or-drop place text k 0) ∙ ap (λ (t : List ℕ). get_or t k 0) parts
 
-byte_after : (front : List ℕ) (b : ℕ) (after : List ℕ) → get_or (front ++ b ∷ after) (length front) 0 ≡ b
+pub byte_after : (front : List ℕ) (b : ℕ) (after : List ℕ) → get_or (front ++ b ∷ after) (length front) 0 ≡ b
 byte_after [] b after = refl
 byte_after (x ∷ front) b after = byte_after front b after
 

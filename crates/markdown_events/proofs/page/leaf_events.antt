@@ -1,7 +1,9 @@
 pub mod BalanceLemmas
+pub mod LeafCuts
 pub mod LeafRanges
 pub mod LineRanges
 pub mod OneLeaf
 pub mod PagePlaces
+pub mod PlacedCuts
 pub mod RangeLaws
 pub mod TextRanges

@@ -1,3 +1,4 @@
 pub mod CellLemmas
 pub mod RowLemmas
+pub mod TableCuts
 pub mod TableRanges

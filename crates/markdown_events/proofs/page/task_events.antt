@@ -1,3 +1,4 @@
 pub mod RestLemmas
+pub mod TaskCuts
 pub mod TaskLaws
 pub mod TaskRanges

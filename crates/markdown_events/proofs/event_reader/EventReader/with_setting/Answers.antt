@@ -5,6 +5,7 @@ use Rattle.markdown_events.specs.Targets.{nowhere}
 use Rattle.markdown_events.specs.page.OpenElements.{none_open}
 use Rattle.markdown_events.specs.page.PageEvents.{ArePageEvents, ArePageEventsWith}
 use Rattle.markdown_events.proofs.page.PageBalance.{page_events_balance, page_events_nest}
+use Rattle.markdown_events.proofs.page.PageCuts.{page_events_at_boundaries}
 use Rattle.markdown_events.proofs.page.PageRanges.{page_events_within}
 use Rattle.markdown_events.proofs.page.ParserLemmas.{given_with, page_events, page_events_with, reverse_twice}
 use Rattle.markdown_events.proofs.event_reader.EventReader.with_setting.Goals as goal
@@ -42,6 +43,10 @@ returns-clause-nested c = λ events g. page_events_nest c.args.page.now c.args.s
 
 pub returns-clause-within : goal.returns-clause-within
 returns-clause-within c = λ events g. page_events_within c.args.page.now c.args.setting events (returns-clause-page c events g)
+
+pub returns-clause-boundaries : goal.returns-clause-boundaries
+returns-clause-boundaries c = λ events g.
+    page_events_at_boundaries c.args.page.now c.args.setting events c.utf8.page (returns-clause-page c events g)
 
 pub returns-clause-definitions : goal.returns-clause-definitions
 returns-clause-definitions c =

@@ -1,0 +1,188 @@
+-- The ranges of the events of nodes begin and end at character boundaries of the page, where those of each leaf block do.
+use Rattle.std.proofs.Common.{ℕ, Bool, true, false, ◌==◌, ◌||◌, List, [], ◌∷◌, ◌++◌, length, Option, Some, None, ◌≡◌, sym, subst, if◌then◌else◌}
+use Rattle.std.specs.Prelude.{⊤, IfSome}
+use Rattle.std.specs.Str.{IsUtf8, IsCharBoundary}
+use Rattle.std.proofs.lemmas.Str.{IsCharBoundary-start}
+use Rattle.markdown_values.specs.values.Tags.{item}
+use Rattle.markdown_blocks.specs.blocks.Pages.{is_blank_kind}
+use Rattle.markdown_blocks.specs.containers.Containers.{settled}
+use Rattle.markdown_blocks.specs.declared.containers.Container.{Container}
+use Rattle.markdown_blocks.specs.declared.containers.Container.TheVariants.{Quote, Item, Footnote, TermDefinition}
+use Rattle.markdown_blocks.specs.declared.containers.ListItem.{ListItem}
+use Rattle.markdown_blocks.specs.events.Events.{LeafBlock, leaf}
+use Rattle.markdown_blocks.specs.first_blocks.Waiting.{waiting_behind}
+use Rattle.markdown_blocks.specs.laws.Characters.{IsCutOut}
+use Rattle.markdown_blocks.specs.lists.Lists.{Nodes, nothing, leaf_then, container_then}
+use Rattle.markdown_events.specs.EventLaws.{AreAtBoundaries}
+use Rattle.markdown_events.specs.InlineEvents.{RangedEvent}
+use Rattle.markdown_events.specs.declared.elements.Element.{Element}
+use Rattle.markdown_events.specs.declared.page.levels.ItemList.{ItemList}
+use Rattle.markdown_events.specs.page.LeafEvents.{Place}
+use Rattle.markdown_events.specs.page.PageEvents.{AreNodeEvents, OpenList, after_block, container_tag, element_of, ending, inside, list_after, list_end}
+use Rattle.markdown_events.specs.page.PageEvents.{list_in, list_start, starting}
+use Rattle.markdown_events.specs.page.Spans.{block_end, container_end, first_place, front_list, is_parted}
+use Rattle.markdown_events.specs.page.Spans.{is_set_off, last_end, list_alone, list_with, span_of}
+use Rattle.markdown_events.specs.page.TaskEvents.{AreBlockEvents, BlockSetting}
+use Rattle.markdown_events.proofs.inline_events.Boundaries.{both_at}
+
+module _ (page : List ℕ) (setting : BlockSetting) where
+  abbrev Cut : ℕ → Type 0
+  Cut = IsCharBoundary page
+
+  abbrev AreAt : List RangedEvent → Type 0
+  AreAt = AreAtBoundaries page
+
+  -- the events of a block do, which is in these containers, with the first of which its first line goes on, and the first of this one
+  abbrev pub LeafAt : List Container → ℕ → Option Container → LeafBlock → Type 0
+  LeafAt outer kept waiting block = (is_tight : Bool) (events : List RangedEvent)
+      → AreBlockEvents page setting (record { containers = outer; kept = kept; is_tight = is_tight }) waiting block events → AreAt events
+
+  -- the page may be cut out at each of the nodes, and the events of each block do
+  abbrev pub NodesAt : List Container → ℕ → Option Container → Nodes → Type 0
+  NodesAt outer kept waiting nothing = ⊤
+  NodesAt outer kept waiting (leaf_then block later) =
+      IsCutOut page block × LeafAt outer kept waiting block × NodesAt outer (length outer) (waiting_behind waiting (leaf block)) later
+  NodesAt outer kept waiting (container_then container place inner later) =
+      Cut place × NodesAt (outer ++ settled container ∷ []) kept (Some container) inner × NodesAt outer (length outer) None later
+
+  module _ (utf8 : IsUtf8 page) where
+    -- ---- where nodes begin and end
+
+    first_cut : (nodes : Nodes) (outer : List Container) (kept : ℕ) (waiting : Option Container) → NodesAt outer kept waiting nodes
+        → Cut (first_place nodes)
+    first_cut nothing outer kept waiting at = IsCharBoundary-start page utf8
+    first_cut (leaf_then block later) outer kept waiting at = at.0.place
+    first_cut (container_then container place inner later) outer kept waiting at = at.0
+
+    last_cut : (nodes : Nodes) (outer : List Container) (kept : ℕ) (waiting : Option Container) (from : ℕ) → NodesAt outer kept waiting nodes
+        → Cut from → Cut (last_end from nodes)
+    last_cut nothing outer kept waiting from at cut = cut
+    last_cut (leaf_then block later) outer kept waiting from at cut =
+        last_cut later outer (length outer) (waiting_behind waiting (leaf block)) (if is_blank_kind block.kind then from else block_end block) at.2
+        (by (is_blank_kind block.kind))
+      where
+        by : (k : Bool) → Cut (if k then from else block_end block)
+        by true = cut
+        by false = at.0.ends
+    last_cut (container_then container place inner later) outer kept waiting from at cut =
+        last_cut later outer (length outer) None (last_end (first_place inner) inner) at.2
+        (last_cut inner (outer ++ settled container ∷ []) kept (Some container) (first_place inner) at.1
+        (first_cut inner (outer ++ settled container ∷ []) kept (Some container) at.1))
+
+    end_cut : (inner : Nodes) (outer : List Container) (kept : ℕ) (waiting : Option Container) → NodesAt outer kept waiting inner
+        → Cut (container_end inner)
+    end_cut inner outer kept waiting at = last_cut inner outer kept waiting (first_place inner) at (first_cut inner outer kept waiting at)
+
+    -- ---- lists
+
+    abbrev ListCut : Option ItemList → Type 0
+    ListCut list = IfSome list (λ l. Cut l.to)
+
+    with_cut : (one : ListItem) (inner : Nodes) (set_off : Bool) (list : Option ItemList) → Cut (container_end inner) → ListCut list
+        → Cut (list_with one inner set_off list).to
+    with_cut one inner set_off None own cut = own
+    with_cut one inner set_off (Some list) own cut = by (one.delimiter == list.delimiter)
+      where
+        by : (same : Bool)
+            → Cut (if same then record list { is_loose = list.is_loose || (is_parted inner || set_off) } else list_alone one inner).to
+        by true = cut
+        by false = own
+
+    front_cut : (nodes : Nodes) (outer : List Container) (kept : ℕ) (waiting : Option Container) → NodesAt outer kept waiting nodes
+        → ListCut (front_list nodes)
+    front_cut nothing outer kept waiting at = tt
+    front_cut (leaf_then block later) outer kept waiting at =
+        by (is_blank_kind block.kind) (front_cut later outer (length outer) (waiting_behind waiting (leaf block)) at.2)
+      where
+        by : (k : Bool) → ListCut (front_list later) → ListCut (if k then front_list later else None)
+        by true cut = cut
+        by false cut = tt
+    front_cut (container_then (Item one) place inner later) outer kept waiting at =
+        with_cut one inner (is_set_off one inner later) (front_list later)
+        (end_cut inner (outer ++ settled (Item one) ∷ []) kept (Some (Item one)) at.1) (front_cut later outer (length outer) None at.2)
+    front_cut (container_then Quote place inner later) outer kept waiting at = tt
+    front_cut (container_then Footnote place inner later) outer kept waiting at = tt
+    front_cut (container_then (TermDefinition one) place inner later) outer kept waiting at = tt
+
+    -- ---- events
+
+    -- a list that is open began and ends at boundaries
+    abbrev pub OpenCut : Option OpenList → Type 0
+    OpenCut list = IfSome list (λ l. Cut l.element.from × Cut l.element.to)
+
+    ending_at : (element : Element) → Cut element.from × Cut element.to → AreAt (ending element)
+    ending_at element cut = (cut, tt)
+
+    abbrev pub NodeEventsAt : Nodes → Type 0
+    NodeEventsAt nodes = (here : Place) (waiting : Option Container) (current : Option OpenList) (events : List RangedEvent)
+        → NodesAt here.containers here.kept waiting nodes → OpenCut current → AreNodeEvents page setting here waiting current nodes events → AreAt events
+
+    -- an item, in the list that is open or that begins with it
+    item_at : (one : ListItem) (place : ℕ) (inner later : Nodes) → NodeEventsAt inner → NodeEventsAt later → (here : Place) (waiting : Option Container)
+        → (now : OpenList) (events front held rest : List RangedEvent)
+        → NodesAt here.containers here.kept waiting (container_then (Item one) place inner later) → Cut now.element.from × Cut now.element.to
+        → AreAt front → AreNodeEvents page setting (inside (Item one) now.is_tight here) (Some (Item one)) None inner held
+        → AreNodeEvents page setting (after_block here) None (list_after (span_of (Item one) inner later).is_last now) later rest
+        → events ≡ front ++ starting item place (container_end inner) ++ held ++ ending (element_of item place (container_end inner))
+        ++ list_end (span_of (Item one) inner later).is_last now ++ rest → AreAt events
+    item_at one place inner later inner_at later_at here waiting now events front held rest at listed front_at are_held are_rest is =
+        let last = (span_of (Item one) inner later).is_last in
+        let end = container_end inner in
+        let to = end_cut inner (here.containers ++ settled (Item one) ∷ []) here.kept (Some (Item one)) at.1 in
+        let begins = starting item place end in
+        let ends = ending (element_of item place end) in
+        let first = both_at page front begins front_at ((at.0, to), tt) in
+        let second = both_at page (front ++ begins) held first
+        (inner_at (inside (Item one) now.is_tight here) (Some (Item one)) None held at.1 tt are_held) in
+        let whole = both_at page (front ++ begins ++ held) ends second ((at.0, to), tt) in
+        let with_list = both_at page (front ++ begins ++ held ++ ends) (list_end last now) whole (ended last) in
+        subst AreAt (sym is)
+        (both_at page (front ++ begins ++ held ++ ends ++ list_end last now) rest with_list
+        (later_at (after_block here) None (list_after last now) rest at.2 (after last) are_rest))
+      where
+        ended : (last : Bool) → AreAt (list_end last now)
+        ended true = (listed, tt)
+        ended false = tt
+
+        after : (last : Bool) → OpenCut (list_after last now)
+        after true = tt
+        after false = listed
+
+    -- another container
+    other_at : (container : Container) (place : ℕ) (inner later : Nodes) → NodeEventsAt inner → NodeEventsAt later → (here : Place)
+        → (waiting : Option Container) (events held rest : List RangedEvent)
+        → NodesAt here.containers here.kept waiting (container_then container place inner later)
+        → AreNodeEvents page setting (inside container false here) (Some container) None inner held
+        → AreNodeEvents page setting (after_block here) None None later rest
+        → events ≡ starting (container_tag container) place (container_end inner) ++ held
+        ++ ending (element_of (container_tag container) place (container_end inner)) ++ rest → AreAt events
+    other_at container place inner later inner_at later_at here waiting events held rest at are_held are_rest is =
+        let to = end_cut inner (here.containers ++ settled container ∷ []) here.kept (Some container) at.1 in
+        let begins = starting (container_tag container) place (container_end inner) in
+        let ends = ending (element_of (container_tag container) place (container_end inner)) in
+        let first = both_at page begins held ((at.0, to), tt) (inner_at (inside container false here) (Some container) None held at.1 tt are_held) in
+        let whole = both_at page (begins ++ held) ends first ((at.0, to), tt) in
+        subst AreAt (sym is)
+        (both_at page (begins ++ held ++ ends) rest whole (later_at (after_block here) None None rest at.2 tt are_rest))
+
+    pub nodes_at : (nodes : Nodes) → NodeEventsAt nodes
+    nodes_at nothing here waiting current events at listed is = subst AreAt (sym is) tt
+    nodes_at (leaf_then block later) here waiting current events at listed (own, rest, are, are_rest, is) =
+        subst AreAt (sym is)
+        (both_at page own rest (at.1 here.is_tight own are)
+        (nodes_at later (after_block here) (waiting_behind waiting (leaf block)) current rest at.2 listed are_rest))
+    nodes_at (container_then (Item one) place inner later) here waiting None events at listed (held, rest, are_held, are_rest, is) =
+        let span = span_of (Item one) inner later in
+        let to = with_cut one inner (is_set_off one inner later) (front_list later)
+        (end_cut inner (here.containers ++ settled (Item one) ∷ []) here.kept (Some (Item one)) at.1)
+        (front_cut later here.containers (length here.containers) None at.2) in
+        item_at one place inner later (nodes_at inner) (nodes_at later) here waiting (list_in None one place span) events
+        (list_start None one place span) held rest at (at.0, to) ((at.0, to), tt) are_held are_rest is
+    nodes_at (container_then (Item one) place inner later) here waiting (Some list) events at listed (held, rest, are_held, are_rest, is) =
+        item_at one place inner later (nodes_at inner) (nodes_at later) here waiting list events [] held rest at listed tt are_held are_rest is
+    nodes_at (container_then Quote place inner later) here waiting current events at listed (held, rest, are_held, are_rest, is) =
+        other_at Quote place inner later (nodes_at inner) (nodes_at later) here waiting events held rest at are_held are_rest is
+    nodes_at (container_then Footnote place inner later) here waiting current events at listed (held, rest, are_held, are_rest, is) =
+        other_at Footnote place inner later (nodes_at inner) (nodes_at later) here waiting events held rest at are_held are_rest is
+    nodes_at (container_then (TermDefinition one) place inner later) here waiting current events at listed (held, rest, are_held, are_rest, is) =
+        other_at (TermDefinition one) place inner later (nodes_at inner) (nodes_at later) here waiting events held rest at are_held are_rest is

@@ -1,0 +1,55 @@
+-- The ranges of the events of a page that is UTF-8 begin and end at its character boundaries.
+use Rattle.std.proofs.Common.{ℕ, suc, List, [], ◌∷◌, ◌++◌, length, Option, Some, None, sym, subst, append-nil, append_assoc}
+use Rattle.std.specs.Str.{IsUtf8}
+use Rattle.markdown_blocks.specs.containers.Containers.{settled}
+use Rattle.markdown_blocks.specs.declared.containers.Container.{Container}
+use Rattle.markdown_blocks.specs.events.Events.{Event, block_end, ends, leaf}
+use Rattle.markdown_blocks.specs.first_blocks.Waiting.{waiting_behind}
+use Rattle.markdown_blocks.specs.laws.Characters.{AreCutOut}
+use Rattle.markdown_blocks.specs.laws.FirstTexts.{FirstsBeginPlain}
+use Rattle.markdown_blocks.specs.laws.Order.{ContentsStand, passed_after}
+use Rattle.markdown_blocks.specs.link_definitions.LinkDefinitions.{first_of}
+use Rattle.markdown_blocks.specs.lists.Lists.{Nodes, nothing, leaf_then, container_then, flatten}
+use Rattle.markdown_blocks.proofs.ForCallers.{page_contents_stand, page_cut_out, page_firsts_begin_plain}
+use Rattle.markdown_events.specs.EventLaws.{AreAtBoundaries}
+use Rattle.markdown_events.specs.InlineEvents.{RangedEvent}
+use Rattle.markdown_events.specs.declared.event_reader.PageSetting.{PageSetting}
+use Rattle.markdown_events.specs.page.PageEvents.{ArePageEvents, block_setting, blocks_of, outermost}
+use Rattle.markdown_events.specs.page.TaskEvents.{BlockSetting}
+use Rattle.markdown_events.proofs.page.NodeCuts.{NodesAt, nodes_at}
+use Rattle.markdown_events.proofs.page.task_events.TaskCuts.{block_at}
+
+module _ (page : List ℕ) (setting : BlockSetting) where
+  -- nodes whose events are cut out, and after them other events
+  cut_nodes : (nodes : Nodes) (outer : List Container) (kept passed : ℕ) (waiting : Option Container) (rest : List Event)
+      → ContentsStand page outer kept passed nodes → AreCutOut page (flatten nodes ++ rest) → FirstsBeginPlain waiting (flatten nodes ++ rest)
+      → NodesAt page setting outer kept waiting nodes × (AreCutOut page rest × ((then : Option Container) × FirstsBeginPlain then rest))
+  cut_nodes nothing outer kept passed waiting rest stand cut plain = (tt, (cut, (waiting, plain)))
+  cut_nodes (leaf_then block later) outer kept passed waiting rest stand cut plain =
+      let more = cut_nodes later outer (length outer) (block_end block) (waiting_behind waiting (leaf block)) rest stand.2 cut.1 plain.1 in (
+        (
+          cut.0,
+          λ is_tight events are. block_at page setting (record { containers = outer; kept = kept; is_tight = is_tight }) block waiting cut.0 stand.1 plain.0
+              events are,
+          more.0,
+        ),
+        more.1,
+      )
+  cut_nodes (container_then container place inner later) outer kept passed waiting rest stand cut plain =
+      let parted = append_assoc (flatten inner) (ends ∷ flatten later) rest in
+      let held = cut_nodes inner (outer ++ settled container ∷ []) kept (suc place) (Some container) (ends ∷ (flatten later ++ rest)) stand.0
+      (subst (AreCutOut page) parted cut.1) (subst (FirstsBeginPlain (Some container)) parted plain) in
+      let more = cut_nodes later outer (length outer) (passed_after (suc place) inner) None rest stand.1 held.1.0 held.1.1.1 in
+      ((cut.0, held.0, more.0), more.1)
+
+-- Each range begins and ends at a character boundary of the page.
+pub page_events_at_boundaries : (page : List ℕ) (setting : PageSetting) (events : List RangedEvent) → IsUtf8 page → ArePageEvents page setting events
+    → AreAtBoundaries page events
+page_events_at_boundaries page setting events utf8 are =
+    let read_with = block_setting setting (λ label. first_of label are.named) in
+    let asked = blocks_of setting in
+    let all = sym (append-nil (flatten are.nodes)) in
+    let at = cut_nodes page read_with are.nodes [] 0 0 None [] (page_contents_stand asked page are.nodes are.are_blocks)
+    (subst (AreCutOut page) all (page_cut_out asked page (flatten are.nodes) are.are_blocks utf8))
+    (subst (FirstsBeginPlain None) all (page_firsts_begin_plain asked page (flatten are.nodes) are.are_blocks)) in
+    nodes_at page read_with utf8 are.nodes outermost None None events at.0 tt are.are_events
