@@ -1,7 +1,13 @@
 pub mod AddressLemmas
 pub mod EscapeLaws
 pub mod EventLemmas
+pub mod HtmlReads
 pub mod LineLemmas
+pub mod PushLemmas
+pub mod ReadEvents
+mod ReadRows
+pub mod ReadSteps
+pub mod ReadTags
 mod Rows
 pub mod RunLemmas
 pub mod SafeAddresses
@@ -9,5 +15,3 @@ pub mod SafeEvents
 pub mod SafeLemmas
 pub mod SafePages
 mod SafeRows
-pub mod SafeSteps
-pub mod SafeTags

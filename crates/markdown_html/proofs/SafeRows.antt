@@ -67,17 +67,17 @@ script_row = refl
 script_element : is_one_of (elements ++ void_elements) (codes "script") ≡ false
 script_element = refl
 
-handler_row : is_attribute schemes (codes "a") (codes "onclick", []) ≡ false
+handler_row : is_attribute (is_address schemes) (codes "a") (codes "onclick", []) ≡ false
 handler_row = refl
 
-source_of_link : is_attribute schemes (codes "a") (codes "src", []) ≡ false
+source_of_link : is_attribute (is_address schemes) (codes "a") (codes "src", []) ≡ false
 source_of_link = refl
 
-style_row : is_attribute schemes (codes "p") (codes "style", []) ≡ false
+style_row : is_attribute (is_address schemes) (codes "p") (codes "style", []) ≡ false
 style_row = refl
 
-language_row : is_attribute schemes (codes "code") (codes "class", codes "language-c") ≡ true
+language_row : is_attribute (is_address schemes) (codes "code") (codes "class", codes "language-c") ≡ true
 language_row = refl
 
-class_row : is_attribute schemes (codes "code") (codes "class", codes "button") ≡ false
+class_row : is_attribute (is_address schemes) (codes "code") (codes "class", codes "button") ≡ false
 class_row = refl

@@ -1,10 +1,13 @@
 pub mod Addresses
 pub mod Blocks
+pub mod Content
 pub mod EscapeLaws
 pub mod Escapes
 pub mod Html
 pub mod Inlines
 pub mod PageHtml
+pub mod PushedHtml
+pub mod ReadHtml
 pub mod SafeHtml
 pub mod SafeSetting
 pub mod Settings

@@ -54,11 +54,12 @@ is_language value = starts_with nat_eq value (codes "language-") && is_text valu
 abbrev pub AttributeRow : Type 0
 AttributeRow = List ℕ × List ℕ × (List ℕ → Bool)
 
-abbrev pub attribute_rows : List (List ℕ) → List AttributeRow
-attribute_rows schemes =
-    (codes "a", codes "href", is_address schemes) ∷ (codes "a", codes "title", is_text)
+-- where the addresses are of this kind
+abbrev pub attribute_rows : (List ℕ → Bool) → List AttributeRow
+attribute_rows addresses =
+    (codes "a", codes "href", addresses) ∷ (codes "a", codes "title", is_text)
     ∷ (codes "a", codes "rel", is_one_of (codes "nofollow noopener" ∷ []))
-    ∷ (codes "img", codes "src", is_address schemes) ∷ (codes "img", codes "alt", is_text) ∷ (codes "img", codes "title", is_text)
+    ∷ (codes "img", codes "src", addresses) ∷ (codes "img", codes "alt", is_text) ∷ (codes "img", codes "title", is_text)
     ∷ (codes "code", codes "class", is_language)
     ∷ (codes "ol", codes "start", list_all is_digit)
     ∷ (codes "th", codes "align", is_one_of (codes "left" ∷ codes "center" ∷ codes "right" ∷ []))
@@ -67,9 +68,9 @@ attribute_rows schemes =
     ∷ (codes "input", codes "checked", is_one_of ([] ∷ [])) ∷ (codes "input", codes "disabled", is_one_of ([] ∷ [])) ∷ []
 
 -- A name and a value are an attribute of an element.
-abbrev pub is_attribute : List (List ℕ) → List ℕ → List ℕ × List ℕ → Bool
-is_attribute schemes element attribute =
-    list_any (λ row. bytes_eq row.0 element && bytes_eq row.1 attribute.0 && row.2 attribute.1) (attribute_rows schemes)
+abbrev pub is_attribute : (List ℕ → Bool) → List ℕ → List ℕ × List ℕ → Bool
+is_attribute addresses element attribute =
+    list_any (λ row. bytes_eq row.0 element && bytes_eq row.1 attribute.0 && row.2 attribute.1) (attribute_rows addresses)
 
 -- attributes, each after a space and with its value in double quotes, before the rest
 abbrev pub attributes_before : List (List ℕ × List ℕ) → List ℕ → List ℕ
@@ -96,12 +97,12 @@ pub data IsSafeIn (schemes : List (List ℕ)) : List (List ℕ) → List ℕ →
   with_byte : (outer : List (List ℕ)) (b : ℕ) (rest : List ℕ) → IsTrue (is_text_byte b rest)
       → IsSafeIn schemes outer rest → IsSafeIn schemes outer (b ∷ rest)
   with_start : (outer : List (List ℕ)) (name : List ℕ) (attributes : List (List ℕ × List ℕ)) (rest : List ℕ)
-      → IsTrue (is_one_of elements name) → IsTrue (list_all (is_attribute schemes name) attributes)
+      → IsTrue (is_one_of elements name) → IsTrue (list_all (is_attribute (is_address schemes) name) attributes)
       → IsSafeIn schemes (name ∷ outer) rest → IsSafeIn schemes outer (codes "<" ++ (name ++ attributes_before attributes (codes ">" ++ rest)))
   with_end : (outer : List (List ℕ)) (name rest : List ℕ)
       → IsSafeIn schemes outer rest → IsSafeIn schemes (name ∷ outer) (codes "</" ++ (name ++ (codes ">" ++ rest)))
   with_void : (outer : List (List ℕ)) (name : List ℕ) (attributes : List (List ℕ × List ℕ)) (solidus : Bool) (rest : List ℕ)
-      → IsTrue (is_one_of void_elements name) → IsTrue (list_all (is_attribute schemes name) attributes)
+      → IsTrue (is_one_of void_elements name) → IsTrue (list_all (is_attribute (is_address schemes) name) attributes)
       → IsSafeIn schemes outer rest
       → IsSafeIn schemes outer (codes "<" ++ (name ++ attributes_before attributes ((if solidus then codes " />" else codes ">") ++ rest)))
 

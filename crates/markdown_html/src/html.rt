@@ -3,7 +3,9 @@ ghost use Rattle.std.specs.Prelude.{◌≡◌, IfOk, map, string_bytes};
 ghost use Rattle.markdown_values.specs.strings.Text.{cow_text};
 ghost use Rattle.markdown_values.specs.values.Events.{event_view};
 ghost use Rattle.markdown_events.specs.Nesting.{AreNested};
+ghost use Rattle.markdown_html.specs.Content.{content};
 ghost use Rattle.markdown_html.specs.Html.{html_of};
+ghost use Rattle.markdown_html.specs.ReadHtml.{Reads};
 ghost use Rattle.markdown_html.specs.SafeSetting.{IsSafeWith};
 ghost use Rattle.markdown_html.specs.Settings.{seen_setting};
 
@@ -29,6 +31,22 @@ pub fn html_of_events<'a, A: AllowedAddresses>(
         (map (event_view cow_text) events.entry.items)) }
     ensures safe { IfOk result (λ html. AreNested (map (event_view cow_text) events.entry.items)
         → IsSafeWith (seen_setting A.allows setting.now) (string_bytes html)) }
+    ensures reads { IfOk result (λ html. AreNested (map (event_view cow_text) events.entry.items)
+        → Reads (string_bytes html)
+        (content setting.now.raw (map (event_view cow_text) events.entry.items))) }
+{
+    html_of_list(alloc, setting, events)
+}
+
+// The HTML of these events, by its definition alone.
+fn html_of_list<'a, A: AllowedAddresses>(
+    alloc: Global,
+    setting: &HtmlSetting<A>,
+    events: Vec<Event<'a>>,
+) -> Result<String, AllocError>
+    ensures { IfOk result (λ html. string_bytes html
+        ≡ html_of (seen_setting A.allows setting.now)
+        (map (event_view cow_text) events.entry.items)) }
 {
     let mut writer = HtmlWriter::new(alloc);
     for event in events {

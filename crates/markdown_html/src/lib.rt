@@ -8,6 +8,7 @@ pub mod escapes;
 pub mod html;
 mod inlines;
 pub mod page;
+pub mod push;
 pub mod schemes;
 pub mod setting;
 pub mod writer;

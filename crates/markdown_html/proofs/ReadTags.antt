@@ -1,21 +1,21 @@
 -- What the tags that have started leave open: elements, and links and images.
-use Rattle.std.proofs.Common.{ℕ, ◌≡◌, Bool, true, false, List, [], ◌∷◌, ◌++◌, Option, Some, None, refl, ap, ◌∙◌, inl, inr}
+use Rattle.std.proofs.Common.{ℕ, suc, ◌≡◌, Bool, true, false, List, [], ◌∷◌, ◌++◌, Option, Some, None, refl, ap, ◌∙◌, inl, inr}
 use Rattle.std.specs.Prelude.{codes, not, if◌then◌else◌}
 use Rattle.std.specs.List.{list_all}
 use Rattle.std.proofs.lemmas.Bool.{cases_Bool}
+use Rattle.markdown_events.specs.TagEnds.{tag_end}
+use Rattle.markdown_values.specs.declared.values.LinkType.{LinkType}
+use Rattle.markdown_values.specs.values.Events.{start, end}
 use Rattle.markdown_values.specs.values.Headings.{heading_name}
 use Rattle.markdown_values.specs.values.Tags.{paragraph, heading, block_quote, code_block, list, item}
 use Rattle.markdown_values.specs.values.Tags.{table, table_head, table_row}
 use Rattle.markdown_values.specs.values.Tags.{table_cell, emphasis, strong, strikethrough, superscript, subscript, link, image}
 use Rattle.markdown_scanners_tree.proofs.PrefixLemmas.{both_true}
 use Rattle.markdown_html.specs.Blocks.{cell_name}
+use Rattle.markdown_html.specs.Content.{images_after, outer_of}
 use Rattle.markdown_events.specs.Nesting.{Tag, is_in_table, MayStart}
 use Rattle.markdown_html.specs.States.{is_in_image}
-use Rattle.markdown_html.proofs.SafeSteps.{list_element, table_elements}
-
-pub append_none : (xs : List ℕ) → xs ++ [] ≡ xs
-append_none [] = refl
-append_none (x ∷ xs) = ap (λ rest. x ∷ rest) (append_none xs)
+use Rattle.markdown_html.proofs.ReadSteps.{list_element, table_elements}
 
 -- ---- what is open
 
@@ -100,3 +100,41 @@ pub inside_links : (inner : List Tag) (title : List ℕ) (outer : List (Option (
 inside_links [] title outer = refl
 inside_links (tag ∷ inner) title outer =
     titled_links (title_of tag) (image_links inner (Some title ∷ outer)) (inside_links inner title outer)
+
+-- ---- how many images are open
+
+abbrev pub images_of : List Tag → ℕ
+images_of [] = 0
+images_of (image kind to title label ∷ outer) = suc (images_of outer)
+images_of (tag ∷ outer) = images_of outer
+
+pub images_start : (tag : Tag) (images : ℕ) (inner : List Tag) → images ≡ suc (images_of inner)
+    → images_after images (start tag) ≡ suc (images_of (tag ∷ inner))
+images_start (image kind to title label) images inner many = ap suc many
+images_start tag images inner many = many
+
+pub images_end : (tag : Tag) (images : ℕ) (inner : List Tag) → images ≡ suc (images_of (tag ∷ inner))
+    → images_after images (end (tag_end tag)) ≡ suc (images_of inner)
+images_end (image kind to title label) images inner many = ap outer_of many
+images_end (list None) images inner many = many
+images_end (list (Some first)) images inner many = many
+images_end tag images inner many = many
+
+pub no_images_end : (tag : Tag) (images : ℕ) → images ≡ 0 → images_after images (end (tag_end tag)) ≡ 0
+no_images_end (image kind to title label) images none = ap outer_of none
+no_images_end (list None) images none = none
+no_images_end (list (Some first)) images none = none
+no_images_end tag images none = none
+
+-- ---- an image, and the tags in it and around it
+
+abbrev pub IsImage : Tag → List ℕ → Type 0
+IsImage tag title = (kind : LinkType) × (to : List ℕ) × (label : List ℕ) × (tag ≡ image kind to title label)
+
+abbrev pub first_or : Tag → List Tag → Tag
+first_or other [] = other
+first_or other (tag ∷ tags) = tag
+
+pub not_empty : (inner : List Tag) (shown : Tag) (outer : List Tag) → [] ≡ inner ++ shown ∷ outer → ⊥
+not_empty [] shown outer is = cc
+not_empty (tag ∷ inner) shown outer is = cc

@@ -5,7 +5,7 @@ use Rattle.markdown_values.specs.values.Events.{event_view}
 use Rattle.markdown_html.specs.Html.{after_events}
 use Rattle.markdown_html.specs.Settings.{seen_setting}
 use Rattle.markdown_html.specs.States.{nothing_written}
-use Rattle.markdown_html.proofs.html.html_of_events.Given as goal
+use Rattle.markdown_html.proofs.html.html_of_list.Given as goal
 
 abbrev pub invariant-loop-event : goal.invariant-loop-event
 invariant-loop-event g l =

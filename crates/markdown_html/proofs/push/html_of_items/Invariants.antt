@@ -1,0 +1,16 @@
+-- No item was an error, and what is written is the HTML of the events so far.
+use Rattle.std.proofs.Common.{◌≡◌, List, map, Ok}
+use Rattle.markdown_values.specs.strings.Text.{cow_text}
+use Rattle.markdown_values.specs.values.Events.{event_view}
+use Rattle.markdown_values.specs.declared.values.events.Event.{Event}
+use Rattle.markdown_html.specs.Html.{after_events}
+use Rattle.markdown_html.specs.Settings.{seen_setting}
+use Rattle.markdown_html.specs.States.{nothing_written}
+use Rattle.markdown_html.proofs.push.html_of_items.Given as goal
+
+abbrev pub invariant-loop-event : goal.invariant-loop-event
+invariant-loop-event g l =
+    (goal.iterator-loop-event g).can_next l.event-iterator
+    × (goal.iterator-loop-event g).is_finite l.event-iterator
+    × ((given : List Event) × (l.yielded ≡ map Ok given)
+    × (l.writer ≡ after_events (seen_setting g.A.AllowedAddresses.allows l.setting) (map (event_view cow_text) given) nothing_written))
