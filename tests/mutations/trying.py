@@ -28,6 +28,8 @@ TELLERS = {
     "markdown_events": ["tests markdown_events"],
     "page_programs": ["run cmark_blocks", "run cmark_inlines", "run cmark_events", "tests cmark_vectors_programs"],
     "page_blocks": ["run cmark_blocks", "tests cmark_vectors_programs"],
+    "markdown_html": ["run cmark_html"],
+    "page_html": ["run cmark_html"],
 }
 
 

@@ -3,7 +3,7 @@ use Rattle.std.proofs.Common.{ℕ, ◌≡◌, ◌∙◌, List, Result, Ok, Err, 
 use Rattle.markdown_html.specs.Html.{html_of}
 use Rattle.markdown_html.specs.PushedHtml.{Steps, AppendsHtml, AppendsSafeHtml}
 use Rattle.markdown_html.specs.SafeHtml.{IsSafeHtml}
-use Rattle.markdown_html.specs.SafeSetting.{IsSafeSetting, comment_setting}
+use Rattle.markdown_html.specs.SafeSetting.{IsSafeSetting, safe_setting}
 use Rattle.markdown_html.specs.Settings.{Setting}
 use Rattle.markdown_html.proofs.SafeEvents.{html_is_safe}
 
@@ -12,7 +12,7 @@ on_ok (Ok x) f holds = f holds
 on_ok (Err refused) f holds = holds
 
 pub appends_safe : {I : Type 0} (steps : Steps I) (it : I) (setting : Setting) (schemes : List (List ℕ)) (old new : List ℕ)
-    → setting ≡ comment_setting schemes → IsSafeSetting schemes setting → AppendsHtml steps it setting old new
+    → setting ≡ safe_setting schemes → IsSafeSetting schemes setting → AppendsHtml steps it setting old new
     → AppendsSafeHtml steps it schemes old new
 appends_safe steps it setting schemes old new same safe appended = record {
   html = appended.html;

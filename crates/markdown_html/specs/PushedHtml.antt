@@ -8,7 +8,7 @@ use Rattle.markdown_values.specs.declared.values.events.Event.{Event}
 use Rattle.markdown_html.specs.Html.{html_of}
 use Rattle.markdown_events.specs.Nesting.{AreNested}
 use Rattle.markdown_html.specs.SafeHtml.{IsSafeHtml}
-use Rattle.markdown_html.specs.SafeSetting.{comment_setting}
+use Rattle.markdown_html.specs.SafeSetting.{safe_setting}
 use Rattle.markdown_html.specs.Settings.{Setting}
 
 -- what a call of `next` gives
@@ -36,6 +36,6 @@ pub record AppendsHtml {I : Type 0} (steps : Steps I) (it : I) (setting : Settin
 -- It is appended, and safe where the events nest.
 pub record AppendsSafeHtml {I : Type 0} (steps : Steps I) (it : I) (schemes : List (List ℕ)) (old new : List ℕ) : Type 0 where
   pub html : List ℕ
-  pub is_html : IsHtmlOfItems steps it (comment_setting schemes) html
+  pub is_html : IsHtmlOfItems steps it (safe_setting schemes) html
   pub is_safe : AreNested is_html.events → IsSafeHtml schemes html
   pub is_appended : new ≡ old ++ html

@@ -1,7 +1,7 @@
 -- Settings by which HTML is safe.
 use Rattle.std.specs.Prelude.{ℕ, Bool, true, false, ◌≡◌, List}
 use Rattle.markdown_html.specs.declared.setting.RawHtml.{RawHtml}
-use Rattle.markdown_html.specs.declared.setting.RawHtml.TheVariants.{Kept, Escaped}
+use Rattle.markdown_html.specs.declared.setting.RawHtml.TheVariants.{Escaped, Kept}
 use Rattle.markdown_html.specs.Addresses.{is_allowed_address}
 use Rattle.markdown_html.specs.SafeHtml.{IsSafeHtml}
 use Rattle.markdown_html.specs.Settings.{Setting}
@@ -19,6 +19,6 @@ pub record IsSafeSetting (schemes : List (List ℕ)) (setting : Setting) : Type 
 abbrev pub IsSafeWith : Setting → List ℕ → Type 0
 IsSafeWith setting html = (schemes : List (List ℕ)) → IsSafeSetting schemes setting → IsSafeHtml schemes html
 
--- the setting for text by people who are not trusted, with these schemes
-abbrev pub comment_setting : List (List ℕ) → Setting
-comment_setting schemes = record { raw = Escaped; allows = is_allowed_address schemes; images_as_links = false; rel = true }
+-- Raw HTML is written as text, and addresses of other schemes are left out. Links say `rel="nofollow noopener"`.
+abbrev pub safe_setting : List (List ℕ) → Setting
+safe_setting schemes = record { raw = Escaped; allows = is_allowed_address schemes; images_as_links = false; rel = true }

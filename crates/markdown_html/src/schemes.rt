@@ -1,7 +1,7 @@
 //! The setting by which HTML is safe: no raw HTML, and addresses by their schemes.
 ghost use Rattle.std.specs.Prelude.{◌≡◌, map};
 ghost use Rattle.markdown_html.specs.Addresses.{is_allowed_address};
-ghost use Rattle.markdown_html.specs.SafeSetting.{IsSafeSetting, comment_setting};
+ghost use Rattle.markdown_html.specs.SafeSetting.{IsSafeSetting, safe_setting};
 ghost use Rattle.markdown_html.specs.Settings.{seen_setting};
 
 use crate::addresses::is_allowed_address;
@@ -34,10 +34,10 @@ pub const DEFAULT_SCHEMES: &[&str] = &["http", "https", "mailto", "tel"];
 /// lead to addresses of these schemes alone, and links say `rel="nofollow noopener"`. A caller who
 /// wants something else changes its fields, as `images_as_links`.
 pub fn safe_setting<'a>(schemes: &'a [&'a str]) -> HtmlSetting<AllowedSchemes<'a>>
-    ensures setting { seen_setting ⟦<AllowedSchemes<'a> as AllowedAddresses>⟧.allows result
-        ≡ comment_setting (map (λ scheme. scheme.now) schemes.now) }
     ensures safe { IsSafeSetting (map (λ scheme. scheme.now) schemes.now)
         (seen_setting ⟦<AllowedSchemes<'a> as AllowedAddresses>⟧.allows result) }
+    ensures setting { seen_setting ⟦<AllowedSchemes<'a> as AllowedAddresses>⟧.allows result
+        ≡ safe_setting (map (λ scheme. scheme.now) schemes.now) }
 {
     HtmlSetting {
         raw: RawHtml::Escaped,

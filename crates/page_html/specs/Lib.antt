@@ -1,0 +1,3 @@
+pub mod asked
+pub mod page
+pub mod words

@@ -1,0 +1,56 @@
+-- What the words of the command line ask for, beside what those of each program ask for. An option and its value are one word.
+use Rattle.std.specs.Prelude.{ℕ, Bool, ◌||◌, List, [], ◌∷◌, codes, if◌then◌else◌}
+use Rattle.std.specs.Borrow.{Bor}
+use Rattle.markdown_inlines.specs.declared.extensions.InlineExtensions.{InlineExtensions}
+use Rattle.markdown_events.specs.declared.event_reader.PageSetting.{PageSetting}
+use Rattle.page_programs.specs.Words.{asks}
+use Rattle.page_html.specs.declared.asked.Asked.{Asked}
+use Rattle.page_html.specs.declared.asked.Form.{Form}
+use Rattle.page_html.specs.declared.asked.Form.TheVariants.{Html, Events}
+
+-- ---- the options that the program has of its own
+
+abbrev pub safe : List ℕ
+safe = codes "--safe"
+
+abbrev pub to_html : List ℕ
+to_html = codes "--to html"
+
+abbrev pub to_events : List ℕ
+to_events = codes "--to events"
+
+abbrev pub table : List ℕ
+table = codes "-e table"
+
+abbrev pub strikethrough : List ℕ
+strikethrough = codes "-e strikethrough"
+
+abbrev pub tasklist : List ℕ
+tasklist = codes "-e tasklist"
+
+abbrev pub wikilinks : List ℕ
+wikilinks = codes "-e wikilinks"
+
+abbrev pub gfm : List ℕ
+gfm = codes "--gfm"
+
+abbrev pub own_options : List (List ℕ)
+own_options = safe ∷ to_html ∷ to_events ∷ table ∷ strikethrough ∷ tasklist ∷ wikilinks ∷ gfm ∷ []
+
+-- ---- what they ask for
+
+-- an extension of GitHub Flavored Markdown is on where its option asks for it, or `--gfm`
+abbrev pub is_on : List ℕ → List (Bor (List ℕ)) → Bool
+is_on option words = asks gfm words || asks option words
+
+abbrev pub inlines_of : List (Bor (List ℕ)) → InlineExtensions
+inlines_of words = record { strikethrough = is_on strikethrough words; wikilinks = asks wikilinks words }
+
+abbrev pub setting_of : List (Bor (List ℕ)) → PageSetting
+setting_of words = record { tables = is_on table words; tasks = is_on tasklist words; inlines = inlines_of words }
+
+abbrev pub form_of : List (Bor (List ℕ)) → Form
+form_of words = if asks to_events words then Events else Html
+
+abbrev pub asked_of : List (Bor (List ℕ)) → Asked
+asked_of words = record { form = form_of words; safe = asks safe words; setting = setting_of words }

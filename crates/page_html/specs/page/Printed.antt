@@ -1,0 +1,38 @@
+-- What the program prints of a page.
+use Rattle.std.specs.Prelude.{ℕ, Bool, true, false, ◌≡◌, ◌⊎◌, List, [], ◌∷◌, ◌++◌, codes, Option}
+use Rattle.std.specs.Io.KnownBytes.{Appends}
+use Rattle.std.specs.Str.{IsUtf8}
+use Rattle.markdown_html.specs.PageHtml.{IsHtmlOf}
+use Rattle.markdown_html.specs.SafeSetting.{safe_setting}
+use Rattle.markdown_html.specs.Settings.{Setting, plain_setting}
+use Rattle.page_events.specs.page.Printed as EventLines
+use Rattle.page_html.specs.declared.asked.Asked.{Asked}
+use Rattle.page_html.specs.declared.asked.Form.{Form}
+use Rattle.page_html.specs.declared.asked.Form.TheVariants.{Html, Events}
+
+-- the schemes of the addresses to which links and images of safe HTML may lead
+abbrev pub schemes : List (List ℕ)
+schemes = codes "http" ∷ codes "https" ∷ codes "mailto" ∷ codes "tel" ∷ []
+
+-- with what HTML is written, safe or as the examples of CommonMark have it
+abbrev pub html_setting : Bool → Setting
+html_setting true = safe_setting schemes
+html_setting false = plain_setting
+
+-- The text is the HTML of the page.
+pub record IsPageHtml (asked : Asked) (page text : List ℕ) : Type 0 where
+  pub is_text : IsUtf8 page
+  pub is_html : IsHtmlOf page asked.setting (html_setting asked.safe) text
+
+-- The text is what is printed of the page in this form. Of one that is not UTF-8 it is a line that says so.
+abbrev pub IsPrintedAs : Form → Asked → List ℕ → List ℕ → Type 0
+IsPrintedAs Html asked page text = IsPageHtml asked page text ⊎ ((¬ IsUtf8 page) × (text ≡ EventLines.not_text))
+IsPrintedAs Events asked page text = EventLines.IsPrinted asked.setting page text
+
+-- the same in the form that is asked for
+abbrev pub IsPrinted : Asked → List ℕ → List ℕ → Type 0
+IsPrinted asked page text = IsPrintedAs asked.form asked page text
+
+-- known bytes grow by the title, which is empty, and by what is printed of the page
+abbrev pub IsPrintedTo : Asked → List ℕ → List ℕ → Option (List ℕ) → Option (List ℕ) → Type 0
+IsPrintedTo asked title page old new = (text : List ℕ) × IsPrinted asked page text × Appends old new (title ++ text)

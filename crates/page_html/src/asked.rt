@@ -1,0 +1,63 @@
+//! What is printed of a page, as the words of the command line ask for it.
+ghost use Rattle.std.specs.Prelude.{◌≡◌};
+ghost use Rattle.page_html.specs.asked.Asked.{asked_of, form_of, setting_of};
+
+use markdown_events::event_reader::PageSetting;
+use markdown_inlines::extensions::InlineExtensions;
+use page_programs::words::has_option;
+
+/// What is printed of a page.
+#[derive(Clone, Copy)]
+pub enum Form {
+    /// Its HTML.
+    Html,
+    /// Its events, as `cmark_events` prints them.
+    Events,
+}
+
+/// What is printed, and with what a page is read.
+#[derive(Clone, Copy)]
+pub struct Asked {
+    /// What is printed of the page.
+    pub form: Form,
+    /// Whether its HTML is that of `safe_setting` of `markdown_html`, with http, https, mailto and tel.
+    pub safe: bool,
+    /// With what it is read.
+    pub setting: PageSetting,
+}
+
+/// What the words ask for.
+pub(crate) fn asked_of(words: &[&str]) -> Asked
+    ensures { result ≡ asked_of words.now }
+{
+    Asked {
+        form: form_of(words),
+        safe: has_option(words, "--safe"),
+        setting: setting_of(words),
+    }
+}
+
+// In which form a page is printed.
+fn form_of(words: &[&str]) -> Form
+    ensures { result ≡ form_of words.now }
+{
+    if has_option(words, "--to events") {
+        return Form::Events;
+    }
+    Form::Html
+}
+
+// The extensions.
+fn setting_of(words: &[&str]) -> PageSetting
+    ensures { result ≡ setting_of words.now }
+{
+    let gfm = has_option(words, "--gfm");
+    PageSetting {
+        tables: gfm || has_option(words, "-e table"),
+        tasks: gfm || has_option(words, "-e tasklist"),
+        inlines: InlineExtensions {
+            strikethrough: gfm || has_option(words, "-e strikethrough"),
+            wikilinks: has_option(words, "-e wikilinks"),
+        },
+    }
+}

@@ -1,0 +1,9 @@
+//! What `cmark_html` prints: the HTML of pages of Markdown.
+#![tactic(auto)]
+
+pub mod asked;
+pub mod help;
+pub mod page;
+pub mod program;
+mod settings;
+pub mod words;

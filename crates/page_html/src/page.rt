@@ -1,0 +1,89 @@
+//! What is printed of a page.
+ghost use Rattle.std.specs.Prelude.{◌≡◌, IfOk, string_bytes};
+ghost use Rattle.markdown_html.specs.PageHtml.{IsHtmlOf};
+ghost use Rattle.markdown_html.specs.SafeSetting.{safe_setting};
+ghost use Rattle.markdown_html.specs.Settings.{plain_setting, seen_setting};
+ghost use Rattle.page_events.specs.page.Printed.{not_text};
+ghost use Rattle.page_html.specs.declared.asked.Form.TheVariants.{Html};
+ghost use Rattle.page_html.specs.page.Printed.{IsPrinted, IsPrintedAs, html_setting, schemes};
+
+use crate::asked::{Asked, Form};
+use crate::settings::{options_of, plain};
+use markdown_events::event_reader::{NewError, PageSetting};
+use markdown_html::page::html_of_page_ext;
+use markdown_html::schemes::safe_setting;
+use markdown_html::setting::{AllowedAddresses, HtmlSetting};
+use page_events::page::lines_of_page;
+use std::alloc::{AllocError, Global};
+use std::str::from_utf8;
+
+/// What is printed of a page: its HTML, or its events, as `HELP` has it; or one line, that it is not
+/// UTF-8.
+///
+/// # Errors
+///
+/// `AllocError` where memory is refused.
+pub fn output_of_page(alloc: Global, page: &[u8], asked: Asked) -> Result<String, AllocError>
+    ensures { IfOk result (λ text. IsPrinted asked page.now (string_bytes text)) }
+{
+    match asked.form {
+        Form::Html => html_of_bytes(alloc, page, asked),
+        Form::Events => lines_of_page(alloc, page, asked.setting),
+    }
+}
+
+// The HTML of a page.
+fn html_of_bytes(alloc: Global, page: &[u8], asked: Asked) -> Result<String, AllocError>
+    ensures { IfOk result (λ text. IsPrintedAs Html asked page.now (string_bytes text)) }
+{
+    match from_utf8(page) {
+        Ok(text) => html_of_text(alloc, text, asked),
+        Err(_) => line_of_none(alloc),
+    }
+}
+
+// The line of a page that is not UTF-8.
+fn line_of_none(alloc: Global) -> Result<String, AllocError>
+    ensures { IfOk result (λ text. string_bytes text ≡ not_text) }
+{
+    let mut text = String::new(alloc);
+    text.push_str("not UTF-8\n")?;
+    Ok(text)
+}
+
+// The HTML of a page that is text, safe where that is asked for.
+fn html_of_text(alloc: Global, page: &str, asked: Asked) -> Result<String, AllocError>
+    ensures { IfOk result (λ html.
+        IsHtmlOf page.now asked.setting (html_setting asked.safe) (string_bytes html)) }
+{
+    if asked.safe {
+        return safe_html(alloc, page, asked.setting);
+    }
+    html_with(alloc, page, asked.setting, &plain())
+}
+
+// The HTML of a page by people who are not trusted.
+fn safe_html(alloc: Global, page: &str, setting: PageSetting) -> Result<String, AllocError>
+    ensures { IfOk result (λ html.
+        IsHtmlOf page.now setting (safe_setting schemes) (string_bytes html)) }
+{
+    let safe = safe_setting(&["http", "https", "mailto", "tel"]);
+    html_with(alloc, page, setting, &safe)
+}
+
+// The HTML of a page that is read and written in these ways.
+fn html_with<A: AllowedAddresses>(
+    alloc: Global,
+    page: &str,
+    setting: PageSetting,
+    html: &HtmlSetting<A>,
+) -> Result<String, AllocError>
+    ensures { IfOk result (λ text.
+        IsHtmlOf page.now setting (seen_setting A.allows html.now) (string_bytes text)) }
+{
+    match html_of_page_ext(alloc, page, options_of(setting), html) {
+        Ok(text) => Ok(text),
+        Err(NewError::Refused(refused)) => Err(refused),
+        Err(NewError::NotBuilt(_)) => unreachable!(),
+    }
+}

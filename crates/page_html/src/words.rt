@@ -1,0 +1,75 @@
+//! The words of the command line, some of which take the word after them.
+ghost use Rattle.std.specs.Prelude.{◌≡◌, ◌<◌, ◌≤◌, ◌++◌, IfOk, OnOk, codes, drop, length, map, string_bytes};
+ghost use Rattle.page_html.specs.words.Values.{joined, takes_value};
+
+use std::alloc::{AllocError, Global};
+
+/// The words, where up to `--` each option that takes a value, `-e` or `--to`, is one word with it:
+/// of `-e` and `table` becomes `-e table`. This is what `run_program` takes.
+///
+/// # Errors
+///
+/// `AllocError` where memory is refused.
+pub fn join_values(alloc: Global, words: &[String]) -> Result<Vec<String>, AllocError>
+    ensures { IfOk result (λ made.
+        map string_bytes made.items ≡ joined (map string_bytes words.now)) }
+{
+    let mut made = Vec::new(alloc);
+    let mut at = 0;
+    while at < words.len() {
+        at += push_next(alloc, &mut made, &words[at..])?;
+    }
+    Ok(made)
+}
+
+// Adds the next of these words, with its value if it takes one; from `--` on, all of them. Answers
+// how many they were.
+fn push_next(alloc: Global, made: &mut Vec<String>, words: &[String]) -> Result<usize, AllocError>
+    requires { 0 < length words.now }
+    ensures taken { IfOk result (λ taken. (0 < taken) × (taken ≤ length words.now)) }
+    ensures made { IfOk result (λ taken.
+        map string_bytes made.new.items ++ joined (map string_bytes (drop taken words.now))
+        ≡ map string_bytes made.old.items ++ joined (map string_bytes words.now)) }
+{
+    let word = words[0].as_str();
+    if word == "--" {
+        push_all(made, words)?;
+        return Ok(words.len());
+    }
+    if words.len() > 1 && takes_value(word) {
+        made.push(with_value(alloc, word, words[1].as_str())?)?;
+        return Ok(2);
+    }
+    made.push(words[0].clone()?)?;
+    Ok(1)
+}
+
+// Adds all of these words.
+fn push_all(made: &mut Vec<String>, words: &[String]) -> Result<(), AllocError>
+    ensures { OnOk result (map string_bytes made.new.items
+        ≡ map string_bytes made.old.items ++ map string_bytes words.now) }
+{
+    for word in words {
+        made.push(word.clone()?)?;
+    }
+    Ok(())
+}
+
+// An option and its value in one word.
+fn with_value(alloc: Global, option: &str, value: &str) -> Result<String, AllocError>
+    ensures { IfOk result (λ word.
+        string_bytes word ≡ option.now ++ (codes " " ++ value.now)) }
+{
+    let mut word = String::new(alloc);
+    word.push_str(option)?;
+    word.push_str(" ")?;
+    word.push_str(value)?;
+    Ok(word)
+}
+
+// Whether an option takes the word after it.
+fn takes_value(word: &str) -> bool
+    ensures { result ≡ takes_value word.now }
+{
+    word == "-e" || word == "--to"
+}

@@ -1,0 +1,2 @@
+/* Stands for cmark_html in the tests of tests/faults/run. */
+#include "cmark_blocks.c"

@@ -1,0 +1,2 @@
+"""What the stub of cmark_html is run on: what that of cmark_blocks is."""
+from pages import *
