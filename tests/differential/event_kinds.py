@@ -56,6 +56,14 @@ class Parting(namedtuple("Parting", "page options pairs at")):
     def their(self):
         return self.pairs[self.at].their
 
+    def outermost(self):
+        """Where the line begins in which our outermost block does that holds the place."""
+        depth, start = 0, 0
+        for event in (our for our, _ in self.pairs[: self.at + 1] if our):
+            start = event.start if depth == 0 else start
+            depth += event.words.startswith("start ") - event.words.startswith("end ")
+        return self.page.rfind(b"\n", 0, start) + 1
+
     def are(self, words):
         """Whether both are events of these words."""
         return self.pairs[self.at].of(words)
@@ -169,8 +177,24 @@ def has_marker_below(it):
 
 def has_block_in_task(it):
     """That a block begins after the marker of a task for pulldown-cmark, or that the marker begins a heading or code."""
-    begins = it.their and it.their.words.startswith("start ") or it.our and it.our.words.startswith(("start heading", "start code block"))
+    theirs = [pair.their for pair in it.pairs[it.at : it.at + 2] if pair.their]
+    after = next((event.words for event in theirs if event.words not in TASKS), "")
+    begins = after.startswith("start ") or it.our and it.our.words.startswith(("start heading", "start code block"))
     return task_at(it) is not None and bool(begins)
+
+
+def has_comment(it):
+    """That such a comment stands in these lines, or begins in them and is HTML of ours."""
+    near = [event.texts[0] for event, _ in it.pairs[it.at : it.at + 2] if event and event.words == "html"]
+    return any(COMMENT.search(text) for text in [it.around(), *near])
+
+
+def has_block_in_rows(it):
+    """That another block of ours begins after the rows of a table, where a row stands for pulldown-cmark."""
+    if not (it.our and it.their and it.our.words == "end table" and it.their.words == "start table row"):
+        return False
+    after = next((event for event, _ in it.pairs[it.at + 1 :] if event and event.words.startswith("start ")), None)
+    return after is not None and it.our.end <= after.start < it.their.end
 
 
 def has_quote(it):
@@ -225,7 +249,7 @@ EVENT_KINDS = {
     "return": Kind("have a CR without a LF, which ends no line for pulldown-cmark", "2.1", has_return),
     "header": Kind("have a table whose header row has no pipe, which is none for pulldown-cmark", "GFM 4.10", has_bare_header),
     "columns": Kind("have HTML with a tab of which some columns are text", "2.2", has_columns),
-    "comment": Kind("have a comment with two hyphens in it, or that begins with > or ->", "6.6", has(COMMENT)),
+    "comment": Kind("have a comment with two hyphens in it, or that begins with > or ->", "6.6", has_comment),
     "declaration": Kind("have a declaration with a small letter, or a letter alone", "6.6", has(DECLARATION)),
     "symbol": Kind("have a symbol that is not ASCII beside delimiters", "6.2", lambda it: has_symbol(it.around())),
     "ends": Kind("have the marker of a task that ends its line, which is none for pulldown-cmark or followed by a new paragraph", "GFM 5.3", has_marker_alone),
@@ -234,6 +258,7 @@ EVENT_KINDS = {
     "alone": Kind("have for cmark, or with extensions for cmark-gfm, the events that they have here", "pulldown-cmark 0.9.2 alone", is_alone),
     "there": Kind("have them up to where they part from pulldown-cmark", "pulldown-cmark 0.9.2 alone", is_alone_there),
     "quote": Kind("have a block quote that interrupts a paragraph, which goes on for pulldown-cmark", "5.1", has_quote),
+    "rows": Kind("have a block that ends a table, in which it is a row for pulldown-cmark", "GFM 4.10", has_block_in_rows),
 }
 
 

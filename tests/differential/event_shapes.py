@@ -57,7 +57,10 @@ def our_said(event):
 
 
 def our_shape(events):
-    return joined(map(our_said, events))
+    """What the events say, without texts of tabs alone before a line ending, which cmark leaves out."""
+    said = joined(map(our_said, events))
+    is_left_out = lambda it, after: it[0] == "text" and not it[1].strip(b" \t") and after in (("soft break",), ("hard break",))
+    return [it for it, after in zip(said, [*said[1:], None]) if not is_left_out(it, after)]
 
 
 def their_details(element, name):

@@ -130,9 +130,9 @@ RECORDED = [
 2 10 start paragraph
 2 9 inline html "<b\\u000ac>"
 2 10 end paragraph
-12 16 start html block
+11 16 start html block
 11 16 html "  <?d\\u000a"
-12 16 end html block
+11 16 end html block
 0 16 end block quote
 """, b"""\
 0 16 start block quote
@@ -517,9 +517,9 @@ RECORDED = [
 24 27 end code block
 """, None, None),
     Recorded(['agree', 'text indent', 'end indent'], b'  <p\n', False, b"""\
-2 5 start html block
+0 5 start html block
 0 5 html "  <p\\u000a"
-2 5 end html block
+0 5 end html block
 """, b"""\
 2 5 html "<p\\u000a"
 """, None, None),
@@ -545,9 +545,9 @@ RECORDED = [
 0 12 end block quote
 15 20 start list
 15 20 start item
-18 20 start code block
+17 20 start code block
 17 20 text " d\\u000a"
-18 20 end code block
+17 20 end code block
 15 20 end item
 15 20 end list
 """, b"""\
@@ -736,6 +736,246 @@ RECORDED = [
 0 10 end item
 0 10 end list
 """, None, None),
+    Recorded(['comment'], b'a<!--b\n--c-->\n', False, b"""\
+0 14 start paragraph
+0 1 text "a"
+1 13 inline html "<!--b\\u000a--c-->"
+0 14 end paragraph
+""", b"""\
+0 14 start paragraph
+0 1 text "a"
+1 2 text "<"
+2 6 text "!--b"
+6 7 soft break
+7 13 text "--c-->"
+0 14 end paragraph
+""", None, None),
+    Recorded(['inside'], b'- [ ] # a\n\n- b\n', True, b"""\
+0 15 start list
+0 10 start item
+2 10 start paragraph
+2 5 unchecked task
+6 9 text "# a"
+2 10 end paragraph
+0 10 end item
+11 15 start item
+13 15 start paragraph
+13 14 text "b"
+13 15 end paragraph
+11 15 end item
+0 15 end list
+""", b"""\
+0 15 start list
+0 11 start item
+2 5 unchecked task
+6 10 start heading 1
+8 9 text "a"
+6 10 end heading 1
+0 11 end item
+11 15 start item
+13 15 start paragraph
+13 14 text "b"
+13 15 end paragraph
+11 15 end item
+0 15 end list
+""", None, None),
+    Recorded(['rows'], b'a|b\n-:-|-\n10. c|d\n', True, b"""\
+0 10 start table right none
+0 3 start table head
+0 1 start table cell
+0 1 text "a"
+0 1 end table cell
+2 3 start table cell
+2 3 text "b"
+2 3 end table cell
+0 3 end table head
+0 10 end table
+10 18 start list 10
+10 18 start item
+14 17 text "c|d"
+10 18 end item
+10 18 end list
+""", b"""\
+0 18 start table right none
+0 4 start table head
+0 1 start table cell
+0 1 text "a"
+0 1 end table cell
+2 3 start table cell
+2 3 text "b"
+2 3 end table cell
+0 4 end table head
+10 18 start table row
+10 15 start table cell
+10 15 text "10. c"
+10 15 end table cell
+16 17 start table cell
+16 17 text "d"
+16 17 end table cell
+10 18 end table row
+0 18 end table
+""", b"""\
+<document sourcepos="1:1-3:7" xmlns="http://commonmark.org/xml/1.0">
+  <paragraph sourcepos="1:1-3:7">
+    <text sourcepos="1:1-1:3" xml:space="preserve">a|b</text>
+    <softbreak />
+    <text sourcepos="2:1-2:5" xml:space="preserve">-:-|-</text>
+    <softbreak />
+    <text sourcepos="3:1-3:7" xml:space="preserve">10. c|d</text>
+  </paragraph>
+</document>
+""", b"""\
+<document sourcepos="1:1-3:7" xmlns="http://commonmark.org/xml/1.0">
+  <paragraph sourcepos="1:1-3:7">
+    <text sourcepos="1:1-1:3" xml:space="preserve">a|b</text>
+    <softbreak />
+    <text sourcepos="2:1-2:5" xml:space="preserve">-:-|-</text>
+    <softbreak />
+    <text sourcepos="3:1-3:7" xml:space="preserve">10. c|d</text>
+  </paragraph>
+</document>
+"""),
+    Recorded(['alone'], b'> |c|\n>  |-|\n', True, b"""\
+0 13 start block quote
+2 13 start table none
+2 5 start table head
+3 4 start table cell
+3 4 text "c"
+3 4 end table cell
+2 5 end table head
+2 13 end table
+0 13 end block quote
+""", b"""\
+0 13 start block quote
+2 13 start paragraph
+2 5 text "|c|"
+5 6 soft break
+9 12 text "|-|"
+2 13 end paragraph
+0 13 end block quote
+""", b"""\
+<document sourcepos="1:1-2:6" xmlns="http://commonmark.org/xml/1.0">
+  <block_quote sourcepos="1:1-2:6">
+    <paragraph sourcepos="1:3-2:6">
+      <text sourcepos="1:3-1:5" xml:space="preserve">|c|</text>
+      <softbreak />
+      <text sourcepos="2:3-2:5" xml:space="preserve">|-|</text>
+    </paragraph>
+  </block_quote>
+</document>
+""", b"""\
+<document sourcepos="1:1-2:6" xmlns="http://commonmark.org/xml/1.0">
+  <block_quote sourcepos="1:1-2:6">
+    <table sourcepos="1:3-2:6">
+      <table_header sourcepos="1:3-1:5">
+        <table_cell sourcepos="1:4-1:4">
+          <text sourcepos="1:4-1:4" xml:space="preserve">c</text>
+        </table_cell>
+      </table_header>
+    </table>
+  </block_quote>
+</document>
+"""),
+    Recorded(['alone'], b'a\n|b|\n|-|\n\n> |c|\n>  |-|\n', True, b"""\
+0 10 start paragraph
+0 1 text "a"
+1 2 soft break
+2 5 text "|b|"
+5 6 soft break
+6 9 text "|-|"
+0 10 end paragraph
+11 24 start block quote
+13 24 start table none
+13 16 start table head
+14 15 start table cell
+14 15 text "c"
+14 15 end table cell
+13 16 end table head
+13 24 end table
+11 24 end block quote
+""", b"""\
+0 10 start paragraph
+0 1 text "a"
+1 2 soft break
+2 5 text "|b|"
+5 6 soft break
+6 9 text "|-|"
+0 10 end paragraph
+11 24 start block quote
+13 24 start paragraph
+13 16 text "|c|"
+16 17 soft break
+20 23 text "|-|"
+13 24 end paragraph
+11 24 end block quote
+""", b"""\
+<document sourcepos="1:1-6:6" xmlns="http://commonmark.org/xml/1.0">
+  <paragraph sourcepos="1:1-3:3">
+    <text sourcepos="1:1-1:1" xml:space="preserve">a</text>
+    <softbreak />
+    <text sourcepos="2:1-2:3" xml:space="preserve">|b|</text>
+    <softbreak />
+    <text sourcepos="3:1-3:3" xml:space="preserve">|-|</text>
+  </paragraph>
+  <block_quote sourcepos="5:1-6:6">
+    <paragraph sourcepos="5:3-6:6">
+      <text sourcepos="5:3-5:5" xml:space="preserve">|c|</text>
+      <softbreak />
+      <text sourcepos="6:3-6:5" xml:space="preserve">|-|</text>
+    </paragraph>
+  </block_quote>
+</document>
+""", b"""\
+<document sourcepos="1:1-6:6" xmlns="http://commonmark.org/xml/1.0">
+  <paragraph>
+    <text xml:space="preserve">a</text>
+  </paragraph>
+  <table sourcepos="1:1-3:3">
+    <table_header sourcepos="1:1-1:5">
+      <table_cell sourcepos="1:4-1:4">
+        <text sourcepos="1:4-1:4" xml:space="preserve">b</text>
+      </table_cell>
+    </table_header>
+  </table>
+  <block_quote sourcepos="5:1-6:6">
+    <table sourcepos="5:3-6:6">
+      <table_header sourcepos="5:3-5:5">
+        <table_cell sourcepos="5:4-5:4">
+          <text sourcepos="5:4-5:4" xml:space="preserve">c</text>
+        </table_cell>
+      </table_header>
+    </table>
+  </block_quote>
+</document>
+"""),
+    Recorded(['alone'], b'<a:b>\t\n[e](\\\n\n', False, b"""\
+0 13 start paragraph
+0 6 text "<a:b>\\u0009"
+6 7 soft break
+7 8 text "["
+8 9 text "e"
+9 10 text "]"
+10 12 text "(\\u005c"
+0 13 end paragraph
+""", b"""\
+0 13 start paragraph
+0 1 text "<"
+1 6 text "a:b>\\u0009"
+6 7 soft break
+7 8 text "["
+8 9 text "e"
+9 10 text "]"
+10 11 text "("
+0 13 end paragraph
+""", b"""\
+<document sourcepos="1:1-3:0" xmlns="http://commonmark.org/xml/1.0">
+  <paragraph sourcepos="1:1-2:5">
+    <text sourcepos="1:1-1:6" xml:space="preserve">&lt;a:b&gt;</text>
+    <softbreak />
+    <text sourcepos="2:1-2:5" xml:space="preserve">[e](\\</text>
+  </paragraph>
+</document>
+""", None),
     Recorded(['bytes'], b'\xff\n', False, b"""\
 not UTF-8
 """, b"""\

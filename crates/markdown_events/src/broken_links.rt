@@ -1,7 +1,7 @@
 //! The events of a page whose labels lead where its caller says, where the page doesn't define them.
 ghost use Rattle.std.specs.Prelude.{◌≡◌, false, List, IfErr, IfOk};
 ghost use Rattle.std.specs.Iterator.{at_most};
-ghost use Rattle.markdown_events.specs.EventLaws.{AreBalanced};
+ghost use Rattle.markdown_events.specs.EventLaws.{AreBalanced, AreWithin};
 ghost use Rattle.markdown_events.specs.InlineEvents.{RangedEvent};
 ghost use Rattle.markdown_events.specs.Nesting.{AreNested, without_ranges};
 ghost use Rattle.markdown_events.specs.page.Given.{GivesWith};
@@ -59,6 +59,8 @@ impl<'a, B: Definitions<'a> + Drop> BrokenLinkParser<'a, B> {
         ensures nested { IfOk result (λ parser. (events : List RangedEvent)
             → GivesWith (B.targets broken) parser.events.left events
             → AreNested (without_ranges events)) }
+        ensures within { IfOk result (λ parser. (events : List RangedEvent)
+            → GivesWith (B.targets broken) parser.events.left events → AreWithin text.now events) }
         ensures definitions { IfOk result (λ parser.
             AreDefinitionsOf text.now (asked_by options) parser.events.left.known) }
         ensures broken { IfOk result (λ parser. parser.broken ≡ broken) }

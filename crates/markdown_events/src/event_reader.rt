@@ -132,6 +132,12 @@ impl<'a> EventReader<'a> {
             → AreAtBoundaries text.now events) }
         ensures definitions { IfOk result (λ reader.
             AreDefinitionsOf text.now commonmark reader.known) }
+        ensures broken { IfOk result (λ reader. (more : Targets) (events : List RangedEvent)
+            → GivesWith more reader events → ArePageEventsWith text.now commonmark more events) }
+        ensures broken_balanced { IfOk result (λ reader. (more : Targets) (events : List RangedEvent)
+            → GivesWith more reader events → AreBalanced events) }
+        ensures broken_within { IfOk result (λ reader. (more : Targets) (events : List RangedEvent)
+            → GivesWith more reader events → AreWithin text.now events) }
     {
         EventReader::with_setting(alloc, text, PageSetting::commonmark())
     }
@@ -159,6 +165,13 @@ impl<'a> EventReader<'a> {
             → AreAtBoundaries text.now events) }
         ensures definitions { IfOk result (λ reader.
             AreDefinitionsOf text.now (asked_by options) reader.known) }
+        ensures broken { IfOk result (λ reader. (more : Targets) (events : List RangedEvent)
+            → GivesWith more reader events
+            → ArePageEventsWith text.now (asked_by options) more events) }
+        ensures broken_balanced { IfOk result (λ reader. (more : Targets) (events : List RangedEvent)
+            → GivesWith more reader events → AreBalanced events) }
+        ensures broken_within { IfOk result (λ reader. (more : Targets) (events : List RangedEvent)
+            → GivesWith more reader events → AreWithin text.now events) }
         ensures built { IfOk result (λ _. not_built options ≡ 0) }
         ensures refused { IfErr result (Explains options) }
     {
@@ -193,6 +206,10 @@ impl<'a> EventReader<'a> {
             AreDefinitionsOf page.now setting reader.known) }
         ensures broken { IfOk result (λ reader. (more : Targets) (events : List RangedEvent)
             → GivesWith more reader events → ArePageEventsWith page.now setting more events) }
+        ensures broken_balanced { IfOk result (λ reader. (more : Targets) (events : List RangedEvent)
+            → GivesWith more reader events → AreBalanced events) }
+        ensures broken_within { IfOk result (λ reader. (more : Targets) (events : List RangedEvent)
+            → GivesWith more reader events → AreWithin page.now events) }
     {
         let asked = setting.blocks();
         let (mut blocks, definitions) = read_page(alloc, page, asked)?;

@@ -4,9 +4,10 @@ ghost use Rattle.std.specs.Iterator.{at_most};
 ghost use Rattle.markdown_events.specs.EventLaws.{AreAtBoundaries, AreBalanced, AreWithin};
 ghost use Rattle.markdown_events.specs.InlineEvents.{RangedEvent};
 ghost use Rattle.markdown_events.specs.Nesting.{AreNested, without_ranges};
-ghost use Rattle.markdown_events.specs.page.Given.{Gives};
+ghost use Rattle.markdown_events.specs.Targets.{Targets};
+ghost use Rattle.markdown_events.specs.page.Given.{Gives, GivesWith};
 ghost use Rattle.markdown_events.specs.page.Iterated.{GivesNext, GivesNextEvent, GivesNextEventWith, GivesNextWith, Iterated, items_left};
-ghost use Rattle.markdown_events.specs.page.PageEvents.{AreDefinitionsOf, ArePageEvents, commonmark};
+ghost use Rattle.markdown_events.specs.page.PageEvents.{AreDefinitionsOf, ArePageEvents, ArePageEventsWith, commonmark};
 ghost use Rattle.markdown_events.specs.page.Settings.{Explains, asked_by, not_built};
 
 use crate::definitions::{Definitions, NoBrokenLinks, PageDefinitions};
@@ -61,6 +62,8 @@ impl<'a> Parser<'a> {
             → Gives parser.left events → AreAtBoundaries text.now events) }
         ensures definitions { IfOk result (λ parser.
             AreDefinitionsOf text.now commonmark parser.left.known) }
+        ensures broken { IfOk result (λ parser. (more : Targets) (events : List RangedEvent)
+            → GivesWith more parser.left events → ArePageEventsWith text.now commonmark more events) }
         ensures goes { IfOk result (λ parser. parser.is_stopped ≡ false) }
     {
         Ok(Parser::of_reader(EventReader::new(alloc, text)?))
@@ -85,6 +88,9 @@ impl<'a> Parser<'a> {
             → Gives parser.left events → AreAtBoundaries text.now events) }
         ensures definitions { IfOk result (λ parser.
             AreDefinitionsOf text.now (asked_by options) parser.left.known) }
+        ensures broken { IfOk result (λ parser. (more : Targets) (events : List RangedEvent)
+            → GivesWith more parser.left events
+            → ArePageEventsWith text.now (asked_by options) more events) }
         ensures goes { IfOk result (λ parser. parser.is_stopped ≡ false) }
         ensures built { IfOk result (λ _. not_built options ≡ 0) }
         ensures refused { IfErr result (Explains options) }

@@ -1,19 +1,20 @@
 -- The ranges of the events of a page rise, and what an element holds lies within its range.
-use Rattle.std.proofs.Common.{ℕ, suc, ◌≤◌, ◌≡◌, ◌≢◌, Bool, List, [], ◌∷◌, ◌++◌, length, refl, arith}
+use Rattle.std.proofs.Common.{ℕ, suc, ◌≤◌, ◌≡◌, ◌≢◌, Bool, List, [], ◌∷◌, ◌++◌, None, length, refl, arith}
 use Rattle.markdown_blocks.specs.containers.Containers.{settled}
 use Rattle.markdown_blocks.specs.declared.blocks.BlockKind.{BlockKind}
 use Rattle.markdown_blocks.specs.declared.blocks.BlockKind.TheVariants.{Blank, Break, Heading, Setext, Indented, Fenced, Html, Paragraph, Definition, Table}
 use Rattle.markdown_blocks.specs.declared.containers.Container.{Container}
-use Rattle.markdown_blocks.specs.events.Events.{LeafBlock}
+use Rattle.markdown_blocks.specs.events.Events.{IsEventsOf, LeafBlock}
 use Rattle.markdown_blocks.specs.laws.Order.{ContentsStand, HoldSome, HoldsContent, HoldsText, NodesStand, content_from, passed_after}
 use Rattle.markdown_blocks.specs.link_definitions.LinkDefinitions.{first_of}
-use Rattle.markdown_blocks.specs.lists.Lists.{Nodes, nothing, leaf_then, container_then}
+use Rattle.markdown_blocks.specs.lists.Lists.{Nodes, nothing, leaf_then, container_then, flatten}
 use Rattle.markdown_blocks.proofs.ForCallers.{HasInlines, containers_hold_some, content_sizes, page_contents_stand, page_nodes_stand}
 use Rattle.markdown_events.specs.EventLaws.{AreWithin}
 use Rattle.markdown_events.specs.InlineEvents.{RangedEvent}
+use Rattle.markdown_events.specs.Targets.{Targets, or_else}
 use Rattle.markdown_events.specs.declared.event_reader.PageSetting.{PageSetting}
 use Rattle.markdown_events.specs.page.LeafEvents.{Place}
-use Rattle.markdown_events.specs.page.PageEvents.{ArePageEvents, block_setting, blocks_of}
+use Rattle.markdown_events.specs.page.PageEvents.{AreNodeEvents, ArePageEvents, ArePageEventsWith, block_setting, blocks_of, outermost}
 use Rattle.markdown_events.specs.page.Places.{lines_in_page}
 use Rattle.markdown_events.specs.page.Spans.{block_end}
 use Rattle.markdown_events.specs.page.TaskEvents.{BlockSetting}
@@ -91,13 +92,24 @@ module _ (page : List ℕ) (setting : BlockSetting) where
 
 -- ---- the page
 
--- Ranges rise, and what an element holds lies within its range.
-pub page_events_within : (page : List ℕ) (setting : PageSetting) (events : List RangedEvent) → ArePageEvents page setting events
-    → AreWithin page events
-page_events_within page setting events are =
-    let read_with = block_setting setting (λ label. first_of label are.named) in
-    let asked = blocks_of setting in
-    let found = page_nodes_stand asked page are.nodes are.are_blocks in
-    let stand = nodes_stand page read_with are.nodes [] 0 0 found.0 (containers_hold_some asked page are.nodes are.are_blocks)
-    (page_contents_stand asked page are.nodes are.are_blocks) in
-    page_events_rise page read_with are.nodes events stand (omega (arith, found.1)) are.are_events
+module _ (page : List ℕ) (setting : PageSetting) where
+  -- wherever labels lead
+  tree_within : (targets : Targets) (nodes : Nodes) (events : List RangedEvent) → IsEventsOf (blocks_of setting) page (flatten nodes)
+      → AreNodeEvents page (block_setting setting targets) outermost None None nodes events → AreWithin page events
+  tree_within targets nodes events are_blocks are_events =
+      let read_with = block_setting setting targets in
+      let asked = blocks_of setting in
+      let found = page_nodes_stand asked page nodes are_blocks in
+      let stand = nodes_stand page read_with nodes [] 0 0 found.0 (containers_hold_some asked page nodes are_blocks)
+      (page_contents_stand asked page nodes are_blocks) in
+      page_events_rise page read_with nodes events stand (omega (arith, found.1)) are_events
+
+  -- Ranges rise, and what an element holds lies within its range.
+  pub page_events_within : (events : List RangedEvent) → ArePageEvents page setting events → AreWithin page events
+  page_events_within events are = tree_within (λ label. first_of label are.named) are.nodes events are.are_blocks are.are_events
+
+  -- also where labels that the page does not define lead as these say
+  pub page_events_with_within : (more : Targets) (events : List RangedEvent) → ArePageEventsWith page setting more events
+      → AreWithin page events
+  page_events_with_within more events are =
+      tree_within (or_else (λ label. first_of label are.named) more) are.nodes events are.are_blocks are.are_events

@@ -1,16 +1,20 @@
 use Rattle.std.proofs.Common.{subst}
 use Rattle.markdown_events.specs.page.Given.{GivesWith, PageLeft}
-use Rattle.markdown_events.proofs.page.PageBalance.{page_events_with_balance, page_events_with_nest}
+use Rattle.markdown_events.proofs.page.PageBalance.{page_events_with_nest}
 use Rattle.markdown_events.proofs.broken_links.BrokenLinkParser.new.Goals as goal
 
 pub returns-in-Ok-clause-balanced : goal.returns-in-Ok-clause-balanced
 returns-in-Ok-clause-balanced g c = λ events given.
     let targets = g.B.Definitions.targets c.args.broken in
-    page_events_with_balance _ _ targets events (c.in-Ok.ensures.broken targets events
-    (subst (λ (left : PageLeft). GivesWith targets left events) c.of_reader.ensures.left given))
+    c.in-Ok.ensures.broken_balanced targets events (subst (λ (left : PageLeft). GivesWith targets left events) c.of_reader.ensures.left given)
 
 pub returns-in-Ok-clause-nested : goal.returns-in-Ok-clause-nested
 returns-in-Ok-clause-nested g c = λ events given.
     let targets = g.B.Definitions.targets c.args.broken in
     page_events_with_nest _ _ targets events (c.in-Ok.ensures.broken targets events
     (subst (λ (left : PageLeft). GivesWith targets left events) c.of_reader.ensures.left given))
+
+pub returns-in-Ok-clause-within : goal.returns-in-Ok-clause-within
+returns-in-Ok-clause-within g c = λ events given.
+    let targets = g.B.Definitions.targets c.args.broken in
+    c.in-Ok.ensures.broken_within targets events (subst (λ (left : PageLeft). GivesWith targets left events) c.of_reader.ensures.left given)

@@ -4,9 +4,9 @@ use Rattle.markdown_events.specs.InlineEvents.{seen_event}
 use Rattle.markdown_events.specs.Targets.{nowhere}
 use Rattle.markdown_events.specs.page.OpenElements.{none_open}
 use Rattle.markdown_events.specs.page.PageEvents.{ArePageEvents, ArePageEventsWith}
-use Rattle.markdown_events.proofs.page.PageBalance.{page_events_balance, page_events_nest}
+use Rattle.markdown_events.proofs.page.PageBalance.{page_events_balance, page_events_nest, page_events_with_balance}
 use Rattle.markdown_events.proofs.page.PageCuts.{page_events_at_boundaries}
-use Rattle.markdown_events.proofs.page.PageRanges.{page_events_within}
+use Rattle.markdown_events.proofs.page.PageRanges.{page_events_with_within, page_events_within}
 use Rattle.markdown_events.proofs.page.ParserLemmas.{given_with, page_events, page_events_with, reverse_twice}
 use Rattle.markdown_events.proofs.event_reader.EventReader.with_setting.Goals as goal
 
@@ -68,3 +68,11 @@ returns-clause-broken c = λ more events g.
     subst (λ es. ArePageEventsWith page setting more es) (sym (g.given ∙ ap (λ es. es ++ g.rest) none))
     (page_events_with page setting more (map seen_block all) c.in_ok-blocks.definitions (reverse c.in_ok-spans.spans.items) g.rest of_page
     first.0 first.1 first.2 (rw c.deref.ensures.value at c.in_ok-spans.ensures) later)
+
+pub returns-clause-broken_balanced : goal.returns-clause-broken_balanced
+returns-clause-broken_balanced c = λ more events g.
+    page_events_with_balance c.args.page.now c.args.setting more events (returns-clause-broken c more events g)
+
+pub returns-clause-broken_within : goal.returns-clause-broken_within
+returns-clause-broken_within c = λ more events g.
+    page_events_with_within c.args.page.now c.args.setting more events (returns-clause-broken c more events g)
