@@ -172,7 +172,6 @@ KINDS = {
     "autolink": Kind("have a reference in an autolink, which cmark resolves", "2.5, 6.5", has(AUTOLINK)),
     "info": Kind("have a reference to white space in an info string, which for cmark is part of the first word", "4.5", has(INFO)),
     "parentheses": Kind("have parentheses that are not balanced in a destination, which cmark-gfm takes", "6.3", has_parentheses),
-    "null": Kind("have U+0000, which is written as it is", "2.3, which asks for U+FFFD", has(rb"\0")),
     "declaration": Kind("have a declaration with a small letter, or <![CDATA[ in small letters", "4.6, 6.6", has_declaration),
     "names": Kind("have search, source, or a closed name of condition 1", "4.6", has(OTHER_NAMES)),
     "space": Kind("have a form feed or a vertical tab, which is white space here", "2.1", has(rb"[\f\v]")),

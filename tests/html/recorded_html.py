@@ -46,7 +46,6 @@ RECORDED = [
         b'<ul>\n<li><input type="checkbox" checked="" disabled="" /> a\nb</li>\n</ul>\n<i>\n'),
     Row("begin", False, b"-\n   \n   a\n", b"<ul>\n<li></li>\n</ul>\n<p>a</p>\n", b"<ul>\n<li>a</li>\n</ul>\n"),
     Row("title", False, b"[a]: b\n'\\'\n", b"<p>''</p>\n", b""),
-    Row("null", False, b"a\x00\n", b"<p>a\x00</p>\n", b"<p>a\xef\xbf\xbd</p>\n"),
     Row("escape", False, b"[a](b\\&amp;c)\n", b'<p><a href="b&amp;amp;c">a</a></p>\n', b'<p><a href="b&amp;c">a</a></p>\n'),
     Row("table", True, b"a\nb|c\n-|-\n",
         b"<p>a\nb|c\n-|-</p>\n",

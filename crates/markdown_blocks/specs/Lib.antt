@@ -5,6 +5,7 @@ pub mod content
 pub mod definitions
 pub mod events
 pub mod first_blocks
+pub mod foldings
 pub mod info
 pub mod laws
 pub mod link_definitions

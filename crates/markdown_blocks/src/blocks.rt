@@ -284,6 +284,7 @@ fn scan_lines<'a>(
 
 // What the line is to the paragraph that is taken. Of that the first line is taken by `first`, and has
 // this text after its containers.
+#[inline(always)]
 fn next_line(
     alloc: Global,
     text: &[u8],

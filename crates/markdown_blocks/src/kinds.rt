@@ -12,6 +12,7 @@ use markdown_scanners_tree::scanners::{
 
 /// The kind of the block that begins with this rest of a line, where it goes on with none and begins
 /// no container.
+#[inline(always)]
 pub(crate) fn kind_of(rest: &Rest) -> BlockKind
     ensures { Begins result rest.now }
 {

@@ -11,6 +11,7 @@ pub mod content;
 pub mod definitions;
 pub mod events;
 pub mod first_blocks;
+mod foldings;
 pub mod footnotes;
 pub mod info;
 mod kinds;

@@ -39,6 +39,7 @@ impl<'a> Model for Line<'a> {
 
 impl<'a> Line<'a> {
     /// The line where these containers are open.
+    #[inline(always)]
     pub(crate) fn new(bytes: &'a [u8], outer: &'a Outer<'a>) -> Line<'a>
         ensures { result ≡ record { outer = outer.now; bytes = bytes.now } }
     {

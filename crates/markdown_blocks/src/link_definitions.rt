@@ -18,6 +18,7 @@ ghost use Rattle.markdown_blocks.specs.link_definitions.Listed.{AreListed};
 
 use crate::containers::BlockExtensions;
 use crate::definitions::scan_definition;
+use crate::foldings::Folding;
 use crate::walk::Walk;
 use caseless::default_case_fold_str;
 use markdown_scanners_tree::linklabel::scan_link_label_bytes;
@@ -100,11 +101,10 @@ fn lent<'a>(bytes: &CowSlice<'a, u8>) -> Option<&'a [u8]>
 #[derive(Drop)]
 pub struct LinkDefinitions<'a> {
     alloc: Global,
-    by_key: BTreeMap<String, LinkDefinition<'a>>,
+    by_key: BTreeMap<Folding, LinkDefinition<'a>>,
 }
 
 impl<'a> Model for LinkDefinitions<'a> {
-    ghost use Rattle.std.specs.Prelude.{map, string_bytes};
     ghost use Rattle.std.specs.List.{All};
     ghost use Rattle.std.specs.Map.{keys_of};
     ghost use Rattle.markdown_blocks.specs.link_definitions.LinkDefinitions.{Known};
@@ -112,9 +112,9 @@ impl<'a> Model for LinkDefinitions<'a> {
 
     ghost Value = { Known };
 
-    ghost view = { λ d. map (λ e. (string_bytes e.0, e.1)) d.by_key.entries };
+    ghost view = { λ d. d.by_key.entries };
 
-    ghost invariant = { λ d. All (λ key. IsFolding (string_bytes key)) (keys_of d.by_key.entries) };
+    ghost invariant = { λ d. All IsFolding (keys_of d.by_key.entries) };
 }
 
 impl<'a> LinkDefinitions<'a> {
@@ -169,7 +169,7 @@ impl<'a> LinkDefinitions<'a> {
             return Ok(None);
         }
         let key = key_of(self.alloc, label)?;
-        Ok(self.by_key.get(key.as_str()))
+        Ok(self.by_key.get(&key))
     }
 
     /// The definitions that are known, each with the case folding of its label, in the order of these
@@ -193,7 +193,7 @@ impl<'a> LinkDefinitions<'a> {
         ensures refused { IfErr result (λ _. self.new ≡ self.old) }
     {
         let key = key_of(self.alloc, label)?;
-        if self.by_key.contains_key(key.as_str()) {
+        if self.by_key.contains_key(&key) {
             return Ok(false);
         }
         self.by_key.insert(key, definition)?;
@@ -255,16 +255,15 @@ impl<'a> LinkDefinitions<'a> {
 /// Definitions that are known, one after another, each with the case folding of its label.
 #[derive(Drop)]
 pub struct KnownDefinitions<'d, 'a> {
-    entries: btree_map::Iter<'d, String, LinkDefinition<'a>>,
+    entries: btree_map::Iter<'d, Folding, LinkDefinition<'a>>,
 }
 
 impl<'d, 'a> Model for KnownDefinitions<'d, 'a> {
-    ghost use Rattle.std.specs.Prelude.{map, string_bytes};
     ghost use Rattle.markdown_blocks.specs.link_definitions.LinkDefinitions.{Known};
 
     ghost Value = { Known };
 
-    ghost view = { λ d. map (λ e. (string_bytes e.0, e.1)) d.entries };
+    ghost view = { λ d. d.entries };
 }
 
 impl<'d, 'a> Iterator for KnownDefinitions<'d, 'a> {
@@ -282,8 +281,15 @@ impl<'d, 'a> Iterator for KnownDefinitions<'d, 'a> {
     }
 }
 
+// The key of a label.
+fn key_of(alloc: Global, label: &str) -> Result<Folding, AllocError>
+    ensures { IfOk result (λ key. key ≡ key_bytes label.now) }
+{
+    Ok(Folding::new(case_folding(alloc, label)?))
+}
+
 // The case folding of a label.
-fn key_of(alloc: Global, label: &str) -> Result<String, AllocError>
+fn case_folding(alloc: Global, label: &str) -> Result<String, AllocError>
     ensures { IfOk result (λ key. string_bytes key ≡ key_bytes label.now) }
 {
     // Most labels are ASCII, and are folded where they are copied to.

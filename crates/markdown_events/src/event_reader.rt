@@ -327,6 +327,9 @@ impl<'a> EventReader<'a> {
     }
 
     // Reads the next block event, so that its events are ready.
+    //
+    // It is not inlined, so that an event that is ready costs no more than to be moved.
+    #[inline(never)]
     fn read_block<B: Definitions<'a>>(&mut self, broken: &B) -> Result<(), AllocError>
         requires waiting { self.old.ready ≡ [] }
         ensures same { OnOk result ((events : List RangedEvent)
@@ -484,11 +487,12 @@ impl<'a> EventReader<'a> {
         ensures none { IfNone result (self.old.ready ≡ []) }
         ensures unchanged { IfNone result (self.new ≡ self.old) }
     {
-        if let Some(edge) = self.first.take() {
-            return Some(event_of(edge));
+        // Most events are those of a leaf block.
+        if self.first.is_some() {
+            return self.first.take().map(|edge| event_of(edge));
         }
-        if let Some(edge) = self.second.take() {
-            return Some(event_of(edge));
+        if self.second.is_some() {
+            return self.second.take().map(|edge| event_of(edge));
         }
         self.leaf.next()
     }

@@ -39,6 +39,7 @@ impl<'a> Writer<'a> {
     /// None is written. The elements end at these places, the first at the end, and are put into the
     /// memory of others. There is room for the events of so many inlines, and for the start and the
     /// end of their block.
+    #[inline(always)]
     pub(crate) fn within(
         alloc: Global,
         elements: Vec<Element>,

@@ -5,7 +5,7 @@ ghost use Rattle.markdown_html.specs.PushedHtml.{AppendsHtml, AppendsSafeHtml, I
 ghost use Rattle.markdown_html.specs.Settings.{plain_setting, seen_setting};
 
 use crate::schemes::safe_setting;
-use crate::setting::{AllowedAddresses, AnyAddress, HtmlSetting, RawHtml};
+use crate::setting::{AllowedAddresses, HtmlSetting, plain_setting};
 use crate::writer::HtmlWriter;
 use markdown_values::values::Event;
 use std::alloc::{AllocError, Global};
@@ -28,13 +28,7 @@ pub fn push_html<'a, I: Iterator<Item = Result<Event<'a>, AllocError>> + Drop>(
         (string_bytes html.old) (string_bytes html.new)) }
     ensures refused { OnErr result (string_bytes html.new ≡ string_bytes html.old) }
 {
-    let setting = HtmlSetting {
-        raw: RawHtml::Kept,
-        addresses: AnyAddress,
-        images_as_links: false,
-        rel: false,
-    };
-    push_html_with(alloc, html, &setting, events)
+    push_html_with(alloc, html, &plain_setting(), events)
 }
 
 /// The same for text by people who are not trusted: raw HTML is written as text, addresses only

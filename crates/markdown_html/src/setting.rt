@@ -1,6 +1,6 @@
 //! What is written of raw HTML, of addresses and of images.
 ghost use Rattle.std.specs.Prelude.{Bool, List, ℕ, ◌≡◌, true};
-ghost use Rattle.markdown_html.specs.Settings.{plain_setting};
+ghost use Rattle.markdown_html.specs.Settings.{plain_setting, seen_setting};
 
 use std::marker::Model;
 
@@ -49,4 +49,17 @@ pub struct HtmlSetting<A> {
     pub images_as_links: bool,
     /// Whether links say `rel="nofollow noopener"`.
     pub rel: bool,
+}
+
+/// The setting by which the examples of CommonMark are written: raw HTML is kept, and links and
+/// images lead to each address.
+pub fn plain_setting() -> HtmlSetting<AnyAddress>
+    ensures { seen_setting ⟦<AnyAddress as AllowedAddresses>⟧.allows result ≡ plain_setting }
+{
+    HtmlSetting {
+        raw: RawHtml::Kept,
+        addresses: AnyAddress,
+        images_as_links: false,
+        rel: false,
+    }
 }

@@ -83,6 +83,7 @@ pub fn find_emphasis(alloc: Global, runs: &[Delimiters]) -> Result<Vec<Emphasis>
 
 // Adds the emphasis of a text with these runs. The runs that can still open emphasis are kept in
 // the buffer; nothing depends on what is in it.
+#[inline(always)]
 pub(crate) fn push_emphasis(
     alloc: Global,
     buffer: &mut Vec<Delimiters>,
@@ -115,6 +116,7 @@ impl Openers {
     }
 
     // Adds the emphasis that the next runs end.
+    #[inline(never)]
     fn read_all(
         &mut self,
         runs: &[Delimiters],

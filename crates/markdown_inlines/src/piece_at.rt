@@ -173,6 +173,7 @@ fn is_escape(rest: &[u8]) -> bool
 }
 
 // The line break at the place, where no escape stands.
+#[inline(always)]
 fn break_at(bytes: &[u8], place: usize) -> Option<(PieceKind, usize)>
     requires within { place < length bytes.now }
     requires opens { IsTrue (opens_break (slice_index bytes.now place)) }

@@ -1,18 +1,19 @@
 //! What is printed of a page.
-ghost use Rattle.std.specs.Prelude.{◌≡◌, IfOk, string_bytes};
+ghost use Rattle.std.specs.Prelude.{◌≡◌, IfOk, string_bytes, true};
 ghost use Rattle.markdown_html.specs.PageHtml.{IsHtmlOf};
-ghost use Rattle.markdown_html.specs.SafeSetting.{safe_setting};
+ghost use Rattle.markdown_html.specs.SafeHtml.{IsSafeHtml};
+ghost use Rattle.markdown_html.specs.SafeSetting.{IsSafeWith, safe_setting};
 ghost use Rattle.markdown_html.specs.Settings.{plain_setting, seen_setting};
 ghost use Rattle.page_events.specs.page.Printed.{not_text};
 ghost use Rattle.page_html.specs.declared.asked.Form.TheVariants.{Html};
 ghost use Rattle.page_html.specs.page.Printed.{IsPrinted, IsPrintedAs, html_setting, schemes};
 
 use crate::asked::{Asked, Form};
-use crate::settings::{options_of, plain};
+use crate::settings::options_of;
 use markdown_events::event_reader::{NewError, PageSetting};
 use markdown_html::page::html_of_page_ext;
 use markdown_html::schemes::safe_setting;
-use markdown_html::setting::{AllowedAddresses, HtmlSetting};
+use markdown_html::setting::{AllowedAddresses, HtmlSetting, plain_setting};
 use page_events::page::lines_of_page;
 use std::alloc::{AllocError, Global};
 use std::str::from_utf8;
@@ -34,7 +35,9 @@ pub fn output_of_page(alloc: Global, page: &[u8], asked: Asked) -> Result<String
 
 // The HTML of a page.
 fn html_of_bytes(alloc: Global, page: &[u8], asked: Asked) -> Result<String, AllocError>
-    ensures { IfOk result (λ text. IsPrintedAs Html asked page.now (string_bytes text)) }
+    ensures printed { IfOk result (λ text. IsPrintedAs Html asked page.now (string_bytes text)) }
+    ensures safe { IfOk result (λ text. asked.safe ≡ true →
+        IsSafeHtml schemes (string_bytes text)) }
 {
     match from_utf8(page) {
         Ok(text) => html_of_text(alloc, text, asked),
@@ -44,7 +47,8 @@ fn html_of_bytes(alloc: Global, page: &[u8], asked: Asked) -> Result<String, All
 
 // The line of a page that is not UTF-8.
 fn line_of_none(alloc: Global) -> Result<String, AllocError>
-    ensures { IfOk result (λ text. string_bytes text ≡ not_text) }
+    ensures text { IfOk result (λ text. string_bytes text ≡ not_text) }
+    ensures safe { IfOk result (λ text. IsSafeHtml schemes (string_bytes text)) }
 {
     let mut text = String::new(alloc);
     text.push_str("not UTF-8\n")?;
@@ -53,19 +57,22 @@ fn line_of_none(alloc: Global) -> Result<String, AllocError>
 
 // The HTML of a page that is text, safe where that is asked for.
 fn html_of_text(alloc: Global, page: &str, asked: Asked) -> Result<String, AllocError>
-    ensures { IfOk result (λ html.
+    ensures html { IfOk result (λ html.
         IsHtmlOf page.now asked.setting (html_setting asked.safe) (string_bytes html)) }
+    ensures safe { IfOk result (λ html. asked.safe ≡ true →
+        IsSafeHtml schemes (string_bytes html)) }
 {
     if asked.safe {
         return safe_html(alloc, page, asked.setting);
     }
-    html_with(alloc, page, asked.setting, &plain())
+    html_with(alloc, page, asked.setting, &plain_setting())
 }
 
 // The HTML of a page by people who are not trusted.
 fn safe_html(alloc: Global, page: &str, setting: PageSetting) -> Result<String, AllocError>
-    ensures { IfOk result (λ html.
+    ensures html { IfOk result (λ html.
         IsHtmlOf page.now setting (safe_setting schemes) (string_bytes html)) }
+    ensures safe { IfOk result (λ html. IsSafeHtml schemes (string_bytes html)) }
 {
     let safe = safe_setting(&["http", "https", "mailto", "tel"]);
     html_with(alloc, page, setting, &safe)
@@ -78,8 +85,10 @@ fn html_with<A: AllowedAddresses>(
     setting: PageSetting,
     html: &HtmlSetting<A>,
 ) -> Result<String, AllocError>
-    ensures { IfOk result (λ text.
+    ensures html { IfOk result (λ text.
         IsHtmlOf page.now setting (seen_setting A.allows html.now) (string_bytes text)) }
+    ensures safe { IfOk result (λ text. IsSafeWith
+        (seen_setting A.allows html.now) (string_bytes text)) }
 {
     match html_of_page_ext(alloc, page, options_of(setting), html) {
         Ok(text) => Ok(text),

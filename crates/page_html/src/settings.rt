@@ -1,12 +1,10 @@
-//! With what the HTML of a page is made.
+//! The options by which a page is read.
 ghost use Rattle.std.specs.Prelude.{◌≡◌, if◌then◌else◌};
 ghost use Rattle.markdown_events.specs.page.Settings.{asked_by, not_built};
-ghost use Rattle.markdown_html.specs.Settings.{plain_setting, seen_setting};
 ghost use Rattle.markdown_values.specs.values.Extensions.{bits_of};
 
 use bitflags::Flags;
 use markdown_events::event_reader::PageSetting;
-use markdown_html::setting::{AllowedAddresses, AnyAddress, HtmlSetting, RawHtml};
 use markdown_values::values::Options;
 
 /// The options that ask for this.
@@ -29,16 +27,4 @@ fn if_asked(asked: bool, option: Options) -> Options
         return option;
     }
     Options::empty()
-}
-
-/// HTML as the examples of CommonMark have it.
-pub(crate) fn plain() -> HtmlSetting<AnyAddress>
-    ensures { seen_setting ⟦<AnyAddress as AllowedAddresses>⟧.allows result ≡ plain_setting }
-{
-    HtmlSetting {
-        raw: RawHtml::Kept,
-        addresses: AnyAddress,
-        images_as_links: false,
-        rel: false,
-    }
 }

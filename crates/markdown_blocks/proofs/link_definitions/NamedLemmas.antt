@@ -1,11 +1,10 @@
 -- What the definitions of a page name, and which of them a label finds.
 use Rattle.std.proofs.Common.{ℕ, List, [], ◌∷◌, ◌++◌, ◌≡◌, ◌⊎◌, inl, inr, Option, Some, None, drop, take, cond, false, Bool, true}
-use Rattle.std.proofs.Common.{arith, refl, sym, ap, ◌∙◌, subst, string_bytes}
-use Rattle.std.specs.Prelude.{◌==◌, length, map, is_some}
+use Rattle.std.proofs.Common.{arith, refl, sym, ap, ◌∙◌, subst}
+use Rattle.std.specs.Prelude.{◌==◌, length, is_some}
 use Rattle.std.specs.Map.{lookup}
 use Rattle.std.specs.Ordering.{is_eq, nat_cmp}
 use Rattle.std.specs.Str.{IsUtf8, bytes_eq}
-use Rattle.std.specs.declared.string.String.{String}
 use Rattle.std.specs.Cmp.Lexicographic.{slice_cmp}
 use Rattle.std.proofs.lemmas.Bool.{cases_Bool, eqb-true}
 use Rattle.std.proofs.lemmas.Map.Text.{is_eq-slice_cmp}
@@ -68,12 +67,20 @@ same_key one other same = (bytes_eq-Decides one other).0 same
 key_itself : (key : List ℕ) → bytes_eq key key ≡ true
 key_itself key = (bytes_eq-Decides key key).1 refl
 
--- a map that is seen as the definitions that are known finds the same
-pub found_by_text : {Y : Type 0} (es : List (String Y × Target)) (key : List ℕ)
-    → lookup (λ k. is_eq (slice_cmp nat_cmp key (string_bytes k))) es ≡ lookup (bytes_eq key) (map (λ e. (string_bytes e.0, e.1)) es)
-found_by_text [] key = refl
-found_by_text (e ∷ es) key =
-    rw (is_eq-slice_cmp key (string_bytes e.0)) (ap (λ found. cond (bytes_eq key (string_bytes e.0)) (Some e.1) found) (found_by_text es key))
+-- what the order of keys finds, their bytes find
+pub found_by_order : (known : Known) (key : List ℕ) → lookup (λ k. is_eq (slice_cmp nat_cmp key k)) known ≡ lookup (bytes_eq key) known
+found_by_order [] key = refl
+found_by_order (item ∷ known) key =
+    rw (is_eq-slice_cmp key item.0) (ap (λ found. cond (bytes_eq key item.0) (Some item.1) found) (found_by_order known key))
+
+-- so it is where one is put in
+pub put_in_order : (old new : Known) (key : List ℕ) (target : Target)
+    → ((k : List ℕ) → lookup (λ other. is_eq (slice_cmp nat_cmp k other)) new
+    ≡ cond (is_eq (slice_cmp nat_cmp key k)) (Some target) (lookup (λ other. is_eq (slice_cmp nat_cmp k other)) old))
+    → (k : List ℕ) → lookup (bytes_eq k) new ≡ cond (bytes_eq key k) (Some target) (lookup (bytes_eq k) old)
+put_in_order old new key target put k =
+    sym (found_by_order new k) ∙ put k ∙ ap (λ same. cond same (Some target) (lookup (λ other. is_eq (slice_cmp nat_cmp k other)) old)) (is_eq-slice_cmp key k)
+    ∙ ap (λ found. cond (bytes_eq key k) (Some target) found) (found_by_order old k)
 
 -- a label that is known leads nowhere else
 pub already_known : (known : Known) (label : List ℕ) (target : Target) → is_some (known_as known label) ≡ true

@@ -164,6 +164,7 @@ impl<'a> Parts<'a> {
 
 // How many of the lines are read and content: of those after the first all, or all but the last. Where
 // it is all, as of most kinds, the lines are not read, and more are answered than there are.
+#[inline(always)]
 fn count_inner(lines: &[u8], first: Taken, kind: BlockKind, outer: &Outer) -> usize
     ensures { AreInner kind outer.now.containers (lines_of (drop first.bytes lines.now))
         (take (result - first.lines) (lines_of (drop first.bytes lines.now))) }
@@ -216,6 +217,7 @@ fn is_closing_fence(line: &[u8], count: usize, byte: u8, outer: &Outer) -> bool
 }
 
 /// The place in a block's first line after its containers.
+#[inline(always)]
 pub(crate) fn first_place<'a>(
     line: &'a [u8],
     containers: &[Container],
@@ -257,6 +259,7 @@ fn pass_marker<'a>(line: &'a [u8], start: &mut LineStart<'a>) -> bool
 }
 
 // The place in a later line of a block after its containers.
+#[inline(always)]
 fn later_place<'a>(line: &'a [u8], kind: BlockKind, outer: &Outer) -> LineStart<'a>
     ensures place { result ≡ later_place kind outer.now.containers line.now }
     ensures bytes { result.bytes ≡ line.now }
@@ -347,6 +350,7 @@ fn text_part<'a>(
 }
 
 // Passes the space before the content of a line.
+#[inline(always)]
 fn pass_space(start: &mut LineStart, kind: BlockKind, indent: usize)
     ensures place { start.new ≡ text_place kind indent start.old }
     ensures bytes { start.new.bytes ≡ start.old.bytes }

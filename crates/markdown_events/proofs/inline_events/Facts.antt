@@ -80,7 +80,7 @@ module _ (text : List ℕ) (targets : Targets) (links : List (Option Link)) wher
   -- an inline that stands in the text is known
   known_by : (inline : Inline) → IsThere text (leads targets) links inline → IsFact inline
   known_by (I.Leaf piece) is = is
-  known_by (I.StartLink number) (it, there, source, cut, before, aimed) =
+  known_by (I.StartLink number) (it, there, (source, cut, before, aimed)) =
       let to = somewhere text targets it aimed in
       (it, there, source, record { cut = cut; before = before; label = to.0; target = to.1; leads = to.2 })
   known_by (I.EndLink piece) is = is

@@ -71,6 +71,7 @@ pub(crate) fn code_events<'a>(
 }
 
 /// The content of a leaf block of the page.
+#[inline(always)]
 pub(crate) fn content_in<'a>(
     alloc: Global,
     page: &'a str,

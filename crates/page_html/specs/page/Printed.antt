@@ -3,6 +3,7 @@ use Rattle.std.specs.Prelude.{ℕ, Bool, true, false, ◌≡◌, ◌⊎◌, List
 use Rattle.std.specs.Io.KnownBytes.{Appends}
 use Rattle.std.specs.Str.{IsUtf8}
 use Rattle.markdown_html.specs.PageHtml.{IsHtmlOf}
+use Rattle.markdown_html.specs.SafeHtml.{IsSafeHtml}
 use Rattle.markdown_html.specs.SafeSetting.{safe_setting}
 use Rattle.markdown_html.specs.Settings.{Setting, plain_setting}
 use Rattle.page_events.specs.page.Printed as EventLines
@@ -29,9 +30,14 @@ abbrev pub IsPrintedAs : Form → Asked → List ℕ → List ℕ → Type 0
 IsPrintedAs Html asked page text = IsPageHtml asked page text ⊎ ((¬ IsUtf8 page) × (text ≡ EventLines.not_text))
 IsPrintedAs Events asked page text = EventLines.IsPrinted asked.setting page text
 
--- the same in the form that is asked for
-abbrev pub IsPrinted : Asked → List ℕ → List ℕ → Type 0
-IsPrinted asked page text = IsPrintedAs asked.form asked page text
+-- Where safe HTML is asked for, no script has a place in the text.
+abbrev pub IsSafeIfAsked : Asked → List ℕ → Type 0
+IsSafeIfAsked asked text = asked.form ≡ Html → asked.safe ≡ true → IsSafeHtml schemes text
+
+-- The text is what is printed of the page in the form that is asked for, and safe where that is.
+pub record IsPrinted (asked : Asked) (page text : List ℕ) : Type 0 where
+  pub is_printed : IsPrintedAs asked.form asked page text
+  pub is_safe : IsSafeIfAsked asked text
 
 -- known bytes grow by the title, which is empty, and by what is printed of the page
 abbrev pub IsPrintedTo : Asked → List ℕ → List ℕ → Option (List ℕ) → Option (List ℕ) → Type 0

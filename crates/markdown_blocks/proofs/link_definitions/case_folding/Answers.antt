@@ -2,7 +2,7 @@
 use Rattle.std.proofs.Common.{sym, ◌∙◌}
 use Rattle.std.proofs.lemmas.Result.{IfOk-weaker}
 use Rattle.markdown_scanners_tree.proofs.linklabel.AsciiKeys.{key_bytes-ascii}
-use Rattle.markdown_blocks.proofs.link_definitions.key_of.Goals as goal
+use Rattle.markdown_blocks.proofs.link_definitions.case_folding.Goals as goal
 
 pub returns-then-is_ascii : goal.returns-then-is_ascii
 returns-then-is_ascii c =
