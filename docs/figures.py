@@ -9,11 +9,11 @@ from functools import cache
 import totals_file
 from reading import TOP, text_of
 
-WORDS = "no one two three four five six seven eight nine ten eleven twelve".split()
+WORDS = "no one two three four five six seven eight nine ten eleven twelve thirteen fourteen fifteen sixteen".split()
 FIGURE = r"(\w+(?:[.,]\w+)*)"
 NUMBER = re.compile(r"\d+(?:[.,]\d+)*")
 # What README.md says in numbers that are no figures of the tree: a version, the proved bound, the size of the text in bench/RESULTS.md.
-GIVEN = re.compile(r"\b\d+\.\d+\.\d+\b|Python 3\b|4n \+ 8k|\bOn 1\.8 MB of Markdown|\bright of 1\b")
+GIVEN = re.compile(r"\b\d+\.\d+\.\d+\b|Python 3\b|4n \+ 8k|\bon 1\.8 MB of Markdown|\bright of 1\b|\bx86-64\b")
 
 
 @cache
@@ -58,7 +58,7 @@ def of_answers():
     both = replay["worked"], replay["answered"]
     cases = len(totals_file.read(TOP / "tests/faults/cases"))
     return [
-        ("README.md", "say what they should: {} worked rows, tests of `cmark_vectors`, and {} inputs on which", both),
+        ("README.md", "say what they should: {} worked rows, the examples of the specification, and {} inputs on which", both),
         ("docs/MAP.md", "the {} worked rows of `tests/differential/rows`, and {} that pulldown-cmark", both),
         ("docs/DIFFERENCES.md", "how the {} answers of pulldown-cmark were made", both[1:]),
         ("tests/differential/README.md", "begins with the {} worked rows of", both[:1]),
@@ -78,9 +78,7 @@ def of_parser():
     both = times("1.8 MB of release notes"), times("the pages of this tree")
     page = "tests/parser/README.md"
     return [
-        ("README.md", "{} of its {} tests pass, the other {} expect comments", [swapped, original, WORDS[original - swapped]]),
-        ("README.md", "takes {} times the instructions on 1.8 MB of release notes, and {} times on the pages", both),
-        ("README.md", "where {} is the limit", [most]),
+        ("README.md", "the scanners take {} times the instructions of its own, and {} of its {} tests pass", [both[0], swapped, original]),
         (page, "Of the {} functions of `scanners.rs`", [found["functions"]]),
         (page, "`puncttable.rs` {} are gone", [found["functions"] - found["kept"]]),
         (page, "{} functions stay:", [WORDS[found["kept"]].capitalize()]),
@@ -101,7 +99,7 @@ def of_packages():
         ("packages/javascript/README.md", "WebAssembly module of at most {} KB", [most]),
         ("packages/javascript/README.md", "64-bit memory and SIMD, and at most {} KB", [most_wide]),
         ("packages/javascript/README.md", "page's reading of {} made pages", [made]),
-        ("README.md", "What the {} that ask for memory answer", [WORDS[asking]]),
+        ("README.md", "what the {} that ask for memory answer", [WORDS[asking]]),
     ]
 
 
@@ -113,7 +111,7 @@ def of_sources():
         number(f"{vectors}/linklabel.rt", r'"\\\\\[\\n"\.repeat\(alloc, ([\d_]+)\)'),
         number(f"{vectors}/scanners/html_tag.rt", r'b"<a", b"\\n> b", ([\d_]+),'),
     ]
-    places = "as {} openers, {} bullets, a label among {} escaped brackets, tags over {} lines"
+    places = "such as {} openers, {} bullets, a label among {} escaped brackets, and tags over {} lines"
     return [
         ("README.md", "whose logic `rt version` names `{}`", [source("tests/mutations/inside.py", r'KIT = ".* logic (\w+)"')]),
         ("README.md", places, hostile),

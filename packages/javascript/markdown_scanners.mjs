@@ -60,6 +60,17 @@ export class Scanners {
     }
 
     /**
+     * The HTML of a page, a string of a string, and bytes of bytes. Unless `safe` is false, it is for pages by people who are not
+     * trusted, as `Text.html` says. NotUtf8 and LoneSurrogate as of `text`. (3 to 6)
+     * @template {string | Uint8Array} Made
+     * @param {Made} page
+     * @param {{ safe?: boolean, extensions?: import("./lib/text.mjs").Extension[] }} [options]
+     */
+    html(page, options = {}) {
+        return this.text(page).html(options);
+    }
+
+    /**
      * What reads a page that comes piece by piece. Where `footnotes` is true, `[^label]:` begins a footnote definition, as on
      * GitHub; where `definitionLists` is, `:` after a paragraph begins a definition of it. (3, 4, 5)
      * @param {{ footnotes?: boolean, definitionLists?: boolean }} [options]

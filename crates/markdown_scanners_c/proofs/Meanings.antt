@@ -94,10 +94,15 @@ no_reference bytes n meaning none is =
       some_source is.source meaning is.is_reference,
     ))
 
+-- What is so of a text is so of it in the buffer, where it is written.
+pub written_is : (P : List ℕ → Type 0) (text old new : List ℕ) (status needed : ℕ) → P text → IsWritten text old new status needed
+    → status ≡ ok → P (take needed new)
+written_is P text old new status needed holds (long, inl (is, fits, put)) done =
+    let front : take needed new ≡ text = ap (take needed) put ∙ take_at text (drop (length text) old) needed (sym long) in
+    subst P (sym front) holds
+written_is P text old new status needed holds (long, inr (is, short, same)) done = absurd (omega (arith, is, done))
+
 -- A text that is written in the buffer is one there.
 pub written_text : (text old new : List ℕ) (status needed : ℕ) → IsUtf8 text → IsWritten text old new status needed
     → status ≡ ok → IsUtf8 (take needed new)
-written_text text old new status needed utf8 (long, inl (is, fits, put)) done =
-    let front : take needed new ≡ text = ap (take needed) put ∙ take_at text (drop (length text) old) needed (sym long) in
-    subst IsUtf8 (sym front) utf8
-written_text text old new status needed utf8 (long, inr (is, short, same)) done = absurd (omega (arith, is, done))
+written_text text old new status needed utf8 written done = written_is IsUtf8 text old new status needed utf8 written done

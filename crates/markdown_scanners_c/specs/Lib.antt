@@ -12,6 +12,7 @@ pub mod Labels
 pub mod LineRests
 pub mod LineRuns
 pub mod LineStarts
+pub mod PageHtml
 pub mod PageLists
 pub mod Pages
 pub mod Parts

@@ -19,6 +19,7 @@ mod line_rests;
 mod line_runs;
 mod line_starts;
 mod lines;
+mod page_html;
 mod page_lists;
 mod pages;
 mod reference_definitions;

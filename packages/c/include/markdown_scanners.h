@@ -1,11 +1,11 @@
 /* The scanners of Markdown's lines, blocks and inline text, as C functions.
  *
- * They stand over the libraries `markdown_scanners_tree`, `markdown_inlines` and `markdown_blocks`, and each is proved to
- * answer what their definitions say, after CommonMark 0.31.2 (https://spec.commonmark.org/0.31.2/), whose sections stand in
+ * They stand over the libraries `markdown_scanners_tree`, `markdown_inlines`, `markdown_blocks` and `markdown_html`, and each is
+ * proved to answer what their definitions say, after CommonMark 0.31.2 (https://spec.commonmark.org/0.31.2/), whose sections stand in
  * brackets below. They are scanners: each reads from the front of the bytes that it is given, or from a place in them, and
  * says what begins there. None looks for the next construct, so a caller goes through its document and asks. But
  * mds_scan_blocks reads a page, and says which blocks it has, and mds_scan_inlines the text of a block, and says which inlines.
- * mds_block_line reads a page that comes piece by piece.
+ * mds_block_line reads a page that comes piece by piece. mds_html and mds_safe_html make the HTML of a page.
  *
  * Bytes and texts. A pointer and a length go together; nothing has to end in a zero byte, and zero bytes are read as
  * any other. What is read may be of any type of bytes, as `char` or `uint8_t`. The pointer may be null where the length
@@ -28,7 +28,7 @@
  * something where the comment of the struct says so, and are 0 otherwise.
  *
  * Buffers. Texts that are made go into the caller's buffer. Each call says how much room is enough, whatever it is
- * given: with so much one call does. Where a buffer is too short it is left as it was, and `length` says how many bytes
+ * given: with so much one call does. (Only of HTML no such bound is known.) Where a buffer is too short it is left as it was, and `length` says how many bytes
  * are needed; so a call with no buffer (null and 0) asks for the length.
  *
  * Memory and threads. No call keeps memory or a pointer, or has state, so calls may run in any threads at once. Those
@@ -40,7 +40,8 @@
  * Cost. Each call takes time in proportion to all that it is given, at most. Of a text it reads all, since it looks
  * whether it is UTF-8; of bytes no more than it has to, most often up to the end of the line. Only a call that looks
  * for what closes or ends something goes through all of them where nothing does. mds_scan_inlines searches a tree of the labels
- * that it is given, whose depth is the logarithm of their number.
+ * that it is given, whose depth is the logarithm of their number. HTML takes time for its own length too: an address is written
+ * as often as its definition is referred to.
  *
  * Examples. The comment of each function of the library ends with lines of C. Each that has no semicolon at its end is
  * true.
@@ -97,7 +98,7 @@ enum mds_status {
     MDS_NOT_RISING = 10,    /* the place is not above the one before it */
     MDS_INSIDE_FIND = 11,   /* the place is inside what was found before it */
     MDS_SPACE_PENDING = 12, /* columns of a tab are pending, and the call is not one that takes space */
-    MDS_BAD_KIND = 13,      /* a call or a block has no known kind, or an extension is not known */
+    MDS_BAD_KIND = 13,      /* a call or a block has no known kind, or an extension or an option is not known */
     MDS_BAD_STATE = 14      /* a line start has numbers that none has on these bytes, or what is said to be open is no container */
 };
 
@@ -840,6 +841,54 @@ struct mds_inlines {
 struct mds_inlines mds_scan_inlines(
     const void *text, size_t length, const struct mds_view *labels, size_t label_count, uint32_t extensions,
     struct mds_inline *inlines, size_t capacity);
+
+/* ---- The HTML of a page ---- */
+
+/* Options by which a page is read. Each is a bit; those that are asked for are given as their sum. Their numbers are those of
+ * pulldown-cmark's `Options`, and not those of the extensions above. */
+enum mds_option {
+    MDS_OPTION_TABLES = 2,        /* tables of rows and cells (GitHub Flavored Markdown 0.29, 4.10) */
+    MDS_OPTION_STRIKETHROUGH = 8, /* as MDS_STRIKETHROUGH */
+    MDS_OPTION_TASKS = 16,        /* list items that begin with a box (GitHub Flavored Markdown 0.29, 5.3) */
+    MDS_OPTION_WIKILINKS = 32768  /* as MDS_WIKILINKS */
+};
+
+/* The HTML of a page, as the examples of CommonMark and of GitHub Flavored Markdown write it. Raw HTML stands in it as it is, and
+ * links lead anywhere: it is for text by people who are trusted, and mds_safe_html for text by others. `options` are bits of enum
+ * mds_option; 0 is CommonMark alone.
+ *
+ * `taken` is the length of the text. How long its HTML is at most is not known: an address is written as often as its definition is
+ * referred to. Twice the text and 64 bytes are enough for most; where the status is MDS_TOO_SHORT, the same call with a buffer of
+ * `length` bytes makes all of it anew, and is MDS_OK (examples/html.c).
+ *
+ * MDS_BAD_KIND where another bit is set, and else MDS_NOT_UTF8 where the text is not UTF-8. Memory is asked for, for the blocks of
+ * the page, the inlines of one block after another, and the HTML: MDS_NO_MEMORY. (3 to 6)
+ *
+ *     uint8_t html[18];
+ *     struct mds_text found = mds_html("*a*", 3, 0, html, 18);
+ *     found.status == MDS_OK && found.taken == 3 && found.length == 18 && memcmp(html, "<p><em>a</em></p>\n", 18) == 0
+ *     mds_html("|a|\n|-|", 7, MDS_OPTION_TABLES, NULL, 0).status == MDS_TOO_SHORT
+ *     mds_html("a", 1, 1, html, 18).status == MDS_BAD_KIND
+ */
+struct mds_text mds_html(const void *text, size_t length, uint32_t options, uint8_t *buffer, size_t capacity);
+
+/* The HTML of a page by people who are not trusted: raw HTML is written as text; of links and images an address is written where it
+ * is relative or has one of the `schemes`, without regard to case, and else an empty one; and links say `rel="nofollow noopener"`.
+ * All else is as of mds_html.
+ *
+ * Schemes are texts without a colon. Null and 0 are for http, https, mailto and tel. One that no address has, as an empty text,
+ * allows relative addresses alone. MDS_NOT_UTF8 of a scheme too. Memory is asked for the list of schemes too: MDS_NO_MEMORY.
+ *
+ *     uint8_t html[72];
+ *     mds_safe_html("[a](javascript:b)", 17, 0, NULL, 0, html, 72).length == 48
+ *     memcmp(html, "<p><a href=\"\" rel=\"nofollow noopener\">a</a></p>\n", 48) == 0
+ *     mds_safe_html("<b>", 3, 0, NULL, 0, html, 72).length == 10 && memcmp(html, "&lt;b&gt;\n", 10) == 0
+ *     struct mds_view schemes[] = {{"ftp", 3}};
+ *     mds_safe_html("<https://a>", 11, 0, schemes, 1, html, 72).length == 56
+ */
+struct mds_text mds_safe_html(
+    const void *text, size_t length, uint32_t options, const struct mds_view *schemes, size_t scheme_count, uint8_t *buffer,
+    size_t capacity);
 
 /* ---- Parts of inline text ---- */
 

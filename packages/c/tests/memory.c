@@ -1,7 +1,7 @@
-/* Memory refused. Eleven functions may answer MDS_NO_MEMORY: on each of their inputs here the first, second, .. request is refused
+/* Memory refused. Thirteen functions may answer MDS_NO_MEMORY: on each of their inputs here the first, second, .. request is refused
  * until none is left, by itself and with all that follow. The call then answers MDS_NO_MEMORY, tells nothing more and writes
  * nothing, or it has the same answer as with ample memory; and it frees what it was given. The other functions make no request,
- * and neither do these eleven where the header says so. The linker puts the functions __wrap_.. in the place of the C library's
+ * and neither do these thirteen where the header says so. The linker puts the functions __wrap_.. in the place of the C library's
  * (--wrap). */
 #include "checks.h"
 
@@ -267,6 +267,29 @@ static struct told inlines_with_many_labels(size_t room) {
     return of_inlines("[DEFG]", 6, labels, MANY, room);
 }
 
+/* Headings, tables, tasks, lists, quotes, definitions and inlines: all that a page keeps while it is read. */
+static const char whole_page[] = "# a\n> - [x] *b* [c]\n\n|a|`b`|\n|-|-|\n|c|![d](e)|\n\n[c]: /f \"g\"\n";
+
+static struct told html(size_t room) {
+    return of_text(mds_html(OF(whole_page), MDS_OPTION_TABLES | MDS_OPTION_TASKS, writable(BUFFER, room), room));
+}
+
+static struct told long_html(size_t room) {
+    static char page[10 * MANY];
+    for (size_t i = 0; i < sizeof(page); i++)
+        page[i] = "*a*\n\n"[i % 5];
+    return of_text(mds_html(given(BYTES, page, sizeof(page)), sizeof(page), 0, writable(BUFFER, room), room));
+}
+
+static struct told safe_html(size_t room) {
+    static const struct mds_view schemes[] = {{"https", 5}, {"mailto", 6}};
+    return of_text(mds_safe_html(OF("<a@b> [c](d:e) <f>"), 0, schemes, 2, writable(BUFFER, room), room));
+}
+
+static struct told safe_html_by_usual_schemes(size_t room) {
+    return of_text(mds_safe_html(OF("[c](https://d)"), 0, NULL, 0, writable(BUFFER, room), room));
+}
+
 static struct told made(call_with *call, size_t room, size_t which) {
     writable(BUFFER, 0);
     requests = held = 0, refused = which;
@@ -338,9 +361,10 @@ static void asking(void) {
     ASKS(line), ASKS(line_of_table), ASKS(deep_line);
     ASKS(content_in_many), ASKS(long_content);
     ASKS(inlines), ASKS(inlines_with_labels), ASKS(inlines_with_many_labels);
+    ASKS(html), ASKS(long_html), ASKS(safe_html), ASKS(safe_html_by_usual_schemes);
 }
 
-/* What these eleven need no memory for. */
+/* What these thirteen need no memory for. */
 static void sparing(void) {
     ASKS_NOT(mds_unescape(OF("plain"), false, NULL, 0).status, MDS_TOO_SHORT);
     ASKS_NOT(mds_unescape(OF("\xff"), false, NULL, 0).status, MDS_NOT_UTF8);
@@ -367,6 +391,10 @@ static void sparing(void) {
     ASKS_NOT(mds_scan_inlines(OF("\xff"), NULL, 0, 0, NULL, 0).status, MDS_NOT_UTF8);
     ASKS_NOT(mds_scan_inlines(OF("a"), NULL, 0, 4, NULL, 0).status, MDS_BAD_KIND);
     ASKS_NOT(mds_scan_inlines(OF("a"), (const struct mds_view[]){{"b", 1}, {"\xff", 1}}, 2, 0, NULL, 0).status, MDS_NOT_UTF8);
+    ASKS_NOT(mds_html(OF("\xff"), 0, NULL, 0).status, MDS_NOT_UTF8), ASKS_NOT(mds_html(OF("a"), 1, NULL, 0).status, MDS_BAD_KIND);
+    ASKS_NOT(mds_safe_html(OF("\xff"), 0, NULL, 0, NULL, 0).status, MDS_NOT_UTF8);
+    ASKS_NOT(mds_safe_html(OF("a"), 1, (const struct mds_view[]){{"b", 1}}, 1, NULL, 0).status, MDS_BAD_KIND);
+    ASKS_NOT(mds_safe_html(OF("a"), 0, (const struct mds_view[]){{"b", 1}, {"\xff", 1}}, 2, NULL, 0).status, MDS_NOT_UTF8);
     const struct mds_block leaf = {.kind = MDS_BLOCK_PARAGRAPH, .start = 1, .bytes = 2}, end = {.kind = MDS_BLOCK_END};
     ASKS_NOT(mds_scan_blocks(OF(""), NULL, 0).status, MDS_OK);
     struct mds_open_blocks open = {0, 0, 0};

@@ -83,6 +83,11 @@ export const TARGET_COLLAPSED = 3;
 export const TARGET_SHORTCUT = 4;
 export const TARGET_WIKI = 5;
 
+export const OPTION_TABLES = 2;
+export const OPTION_STRIKETHROUGH = 8;
+export const OPTION_TASKS = 16;
+export const OPTION_WIKILINKS = 32768;
+
 export const HTML_RAW_TEXT = 1;
 export const HTML_COMMENT = 2;
 export const HTML_PROCESSING = 3;
@@ -448,6 +453,8 @@ export const FUNCTIONS = {
     blockLine: ["mds_block_line", "lineBlock", ["pointer", "size_t", "bool", "pointer", "size_t", "pointer", "pointer"]],
     scanLists: ["mds_scan_lists", "blocks", ["pointer", "size_t", "pointer", "size_t"]],
     scanInlines: ["mds_scan_inlines", "inlines", ["pointer", "size_t", "pointer", "size_t", "uint32_t", "pointer", "size_t"]],
+    html: ["mds_html", "text", ["pointer", "size_t", "uint32_t", "pointer", "size_t"]],
+    safeHtml: ["mds_safe_html", "text", ["pointer", "size_t", "uint32_t", "pointer", "size_t", "pointer", "size_t"]],
     scanLinkDest: ["mds_scan_link_dest", "part", ["pointer", "size_t", "size_t", "size_t"]],
     scanLinkTitle: ["mds_scan_link_title", "part", ["pointer", "size_t", "size_t"]],
     scanAutolink: ["mds_scan_autolink", "part", ["pointer", "size_t", "size_t"]],

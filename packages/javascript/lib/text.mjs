@@ -2,7 +2,7 @@
 import * as c from "./c.mjs";
 import { Block, NONE } from "./engine.mjs";
 import { isAnswer } from "./errors.mjs";
-import { flagOf, listOf, optionsOf, sizeOf, wrongType } from "./given.mjs";
+import { flagOf, listOf, optionsOf, sizeOf, written, wrongType } from "./given.mjs";
 import { Inlines } from "./inlines.mjs";
 import { ended } from "./line_start.mjs";
 
@@ -10,9 +10,19 @@ const ASTERISK = 42;
 const REFERENCE_ROOM = 6;
 /** A label has at most 999 characters. */
 const LABEL_ROOM = 4 * 999;
+/** For HTML, besides twice the text. */
+const HTML_ROOM = 64;
+/** @type {Record<Extension, number>} */
+const OPTIONS = {
+    strikethrough: c.OPTION_STRIKETHROUGH,
+    table: c.OPTION_TABLES,
+    tasklist: c.OPTION_TASKS,
+    wikilinks: c.OPTION_WIKILINKS,
+};
 
 /** @typedef {{ end: number, start: number, stop: number }} Part its own bytes are those from `start` to `stop` */
 /** @typedef {1 | 2 | 3 | 4 | 5 | 6 | 7} HtmlBlockKind the number of a start condition */
+/** @typedef {"strikethrough" | "table" | "tasklist" | "wikilinks"} Extension of GitHub Flavored Markdown 0.29, but for the last */
 
 /**
  * A text, with the scanners of lines and blocks, and those of inline text.
@@ -241,6 +251,26 @@ export class Text extends Inlines {
         return { end: this.placeOf(found.end), text, start: found.start === NONE ? null : this.placeOf(found.start) };
     }
 
+    /**
+     * The HTML of the text, a page, as the examples of CommonMark write it. Unless `safe` is false, it is for pages by people who are not
+     * trusted: raw HTML is written as text, links and images lead to addresses that are relative or have one of the schemes http,
+     * https, mailto and tel, others being written as empty, and links say `rel="nofollow noopener"`. NotUtf8. (3 to 6)
+     * @param {{ safe?: boolean, extensions?: Extension[] }} [options]
+     */
+    html(options = {}) {
+        const { safe = true, extensions } = optionsOf(options, "safe", "extensions");
+        const asked = listOf("extensions", extensions ?? []).reduce((bits, it) => bits | optionOf(it), 0);
+        const [name, ...schemes] = flagOf("safe", safe) ? ["safeHtml", 0, 0] : ["html"];
+        for (let room = 2 * this.bytes.length + HTML_ROOM; ; ) {
+            const [found, html] = this.written(String(name), 0, this.length, room, asked, ...schemes);
+            if (found.status !== c.TOO_SHORT) {
+                isAnswer(found.status);
+                return this.made(html);
+            }
+            room = found.length;
+        }
+    }
+
     /** The key of the whole text as a label: two labels match exactly where their keys are equal. NotUtf8. (6.3) */
     labelKey() {
         const [found, key] = this.written("labelKey", 0, this.length, 3 * this.bytes.length);
@@ -342,4 +372,13 @@ export class HtmlScanGuard {
         this.passed += found.passed;
         return isAnswer(found.status) ? found.end : null;
     }
+}
+
+/**
+ * The bit of an extension.
+ * @param {Extension} name
+ */
+function optionOf(name) {
+    if (Object.hasOwn(OPTIONS, name)) return OPTIONS[name];
+    throw new TypeError(`there is no extension ${written(name)}, but ${Object.keys(OPTIONS).join(", ")}`);
 }

@@ -17,9 +17,10 @@ const inlines: (string | undefined)[] = Array.from(
     page.scanInlines(0, 3, { labels: ["a", new Uint8Array([98])], strikethrough: true, wikilinks: true }),
     (it) => ("link" in it ? it.link.target : it.kind),
 );
+const html: [string, Uint8Array] = [scanners.html("*a*"), bytes.html({ safe: false, extensions: ["table", "tasklist"] })];
 const name: string = new NotUtf8("none").name;
 console.log(level, isQuote, made[0], made[1].length, label?.text, page.scanLinkDest(10, 11)?.end, name);
-console.log(contents, places, inlines, title?.start, run, page.scanCodeSpan()?.stop, scanners.isUnicodeWhitespace("a"), scanners.isUnicodePunctuation(33));
+console.log(html[0].length, html[1].length, contents, places, inlines, title?.start, run, page.scanCodeSpan()?.stop, scanners.isUnicodeWhitespace("a"), scanners.isUnicodePunctuation(33));
 
 // @ts-expect-error a place is a number
 page.scanLine("0");
@@ -33,6 +34,8 @@ scanners.text("a", { unit: "utf-16" });
 page.scanDelimiterRun(0, 3, { start: 0 });
 // @ts-expect-error labels are a list
 page.scanInlines(0, 3, { labels: "a" });
+// @ts-expect-error there is no such extension
+scanners.html("a", { extensions: ["footnotes"] });
 // @ts-expect-error a call of a run is a list
 start.run(["quote"]);
 // @ts-expect-error what is made of a string is a string

@@ -100,6 +100,7 @@ from .line_scanners import (
     scan_while,
     scan_whitespace_in_line,
 )
+from .page_html import html
 from .pages import Block, BlockKind, BlockQuote, Container, FootnoteDefinition, Item, ListBlock, TermDefinition
 from .pages import scan_blocks, scan_lists
 from .readers import BlockReader, read_blocks
@@ -157,6 +158,7 @@ __all__ = [
     "Underline",
     "calc_indent",
     "ends_html_block",
+    "html",
     "interrupts_paragraph",
     "is_punctuation",
     "is_unicode_punctuation",

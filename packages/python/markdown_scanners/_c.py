@@ -86,6 +86,11 @@ TARGET_COLLAPSED = 3
 TARGET_SHORTCUT = 4
 TARGET_WIKI = 5
 
+OPTION_TABLES = 2
+OPTION_STRIKETHROUGH = 8
+OPTION_TASKS = 16
+OPTION_WIKILINKS = 32768
+
 HTML_RAW_TEXT = 1
 HTML_COMMENT = 2
 HTML_PROCESSING = 3
@@ -526,6 +531,8 @@ FUNCTIONS: dict[str, tuple[Any, tuple[Any, ...]]] = {
     "block_line": (LineBlock, (c_void_p, c_size_t, c_bool, c_void_p, c_size_t, c_void_p, c_void_p)),
     "scan_lists": (Blocks, (c_void_p, c_size_t, c_void_p, c_size_t)),
     "scan_inlines": (Inlines, (c_void_p, c_size_t, c_void_p, c_size_t, c_uint32, c_void_p, c_size_t)),
+    "html": (Text, (c_void_p, c_size_t, c_uint32, c_void_p, c_size_t)),
+    "safe_html": (Text, (c_void_p, c_size_t, c_uint32, c_void_p, c_size_t, c_void_p, c_size_t)),
     "scan_link_dest": (Part, (c_void_p, c_size_t, c_size_t, c_size_t)),
     "scan_link_title": (Part, (c_void_p, c_size_t, c_size_t)),
     "scan_autolink": (Part, (c_void_p, c_size_t, c_size_t)),

@@ -12,6 +12,7 @@ mod inline;
 mod inlines;
 mod labels;
 mod line;
+mod page_html;
 mod pages;
 #[allow(unsafe_code)]
 mod raw;
@@ -24,6 +25,7 @@ pub use inline::*;
 pub use inlines::{scan_inlines, Inline, InlineExtensions, InlineKind, Inlines, Link, LinkTarget};
 pub use labels::*;
 pub use line::LineStart;
+pub use page_html::{html, safe_html, safe_html_with_schemes, Extensions};
 pub use pages::{
     scan_blocks, scan_lists, Block, BlockExtensions, BlockKind, BlockReader, Blocks, Container, ListBlock,
 };

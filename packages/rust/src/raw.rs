@@ -341,8 +341,7 @@ pub(crate) fn block_content(
 }
 
 pub(crate) fn scan_inlines(text: &str, labels: &[&str], extensions: u32, inlines: &mut [ffi::Inline]) -> ffi::Inlines {
-    let bytes = text.as_bytes();
-    let views: Vec<_> = labels.iter().map(|it| ffi::View { text: front(it.as_bytes()), length: it.len() }).collect();
+    let (bytes, views) = (text.as_bytes(), views_of(labels));
     let (listed, capacity) = (inlines.as_mut_ptr(), inlines.len());
     // SAFETY: each pointer and length are those of one slice, those of the views too, and what is written is a `&mut` of its own.
     let found = unsafe {
@@ -352,4 +351,22 @@ pub(crate) fn scan_inlines(text: &str, labels: &[&str], extensions: u32, inlines
         refused();
     }
     found
+}
+
+/// Texts as C has them, as long as they live.
+fn views_of(texts: &[&str]) -> Vec<ffi::View> {
+    texts.iter().map(|it| ffi::View { text: front(it.as_bytes()), length: it.len() }).collect()
+}
+
+pub(crate) fn html(text: &str, options: u32, buffer: &mut [u8]) -> Text {
+    let bytes = text.as_bytes();
+    // SAFETY: each pointer and length are those of one slice, and what is written is a `&mut` of its own.
+    told(unsafe { ffi::mds_html(front(bytes), bytes.len(), options, buffer.as_mut_ptr(), buffer.len()) })
+}
+
+pub(crate) fn safe_html(text: &str, options: u32, schemes: &[&str], buffer: &mut [u8]) -> Text {
+    let (bytes, views) = (text.as_bytes(), views_of(schemes));
+    let (room, capacity) = (buffer.as_mut_ptr(), buffer.len());
+    // SAFETY: each pointer and length are those of one slice, those of the views too, and what is written is a `&mut` of its own.
+    told(unsafe { ffi::mds_safe_html(front(bytes), bytes.len(), options, views.as_ptr(), views.len(), room, capacity) })
 }

@@ -86,6 +86,11 @@ pub const TARGET_COLLAPSED: u32 = 3;
 pub const TARGET_SHORTCUT: u32 = 4;
 pub const TARGET_WIKI: u32 = 5;
 
+pub const OPTION_TABLES: u32 = 2;
+pub const OPTION_STRIKETHROUGH: u32 = 8;
+pub const OPTION_TASKS: u32 = 16;
+pub const OPTION_WIKILINKS: u32 = 32768;
+
 pub const HTML_RAW_TEXT: u32 = 1;
 pub const HTML_COMMENT: u32 = 2;
 pub const HTML_PROCESSING: u32 = 3;
@@ -454,6 +459,16 @@ extern "C" {
         inlines: *mut Inline,
         capacity: usize,
     ) -> Inlines;
+    pub fn mds_html(text: *const c_void, length: usize, options: u32, buffer: *mut u8, capacity: usize) -> Text;
+    pub fn mds_safe_html(
+        text: *const c_void,
+        length: usize,
+        options: u32,
+        schemes: *const View,
+        scheme_count: usize,
+        buffer: *mut u8,
+        capacity: usize,
+    ) -> Text;
     pub fn mds_scan_link_dest(bytes: *const c_void, length: usize, start: usize, max_next: usize) -> Part;
     pub fn mds_scan_link_title(bytes: *const c_void, length: usize, start: usize) -> Part;
     pub fn mds_scan_autolink(bytes: *const c_void, length: usize, start: usize) -> Part;

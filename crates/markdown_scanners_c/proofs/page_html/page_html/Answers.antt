@@ -1,0 +1,16 @@
+-- The HTML is a text, which is then the front of the buffer.
+use Rattle.std.proofs.Common.{◌∙◌, subst, sym, IsUtf8}
+use Rattle.markdown_html.specs.SafeSetting.{IsSafeWith}
+use Rattle.markdown_html.specs.Settings.{seen_setting}
+use Rattle.markdown_scanners_c.proofs.Meanings.{written_is, written_text}
+use Rattle.markdown_scanners_c.proofs.page_html.page_html.Goals as goal
+
+pub returns-in-Ok-clause-utf8 : goal.returns-in-Ok-clause-utf8
+returns-in-Ok-clause-utf8 g c =
+    let utf8 = subst IsUtf8 (sym c.as_bytes.ensures.value) c.as_str.utf8 in
+    written_text _ _ _ _ _ utf8 c.write_text.ensures.written
+
+pub returns-in-Ok-clause-safe : goal.returns-in-Ok-clause-safe
+returns-in-Ok-clause-safe g c =
+    let safe = subst (IsSafeWith (seen_setting g.A.AllowedAddresses.allows c.args.setting.now)) (sym (c.as_bytes.ensures.value ∙ c.as_str.ensures.value)) c.in-Ok.ensures.safe in
+    written_is (IsSafeWith (seen_setting g.A.AllowedAddresses.allows c.args.setting.now)) _ _ _ _ _ safe c.write_text.ensures.written

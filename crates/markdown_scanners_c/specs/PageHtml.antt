@@ -1,0 +1,53 @@
+-- The HTML of a page, as C is told of it.
+use Rattle.std.specs.Prelude.{ℕ, true, false, ◌≡◌, ◌⊎◌, List, [], ◌∷◌, codes, length, map}
+use Rattle.std.specs.Str.{IsUtf8}
+use Rattle.markdown_values.specs.declared.values.extensions.Options.{Options}
+use Rattle.markdown_events.specs.page.Settings.{asked_by, not_built}
+use Rattle.markdown_html.specs.PageHtml.{IsHtmlOf}
+use Rattle.markdown_html.specs.SafeSetting.{safe_setting}
+use Rattle.markdown_html.specs.Settings.{Setting, plain_setting}
+use Rattle.markdown_scanners_c.specs.Buffer.{IsWritten}
+use Rattle.markdown_scanners_c.specs.KnownLabels.{AreTexts}
+use Rattle.markdown_scanners_c.specs.Status.{bad_kind, not_utf8, no_memory}
+use Rattle.markdown_scanners_c.specs.Texts.{IsNoText}
+use Rattle.markdown_scanners_c.specs.declared.known_labels.View.{View}
+use Rattle.markdown_scanners_c.specs.declared.texts.Text.{Text}
+
+-- the options with these bits
+abbrev pub options_of : ℕ → Options
+options_of bits = record { 0 = bits }
+
+-- Every option with one of these bits is built.
+abbrev pub AreBuilt : ℕ → Type 0
+AreBuilt bits = not_built (options_of bits) ≡ 0
+
+-- Memory was refused; or the HTML of the page by this setting is written.
+abbrev pub IsHtmlTold : List ℕ → ℕ → Setting → List ℕ → List ℕ → Text → Type 0
+IsHtmlTold page bits setting old new told =
+    (IsNoText no_memory told × (new ≡ old))
+    ⊎ ((html : List ℕ) × IsHtmlOf page (asked_by (options_of bits)) setting html
+    × (told.taken ≡ length page) × IsWritten html old new told.status told.length)
+
+-- Some option is not built; or the page is not UTF-8; or memory was refused; or its HTML is written.
+unfoldable pub IsPageTold : List ℕ → ℕ → List ℕ → List ℕ → Text → Type 0
+IsPageTold page bits old new told =
+    (IsNoText bad_kind told × (new ≡ old) × ¬ (AreBuilt bits))
+    ⊎ (IsNoText not_utf8 told × (new ≡ old) × AreBuilt bits × ¬ (IsUtf8 page))
+    ⊎ (AreBuilt bits × IsUtf8 page × IsHtmlTold page bits plain_setting old new told)
+
+-- what a caller allows who names no scheme
+abbrev pub usual_schemes : List (List ℕ)
+usual_schemes = codes "http" ∷ codes "https" ∷ codes "mailto" ∷ codes "tel" ∷ []
+
+-- the schemes that addresses may have
+abbrev pub allowed_schemes : List View → List (List ℕ)
+allowed_schemes [] = usual_schemes
+allowed_schemes (first ∷ later) = map (λ (scheme : View). scheme.text.now) (first ∷ later)
+
+-- The same of safe HTML, where the schemes have to be UTF-8 too.
+unfoldable pub IsSafePageTold : List ℕ → ℕ → List View → List ℕ → List ℕ → Text → Type 0
+IsSafePageTold page bits schemes old new told =
+    (IsNoText bad_kind told × (new ≡ old) × ¬ (AreBuilt bits))
+    ⊎ (IsNoText not_utf8 told × (new ≡ old) × AreBuilt bits × ¬ (IsUtf8 page × AreTexts schemes))
+    ⊎ (AreBuilt bits × IsUtf8 page × AreTexts schemes
+    × IsHtmlTold page bits (safe_setting (allowed_schemes schemes)) old new told)

@@ -1,0 +1,63 @@
+"""The HTML of a page. Sections in brackets are those of CommonMark 0.31.2."""
+from __future__ import annotations
+
+from typing import Any, Callable, Iterable, Optional, overload
+
+from . import _c
+from ._library import writer
+from ._pages import Buffer, Page, flag, front, text_for
+from .errors import stated
+
+_html: Callable[..., tuple[Any, bytes]] = writer("html")
+_safe_html: Callable[..., tuple[Any, bytes]] = writer("safe_html")
+
+_OPTIONS = {
+    "strikethrough": _c.OPTION_STRIKETHROUGH,
+    "table": _c.OPTION_TABLES,
+    "tasklist": _c.OPTION_TASKS,
+    "wikilinks": _c.OPTION_WIKILINKS,
+}
+
+
+@overload
+def html(data: str, at: int = 0, end: Optional[int] = None, *, safe: bool = True, extensions: Iterable[str] = ()) -> str: ...
+@overload
+def html(data: Buffer, at: int = 0, end: Optional[int] = None, *, safe: bool = True, extensions: Iterable[str] = ()) -> bytes: ...
+def html(data: Page, at: int = 0, end: Optional[int] = None, *, safe: bool = True, extensions: Iterable[str] = ()) -> Any:
+    r"""The HTML of a page, as the examples of CommonMark write it.
+
+    Unless `safe` is false, it is for pages by people who are not trusted: raw HTML is written as text, links and images lead to
+    addresses that are relative or have one of the schemes http, https, mailto and tel, others being written as empty, and links say
+    `rel="nofollow noopener"`. Where `safe` is false, raw HTML stands as it is, and links lead anywhere.
+
+    `extensions` has names: "table", "strikethrough" and "tasklist", of GitHub Flavored Markdown 0.29, and "wikilinks". ValueError
+    for another name; NotUtf8Error. (3 to 6)
+
+    >>> html("# A\n<b> [c](javascript:d)")
+    '<h1>A</h1>\n<p>&lt;b&gt; <a href="" rel="nofollow noopener">c</a></p>\n'
+    >>> html(b"<b>", safe=False)
+    b'<b>\n'
+    >>> html("~~a~~", extensions=["strikethrough"])
+    '<p><del>a</del></p>\n'
+    """
+    options = _options(extensions)
+    address, length, _held = front(data, at, end)
+    room = 2 * length + 64
+    if flag("safe", safe):
+        found, made = _safe_html(address, length, options, 0, 0, room)
+    else:
+        found, made = _html(address, length, options, room)
+    stated(found.status)
+    return text_for(data, made)
+
+
+def _options(extensions: Iterable[str]) -> int:
+    """The bits of these extensions."""
+    if isinstance(extensions, (str, bytes, bytearray)):
+        raise TypeError(f"extensions is of type {type(extensions).__name__}, and not several names")
+    found = 0
+    for name in extensions:
+        if name not in _OPTIONS:
+            raise ValueError(f"there is no extension {name!r}, but {', '.join(_OPTIONS)}")
+        found |= _OPTIONS[name]
+    return found

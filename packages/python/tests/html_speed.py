@@ -1,0 +1,57 @@
+#!/usr/bin/env python3
+"""Prints how many megabytes of Markdown a second become HTML, by this package and by those of others that are installed: of each the
+best of RUNS runs over the file.
+
+    packages/python/tests/html_speed.py [--runs RUNS] FILE.md"""
+import argparse
+import os
+import sys
+import timeit
+from importlib import import_module
+from pathlib import Path
+
+TOP = Path(__file__).resolve().parents[3]
+sys.dont_write_bytecode = True
+sys.path.insert(0, os.environ.get("PYTHONPATH") or str(TOP / "packages/python"))
+os.environ.setdefault("MARKDOWN_SCANNERS_LIBRARY", str(TOP / "out/libmarkdown_scanners.so.0"))
+
+
+def scanners(**asked):
+    """This package's call."""
+    made = import_module("markdown_scanners").html
+    return lambda page: made(page, **asked)
+
+
+# Of each row its name, and what makes the call; ImportError where the package is not installed.
+MAKERS = {
+    "markdown_scanners, safe": scanners,
+    "markdown_scanners, safe=False": lambda: scanners(safe=False),
+    "markdown_scanners, with tables, strikethrough and tasks": lambda: scanners(extensions=["table", "strikethrough", "tasklist"]),
+    "markdown_it": lambda: import_module("markdown_it").MarkdownIt("commonmark").render,
+    "mistune": lambda: import_module("mistune").html,
+    "commonmark": lambda: import_module("commonmark").commonmark,
+}
+
+
+def rate(call, page, runs):
+    """Megabytes a second, in the best run."""
+    return len(page.encode()) / min(timeit.repeat(lambda: call(page), number=1, repeat=runs)) / 1e6
+
+
+def main():
+    parser = argparse.ArgumentParser(description=__doc__, formatter_class=argparse.RawDescriptionHelpFormatter)
+    parser.add_argument("file", type=Path, metavar="FILE.md")
+    parser.add_argument("--runs", type=int, default=5)
+    asked = parser.parse_args()
+    page = asked.file.read_text(encoding="utf-8")
+    for name, make in MAKERS.items():
+        try:
+            call = make()
+        except ImportError:
+            print(f"{'-':>8}  {name}: NOT TRIED, as it is not installed")
+            continue
+        print(f"{rate(call, page, asked.runs):8.2f}  {name}", flush=True)
+
+
+if __name__ == "__main__":
+    main()
