@@ -1,4 +1,4 @@
--- The HTML of a page, as C is told of it.
+-- What C callers get of the HTML of a page.
 use Rattle.std.specs.Prelude.{ℕ, true, false, ◌≡◌, ◌⊎◌, List, [], ◌∷◌, codes, length, map}
 use Rattle.std.specs.Str.{IsUtf8}
 use Rattle.markdown_values.specs.declared.values.extensions.Options.{Options}
@@ -22,18 +22,18 @@ abbrev pub AreBuilt : ℕ → Type 0
 AreBuilt bits = not_built (options_of bits) ≡ 0
 
 -- Memory was refused; or the HTML of the page by this setting is written.
-abbrev pub IsHtmlTold : List ℕ → ℕ → Setting → List ℕ → List ℕ → Text → Type 0
-IsHtmlTold page bits setting old new told =
-    (IsNoText no_memory told × (new ≡ old))
+abbrev pub IsHtmlAnswer : List ℕ → ℕ → Setting → List ℕ → List ℕ → Text → Type 0
+IsHtmlAnswer page bits setting old new answer =
+    (IsNoText no_memory answer × (new ≡ old))
     ⊎ ((html : List ℕ) × IsHtmlOf page (asked_by (options_of bits)) setting html
-    × (told.taken ≡ length page) × IsWritten html old new told.status told.length)
+    × (answer.taken ≡ length page) × IsWritten html old new answer.status answer.length)
 
 -- Some option is not built; or the page is not UTF-8; or memory was refused; or its HTML is written.
-unfoldable pub IsPageTold : List ℕ → ℕ → List ℕ → List ℕ → Text → Type 0
-IsPageTold page bits old new told =
-    (IsNoText bad_kind told × (new ≡ old) × ¬ (AreBuilt bits))
-    ⊎ (IsNoText not_utf8 told × (new ≡ old) × AreBuilt bits × ¬ (IsUtf8 page))
-    ⊎ (AreBuilt bits × IsUtf8 page × IsHtmlTold page bits plain_setting old new told)
+unfoldable pub IsPlainAnswer : List ℕ → ℕ → List ℕ → List ℕ → Text → Type 0
+IsPlainAnswer page bits old new answer =
+    (IsNoText bad_kind answer × (new ≡ old) × ¬ (AreBuilt bits))
+    ⊎ (IsNoText not_utf8 answer × (new ≡ old) × AreBuilt bits × ¬ (IsUtf8 page))
+    ⊎ (AreBuilt bits × IsUtf8 page × IsHtmlAnswer page bits plain_setting old new answer)
 
 -- what a caller allows who names no scheme
 abbrev pub usual_schemes : List (List ℕ)
@@ -45,9 +45,9 @@ allowed_schemes [] = usual_schemes
 allowed_schemes (first ∷ later) = map (λ (scheme : View). scheme.text.now) (first ∷ later)
 
 -- The same of safe HTML, where the schemes have to be UTF-8 too.
-unfoldable pub IsSafePageTold : List ℕ → ℕ → List View → List ℕ → List ℕ → Text → Type 0
-IsSafePageTold page bits schemes old new told =
-    (IsNoText bad_kind told × (new ≡ old) × ¬ (AreBuilt bits))
-    ⊎ (IsNoText not_utf8 told × (new ≡ old) × AreBuilt bits × ¬ (IsUtf8 page × AreTexts schemes))
+unfoldable pub IsSafeAnswer : List ℕ → ℕ → List View → List ℕ → List ℕ → Text → Type 0
+IsSafeAnswer page bits schemes old new answer =
+    (IsNoText bad_kind answer × (new ≡ old) × ¬ (AreBuilt bits))
+    ⊎ (IsNoText not_utf8 answer × (new ≡ old) × AreBuilt bits × ¬ (IsUtf8 page × AreTexts schemes))
     ⊎ (AreBuilt bits × IsUtf8 page × AreTexts schemes
-    × IsHtmlTold page bits (safe_setting (allowed_schemes schemes)) old new told)
+    × IsHtmlAnswer page bits (safe_setting (allowed_schemes schemes)) old new answer)

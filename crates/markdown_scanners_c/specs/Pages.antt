@@ -99,8 +99,8 @@ event_told (leaf b) = leaf_told b
 event_told ends = of_kind (record { kind = container_end; number = 0; byte = 0; count = 0 })
 
 -- The events of a page are written, or memory was refused.
-abbrev pub IsPageTold : List ℕ → List Block → List Block → BlockCount → Type 0
-IsPageTold page old new told =
+abbrev pub IsPageAnswer : List ℕ → List Block → List Block → BlockCount → Type 0
+IsPageAnswer page old new told =
     ((told.status ≡ no_memory) × (told.count ≡ 0) × (new ≡ old))
     ⊎ ((events : List Event) × IsEventsOf no_extensions page events × IsWritten (map event_told events) old new told.status told.count)
 

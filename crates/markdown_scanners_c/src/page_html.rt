@@ -6,7 +6,7 @@ ghost use Rattle.markdown_html.specs.SafeHtml.{IsSafeHtml};
 ghost use Rattle.markdown_html.specs.SafeSetting.{IsSafeWith};
 ghost use Rattle.markdown_html.specs.Settings.{seen_setting};
 ghost use Rattle.markdown_scanners_c.specs.KnownLabels.{AreTexts};
-ghost use Rattle.markdown_scanners_c.specs.PageHtml.{IsHtmlTold, IsPageTold, IsSafePageTold};
+ghost use Rattle.markdown_scanners_c.specs.PageHtml.{IsHtmlAnswer, IsPlainAnswer, IsSafeAnswer};
 ghost use Rattle.markdown_scanners_c.specs.PageHtml.{allowed_schemes, options_of};
 ghost use Rattle.markdown_scanners_c.specs.Status.{ok};
 
@@ -24,10 +24,10 @@ use std::alloc::{AllocError, Global};
 const NOT_BUILT: u32 = 0xffff_7fe5;
 
 /// Writes the HTML of a page, with the raw HTML and the addresses that stand in it.
-#[tactic(auto, unfolding(crate::specs::PageHtml::IsPageTold))]
+#[tactic(auto, unfolding(crate::specs::PageHtml::IsPlainAnswer))]
 #[unsafe(no_mangle)]
 pub extern "C" fn mds_html(alloc: Global, text: &[u8], options: u32, buffer: &mut [u8]) -> Text
-    ensures html { IsPageTold text.now options buffer.old buffer.new result }
+    ensures html { IsPlainAnswer text.now options buffer.old buffer.new result }
     ensures utf8 { result.status ≡ ok → IsUtf8 (take result.length buffer.new) }
 {
     if !are_built(options) {
@@ -41,7 +41,7 @@ pub extern "C" fn mds_html(alloc: Global, text: &[u8], options: u32, buffer: &mu
 
 /// Writes the HTML of a page by people who are not trusted: raw HTML as text, and of links and images
 /// only addresses of these schemes.
-#[tactic(auto, unfolding(crate::specs::PageHtml::IsSafePageTold))]
+#[tactic(auto, unfolding(crate::specs::PageHtml::IsSafeAnswer))]
 #[unsafe(no_mangle)]
 pub extern "C" fn mds_safe_html(
     alloc: Global,
@@ -50,7 +50,7 @@ pub extern "C" fn mds_safe_html(
     schemes: &[View<'_>],
     buffer: &mut [u8],
 ) -> Text
-    ensures html { IsSafePageTold text.now options schemes.now buffer.old buffer.new result }
+    ensures html { IsSafeAnswer text.now options schemes.now buffer.old buffer.new result }
     ensures safe { result.status ≡ ok
         → IsSafeHtml (allowed_schemes schemes.now) (take result.length buffer.new) }
     ensures utf8 { result.status ≡ ok → IsUtf8 (take result.length buffer.new) }
@@ -85,7 +85,7 @@ fn page_html<A: AllowedAddresses>(
     setting: &HtmlSetting<A>,
     buffer: &mut [u8],
 ) -> Text
-    ensures html { IsHtmlTold page.now options (seen_setting A.allows setting.now)
+    ensures html { IsHtmlAnswer page.now options (seen_setting A.allows setting.now)
         buffer.old buffer.new result }
     ensures safe { result.status ≡ ok → IsSafeWith
         (seen_setting A.allows setting.now) (take result.length buffer.new) }

@@ -13,7 +13,7 @@ ghost use Rattle.markdown_blocks.specs.events.Events.{Event, IsEventsOf, seen_ev
 ghost use Rattle.markdown_scanners_c.specs.Buffer.{IsWritten};
 ghost use Rattle.markdown_scanners_c.specs.Status.{no_memory};
 ghost use Rattle.markdown_scanners_c.specs.Texts.{IsNoText};
-ghost use Rattle.markdown_scanners_c.specs.Pages.{HasKind, IsContentTold, IsPageTold, StandsIn};
+ghost use Rattle.markdown_scanners_c.specs.Pages.{HasKind, IsContentTold, IsPageAnswer, StandsIn};
 ghost use Rattle.markdown_scanners_c.specs.Pages.{container_in, container_told, event_told, is_container, kind_told, leaf_told, of_kind};
 
 use crate::status::{BAD_KIND, NO_MEMORY, OK, PAST_END, TOO_SHORT};
@@ -94,7 +94,7 @@ pub(crate) struct Kind {
 /// its end.
 #[unsafe(no_mangle)]
 pub extern "C" fn mds_scan_blocks(alloc: Global, page: &[u8], blocks: &mut [Block]) -> BlockCount
-    ensures blocks { IsPageTold page.now blocks.old blocks.new result }
+    ensures blocks { IsPageAnswer page.now blocks.old blocks.new result }
 {
     match told_blocks(alloc, page) {
         Ok(told) => write_front(&told, blocks),

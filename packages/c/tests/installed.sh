@@ -7,7 +7,7 @@ readme_program() {
 
 # prints_level PROGRAM KIND: the program prints what the README says; it wants the shared library where it is built with it.
 prints_level() {
-    [ "$(LD_LIBRARY_PATH="$prefix/$libdir" "$1")" = 2 ] || stop "the README's program prints something else"
+    [ "$(LD_LIBRARY_PATH="$prefix/$libdir" "$1")" = "<p><em>a</em> &lt;b&gt;</p>" ] || stop "the README's program prints something else"
     local wants
     wants=$(readelf -dW "$1" | grep -c "NEEDED.*\[$shared_name\]" || true)
     [ "$wants" = "$([ "$2" = shared ] && echo 1 || echo 0)" ] || stop "the README's program is not built with the $2 library"

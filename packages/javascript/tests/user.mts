@@ -20,7 +20,8 @@ const inlines: (string | undefined)[] = Array.from(
 const html: [string, Uint8Array] = [scanners.html("*a*"), bytes.html({ safe: false, extensions: ["table", "tasklist"] })];
 const name: string = new NotUtf8("none").name;
 console.log(level, isQuote, made[0], made[1].length, label?.text, page.scanLinkDest(10, 11)?.end, name);
-console.log(html[0].length, html[1].length, contents, places, inlines, title?.start, run, page.scanCodeSpan()?.stop, scanners.isUnicodeWhitespace("a"), scanners.isUnicodePunctuation(33));
+console.log(html[0].length, html[1].length, contents, places, inlines, title?.start, run, page.scanCodeSpan()?.stop);
+console.log(scanners.isUnicodeWhitespace("a"), scanners.isUnicodePunctuation(33));
 
 // @ts-expect-error a place is a number
 page.scanLine("0");

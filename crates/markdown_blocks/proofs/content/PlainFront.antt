@@ -36,7 +36,7 @@ spaced b bs c goes is =
     omega (arith, whole, spaces))
     (λ no_space. grind (arith, nat_tests)))
 
--- behind the bytes of all spaces
+-- after the bytes of all spaces
 plain_after : (bs : List ℕ) (c : ℕ) → prefix_len is_space_or_tab (drop (bytes_below c bs (c + leading_spaces (written_out c bs))) bs) ≡ 0
 plain_after [] c = refl
 plain_after (b ∷ bs) c =

@@ -1,5 +1,5 @@
 -- The HTML is a text, which is then the front of the buffer.
-use Rattle.std.proofs.Common.{◌∙◌, subst, sym, IsUtf8}
+use Rattle.std.proofs.Common.{ℕ, List, ◌∙◌, subst, sym, IsUtf8}
 use Rattle.markdown_html.specs.SafeSetting.{IsSafeWith}
 use Rattle.markdown_html.specs.Settings.{seen_setting}
 use Rattle.markdown_scanners_c.proofs.Meanings.{written_is, written_text}
@@ -12,5 +12,6 @@ returns-in-Ok-clause-utf8 g c =
 
 pub returns-in-Ok-clause-safe : goal.returns-in-Ok-clause-safe
 returns-in-Ok-clause-safe g c =
-    let safe = subst (IsSafeWith (seen_setting g.A.AllowedAddresses.allows c.args.setting.now)) (sym (c.as_bytes.ensures.value ∙ c.as_str.ensures.value)) c.in-Ok.ensures.safe in
-    written_is (IsSafeWith (seen_setting g.A.AllowedAddresses.allows c.args.setting.now)) _ _ _ _ _ safe c.write_text.ensures.written
+    let Safe : List ℕ → Type 0 = IsSafeWith (seen_setting g.A.AllowedAddresses.allows c.args.setting.now) in
+    let safe = subst Safe (sym (c.as_bytes.ensures.value ∙ c.as_str.ensures.value)) c.in-Ok.ensures.safe in
+    written_is Safe _ _ _ _ _ safe c.write_text.ensures.written
