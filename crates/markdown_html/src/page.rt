@@ -18,7 +18,6 @@ use std::alloc::{AllocError, Global};
 /// # Errors
 ///
 /// `AllocError` where memory is refused.
-#[tactic(auto, using(crate::proofs::SafePages::page_html_is_safe))]
 pub fn html_of_page<A: AllowedAddresses>(
     alloc: Global,
     page: &str,
@@ -39,7 +38,6 @@ pub fn html_of_page<A: AllowedAddresses>(
 ///
 /// `NotBuilt` with those of the options that are not built, where one is, and `Refused` where memory
 /// is refused.
-#[tactic(auto, using(crate::proofs::SafePages::page_html_is_safe))]
 pub fn html_of_page_ext<A: AllowedAddresses>(
     alloc: Global,
     page: &str,

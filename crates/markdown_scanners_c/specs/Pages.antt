@@ -100,9 +100,9 @@ event_told ends = of_kind (record { kind = container_end; number = 0; byte = 0; 
 
 -- The events of a page are written, or memory was refused.
 abbrev pub IsPageAnswer : List ℕ → List Block → List Block → BlockCount → Type 0
-IsPageAnswer page old new told =
-    ((told.status ≡ no_memory) × (told.count ≡ 0) × (new ≡ old))
-    ⊎ ((events : List Event) × IsEventsOf no_extensions page events × IsWritten (map event_told events) old new told.status told.count)
+IsPageAnswer page old new answer =
+    ((answer.status ≡ no_memory) × (answer.count ≡ 0) × (new ≡ old))
+    ⊎ ((events : List Event) × IsEventsOf no_extensions page events × IsWritten (map event_told events) old new answer.status answer.count)
 
 -- the kind that a block's numbers name
 abbrev pub kind_in : Block → Kind

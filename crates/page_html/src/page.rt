@@ -12,7 +12,7 @@ use crate::asked::{Asked, Form};
 use crate::settings::options_of;
 use markdown_events::event_reader::{NewError, PageSetting};
 use markdown_html::page::html_of_page_ext;
-use markdown_html::schemes::safe_setting;
+use markdown_html::schemes::{DEFAULT_SCHEMES, safe_setting};
 use markdown_html::setting::{AllowedAddresses, HtmlSetting, plain_setting};
 use page_events::page::lines_of_page;
 use std::alloc::{AllocError, Global};
@@ -74,7 +74,7 @@ fn safe_html(alloc: Global, page: &str, setting: PageSetting) -> Result<String, 
         IsHtmlOf page.now setting (safe_setting schemes) (string_bytes html)) }
     ensures safe { IfOk result (λ html. IsSafeHtml schemes (string_bytes html)) }
 {
-    let safe = safe_setting(&["http", "https", "mailto", "tel"]);
+    let safe = safe_setting(DEFAULT_SCHEMES);
     html_with(alloc, page, setting, &safe)
 }
 
